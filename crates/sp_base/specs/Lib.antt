@@ -1,0 +1,6 @@
+pub mod Errors
+pub mod Roles
+pub mod Views
+pub mod Steps
+pub mod Addresses
+pub mod Generator
