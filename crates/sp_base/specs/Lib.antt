@@ -4,3 +4,4 @@ pub mod Views
 pub mod Steps
 pub mod Addresses
 pub mod Generator
+pub mod Listeners

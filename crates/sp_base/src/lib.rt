@@ -7,6 +7,7 @@ mod addr;
 mod bytes;
 mod error;
 mod generator;
+mod listeners;
 mod outside;
 mod role;
 
@@ -14,6 +15,7 @@ pub use addr::{Addr, AddrError, Host, Scheme};
 pub use bytes::Bytes;
 pub use error::{NoMemory, SpError};
 pub use generator::next_value;
+pub use listeners::ListenerSchemes;
 pub use outside::{
     Files, Link, LinkRead, LinkWrite, Linked, Listened, Net, Pace, Paced, Sink, Sunk, Whole,
 };

@@ -1,0 +1,5 @@
+pub mod Scripts
+pub mod Paces
+pub mod Sinks
+pub mod FilesHeld
+pub mod Nets

@@ -1,0 +1,84 @@
+//! Files in memory.
+ghost use Rattle.std.specs.Prelude.{◌≡◌, ◌↔◌, IsTrue, Some};
+ghost use Rattle.std.specs.FinMap as map;
+ghost use Rattle.std.specs.Cmp.Lexicographic.{slice_cmp};
+ghost use Rattle.std.specs.Ordering.{nat_cmp};
+ghost use Rattle.std.specs.Option.{option_copied};
+ghost use Rattle.sp_fakes.specs.FilesHeld.{files_view, named_entries, IsCopy};
+
+use crate::is_listed;
+use sp_base::{Bytes, Files, Whole};
+use std::alloc::Global;
+
+#[derive(Debug, Drop)]
+pub struct MemFiles {
+    alloc: Global,
+    pairs: Vec<(String, Bytes)>,
+    fails: Vec<u64>,
+    calls: u64,
+    fault_count: u64,
+}
+
+impl MemFiles {
+    /// Files by their names; of two with one name the first counts. The calls with these numbers fail, and so
+    /// does one for a name that isn't there.
+    pub fn new(alloc: Global, pairs: Vec<(String, Bytes)>, fails: Vec<u64>) -> MemFiles
+        ensures { files_view result ≡ record { holds = Some (map.from_entries (named_entries pairs.items)); faults = 0 } }
+    {
+        MemFiles {
+            alloc,
+            pairs,
+            fails,
+            calls: 0,
+            fault_count: 0,
+        }
+    }
+
+    /// How many calls there were.
+    pub fn calls(&self) -> u64 {
+        self.calls
+    }
+}
+
+fn is_same_name(a: &str, b: &str) -> bool
+    ensures { IsTrue result ↔ (a.now ≡ b.now) }
+{
+    a == b
+}
+
+// The bytes of the first file of a name.
+fn held<'a>(pairs: &'a [(String, Bytes)], name: &str) -> Option<&'a Bytes>
+    ensures { option_copied result ≡ map.find (slice_cmp nat_cmp) name.now (named_entries pairs.now) }
+{
+    for pair in pairs {
+        if is_same_name(pair.0.as_str(), name) {
+            return Some(&pair.1);
+        }
+    }
+    None
+}
+
+fn copied(alloc: Global, bytes: &Bytes) -> Whole
+    ensures { IsCopy result bytes.now }
+{
+    match Bytes::from_slice(alloc, bytes.as_slice()) {
+        Ok(copy) => Whole::Bytes(copy),
+        Err(_) => Whole::NoMemory,
+    }
+}
+
+impl Files for MemFiles {
+    ghost seen = { files_view };
+
+    fn whole(&mut self, name: &str) -> Whole {
+        let fails = is_listed(&self.fails, self.calls);
+        self.calls = self.calls.saturating_add(1);
+        if !fails {
+            if let Some(bytes) = held(&self.pairs, name) {
+                return copied(self.alloc, bytes);
+            }
+        }
+        self.fault_count = self.fault_count.saturating_add(1);
+        Whole::Failed
+    }
+}

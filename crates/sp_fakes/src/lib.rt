@@ -1,0 +1,21 @@
+//! The outside in memory: links that read by a script, a net that hands them out, a pace of so many turns, a sink
+//! that keeps what was put, and files. Each is proved against its trait and tells its contents, so that a test
+//! shows what a caller did. Lists of numbers say which calls fail, the first call being number 0.
+#![tactic(auto)]
+
+mod files;
+mod link;
+mod net;
+mod pace;
+mod sink;
+
+pub use files::MemFiles;
+pub use link::{LinkStep, MemLink};
+pub use net::{MemNet, NetLink, Returned};
+pub use pace::MemPace;
+pub use sink::MemSink;
+
+// A number stands in the list of those that fail.
+fn is_listed(fails: &[u64], call: u64) -> bool {
+    fails.contains(&call)
+}
