@@ -1,0 +1,103 @@
+//! Greetings (SP TCP mapping, "Connection initiation"): each side writes its own 8 bytes first, and reads those
+//! of its peer's role.
+ghost use Rattle.std.specs.Prelude.{◌≡◌, ◌≤◌, ◌+◌, ◌↔◌, ℕ, true, [], take, drop, length, IsTrue};
+ghost use Rattle.sp_spec.specs.SpTcp.{hello};
+ghost use Rattle.sp_base.specs.Roles.{role_number};
+ghost use Rattle.sp_tcp.specs.Greetings.{FedAs, peer_hello};
+
+use sp_base::Role;
+use std::marker::Model;
+
+/// What came of a piece of the peer's greeting.
+#[derive(Clone, Copy, Debug, PartialEq, Eq)]
+pub enum Greeted {
+    /// The greeting is not whole yet.
+    More,
+    /// The greeting is whole, and so many bytes of the piece follow it.
+    Peer(usize),
+    /// Something else came.
+    Bad,
+}
+
+/// The greetings of a link: the own one, and how far the peer's came. Contracts see the own role, the bytes of the
+/// peer's greeting so far, and whether it still waits for more; after `Peer` or `Bad` it takes no more.
+#[derive(Debug, Drop)]
+pub struct Greeting {
+    role: Role,
+    /// The own greeting.
+    own: [u8; 8],
+    /// The greeting that is wanted of the peer.
+    peer: [u8; 8],
+    /// How many of its bytes came.
+    seen: usize,
+    /// Whether it still waits for more.
+    waits: bool,
+}
+
+impl Model for Greeting {
+    ghost use Rattle.std.specs.Prelude.{take, length, ◌≤◌, ◌≡◌};
+    ghost use Rattle.sp_spec.specs.SpTcp.{hello};
+    ghost use Rattle.sp_base.specs.Roles.{role_number};
+    ghost use Rattle.sp_tcp.specs.Views.{GreetingView};
+    ghost use Rattle.sp_tcp.specs.Greetings.{peer_hello, AreGreetings};
+
+    ghost Value = { GreetingView };
+
+    ghost view = { λ g. record { role = g.role; fed = take g.seen g.peer; is_open = g.waits } };
+
+    ghost invariant = { λ g. AreGreetings g.role g.own g.peer g.seen };
+}
+
+fn greeting_of(number: u16) -> [u8; 8]
+    ensures { result ≡ hello number }
+{
+    let [high, low] = number.to_be_bytes();
+    [0, 83, 80, 0, high, low, 0, 0]
+}
+
+fn is_same(a: &[u8], b: &[u8]) -> bool
+    ensures { IsTrue result ↔ (a.now ≡ b.now) }
+{
+    a == b
+}
+
+impl Greeting {
+    pub fn new(role: Role) -> Greeting
+        ensures { result ≡ record { role = role; fed = []; is_open = true } }
+    {
+        Greeting {
+            role,
+            own: greeting_of(role.number()),
+            peer: greeting_of(role.peer().number()),
+            seen: 0,
+            waits: true,
+        }
+    }
+
+    /// The greeting of the own role.
+    pub fn hello(&self) -> &[u8]
+        ensures { result.now ≡ hello (role_number self.now.role) }
+    {
+        &self.own
+    }
+
+    /// Takes the next piece that came, however the bytes are cut. Takes no memory.
+    pub fn feed(&mut self, piece: &[u8]) -> Greeted
+        requires { self.old.is_open ≡ true }
+        ensures role { self.new.role ≡ self.old.role }
+        ensures exact { FedAs result piece.now (peer_hello self.old.role) self.old.fed self.new.fed self.new.is_open }
+    {
+        let wanted = &self.peer[self.seen..];
+        let count = wanted.len().min(piece.len());
+        if !is_same(&piece[..count], &wanted[..count]) {
+            self.waits = false;
+            return Greeted::Bad;
+        }
+        self.seen += count;
+        if self.seen < 8 {
+            return Greeted::More;
+        }
+        self.waits = false;
+        Greeted::Peer(piece.len() - count)
+    }
+}
