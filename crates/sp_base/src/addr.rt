@@ -1,7 +1,9 @@
 //! Addresses, as `tcp://127.0.0.1:5555`.
-ghost use Rattle.std.specs.Prelude.{◌≡◌, ◌↔◌, ◌++◌, IsTrue, IfOk, IfSome, codes};
-ghost use Rattle.std.specs.Fmt.{decimal};
-ghost use Rattle.sp_base.specs.Addresses.{Spells, SpellsHost, Numbers, scheme_of, is_linked, is_dialable};
+ghost use Rattle.std.specs.Prelude.{◌≡◌, ◌≤◌, ◌<◌, ◌+◌, ◌-◌, ◌*◌, ◌^◌, ℕ, List, ◌↔◌, IsTrue, MatchResult};
+ghost use Rattle.std.specs.Option.{SomeIff};
+ghost use Rattle.sp_base.specs.declared.addr.Addr.{Addr};
+ghost use Rattle.sp_base.specs.Addresses.{Spells, SpellsHost, IsNumber, IsOctet, IsDotOctet, AddrFails, scheme_of, is_linked, is_dialable};
+ghost use Rattle.sp_base.specs.Readers.{Begins, Reads, ReadsWord, GoesOn, HasGrown, IsQuad, IsColonPort, IsEndpoint};
 
 use crate::bytes::Bytes;
 use crate::error::NoMemory;
@@ -43,74 +45,127 @@ pub enum AddrError {
     NoMemory,
 }
 
-fn is_same_text(a: &str, b: &str) -> bool
-    ensures { IsTrue result ↔ (a.now ≡ b.now) }
+/// What a reader of a text's front answers: the value of the longest front with which a text of its form begins and
+/// the rest behind that front or, where the front itself has no value, the rest alone.
+type Reading<'a, T> = Result<(T, &'a [u8]), &'a [u8]>;
+
+// The rest behind the word.
+fn behind<'a>(word: &[u8], text: &'a [u8]) -> Result<&'a [u8], &'a [u8]>
+    ensures { ReadsWord word.now text.now result }
 {
-    a == b
+    for (i, byte) in word.iter().enumerate() {
+        if i >= text.len() || text[i] != *byte {
+            return Err(&text[i..]);
+        }
+    }
+    Ok(&text[word.len()..])
 }
 
-// What stands before and behind the first dot.
-fn at_dot(text: &str) -> Option<(&str, &str)>
-    ensures { IfSome result (λ parts. text.now ≡ parts.0.now ++ codes "." ++ parts.1.now) }
+// The number with one more digit. Only 0 itself begins with 0.
+fn with_digit(limit: u32, number: u32, digit: u8) -> Option<u32>
+    requires fits { number < limit }
+    requires small { limit ≤ 2 ^ 16 }
+    ensures { SomeIff result (GoesOn limit number digit) (10 * number + (digit - 48)) }
 {
-    text.split_once('.')
+    if number == 0 || !digit.is_ascii_digit() {
+        return None;
+    }
+    let next = 10 * number + (digit - b'0') as u32;
+    if next < limit { Some(next) } else { None }
 }
 
-// A number in decimal digits, from the front of the text to the byte before the end.
-fn number_of(alloc: Global, text: &str) -> Result<Option<u16>, NoMemory>
-    ensures { IfOk result (λ found. Numbers found text.now) }
+// The number after all further digits that it can have.
+fn grown(limit: u32, number: u32, text: &[u8]) -> (u32, &[u8])
+    requires fits { number < limit }
+    requires small { limit ≤ 2 ^ 16 }
+    ensures { HasGrown limit number result.0 text.now result.1.now }
 {
-    let Ok(n) = text.parse::<u16>() else {
-        return Ok(None);
-    };
-    let again = n.to_string(alloc)?;
-    if is_same_text(again.as_str(), text) {
-        Ok(Some(n))
+    let mut number = number;
+    for (i, digit) in text.iter().enumerate() {
+        let Some(next) = with_digit(limit, number, *digit) else {
+            return (number, &text[i..]);
+        };
+        number = next;
+    }
+    (number, &text[text.len()..])
+}
+
+// A number below the limit.
+fn number(limit: u32, text: &[u8]) -> Reading<'_, u32>
+    requires digits { 10 ≤ limit }
+    requires small { limit ≤ 2 ^ 16 }
+    ensures { Reads (IsNumber limit) text.now result }
+{
+    if text.is_empty() || !text[0].is_ascii_digit() {
+        return Err(text);
+    }
+    Ok(grown(limit, (text[0] - b'0') as u32, &text[1..]))
+}
+
+fn octet(text: &[u8]) -> Reading<'_, u8>
+    ensures { Reads IsOctet text.now result }
+{
+    let (n, rest) = number(256, text)?;
+    Ok((n as u8, rest))
+}
+
+fn dot_octet(text: &[u8]) -> Reading<'_, u8>
+    ensures { Reads IsDotOctet text.now result }
+{
+    let rest = behind(b".", text)?;
+    octet(rest)
+}
+
+// Four numbers from 0 to 255 with dots between.
+fn dotted(text: &[u8]) -> Reading<'_, [u8; 4]>
+    ensures { Reads IsQuad text.now result }
+{
+    let (a, rest) = octet(text)?;
+    let (b, rest) = dot_octet(rest)?;
+    let (c, rest) = dot_octet(rest)?;
+    let (d, rest) = dot_octet(rest)?;
+    Ok(([a, b, c, d], rest))
+}
+
+// Whether the text begins with the byte.
+fn begins(text: &[u8], byte: u8) -> bool
+    ensures { IsTrue result ↔ Begins byte text.now }
+{
+    !text.is_empty() && text[0] == byte
+}
+
+fn host_name(text: &[u8]) -> Reading<'_, Host>
+    ensures { Reads SpellsHost text.now result }
+{
+    if begins(text, b'*') {
+        let rest = behind(b"*", text)?;
+        Ok((Host::Any, rest))
+    } else if begins(text, b'l') {
+        let rest = behind(b"localhost", text)?;
+        Ok((Host::V4(127, 0, 0, 1), rest))
     } else {
-        Ok(None)
+        let ([a, b, c, d], rest) = dotted(text)?;
+        Ok((Host::V4(a, b, c, d), rest))
     }
 }
 
-fn octet_of(alloc: Global, text: &str) -> Result<Option<u8>, NoMemory>
-    ensures { IfOk result (λ found. IfSome found (λ n. text.now ≡ decimal n)) }
+// A port behind a colon.
+fn colon_port(text: &[u8]) -> Reading<'_, u16>
+    ensures { Reads IsColonPort text.now result }
 {
-    match number_of(alloc, text)? {
-        Some(n) if n <= 255 => Ok(Some(n as u8)),
-        _ => Ok(None),
-    }
+    let rest = behind(b":", text)?;
+    let (port, rest) = number(65_536, rest)?;
+    Ok((port as u16, rest))
 }
 
-fn host_of(alloc: Global, text: &str) -> Result<Option<Host>, NoMemory>
-    ensures { IfOk result (λ found. IfSome found (λ host. SpellsHost host text.now)) }
+// The host and the port of an address of TCP.
+fn endpoint(text: &[u8]) -> Reading<'_, (Host, u16)>
+    ensures { Reads IsEndpoint text.now result }
 {
-    if text == "*" {
-        return Ok(Some(Host::Any));
-    }
-    if text == "localhost" {
-        return Ok(Some(Host::V4(127, 0, 0, 1)));
-    }
-    let Some((a, rest)) = at_dot(text) else {
-        return Ok(None);
-    };
-    let Some((b, rest)) = at_dot(rest) else {
-        return Ok(None);
-    };
-    let Some((c, d)) = at_dot(rest) else {
-        return Ok(None);
-    };
-    let Some(a) = octet_of(alloc, a)? else {
-        return Ok(None);
-    };
-    let Some(b) = octet_of(alloc, b)? else {
-        return Ok(None);
-    };
-    let Some(c) = octet_of(alloc, c)? else {
-        return Ok(None);
-    };
-    let Some(d) = octet_of(alloc, d)? else {
-        return Ok(None);
-    };
-    Ok(Some(Host::V4(a, b, c, d)))
+    let rest = behind(b"tcp://", text)?;
+    let (host, rest) = host_name(rest)?;
+    let (port, rest) = colon_port(rest)?;
+    Ok(((host, port), rest))
 }
 
 impl Addr {
@@ -151,24 +206,25 @@ impl Addr {
     }
 
     /// Reads an address of TCP: `tcp://HOST:PORT`, where HOST is `*`, `localhost` or four numbers from 0 to
-    /// 255 with dots between, and PORT a number from 0 to 65535, in decimal without sign or leading zero.
-    pub fn read(alloc: Global, text: &str) -> Result<Addr, AddrError>
-        ensures { IfOk result (λ addr. Spells addr text.now) }
+    /// 255 with dots between, and PORT a number from 0 to 65535, in decimal without sign or leading zero. A fault
+    /// says how many bytes of the text's front are the beginning of some address. It takes no memory; the forms of
+    /// addresses that hold a path or a name will.
+    pub fn read(_alloc: Global, text: &str) -> Result<Addr, AddrError>
+        ensures { MatchResult result (λ addr. Spells addr text.now) (λ why. AddrFails why text.now) }
     {
-        let Some(rest) = text.strip_prefix("tcp://") else {
-            return Err(AddrError::Fault { at: 0 });
-        };
-        let Some((host, port)) = rest.split_once(':') else {
-            return Err(AddrError::Fault { at: 6 });
-        };
-        let Some(host) = host_of(alloc, host)? else {
-            return Err(AddrError::Fault { at: 6 });
-        };
-        let Some(port) = number_of(alloc, port)? else {
-            return Err(AddrError::Fault { at: 6 });
-        };
-        Ok(Addr::Tcp { host, port })
+        let bytes = text.as_bytes();
+        match endpoint(bytes) {
+            Ok(((host, port), [])) => Ok(Addr::Tcp { host, port }),
+            Ok((_, rest)) | Err(rest) => Err(AddrError::Fault {
+                at: (bytes.len() - rest.len()) as u32,
+            }),
+        }
     }
+
+    /// A text is read as one address at most.
+    pub fn is_read_as_one()
+        ensures { (a b : Addr) (text : List ℕ) → Spells a text → Spells b text → a ≡ b }
+    {}
 }
 
 impl From<NoMemory> for AddrError {
