@@ -1,0 +1,4 @@
+mod Accounting
+mod Serving
+mod Standing
+mod Six
