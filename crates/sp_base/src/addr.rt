@@ -1,5 +1,5 @@
 //! Addresses, as `tcp://127.0.0.1:5555`.
-ghost use Rattle.std.specs.Prelude.{◌≡◌, ◌≤◌, ◌<◌, ◌+◌, ◌-◌, ◌*◌, ◌^◌, ℕ, List, ◌↔◌, IsTrue, MatchResult};
+ghost use Rattle.std.specs.Prelude.{◌≡◌, ◌≤◌, ◌<◌, ◌+◌, ◌-◌, ◌*◌, ◌^◌, ℕ, List, ◌↔◌, IsTrue, MatchResult, length};
 ghost use Rattle.std.specs.Option.{SomeIff};
 ghost use Rattle.sp_base.specs.declared.addr.Addr.{Addr};
 ghost use Rattle.sp_base.specs.Addresses.{Spells, SpellsHost, IsNumber, IsOctet, IsDotOctet, AddrFails, scheme_of, is_linked, is_dialable};
@@ -168,6 +168,17 @@ fn endpoint(text: &[u8]) -> Reading<'_, (Host, u16)>
     Ok(((host, port), rest))
 }
 
+// The fault whose place is where the rest begins.
+fn fault_before(text: &[u8], rest: &[u8]) -> AddrError
+    requires within { length rest.now ≤ length text.now }
+    requires near { length text.now - length rest.now < 2 ^ 32 }
+    ensures { result ≡ AddrError.Fault (length text.now - length rest.now) }
+{
+    AddrError::Fault {
+        at: (text.len() - rest.len()) as u32,
+    }
+}
+
 impl Addr {
     pub fn scheme(&self) -> Scheme
         ensures { result ≡ scheme_of self.now }
@@ -215,9 +226,8 @@ impl Addr {
         let bytes = text.as_bytes();
         match endpoint(bytes) {
             Ok(((host, port), [])) => Ok(Addr::Tcp { host, port }),
-            Ok((_, rest)) | Err(rest) => Err(AddrError::Fault {
-                at: (bytes.len() - rest.len()) as u32,
-            }),
+            Ok((_, rest)) => Err(fault_before(bytes, rest)),
+            Err(rest) => Err(fault_before(bytes, rest)),
         }
     }
 
@@ -230,5 +240,55 @@ impl Addr {
 impl From<NoMemory> for AddrError {
     fn from(_e: NoMemory) -> AddrError {
         AddrError::NoMemory
+    }
+}
+
+#[cfg(test)]
+mod tests {
+    use super::*;
+
+    fn endpoint_of(alloc: Global, text: &str) -> Result<(Host, u16), AddrError> {
+        match Addr::read(alloc, text) {
+            Ok(Addr::Tcp { host, port }) => Ok((host, port)),
+            Ok(_) => Err(AddrError::NoMemory),
+            Err(why) => Err(why),
+        }
+    }
+
+    #[test]
+    fn addresses_are_read(rt: HostRuntime) {
+        let local = Host::V4(127, 0, 0, 1);
+        let read = [
+            ("tcp://127.0.0.1:5555", local, 5555),
+            ("tcp://*:0", Host::Any, 0),
+            ("tcp://localhost:80", local, 80),
+            (
+                "tcp://255.255.255.255:65535",
+                Host::V4(255, 255, 255, 255),
+                65_535,
+            ),
+        ];
+        for (text, host, port) in read.iter() {
+            assert_eq!(rt; endpoint_of(rt.alloc(), text), Ok((*host, *port)));
+        }
+        let refused = [
+            ("tcp://256.0.0.1:1", 8),
+            ("tcp://127.0.0.1", 15),
+            ("tcp://1.2.3.4:65536", 18),
+            ("", 0),
+            ("tcp://1.2.3.4:", 14),
+            ("tcp://00.0.0.0:1", 7),
+            ("TCP://1.2.3.4:1", 0),
+            ("tcp://1.2.3:1", 11),
+            ("tcp://local:1", 11),
+            ("tcp://1.2.3.4:1 ", 15),
+            ("tcp:/1.2.3.4:1", 5),
+        ];
+        for (text, at) in refused.iter() {
+            assert_eq!(rt;
+                endpoint_of(rt.alloc(), text),
+                Err(AddrError::Fault { at: *at })
+            );
+        }
     }
 }
