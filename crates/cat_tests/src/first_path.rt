@@ -1,0 +1,124 @@
+use crate::TURNS;
+use crate::play::{HELLO_80, HELLO_81, SIX, link_of, one, play, taking};
+use cat_run::Status;
+use std::test::Fail;
+
+const HELLO_FRAME: &[u8] = b"\x00\x00\x00\x00\x00\x00\x00\x05hello";
+
+#[test]
+fn prints_one_message_that_came_over_one_link(rt: HostRuntime) -> Result<(), Fail> {
+    let came = one(
+        &rt,
+        &[HELLO_80, b"\x00\x00\x00\x00\x00\x00\x00\x05", b"hello"],
+        false,
+    )?;
+    assert_eq!(rt; came.status, Status::Done);
+    assert_eq!(rt; came.printed.as_slice(), b"hello\n".as_slice());
+    assert_eq!(rt; came.written.as_slice(), HELLO_81);
+    Ok(())
+}
+
+#[test]
+fn an_empty_message_prints_an_empty_line(rt: HostRuntime) -> Result<(), Fail> {
+    let came = one(&rt, &[HELLO_80, b"\x00\x00\x00\x00\x00\x00\x00\x00"], false)?;
+    assert_eq!(rt; came.status, Status::Done);
+    assert_eq!(rt; came.printed.as_slice(), b"\n".as_slice());
+    Ok(())
+}
+
+#[test]
+fn bytes_that_come_one_at_a_time_print_the_same(rt: HostRuntime) -> Result<(), Fail> {
+    let came = one(
+        &rt,
+        &[
+            b"\x00", b"S", b"P", b"\x00", b"\x00", b"\x50", b"\x00", b"\x00", b"\x00", b"\x00",
+            b"\x00", b"\x00", b"\x00", b"\x00", b"\x00", b"\x05", b"h", b"e", b"l", b"l", b"o",
+        ],
+        false,
+    )?;
+    assert_eq!(rt; came.status, Status::Done);
+    assert_eq!(rt; came.printed.as_slice(), b"hello\n".as_slice());
+    assert_eq!(rt; came.written.as_slice(), HELLO_81);
+    Ok(())
+}
+
+#[test]
+fn a_link_that_stops_in_its_greeting_holds_nobody_up(rt: HostRuntime) -> Result<(), Fail> {
+    let alloc = rt.alloc();
+    let mut links = Vec::new(alloc);
+    links.push(link_of(alloc, &[b"\x00SQ"], false, 1_000_000)?)?;
+    links.push(link_of(alloc, &[HELLO_80, HELLO_FRAME], false, 1_000_000)?)?;
+    let came = play(&rt, SIX, links, Vec::new(alloc), Vec::new(alloc), TURNS)?;
+    assert_eq!(rt; came.status, Status::Done);
+    assert_eq!(rt; came.printed.as_slice(), b"hello\n".as_slice());
+    assert_eq!(rt; came.written.as_slice(), HELLO_81);
+    assert_eq!(rt; came.opened, 2);
+    Ok(())
+}
+
+#[test]
+fn a_peer_of_another_role_is_given_back(rt: HostRuntime) -> Result<(), Fail> {
+    let came = one(&rt, &[b"\x00SP\x00\x00\x30\x00\x00"], false)?;
+    assert_eq!(rt; came.status, Status::Over);
+    assert_eq!(rt; came.printed.len(), 0);
+    assert_eq!(rt; came.left, 0);
+    Ok(())
+}
+
+#[test]
+fn a_link_that_ends_inside_a_message_prints_nothing(rt: HostRuntime) -> Result<(), Fail> {
+    let came = one(
+        &rt,
+        &[HELLO_80, b"\x00\x00\x00\x00\x00\x00\x00\x09abc"],
+        true,
+    )?;
+    assert_eq!(rt; came.status, Status::Over);
+    assert_eq!(rt; came.printed.len(), 0);
+    Ok(())
+}
+
+#[test]
+fn messages_that_came_whole_are_printed_before_the_end(rt: HostRuntime) -> Result<(), Fail> {
+    let came = one(&rt, &[HELLO_80, HELLO_FRAME], true)?;
+    assert_eq!(rt; came.status, Status::Done);
+    assert_eq!(rt; came.printed.as_slice(), b"hello\n".as_slice());
+    Ok(())
+}
+
+#[test]
+fn bytes_that_are_not_visible_are_dots(rt: HostRuntime) -> Result<(), Fail> {
+    let came = one(
+        &rt,
+        &[HELLO_80, b"\x00\x00\x00\x00\x00\x00\x00\x06\x1f\x20~\x7f\n\xff"],
+        false,
+    )?;
+    assert_eq!(rt; came.printed.as_slice(), b". ~...\n".as_slice());
+    Ok(())
+}
+
+#[test]
+fn a_body_of_the_limit_is_printed_and_one_above_it_is_not(rt: HostRuntime) -> Result<(), Fail> {
+    let alloc = rt.alloc();
+    let body = vec![in alloc; b'x'; 1_048_576]?;
+    let size = b"\x00\x00\x00\x00\x00\x10\x00\x00";
+    let came = one(&rt, &[HELLO_80, size, &body], false)?;
+    assert_eq!(rt; came.status, Status::Done);
+    assert_eq!(rt; came.printed.len(), 1_048_577);
+    let above = b"\x00\x00\x00\x00\x00\x10\x00\x01";
+    let came = one(&rt, &[HELLO_80, above, &body, b"x"], false)?;
+    assert_eq!(rt; came.status, Status::Over);
+    assert_eq!(rt; came.printed.len(), 0);
+    Ok(())
+}
+
+#[test]
+fn a_link_may_take_little_at_a_time(rt: HostRuntime) -> Result<(), Fail> {
+    let came = taking(&rt, &[HELLO_80, HELLO_FRAME], false, 1)?;
+    assert_eq!(rt; came.status, Status::Done);
+    assert_eq!(rt; came.written.as_slice(), HELLO_81);
+    let came = taking(&rt, &[HELLO_80, HELLO_FRAME], false, 0)?;
+    assert_eq!(rt; came.status, Status::Over);
+    assert_eq!(rt; came.written.len(), 0);
+    assert_eq!(rt; came.printed.len(), 0);
+    Ok(())
+}

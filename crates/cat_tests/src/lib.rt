@@ -1,0 +1,16 @@
+//! Tests of nngcat's top call over the outside in memory, with exact bytes, and of the real outside on this machine.
+#![tactic(auto)]
+
+#[cfg(test)]
+mod first_path;
+#[cfg(test)]
+mod plain;
+#[cfg(test)]
+mod play;
+#[cfg(test)]
+mod real;
+#[cfg(test)]
+mod refusals;
+
+/// How many turns the pace of a test has, a millisecond apart.
+pub const TURNS: u64 = 200;

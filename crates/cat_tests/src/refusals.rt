@@ -1,0 +1,112 @@
+use crate::TURNS;
+use crate::play::{HELLO_80, SIX, link_of, play, unlinked};
+use cat_run::{Status, complaint};
+use sp_base::{Bytes, NoMemory};
+use std::alloc::Global;
+use std::test::Fail;
+
+#[test]
+fn words_outside_the_six_are_refused_at_their_place(rt: HostRuntime) -> Result<(), Fail> {
+    const A: &str = "tcp://127.0.0.1:5555";
+    let wrong: &[(&[&str], u32)] = &[
+        (&[], 0),
+        (&["--help"], 0),
+        (&["--pull"], 1),
+        (&["--pull", "--dial", A], 1),
+        (&["--pull", "--listen", "tcp://256.0.0.1:1"], 2),
+        (&["--pull", "--listen", A, "--count", "1"], 3),
+        (&["--pull", "--listen", A, "--ascii", "--count", "0"], 5),
+        (&["--pull", "--listen", A, "--ascii", "--count", "01"], 5),
+        (
+            &["--pull", "--listen", A, "--ascii", "--count", "4294967296"],
+            5,
+        ),
+        (&["--pull", "--listen", A, "--ascii", "--count", "1", "x"], 6),
+    ];
+    for (texts, at) in wrong {
+        let came = unlinked(&rt, texts)?;
+        assert_eq!(rt; came.status, Status::Usage { at: *at });
+        assert_eq!(rt; came.left, TURNS);
+    }
+    Ok(())
+}
+
+#[test]
+fn a_failing_listen_ends_the_run(rt: HostRuntime) -> Result<(), Fail> {
+    let alloc = rt.alloc();
+    let came = play(
+        &rt,
+        SIX,
+        Vec::new(alloc),
+        vec![in alloc; 0]?,
+        Vec::new(alloc),
+        TURNS,
+    )?;
+    assert_eq!(rt; came.status, Status::NetFault);
+    assert_eq!(rt; came.status.code(), 4);
+    assert_eq!(rt; came.left, TURNS);
+    assert_eq!(rt; came.opened, 0);
+    Ok(())
+}
+
+#[test]
+fn a_failing_output_ends_the_run(rt: HostRuntime) -> Result<(), Fail> {
+    let alloc = rt.alloc();
+    let mut links = Vec::new(alloc);
+    links.push(link_of(
+        alloc,
+        &[HELLO_80, b"\x00\x00\x00\x00\x00\x00\x00\x05hello"],
+        false,
+        1_000_000,
+    )?)?;
+    let came = play(
+        &rt,
+        SIX,
+        links,
+        Vec::new(alloc),
+        vec![in alloc; 0]?,
+        TURNS,
+    )?;
+    assert_eq!(rt; came.status, Status::OutFault);
+    assert_eq!(rt; came.status.code(), 5);
+    Ok(())
+}
+
+#[test]
+fn a_pace_of_nothing_is_over(rt: HostRuntime) -> Result<(), Fail> {
+    let alloc = rt.alloc();
+    let mut links = Vec::new(alloc);
+    links.push(link_of(alloc, &[HELLO_80], false, 1_000_000)?)?;
+    let came = play(&rt, SIX, links, Vec::new(alloc), Vec::new(alloc), 0)?;
+    assert_eq!(rt; came.status, Status::Over);
+    assert_eq!(rt; came.status.code(), 3);
+    assert_eq!(rt; came.opened, 0);
+    Ok(())
+}
+
+// What is said of a status, behind an x.
+fn said(alloc: Global, status: Status) -> Result<Bytes, NoMemory> {
+    let mut line = Bytes::from_slice(alloc, b"x")?;
+    complaint(alloc, status, &mut line)?;
+    Ok(line)
+}
+
+#[test]
+fn complaints(rt: HostRuntime) -> Result<(), Fail> {
+    let lines: &[(Status, &[u8])] = &[
+        (Status::Done, b"x"),
+        (Status::Usage { at: 0 }, b"xnngcat: bad word 0\n"),
+        (Status::Usage { at: 2 }, b"xnngcat: bad word 2\n"),
+        (Status::SendTimedOut, b"xnngcat: send timed out\n"),
+        (Status::Over, b"xnngcat: stopped\n"),
+        (Status::NetFault, b"xnngcat: network fault\n"),
+        (Status::OutFault, b"xnngcat: output fault\n"),
+        (Status::FileFault, b"xnngcat: file fault\n"),
+        (Status::NoMemory, b"xnngcat: out of memory\n"),
+    ];
+    for (status, line) in lines {
+        let said = said(rt.alloc(), *status)?;
+        assert_eq!(rt; said.as_slice(), *line);
+    }
+    Ok(())
+}
