@@ -2,3 +2,4 @@ mod Accounting
 mod Serving
 mod Standing
 mod Six
+mod Plans

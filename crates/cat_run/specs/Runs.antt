@@ -3,7 +3,7 @@ use Rattle.std.specs.Prelude.{◌≡◌, ◌≤◌, ◌⊎◌, ℕ, List}
 use Rattle.sp_spec.specs.Outside.{Rose}
 use Rattle.sp_base.specs.Views.{NetView, PaceView, SinkView}
 use Rattle.sp_base.specs.declared.addr.Addr.{Addr}
-use Rattle.cat_run.specs.Plans.{IsPlan}
+use Rattle.cat_run.specs.Plans.{IsPlan, IsUsage}
 use Rattle.cat_run.specs.Rounds.{Path, KeepsOthers}
 use Rattle.cat_run.specs.declared.ends.Status.{Status}
 use Rattle.cat_run.specs.declared.ends.Status.TheVariants as status
@@ -38,6 +38,6 @@ RunsPlan status.NoMemory count net net' pace pace' out out' = Unasked net net' p
 RunsPlan _ count net net' pace pace' out out' = ⊥
 
 abbrev pub Runs : Status → List (List ℕ) → NetView → NetView → PaceView → PaceView → SinkView → SinkView → Type 0
-Runs (status.Usage at) words net net' pace pace' out out' = Unasked net net' pace pace' out out'
+Runs (status.Usage at) words net net' pace pace' out out' = IsUsage words at × Unasked net net' pace pace' out out'
 Runs status.NoMemory words net net' pace pace' out out' = Unasked net net' pace pace' out out' ⊎ ((addr : Addr) × (count : ℕ) × IsPlan words addr count × RunsPlan status.NoMemory count net net' pace pace' out out')
 Runs s words net net' pace pace' out out' = (addr : Addr) × (count : ℕ) × IsPlan words addr count × RunsPlan s count net net' pace pace' out out'
