@@ -1,0 +1,105 @@
+// What each step tells.
+use crate::stands::{Offers, Picks, Stands};
+use crate::view::View;
+use atomic_table::{Join, Play, Split};
+use std::marker::PhantomData;
+
+pub struct Open;
+
+impl<S: Stands> Play<Option<S>, View<S::Entry, S::Label>> for Open {
+    ghost use Rattle.turn_lock.specs.Plays.{opened};
+
+    ghost then = { opened };
+}
+
+pub struct Install;
+
+impl<S: Stands> Play<Option<S>, View<S::Entry, S::Label>> for Install {
+    ghost use Rattle.turn_lock.specs.Plays.{installed};
+
+    ghost then = { installed S.label };
+}
+
+pub struct Deal;
+
+impl<E, L> Split<View<E, L>> for Deal {
+    ghost use Rattle.turn_lock.specs.Plays.{dealer_next, dealt};
+
+    ghost left = { dealer_next };
+
+    ghost right = { dealt };
+}
+
+pub struct Draw;
+
+impl<S: Stands> Play<Option<S>, View<S::Entry, S::Label>> for Draw {
+    ghost use Rattle.turn_lock.specs.Plays.{drew};
+
+    ghost then = { drew };
+}
+
+pub struct Look;
+
+impl<S: Stands> Play<Option<S>, View<S::Entry, S::Label>> for Look {
+    ghost use Rattle.turn_lock.specs.Plays.{looked};
+
+    ghost then = { looked S.stands S.label };
+}
+
+pub struct Publish<T> {
+    offers: PhantomData<T>,
+}
+
+impl<S: Stands, T: Offers<S::Entry>> Play<Option<S>, View<S::Entry, S::Label>> for Publish<T> {
+    ghost use Rattle.turn_lock.specs.Plays.{published};
+
+    ghost then = { published T.offers };
+}
+
+// The one turn that `T` picks.
+pub struct Exactly<T> {
+    picks: PhantomData<T>,
+}
+
+impl<E, T: Picks<E>> Offers<E> for Exactly<T> {
+    ghost use Rattle.std.specs.Prelude.{◌≡◌};
+
+    ghost offers = { λ _ t. t ≡ T.turn };
+}
+
+pub struct Shut;
+
+impl<S: Stands> Play<Option<S>, View<S::Entry, S::Label>> for Shut {
+    ghost use Rattle.turn_lock.specs.Plays.{shut};
+
+    ghost then = { shut };
+}
+
+pub struct TakeIn;
+
+impl<E, L> Join<View<E, L>> for TakeIn {
+    ghost use Rattle.turn_lock.specs.Plays.{with_told};
+    ghost use Rattle.turn_lock.specs.Rule.{spent};
+
+    ghost both = { with_told };
+
+    ghost spent = { spent };
+}
+
+pub struct Tell;
+
+impl<S: Stands> Play<Option<S>, View<S::Entry, S::Label>> for Tell {
+    ghost use Rattle.turn_lock.specs.Plays.{told};
+
+    ghost then = { told };
+}
+
+pub struct Close;
+
+impl<E, L> Split<View<E, L>> for Close {
+    ghost use Rattle.turn_lock.specs.Rule.{closer};
+
+    ghost left = { λ v. v };
+
+    ghost right = { λ _. closer };
+}
