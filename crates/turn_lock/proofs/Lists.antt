@@ -21,6 +21,18 @@ range_suc a (suc n) = let e : n + (a + 1) ≡ suc n + a = omega arith in ap (λ 
 range_more : (a n : ℕ) → range_with_len a (n + 1) ≡ range_with_len a n ++ (n + a) ∷ []
 range_more a n = ap (range_with_len a) (add-one n) ∙ range_suc a n
 
+module _ {A : Type 0} where
+  not_nil : (xs : List A) (x : A) → xs ++ x ∷ [] ≡ [] → ⊥
+  not_nil [] x e = cc
+  not_nil (y ∷ ys) x e = cc
+
+  -- two lists with a last element each are the same
+  pub same_last : (xs ys : List A) (x y : A) → xs ++ x ∷ [] ≡ ys ++ y ∷ [] → (xs ≡ ys) × (x ≡ y)
+  same_last [] [] x y e = (refl, cc)
+  same_last [] (b ∷ bs) x y e = let f : bs ++ y ∷ [] ≡ [] = cc in absurd (not_nil bs y f)
+  same_last (a ∷ rest) [] x y e = let f : rest ++ x ∷ [] ≡ [] = cc in absurd (not_nil rest x f)
+  same_last (a ∷ rest) (b ∷ bs) x y e = let f : rest ++ x ∷ [] ≡ bs ++ y ∷ [] = cc in let h = same_last rest bs x y f in let same : rest ≡ bs = h.0 in (cc, h.1)
+
 module _ {E L : Type 0} where
   -- one new pass more
   pub new_passes-more : (lock : TableId) (label : Option L) (n : ℕ) → new_passes {E = E} lock label (n + 1) ≡ new_passes lock label n ++ new_pass lock label (n + 1) ∷ []
@@ -28,6 +40,10 @@ module _ {E L : Type 0} where
 
   pub one_more : (lock : TableId) (label : Option L) (n : ℕ) (ps : List (PassView E L)) (p : PassView E L) → ps ≡ new_passes lock label n → p ≡ new_pass lock label (n + 1) → ps ++ p ∷ [] ≡ new_passes lock label (n + 1)
   one_more lock label n ps p all one = (λ i. all i ++ one i ∷ []) ∙ sym (new_passes-more lock label n)
+
+  -- what a `pop` takes from new passes
+  pub new_passes-pop : (lock : TableId) (label : Option L) (n : ℕ) (ps rest : List (PassView E L)) (p : PassView E L) → ps ≡ new_passes lock label (n + 1) → ps ≡ rest ++ p ∷ [] → (rest ≡ new_passes lock label n) × (p ≡ new_pass lock label (n + 1))
+  new_passes-pop lock label n ps rest p all split = same_last rest (new_passes lock label n) p (new_pass lock label (n + 1)) (sym split ∙ (all ∙ new_passes-more lock label n))
 
   pub length-new_passes : (lock : TableId) (label : Option L) (n : ℕ) (ps : List (PassView E L)) → ps ≡ new_passes lock label n → length ps ≡ n
   length-new_passes lock label n ps is = ap length is ∙ (length-map (range_with_len 1 n) (new_pass {E = E} lock label) ∙ length-range_with_len 1 n)

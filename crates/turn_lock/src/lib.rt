@@ -17,6 +17,8 @@ mod pass;
 mod plays;
 mod rule;
 mod stands;
+#[cfg(test)]
+mod tests;
 mod turn;
 mod turns;
 mod view;

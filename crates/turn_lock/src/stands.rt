@@ -1,4 +1,5 @@
 //! What a lock asks of its state, and how a call tells the turn that it adds.
+use std::marker::Brand;
 
 /// A state that stands for histories. The lock hands it from turn to turn.
 pub trait Stands {
@@ -30,4 +31,15 @@ pub trait Offers<E> {
     ghost use Rattle.turn_lock.specs.declared.turn.Turn.{Turn};
 
     ghost offers: { List (Turn E) → Turn E → Type 0 };
+}
+
+// Where a call names `Brand`, its caller picks the turn, or what is offered.
+impl<E> Picks<E> for Brand {
+    ghost use Rattle.std.specs.Prelude.{[]};
+
+    ghost turn = { record { number = 0; entries = [] } };
+}
+
+impl<E> Offers<E> for Brand {
+    ghost offers = { λ _ _. Unit {0} };
 }
