@@ -29,11 +29,7 @@ impl<S: Stands> TurnLock<S> {
     }
 
     // Learns that what the other pass has seen is of this history.
-    fn take_in(
-        &self,
-        seat: &mut Seat<Option<S>, View<S::Entry, S::Label>>,
-        other: TurnPass<S>,
-    )
+    fn take_in(&self, seat: &mut Seat<Option<S>, View<S::Entry, S::Label>>, other: TurnPass<S>)
         requires lock { seat.old.table_id ≡ lock_id self.now }
         requires ended { IsAtEnd seat.old.me }
         requires own { IsOf (lock_id self.now) other }

@@ -12,5 +12,5 @@ loop-dealt-preserved g c = let i = c.loop-dealt.invariant in let label = ap (λ 
   lock = c.deal-pass.ensures.lock ∙ i.lock;
   dealer = c.deal-pass.ensures.dealer ∙ ap (λ l. (dealer l (d + 1), [])) label;
   room = c.push_reserved.ensures.capacity ∙ i.room;
-  passes = c.push_reserved.ensures.items ∙ one_more _ _ d _ _ i.passes (c.deal-pass.ensures.pass ∙ ap (λ l. new_pass c.args.self.now.table.shared.table_id l (d + 1)) label)
+  passes = c.push_reserved.ensures.items ∙ one_more _ _ d _ _ i.passes (c.deal-pass.ensures.pass ∙ ap (λ l. new_pass c.args.self.now.table.shared.table_id l (d + 1)) label);
 }

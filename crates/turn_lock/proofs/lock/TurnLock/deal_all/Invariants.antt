@@ -8,5 +8,5 @@ invariant-loop-dealt g l = record {
   lock : l.seat.table_id ≡ l.initial.seat.table_id;
   dealer : l.seat.me ≡ (dealer l.initial.seat.me.0.label l.dealt, []);
   room : vec_capacity l.passes ≡ vec_capacity l.initial.passes;
-  passes : l.passes.items ≡ new_passes l.self.table.shared.table_id l.initial.seat.me.0.label l.dealt
+  passes : l.passes.items ≡ new_passes l.self.table.shared.table_id l.initial.seat.me.0.label l.dealt;
 }

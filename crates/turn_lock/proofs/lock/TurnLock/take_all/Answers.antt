@@ -10,7 +10,7 @@ loop-other-preserved g c = let i = c.loop-other.invariant in let e = c.take_in.e
   ended = e.ended;
   kept = (own, label);
   own = (All-pop (λ p. IsOf c.args.self.now.table.shared.table_id p × (p.inside ≡ false)) _ _ _ c.pop.ensures.items i.own).0;
-  fits = taken _ _ _ _ _ _ _ c.in-Some.other (ap (λ z. z.seen) own) label c.in-Some.ensures.items e.fits i.fits
+  fits = taken _ _ _ _ _ _ _ c.in-Some.other (ap (λ z. z.seen) own) label c.in-Some.ensures.items e.fits i.fits;
 }
 
 pub returns-clause-fits : goal.returns-clause-fits

@@ -10,7 +10,7 @@ invariant-loop-other g l = record {
   ended : IsAtEnd l.seat.me;
   kept : SeesNoMore l.initial.seat.me.0 l.seat.me.0;
   own : All (λ p. IsOf l.self.table.shared.table_id p × (p.inside ≡ false)) l.passes.items;
-  fits : All (FitsIn l.initial.seat.me.0.own.seen l.initial.seat.me.0.label) l.passes.items → All (FitsIn l.initial.seat.me.0.own.seen l.initial.seat.me.0.label) l.initial.passes.items
+  fits : All (FitsIn l.initial.seat.me.0.own.seen l.initial.seat.me.0.label) l.passes.items → All (FitsIn l.initial.seat.me.0.own.seen l.initial.seat.me.0.label) l.initial.passes.items;
 }
 
 abbrev pub decreases-loop-other : goal.decreases-loop-other
