@@ -11,13 +11,13 @@ use crate::lock::TurnLock;
 use crate::pass::TurnPass;
 use crate::plays::{Deal, Install, Open};
 use crate::stands::Stands;
-use crate::view::View;
-use atomic_table::{Seat, Table};
+use crate::view::LockSeat;
+use atomic_table::Table;
 use std::alloc::{AllocError, Global};
 
 impl<S: Stands> TurnLock<S> {
     // Puts the state into the slot.
-    fn fill(&self, seat: &mut Seat<Option<S>, View<S::Entry, S::Label>>, state: S)
+    fn fill(&self, seat: &mut LockSeat<S>, state: S)
         requires lock { seat.old.table_id ≡ lock_id self.now }
         requires fresh { seat.old.me ≡ (fresh, []) }
         requires state { S.stands state [] }
@@ -31,7 +31,7 @@ impl<S: Stands> TurnLock<S> {
     }
 
     // The pass of the number after those that were dealt.
-    fn deal(&self, seat: &mut Seat<Option<S>, View<S::Entry, S::Label>>, dealt: u32) -> TurnPass<S>
+    fn deal(&self, seat: &mut LockSeat<S>, dealt: u32) -> TurnPass<S>
         requires lock { seat.old.table_id ≡ lock_id self.now }
         requires dealer { seat.old.me ≡ (dealer seat.old.me.0.label dealt, []) }
         requires room { dealt < 64 }
@@ -44,12 +44,7 @@ impl<S: Stands> TurnLock<S> {
     }
 
     // All passes, in the order of their numbers.
-    fn deal_all(
-        &self,
-        seat: &mut Seat<Option<S>, View<S::Entry, S::Label>>,
-        passes: &mut Vec<TurnPass<S>>,
-        callers: u32,
-    )
+    fn deal_all(&self, seat: &mut LockSeat<S>, passes: &mut Vec<TurnPass<S>>, callers: u32)
         requires lock { seat.old.table_id ≡ lock_id self.now }
         requires dealer { seat.old.me ≡ (dealer seat.old.me.0.label 0, []) }
         requires callers { callers ≤ 64 }

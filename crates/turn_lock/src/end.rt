@@ -12,13 +12,12 @@ use crate::lock::TurnLock;
 use crate::pass::TurnPass;
 use crate::plays::{Close, Shut, TakeIn, Tell};
 use crate::stands::Stands;
-use crate::view::View;
-use atomic_table::Seat;
+use crate::view::LockSeat;
 use std::sync::Wait;
 
 impl<S: Stands> TurnLock<S> {
     // The slot stays empty for good.
-    fn shut(&self, seat: &mut Seat<Option<S>, View<S::Entry, S::Label>>)
+    fn shut(&self, seat: &mut LockSeat<S>)
         requires lock { seat.old.table_id ≡ lock_id self.now }
         requires inside { (t : _) × (seat.old.me.0.stage ≡ Inside t) × (seat.old.me.1 ≡ (0, None) ∷ []) }
         ensures lock { seat.new.table_id ≡ seat.old.table_id }
@@ -29,7 +28,7 @@ impl<S: Stands> TurnLock<S> {
     }
 
     // Learns that what the other pass has seen is of this history.
-    fn take_in(&self, seat: &mut Seat<Option<S>, View<S::Entry, S::Label>>, other: TurnPass<S>)
+    fn take_in(&self, seat: &mut LockSeat<S>, other: TurnPass<S>)
         requires lock { seat.old.table_id ≡ lock_id self.now }
         requires ended { IsAtEnd seat.old.me }
         requires own { IsOf (lock_id self.now) other }
@@ -46,12 +45,7 @@ impl<S: Stands> TurnLock<S> {
     }
 
     // Learns that no turn is of a caller that never was.
-    fn take_first(
-        &self,
-        seat: &mut Seat<Option<S>, View<S::Entry, S::Label>>,
-        first: Seat<Option<S>, View<S::Entry, S::Label>>,
-        callers: u32,
-    )
+    fn take_first(&self, seat: &mut LockSeat<S>, first: LockSeat<S>, callers: u32)
         requires lock { seat.old.table_id ≡ lock_id self.now }
         requires ended { IsAtEnd seat.old.me }
         requires own { first.table_id ≡ lock_id self.now }
@@ -66,11 +60,7 @@ impl<S: Stands> TurnLock<S> {
         let _ = callers;
     }
 
-    fn take_all(
-        &self,
-        seat: &mut Seat<Option<S>, View<S::Entry, S::Label>>,
-        passes: &mut Vec<TurnPass<S>>,
-    )
+    fn take_all(&self, seat: &mut LockSeat<S>, passes: &mut Vec<TurnPass<S>>)
         requires lock { seat.old.table_id ≡ lock_id self.now }
         requires ended { IsAtEnd seat.old.me }
         requires own { All (λ p. IsOf (lock_id self.now) p × (p.inside ≡ false)) passes.old.items }
@@ -86,7 +76,7 @@ impl<S: Stands> TurnLock<S> {
     }
 
     // Frees the table, whose slot is empty.
-    fn free(self, seat: &mut Seat<Option<S>, View<S::Entry, S::Label>>)
+    fn free(self, seat: &mut LockSeat<S>)
         requires lock { seat.old.table_id ≡ lock_id self }
         requires ended { IsAtEnd seat.old.me }
         ensures { seat.new.me ≡ seat.old.me }

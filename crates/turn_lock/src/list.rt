@@ -1,8 +1,7 @@
 //! The passes that no caller has.
 use crate::pass::TurnPass;
 use crate::stands::Stands;
-use crate::view::View;
-use atomic_table::Seat;
+use crate::view::LockSeat;
 use std::marker::Model;
 
 /// The passes of one lock that no caller has, as a stack.
@@ -12,7 +11,7 @@ pub struct PassList<S: Stands> {
     // How many passes the lock has.
     pub(crate) callers: u32,
     // The seat that the passes' seats were split off.
-    pub(crate) first: Seat<Option<S>, View<S::Entry, S::Label>>,
+    pub(crate) first: LockSeat<S>,
 }
 
 impl<S: Stands> Model for PassList<S> {

@@ -1,7 +1,6 @@
 //! A caller's right to take turns.
 use crate::stands::Stands;
-use crate::view::View;
-use atomic_table::Seat;
+use crate::view::LockSeat;
 use std::marker::Model;
 
 /// A caller's right to take turns. It keeps how far the caller has seen the lock's history.
@@ -9,7 +8,7 @@ pub struct TurnPass<S: Stands> {
     // From 1 to the lock's callers.
     number: u32,
     // The caller's place at the lock's table. It has the slot while the pass has the turn.
-    pub(crate) seat: Seat<Option<S>, View<S::Entry, S::Label>>,
+    pub(crate) seat: LockSeat<S>,
 }
 
 impl<S: Stands> Model for TurnPass<S> {
@@ -27,17 +26,14 @@ impl<S: Stands> TurnPass<S> {
     ghost use Rattle.std.specs.Prelude.{◌≡◌};
     ghost use Rattle.turn_lock.specs.Seats.{pass_view, IsSeatOf};
 
-    pub(crate) fn of_seat(
-        number: u32,
-        seat: Seat<Option<S>, View<S::Entry, S::Label>>,
-    ) -> TurnPass<S>
+    pub(crate) fn of_seat(number: u32, seat: LockSeat<S>) -> TurnPass<S>
         requires { IsSeatOf number seat.me }
         ensures { result ≡ pass_view number seat.table_id seat.me.0 }
     {
         TurnPass { number, seat }
     }
 
-    pub(crate) fn into_seat(self) -> Seat<Option<S>, View<S::Entry, S::Label>>
+    pub(crate) fn into_seat(self) -> LockSeat<S>
         ensures shows { self ≡ pass_view self.number result.table_id result.me.0 }
         ensures rests { IsSeatOf self.number result.me }
     {

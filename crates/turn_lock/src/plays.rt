@@ -1,9 +1,10 @@
-// What each step tells.
+//! The steps of the lock's table, each with what it tells the seat that takes it (`specs/Plays.antt`).
 use crate::stands::{Offers, Picks, Stands};
 use crate::view::View;
 use atomic_table::{Join, Play, Split};
 use std::marker::PhantomData;
 
+// The first seat takes the slot.
 pub struct Open;
 
 impl<S: Stands> Play<Option<S>, View<S::Entry, S::Label>> for Open {
@@ -12,6 +13,7 @@ impl<S: Stands> Play<Option<S>, View<S::Entry, S::Label>> for Open {
     ghost then = { opened };
 }
 
+// The first seat gives the slot back, with the state in it.
 pub struct Install;
 
 impl<S: Stands> Play<Option<S>, View<S::Entry, S::Label>> for Install {
@@ -20,6 +22,7 @@ impl<S: Stands> Play<Option<S>, View<S::Entry, S::Label>> for Install {
     ghost then = { installed S.label };
 }
 
+// The first seat splits off the seat of the next number.
 pub struct Deal;
 
 impl<E, L> Split<View<E, L>> for Deal {
@@ -30,6 +33,7 @@ impl<E, L> Split<View<E, L>> for Deal {
     ghost right = { dealt };
 }
 
+// A seat draws the next ticket, or finds that another did.
 pub struct Draw;
 
 impl<S: Stands> Play<Option<S>, View<S::Entry, S::Label>> for Draw {
@@ -38,6 +42,7 @@ impl<S: Stands> Play<Option<S>, View<S::Entry, S::Label>> for Draw {
     ghost then = { drew };
 }
 
+// A seat looks at the ticket that is served. Where it is its own, it takes the slot, and has seen the whole history.
 pub struct Look;
 
 impl<S: Stands> Play<Option<S>, View<S::Entry, S::Label>> for Look {
@@ -46,6 +51,7 @@ impl<S: Stands> Play<Option<S>, View<S::Entry, S::Label>> for Look {
     ghost then = { looked S.stands S.label };
 }
 
+// The next ticket is served: the seat's turn comes to the history, and the slot goes back.
 pub struct Publish<T> {
     offers: PhantomData<T>,
 }
@@ -67,6 +73,7 @@ impl<E, T: Picks<E>> Offers<E> for Exactly<T> {
     ghost offers = { λ _ t. t ≡ T.turn };
 }
 
+// The slot goes back empty, for good.
 pub struct Shut;
 
 impl<S: Stands> Play<Option<S>, View<S::Entry, S::Label>> for Shut {
@@ -75,6 +82,7 @@ impl<S: Stands> Play<Option<S>, View<S::Entry, S::Label>> for Shut {
     ghost then = { shut };
 }
 
+// A seat at the lock's end takes in another, which is spent.
 pub struct TakeIn;
 
 impl<E, L> Join<View<E, L>> for TakeIn {
@@ -86,6 +94,7 @@ impl<E, L> Join<View<E, L>> for TakeIn {
     ghost spent = { spent };
 }
 
+// A seat at the lock's end learns that what it was told is true of the whole history.
 pub struct Tell;
 
 impl<S: Stands> Play<Option<S>, View<S::Entry, S::Label>> for Tell {
@@ -94,6 +103,7 @@ impl<S: Stands> Play<Option<S>, View<S::Entry, S::Label>> for Tell {
     ghost then = { told };
 }
 
+// A seat at the lock's end splits off one that closes the table.
 pub struct Close;
 
 impl<E, L> Split<View<E, L>> for Close {

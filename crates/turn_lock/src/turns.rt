@@ -11,14 +11,13 @@ use crate::lock::TurnLock;
 use crate::pass::TurnPass;
 use crate::plays::{Draw, Exactly, Look, Publish};
 use crate::stands::{Offers, Picks, Stands};
-use crate::view::View;
-use atomic_table::Seat;
+use crate::view::LockSeat;
 use std::sync::Wait;
 use std::thread;
 
 impl<S: Stands> TurnLock<S> {
     // Draws the next ticket. The last, 2^64 - 1, is never drawn: the caller then waits for ever.
-    fn draw<R: Wait>(&self, rt: &R, seat: &mut Seat<Option<S>, View<S::Entry, S::Label>>) -> u64
+    fn draw<R: Wait>(&self, rt: &R, seat: &mut LockSeat<S>) -> u64
         requires lock { seat.old.table_id ≡ lock_id self.now }
         requires idle { (seat.old.me.0.stage ≡ Idle) × (seat.old.me.1 ≡ []) }
         ensures lock { seat.new.table_id ≡ seat.old.table_id }
@@ -41,12 +40,7 @@ impl<S: Stands> TurnLock<S> {
     }
 
     // Waits until the ticket is served.
-    fn wait<R: Wait>(
-        &self,
-        rt: &R,
-        seat: &mut Seat<Option<S>, View<S::Entry, S::Label>>,
-        ticket: u64,
-    )
+    fn wait<R: Wait>(&self, rt: &R, seat: &mut LockSeat<S>, ticket: u64)
         requires lock { seat.old.table_id ≡ lock_id self.now }
         requires drawn { (seat.old.me.0.stage ≡ Waiting ticket) × (seat.old.me.1 ≡ []) }
         ensures lock { seat.new.table_id ≡ seat.old.table_id }

@@ -1,6 +1,11 @@
-// What a seat at the lock's table knows. No value of these types is made.
+//! What a seat at the lock's table knows. No value of these types is made.
+use crate::stands::Stands;
 use crate::turn::Turn;
+use atomic_table::Seat;
 use std::collections::LinkedList;
+
+// A seat at the table of a lock whose state is an `S`.
+pub type LockSeat<S> = Seat<Option<S>, View<<S as Stands>::Entry, <S as Stands>::Label>>;
 
 // A beginning of the history, and the turns of one number in it.
 pub struct Part<E> {

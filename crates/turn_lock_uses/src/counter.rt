@@ -40,12 +40,7 @@ impl Counter {
 }
 
 /// Adds, up to the greatest count, and gives the count.
-pub fn add<R: Wait>(
-    rt: &R,
-    lock: &TurnLock<Counter>,
-    pass: &mut TurnPass<Counter>,
-    n: u64,
-) -> u64
+pub fn add<R: Wait>(rt: &R, lock: &TurnLock<Counter>, pass: &mut TurnPass<Counter>, n: u64) -> u64
     requires lock { IsOf (lock_id lock.now) pass.old }
     requires outside { pass.old.inside ≡ false }
     ensures lock { IsOf (lock_id lock.now) pass.new }
