@@ -1,0 +1,4 @@
+pub mod Keeps
+pub mod SeatLemmas
+pub mod Lists
+pub mod Ends

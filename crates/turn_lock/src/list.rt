@@ -1,0 +1,55 @@
+//! The passes that no caller has.
+use crate::pass::TurnPass;
+use crate::stands::Stands;
+use crate::view::LockSeat;
+use std::marker::Model;
+
+/// The passes of one lock that no caller has, as a stack.
+pub struct PassList<S: Stands> {
+    // It has room for all passes of the lock.
+    pub(crate) passes: Vec<TurnPass<S>>,
+    // How many passes the lock has.
+    pub(crate) callers: u32,
+    // The seat that the passes' seats were split off.
+    pub(crate) first: LockSeat<S>,
+}
+
+impl<S: Stands> Model for PassList<S> {
+    ghost use Rattle.std.specs.Prelude.{◌≡◌, ◌≤◌, [], false};
+    ghost use Rattle.std.specs.Vec.{vec_capacity};
+    ghost use Rattle.std.specs.List.{All};
+    ghost use Rattle.turn_lock.specs.Plays.{dealer};
+    ghost use Rattle.turn_lock.specs.Passes.{IsOf, ListView};
+
+    ghost Value = { ListView S.Entry S.Label };
+
+    ghost view = { λ l. record { items = l.passes.items; callers = l.callers; lock = l.first.table_id } };
+
+    ghost invariant = { λ l. record { room : vec_capacity l.passes ≡ l.callers; some_caller : 1 ≤ l.callers; first : l.first.me ≡ (dealer l.first.me.0.label l.callers, []); outside : All (λ p. IsOf l.first.table_id p × (p.inside ≡ false)) l.passes.items } };
+}
+
+impl<S: Stands> PassList<S> {
+    ghost use Rattle.std.specs.Prelude.{◌≡◌, ◌<◌, [], ◌∷◌, ◌++◌, false, length, IfSome, IfNone};
+    ghost use Rattle.turn_lock.specs.Passes.{IsOf};
+
+    /// Takes the last pass. It is `None` exactly where the list is empty.
+    pub fn pop(&mut self) -> Option<TurnPass<S>>
+        ensures none { IfNone result ((self.old.items ≡ []) × (self.new.items ≡ [])) }
+        ensures last { IfSome result (λ p. self.old.items ≡ self.new.items ++ p ∷ []) }
+        ensures outside { IfSome result (λ p. IsOf self.old.lock p × (p.inside ≡ false)) }
+        ensures same { (self.new.callers ≡ self.old.callers) × (self.new.lock ≡ self.old.lock) }
+    {
+        self.passes.pop()
+    }
+
+    /// Puts a pass of this lock back, at the end. It takes no memory.
+    pub fn give(&mut self, pass: TurnPass<S>)
+        requires own { IsOf self.old.lock pass }
+        requires outside { pass.inside ≡ false }
+        requires room { length self.old.items < self.old.callers }
+        ensures pass { self.new.items ≡ self.old.items ++ pass ∷ [] }
+        ensures same { (self.new.callers ≡ self.old.callers) × (self.new.lock ≡ self.old.lock) }
+    {
+        self.passes.push_reserved(pass);
+    }
+}

@@ -1,0 +1,3 @@
+pub mod Totals
+pub mod Acts
+pub mod Logs

@@ -1,0 +1,142 @@
+//! A state that is generic in its machine, whose contract says only that there is a turn.
+ghost use Rattle.std.specs.Prelude.{◌≡◌, false, List, IfSome};
+ghost use Rattle.turn_lock.specs.declared.turn.Turn.{Turn};
+ghost use Rattle.turn_lock.specs.Locks.{lock_id};
+ghost use Rattle.turn_lock.specs.Passes.{IsOf, IsSameCaller, OwnTurn};
+ghost use Rattle.turn_lock_uses.specs.Acts.{IsReady, Acted};
+
+use crate::setting::Setting;
+use atomic_table::Seat;
+use std::marker::Brand;
+use std::sync::Wait;
+use std::thread::{Threads, join};
+use turn_lock::{Stands, TurnLock, TurnPass};
+
+/// What one call does, with one owner.
+pub trait Machine {
+    ghost use Rattle.std.specs.Prelude.{◌≡◌, ◌++◌, ◌∷◌, [], ℕ, List, Option};
+    ghost use Rattle.turn_lock.specs.declared.turn.Turn.{Turn};
+
+    type Entry;
+
+    ghost stands: { Self → List (Turn Self.Entry) → Type 0 };
+
+    // What no call changes.
+    ghost room: { Self → ℕ };
+
+    // Of the room, the value, the answer, the history before and the turn.
+    ghost replies: { ℕ → ℕ → Option ℕ → List (Turn Self.Entry) → Turn Self.Entry → Type 0 };
+
+    /// One turn of the caller's. It may be one with no entries.
+    fn act(&mut self, caller: u32, value: u64) -> Option<u64>
+        ensures turn { (past : List (Turn Self.Entry)) → stands self.old past → (t : Turn Self.Entry) × (t.number ≡ caller) × stands self.new (past ++ t ∷ []) × replies (room self.old) value result past t }
+        ensures room { room self.new ≡ room self.old };
+}
+
+/// A machine, and the seat of a table whose name all passes know by their label. It must be spent.
+pub struct Core<M: Machine> {
+    pub machine: M,
+    pub words: Seat<u8, ()>,
+}
+
+impl<M: Machine> Stands for Core<M> {
+    type Entry = M::Entry;
+
+    type Label = Setting;
+
+    ghost stands = { λ c past. M.stands c.machine past };
+
+    ghost label = { λ c. record { room = M.room c.machine; words = c.words.table_id } };
+}
+
+/// Takes one turn. What was seen grows by turns of others and by one turn of the caller's own, and the answer is one over these.
+pub fn act<M: Machine, R: Wait>(
+    rt: &R,
+    lock: &TurnLock<Core<M>>,
+    pass: &mut TurnPass<Core<M>>,
+    value: u64,
+) -> Option<u64>
+    requires lock { IsOf (lock_id lock.now) pass.old }
+    requires outside { pass.old.inside ≡ false }
+    ensures lock { IsOf (lock_id lock.now) pass.new }
+    ensures same { IsSameCaller pass.old pass.new }
+    ensures outside { pass.new.inside ≡ false }
+    ensures turn { (past : List (Turn M.Entry)) × (t : Turn M.Entry) × OwnTurn pass.old past t pass.new × IfSome pass.old.label (λ z. M.replies z.room value result past t) }
+{
+    let mut core = lock.enter(rt, pass);
+    let reply = core.machine.act(pass.number(), value);
+    lock.leave_some::<Brand, (u64, Option<u64>)>(pass, core, &(value, reply));
+    reply
+}
+
+// Takes turns with the values 0, 1, 2 and so on.
+fn act_times<M: Machine, R: Wait>(
+    rt: &R,
+    lock: &TurnLock<Core<M>>,
+    mut pass: TurnPass<Core<M>>,
+    times: u64,
+) -> TurnPass<Core<M>>
+    requires { IsReady (lock_id lock.now) pass }
+    ensures { Acted (lock_id lock.now) pass times result }
+{
+    for value in 0..times {
+        act(rt, lock, &mut pass, value);
+    }
+    pass
+}
+
+/// Two callers act in threads of their own, each so many times, with the values 0, 1, 2 and so on.
+pub fn act_both<M: Machine + Send, R: Threads + Wait + Sync>(
+    rt: &R,
+    lock: &TurnLock<Core<M>>,
+    first: TurnPass<Core<M>>,
+    second: TurnPass<Core<M>>,
+    times: u64,
+) -> (TurnPass<Core<M>>, TurnPass<Core<M>>)
+    requires first { IsReady (lock_id lock.now) first }
+    requires second { IsReady (lock_id lock.now) second }
+    ensures first { Acted (lock_id lock.now) first times result.0 }
+    ensures second { Acted (lock_id lock.now) second times result.1 }
+{
+    join(
+        rt,
+        || -> TurnPass<Core<M>>
+            requires { IsReady (lock_id lock.now) first }
+            ensures { Acted (lock_id lock.entry.now) first times result }
+        { act_times(rt, lock, first, times) },
+        || -> TurnPass<Core<M>>
+            requires { IsReady (lock_id lock.now) second }
+            ensures { Acted (lock_id lock.entry.now) second times result }
+        { act_times(rt, lock, second, times) },
+    )
+}
+
+/// The same with three callers.
+pub fn act_all<M: Machine + Send, R: Threads + Wait + Sync>(
+    rt: &R,
+    lock: &TurnLock<Core<M>>,
+    first: TurnPass<Core<M>>,
+    second: TurnPass<Core<M>>,
+    third: TurnPass<Core<M>>,
+    times: u64,
+) -> (TurnPass<Core<M>>, TurnPass<Core<M>>, TurnPass<Core<M>>)
+    requires first { IsReady (lock_id lock.now) first }
+    requires second { IsReady (lock_id lock.now) second }
+    requires third { IsReady (lock_id lock.now) third }
+    ensures first { Acted (lock_id lock.now) first times result.0 }
+    ensures second { Acted (lock_id lock.now) second times result.1 }
+    ensures third { Acted (lock_id lock.now) third times result.2 }
+{
+    let (first, (second, third)) = join(
+        rt,
+        || -> TurnPass<Core<M>>
+            requires { IsReady (lock_id lock.now) first }
+            ensures { Acted (lock_id lock.entry.now) first times result }
+        { act_times(rt, lock, first, times) },
+        || -> (TurnPass<Core<M>>, TurnPass<Core<M>>)
+            requires { IsReady (lock_id lock.now) second × IsReady (lock_id lock.now) third }
+            ensures { Acted (lock_id lock.entry.now) second times result.0 × Acted (lock_id lock.entry.now) third times result.1 }
+        { act_both(rt, lock, second, third, times) },
+    );
+    (first, second, third)
+}

@@ -1,0 +1,20 @@
+//! Two ways to use a turn lock.
+//!
+//! `counter` has a state whose calls know the turn that they add, and leave by `leave`. `core_state` has a state that is generic in its machine, whose contract says only that there is such a turn: its calls leave by `leave_some`, and ensure one turn of the caller's own and an answer over the history before it. `register` is such a machine, with its history at hand.
+#![tactic(auto)]
+
+mod core_state;
+mod counter;
+mod play;
+mod register;
+mod setting;
+#[cfg(test)]
+mod tests;
+mod writes;
+
+pub use core_state::{Core, Machine, act, act_all, act_both};
+pub use counter::{Added, Counter, add, count_in_turns};
+pub use play::write_in_turns;
+pub use register::Register;
+pub use setting::Setting;
+pub use writes::{Write, Written};

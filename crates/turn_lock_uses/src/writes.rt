@@ -1,0 +1,11 @@
+//! What is written into a register.
+
+/// What a turn added: that this value was written.
+pub struct Written(pub u64);
+
+/// Which caller wrote which value.
+#[derive(Clone, Copy, Debug, PartialEq, Eq)]
+pub struct Write {
+    pub by: u32,
+    pub value: u64,
+}
