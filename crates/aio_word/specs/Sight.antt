@@ -1,5 +1,5 @@
 -- Words and seats, as contracts see them.
-use Rattle.std.specs.Prelude.{ℕ}
+use Rattle.std.specs.Prelude.{◌≡◌, ℕ}
 use Rattle.atomic_table.specs.Seated.{TableId}
 use Rattle.aio_word.specs.declared.rule.View.{View}
 
@@ -13,3 +13,7 @@ pub record Named : Type 0 where
 pub record Sight : Type 0 where
   pub words : TableId
   pub view : View
+
+-- the seat of the same caller of the same words
+abbrev pub IsSameSeat : Sight → Sight → Type 0
+IsSameSeat old new = (new.words ≡ old.words) × (new.view.number ≡ old.view.number)

@@ -1,7 +1,9 @@
-// The calls.
+// The calls, as an operation lives: it begins, the core and the callers race to end it, and the core finds how it
+// ended. Then the seats are joined.
 ghost use Rattle.std.specs.Prelude.{◌≡◌, ℕ, ◌+◌, ◌-◌, ◌^◌, ◌<◌, ◌≤◌, true, [], ◌∷◌, ◌++◌, length, slice_index, IfOk, MatchResult};
 ghost use Rattle.aio_word.specs.declared.phase.Phase.TheVariants.{Cancelled, Expired};
 ghost use Rattle.aio_word.specs.Word.{is_core_end, is_call_end, is_decided, by_of};
+ghost use Rattle.aio_word.specs.Sight.{IsSameSeat};
 ghost use Rattle.aio_word.specs.Views.{learned, absorbed};
 ghost use Rattle.aio_word.specs.Answers.{HasSeen, IsName, CoreSaw, CoreTook, CallTook, CallEnded, CallStale, IsFound, Agrees, of_op};
 ghost use Rattle.aio_word.specs.OneWinner.{IsKnown, IsKnownCore};
@@ -44,7 +46,20 @@ impl Model for Words {
 }
 
 impl Words {
-    /// Begins the slot's next operation.
+    /// A second value of the same words.
+    pub fn share(&self) -> Result<Words, NoMemory>
+        ensures { IfOk result (λ w. w ≡ self.now) }
+    {
+        let table = Arc::try_clone(&self.table)?;
+        Ok(Words {
+            table,
+            slots: self.slots,
+            callers: self.callers,
+        })
+    }
+
+    /// Begins the slot's next operation, and names it. The core has seen that the slot's last operation ended, or the
+    /// slot had none. `Worn` at the last generation, 2^40 - 1; then nothing changes.
     pub fn begin(&self, core: &mut CoreSeat, slot: u32) -> Result<OpName, Worn>
         requires own { core.old.words ≡ self.now.id }
         requires slot { slot < self.now.slots }
@@ -67,7 +82,26 @@ impl Words {
         Ok(OpName { slot, generation })
     }
 
-    /// Ends the operation, unless it has ended.
+    /// How the core's operation stands. Where it has ended, the core notes the end. Never `Idle`.
+    pub fn look(&self, core: &mut CoreSeat, op: OpName) -> Look
+        requires own { core.old.words ≡ self.now.id }
+        requires name { IsName core.old.view self.now.slots op }
+        ensures own { core.new.words ≡ core.old.words }
+        ensures answer { CoreSaw core.old.view (of_op op result.phase result.by) core.new.view }
+        ensures seen { is_decided result.phase ≡ true → HasSeen core.new.view op.slot }
+        ensures rule { IsKnownCore core.new.view }
+    {
+        let found = self
+            .table
+            .shared
+            .load::<Looks>(&mut core.seat, op.slot as usize);
+        Look {
+            phase: phase_in(found),
+            by: by_in(found),
+        }
+    }
+
+    /// Ends the core's operation as `to`, one of the core's four ends, unless it has ended. One exchange.
     pub fn decide(&self, core: &mut CoreSeat, op: OpName, to: Phase) -> Decided
         requires own { core.old.words ≡ self.now.id }
         requires name { IsName core.old.view self.now.slots op }
@@ -93,49 +127,32 @@ impl Words {
         }
     }
 
-    /// How the operation stands.
-    pub fn look(&self, core: &mut CoreSeat, op: OpName) -> Look
-        requires own { core.old.words ≡ self.now.id }
-        requires name { IsName core.old.view self.now.slots op }
-        ensures own { core.new.words ≡ core.old.words }
-        ensures answer { CoreSaw core.old.view (of_op op result.phase result.by) core.new.view }
-        ensures seen { is_decided result.phase ≡ true → HasSeen core.new.view op.slot }
-        ensures rule { IsKnownCore core.new.view }
-    {
-        let found = self
-            .table
-            .shared
-            .load::<Looks>(&mut core.seat, op.slot as usize);
-        Look {
-            phase: phase_in(found),
-            by: by_in(found),
-        }
-    }
-
-    /// Cancels the operation, unless it has ended.
+    /// Cancels the operation, unless it has ended. One exchange, or no step where there is no such slot.
     pub fn cancel(&self, seat: &mut CallSeat, op: OpName) -> Raced
         requires own { seat.old.words ≡ self.now.id }
-        ensures own { (seat.new.words ≡ seat.old.words) × (seat.new.view.number ≡ seat.old.view.number) }
+        ensures own { IsSameSeat seat.old seat.new }
         ensures answer { MatchRaced result seat.old.view self.now.slots op Cancelled seat.new.view }
         ensures rule { op.slot < self.now.slots → IsKnown seat.new.view }
     {
         self.race(seat, op, Phase::Cancelled)
     }
 
-    /// Lets the operation expire, unless it has ended.
+    /// Lets the operation expire, unless it has ended. One exchange, or no step where there is no such slot.
     pub fn expire(&self, seat: &mut CallSeat, op: OpName) -> Raced
         requires own { seat.old.words ≡ self.now.id }
-        ensures own { (seat.new.words ≡ seat.old.words) × (seat.new.view.number ≡ seat.old.view.number) }
+        ensures own { IsSameSeat seat.old seat.new }
         ensures answer { MatchRaced result seat.old.view self.now.slots op Expired seat.new.view }
         ensures rule { op.slot < self.now.slots → IsKnown seat.new.view }
     {
         self.race(seat, op, Phase::Expired)
     }
 
+    // Ends the operation as `to`, unless it has ended. A name that no word can show is looked up all the same, so that
+    // each answer but at a slot out of range rests on a step.
     fn race(&self, seat: &mut CallSeat, op: OpName, to: Phase) -> Raced
         requires own { seat.old.words ≡ self.now.id }
         requires end { is_call_end to ≡ true }
-        ensures own { (seat.new.words ≡ seat.old.words) × (seat.new.view.number ≡ seat.old.view.number) }
+        ensures own { IsSameSeat seat.old seat.new }
         ensures answer { MatchRaced result seat.old.view self.now.slots op to seat.new.view }
         ensures rule { op.slot < self.now.slots → IsKnown seat.new.view }
     {
@@ -166,10 +183,10 @@ impl Words {
         }
     }
 
-    /// How the operation stands, for a caller.
+    /// How the operation stands, for a caller. One step, or none where there is no such slot.
     pub fn poll(&self, seat: &mut CallSeat, op: OpName) -> Polled
         requires own { seat.old.words ≡ self.now.id }
-        ensures own { (seat.new.words ≡ seat.old.words) × (seat.new.view.number ≡ seat.old.view.number) }
+        ensures own { IsSameSeat seat.old seat.new }
         ensures answer { MatchPolled result seat.old.view self.now.slots op seat.new.view }
         ensures rule { op.slot < self.now.slots → IsKnown seat.new.view }
     {
@@ -192,19 +209,26 @@ impl Words {
         }
     }
 
-    /// A second value that names the same words.
-    pub fn share(&self) -> Result<Words, NoMemory>
-        ensures { IfOk result (λ w. w ≡ self.now) }
+    /// How the core's operation stands, with what the caller's seat has read: where the seat has read an end of it, the
+    /// answer is that end. The seat stays as it is.
+    pub fn found(&self, core: &mut CoreSeat, seat: &mut CallSeat, op: OpName) -> Look
+        requires core { core.old.words ≡ self.now.id }
+        requires own { seat.old.words ≡ self.now.id }
+        requires name { IsName core.old.view self.now.slots op }
+        ensures core { core.new.words ≡ core.old.words }
+        ensures own { (seat.new.words ≡ seat.old.words) × (seat.new.view ≡ seat.old.view) }
+        ensures answer { CoreSaw (learned core.old.view seat.old.view) (of_op op result.phase result.by) core.new.view }
+        ensures seen { is_decided result.phase ≡ true → HasSeen core.new.view op.slot }
+        ensures rule { IsKnownCore core.new.view }
+        ensures read { Agrees (of_op op result.phase result.by) seat.old.view.reads }
     {
-        let table = Arc::try_clone(&self.table)?;
-        Ok(Words {
-            table,
-            slots: self.slots,
-            callers: self.callers,
-        })
+        let note = self.table.shared.split_seat::<Noted>(&mut seat.seat);
+        self.table.shared.join_seat::<Noted>(&mut core.seat, note);
+        self.look(core, op)
     }
 
-    /// Takes in what a caller's seat has won and read. The seat ends.
+    /// Takes in what a caller's seat has won and read. The seat ends. Of the callers that have joined, the core's ends
+    /// that name one are exactly those of its wins that have ended, and no operation was won twice.
     pub fn join(&self, core: &mut CoreSeat, seat: CallSeat)
         requires core { core.old.words ≡ self.now.id }
         requires own { seat.words ≡ self.now.id }
@@ -216,22 +240,5 @@ impl Words {
         let CallSeat { seat, number: _ } = seat;
         self.table.shared.join_seat::<Joined>(&mut core.seat, seat);
         self.table.shared.load::<Learns>(&mut core.seat, 0);
-    }
-
-    /// How the operation stands, by what the seat has read of it.
-    pub fn found(&self, core: &mut CoreSeat, seat: &mut CallSeat, op: OpName) -> Look
-        requires core { core.old.words ≡ self.now.id }
-        requires own { seat.old.words ≡ self.now.id }
-        requires name { IsName core.old.view self.now.slots op }
-        ensures core { core.new.words ≡ core.old.words }
-        ensures own { (seat.new.words ≡ seat.old.words) × (seat.new.view.number ≡ seat.old.view.number) × (seat.new.view ≡ seat.old.view) }
-        ensures answer { CoreSaw (learned core.old.view seat.old.view) (of_op op result.phase result.by) core.new.view }
-        ensures seen { is_decided result.phase ≡ true → HasSeen core.new.view op.slot }
-        ensures rule { IsKnownCore core.new.view }
-        ensures read { Agrees (of_op op result.phase result.by) seat.old.view.reads }
-    {
-        let note = self.table.shared.split_seat::<Noted>(&mut seat.seat);
-        self.table.shared.join_seat::<Noted>(&mut core.seat, note);
-        self.look(core, op)
     }
 }

@@ -1,7 +1,7 @@
 // The words are made here.
 ghost use Rattle.std.specs.Prelude.{◌≡◌, ℕ, ◌+◌, ◌<◌, ◌≤◌, length, replicate, IfOk};
 ghost use Rattle.aio_word.specs.Views.{one_more, new_caller, new_core};
-ghost use Rattle.aio_word.specs.Fresh.{IsFresh, AreFresh};
+ghost use Rattle.aio_word.specs.Fresh.{AreFresh};
 
 use crate::calls::Words;
 use crate::rule::NewCaller;
@@ -11,7 +11,8 @@ use sp_base::NoMemory;
 use std::alloc::Global;
 use std::sync::Arc;
 
-/// The words of this many slots, with the seats of the core and of this many callers.
+/// New words of `slots` slots, 1 to 4,096, with the core's seat and the seats of `callers` callers, 1 to 64. No slot
+/// has had an operation, and no seat has won or read anything.
 pub fn words(
     alloc: Global,
     slots: u32,
@@ -19,7 +20,9 @@ pub fn words(
 ) -> Result<(Words, CoreSeat, SeatList), NoMemory>
     requires slots { (0 < slots) × (slots ≤ 4096) }
     requires callers { (0 < callers) × (callers ≤ 64) }
-    ensures { IfOk result (λ r. (r.0.slots ≡ slots) × (r.0.callers ≡ callers) × IsFresh slots callers r.0.id r.1 r.2) }
+    ensures size { IfOk result (λ made. (made.0.slots ≡ slots) × (made.0.callers ≡ callers)) }
+    ensures core { IfOk result (λ made. (made.1.words ≡ made.0.id) × (made.1.view ≡ record (new_core slots) { made = callers })) }
+    ensures seats { IfOk result (λ made. (length made.2 ≡ callers) × AreFresh 0 made.0.id made.2) }
 {
     let generations = zeros(alloc, slots)?;
     let (table, seat) = Table::of_words(alloc, generations.as_slice(), &slots)?;
