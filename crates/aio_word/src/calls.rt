@@ -1,11 +1,11 @@
 // The calls, as an operation lives: it begins, the core and the callers race to end it, and the core finds how it
 // ended. Then the seats are joined.
-ghost use Rattle.std.specs.Prelude.{◌≡◌, ℕ, ◌+◌, ◌-◌, ◌^◌, ◌<◌, ◌≤◌, true, [], ◌∷◌, ◌++◌, length, slice_index, IfOk, MatchResult};
+ghost use Rattle.std.specs.Prelude.{◌≡◌, ◌<◌, true, IfOk, MatchResult};
 ghost use Rattle.aio_word.specs.declared.phase.Phase.TheVariants.{Cancelled, Expired};
-ghost use Rattle.aio_word.specs.Word.{is_core_end, is_call_end, is_decided, by_of};
+ghost use Rattle.aio_word.specs.Word.{is_core_end, is_call_end, is_decided};
 ghost use Rattle.aio_word.specs.Sight.{IsSameSeat};
 ghost use Rattle.aio_word.specs.Views.{learned, absorbed};
-ghost use Rattle.aio_word.specs.Answers.{HasSeen, IsName, CoreSaw, CoreTook, CallTook, CallEnded, CallStale, IsFound, Agrees, of_op};
+ghost use Rattle.aio_word.specs.Answers.{HasSeen, IsName, CoreSaw, Agrees, of_op};
 ghost use Rattle.aio_word.specs.OneWinner.{IsKnown, IsKnownCore};
 ghost use Rattle.aio_word.specs.Winners.{HasOneWinner};
 ghost use Rattle.aio_word.specs.Meanings.{MatchDecided, MatchRaced, MatchPolled, BeganAt, IsWorn};
@@ -69,6 +69,7 @@ impl Words {
         ensures name { IfOk result (λ op. IsName core.new.view self.now.slots op) }
         ensures rule { IfOk result (λ _. IsKnownCore core.new.view) }
     {
+        // The model's facts are known from here on.
         let _slots = &self.slots;
         let at = slot as usize;
         let last = core.generations[at];
@@ -111,6 +112,7 @@ impl Words {
         ensures seen { HasSeen core.new.view op.slot }
         ensures rule { IsKnownCore core.new.view }
     {
+        // The model's facts are known from here on.
         let _generations = &core.generations;
         let pending = word_with(op.generation, Phase::Pending, 0);
         let ended = word_with(op.generation, to, 0);

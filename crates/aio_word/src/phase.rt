@@ -1,5 +1,3 @@
-// How an operation stands.
-
 /// How an operation stands. It is numbered so in a word, from 0.
 #[derive(Clone, Copy, PartialEq, Eq, Debug)]
 pub enum Phase {
