@@ -1,0 +1,11 @@
+pub mod Decode
+pub mod Entries
+pub mod Fates
+pub mod Told
+pub mod Changes
+pub mod Steps
+pub mod Seating
+pub mod Answering
+pub mod Freshness
+pub mod Holds
+pub mod Winning

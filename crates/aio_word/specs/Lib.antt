@@ -1,0 +1,9 @@
+pub mod Word
+pub mod Views
+pub mod Sight
+pub mod Fresh
+pub mod Rule
+pub mod OneWinner
+pub mod Winners
+pub mod Answers
+pub mod Meanings

@@ -1,0 +1,20 @@
+/// How an operation stands. It is numbered so in a word, from 0.
+#[derive(Clone, Copy, PartialEq, Eq, Debug)]
+pub enum Phase {
+    /// The slot had no operation yet.
+    Idle,
+    /// It has not ended.
+    Pending,
+    /// The core completed it.
+    Won,
+    /// The core ended it because the socket was closed.
+    Shut,
+    /// The core ended it for a newer one.
+    Superseded,
+    /// The core ended it because its survey is over.
+    SurveyOver,
+    /// A caller cancelled it.
+    Cancelled,
+    /// A caller let it expire.
+    Expired,
+}
