@@ -2,8 +2,8 @@
 use Rattle.std.proofs.Common.{◌≡◌, ◌≤◌, ◌+◌, ℕ, Bool, true, false, List, [], Option, refl}
 use Rattle.std.specs.Prelude.{◌||◌}
 use Rattle.sp_msg.specs.Views.{MessageView, WireName, WireView, wire_text}
-use Rattle.sp_msg.specs.Marks.{wire_view, marks_pulled, marks_roomed, marks_flushed, marks_put, marks_shut}
-use Rattle.sp_msg.specs.Wires.{AfterPull, AfterRoom, AfterPut, AfterFlush, AfterShut, RoomAs, may_flush, with_text}
+use Rattle.sp_msg.specs.Marks.{wire_view, marks_pulled, marks_roomed, marks_flushed, marks_put}
+use Rattle.sp_msg.specs.Wires.{AfterPull, AfterRoom, AfterPut, AfterFlush, RoomAs, may_flush, with_text, came_after, IsBare}
 use Rattle.sp_msg.specs.declared.marks.WireMarks.{WireMarks}
 use Rattle.sp_msg.specs.declared.wire.WireIn.{WireIn}
 use Rattle.sp_msg.specs.declared.wire.WireIn.TheVariants as ins
@@ -15,27 +15,6 @@ use Rattle.sp_msg.specs.declared.wire.WireFlush.TheVariants as flushes
 -- an open wire may be flushed
 pub open_flushes : (v : WireView) → v.is_open ≡ true → may_flush v ≡ true
 open_flushes v e = elim v.drains as (λ d. d || v.is_open ≡ true) [ true ↦ refl | false ↦ e ]
-
--- the bodies that were pulled, after this answer
-abbrev pub came_after : WireIn → Option (List (List ℕ)) → Option (List (List ℕ))
-came_after (ins.Message m) came = with_text came m.body
-came_after ins.NotYet came = came
-came_after ins.Ended came = came
-came_after ins.Malformed came = came
-came_after ins.Failed came = came
-came_after ins.Refused came = came
-came_after ins.NoMemory came = came
-
--- a message has no header
-abbrev pub IsBare : WireIn → Type 0
-IsBare (ins.Message m) = m.header ≡ []
-IsBare ins.NotYet = Unit {0}
-IsBare ins.Ended = Unit {0}
-IsBare ins.Malformed = Unit {0}
-IsBare ins.Failed = Unit {0}
-IsBare ins.Refused = Unit {0}
-IsBare ins.NoMemory = Unit {0}
-
 
 pub after_pull : (result : WireIn) (n n' : WireName) (c c' o o' : Option (List (List ℕ))) (w w' : ℕ) (d : Bool) (k : WireMarks) → IsBare result → n' ≡ n → c' ≡ came_after result c → o' ≡ o → w' ≡ w → AfterPull result (wire_view n c o w d k) (wire_view n' c' o' w' d (marks_pulled result k))
 after_pull (ins.Message m) n n' c c' o o' w w' d k bare ne ce oe we = (bare, λ i. wire_view (ne i) (ce i) (oe i) (we i) d k)

@@ -61,3 +61,23 @@ pub record AfterFlush (result : WireFlush) (old new : WireView) : Type 0 where
 -- what shows the wire's end stays; each wire says whether it still drains
 abbrev pub AfterShut : WireView → WireView → Type 0
 AfterShut old new = new ≡ record old { is_ready = false; is_open = false; drains = new.drains }
+
+-- the bodies that were pulled, after this answer
+abbrev pub came_after : WireIn → Option (List (List ℕ)) → Option (List (List ℕ))
+came_after (ins.Message m) came = with_text came m.body
+came_after ins.NotYet came = came
+came_after ins.Ended came = came
+came_after ins.Malformed came = came
+came_after ins.Failed came = came
+came_after ins.Refused came = came
+came_after ins.NoMemory came = came
+
+-- a message that was pulled has no header
+abbrev pub IsBare : WireIn → Type 0
+IsBare (ins.Message m) = m.header ≡ []
+IsBare ins.NotYet = Unit {0}
+IsBare ins.Ended = Unit {0}
+IsBare ins.Malformed = Unit {0}
+IsBare ins.Failed = Unit {0}
+IsBare ins.Refused = Unit {0}
+IsBare ins.NoMemory = Unit {0}

@@ -7,10 +7,10 @@ use Rattle.sp_base.specs.Views.{LinkView}
 use Rattle.sp_base.specs.Steps.{Came}
 use Rattle.sp_msg.specs.Views.{WireView, WireName, OverLink, MessageView}
 use Rattle.sp_msg.specs.Marks.{marks_pulled}
-use Rattle.sp_msg.specs.Wires.{AfterPull, with_text}
+use Rattle.sp_msg.specs.Wires.{AfterPull, with_text, came_after, IsBare}
 use Rattle.sp_msg.specs.declared.wire.WireIn.{WireIn}
 use Rattle.sp_msg.specs.declared.wire.WireIn.TheVariants as ins
-use Rattle.sp_msg.proofs.Shown.{IsBare, came_after, after_pull}
+use Rattle.sp_msg.proofs.Shown.{after_pull}
 use Rattle.sp_tcp.specs.Views.{TcpView}
 use Rattle.sp_tcp.specs.Links.{ReadCounts}
 use Rattle.sp_tcp.specs.Inlets.{IsPart, PullAnswer, PulledFrom}
