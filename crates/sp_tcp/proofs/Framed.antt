@@ -66,6 +66,7 @@ framed t h = record {
   stalls = h.marks.stalls;
   refusals = h.marks.refusals;
   most = h.most;
+  link_open = h.marks.link_open;
   ended = (λ e. ((h.marks.at_end e).0, all_shown t h (Framing.part_begins t.max t.unread (h.marks.at_end e).1), next_fits t h (h.marks.at_end e).1));
   malformed = (λ e. (all_shown t h (Framing.long_begins t.max t.unread (h.marks.too_long e)), next_long t h (h.marks.too_long e)));
 }

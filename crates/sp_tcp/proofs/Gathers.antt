@@ -21,14 +21,14 @@ frames-nil = refl
 pub take_append : (k : ℕ) (x y : List ℕ) → take k (x ++ y) ≡ take k x ++ take (k - length x) y
 take_append k x y = elim (cases_lt k (length x)) [
   | inl lt ↦ (
-    let none : k - length x ≡ 0 = omega arith in
-    take-append-le k x y (omega arith) ∙ sym (ap (λ (j : ℕ). take k x ++ take j y) none ∙ append-nil (take k x)))
+      let none : k - length x ≡ 0 = omega arith in
+      take-append-le k x y (omega arith) ∙ sym (ap (λ (j : ℕ). take k x ++ take j y) none ∙ append-nil (take k x)))
   | inr le ↦ (
-    let is : k ≡ length x + (k - length x) = omega arith in
-    ap (λ (j : ℕ). take j (x ++ y)) is
-    ∙ take_apart (length x) (k - length x) (x ++ y)
-    ∙ ap (λ t. t ++ take (k - length x) (drop (length x) (x ++ y))) (take_at x y (length x) refl ∙ sym (take_all k x le))
-    ∙ ap (λ t. take k x ++ take (k - length x) t) (drop_at x y (length x) refl))
+      let is : k ≡ length x + (k - length x) = omega arith in
+      ap (λ (j : ℕ). take j (x ++ y)) is
+      ∙ take_apart (length x) (k - length x) (x ++ y)
+      ∙ ap (λ t. t ++ take (k - length x) (drop (length x) (x ++ y))) (take_at x y (length x) refl ∙ sym (take_all k x le))
+      ∙ ap (λ t. take k x ++ take (k - length x) t) (drop_at x y (length x) refl))
 ]
 
 -- from a place behind the first on
@@ -40,8 +40,8 @@ in_behind a b k n e le =
 drop_append : (k : ℕ) (x y : List ℕ) → drop k (x ++ y) ≡ drop k x ++ drop (k - length x) y
 drop_append k x y = elim (cases_lt k (length x)) [
   | inl lt ↦ (
-    let none : k - length x ≡ 0 = omega arith in
-    drop-append-le k x y (omega arith) ∙ sym (ap (λ (j : ℕ). drop k x ++ drop j y) none))
+      let none : k - length x ≡ 0 = omega arith in
+      drop-append-le k x y (omega arith) ∙ sym (ap (λ (j : ℕ). drop k x ++ drop j y) none))
   | inr le ↦ in_behind x y k (length x) refl le ∙ sym (ap (λ t. t ++ drop (k - length x) y) (drop_all k x le))
 ]
 
@@ -131,10 +131,10 @@ first_of (x ∷ s) d lt e = ap (λ t. t ∷ s) (sym e)
 passing_over : (written : ℕ) (old rest : List (List ℕ)) (t : List ℕ) (left : ℕ) → Passing written old (t ∷ rest) left → 8 + length t ≤ left → Passing written old rest (left - (8 + length t))
 passing_over written old rest t left p le =
     let all : take left (frames (t ∷ rest)) ≡ frame t ++ take (left - (8 + length t)) (frames rest) = (
-      ap (take left) (frames-cons t rest)
-          ∙ take_append left (frame t) (frames rest)
-          ∙ ap (λ x. x ++ take (left - length (frame t)) (frames rest)) (take_all left (frame t) (omega (arith, length-frame t, le)))
-          ∙ ap (λ (j : ℕ). frame t ++ take (left - j) (frames rest)) (length-frame t)) in
+    ap (take left) (frames-cons t rest)
+    ∙ take_append left (frame t) (frames rest)
+    ∙ ap (λ x. x ++ take (left - length (frame t)) (frames rest)) (take_all left (frame t) (omega (arith, length-frame t, le)))
+    ∙ ap (λ (j : ℕ). frame t ++ take (left - j) (frames rest)) (length-frame t)) in
     record {
       passed = record {
         gone = p.passed.gone ++ t ∷ [];

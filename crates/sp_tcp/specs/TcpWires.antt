@@ -146,6 +146,7 @@ pub record Framed (v : TcpView) : Type 0 where
   pub stalls : v.wire.stalls ≤ v.link.stalls
   pub refusals : v.wire.refusals ≡ 0
   pub most : v.wire.waits ≤ 16
+  pub link_open : v.wire.is_open ≡ true → v.link.is_open ≡ true
   pub ended : v.wire.ended ≡ true → (v.link.ended ≡ true) × AllShown v × NextFits v
   pub malformed : v.wire.malformed ≡ true → AllShown v × NextTooLong v
 
