@@ -3,3 +3,4 @@ pub mod Paces
 pub mod Sinks
 pub mod FilesHeld
 pub mod Nets
+pub mod MemWires

@@ -1,6 +1,7 @@
 //! The outside in memory: links that read by a script, a net that hands them out, a pace of so many turns, a sink
-//! that keeps what was put, and files. Each is proved against its trait and tells its contents, so that a test
-//! shows what a caller did. Lists of numbers say which calls fail, the first call being number 0.
+//! that keeps what was put, files, and wires of whole messages. Each is proved against its trait and tells its
+//! contents, so that a test shows what a caller did. Lists of numbers say which calls fail, the first call being
+//! number 0.
 #![tactic(auto)]
 
 mod files;
@@ -8,12 +9,14 @@ mod link;
 mod net;
 mod pace;
 mod sink;
+mod wire;
 
 pub use files::MemFiles;
 pub use link::{LinkStep, MemLink};
 pub use net::{MemNet, NetLink, Returned};
 pub use pace::MemPace;
 pub use sink::MemSink;
+pub use wire::{MemWire, WireStep};
 
 // A number stands in the list of those that fail.
 fn is_listed(fails: &[u64], call: u64) -> bool {

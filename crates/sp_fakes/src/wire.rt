@@ -1,0 +1,160 @@
+//! A wire that pulls by a script and keeps what was put.
+ghost use Rattle.std.specs.Prelude.{◌≡◌, ◌<◌, ◌≤◌, ◌+◌, ◌↔◌, true, vec_len, vec_capacity, Some, map, length};
+ghost use Rattle.sp_msg.specs.Views.{wire_text};
+ghost use Rattle.sp_msg.specs.Wires.{came_after, IsBare};
+ghost use Rattle.sp_fakes.specs.MemWires.{unused_wire};
+
+use crate::is_listed;
+use sp_base::Bytes;
+use sp_msg::{Message, Room, Wire, WireFlush, WireIn, WireMarks};
+use std::alloc::Global;
+use std::marker::Model;
+use std::sync::Wait;
+
+/// A step of what a wire gives.
+#[derive(Debug, Drop)]
+pub enum WireStep {
+    /// One message.
+    Bytes(Bytes),
+    /// Nothing is there, once.
+    NotYet,
+    /// The end, for ever.
+    End,
+    /// A malformed message, for ever.
+    Malformed,
+}
+
+/// After a script without an end nothing more is there, for ever. What is put is written at once.
+#[derive(Debug, Drop)]
+pub struct MemWire {
+    alloc: Global,
+    script: Vec<WireStep>,
+    /// How many steps were passed.
+    at: usize,
+    /// How many messages it takes in all.
+    most: u64,
+    /// The numbers of the pulls that fail.
+    fails: Vec<u64>,
+    /// How often it was pulled.
+    pulls: u64,
+    /// What was put.
+    kept: Vec<Message>,
+    marks: WireMarks,
+}
+
+impl Model for MemWire {
+    ghost use Rattle.std.specs.Prelude.{◌≡◌, ◌≤◌, ◌<◌, true, length, vec_len, vec_capacity};
+    ghost use Rattle.sp_msg.specs.Views.{WireView};
+    ghost use Rattle.sp_fakes.specs.MemWires.{mem_view};
+
+    ghost Value = { WireView };
+
+    ghost view = { λ w. mem_view w.script.items w.at w.kept.items w.marks };
+
+    ghost invariant = { λ w. (w.at ≤ length w.script.items) × (w.marks.is_ready ≡ true → vec_len w.kept < vec_capacity w.kept) };
+}
+
+// Takes the room for one message more, where not so many are kept.
+fn take_room(kept: &mut Vec<Message>, most: u64) -> Room
+    ensures items { kept.new.items ≡ kept.old.items }
+    ensures grown { vec_capacity kept.old ≤ vec_capacity kept.new }
+    ensures room { result ≡ Room.Yes → vec_len kept.new < vec_capacity kept.new }
+    ensures full { (result ≡ Room.Full) ↔ (most ≤ vec_len kept.old) }
+{
+    if kept.len() as u64 >= most {
+        return Room::Full;
+    }
+    if kept.reserve(1).is_err() {
+        return Room::NoMemory;
+    }
+    Room::Yes
+}
+
+impl MemWire {
+    /// Pulls by the script, and takes at most so many messages; the pulls with these numbers fail, the first being
+    /// number 0, and use up no step.
+    pub fn new(alloc: Global, frames: Vec<WireStep>, room: u64, fails: Vec<u64>) -> MemWire
+        ensures { result ≡ unused_wire }
+    {
+        MemWire {
+            alloc,
+            script: frames,
+            at: 0,
+            most: room,
+            fails,
+            pulls: 0,
+            kept: Vec::new(alloc),
+            marks: WireMarks::new(),
+        }
+    }
+
+    /// What was put.
+    pub fn outs(&self) -> &[Message]
+        ensures { self.now.outs ≡ Some (map wire_text result.now) }
+    {
+        &self.kept
+    }
+
+    // What the next pull gives.
+    fn next_step(&mut self) -> WireIn
+        ensures bare { IsBare result }
+        ensures came { self.new ≡ record self.old { came = came_after result self.old.came } }
+    {
+        let fails = is_listed(&self.fails, self.pulls);
+        self.pulls = self.pulls.saturating_add(1);
+        if fails {
+            return WireIn::Failed;
+        }
+        if self.at >= self.script.len() {
+            return WireIn::NotYet;
+        }
+        match &self.script[self.at] {
+            WireStep::Bytes(bytes) => match Message::from_body(self.alloc, bytes.as_slice()) {
+                Ok(message) => {
+                    self.at += 1;
+                    WireIn::Message(message)
+                }
+                Err(_) => WireIn::NoMemory,
+            },
+            WireStep::NotYet => {
+                self.at += 1;
+                WireIn::NotYet
+            }
+            WireStep::End => WireIn::Ended,
+            WireStep::Malformed => WireIn::Malformed,
+        }
+    }
+}
+
+impl Wire for MemWire {
+    ghost shown = { λ w. w };
+
+    fn pull<R: Wait>(&mut self, _rt: &R) -> WireIn {
+        let answer = self.next_step();
+        self.marks.pulled(&answer);
+        answer
+    }
+
+    fn room<R: Wait>(&mut self, _rt: &R) -> Room {
+        let answer = take_room(&mut self.kept, self.most);
+        self.marks.roomed(answer);
+        answer
+    }
+
+    fn put<R: Wait>(&mut self, _rt: &R, m: Message) {
+        self.marks.put();
+        match self.kept.push(m) {
+            Ok(()) => {}
+            Err(_) => unreachable!(),
+        }
+    }
+
+    fn flush<R: Wait>(&mut self, _rt: &R) -> WireFlush {
+        self.marks.flushed(WireFlush::Empty);
+        WireFlush::Empty
+    }
+
+    fn shut(&mut self) {
+        self.marks.shut();
+    }
+}

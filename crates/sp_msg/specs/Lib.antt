@@ -1,0 +1,4 @@
+pub mod Views
+pub mod Messages
+pub mod Marks
+pub mod Wires

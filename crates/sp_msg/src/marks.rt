@@ -1,0 +1,123 @@
+//! What every wire keeps beside its bytes.
+ghost use Rattle.std.specs.Prelude.{◌≡◌, true, false};
+ghost use Rattle.sp_msg.specs.Marks.{fresh_marks, marks_pulled, marks_roomed, marks_flushed, marks_put, marks_shut};
+
+use crate::wire::{Room, WireFlush, WireIn};
+
+/// Which calls of a wire are lawful, how it ended, and its counts. A count stands still at its type's end.
+#[derive(Clone, Copy, Debug, PartialEq, Eq)]
+pub struct WireMarks {
+    /// Room for one message was found and isn't used yet.
+    pub is_ready: bool,
+    /// Calls other than `shut` are lawful.
+    pub is_open: bool,
+    /// A pull answered that the peer has ended.
+    pub ended: bool,
+    /// A pull answered that the next message is malformed.
+    pub malformed: bool,
+    /// Answers `Failed`.
+    pub faults: u64,
+    /// Answers `Full`.
+    pub fulls: u64,
+    /// Answers `NotYet` of a pull.
+    pub idles: u64,
+    /// Answers `NotYet` of a flush.
+    pub stalls: u64,
+    /// Answers `Refused`.
+    pub refusals: u64,
+}
+
+impl WireMarks {
+    /// Of a new wire: open, without room, every count 0.
+    pub fn new() -> WireMarks
+        ensures { result ≡ fresh_marks }
+    {
+        WireMarks {
+            is_ready: false,
+            is_open: true,
+            ended: false,
+            malformed: false,
+            faults: 0,
+            fulls: 0,
+            idles: 0,
+            stalls: 0,
+            refusals: 0,
+        }
+    }
+
+    fn failed(&mut self)
+        ensures { self.new ≡ marks_pulled WireIn.Failed self.old }
+    {
+        self.is_open = false;
+        self.faults = self.faults.saturating_add(1);
+    }
+
+    fn refused(&mut self)
+        ensures { self.new ≡ marks_pulled WireIn.Refused self.old }
+    {
+        self.is_open = false;
+        self.refusals = self.refusals.saturating_add(1);
+    }
+
+    /// After a pull with this answer.
+    pub fn pulled(&mut self, answer: &WireIn)
+        ensures { self.new ≡ marks_pulled answer.now self.old }
+    {
+        match answer {
+            WireIn::Message(_) => {}
+            WireIn::NotYet => self.idles = self.idles.saturating_add(1),
+            WireIn::Ended => {
+                self.is_open = false;
+                self.ended = true;
+            }
+            WireIn::Malformed => {
+                self.is_open = false;
+                self.malformed = true;
+            }
+            WireIn::Failed => self.failed(),
+            WireIn::Refused => self.refused(),
+            WireIn::NoMemory => self.is_open = false,
+        }
+    }
+
+    /// After this answer on room.
+    pub fn roomed(&mut self, answer: Room)
+        ensures { self.new ≡ marks_roomed answer self.old }
+    {
+        match answer {
+            Room::Yes => self.is_ready = true,
+            Room::Full => self.fulls = self.fulls.saturating_add(1),
+            Room::Failed => self.failed(),
+            Room::Refused => self.refused(),
+            Room::NoMemory => self.is_open = false,
+        }
+    }
+
+    /// After a message was put.
+    pub fn put(&mut self)
+        ensures { self.new ≡ marks_put self.old }
+    {
+        self.is_ready = false;
+    }
+
+    /// After a flush with this answer.
+    pub fn flushed(&mut self, answer: WireFlush)
+        ensures { self.new ≡ marks_flushed answer self.old }
+    {
+        match answer {
+            WireFlush::Empty => {}
+            WireFlush::NotYet => self.stalls = self.stalls.saturating_add(1),
+            WireFlush::Failed => self.failed(),
+            WireFlush::Refused => self.refused(),
+            WireFlush::NoMemory => self.is_open = false,
+        }
+    }
+
+    /// After the wire was shut.
+    pub fn shut(&mut self)
+        ensures { self.new ≡ marks_shut self.old }
+    {
+        self.is_ready = false;
+        self.is_open = false;
+    }
+}

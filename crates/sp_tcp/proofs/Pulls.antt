@@ -1,0 +1,99 @@
+-- A pull that goes on.
+use Rattle.std.proofs.Common.{◌≡◌, ◌≢◌, ◌≤◌, ◌<◌, ◌+◌, ◌-◌, ◌^◌, ◌++◌, ◌⊎◌, ℕ, List, [], length, min, Option, Some, None, refl, sym, ap, subst, ◌∙◌, false, inl, inr, append-nil, append_assoc, arith}
+use Rattle.std.proofs.lemmas.List.{length-append}
+use Rattle.sp_spec.specs.SpTcp.{size_of, frame}
+use Rattle.sp_spec.specs.Outside.{Rose, grown}
+use Rattle.sp_base.specs.Views.{LinkView}
+use Rattle.sp_base.specs.Steps.{Came, Quiet}
+use Rattle.sp_msg.specs.declared.wire.WireIn.{WireIn}
+use Rattle.sp_msg.specs.declared.wire.WireIn.TheVariants as ins
+use Rattle.sp_tcp.specs.Links.{ReadCounts}
+use Rattle.sp_tcp.specs.Inlets.{IsPart, IsTooLong, PullAnswer, PulledFrom}
+
+pub record PullGoing (max : ℕ) (old now : List ℕ) (link link' : LinkView) : Type 0 where
+  pub piece : List ℕ
+  pub unread : now ≡ old ++ piece
+  pub came : Came piece link link'
+  pub counts : ReadCounts link link'
+  pub start : ((now ≡ old) × (link' ≡ link)) ⊎ (IsPart max old × (link.ended ≡ false))
+
+pub grown-nil : (o : Option (List ℕ)) → o ≡ grown o []
+grown-nil None = refl
+grown-nil (Some s) = ap (λ (t : List ℕ). Some t) (sym (append-nil s))
+
+pub grown-grown : (o : Option (List ℕ)) (p q : List ℕ) → grown (grown o p) q ≡ grown o (p ++ q)
+grown-grown None p q = refl
+grown-grown (Some s) p q = ap (λ (t : List ℕ). Some t) (append_assoc s p q)
+
+pub rose_later : (a b c : ℕ) → a ≤ b → Rose b c → Rose a c
+rose_later a b c le r = omega (arith, r)
+
+pub counts_refl : (l : LinkView) → ReadCounts l l
+counts_refl l = record { faults = omega arith; idles = omega arith; stalls = refl }
+
+pub counts_more : (l m n : LinkView) → ReadCounts l m → ReadCounts m n → ReadCounts l n
+counts_more l m n a b = record {
+  faults = omega (arith, a.faults, b.faults);
+  idles = omega (arith, a.idles, b.idles);
+  stalls = b.stalls ∙ a.stalls;
+}
+
+pub came_none : (l : LinkView) → Came [] l l
+came_none l = record { place = refl; scheme = refl; came = grown-nil l.came; written = refl; is_open = refl }
+
+pub came_more : (p q : List ℕ) (l m n : LinkView) → Came p l m → Came q m n → Came (p ++ q) l n
+came_more p q l m n a b = record {
+  place = b.place ∙ a.place;
+  scheme = b.scheme ∙ a.scheme;
+  came = b.came ∙ ap (λ o. grown o q) a.came ∙ grown-grown l.came p q;
+  written = b.written ∙ a.written;
+  is_open = b.is_open ∙ a.is_open;
+}
+
+pub came_quiet : (p : List ℕ) (l m n : LinkView) → Came p l m → Quiet m n → Came p l n
+came_quiet p l m n a b = record { place = b.place ∙ a.place; scheme = b.scheme ∙ a.scheme; came = b.came ∙ a.came; written = b.written ∙ a.written; is_open = b.is_open ∙ a.is_open }
+
+pub going_start : (max : ℕ) (old : List ℕ) (l : LinkView) → PullGoing max old old l l
+going_start max old l = record { piece = []; unread = sym (append-nil old); came = came_none l; counts = counts_refl l; start = inl (refl, refl) }
+
+-- the start was a part too
+pub began_part : (max : ℕ) (old now : List ℕ) (l m : LinkView) → PullGoing max old now l m → IsPart max now → IsPart max old
+began_part max old now l m going part = elim going.start [ inl e ↦ subst (IsPart max) e.0 part | inr p ↦ p.0 ]
+
+-- the link had not ended at the start either
+pub began_open : (max : ℕ) (old now : List ℕ) (l m : LinkView) → PullGoing max old now l m → m.ended ≡ false → l.ended ≡ false
+began_open max old now l m going e = elim going.start [ inl s ↦ sym (ap (λ (v : LinkView). v.ended) s.1) ∙ e | inr p ↦ p.1 ]
+
+pub going_more : (max : ℕ) (old now next piece : List ℕ) (l m n : LinkView) → PullGoing max old now l m → IsPart max now → next ≡ now ++ piece → Came piece m n → ReadCounts m n → m.ended ≡ false → PullGoing max old next l n
+going_more max old now next piece l m n going part e came counts unended = record {
+  piece = going.piece ++ piece;
+  unread = e ∙ ap (λ t. t ++ piece) going.unread ∙ append_assoc old going.piece piece;
+  came = came_more going.piece piece l m n going.came came;
+  counts = counts_more l m n going.counts counts;
+  start = inr (began_part max old now l m going part, began_open max old now l m going unended);
+}
+
+pub falls : (max : ℕ) (now next piece : List ℕ) → IsPart max now → next ≡ now ++ piece → 0 < length piece → 8 + max - length next < 8 + max - length now
+falls max now next piece part e some =
+    let long : length next ≡ length now + length piece = omega (arith, ap length e, length-append now piece) in
+    elim part [ inl a ↦ omega (arith, a) | inr b ↦ omega (arith, b) ]
+
+-- an answer without a further byte
+pub pulled_here : (max : ℕ) (result : WireIn) (old now next : List ℕ) (l m : LinkView) → PullGoing max old now l m → PullAnswer max result now next l m → PulledFrom max result old next l m
+pulled_here max result old now next l m going answer = record {
+  piece = going.piece;
+  came = going.came;
+  counts = going.counts;
+  answer = subst (λ t. PullAnswer max result t next l m) going.unread answer;
+  asked = (λ no. elim going.start [ inl e ↦ e.1 | inr p ↦ absurd (no p.0) ]);
+}
+
+-- an answer that a read gave
+pub pulled_read : (max : ℕ) (result : WireIn) (old now next : List ℕ) (l m n : LinkView) → PullGoing max old now l m → IsPart max now → Quiet m n → ReadCounts m n → PullAnswer max result now next l n → PulledFrom max result old next l n
+pulled_read max result old now next l m n going part quiet counts answer = record {
+  piece = going.piece;
+  came = came_quiet going.piece l m n going.came quiet;
+  counts = counts_more l m n going.counts counts;
+  answer = subst (λ t. PullAnswer max result t next l n) going.unread answer;
+  asked = (λ no. absurd (no (began_part max old now l m going part)));
+}

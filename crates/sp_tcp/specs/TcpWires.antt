@@ -1,0 +1,215 @@
+-- What a wire over a link shows, and what ties it to its link.
+use Rattle.std.specs.Prelude.{◌≡◌, ◌≢◌, ◌≤◌, ◌<◌, ◌+◌, ◌-◌, ◌^◌, ◌++◌, ◌⊎◌, ℕ, Bool, true, false, List, [], ◌∷◌, length, take, drop, Option, Some, None}
+use Rattle.std.specs.Int.{w16, from_be_bytes}
+use Rattle.sp_spec.specs.SpTcp.{hello, frame, frames, text, shows, Fit, IsOversize}
+use Rattle.sp_spec.specs.Outside.{Rose, Told, IsFront}
+use Rattle.sp_base.specs.Views.{LinkView}
+use Rattle.sp_base.specs.Steps.{Came, Went}
+use Rattle.sp_base.specs.Roles.{role_number, role_peer}
+use Rattle.sp_base.specs.declared.role.Role.{Role}
+use Rattle.sp_msg.specs.Views.{WireView, WireName, OverLink}
+use Rattle.sp_msg.specs.Marks.{wire_view, fresh_marks}
+use Rattle.sp_msg.specs.declared.marks.WireMarks.{WireMarks}
+use Rattle.sp_msg.specs.declared.wire.WireIn.{WireIn}
+use Rattle.sp_msg.specs.declared.wire.WireIn.TheVariants as ins
+use Rattle.sp_msg.specs.declared.wire.Room.{Room}
+use Rattle.sp_msg.specs.declared.wire.Room.TheVariants as rooms
+use Rattle.sp_msg.specs.declared.wire.WireFlush.{WireFlush}
+use Rattle.sp_msg.specs.declared.wire.WireFlush.TheVariants as flushes
+use Rattle.sp_tcp.specs.Views.{TcpView, InletView, OutletView}
+use Rattle.sp_tcp.specs.Links.{ReadCounts, WriteCounts}
+use Rattle.sp_tcp.specs.Inlets.{IsPart, IsTooLong}
+use Rattle.sp_tcp.specs.Outlets.{SentWithin}
+
+-- the role number in the greeting that a text begins with
+abbrev pub number_in : List ℕ → ℕ
+number_in s = from_be_bytes w16 (take 2 (drop 4 s))
+
+abbrev pub told_number : Option (List ℕ) → Option ℕ
+told_number None = None
+told_number (Some s) = Some (number_in s)
+
+-- the size of a message that is written has no limit of its own
+abbrev pub greatest : ℕ
+greatest = 2 ^ 64 - 1
+
+-- the bodies before the bytes that were not taken
+abbrev pub taken_in : ℕ → List ℕ → Option (List ℕ) → Option (List (List ℕ))
+taken_in max unread None = None
+taken_in max unread (Some s) = Some (shows (number_in s) max (take (length s - length unread) s))
+
+-- the texts before the part of a frame, and those that wait
+abbrev pub put_in : List (List ℕ) → ℕ → Option (List ℕ) → Option (List (List ℕ))
+put_in waiting sent None = None
+put_in waiting sent (Some s) = Some (shows (number_in s) greatest (take (length s - sent) s) ++ waiting)
+
+-- what the wire keeps
+pub record TcpState : Type 0 where
+  pub link : LinkView
+  pub unread : List ℕ
+  pub waiting : List (List ℕ)
+  pub sent : ℕ
+  pub max : ℕ
+  pub marks : WireMarks
+
+abbrev pub tcp_state : LinkView → InletView → OutletView → ℕ → WireMarks → TcpState
+tcp_state link inlet outlet max marks = record { link = link; unread = inlet.unread; waiting = outlet.waiting; sent = outlet.sent; max = max; marks = marks }
+
+abbrev pub wire_name : LinkView → ℕ → WireName
+wire_name link max = OverLink link.place max (told_number link.written) (told_number link.came)
+
+abbrev pub wire_of : TcpState → WireView
+wire_of t = wire_view (wire_name t.link t.max) (taken_in t.max t.unread t.link.came) (put_in t.waiting t.sent t.link.written) (length t.waiting) false t.marks
+
+abbrev pub tcp_view : TcpState → TcpView
+tcp_view t = record { wire = wire_of t; link = t.link; max = t.max }
+
+-- a greeting, the bodies that were taken, and the bytes that were not
+pub record ReadsAs (max : ℕ) (unread s : List ℕ) : Type 0 where
+  pub role : ℕ
+  pub bodies : List (List ℕ)
+  pub small : role < 2 ^ 16
+  pub fit : Fit max bodies
+  pub is : s ≡ text role bodies ++ unread
+
+-- a greeting, the texts that are wholly written, and a part of the next frame
+pub record WritesAs (waiting : List (List ℕ)) (sent : ℕ) (s : List ℕ) : Type 0 where
+  pub role : ℕ
+  pub bodies : List (List ℕ)
+  pub small : role < 2 ^ 16
+  pub fit : Fit greatest bodies
+  pub is : s ≡ text role bodies ++ take sent (frames waiting)
+
+-- what the marks say of the link and of the bytes that were not taken
+pub record MarksHold (max : ℕ) (link : LinkView) (unread : List ℕ) (k : WireMarks) : Type 0 where
+  pub link_open : k.is_open ≡ true → link.is_open ≡ true
+  pub going : k.is_open ≡ true → (k.ended ≡ false) × (k.malformed ≡ false)
+  pub at_end : k.ended ≡ true → (link.ended ≡ true) × IsPart max unread
+  pub too_long : k.malformed ≡ true → IsTooLong max unread
+  pub faults : k.faults ≤ link.faults
+  pub idles : k.idles ≤ link.idles
+  pub stalls : k.stalls ≤ link.stalls
+  pub refusals : k.refusals ≡ 0
+
+pub record Holds (t : TcpState) : Type 0 where
+  pub reads : Told t.link.came (ReadsAs t.max t.unread)
+  pub writes : Told t.link.written (WritesAs t.waiting t.sent)
+  pub within : SentWithin t.sent t.waiting
+  pub fit : Fit greatest t.waiting
+  pub small : t.max < 2 ^ 64
+  pub most : length t.waiting ≤ 16
+  pub room : t.marks.is_ready ≡ true → length t.waiting < 16
+  pub marks : MarksHold t.max t.link t.unread t.marks
+
+-- ---- what callers see
+
+-- what came shows: text(peer, came) is a front of it, and came a front of all that it shows
+pub record ShowsIn (v : TcpView) (s : List ℕ) : Type 0 where
+  pub bodies : List (List ℕ)
+  pub came : v.wire.came ≡ Some bodies
+  pub text_front : IsFront (text (number_in s) bodies) s
+  pub front : IsFront bodies (shows (number_in s) v.max s)
+
+-- at most a part of the first frame, and not all of it
+abbrev pub CutShort : List ℕ → List (List ℕ) → Type 0
+CutShort part [] = part ≡ []
+CutShort part (t ∷ rest) = IsFront part (frame t) × (length part < length (frame t))
+
+-- what is written: all frames but those of the texts that wait, and a part of the next one
+pub record WrittenIn (v : TcpView) (s : List ℕ) : Type 0 where
+  pub whole : List (List ℕ)
+  pub waiting : List (List ℕ)
+  pub part : List ℕ
+  pub outs : v.wire.outs ≡ Some (whole ++ waiting)
+  pub waits : length waiting ≡ v.wire.waits
+  pub is : s ≡ text (number_in s) whole ++ part
+  pub cut : CutShort part waiting
+
+-- no whole message is left
+abbrev pub AllShown : TcpView → Type 0
+AllShown v = Told v.link.came (λ s. v.wire.came ≡ Some (shows (number_in s) v.max s))
+
+-- the next size is above max
+abbrev pub NextTooLong : TcpView → Type 0
+NextTooLong v = Told v.link.came (λ s. IsOversize (number_in s) v.max s)
+
+abbrev pub NextFits : TcpView → Type 0
+NextFits v = Told v.link.came (λ s. IsOversize (number_in s) v.max s → ⊥)
+
+-- SP over TCP, at every moment: what ties a wire's texts, counts and end to its link
+pub record Framed (v : TcpView) : Type 0 where
+  pub name : v.wire.name ≡ OverLink v.link.place v.max (told_number v.link.written) (told_number v.link.came)
+  pub came : Told v.link.came (ShowsIn v)
+  pub written : Told v.link.written (WrittenIn v)
+  pub faults : v.wire.faults ≤ v.link.faults
+  pub idles : v.wire.idles ≤ v.link.idles
+  pub stalls : v.wire.stalls ≤ v.link.stalls
+  pub refusals : v.wire.refusals ≡ 0
+  pub most : v.wire.waits ≤ 16
+  pub link_open : v.wire.is_open ≡ true → v.link.is_open ≡ true
+  pub ended : v.wire.ended ≡ true → (v.link.ended ≡ true) × AllShown v × NextFits v
+  pub malformed : v.wire.malformed ≡ true → AllShown v × NextTooLong v
+
+abbrev pub PullCause : WireIn → TcpView → TcpView → Type 0
+PullCause (ins.Message m) old new = length m.body ≤ new.max
+PullCause ins.NotYet old new = AllShown new × NextFits new × Rose old.link.idles new.link.idles × (old.link.ended ≡ false)
+PullCause ins.Ended old new = AllShown new × NextFits new × (new.link.ended ≡ true)
+PullCause ins.Malformed old new = AllShown new × NextTooLong new
+PullCause ins.Failed old new = AllShown new × NextFits new × Rose old.link.faults new.link.faults × (old.link.ended ≡ false)
+PullCause ins.Refused old new = ⊥
+PullCause ins.NoMemory old new = Unit {0}
+
+-- a pull writes nothing, and asks the link for nothing where a whole message or a size above max stands at the front
+pub record TcpPulled (result : WireIn) (old new : TcpView) : Type 0 where
+  pub cause : PullCause result old new
+  pub piece : List ℕ
+  pub came : Came piece old.link new.link
+  pub counts : ReadCounts old.link new.link
+  pub max : new.max ≡ old.max
+  pub whole : (s : List ℕ) → old.link.came ≡ Some s → (old.wire.came ≡ Some (shows (number_in s) old.max s) → ⊥) → new.link ≡ old.link
+  pub too_long : (s : List ℕ) → old.link.came ≡ Some s → IsOversize (number_in s) old.max s → new.link ≡ old.link
+
+-- room and flush read nothing, and write only at the end of what is written
+pub record TcpWrote (old new : TcpView) : Type 0 where
+  pub piece : List ℕ
+  pub went : Went piece old.link new.link
+  pub counts : WriteCounts old.link new.link
+  pub max : new.max ≡ old.max
+
+-- room comes after all was written that the link takes
+abbrev pub RoomCause : Room → TcpView → TcpView → Type 0
+RoomCause rooms.Yes old new = (new.wire.waits < 16) × ((new.wire.waits ≡ 0) ⊎ Rose old.link.stalls new.link.stalls)
+RoomCause rooms.Full old new = (new.wire.waits ≡ 16) × Rose old.link.stalls new.link.stalls
+RoomCause rooms.Failed old new = Rose old.link.faults new.link.faults
+RoomCause rooms.Refused old new = ⊥
+RoomCause rooms.NoMemory old new = ⊥
+
+-- the answer on room, by how the writing ended and how many messages are not wholly written after it
+abbrev pub RoomAfter : WireFlush → ℕ → Room → Type 0
+RoomAfter flushes.Empty waits room = room ≡ rooms.Yes
+RoomAfter flushes.NotYet waits room = ((waits < 16) × (room ≡ rooms.Yes)) ⊎ ((16 ≤ waits) × (room ≡ rooms.Full))
+RoomAfter flushes.Failed waits room = room ≡ rooms.Failed
+RoomAfter flushes.Refused waits room = room ≡ rooms.Refused
+RoomAfter flushes.NoMemory waits room = room ≡ rooms.NoMemory
+
+abbrev pub FlushCause : WireFlush → TcpView → TcpView → Type 0
+FlushCause flushes.Empty old new = Unit {0}
+FlushCause flushes.NotYet old new = Rose old.link.stalls new.link.stalls
+FlushCause flushes.Failed old new = Rose old.link.faults new.link.faults
+FlushCause flushes.Refused old new = ⊥
+FlushCause flushes.NoMemory old new = ⊥
+
+-- a role's greeting was written, and its peer's came with these bytes behind it
+abbrev pub Met : List ℕ → LinkView → Type 0
+Met rest link = (role : Role) × Told link.written (λ s. s ≡ hello (role_number role)) × Told link.came (λ s. s ≡ hello (role_number (role_peer role)) ++ rest)
+
+abbrev pub none_of : Option (List ℕ) → Option (List (List ℕ))
+none_of None = None
+none_of (Some _) = Some []
+
+-- nothing was pulled or put, and every call is lawful
+pub record IsNewWire (max : ℕ) (link : LinkView) (v : TcpView) : Type 0 where
+  pub link_is : v.link ≡ link
+  pub max_is : v.max ≡ max
+  pub wire : v.wire ≡ wire_view (wire_name link max) (none_of link.came) (none_of link.written) 0 false fresh_marks
+  pub framed : Framed v

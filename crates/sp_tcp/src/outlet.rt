@@ -1,0 +1,188 @@
+//! What was put and is not wholly written.
+ghost use Rattle.std.specs.Prelude.{◌≡◌, ◌≤◌, ◌<◌, ◌+◌, ◌-◌, ◌^◌, ◌++◌, ◌∷◌, ℕ, List, [], true, take, drop, length, map, IfOk};
+ghost use Rattle.std.specs.VecDeque.{deque_capacity};
+ghost use Rattle.sp_spec.specs.SpTcp.{frame, frames};
+ghost use Rattle.sp_msg.specs.Views.{wire_text};
+ghost use Rattle.sp_tcp.specs.Stages.{added, gathered};
+ghost use Rattle.sp_tcp.specs.Outlets.{SentWithin, IsLongRest, Passed, WroteFront, WrotePiece, FlushedFrom};
+
+use crate::stage::Stage;
+use sp_base::{Link, LinkWrite, NoMemory};
+use sp_msg::{Message, WireFlush};
+use std::alloc::Global;
+use std::collections::VecDeque;
+use std::marker::Model;
+
+/// How many messages may wait.
+pub const MOST_WAITING: usize = 16;
+
+/// How many bytes are gathered for one write. A body of which more is left goes out from where it lies.
+const STAGE_ROOM: usize = 16_384;
+
+/// The messages that wait, and how many bytes of the first one's frame are written. A write gathers the frames
+/// that wait as far as the stage holds them; what the link doesn't take is gathered anew for the next write.
+#[derive(Debug, Drop)]
+pub struct Outlet {
+    /// The oldest first; room for `MOST_WAITING` was taken when it was made.
+    waiting: VecDeque<Message>,
+    /// How many bytes of the first frame are written; never all of them.
+    sent: usize,
+    /// Where small frames are put together.
+    stage: Stage,
+}
+
+impl Model for Outlet {
+    ghost use Rattle.std.specs.Prelude.{◌≤◌, ◌<◌, map};
+    ghost use Rattle.std.specs.VecDeque.{deque_capacity};
+    ghost use Rattle.sp_msg.specs.Views.{wire_text};
+    ghost use Rattle.sp_tcp.specs.Views.{OutletView};
+    ghost use Rattle.sp_tcp.specs.Outlets.{SentWithin};
+
+    ghost Value = { OutletView };
+
+    ghost view = { λ o. record { waiting = map wire_text o.waiting.items; sent = o.sent } };
+
+    ghost invariant = { λ o. (16 ≤ deque_capacity o.waiting) × SentWithin o.sent (map wire_text o.waiting.items) × (0 < o.stage.most) × (o.stage.most ≤ 65536) };
+}
+
+// Adds the next bytes of a frame, past so many; answers how many are to be passed behind it.
+fn add_frame(stage: &mut Stage, m: &Message, skip: usize) -> usize
+    ensures bytes { stage.new ≡ added stage.old skip (frame (wire_text m.now)) }
+    ensures skip { result ≡ skip - length (frame (wire_text m.now)) }
+{
+    let head = (m.size() as u64).to_be_bytes();
+    let behind_head = stage.add(skip, &head);
+    let behind_header = stage.add(behind_head, m.header());
+    stage.add(behind_header, m.body())
+}
+
+// Gathers the next bytes of the frames, past so many.
+fn gather(stage: &mut Stage, waiting: &VecDeque<Message>, sent: usize)
+    ensures { stage.new ≡ gathered stage.old sent (frames (map wire_text waiting.now.items)) }
+{
+    stage.clear();
+    let mut skip = sent;
+    'gathers: for i in 0..waiting.len() {
+        skip = add_frame(stage, &waiting[i], skip);
+    }
+}
+
+// What is left of a body, where all before it is written and it is longer than so much; else nothing.
+fn long_rest(m: &Message, sent: usize, most: usize) -> &[u8]
+    requires { sent < 8 + length (wire_text m.now) }
+    ensures { IsLongRest m.now sent result.now }
+{
+    let before = 8 + m.header().len();
+    if sent < before {
+        return &[];
+    }
+    let rest = &m.body()[sent - before..];
+    if rest.len() <= most {
+        return &[];
+    }
+    rest
+}
+
+// Takes the frames away that are wholly written, where so many bytes are; answers how many are of the next one.
+fn pass_frames(waiting: &mut VecDeque<Message>, written: usize) -> usize
+    requires { written ≤ length (frames (map wire_text waiting.old.items)) }
+    ensures passed { Passed written (map wire_text waiting.old.items) (map wire_text waiting.new.items) result }
+    ensures within { SentWithin result (map wire_text waiting.new.items) }
+    ensures room { deque_capacity waiting.new ≡ deque_capacity waiting.old }
+{
+    let mut left = written;
+    'frames: while let Some(front) = waiting.front() {
+        let size = 8 + front.size();
+        if left < size {
+            return left;
+        }
+        left -= size;
+        let _ = waiting.pop_front();
+    }
+    left
+}
+
+impl Outlet {
+    /// Empty, with all memory that it needs.
+    pub fn new(alloc: Global) -> Result<Outlet, NoMemory>
+        ensures { IfOk result (λ outlet. outlet ≡ record { waiting = []; sent = 0 }) }
+    {
+        let waiting = VecDeque::with_capacity(alloc, MOST_WAITING)?;
+        let stage = Stage::new(alloc, STAGE_ROOM)?;
+        Ok(Outlet {
+            waiting,
+            sent: 0,
+            stage,
+        })
+    }
+
+    /// How many messages are not wholly written.
+    pub fn len(&self) -> usize
+        ensures count { result ≡ length self.now.waiting }
+        ensures within { SentWithin self.now.sent self.now.waiting }
+    {
+        self.waiting.len()
+    }
+
+    /// Takes one message more, without memory.
+    pub fn put(&mut self, m: Message)
+        requires { length self.old.waiting < 16 }
+        ensures text { self.new ≡ record self.old { waiting = self.old.waiting ++ wire_text m ∷ [] } }
+        ensures fit { length (wire_text m) < 2 ^ 63 }
+        ensures within { SentWithin self.new.sent self.new.waiting }
+    {
+        let _size = m.size();
+        self.waiting.push_back_reserved(m);
+    }
+
+    // One write, from the front of what is not written.
+    fn write_front<L: Link>(&mut self, link: &mut L) -> LinkWrite
+        requires is_open { (L.seen link.old).is_open ≡ true }
+        requires waiting { 0 < length self.old.waiting }
+        ensures same { self.new ≡ self.old }
+        ensures wrote { WroteFront result self.old (L.seen link.old) (L.seen link.new) }
+    {
+        let Some(front) = self.waiting.front() else {
+            unreachable!()
+        };
+        let _size = front.size();
+        let rest = long_rest(front, self.sent, self.stage.most());
+        if !rest.is_empty() {
+            return link.write(rest);
+        }
+        gather(&mut self.stage, &self.waiting, self.sent);
+        link.write(self.stage.as_slice())
+    }
+
+    // One write, after which the frames that are whole are gone.
+    fn write_once<L: Link>(&mut self, link: &mut L) -> LinkWrite
+        requires is_open { (L.seen link.old).is_open ≡ true }
+        requires waiting { 0 < length self.old.waiting }
+        ensures { WrotePiece result self.old self.new (L.seen link.old) (L.seen link.new) }
+    {
+        match self.write_front(link) {
+            LinkWrite::Took(n) => {
+                let written = self.sent + n;
+                self.sent = pass_frames(&mut self.waiting, written);
+                LinkWrite::Took(n)
+            }
+            LinkWrite::NotYet => LinkWrite::NotYet,
+            LinkWrite::Failed => LinkWrite::Failed,
+        }
+    }
+}
+
+/// Writes what the link takes.
+pub fn write_from<L: Link>(outlet: &mut Outlet, link: &mut L) -> WireFlush
+    requires { (L.seen link.old).is_open ≡ true }
+    ensures { FlushedFrom result outlet.old outlet.new (L.seen link.old) (L.seen link.new) }
+{
+    'writes: while outlet.len() > 0 {
+        match outlet.write_once(link) {
+            LinkWrite::Took(_) => {}
+            LinkWrite::NotYet => return WireFlush::NotYet,
+            LinkWrite::Failed => return WireFlush::Failed,
+        }
+    }
+    WireFlush::Empty
+}

@@ -1,0 +1,77 @@
+//! The bytes of one write.
+ghost use Rattle.std.specs.Prelude.{◌≡◌, ◌≤◌, ◌-◌, [], length, IfOk};
+ghost use Rattle.sp_tcp.specs.Stages.{added};
+
+use sp_base::NoMemory;
+use std::alloc::Global;
+use std::marker::Model;
+
+/// Bytes that are to go out in one write, at most so many. Its memory is taken once.
+#[derive(Debug, Drop)]
+pub struct Stage {
+    bytes: Vec<u8>,
+    /// How many bytes it holds at most.
+    most: usize,
+}
+
+impl Model for Stage {
+    ghost use Rattle.std.specs.Prelude.{length, ◌≤◌, vec_capacity};
+    ghost use Rattle.sp_tcp.specs.Views.{StageView};
+
+    ghost Value = { StageView };
+
+    ghost view = { λ s. record { bytes = s.bytes.items; most = s.most } };
+
+    ghost invariant = { λ s. (length s.bytes.items ≤ s.most) × (s.most ≤ vec_capacity s.bytes) };
+}
+
+impl Stage {
+    /// Empty, for at most so many bytes.
+    pub fn new(alloc: Global, most: usize) -> Result<Stage, NoMemory>
+        ensures { IfOk result (λ stage. stage ≡ record { bytes = []; most = most }) }
+    {
+        Ok(Stage {
+            bytes: Vec::with_capacity(alloc, most)?,
+            most,
+        })
+    }
+
+    /// How many bytes it holds at most.
+    pub fn most(&self) -> usize
+        ensures { result ≡ self.now.most }
+    {
+        self.most
+    }
+
+    /// The bytes.
+    pub fn as_slice(&self) -> &[u8]
+        ensures value { result.now ≡ self.now.bytes }
+        ensures few { length self.now.bytes ≤ self.now.most }
+    {
+        &self.bytes
+    }
+
+    /// Throws the bytes away.
+    pub fn clear(&mut self)
+        ensures { self.new ≡ record self.old { bytes = [] } }
+    {
+        self.bytes.clear();
+    }
+
+    /// Adds as much of a piece as there is room for, past its first `skip` bytes. Answers how many bytes are
+    /// to be passed yet in the pieces that follow.
+    pub fn add(&mut self, skip: usize, piece: &[u8]) -> usize
+        ensures bytes { self.new ≡ added self.old skip piece.now }
+        ensures skip { result ≡ skip - length piece.now }
+    {
+        let from = skip.min(piece.len());
+        let rest = &piece[from..];
+        let room = self.most - self.bytes.len();
+        let count = room.min(rest.len());
+        match self.bytes.extend_from_slice(&rest[..count]) {
+            Ok(()) => {}
+            Err(_) => unreachable!(),
+        }
+        skip - from
+    }
+}

@@ -1,0 +1,158 @@
+//! A wire over a link: messages in frames.
+ghost use Rattle.std.specs.Prelude.{◌≡◌, true, MatchResult};
+ghost use Rattle.sp_base.specs.Steps.{AfterShut as LinkShut};
+ghost use Rattle.sp_msg.specs.Wires.{AfterPull, AfterRoom, AfterPut, AfterFlush, AfterShut, may_flush};
+ghost use Rattle.sp_tcp.specs.TcpWires.{Met, IsNewWire, Framed, TcpPulled, TcpWrote, RoomAfter, RoomCause, FlushCause};
+
+use crate::inlet::{Inlet, pull_from};
+use crate::outlet::{MOST_WAITING, Outlet, write_from};
+use sp_base::{Link, NoMemory};
+use sp_msg::{Message, Room, Wire, WireFlush, WireIn, WireMarks};
+use std::alloc::Global;
+use std::marker::Model;
+use std::sync::Wait;
+
+/// A wire over a link that is greeted (SP over TCP). It reads into one buffer, from which it takes message after
+/// message, and writes many small frames at once. `pull` alone takes memory.
+#[derive(Drop)]
+pub struct TcpWire<L: Link> {
+    /// The link, greeted by both sides.
+    link: L,
+    /// What came and wasn't pulled.
+    inlet: Inlet,
+    /// What was put and isn't wholly written.
+    outlet: Outlet,
+    /// The most bytes of a body that is read.
+    max: u32,
+    /// What it shows beside its bytes.
+    marks: WireMarks,
+}
+
+impl<L: Link> Model for TcpWire<L> {
+    ghost use Rattle.sp_tcp.specs.Views.{TcpView};
+    ghost use Rattle.sp_tcp.specs.TcpWires.{tcp_state, tcp_view, Holds};
+
+    ghost Value = { TcpView };
+
+    ghost view = { λ w. tcp_view (tcp_state (L.seen w.link) w.inlet w.outlet w.max w.marks) };
+
+    ghost invariant = { λ w. Holds (tcp_state (L.seen w.link) w.inlet w.outlet w.max w.marks) };
+}
+
+// The answer on room after the writing ended so, where so many messages are not wholly written.
+fn room_after(flushed: WireFlush, waiting: usize) -> Room
+    ensures { RoomAfter flushed waiting result }
+{
+    match flushed {
+        WireFlush::Empty => Room::Yes,
+        WireFlush::NotYet => {
+            if waiting < MOST_WAITING {
+                Room::Yes
+            } else {
+                Room::Full
+            }
+        }
+        WireFlush::Failed => Room::Failed,
+        WireFlush::Refused => Room::Refused,
+        WireFlush::NoMemory => Room::NoMemory,
+    }
+}
+
+impl<L: Link> TcpWire<L> {
+    /// A wire over a link that is greeted: of what is told, the own greeting is all that was written, and the
+    /// peer's and then these bytes are all that came. A body that is read has at most `max` bytes.
+    pub fn new(alloc: Global, link: L, rest: &[u8], max: u32) -> Result<TcpWire<L>, (NoMemory, L)>
+        requires is_open { (L.seen link).is_open ≡ true }
+        requires met { Met rest.now (L.seen link) }
+        ensures { MatchResult result (λ w. IsNewWire max (L.seen link) w) (λ e. e.1 ≡ link) }
+    {
+        let Ok(inlet) = Inlet::new(alloc, rest) else {
+            return Err((NoMemory, link));
+        };
+        let Ok(outlet) = Outlet::new(alloc) else {
+            return Err((NoMemory, link));
+        };
+        Ok(TcpWire {
+            link,
+            inlet,
+            outlet,
+            max,
+            marks: WireMarks::new(),
+        })
+    }
+
+    /// The link, as it is.
+    pub fn into_link(self) -> L
+        ensures link { L.seen result ≡ self.link }
+        ensures framed { Framed self }
+    {
+        let TcpWire {
+            link,
+            inlet: _,
+            outlet: _,
+            max: _,
+            marks: _,
+        } = self;
+        link
+    }
+}
+
+impl<L: Link> Wire for TcpWire<L> {
+    ghost shown = { λ w. w.wire };
+
+    fn pull<R: Wait>(&mut self, _rt: &R) -> WireIn
+        requires { self.old.wire.is_open ≡ true }
+        ensures after { AfterPull result self.old.wire self.new.wire }
+        ensures tcp { TcpPulled result self.old self.new }
+        ensures framed { Framed self.new }
+    {
+        let answer = pull_from(&mut self.inlet, &mut self.link, self.max);
+        self.marks.pulled(&answer);
+        answer
+    }
+
+    fn room<R: Wait>(&mut self, _rt: &R) -> Room
+        requires { self.old.wire.is_open ≡ true }
+        ensures after { AfterRoom result self.old.wire self.new.wire }
+        ensures cause { RoomCause result self.old self.new }
+        ensures tcp { TcpWrote self.old self.new }
+        ensures framed { Framed self.new }
+    {
+        let flushed = write_from(&mut self.outlet, &mut self.link);
+        let answer = room_after(flushed, self.outlet.len());
+        self.marks.roomed(answer);
+        answer
+    }
+
+    fn put<R: Wait>(&mut self, _rt: &R, m: Message)
+        requires is_open { self.old.wire.is_open ≡ true }
+        requires is_ready { self.old.wire.is_ready ≡ true }
+        ensures after { AfterPut m self.old.wire self.new.wire }
+        ensures link { self.new.link ≡ self.old.link }
+        ensures framed { Framed self.new }
+    {
+        self.marks.put();
+        self.outlet.put(m);
+    }
+
+    fn flush<R: Wait>(&mut self, _rt: &R) -> WireFlush
+        requires { may_flush self.old.wire ≡ true }
+        ensures after { AfterFlush result self.old.wire self.new.wire }
+        ensures cause { FlushCause result self.old self.new }
+        ensures tcp { TcpWrote self.old self.new }
+        ensures framed { Framed self.new }
+    {
+        let answer = write_from(&mut self.outlet, &mut self.link);
+        self.marks.flushed(answer);
+        answer
+    }
+
+    fn shut(&mut self)
+        ensures after { AfterShut self.old.wire self.new.wire }
+        ensures link { LinkShut self.old.link self.new.link }
+        ensures framed { Framed self.new }
+    {
+        self.marks.shut();
+        self.link.shut();
+    }
+}

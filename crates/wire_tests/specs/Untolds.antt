@@ -1,0 +1,23 @@
+-- What links show that tell nothing of their bytes.
+use Rattle.std.specs.Prelude.{false, None}
+use Rattle.sp_base.specs.Views.{LinkView}
+use Rattle.sp_base.specs.declared.addr.Scheme.TheVariants as schemes
+use Rattle.sp_fakes.specs.Scripts.{link_view}
+use Rattle.sp_fakes.specs.declared.link.MemLink.{MemLink}
+use Rattle.wire_tests.specs.declared.tube.Tube.{Tube}
+
+abbrev pub untold_view : MemLink → LinkView
+untold_view l = record (link_view l) { came = None; written = None }
+
+abbrev pub tube_view : Tube → LinkView
+tube_view t = record {
+  place = 0;
+  scheme = schemes.Tcp;
+  came = None;
+  written = None;
+  faults = t.fault_count;
+  idles = t.idle_count;
+  stalls = t.stall_count;
+  is_open = t.opened;
+  ended = false;
+}
