@@ -1,0 +1,17 @@
+pub mod Lists
+pub mod Setting
+pub mod Options
+pub mod Past
+pub mod Backtrace
+pub mod Frames
+pub mod Requests
+pub mod Kept
+pub mod Sends
+pub mod Legal
+pub mod Settled
+pub mod Moments
+pub mod Given
+pub mod Floods
+pub mod Once
+pub mod Swept
+pub mod Wires
