@@ -11,7 +11,7 @@ use Rattle.sp_history.specs.Lists.{has, without}
 use Rattle.sp_history.specs.declared.parts.Begun.{Begun}
 use Rattle.sp_history.specs.Past.{is_of, up, ups, pend, pending, onto, past_of, past_from}
 use Rattle.sp_history.specs.Legal.{MayCome, Follows, LegalFrom, Legal}
-use Rattle.sp_history.specs.Once.{occurs, begin_count, end_count, up_count, down_count}
+use Rattle.sp_history.specs.Once.{AreDistinct, occurs, begin_count, end_count, up_count, down_count}
 use Rattle.sp_history.proofs.OnceHolds.{legal_counted}
 
 -- ---- Operations
@@ -124,3 +124,44 @@ up_means z history p l =
       λ h. let o : 1 ≤ times (up (past_of history)) p = has-times (up (past_of history)) p h in (omega (arith, c.0, c.1, o), omega (arith, c.0, c.1, o)),
       λ h. times-has (up (past_of history)) p (omega (arith, c.0, h.0, h.1)),
     )
+
+-- ---- Names
+
+-- no pipe stands among those that are up twice
+apart_times : (qs : List ℕ) → ((p : ℕ) → times qs p ≤ 1) → AreDistinct qs
+unfolding times
+apart_times [] h = tt
+apart_times (q ∷ qs) h = (absent (has qs q) refl, apart_times qs fewer)
+  where
+    fewer : (p : ℕ) → times qs p ≤ 1
+    fewer p = let k = h p in go (q == p) k
+      where
+        go : (b : Bool) → cond b (times qs p + 1) (times qs p) ≤ 1 → times qs p ≤ 1
+        go true k = omega arith
+        go false k = k
+    absent : (b : Bool) → has qs q ≡ b → has qs q ≡ false
+    absent false e = e
+    absent true e =
+        let one : 1 ≤ times qs q = has-times qs q e in
+        let same : (q == q) ≡ true = grind (arith, nat_tests) in
+        let two : times qs q + 1 ≤ 1 = rw same at (h q) in
+        absurd (omega arith)
+
+pub pipes_apart : (z : Setting) (history : List (Turn Entry)) → Legal z history → AreDistinct (up (past_of history))
+unfolding times
+pipes_apart z history l =
+    apart_times (up (past_of history)) (λ p.
+      let c : PipeCounted (past_of history) p = pipe_all z [] history p (refl, omega arith, λ k. omega arith) l in
+      omega (arith, c.0, c.1))
+
+-- an operation that has ended isn't pending
+pub ended_is_gone : (z : Setting) (history : List (Turn Entry)) (op : OpName) → Legal z history → 1 ≤ end_count (past_of history) op → is_some (pending (past_of history) op) ≡ false
+ended_is_gone z history op l h =
+    let c = legal_counted z history op l in go (is_some (pending (past_of history) op)) refl
+  where
+    go : (b : Bool) → is_some (pending (past_of history) op) ≡ b → b ≡ false
+    go false e = refl
+    go true e =
+        let c = legal_counted z history op l in
+        let o : 1 ≤ occurs (pend (past_of history)) op = find-occurs (pend (past_of history)) op e in
+        absurd (omega (arith, c.0, c.1, o))

@@ -5,3 +5,4 @@ pub mod Filters
 pub mod Malformed
 pub mod Giving
 pub mod Turning
+pub mod Claiming

@@ -7,12 +7,12 @@ use Rattle.std.proofs.lemmas.Bool.Decides.{nat_tests}
 use Rattle.sp_base.specs.declared.OpName.{OpName}
 use Rattle.sp_history.specs.declared.entry.Turn.{Turn}
 use Rattle.sp_history.specs.declared.entry.Entry.{Entry}
-use Rattle.sp_history.specs.declared.entry.Entry.TheVariants.{Begin, End, Took, Close}
+use Rattle.sp_history.specs.declared.entry.Entry.TheVariants.{Up, Down, Begin, End, Took, Close}
 use Rattle.sp_history.specs.declared.setting.Setting.{Setting}
 use Rattle.sp_history.specs.Lists.{same_op}
 use Rattle.sp_history.specs.declared.parts.Begun.{Begun}
 use Rattle.sp_history.specs.declared.parts.Ended.{Ended}
-use Rattle.sp_history.specs.Past.{is_of, without_begun, pend, pending, uncollected, ended_as, begins, onto, past_of, past_from, is_closed}
+use Rattle.sp_history.specs.Past.{is_of, without_begun, pend, pending, uncollected, ended_as, begins, up, onto, past_of, past_from, is_closed}
 use Rattle.sp_history.specs.Legal.{Allowed, MayCome, Follows, LegalFrom, Legal}
 use Rattle.sp_history.specs.Once.{occurs, AreApart, begin_count, end_count, took_count, Once}
 
@@ -247,3 +247,28 @@ without-head s ss apart =
     let same = same_op-refl s.op in
     let none : occurs ss s.op ≡ 0 = grind (arith, nat_tests, same) in
     rw same (without-absent ss s.op none)
+
+-- ---- The close, and pipes
+
+ClosesPipes : List Entry → Type 0
+ClosesPipes past = is_closed past ≡ true → up past ≡ []
+
+pipes_next : (z : Setting) (k : ℕ) (past : List Entry) (e : Entry) → ClosesPipes past → Allowed z k past e → ClosesPipes (e ∷ past)
+unfolding ClosesPipes
+pipes_next z k past (Up p place name) h a = λ q. let r : false ≡ true = a.after_close q in cc
+pipes_next z k past (Down p why) h a = λ q. let r : false ≡ true = a.after_close q in cc
+pipes_next z k past (Close totals) h a = λ q. a.itself.1
+pipes_next z k past _ h a = h
+
+pipes_turn : (z : Setting) (k : ℕ) (past entries : List Entry) → ClosesPipes past → Follows z k past entries → ClosesPipes (onto entries past)
+pipes_turn z k past [] h f = h
+pipes_turn z k past (e ∷ entries) h f = pipes_turn z k (e ∷ past) entries (pipes_next z k past e h f.0) f.1
+
+pipes_all : (z : Setting) (past : List Entry) (history : List (Turn Entry)) → ClosesPipes past → LegalFrom z past history → ClosesPipes (past_from past history)
+pipes_all z past [] h l = h
+pipes_all z past (t ∷ history) h l = pipes_all z (onto t.entries past) history (pipes_turn z t.number past t.entries h l.0.entries) l.1
+
+pub closed_pipes : (z : Setting) (history : List (Turn Entry)) → Legal z history → is_closed (past_of history) ≡ true → up (past_of history) ≡ []
+unfolding ClosesPipes
+closed_pipes z history l = pipes_all z [] history (λ p. cc) l
+

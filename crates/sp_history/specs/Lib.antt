@@ -13,5 +13,6 @@ pub mod Moments
 pub mod Given
 pub mod Floods
 pub mod Once
+pub mod Claims
 pub mod Swept
 pub mod Wires

@@ -1,6 +1,6 @@
 -- Small words on lists that compute.
 use Rattle.std.specs.Prelude.{ℕ, Bool, true, false, not, ◌&&◌, ◌==◌, nat_eq, nat_lt, if◌then◌else◌, List, [], ◌∷◌, length, take, filter, Option, Some, None}
-use Rattle.std.specs.List.{list_any, starts_with}
+use Rattle.std.specs.List.{list_any, list_all, starts_with}
 use Rattle.std.specs.Int.{w32, to_be_bytes, from_be_bytes}
 use Rattle.std.specs.Cmp.Lexicographic.{pointwise}
 use Rattle.sp_base.specs.declared.OpName.{OpName}
@@ -15,8 +15,7 @@ without xs x = filter (λ y. not (y == x)) xs
 
 -- the first part is in the whole
 abbrev pub all_in : List ℕ → List ℕ → Bool
-all_in [] ys = true
-all_in (x ∷ xs) ys = has ys x && all_in xs ys
+all_in xs ys = list_all (has ys) xs
 
 abbrev pub same_bytes : List ℕ → List ℕ → Bool
 same_bytes = pointwise nat_eq

@@ -1,11 +1,16 @@
 -- How often a history begins, ends and collects an operation.
-use Rattle.std.specs.Prelude.{◌≡◌, ℕ, ◌+◌, ◌≤◌, ◌==◌, true, if◌then◌else◌, List, [], ◌∷◌}
+use Rattle.std.specs.Prelude.{◌≡◌, ℕ, ◌+◌, ◌≤◌, ◌==◌, true, false, ⊤, if◌then◌else◌, List, [], ◌∷◌}
 use Rattle.sp_base.specs.declared.OpName.{OpName}
 use Rattle.sp_history.specs.declared.entry.Entry.{Entry}
 use Rattle.sp_history.specs.declared.entry.Entry.TheVariants.{Up, Down, Begin, End, Took}
-use Rattle.sp_history.specs.Lists.{same_op}
+use Rattle.sp_history.specs.Lists.{has, same_op}
 use Rattle.sp_history.specs.declared.parts.Begun.{Begun}
 use Rattle.sp_history.specs.Past.{is_of, is_closed}
+
+-- no number stands in the list twice
+abbrev pub AreDistinct : List ℕ → Type 0
+AreDistinct [] = ⊤
+AreDistinct (x ∷ xs) = (has xs x ≡ false) × AreDistinct xs
 
 -- how often the operation stands in the list
 abbrev pub occurs : List Begun → OpName → ℕ

@@ -220,16 +220,20 @@ is_closed [] = false
 is_closed (Close totals ∷ past) = true
 is_closed (_ ∷ past) = is_closed past
 
+-- the counts with this entry more
+abbrev pub counted : Entry → Totals → Totals
+counted (Begin op k c act d) t = record t { begun = t.begun + 1 }
+counted (End op (Won r)) t = record t { won = t.won + 1 }
+counted (End op (Gone cause by)) t = record t { gone = t.gone + 1 }
+counted (Frame p b) t = record t { frames = t.frames + 1 }
+counted (Out p b) t = record t { outs = t.outs + 1 }
+counted (Full p) t = record t { fulls = t.fulls + 1 }
+counted _ t = t
+
 -- how many begins, ends that are won, ends that are not, frames, outs and fulls there were
 abbrev pub counts : List Entry → Totals
 counts [] = record { begun = 0; won = 0; gone = 0; frames = 0; outs = 0; fulls = 0 }
-counts (Begin op k c act d ∷ past) = record (counts past) { begun = (counts past).begun + 1 }
-counts (End op (Won r) ∷ past) = record (counts past) { won = (counts past).won + 1 }
-counts (End op (Gone cause by) ∷ past) = record (counts past) { gone = (counts past).gone + 1 }
-counts (Frame p b ∷ past) = record (counts past) { frames = (counts past).frames + 1 }
-counts (Out p b ∷ past) = record (counts past) { outs = (counts past).outs + 1 }
-counts (Full p ∷ past) = record (counts past) { fulls = (counts past).fulls + 1 }
-counts (_ ∷ past) = counts past
+counts (e ∷ past) = counted e (counts past)
 
 abbrev pub up_to_most : ℕ → ℕ
 up_to_most n = min n (2 ^ 64 - 1)

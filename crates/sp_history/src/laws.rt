@@ -15,7 +15,10 @@ ghost use Rattle.sp_history.specs.Kept.{kept};
 ghost use Rattle.sp_history.specs.Frames.{malformed};
 ghost use Rattle.sp_history.specs.Given.{given, arrived, messages_of, as_pull};
 ghost use Rattle.sp_history.specs.declared.entry.Entry.TheVariants.{Frame};
-ghost use Rattle.sp_history.specs.Once.{Once, begin_count, end_count, up_count, down_count};
+ghost use Rattle.sp_history.specs.Claims.{AreClaimed, AreRightEnds};
+ghost use Rattle.sp_history.specs.Sends.{unclaimed};
+ghost use Rattle.sp_history.specs.Setting.{floods};
+ghost use Rattle.sp_history.specs.Once.{AreDistinct, Once, begin_count, end_count, up_count, down_count};
 ghost use Rattle.sp_base.specs.declared.OpName.{OpName};
 ghost use Rattle.sp_history.specs.Settled.{SettledBy, Settled};
 ghost use Rattle.sp_history.specs.Moments.{Moment, past, turn_of, Lawful};
@@ -60,4 +63,23 @@ pub fn a_turn_ends()
     ensures past { (t : Moment) (l : Lawful t) → past_of (l.history ++ turn_of t ∷ []) ≡ past t }
     ensures legal { (t : Moment) (l : Lawful t) → (1 ≤ t.caller) × (t.caller ≤ t.z.callers) → MayEnd t.z (past t) → Legal t.z (l.history ++ turn_of t ∷ []) }
     ensures settled { (t : Moment) (l : Lawful t) → Settled t.z l.history → SettledBy t.z (past t) t.turn → Settled t.z (l.history ++ turn_of t ∷ []) }
+{}
+
+/// In a legal history no pipe is up twice, none is up when the socket is closed, and what has ended is no longer pending.
+pub fn names_are_apart()
+    ensures pipes { (z : Setting) (history : List (Turn Entry)) → Legal z history → AreDistinct (up (past_of history)) }
+    ensures closed { (z : Setting) (history : List (Turn Entry)) → Legal z history → is_closed (past_of history) ≡ true → up (past_of history) ≡ [] }
+    ensures gone { (z : Setting) (history : List (Turn Entry)) (op : OpName) → Legal z history → 1 ≤ end_count (past_of history) op → is_some (pending (past_of history) op) ≡ false }
+{}
+
+/// Where a send goes to one pipe, each Out is a request that goes out again, or directly before the End of the one send to
+/// which it belongs.
+pub fn outs_are_claimed()
+    ensures claimed { (z : Setting) (history : List (Turn Entry)) → floods z.role ≡ false → Legal z history → AreClaimed z (past_of history) }
+    ensures none_left { (z : Setting) (history : List (Turn Entry)) → Legal z history → unclaimed z (past_of history) ≡ false }
+{}
+
+/// Receives alone end as received, and sends alone as sent.
+pub fn ends_are_right()
+    ensures { (z : Setting) (history : List (Turn Entry)) → Legal z history → AreRightEnds (past_of history) }
 {}
