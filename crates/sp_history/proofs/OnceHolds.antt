@@ -1,6 +1,6 @@
 -- In a legal history each operation is begun at most once, and ends at most once.
-use Rattle.std.proofs.Common.{◌≡◌, refl, ap, subst, List, [], ◌∷◌, ◌++◌, ℕ, ◌+◌, ◌≤◌, ◌<◌, Bool, true, false, cond, arith, Option, Some, None, MatchOption}
-use Rattle.std.specs.Prelude.{find, filter, not, ◌||◌, ◌==◌}
+use Rattle.std.proofs.Common.{◌≡◌, refl, ap, sym, ◌∙◌, subst, List, [], ◌∷◌, ◌++◌, ℕ, ◌+◌, ◌≤◌, ◌<◌, Bool, true, false, cond, arith, Option, Some, None, MatchOption}
+use Rattle.std.specs.Prelude.{find, filter, not, ◌&&◌, ◌||◌, ◌==◌}
 use Rattle.std.specs.List.{list_any}
 use Rattle.sp_history.specs.declared.entry.Ending.{Ending}
 use Rattle.std.proofs.lemmas.Bool.Decides.{nat_tests}
@@ -13,7 +13,7 @@ use Rattle.sp_history.specs.Lists.{same_op}
 use Rattle.sp_history.specs.declared.parts.Begun.{Begun}
 use Rattle.sp_history.specs.declared.parts.Ended.{Ended}
 use Rattle.sp_history.specs.Past.{is_of, without_begun, pend, pending, uncollected, ended_as, begins, up, onto, past_of, past_from, is_closed}
-use Rattle.sp_history.specs.Legal.{Allowed, MayCome, Follows, LegalFrom, Legal}
+use Rattle.sp_history.specs.Legal.{is_at, Allowed, MayCome, Follows, LegalFrom, Legal}
 use Rattle.sp_history.specs.Once.{occurs, AreApart, begin_count, end_count, took_count, Once}
 
 -- ---- Names
@@ -272,3 +272,70 @@ pub closed_pipes : (z : Setting) (history : List (Turn Entry)) → Legal z histo
 unfolding ClosesPipes
 closed_pipes z history l = pipes_all z [] history (λ p. cc) l
 
+-- ---- Generations
+
+-- a pending operation is the last that was begun at its slot
+Latest : List Entry → Type 0
+Latest past = (op : OpName) → 1 ≤ occurs (pend past) op → op.generation ≡ begins past op.slot
+
+none_at : (ss : List Begun) (slot : ℕ) (op : OpName) → list_any (is_at slot) ss ≡ false → 1 ≤ occurs ss op → (op.slot == slot) ≡ false
+none_at [] slot op h o = absurd (omega arith)
+none_at (s ∷ ss) slot op h o = go (is_of op s) refl (is_at slot s) refl (list_any (is_at slot) ss) refl h o (none_at ss slot op)
+  where
+    go : (b : Bool) → is_of op s ≡ b → (c : Bool) → is_at slot s ≡ c → (d : Bool) → list_any (is_at slot) ss ≡ d → (c || d) ≡ false → 1 ≤ cond b (occurs ss op + 1) (occurs ss op)
+        → (list_any (is_at slot) ss ≡ false → 1 ≤ occurs ss op → (op.slot == slot) ≡ false) → (op.slot == slot) ≡ false
+    go true e false f d g h o again = ap (λ (n : ℕ). n == slot) (sym (same_op-slot s.op op e)) ∙ f
+    go false e false f false g h o again = again g o
+    go false e false f true g h o again = cc
+    go b e true f d g h o again = cc
+
+latest_begin : (past : List Entry) (other op : OpName) (s : Begun) → s.op ≡ other → Latest past → list_any (is_at other.slot) (pend past) ≡ false → other.generation ≡ begins past other.slot + 1
+    → 1 ≤ occurs (pend past ++ s ∷ []) op → op.generation ≡ cond (other.slot == op.slot) (begins past op.slot + 1) (begins past op.slot)
+unfolding Latest
+latest_begin past other op s named h free g o =
+    go (is_of op s) refl (rw (occurs-append (pend past) s op) at o)
+  where
+    go : (b : Bool) → is_of op s ≡ b → 1 ≤ cond b (occurs (pend past) op + 1) (occurs (pend past) op) → op.generation ≡ cond (other.slot == op.slot) (begins past op.slot + 1) (begins past op.slot)
+    go true e k =
+        let same : other ≡ op = sym named ∙ same_op-eq s.op op e in
+        let g' : op.generation ≡ begins past op.slot + 1 = subst (λ (o : OpName). o.generation ≡ begins past o.slot + 1) same g in
+        let slot : (other.slot == op.slot) ≡ true = grind (arith, nat_tests, ap (λ (o : OpName). o.slot) same) in
+        rw slot g'
+    go false e k =
+        let apart : (op.slot == other.slot) ≡ false = none_at (pend past) other.slot op free k in
+        let slot : (other.slot == op.slot) ≡ false = grind (arith, nat_tests, apart) in
+        rw slot (h op k)
+
+fewer_pending : (ss : List Begun) (other op : OpName) → 1 ≤ occurs (without_begun ss other) op → 1 ≤ occurs ss op
+fewer_pending ss other op h = go (same_op other op) refl
+  where
+    go : (b : Bool) → same_op other op ≡ b → 1 ≤ occurs ss op
+    go true e =
+        let same : other ≡ op = same_op-eq other op e in
+        let gone : occurs (without_begun ss other) op ≡ 0 = subst (λ (o : OpName). occurs (without_begun ss other) o ≡ 0) same (occurs-without ss other) in
+        absurd (omega arith)
+    go false e = let same = occurs-without_other ss other op e in omega (arith, h, same)
+
+not_any : (a b : Bool) → (not a && not b) ≡ true → a ≡ false
+not_any true b h = cc
+not_any false b h = refl
+
+latest_next : (z : Setting) (k : ℕ) (past : List Entry) (e : Entry) → Latest past → MayCome z k past e → Latest (e ∷ past)
+unfolding Latest
+latest_next z k past (Begin other caller c act d) h a =
+    λ op o. latest_begin past other op (record { op = other; ctx = c; act = act }) refl h (not_any (list_any (is_at other.slot) (pend past)) _ a.slot_free) a.generation o
+latest_next z k past (End other ending) h a = λ op o. h op (fewer_pending (pend past) other op o)
+latest_next z k past _ h a = h
+
+latest_turn : (z : Setting) (k : ℕ) (past entries : List Entry) → Latest past → Follows z k past entries → Latest (onto entries past)
+latest_turn z k past [] h f = h
+latest_turn z k past (e ∷ entries) h f = latest_turn z k (e ∷ past) entries (latest_next z k past e h f.0.itself) f.1
+
+latest_all : (z : Setting) (past : List Entry) (history : List (Turn Entry)) → Latest past → LegalFrom z past history → Latest (past_from past history)
+latest_all z past [] h l = h
+latest_all z past (t ∷ history) h l = latest_all z (onto t.entries past) history (latest_turn z t.number past t.entries h l.0.entries) l.1
+
+pub pending_is_latest : (z : Setting) (history : List (Turn Entry)) (op : OpName) (s : Begun) → Legal z history → pending (past_of history) op ≡ Some s → op.generation ≡ begins (past_of history) op.slot
+unfolding Latest
+pending_is_latest z history op s l p =
+    latest_all z [] history (λ op o. absurd (omega arith)) l op (occurs-find (pend (past_of history)) op s p)

@@ -16,6 +16,8 @@ use Rattle.sp_history.specs.declared.setting.Setting.{Setting}
 use Rattle.sp_history.specs.Setting.{has_requests, has_topics, has_stored, is_reply}
 use Rattle.sp_history.specs.declared.parts.Begun.{Begun}
 use Rattle.sp_history.specs.declared.parts.Item.{Item}
+use Rattle.sp_history.specs.declared.parts.Keeping.{Keeping}
+use Rattle.sp_history.specs.declared.parts.Keeping.TheVariants.{Everywhere, Nowhere, Below}
 use Rattle.sp_history.specs.declared.parts.Origin.{Origin}
 use Rattle.sp_history.specs.declared.parts.Request.{Request}
 use Rattle.sp_history.specs.Frames.{item_of, malformed}
@@ -64,21 +66,31 @@ is_from p i = i.pipe == p
 abbrev pub after_down : Setting → ℕ → List Item → List Item
 after_down z p items = if is_reply z.role then filter (λ i. not (is_from p i)) items else items
 
+-- the context keeps its copy of the frame
+abbrev pub keeps : Keeping → ℕ → Bool
+keeps Everywhere c = true
+keeps Nowhere c = false
+keeps (Below d) c = nat_lt c d
+
+-- the items of the pool of this number, where the last entry, if it is a frame, is kept so
+abbrev pub pool_keeping : Setting → Keeping → List Entry → ℕ → List Item
+pool_keeping z how [] c = []
+pool_keeping z how (Unkept p ∷ past) c = pool_keeping z Nowhere past c
+pool_keeping z how (Dry d ∷ past) c = pool_keeping z (Below d) past c
+pool_keeping z how (Frame p b ∷ past) c =
+    if keeps how c then after_frame z past c p b (pool_keeping z Everywhere past c) else pool_keeping z Everywhere past c
+pool_keeping z how (End op (Won (Received m)) ∷ past) c =
+    if is_on_pool z c (pending past op) then drop 1 (pool_keeping z Everywhere past c) else pool_keeping z Everywhere past c
+pool_keeping z how (Topic d t Off ∷ past) c =
+    if d == c then filter (λ i. is_wanted_by (topics (Topic d t Off ∷ past) c) i.message.body) (pool_keeping z Everywhere past c) else pool_keeping z Everywhere past c
+pool_keeping z how (Down p why ∷ past) c = after_down z p (pool_keeping z Everywhere past c)
+pool_keeping z how (Ctx d Shut ∷ past) c = if d == c then [] else pool_keeping z Everywhere past c
+pool_keeping z how (Close totals ∷ past) c = []
+pool_keeping z how (_ ∷ past) c = pool_keeping z Everywhere past c
+
 -- the items of the pool of this number; a number that is none has none
 abbrev pub pool : Setting → List Entry → ℕ → List Item
-pool z [] c = []
--- a frame for which there was no memory is kept nowhere; one that ran out of it is kept for the contexts before
-pool z (Unkept p ∷ Frame q b ∷ past) c = pool z past c
-pool z (Dry d ∷ Frame p b ∷ past) c = if nat_lt c d then after_frame z past c p b (pool z past c) else pool z past c
-pool z (Frame p b ∷ past) c = after_frame z past c p b (pool z past c)
-pool z (End op (Won (Received m)) ∷ past) c =
-    if is_on_pool z c (pending past op) then drop 1 (pool z past c) else pool z past c
-pool z (Topic d t Off ∷ past) c =
-    if d == c then filter (λ i. is_wanted_by (topics (Topic d t Off ∷ past) c) i.message.body) (pool z past c) else pool z past c
-pool z (Down p why ∷ past) c = after_down z p (pool z past c)
-pool z (Ctx d Shut ∷ past) c = if d == c then [] else pool z past c
-pool z (Close totals ∷ past) c = []
-pool z (_ ∷ past) c = pool z past c
+pool z past c = pool_keeping z Everywhere past c
 
 -- ---- What is kept
 

@@ -1,10 +1,10 @@
 //! Laws of the definitions.
 
-ghost use Rattle.std.specs.Prelude.{is_some, ◌↔◌, ◌≡◌, ℕ, List, [], ◌∷◌, ◌++◌, ◌≤◌, true, false};
+ghost use Rattle.std.specs.Prelude.{Some, is_some, ◌↔◌, ◌≡◌, ℕ, List, [], ◌∷◌, ◌++◌, ◌≤◌, true, false};
 ghost use Rattle.sp_history.specs.declared.entry.Turn.{Turn};
 ghost use Rattle.sp_history.specs.declared.entry.Entry.{Entry};
 ghost use Rattle.sp_history.specs.declared.setting.Setting.{Setting};
-ghost use Rattle.sp_history.specs.Past.{onto, past_of, is_closed, up, pending};
+ghost use Rattle.sp_history.specs.Past.{onto, past_of, is_closed, up, pending, begins};
 ghost use Rattle.sp_history.specs.declared.parts.Begun.{Begun};
 ghost use Rattle.sp_history.specs.declared.entry.Message.{Message};
 ghost use Rattle.sp_history.specs.Lists.{has};
@@ -65,10 +65,12 @@ pub fn a_turn_ends()
     ensures settled { (t : Moment) (l : Lawful t) → Settled t.z l.history → SettledBy t.z (past t) t.turn → Settled t.z (l.history ++ turn_of t ∷ []) }
 {}
 
-/// In a legal history no pipe is up twice, none is up when the socket is closed, and what has ended is no longer pending.
+/// In a legal history no pipe is up twice, none is up when the socket is closed, a pending operation is the last of its
+/// slot, and what has ended is no longer pending.
 pub fn names_are_apart()
     ensures pipes { (z : Setting) (history : List (Turn Entry)) → Legal z history → AreDistinct (up (past_of history)) }
     ensures closed { (z : Setting) (history : List (Turn Entry)) → Legal z history → is_closed (past_of history) ≡ true → up (past_of history) ≡ [] }
+    ensures latest { (z : Setting) (history : List (Turn Entry)) (op : OpName) (s : Begun) → Legal z history → pending (past_of history) op ≡ Some s → op.generation ≡ begins (past_of history) op.slot }
     ensures gone { (z : Setting) (history : List (Turn Entry)) (op : OpName) → Legal z history → 1 ≤ end_count (past_of history) op → is_some (pending (past_of history) op) ≡ false }
 {}
 
