@@ -138,7 +138,7 @@ pub record AfterGiveBack (link : LinkView) (old new : NetView) : Type 0 where
 -- ---- the pace, the sink, the files
 
 abbrev pub AfterTurn : Paced → PaceView → PaceView → Type 0
-AfterTurn (paced.At tick) old new = (old.left ≡ new.left + 1) × (old.latest ≤ tick.0) × (new.latest ≡ tick.0)
+AfterTurn (paced.At tick) old new = (old.left ≡ new.left + 1) × (old.latest ≤ tick) × (new.latest ≡ tick)
 AfterTurn paced.Over old new = (old.left ≡ 0) × (new.left ≡ 0) × (new.latest ≡ old.latest)
 
 -- a front of the piece went out before the fault

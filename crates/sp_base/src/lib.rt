@@ -21,9 +21,21 @@ pub use outside::{
 };
 pub use role::Role;
 
+use std::marker::Model;
+
 /// A moment in milliseconds.
 #[derive(Clone, Copy, Debug, PartialEq, Eq, PartialOrd, Ord)]
 pub struct Tick(pub u64);
+
+impl Model for Tick {
+    ghost use Rattle.std.specs.Prelude.{ℕ};
+
+    ghost Value = { ℕ };
+
+    ghost view = { λ x. x.0 };
+
+    ghost inverse = { λ n. record { 0 = n } };
+}
 
 /// The name of an operation: the slot that it has, and how many operations that slot has had with it.
 #[derive(Clone, Copy, Debug, PartialEq, Eq)]
@@ -36,6 +48,26 @@ pub struct OpName {
 #[derive(Clone, Copy, Debug, PartialEq, Eq, PartialOrd, Ord)]
 pub struct PipeId(pub u32);
 
+impl Model for PipeId {
+    ghost use Rattle.std.specs.Prelude.{ℕ};
+
+    ghost Value = { ℕ };
+
+    ghost view = { λ x. x.0 };
+
+    ghost inverse = { λ n. record { 0 = n } };
+}
+
 /// A context of a socket. Number 0 is the socket's own.
 #[derive(Clone, Copy, Debug, PartialEq, Eq, PartialOrd, Ord)]
 pub struct Ctx(pub u32);
+
+impl Model for Ctx {
+    ghost use Rattle.std.specs.Prelude.{ℕ};
+
+    ghost Value = { ℕ };
+
+    ghost view = { λ x. x.0 };
+
+    ghost inverse = { λ n. record { 0 = n } };
+}
