@@ -89,7 +89,10 @@ fn messages_that_came_whole_are_printed_before_the_end(rt: HostRuntime) -> Resul
 fn bytes_that_are_not_visible_are_dots(rt: HostRuntime) -> Result<(), Fail> {
     let came = one(
         &rt,
-        &[HELLO_80, b"\x00\x00\x00\x00\x00\x00\x00\x06\x1f\x20~\x7f\n\xff"],
+        &[
+            HELLO_80,
+            b"\x00\x00\x00\x00\x00\x00\x00\x06\x1f\x20~\x7f\n\xff",
+        ],
         false,
     )?;
     assert_eq!(rt; came.printed.as_slice(), b". ~...\n".as_slice());

@@ -1,6 +1,6 @@
 //! What the tests run, and what they compare.
-use cat_run::{Status, run};
 use crate::TURNS;
+use cat_run::{Status, run};
 use sp_base::{Bytes, NoMemory};
 use sp_fakes::{LinkStep, MemFiles, MemLink, MemNet, MemPace, MemSink};
 use std::alloc::Global;

@@ -21,7 +21,10 @@ fn words_outside_the_six_are_refused_at_their_place(rt: HostRuntime) -> Result<(
             &["--pull", "--listen", A, "--ascii", "--count", "4294967296"],
             5,
         ),
-        (&["--pull", "--listen", A, "--ascii", "--count", "1", "x"], 6),
+        (
+            &["--pull", "--listen", A, "--ascii", "--count", "1", "x"],
+            6,
+        ),
     ];
     for (texts, at) in wrong {
         let came = unlinked(&rt, texts)?;
@@ -59,14 +62,7 @@ fn a_failing_output_ends_the_run(rt: HostRuntime) -> Result<(), Fail> {
         false,
         1_000_000,
     )?)?;
-    let came = play(
-        &rt,
-        SIX,
-        links,
-        Vec::new(alloc),
-        vec![in alloc; 0]?,
-        TURNS,
-    )?;
+    let came = play(&rt, SIX, links, Vec::new(alloc), vec![in alloc; 0]?, TURNS)?;
     assert_eq!(rt; came.status, Status::OutFault);
     assert_eq!(rt; came.status.code(), 5);
     Ok(())
