@@ -13,7 +13,7 @@ use Rattle.turn_lock.specs.declared.view.Told.TheVariants.{Of}
 use Rattle.turn_lock.specs.declared.view.Stage.{Stage}
 use Rattle.turn_lock.specs.declared.view.Stage.TheVariants.{Fresh, Opening, Dealer, Idle, Inside, Ended, Closer}
 use Rattle.turn_lock.specs.declared.view.View.{View}
-use Rattle.turn_lock.specs.History.{Fits, IsTrueOf}
+use Rattle.turn_lock.specs.History.{IsTrueOf}
 use Rattle.turn_lock.specs.Rule.{Slot, bare, out, Draws, IsBare, IsHolder, IsNumbered, IsFirst, Deals, Apart, Knows, SlotFits, Turned, spent, closer}
 use Rattle.turn_lock.specs.Plays.{at, dealer, SeatState, shut, told, told_by, with_told}
 use Rattle.turn_lock.proofs.Keeps.{set_there, apart_moves, deals_same, slot_kept, moved, still, grown, me_is}

@@ -44,7 +44,7 @@ impl<S: Stands> TurnLock<S> {
         self.table.shared.load::<Tell>(seat, 0);
     }
 
-    // Learns that no turn is of a caller that never was.
+    // Learns that no turn is of a caller that never was. `callers` is read by the contract alone.
     fn take_first(&self, seat: &mut LockSeat<S>, first: LockSeat<S>, callers: u32)
         requires lock { seat.old.table_id ≡ lock_id self.now }
         requires ended { IsAtEnd seat.old.me }

@@ -1,6 +1,6 @@
 //! A lock whose callers take turns, and whose history is known to the proofs: what each turn added, by whom, in one order.
 //!
-//! The lock is a ticket lock over a table of two words, the next ticket and the ticket that is served, and one slot, in which the state lies. A caller draws a ticket, waits until it is served, takes the state out of the slot, works on it, puts it back, and serves the next ticket. No call refuses, and only `new` takes memory. `enter` waits by yielding.
+//! The lock is a ticket lock over a table of two words, the next ticket and the ticket that is served, and one slot, in which the state lies. A caller draws a ticket, waits until it is served, takes the state out of the slot, works on it, puts it back, and serves the next ticket. `new` alone takes memory, and is refused where there is none; no other call refuses. `enter` waits by yielding.
 //!
 //! Who owns what: the slot owns the state while the lock is free, and the caller that has the turn owns it else. A `TurnPass` is a caller's right to take turns, one for each number, and a `PassList` keeps those that no caller has.
 //!
