@@ -116,7 +116,10 @@ fn main(rt: HostRuntime) -> io::Result<()> {
         let micros = start.elapsed(&rt)?.as_micros().max(1);
         let messages = u128::from(ran.messages) * 1_000_000 / micros;
         let bytes = u128::from(ran.bytes) * 1_000_000 / micros;
-        println!(rt; "{size}: {} messages, {} bytes, {} writes", ran.messages, ran.bytes, ran.writes)?;
+        println!(rt;
+            "{size}: {} messages, {} bytes, {} writes",
+            ran.messages, ran.bytes, ran.writes
+        )?;
         eprintln!(rt; "{size}: {messages} messages/s, {bytes} bytes/s")?;
     }
     Ok(())
