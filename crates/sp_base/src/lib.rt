@@ -20,7 +20,6 @@ pub use outside::{
     Files, Link, LinkRead, LinkWrite, Linked, Listened, Net, Pace, Paced, Sink, Sunk, Whole,
 };
 pub use role::Role;
-
 use std::marker::Model;
 
 /// A moment in milliseconds.

@@ -1,12 +1,12 @@
 -- What a wire over a link shows at every moment.
-use Rattle.std.proofs.Common.{◌≡◌, ◌≤◌, ◌<◌, ◌+◌, ◌-◌, ◌^◌, ◌++◌, ℕ, true, false, List, [], ◌∷◌, length, take, drop, Option, Some, None, refl, sym, ap, subst, ◌∙◌, arith}
+use Rattle.std.proofs.Common.{◌≡◌, ◌<◌, ◌^◌, ◌++◌, ℕ, false, List, [], ◌∷◌, length, take, drop, Option, Some, None, refl, sym, ap, subst, ◌∙◌, arith}
 use Rattle.std.proofs.lemmas.List.{length-take, take-append-le, take-append-drop}
 use Rattle.sp_spec.specs.SpTcp.{frame, frames, text, shows, begins, IsOversize}
 use Rattle.sp_spec.specs.Outside.{Told, IsFront}
 use Rattle.sp_spec.proofs.Shows.{frames-cons, shows-front, length-frame}
 use Rattle.sp_tcp.specs.Inlets.{IsPart, IsTooLong}
 use Rattle.sp_tcp.specs.Outlets.{SentWithin}
-use Rattle.sp_tcp.specs.TcpWires.{number_in, told_number, taken_in, put_in, ReadsAs, WritesAs, TcpState, wire_of, tcp_view, Holds, ShowsIn, WrittenIn, CutShort, Framed, AllShown, NextFits, NextTooLong}
+use Rattle.sp_tcp.specs.TcpWires.{number_in, taken_in, put_in, ReadsAs, WritesAs, TcpState, tcp_view, Holds, ShowsIn, WrittenIn, CutShort, Framed, AllShown, NextFits, NextTooLong}
 use Rattle.sp_tcp.proofs.Gathers.{frames-nil}
 use Rattle.sp_tcp.proofs.Framing
 

@@ -1,6 +1,6 @@
 -- A new wire over a link.
-use Rattle.std.proofs.Common.{◌≡◌, ◌≤◌, ◌<◌, ◌^◌, ◌++◌, ℕ, true, false, List, [], length, Option, Some, None, refl, sym, ap, subst, ◌∙◌, append-nil, arith, lit<}
-use Rattle.sp_spec.specs.SpTcp.{hello, frames, text}
+use Rattle.std.proofs.Common.{◌≡◌, ◌<◌, ◌^◌, ◌++◌, ℕ, true, false, List, [], Option, Some, None, refl, sym, ap, subst, ◌∙◌, append-nil, arith, lit<}
+use Rattle.sp_spec.specs.SpTcp.{hello, text}
 use Rattle.sp_spec.specs.Outside.{Told}
 use Rattle.sp_base.specs.Views.{LinkView}
 use Rattle.sp_base.specs.Roles.{role_number, role_peer}
@@ -8,7 +8,7 @@ use Rattle.sp_base.specs.declared.role.Role.{Role}
 use Rattle.sp_base.specs.declared.role.Role.TheVariants as r
 use Rattle.sp_msg.specs.Marks.{wire_view, fresh_marks}
 use Rattle.sp_tcp.specs.Views.{OutletView}
-use Rattle.sp_tcp.specs.TcpWires.{greatest, told_number, taken_in, put_in, none_of, ReadsAs, WritesAs, TcpState, wire_name, tcp_view, Holds, Met, IsNewWire}
+use Rattle.sp_tcp.specs.TcpWires.{taken_in, put_in, none_of, ReadsAs, WritesAs, TcpState, wire_name, tcp_view, Holds, Met, IsNewWire}
 use Rattle.sp_tcp.proofs.Gathers.{frames-nil}
 use Rattle.sp_tcp.proofs.Framing.{reads_taken, writes_taken}
 use Rattle.sp_tcp.proofs.Framed.{framed}

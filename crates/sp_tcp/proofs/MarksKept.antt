@@ -1,5 +1,5 @@
 -- What the marks say stays true over each call.
-use Rattle.std.proofs.Common.{◌≡◌, ◌≤◌, ◌<◌, ◌+◌, ◌-◌, ◌^◌, ◌++◌, ◌⊎◌, ℕ, Bool, true, false, List, [], length, min, refl, sym, ap, ◌∙◌, inl, inr, arith}
+use Rattle.std.proofs.Common.{◌≡◌, ◌≤◌, ◌<◌, ◌⊎◌, ℕ, Bool, true, false, List, refl, ◌∙◌, arith}
 use Rattle.sp_spec.specs.Outside.{Rose}
 use Rattle.sp_base.specs.Views.{LinkView}
 use Rattle.sp_msg.specs.Marks.{one_more, marks_pulled, marks_roomed, marks_flushed, marks_shut}

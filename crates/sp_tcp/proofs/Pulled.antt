@@ -1,19 +1,16 @@
 -- What a pull of a wire over a link comes to.
-use Rattle.std.proofs.Common.{◌≡◌, ◌≢◌, ◌≤◌, ◌<◌, ◌+◌, ◌-◌, ◌^◌, ◌++◌, ℕ, Bool, true, false, List, [], ◌∷◌, length, Option, Some, None, refl, sym, ap, subst, ◌∙◌, append-nil, arith}
+use Rattle.std.proofs.Common.{◌≡◌, ◌≤◌, ◌++◌, ℕ, true, false, List, [], ◌∷◌, length, Option, Some, refl, sym, ap, subst, ◌∙◌, append-nil}
 use Rattle.sp_spec.specs.SpTcp.{frame, frames, shows, Fit, IsOversize}
-use Rattle.sp_spec.specs.Outside.{Told, Rose}
+use Rattle.sp_spec.specs.Outside.{Told}
 use Rattle.sp_spec.proofs.Shows.{frames-cons}
 use Rattle.sp_base.specs.Views.{LinkView}
-use Rattle.sp_base.specs.Steps.{Came}
-use Rattle.sp_msg.specs.Views.{WireView, WireName, OverLink, MessageView}
+use Rattle.sp_msg.specs.Views.{OverLink, MessageView}
 use Rattle.sp_msg.specs.Marks.{marks_pulled}
-use Rattle.sp_msg.specs.Wires.{AfterPull, with_text, came_after, IsBare}
+use Rattle.sp_msg.specs.Wires.{AfterPull, came_after, IsBare}
 use Rattle.sp_msg.specs.declared.wire.WireIn.{WireIn}
 use Rattle.sp_msg.specs.declared.wire.WireIn.TheVariants as ins
 use Rattle.sp_msg.proofs.Shown.{after_pull}
-use Rattle.sp_tcp.specs.Views.{TcpView}
-use Rattle.sp_tcp.specs.Links.{ReadCounts}
-use Rattle.sp_tcp.specs.Inlets.{IsPart, PullAnswer, PulledFrom}
+use Rattle.sp_tcp.specs.Inlets.{PullAnswer, PulledFrom}
 use Rattle.sp_tcp.specs.TcpWires.{number_in, told_number, taken_in, put_in, WritesAs, TcpState, wire_name, wire_of, tcp_view, Holds, Framed, PullCause, TcpPulled}
 use Rattle.sp_tcp.proofs.Gathers.{frames-nil}
 use Rattle.sp_tcp.proofs.MarksKept.{pulled_marks, ready_pulled}

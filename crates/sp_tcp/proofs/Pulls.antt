@@ -1,14 +1,12 @@
 -- A pull that goes on.
-use Rattle.std.proofs.Common.{◌≡◌, ◌≢◌, ◌≤◌, ◌<◌, ◌+◌, ◌-◌, ◌^◌, ◌++◌, ◌⊎◌, ℕ, List, [], length, min, Option, Some, None, refl, sym, ap, subst, ◌∙◌, false, inl, inr, append-nil, append_assoc, arith}
+use Rattle.std.proofs.Common.{◌≡◌, ◌≤◌, ◌<◌, ◌+◌, ◌-◌, ◌++◌, ◌⊎◌, ℕ, List, [], length, Option, Some, None, refl, sym, ap, subst, ◌∙◌, false, inl, inr, append-nil, append_assoc, arith}
 use Rattle.std.proofs.lemmas.List.{length-append}
-use Rattle.sp_spec.specs.SpTcp.{size_of, frame}
 use Rattle.sp_spec.specs.Outside.{Rose, grown}
 use Rattle.sp_base.specs.Views.{LinkView}
 use Rattle.sp_base.specs.Steps.{Came, Quiet}
 use Rattle.sp_msg.specs.declared.wire.WireIn.{WireIn}
-use Rattle.sp_msg.specs.declared.wire.WireIn.TheVariants as ins
 use Rattle.sp_tcp.specs.Links.{ReadCounts}
-use Rattle.sp_tcp.specs.Inlets.{IsPart, IsTooLong, PullAnswer, PulledFrom}
+use Rattle.sp_tcp.specs.Inlets.{IsPart, PullAnswer, PulledFrom}
 
 pub record PullGoing (max : ℕ) (old now : List ℕ) (link link' : LinkView) : Type 0 where
   pub piece : List ℕ

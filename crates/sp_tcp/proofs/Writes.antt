@@ -1,11 +1,11 @@
 -- Writing, one piece after the other.
-use Rattle.std.proofs.Common.{◌≡◌, ◌≤◌, ◌<◌, ◌+◌, ◌-◌, ◌^◌, ◌++◌, ℕ, List, [], ◌∷◌, length, take, drop, refl, sym, ap, subst, ◌∙◌, inl, inr, append-nil, append_assoc, arith, map, get_or}
-use Rattle.std.proofs.lemmas.List.{length-append, length-take, length-drop, take_at, drop_at, take-append-drop, drop-append-le, take-append-le, take_all}
+use Rattle.std.proofs.Common.{◌≡◌, ◌≤◌, ◌<◌, ◌+◌, ◌-◌, ◌^◌, ◌++◌, ℕ, List, [], ◌∷◌, length, take, drop, refl, sym, ap, ◌∙◌, append-nil, append_assoc, arith, map}
+use Rattle.std.proofs.lemmas.List.{length-append, length-take, length-drop, take-append-drop, take-append-le}
 use Rattle.sp_spec.specs.SpTcp.{frame, frames}
 use Rattle.sp_spec.proofs.Shows.{frames-append, frames-cons, length-frame}
-use Rattle.sp_spec.specs.Outside.{grown, IsFront, Rose}
+use Rattle.sp_spec.specs.Outside.{grown}
 use Rattle.sp_base.specs.Views.{LinkView}
-use Rattle.sp_base.specs.Steps.{Went, Quiet, AfterWrite}
+use Rattle.sp_base.specs.Steps.{Went, AfterWrite}
 use Rattle.sp_base.specs.declared.outside.LinkWrite.{LinkWrite}
 use Rattle.sp_base.specs.declared.outside.LinkWrite.TheVariants as writes
 use Rattle.sp_msg.specs.Views.{MessageView, wire_text}
@@ -14,7 +14,7 @@ use Rattle.sp_tcp.specs.Links.{WriteCounts}
 use Rattle.sp_tcp.specs.Outlets.{SentWithin, IsLongRest, Passed, WroteFront, Wrote, WrotePiece}
 use Rattle.sp_tcp.proofs.Buffers.{take_apart}
 use Rattle.sp_tcp.proofs.Pulls.{grown-nil, grown-grown}
-use Rattle.sp_tcp.proofs.Gathers.{first_of, first_within, long_front, frames-nil}
+use Rattle.sp_tcp.proofs.Gathers.{first_within, long_front, frames-nil}
 
 pub went_none : (l : LinkView) → Went [] l l
 went_none l = record { place = refl; scheme = refl; came = refl; written = grown-nil l.written; is_open = refl }

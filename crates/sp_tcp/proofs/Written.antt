@@ -1,12 +1,12 @@
 -- What the writing of a wire over a link comes to, and what put and shut do.
-use Rattle.std.proofs.Common.{◌≡◌, ◌≤◌, ◌<◌, ◌+◌, ◌-◌, ◌^◌, ◌++◌, ◌⊎◌, ℕ, Bool, true, false, List, [], ◌∷◌, length, Option, Some, None, refl, sym, ap, subst, ◌∙◌, inl, inr, arith}
+use Rattle.std.proofs.Common.{◌≡◌, ◌≤◌, ◌<◌, ◌+◌, ◌^◌, ◌++◌, ℕ, true, false, List, [], ◌∷◌, length, refl, sym, ap, subst, ◌∙◌, inl, inr, arith}
 use Rattle.std.proofs.lemmas.List.{length-append}
-use Rattle.sp_spec.specs.SpTcp.{frames, Fit}
-use Rattle.sp_spec.specs.Outside.{Rose, Told}
+use Rattle.sp_spec.specs.SpTcp.{Fit}
+use Rattle.sp_spec.specs.Outside.{Told}
 use Rattle.sp_spec.proofs.Shows.{Fit-append}
 use Rattle.sp_base.specs.Views.{LinkView}
 use Rattle.sp_base.specs.Steps.{AfterShut as LinkShut}
-use Rattle.sp_msg.specs.Views.{WireView, WireName, OverLink, MessageView, wire_text}
+use Rattle.sp_msg.specs.Views.{OverLink, MessageView, wire_text}
 use Rattle.sp_msg.specs.Marks.{marks_roomed, marks_flushed, marks_put, marks_shut}
 use Rattle.sp_msg.specs.Wires.{AfterRoom, AfterFlush, AfterPut, AfterShut, with_text}
 use Rattle.sp_msg.specs.declared.marks.WireMarks.{WireMarks}
@@ -15,7 +15,7 @@ use Rattle.sp_msg.specs.declared.wire.Room.TheVariants as rooms
 use Rattle.sp_msg.specs.declared.wire.WireFlush.{WireFlush}
 use Rattle.sp_msg.specs.declared.wire.WireFlush.TheVariants as flushes
 use Rattle.sp_msg.proofs.Shown.{WaitsAs, after_room, after_flush, after_put}
-use Rattle.sp_tcp.specs.Views.{TcpView, OutletView}
+use Rattle.sp_tcp.specs.Views.{OutletView}
 use Rattle.sp_tcp.specs.Outlets.{SentWithin, Wrote, FlushAnswer, FlushedFrom}
 use Rattle.sp_tcp.specs.TcpWires.{greatest, told_number, taken_in, put_in, ReadsAs, WritesAs, MarksHold, TcpState, wire_name, wire_of, tcp_view, Holds, Framed, TcpWrote, RoomAfter, RoomCause, FlushCause}
 use Rattle.sp_tcp.proofs.MarksKept.{RoomFacts, flushed_marks, roomed_marks, put_marks, shut_marks, ready_flushed, ready_roomed}

@@ -1,5 +1,5 @@
 -- What writing does to what waits.
-use Rattle.std.specs.Prelude.{◌≡◌, ◌≤◌, ◌<◌, ◌+◌, ◌^◌, ◌++◌, ℕ, List, [], ◌∷◌, length, take, drop}
+use Rattle.std.specs.Prelude.{◌≡◌, ◌<◌, ◌+◌, ◌^◌, ◌++◌, ℕ, List, [], ◌∷◌, length, take, drop}
 use Rattle.sp_spec.specs.SpTcp.{frame, frames}
 use Rattle.sp_spec.specs.Outside.{Rose, IsFront}
 use Rattle.sp_base.specs.Views.{LinkView}

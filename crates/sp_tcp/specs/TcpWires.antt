@@ -1,5 +1,5 @@
 -- What a wire over a link shows, and what ties it to its link.
-use Rattle.std.specs.Prelude.{◌≡◌, ◌≢◌, ◌≤◌, ◌<◌, ◌+◌, ◌-◌, ◌^◌, ◌++◌, ◌⊎◌, ℕ, Bool, true, false, List, [], ◌∷◌, length, take, drop, Option, Some, None}
+use Rattle.std.specs.Prelude.{◌≡◌, ◌≤◌, ◌<◌, ◌-◌, ◌^◌, ◌++◌, ◌⊎◌, ℕ, true, false, List, [], ◌∷◌, length, take, drop, Option, Some, None}
 use Rattle.std.specs.Int.{w16, from_be_bytes}
 use Rattle.sp_spec.specs.SpTcp.{hello, frame, frames, text, shows, Fit, IsOversize}
 use Rattle.sp_spec.specs.Outside.{Rose, Told, IsFront}

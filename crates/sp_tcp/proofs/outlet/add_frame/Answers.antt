@@ -1,6 +1,4 @@
-use Rattle.std.proofs.Common.{◌≡◌, ◌-◌, ◌++◌, ℕ, List, length, ap, sym, ◌∙◌}
-use Rattle.sp_spec.specs.SpTcp.{frame}
-use Rattle.sp_msg.specs.Views.{wire_text}
+use Rattle.std.proofs.Common.{◌≡◌, ◌-◌, ◌++◌, ℕ, List, length, ap, ◌∙◌}
 use Rattle.sp_tcp.specs.Stages.{added}
 use Rattle.sp_tcp.proofs.Gathers.{added_three, frame_is}
 use Rattle.sp_tcp.proofs.outlet.add_frame.Goals as goal

@@ -1,4 +1,4 @@
-use Rattle.std.proofs.Common.{◌≡◌, ◌≤◌, ℕ, length, arith}
+use Rattle.std.proofs.Common.{arith}
 use Rattle.sp_tcp.proofs.Gathers.{gather_first, gather_more, gather_all}
 use Rattle.sp_tcp.proofs.outlet.gather.Goals as goal
 

@@ -1,4 +1,4 @@
-use Rattle.std.proofs.Common.{◌≡◌, ℕ, length, map, refl, ◌∙◌, arith}
+use Rattle.std.proofs.Common.{map, refl, ◌∙◌, arith}
 use Rattle.std.specs.VecDeque.{deque_len}
 use Rattle.sp_msg.specs.Views.{wire_text}
 use Rattle.sp_tcp.proofs.Gathers.{first_of, passing_none, passing_more, within_none, none_left}

@@ -1,4 +1,4 @@
-use Rattle.std.proofs.Common.{◌≡◌, length, map}
+use Rattle.std.proofs.Common.{◌≡◌, map}
 use Rattle.std.specs.VecDeque.{deque_capacity, deque_len}
 use Rattle.sp_msg.specs.Views.{wire_text}
 use Rattle.sp_tcp.proofs.Gathers.{Passing}

@@ -1,4 +1,4 @@
-use Rattle.std.proofs.Common.{◌≡◌, ◌<◌, ◌+◌, ◌++◌, ℕ, List, [], ◌∷◌, length, take, Some, ap, sym, ◌∙◌, append-nil, arith}
+use Rattle.std.proofs.Common.{◌<◌, ◌++◌, ℕ, List, [], ◌∷◌, length, take, Some, ap, sym, ◌∙◌, append-nil, arith}
 use Rattle.sp_msg.specs.Views.{WireView}
 use Rattle.sp_fakes.specs.MemWires.{frames_in, mem_view}
 use Rattle.sp_fakes.specs.declared.wire.WireStep.TheVariants as steps

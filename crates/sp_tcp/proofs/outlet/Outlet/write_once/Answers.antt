@@ -1,9 +1,8 @@
-use Rattle.std.proofs.Common.{◌≡◌, ℕ, map, sym, ap, subst, ◌∙◌}
+use Rattle.std.proofs.Common.{◌≡◌, ℕ, sym, subst, ◌∙◌}
 use Rattle.sp_base.specs.declared.outside.LinkWrite.TheVariants as writes
-use Rattle.sp_msg.specs.Views.{wire_text}
 use Rattle.sp_tcp.specs.Views.{OutletView}
 use Rattle.sp_tcp.specs.Outlets.{WroteFront, WrotePiece}
-use Rattle.sp_tcp.proofs.Writes.{outlet_of, write_fits, took, took_nothing, took_failed}
+use Rattle.sp_tcp.proofs.Writes.{outlet_of, write_fits, took}
 use Rattle.sp_tcp.proofs.outlet.Outlet.write_once.Goals as goal
 
 pub pass_frames-self-inside-requires : goal.pass_frames-self-inside-requires

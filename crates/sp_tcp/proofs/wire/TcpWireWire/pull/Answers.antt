@@ -1,4 +1,4 @@
-use Rattle.std.proofs.Common.{◌≡◌, ℕ, true, refl, sym, ap, subst, ◌∙◌}
+use Rattle.std.proofs.Common.{◌≡◌, true, sym, ap, subst, ◌∙◌}
 use Rattle.sp_msg.specs.declared.marks.WireMarks.{WireMarks}
 use Rattle.sp_tcp.specs.Views.{TcpView}
 use Rattle.sp_tcp.specs.TcpWires.{TcpState, tcp_state}

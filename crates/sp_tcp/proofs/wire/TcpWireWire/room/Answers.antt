@@ -1,6 +1,5 @@
-use Rattle.std.proofs.Common.{◌≡◌, ℕ, true, refl, sym, ap, subst, ◌∙◌}
+use Rattle.std.proofs.Common.{ℕ, sym, subst}
 use Rattle.sp_msg.specs.declared.marks.WireMarks.{WireMarks}
-use Rattle.sp_tcp.specs.Views.{TcpView}
 use Rattle.sp_tcp.specs.TcpWires.{TcpState, tcp_state}
 use Rattle.std.proofs.Common.{length}
 use Rattle.sp_tcp.specs.TcpWires.{RoomAfter}

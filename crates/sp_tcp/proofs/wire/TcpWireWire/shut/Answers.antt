@@ -1,6 +1,5 @@
-use Rattle.std.proofs.Common.{◌≡◌, ℕ, true, refl, sym, ap, subst, ◌∙◌}
+use Rattle.std.proofs.Common.{sym, subst}
 use Rattle.sp_msg.specs.declared.marks.WireMarks.{WireMarks}
-use Rattle.sp_tcp.specs.Views.{TcpView}
 use Rattle.sp_tcp.specs.TcpWires.{TcpState, tcp_state}
 use Rattle.sp_tcp.proofs.Framed.{framed}
 use Rattle.sp_tcp.proofs.Written.{ShutTo, with_shut, shut_holds, shut_shows}
