@@ -6,3 +6,4 @@ pub mod Malformed
 pub mod Giving
 pub mod Turning
 pub mod Claiming
+pub mod Counting

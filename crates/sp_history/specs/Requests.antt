@@ -127,7 +127,8 @@ without_orphan op rs = record rs { orphans = filter (λ o. not (same_op o.op op)
 abbrev pub over_at : Setting → ℕ → Requests → List ℕ
 over_at z t rs = map (λ r. r.ctx) (filter (is_over z t) rs.live)
 
-abbrev pub after_moment : Setting → ℕ → List Begun → Requests → Requests
+-- the surveys that are over at the moment end
+unfoldable pub after_moment : Setting → ℕ → List Begun → Requests → Requests
 after_moment z t ss rs = if is_req z.role then rs else end_on (over_at z t rs) how.Over ss rs
 
 -- ---- What each entry does

@@ -1,6 +1,6 @@
 //! Laws of the definitions.
 
-ghost use Rattle.std.specs.Prelude.{Some, is_some, ◌↔◌, ◌≡◌, ℕ, List, [], ◌∷◌, ◌++◌, ◌≤◌, true, false};
+ghost use Rattle.std.specs.Prelude.{◌+◌, length, Some, is_some, ◌↔◌, ◌≡◌, ℕ, List, [], ◌∷◌, ◌++◌, ◌≤◌, true, false};
 ghost use Rattle.sp_history.specs.declared.entry.Turn.{Turn};
 ghost use Rattle.sp_history.specs.declared.entry.Entry.{Entry};
 ghost use Rattle.sp_history.specs.declared.setting.Setting.{Setting};
@@ -11,13 +11,13 @@ ghost use Rattle.sp_history.specs.Lists.{has};
 ghost use Rattle.sp_history.specs.Sends.{flooded, is_answered_by};
 ghost use Rattle.sp_history.specs.Floods.{Flood, AreAnswers, AreNew, back_onto};
 ghost use Rattle.sp_history.specs.Legal.{LegalTurn, Legal, MayEnd};
-ghost use Rattle.sp_history.specs.Kept.{kept};
+ghost use Rattle.sp_history.specs.Kept.{kept, pool};
 ghost use Rattle.sp_history.specs.Frames.{malformed};
-ghost use Rattle.sp_history.specs.Given.{given, arrived, messages_of, as_pull};
+ghost use Rattle.sp_history.specs.Given.{given, arrived, messages_of, as_pull, given_count, frame_total};
 ghost use Rattle.sp_history.specs.declared.entry.Entry.TheVariants.{Frame};
 ghost use Rattle.sp_history.specs.Claims.{AreClaimed, AreRightEnds};
 ghost use Rattle.sp_history.specs.Sends.{unclaimed};
-ghost use Rattle.sp_history.specs.Setting.{floods};
+ghost use Rattle.sp_history.specs.Setting.{floods, has_requests};
 ghost use Rattle.sp_history.specs.Once.{AreDistinct, Once, begin_count, end_count, up_count, down_count};
 ghost use Rattle.sp_base.specs.declared.OpName.{OpName};
 ghost use Rattle.sp_history.specs.Settled.{SettledBy, Settled};
@@ -84,4 +84,10 @@ pub fn outs_are_claimed()
 /// Receives alone end as received, and sends alone as sent.
 pub fn ends_are_right()
     ensures { (z : Setting) (history : List (Turn Entry)) → Legal z history → AreRightEnds (past_of history) }
+{}
+
+/// Where a socket has no requests, the receives that share a pool never got, with what is kept there, more messages than
+/// frames came: no frame is given twice.
+pub fn gives_each_once()
+    ensures { (z : Setting) (history : List (Turn Entry)) (c : ℕ) → has_requests z ≡ false → Legal z history → given_count z (past_of history) c + length (pool z (past_of history) c) ≤ frame_total (past_of history) }
 {}

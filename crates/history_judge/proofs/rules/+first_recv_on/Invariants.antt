@@ -1,0 +1,5 @@
+use Rattle.std.proofs.Common.{length}
+use Rattle.history_judge.proofs.rules.+first_recv_on.Given as goal
+
+abbrev pub decreases-first_recv_on : goal.decreases-first_recv_on
+decreases-first_recv_on l = length l.ss

@@ -1,0 +1,108 @@
+//! What can be wrong with a history.
+
+/// What a history is found to be.
+#[derive(Clone, Copy, Debug, PartialEq, Eq)]
+pub enum Verdict {
+    /// It is legal, and each of its turns leaves the socket settled.
+    Right,
+    /// It is not legal. The fault is the first that is found.
+    Illegal(Fault),
+    /// It is legal, and the first turn that leaves something undone leaves this.
+    Unsettled(Fault),
+}
+
+/// What is wrong.
+#[derive(Clone, Copy, Debug, PartialEq, Eq)]
+pub enum Fault {
+    /// The number of a turn is no caller's.
+    NoSuchCaller,
+    /// The turn begins with an entry that speaks of the one before it.
+    BeginsInMidTurn,
+    /// Something comes between an entry and what has to follow it at once.
+    Interrupted,
+    /// It comes after the close.
+    AfterClose,
+    /// Pipes and contexts are numbered from 1 on.
+    WrongNumber,
+    /// A pair has one pipe.
+    SecondPipe,
+    /// The pipe isn't up.
+    NotUp,
+    /// The pipe has to go down as malformed first.
+    IsMalformed,
+    /// No frame of the pipe is wanted.
+    NotWanted,
+    /// There is no frame of the pipe just before that could be kept.
+    NoFrameBefore,
+    /// The wire isn't the first that is left to be taken.
+    NotNextTaken,
+    /// The caller isn't the turn's.
+    OtherCaller,
+    NoSuchSlot,
+    /// The last operation of the slot was not collected.
+    SlotTaken,
+    WrongGeneration,
+    WornSlot,
+    /// The role doesn't do this.
+    RoleCannot,
+    /// The context isn't open.
+    NoSuchContext,
+    /// The protocol's state doesn't allow it.
+    WrongState,
+    /// The operation isn't pending.
+    NotPending,
+    /// A send can't receive.
+    NotReceive,
+    /// A receive can't be sent.
+    NotSend,
+    /// An earlier receive of the context is pending.
+    NotFirst,
+    /// The message isn't the oldest that is kept.
+    NotOldest,
+    /// The request of the receive isn't live.
+    RequestOver,
+    /// The send was not put on the pipes that it goes to.
+    NotSent,
+    /// This seat can't end an operation so.
+    WrongSeat,
+    NotSuperseded,
+    SurveyNotOver,
+    /// The operation has not ended, or was collected.
+    NothingToCollect,
+    TimeGoesBack,
+    /// The due operations are others.
+    WrongDue,
+    NoContexts,
+    /// The socket's own context stays open.
+    OwnContext,
+    /// An operation of the context, or of the socket, is pending.
+    StillPending,
+    NoTopics,
+    TopicThere,
+    TopicAbsent,
+    /// No copy for the context was due.
+    NothingCopied,
+    /// Pipes are up.
+    StillUp,
+    WrongTotals,
+    /// The turn leaves up a pipe of which a frame was malformed.
+    MalformedStaysUp,
+    /// The turn leaves an Out of which no send is won.
+    OutUnclaimed,
+    /// The turn leaves up a pipe of which a frame was not kept.
+    UnkeptStaysUp,
+    /// Operations ended for a close that didn't come.
+    NotShut,
+    /// Pipes went down for a close that didn't come.
+    NotClosed,
+    /// A send that goes to all pipes didn't end in its turn.
+    FloodPending,
+    /// A receive is left pending beside a message that is kept.
+    ReceiveWaits,
+    /// A send is left pending beside a pipe that was not found full.
+    SendWaits,
+    /// A request is left that could go out again.
+    RequestWaits,
+    /// An operation is left pending whose request has ended.
+    OrphanWaits,
+}

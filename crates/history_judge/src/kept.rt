@@ -1,0 +1,646 @@
+//! Kept messages, and where a send goes.
+
+ghost use Rattle.std.specs.Prelude.{◌≡◌, ◌++◌, ◌∷◌, [], ◌&&◌, ◌||◌, IfOk, filter, find, not, drop, if◌then◌else◌};
+ghost use Rattle.std.specs.List.{list_any};
+ghost use Rattle.std.specs.Option.{option_map};
+ghost use Rattle.sp_history.specs.Lists.{has, same_bytes, same_op, matches, head_of};
+ghost use Rattle.sp_history.specs.Past.{pending};
+ghost use Rattle.sp_history.specs.Requests.{wire_of};
+ghost use Rattle.sp_history.specs.Kept.{pool_of, is_wanted_by, takes, add_item, add_discarding, add_for, after_frame, is_on_pool, is_from, after_down, keeps, pool_keeping, pool, replies_of, kept, has_none_of, wanted_for, wanted, origin_of, is_on_ctx, given_from, stored, route};
+ghost use Rattle.sp_history.specs.Sends.{is_origin, may_go, targets, traced, bytes_for, bytes_of, are_bytes, is_lost, is_due_again, is_resend, unclaimed, is_answered_by, flooded, is_flooded, begun_before, is_first_for, follows_out, goes_nowhere, is_sent};
+ghost use Rattle.history_judge.specs.Story.{entries_of};
+
+use crate::lists::{all_in, first_word, has_ctx, has_pipe, is_empty, is_number, matches, same_bytes, same_op};
+use crate::past::{ctxs, now, pend, pending, topics, up};
+use crate::requests::{after_word, floods, has_requests, has_stored, has_topics, is_reply, item_of, live_on, malformed, request_of, requests, resends, wire_of};
+use crate::story::{Past, copy_bytes};
+use sp_base::{Bytes, Ctx, NoMemory, OpName, PipeId, Role};
+use sp_history::entry::{Act, Ending, Entry, Gate, Message, Outcome, Switch};
+use sp_history::parts::{Begun, Item, Keeping, LastOut, Origin, Request};
+use sp_history::setting::Setting;
+use std::alloc::Global;
+use std::collections::LinkedList;
+
+// ---- Pools
+
+fn pool_of(z: Setting, c: Ctx) -> Ctx
+    ensures { result ≡ pool_of z c }
+{
+    if has_topics(z) { c } else { Ctx(0) }
+}
+
+fn is_wanted_by(ts: &LinkedList<Bytes>, b: &[u8]) -> bool
+    ensures { result ≡ is_wanted_by ts.now b.now }
+{
+    ts.iter().any(|t| matches(b, t.as_slice()))
+}
+
+fn takes(alloc: Global, z: Setting, past: &Past, c: Ctx, b: &[u8]) -> Result<bool, NoMemory>
+    ensures { IfOk result (λ r. r ≡ takes z (entries_of past.now) c b.now) }
+{
+    if malformed(alloc, z, b)? {
+        return Ok(false);
+    }
+    if has_topics(z) {
+        let open = ctxs(alloc, past)?;
+        let ts = topics(alloc, past, c)?;
+        Ok(has_ctx(&open, c) && is_wanted_by(&ts, b))
+    } else {
+        Ok(c.0 == 0)
+    }
+}
+
+fn add_item(i: Option<Item>, items: LinkedList<Item>) -> Result<LinkedList<Item>, NoMemory>
+    ensures { IfOk result (λ r. r ≡ add_item i items) }
+{
+    let mut items = items;
+    match i {
+        None => Ok(items),
+        Some(i) => {
+            items.push_back(i)?;
+            Ok(items)
+        }
+    }
+}
+
+fn without_first(items: LinkedList<Item>) -> LinkedList<Item>
+    ensures { result ≡ drop 1 items }
+{
+    let mut items = items;
+    let _ = items.pop_front();
+    items
+}
+
+fn add_discarding(prefer_new: bool, most: u32, i: Option<Item>, items: LinkedList<Item>) -> Result<LinkedList<Item>, NoMemory>
+    ensures { IfOk result (λ r. r ≡ add_discarding prefer_new most i items) }
+{
+    if items.len() < most as usize {
+        return add_item(i, items);
+    }
+    if prefer_new { add_item(i, without_first(items)) } else { Ok(items) }
+}
+
+fn add_for(z: Setting, i: Option<Item>, items: LinkedList<Item>) -> Result<LinkedList<Item>, NoMemory>
+    ensures { IfOk result (λ r. r ≡ add_for z.role z i items) }
+{
+    match z.role {
+        Role::Sub => add_discarding(z.options.prefer_new, z.options.queue, i, items),
+        Role::Bus => add_discarding(false, z.options.queue, i, items),
+        _ => add_item(i, items),
+    }
+}
+
+fn after_frame(alloc: Global, z: Setting, past: &Past, c: Ctx, p: PipeId, b: &[u8], items: LinkedList<Item>) -> Result<LinkedList<Item>, NoMemory>
+    ensures { IfOk result (λ r. r ≡ after_frame z (entries_of past.now) c p b.now items) }
+{
+    if takes(alloc, z, past, c, b)? {
+        let i = item_of(alloc, z, p, b)?;
+        add_for(z, i, items)
+    } else {
+        Ok(items)
+    }
+}
+
+fn is_on_pool(z: Setting, c: Ctx, s: Option<Begun>) -> bool
+    ensures { result ≡ is_on_pool z c s }
+{
+    match s {
+        None => false,
+        Some(s) => pool_of(z, s.ctx).0 == c.0,
+    }
+}
+
+fn is_from(p: PipeId, i: &Item) -> bool
+    ensures { result ≡ is_from p i.now }
+{
+    i.pipe.0 == p.0
+}
+
+fn not_from(items: LinkedList<Item>, p: PipeId) -> Result<LinkedList<Item>, NoMemory>
+    ensures { IfOk result (λ kept. kept ≡ filter (λ i. not (is_from p i)) items) }
+{
+    let mut items = items;
+    match items.pop_front() {
+        None => Ok(items),
+        Some(x) => {
+            let mut rest = not_from(items, p)?;
+            if !is_from(p, &x) {
+                rest.push_front(x)?;
+            }
+            Ok(rest)
+        }
+    }
+}
+
+fn still_wanted(items: LinkedList<Item>, ts: &LinkedList<Bytes>) -> Result<LinkedList<Item>, NoMemory>
+    ensures { IfOk result (λ kept. kept ≡ filter (λ i. is_wanted_by ts.now i.message.body) items) }
+{
+    let mut items = items;
+    match items.pop_front() {
+        None => Ok(items),
+        Some(x) => {
+            let mut rest = still_wanted(items, ts)?;
+            if is_wanted_by(ts, x.message.body.as_slice()) {
+                rest.push_front(x)?;
+            }
+            Ok(rest)
+        }
+    }
+}
+
+fn after_down(z: Setting, p: PipeId, items: LinkedList<Item>) -> Result<LinkedList<Item>, NoMemory>
+    ensures { IfOk result (λ r. r ≡ after_down z p items) }
+{
+    if is_reply(z.role) { not_from(items, p) } else { Ok(items) }
+}
+
+fn given(alloc: Global, z: Setting, before: &Past, c: Ctx, op: OpName, items: LinkedList<Item>) -> Result<LinkedList<Item>, NoMemory>
+    ensures { IfOk result (λ r. r ≡ (if is_on_pool z c (pending (entries_of before.now) op) then drop 1 items else items)) }
+{
+    if is_on_pool(z, c, pending(alloc, before, op)?) { Ok(without_first(items)) } else { Ok(items) }
+}
+
+fn keeps(how: Keeping, c: Ctx) -> bool
+    ensures { result ≡ keeps how c }
+{
+    match how {
+        Keeping::Everywhere => true,
+        Keeping::Nowhere => false,
+        Keeping::Below(d) => c.0 < d.0,
+    }
+}
+
+fn pool_keeping(alloc: Global, z: Setting, how: Keeping, past: &Past, c: Ctx) -> Result<LinkedList<Item>, NoMemory>
+    ensures { IfOk result (λ r. r ≡ pool_keeping z how (entries_of past.now) c) }
+{
+    match past {
+        Past::Start => Ok(LinkedList::new(alloc)),
+        Past::After(Entry::Unkept(_), before) => pool_keeping(alloc, z, Keeping::Nowhere, before, c),
+        Past::After(Entry::Dry(d), before) => pool_keeping(alloc, z, Keeping::Below(*d), before, c),
+        Past::After(Entry::Frame(p, b), before) => {
+            let items = pool_keeping(alloc, z, Keeping::Everywhere, before, c)?;
+            if keeps(how, c) {
+                after_frame(alloc, z, before, c, *p, b.as_slice(), items)
+            } else {
+                Ok(items)
+            }
+        }
+        Past::After(Entry::End(op, Ending::Won(Outcome::Received(_))), before) => {
+            let items = pool_keeping(alloc, z, Keeping::Everywhere, before, c)?;
+            given(alloc, z, before, c, *op, items)
+        }
+        Past::After(Entry::Topic(d, _, Switch::Off), before) => {
+            let items = pool_keeping(alloc, z, Keeping::Everywhere, before, c)?;
+            if d.0 == c.0 { still_wanted(items, &topics(alloc, past, c)?) } else { Ok(items) }
+        }
+        Past::After(Entry::Down(p, _), before) => {
+            let items = pool_keeping(alloc, z, Keeping::Everywhere, before, c)?;
+            after_down(z, *p, items)
+        }
+        Past::After(Entry::Ctx(d, Gate::Shut), before) => {
+            if d.0 == c.0 {
+                Ok(LinkedList::new(alloc))
+            } else {
+                pool_keeping(alloc, z, Keeping::Everywhere, before, c)
+            }
+        }
+        Past::After(Entry::Close(_), _) => Ok(LinkedList::new(alloc)),
+        Past::After(_, before) => pool_keeping(alloc, z, Keeping::Everywhere, before, c),
+    }
+}
+
+/// The items of the pool of this number.
+fn pool(alloc: Global, z: Setting, past: &Past, c: Ctx) -> Result<LinkedList<Item>, NoMemory>
+    ensures { IfOk result (λ r. r ≡ pool z (entries_of past.now) c) }
+{
+    pool_keeping(alloc, z, Keeping::Everywhere, past, c)
+}
+
+fn replies_of(alloc: Global, r: Option<Request>) -> LinkedList<Item>
+    ensures { result ≡ replies_of r }
+{
+    match r {
+        None => LinkedList::new(alloc),
+        Some(r) => r.replies,
+    }
+}
+
+/// What is kept for a context, the oldest first.
+pub fn kept(alloc: Global, z: Setting, past: &Past, c: Ctx) -> Result<LinkedList<Item>, NoMemory>
+    ensures { IfOk result (λ r. r ≡ kept z (entries_of past.now) c) }
+{
+    if has_requests(z) {
+        let r = live_on(alloc, z, past, c)?;
+        Ok(replies_of(alloc, r))
+    } else {
+        pool(alloc, z, past, pool_of(z, c))
+    }
+}
+
+fn has_none_of(p: PipeId, items: &LinkedList<Item>) -> bool
+    ensures { result ≡ has_none_of p items.now }
+{
+    !any_from(p, items)
+}
+
+fn any_from(p: PipeId, items: &LinkedList<Item>) -> bool
+    ensures { result ≡ list_any (is_from p) items.now }
+{
+    items.iter().any(|i| is_from(p, i))
+}
+
+fn wanted_for(role: Role, raw: bool, p: PipeId, items: &LinkedList<Item>) -> bool
+    ensures { result ≡ wanted_for role raw p items.now }
+{
+    match role {
+        Role::Pair0 => is_empty(items),
+        Role::Pull | Role::Rep | Role::Respondent => has_none_of(p, items),
+        Role::Req | Role::Surveyor => !raw || has_none_of(p, items),
+        _ => true,
+    }
+}
+
+/// Frames of the pipe are wanted.
+pub fn wanted(alloc: Global, z: Setting, past: &Past, p: PipeId) -> Result<bool, NoMemory>
+    ensures { IfOk result (λ r. r ≡ wanted z (entries_of past.now) p) }
+{
+    let items = kept(alloc, z, past, Ctx(0))?;
+    Ok(wanted_for(z.role, z.raw, p, &items))
+}
+
+// ---- Stored requests
+
+fn is_on_ctx(c: Ctx, s: Option<Begun>) -> bool
+    ensures { result ≡ is_on_ctx c s }
+{
+    match s {
+        None => false,
+        Some(s) => s.ctx.0 == c.0,
+    }
+}
+
+fn first_origin(items: LinkedList<Item>) -> Option<Origin>
+    ensures { result ≡ option_map origin_of (head_of items) }
+{
+    let mut items = items;
+    match items.pop_front() {
+        None => None,
+        Some(i) => Some(Origin { pipe: i.pipe, words: i.words }),
+    }
+}
+
+fn given_from(alloc: Global, z: Setting, past: &Past, c: Ctx) -> Result<Option<Origin>, NoMemory>
+    ensures { IfOk result (λ r. r ≡ given_from z (entries_of past.now) c) }
+{
+    match past {
+        Past::Start => Ok(None),
+        Past::After(Entry::End(op, Ending::Won(Outcome::Received(_))), before) => {
+            if is_on_ctx(c, pending(alloc, before, *op)?) {
+                Ok(first_origin(kept(alloc, z, before, c)?))
+            } else {
+                given_from(alloc, z, before, c)
+            }
+        }
+        Past::After(Entry::Begin(_, _, d, _, _), before) => {
+            if d.0 == c.0 { Ok(None) } else { given_from(alloc, z, before, c) }
+        }
+        Past::After(Entry::Ctx(d, Gate::Shut), before) => {
+            if d.0 == c.0 { Ok(None) } else { given_from(alloc, z, before, c) }
+        }
+        Past::After(_, before) => given_from(alloc, z, before, c),
+    }
+}
+
+/// The request that the context's next send answers.
+pub fn stored(alloc: Global, z: Setting, past: &Past, c: Ctx) -> Result<Option<Origin>, NoMemory>
+    ensures { IfOk result (λ r. r ≡ stored z (entries_of past.now) c) }
+{
+    if has_stored(z) { given_from(alloc, z, past, c) } else { Ok(None) }
+}
+
+fn route(alloc: Global, z: Setting, past: &Past, op: OpName) -> Result<Option<Origin>, NoMemory>
+    ensures { IfOk result (λ r. r ≡ route z (entries_of past.now) op) }
+{
+    match past {
+        Past::Start => Ok(None),
+        Past::After(Entry::Begin(other, _, c, _, _), before) => {
+            if same_op(*other, op) { stored(alloc, z, before, *c) } else { route(alloc, z, before, op) }
+        }
+        Past::After(_, before) => route(alloc, z, before, op),
+    }
+}
+
+// ---- Targets and bytes
+
+fn is_origin(o: &Option<Origin>, p: PipeId) -> bool
+    ensures { result ≡ is_origin o.now p }
+{
+    match o {
+        None => false,
+        Some(o) => o.pipe.0 == p.0,
+    }
+}
+
+fn may_go(z: Setting, origin: &Option<Origin>, header: &[u8], p: PipeId) -> bool
+    ensures { result ≡ may_go z.role z.raw origin.now header.now p }
+{
+    match z.role {
+        Role::Rep | Role::Respondent => {
+            if z.raw { is_number(first_word(header), p.0) } else { is_origin(origin, p) }
+        }
+        Role::Bus => !z.raw || !is_number(first_word(header), p.0),
+        _ => true,
+    }
+}
+
+fn may_all_go(pipes: LinkedList<PipeId>, z: Setting, origin: &Option<Origin>, header: &[u8]) -> Result<LinkedList<PipeId>, NoMemory>
+    ensures { IfOk result (λ kept. kept ≡ filter (may_go z.role z.raw origin.now header.now) pipes) }
+{
+    let mut pipes = pipes;
+    match pipes.pop_front() {
+        None => Ok(pipes),
+        Some(x) => {
+            let mut rest = may_all_go(pipes, z, origin, header)?;
+            if may_go(z, origin, header, x) {
+                rest.push_front(x)?;
+            }
+            Ok(rest)
+        }
+    }
+}
+
+/// The pipes to which the send may go.
+pub fn targets(alloc: Global, z: Setting, past: &Past, s: &Begun) -> Result<LinkedList<PipeId>, NoMemory>
+    ensures { IfOk result (λ r. r ≡ targets z (entries_of past.now) s.now) }
+{
+    match &s.act {
+        Act::Recv => Ok(LinkedList::new(alloc)),
+        Act::Send(m) => {
+            let origin = route(alloc, z, past, s.op)?;
+            may_all_go(up(alloc, past)?, z, &origin, m.header.as_slice())
+        }
+    }
+}
+
+fn joined(alloc: Global, front: &[u8], back: &[u8]) -> Result<Bytes, NoMemory>
+    ensures { IfOk result (λ r. r ≡ front.now ++ back.now) }
+{
+    let mut whole = Bytes::from_slice(alloc, front)?;
+    whole.append(back)?;
+    Ok(whole)
+}
+
+fn traced(alloc: Global, origin: &Option<Origin>, body: &Bytes) -> Result<Option<Bytes>, NoMemory>
+    ensures { IfOk result (λ r. r ≡ traced origin.now body.now) }
+{
+    match origin {
+        None => Ok(None),
+        Some(o) => Ok(Some(joined(alloc, o.words.as_slice(), body.as_slice())?)),
+    }
+}
+
+fn asked_bytes(alloc: Global, r: &Option<Request>) -> Result<Option<Bytes>, NoMemory>
+    ensures { IfOk result (λ b. b ≡ option_map wire_of r.now) }
+{
+    match r {
+        None => Ok(None),
+        Some(r) => Ok(Some(wire_of(alloc, r)?)),
+    }
+}
+
+fn bytes_for(alloc: Global, z: Setting, origin: &Option<Origin>, r: &Option<Request>, m: &Message) -> Result<Option<Bytes>, NoMemory>
+    ensures { IfOk result (λ b. b ≡ bytes_for z.role z.raw origin.now r.now m.now) }
+{
+    match z.role {
+        Role::Req | Role::Surveyor => {
+            if z.raw {
+                Ok(Some(joined(alloc, m.header.as_slice(), m.body.as_slice())?))
+            } else {
+                asked_bytes(alloc, r)
+            }
+        }
+        Role::Rep | Role::Respondent => {
+            if z.raw {
+                Ok(Some(joined(alloc, after_word(m.header.as_slice()), m.body.as_slice())?))
+            } else {
+                traced(alloc, origin, &m.body)
+            }
+        }
+        _ => Ok(Some(copy_bytes(alloc, &m.body)?)),
+    }
+}
+
+/// What goes out for the send.
+pub fn bytes_of(alloc: Global, z: Setting, past: &Past, s: &Begun) -> Result<Option<Bytes>, NoMemory>
+    ensures { IfOk result (λ b. b ≡ bytes_of z (entries_of past.now) s.now) }
+{
+    match &s.act {
+        Act::Recv => Ok(None),
+        Act::Send(m) => {
+            let origin = route(alloc, z, past, s.op)?;
+            let r = request_of(alloc, z, past, s)?;
+            bytes_for(alloc, z, &origin, &r, m)
+        }
+    }
+}
+
+fn are_bytes(found: Option<Bytes>, b: &[u8]) -> bool
+    ensures { result ≡ are_bytes found b.now }
+{
+    match found {
+        None => false,
+        Some(a) => same_bytes(a.as_slice(), b),
+    }
+}
+
+// ---- Sending again
+
+fn is_lost(alloc: Global, z: Setting, past: &Past, out: Option<LastOut>) -> Result<bool, NoMemory>
+    ensures { IfOk result (λ r. r ≡ is_lost z (entries_of past.now) out) }
+{
+    let Some(o) = out else {
+        return Ok(false);
+    };
+    let pipes = up(alloc, past)?;
+    let t = now(past);
+    Ok(!has_pipe(&pipes, o.pipe) || z.options.resend <= t.0 && o.when.0 <= t.0 - z.options.resend)
+}
+
+/// The request may go out again.
+pub fn is_due_again(alloc: Global, z: Setting, past: &Past, r: &Request) -> Result<bool, NoMemory>
+    ensures { IfOk result (λ b. b ≡ is_due_again z (entries_of past.now) r.now) }
+{
+    if !is_empty(&r.replies) {
+        return Ok(false);
+    }
+    is_lost(alloc, z, past, r.last_out)
+}
+
+fn any_again(alloc: Global, z: Setting, past: &Past, b: &[u8], live: LinkedList<Request>) -> Result<bool, NoMemory>
+    ensures { IfOk result (λ found. found ≡ list_any (λ r. is_due_again z (entries_of past.now) r && same_bytes (wire_of r) b.now) live) }
+{
+    let mut live = live;
+    match live.pop_front() {
+        None => Ok(false),
+        Some(r) => {
+            let wire = wire_of(alloc, &r)?;
+            if is_due_again(alloc, z, past, &r)? && same_bytes(wire.as_slice(), b) {
+                return Ok(true);
+            }
+            any_again(alloc, z, past, b, live)
+        }
+    }
+}
+
+/// An Out of these bytes is a request that goes out again.
+fn is_resend(alloc: Global, z: Setting, past: &Past, b: &[u8]) -> Result<bool, NoMemory>
+    ensures { IfOk result (λ found. found ≡ is_resend z (entries_of past.now) b.now) }
+{
+    if !resends(z) {
+        return Ok(false);
+    }
+    let rs = requests(alloc, z, past)?;
+    any_again(alloc, z, past, b, rs.live)
+}
+
+// ---- How a send is won
+
+/// An Out of a send waits for the send's End.
+pub fn unclaimed(alloc: Global, z: Setting, past: &Past) -> Result<bool, NoMemory>
+    ensures { IfOk result (λ found. found ≡ unclaimed z (entries_of past.now)) }
+{
+    match past {
+        Past::After(Entry::Out(_, b), before) => Ok(!is_resend(alloc, z, before, b.as_slice())?),
+        Past::After(Entry::Full(_) | Entry::Down(_, _), before) => {
+            if floods(z.role) { unclaimed(alloc, z, before) } else { Ok(false) }
+        }
+        _ => Ok(false),
+    }
+}
+
+fn is_answered_by(alloc: Global, z: Setting, past: &Past, s: &Begun, seen: &LinkedList<PipeId>) -> Result<bool, NoMemory>
+    ensures { IfOk result (λ found. found ≡ is_answered_by z (entries_of past.now) s.now seen.now) }
+{
+    let ts = targets(alloc, z, past, s)?;
+    if !(all_in(&ts, seen) && all_in(seen, &ts)) {
+        return Ok(false);
+    }
+    Ok(!unclaimed(alloc, z, past)?)
+}
+
+#[tactic(auto, using(sp_history::proofs::Flooding::flooded_here))]
+fn flooded(alloc: Global, z: Setting, s: &Begun, b: &[u8], seen: LinkedList<PipeId>, past: &Past) -> Result<bool, NoMemory>
+    ensures { IfOk result (λ found. found ≡ flooded z s.now b.now seen (entries_of past.now)) }
+{
+    if is_answered_by(alloc, z, past, s, &seen)? {
+        return Ok(true);
+    }
+    match past {
+        Past::After(Entry::Out(p, x), before) => {
+            if !same_bytes(x.as_slice(), b) || has_pipe(&seen, *p) {
+                return Ok(false);
+            }
+            let mut seen = seen;
+            seen.push_front(*p)?;
+            flooded(alloc, z, s, b, seen, before)
+        }
+        Past::After(Entry::Full(p) | Entry::Down(p, _), before) => {
+            if has_pipe(&seen, *p) {
+                return Ok(false);
+            }
+            let mut seen = seen;
+            seen.push_front(*p)?;
+            flooded(alloc, z, s, b, seen, before)
+        }
+        _ => Ok(false),
+    }
+}
+
+fn is_flooded(alloc: Global, z: Setting, past: &Past, s: &Begun, b: Option<Bytes>) -> Result<bool, NoMemory>
+    ensures { IfOk result (λ found. found ≡ is_flooded z (entries_of past.now) s.now b) }
+{
+    match b {
+        None => Ok(false),
+        Some(b) => flooded(alloc, z, s, b.as_slice(), LinkedList::new(alloc), past),
+    }
+}
+
+fn begun_before(alloc: Global, op: OpName, ss: LinkedList<Begun>) -> Result<LinkedList<Begun>, NoMemory>
+    ensures { IfOk result (λ found. found ≡ begun_before op ss) }
+{
+    let mut ss = ss;
+    match ss.pop_front() {
+        None => Ok(ss),
+        Some(s) => {
+            if same_op(s.op, op) {
+                return Ok(LinkedList::new(alloc));
+            }
+            let mut rest = begun_before(alloc, op, ss)?;
+            rest.push_front(s)?;
+            Ok(rest)
+        }
+    }
+}
+
+fn any_for(alloc: Global, z: Setting, past: &Past, p: PipeId, ss: LinkedList<Begun>) -> Result<bool, NoMemory>
+    ensures { IfOk result (λ found. found ≡ list_any (λ other. has (targets z (entries_of past.now) other) p) ss) }
+{
+    let mut ss = ss;
+    match ss.pop_front() {
+        None => Ok(false),
+        Some(s) => {
+            let ts = targets(alloc, z, past, &s)?;
+            if has_pipe(&ts, p) {
+                return Ok(true);
+            }
+            any_for(alloc, z, past, p, ss)
+        }
+    }
+}
+
+fn is_first_for(alloc: Global, z: Setting, past: &Past, s: &Begun, p: PipeId) -> Result<bool, NoMemory>
+    ensures { IfOk result (λ found. found ≡ is_first_for z (entries_of past.now) s.now p) }
+{
+    let earlier = begun_before(alloc, s.op, pend(alloc, past)?)?;
+    Ok(!any_for(alloc, z, past, p, earlier)?)
+}
+
+fn follows_out(alloc: Global, z: Setting, s: &Begun, past: &Past) -> Result<bool, NoMemory>
+    ensures { IfOk result (λ found. found ≡ follows_out z s.now (entries_of past.now)) }
+{
+    match past {
+        Past::After(Entry::Out(p, b), before) => {
+            let ts = targets(alloc, z, before, s)?;
+            let bytes = bytes_of(alloc, z, before, s)?;
+            if !(has_pipe(&ts, *p) && are_bytes(bytes, b.as_slice())) {
+                return Ok(false);
+            }
+            is_first_for(alloc, z, before, s, *p)
+        }
+        _ => Ok(false),
+    }
+}
+
+fn goes_nowhere(alloc: Global, z: Setting, past: &Past, s: &Begun) -> Result<bool, NoMemory>
+    ensures { IfOk result (λ found. found ≡ goes_nowhere z (entries_of past.now) s.now) }
+{
+    let ts = targets(alloc, z, past, s)?;
+    if !(is_reply(z.role) && is_empty(&ts)) {
+        return Ok(false);
+    }
+    Ok(!unclaimed(alloc, z, past)?)
+}
+
+/// The send may be won here.
+pub fn is_sent(alloc: Global, z: Setting, past: &Past, s: &Begun) -> Result<bool, NoMemory>
+    ensures { IfOk result (λ found. found ≡ is_sent z (entries_of past.now) s.now) }
+{
+    if floods(z.role) {
+        let b = bytes_of(alloc, z, past, s)?;
+        return is_flooded(alloc, z, past, s, b);
+    }
+    if follows_out(alloc, z, s, past)? {
+        return Ok(true);
+    }
+    goes_nowhere(alloc, z, past, s)
+}

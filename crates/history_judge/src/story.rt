@@ -1,0 +1,55 @@
+//! The entries of a history, and copies of what they hold.
+
+ghost use Rattle.std.specs.Prelude.{◌≡◌, IfOk};
+
+use sp_base::{Bytes, NoMemory};
+use sp_history::entry::{Act, Ending, Entry, Message, Outcome};
+use std::alloc::Global;
+
+/// The entries of a history so far, the newest first.
+#[derive(Drop)]
+pub enum Past {
+    Start,
+    After(Entry, Box<Past>),
+}
+
+pub fn copy_bytes(alloc: Global, b: &Bytes) -> Result<Bytes, NoMemory>
+    ensures { IfOk result (λ copy. copy ≡ b.now) }
+{
+    Bytes::from_slice(alloc, b.as_slice())
+}
+
+pub fn copy_message(alloc: Global, m: &Message) -> Result<Message, NoMemory>
+    ensures { IfOk result (λ copy. copy ≡ m.now) }
+{
+    let header = copy_bytes(alloc, &m.header)?;
+    let body = copy_bytes(alloc, &m.body)?;
+    Ok(Message { header, body })
+}
+
+pub fn copy_act(alloc: Global, act: &Act) -> Result<Act, NoMemory>
+    ensures { IfOk result (λ copy. copy ≡ act.now) }
+{
+    match act {
+        Act::Recv => Ok(Act::Recv),
+        Act::Send(m) => Ok(Act::Send(copy_message(alloc, m)?)),
+    }
+}
+
+pub fn copy_outcome(alloc: Global, r: &Outcome) -> Result<Outcome, NoMemory>
+    ensures { IfOk result (λ copy. copy ≡ r.now) }
+{
+    match r {
+        Outcome::Received(m) => Ok(Outcome::Received(copy_message(alloc, m)?)),
+        Outcome::Sent => Ok(Outcome::Sent),
+    }
+}
+
+pub fn copy_ending(alloc: Global, ending: &Ending) -> Result<Ending, NoMemory>
+    ensures { IfOk result (λ copy. copy ≡ ending.now) }
+{
+    match ending {
+        Ending::Won(r) => Ok(Ending::Won(copy_outcome(alloc, r)?)),
+        Ending::Gone(cause, by) => Ok(Ending::Gone(*cause, *by)),
+    }
+}
