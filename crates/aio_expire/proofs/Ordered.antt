@@ -4,7 +4,6 @@ use Rattle.std.specs.Prelude.{filter, not, ◌==◌, nat_lt, nat_le, ◌&&◌, �
 use Rattle.std.specs.List.Sorted.{IsPartitionedBy}
 use Rattle.std.proofs.lemmas.Bool.Decides.{nat_tests}
 use Rattle.aio_expire.specs.declared.deadlines.Deadline.{Deadline}
-use Rattle.sp_base.specs.declared.Tick.{Tick}
 use Rattle.aio_expire.specs.Schedule.{is_before, is_due, is_of, count_of, Each, IsOrdered, put_in}
 
 times-before-trans : (a s b t c u : ℕ) → (nat_lt a b || (a == b && nat_lt s t)) ≡ true → (nat_lt b c || (b == c && nat_lt t u)) ≡ true → (nat_lt a c || (a == c && nat_lt s u)) ≡ true
@@ -17,13 +16,13 @@ times-before-due : (a s b t now : ℕ) → (nat_lt a b || (a == b && nat_lt s t)
 times-before-due a s b t now p q = grind (arith, nat_tests)
 
 pub is_before-trans : (d e f : Deadline) → is_before d e ≡ true → is_before e f ≡ true → is_before d f ≡ true
-is_before-trans d e f p q = times-before-trans d.at.0 d.op.slot e.at.0 e.op.slot f.at.0 f.op.slot p q
+is_before-trans d e f p q = times-before-trans d.at d.op.slot e.at e.op.slot f.at f.op.slot p q
 
 pub is_before-total : (d e : Deadline) → is_before d e ≡ false → is_of e.op.slot d ≡ false → is_before e d ≡ true
-is_before-total d e p q = times-before-total d.at.0 d.op.slot e.at.0 e.op.slot p q
+is_before-total d e p q = times-before-total d.at d.op.slot e.at e.op.slot p q
 
-pub is_before-due : (now : Tick) (d e : Deadline) → is_before d e ≡ true → is_due now e ≡ true → is_due now d ≡ true
-is_before-due now d e p q = times-before-due d.at.0 d.op.slot e.at.0 e.op.slot now.0 p q
+pub is_before-due : (now : ℕ) (d e : Deadline) → is_before d e ≡ true → is_due now e ≡ true → is_due now d ≡ true
+is_before-due now d e p q = times-before-due d.at d.op.slot e.at e.op.slot now p q
 
 Each-at : (P : Deadline → Type 0) (xs : List Deadline) → Each P xs → (k : ℕ) (d : Deadline) → k < length xs → P (get_or xs k d)
 Each-at P [] h k d l = absurd (omega arith)

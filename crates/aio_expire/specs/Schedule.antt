@@ -1,7 +1,6 @@
 -- Deadlines as a list in order.
 use Rattle.std.specs.Prelude.{◌≡◌, ℕ, ◌<◌, ◌≤◌, Bool, true, ◌==◌, nat_lt, nat_le, ◌&&◌, ◌||◌, not, List, [], ◌∷◌, ◌++◌, length, filter}
 use Rattle.sp_base.specs.declared.OpName.{OpName}
-use Rattle.sp_base.specs.declared.Tick.{Tick}
 use Rattle.aio_expire.specs.declared.deadlines.Deadline.{Deadline}
 
 -- the slots are the numbers below `slots`
@@ -11,10 +10,10 @@ pub record Schedule : Type 0 where
 
 -- earlier, or at the same moment with a lower slot
 abbrev pub is_before : Deadline → Deadline → Bool
-is_before d e = nat_lt d.at.0 e.at.0 || (d.at.0 == e.at.0 && nat_lt d.op.slot e.op.slot)
+is_before d e = nat_lt d.at e.at || (d.at == e.at && nat_lt d.op.slot e.op.slot)
 
-abbrev pub is_due : Tick → Deadline → Bool
-is_due now d = nat_le d.at.0 now.0
+abbrev pub is_due : ℕ → Deadline → Bool
+is_due now d = nat_le d.at now
 
 abbrev pub is_of : ℕ → Deadline → Bool
 is_of slot d = d.op.slot == slot
@@ -29,10 +28,10 @@ count_of slot es = length (filter (is_of slot) es)
 abbrev pub others_than : ℕ → List Deadline → List Deadline
 others_than slot es = filter (λ d. not (is_of slot d)) es
 
-abbrev pub due_of : Tick → List Deadline → List Deadline
+abbrev pub due_of : ℕ → List Deadline → List Deadline
 due_of now es = filter (is_due now) es
 
-abbrev pub later_than : Tick → List Deadline → List Deadline
+abbrev pub later_than : ℕ → List Deadline → List Deadline
 later_than now es = filter (λ d. not (is_due now d)) es
 
 -- those before the entry, the entry, and the others
