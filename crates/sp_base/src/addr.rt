@@ -2,6 +2,7 @@
 ghost use Rattle.std.specs.Prelude.{◌≡◌, ◌≤◌, ◌<◌, ◌+◌, ◌-◌, ◌*◌, ◌^◌, ℕ, List, ◌↔◌, IsTrue, MatchResult, length};
 ghost use Rattle.std.specs.Option.{SomeIff};
 ghost use Rattle.sp_base.specs.declared.addr.Addr.{Addr};
+ghost use Rattle.sp_base.specs.declared.addr.AddrError.TheVariants as faults;
 ghost use Rattle.sp_base.specs.Addresses.{Spells, SpellsHost, IsNumber, IsOctet, IsDotOctet, AddrFails, scheme_of, is_linked, is_dialable};
 ghost use Rattle.sp_base.specs.Readers.{Begins, Reads, ReadsWord, GoesOn, HasGrown, IsQuad, IsColonPort, IsEndpoint};
 
@@ -238,6 +239,8 @@ impl Addr {
 }
 
 impl From<NoMemory> for AddrError {
+    ghost from_gives = { λ _ r. r ≡ faults.NoMemory };
+
     fn from(_e: NoMemory) -> AddrError {
         AddrError::NoMemory
     }
