@@ -2,6 +2,7 @@
 ghost use Rattle.std.specs.Prelude.{◌≡◌, ◌≤◌, ◌<◌, ◌+◌, ◌-◌, ◌*◌, ◌^◌, ℕ, List, ◌↔◌, IsTrue, MatchResult, length};
 ghost use Rattle.std.specs.Option.{SomeIff};
 ghost use Rattle.sp_base.specs.declared.addr.Addr.{Addr};
+ghost use Rattle.sp_base.specs.declared.addr.AddrError.TheVariants as faults;
 ghost use Rattle.sp_base.specs.Addresses.{Spells, SpellsHost, IsNumber, IsOctet, IsDotOctet, AddrFails, scheme_of, is_linked, is_dialable};
 ghost use Rattle.sp_base.specs.Readers.{Begins, Reads, ReadsWord, GoesOn, HasGrown, IsQuad, IsColonPort, IsEndpoint};
 
@@ -238,57 +239,9 @@ impl Addr {
 }
 
 impl From<NoMemory> for AddrError {
+    ghost from_gives = { λ _ r. r ≡ faults.NoMemory };
+
     fn from(_e: NoMemory) -> AddrError {
         AddrError::NoMemory
-    }
-}
-
-#[cfg(test)]
-mod tests {
-    use super::*;
-
-    fn endpoint_of(alloc: Global, text: &str) -> Result<(Host, u16), AddrError> {
-        match Addr::read(alloc, text) {
-            Ok(Addr::Tcp { host, port }) => Ok((host, port)),
-            Ok(_) => Err(AddrError::NoMemory),
-            Err(why) => Err(why),
-        }
-    }
-
-    #[test]
-    fn addresses_are_read(rt: HostRuntime) {
-        let local = Host::V4(127, 0, 0, 1);
-        let read = [
-            ("tcp://127.0.0.1:5555", local, 5555),
-            ("tcp://*:0", Host::Any, 0),
-            ("tcp://localhost:80", local, 80),
-            (
-                "tcp://255.255.255.255:65535",
-                Host::V4(255, 255, 255, 255),
-                65_535,
-            ),
-        ];
-        for (text, host, port) in read.iter() {
-            assert_eq!(rt; endpoint_of(rt.alloc(), text), Ok((*host, *port)));
-        }
-        let refused = [
-            ("tcp://256.0.0.1:1", 8),
-            ("tcp://127.0.0.1", 15),
-            ("tcp://1.2.3.4:65536", 18),
-            ("", 0),
-            ("tcp://1.2.3.4:", 14),
-            ("tcp://00.0.0.0:1", 7),
-            ("TCP://1.2.3.4:1", 0),
-            ("tcp://1.2.3:1", 11),
-            ("tcp://local:1", 11),
-            ("tcp://1.2.3.4:1 ", 15),
-            ("tcp:/1.2.3.4:1", 5),
-        ];
-        for (text, at) in refused.iter() {
-            assert_eq!(rt;
-                endpoint_of(rt.alloc(), text),
-                Err(AddrError::Fault { at: *at })
-            );
-        }
     }
 }
