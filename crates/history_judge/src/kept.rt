@@ -10,9 +10,14 @@ ghost use Rattle.sp_history.specs.Kept.{pool_of, is_wanted_by, takes, add_item, 
 ghost use Rattle.sp_history.specs.Sends.{is_origin, may_go, targets, traced, bytes_for, bytes_of, are_bytes, is_lost, is_due_again, is_resend, unclaimed, is_answered_by, flooded, is_flooded, begun_before, is_first_for, follows_out, goes_nowhere, is_sent};
 ghost use Rattle.history_judge.specs.Story.{entries_of};
 
-use crate::lists::{all_in, first_word, has_ctx, has_pipe, is_empty, is_number, matches, same_bytes, same_op};
+use crate::lists::{
+    all_in, first_word, has_ctx, has_pipe, is_empty, is_number, matches, same_bytes, same_op,
+};
 use crate::past::{ctxs, now, pend, pending, topics, up};
-use crate::requests::{after_word, floods, has_requests, has_stored, has_topics, is_reply, item_of, live_on, malformed, request_of, requests, resends, wire_of};
+use crate::requests::{
+    after_word, floods, has_requests, has_stored, has_topics, is_reply, item_of, live_on,
+    malformed, request_of, requests, resends, wire_of,
+};
 use crate::story::{Past, copy_bytes};
 use sp_base::{Bytes, Ctx, NoMemory, OpName, PipeId, Role};
 use sp_history::entry::{Act, Ending, Entry, Gate, Message, Outcome, Switch};
@@ -71,16 +76,29 @@ fn without_first(items: LinkedList<Item>) -> LinkedList<Item>
     items
 }
 
-fn add_discarding(prefer_new: bool, most: u32, i: Option<Item>, items: LinkedList<Item>) -> Result<LinkedList<Item>, NoMemory>
+fn add_discarding(
+    prefer_new: bool,
+    most: u32,
+    i: Option<Item>,
+    items: LinkedList<Item>,
+) -> Result<LinkedList<Item>, NoMemory>
     ensures { IfOk result (λ r. r ≡ add_discarding prefer_new most i items) }
 {
     if items.len() < most as usize {
         return add_item(i, items);
     }
-    if prefer_new { add_item(i, without_first(items)) } else { Ok(items) }
+    if prefer_new {
+        add_item(i, without_first(items))
+    } else {
+        Ok(items)
+    }
 }
 
-fn add_for(z: Setting, i: Option<Item>, items: LinkedList<Item>) -> Result<LinkedList<Item>, NoMemory>
+fn add_for(
+    z: Setting,
+    i: Option<Item>,
+    items: LinkedList<Item>,
+) -> Result<LinkedList<Item>, NoMemory>
     ensures { IfOk result (λ r. r ≡ add_for z.role z i items) }
 {
     match z.role {
@@ -90,7 +108,15 @@ fn add_for(z: Setting, i: Option<Item>, items: LinkedList<Item>) -> Result<Linke
     }
 }
 
-fn after_frame(alloc: Global, z: Setting, past: &Past, c: Ctx, p: PipeId, b: &[u8], items: LinkedList<Item>) -> Result<LinkedList<Item>, NoMemory>
+fn after_frame(
+    alloc: Global,
+    z: Setting,
+    past: &Past,
+    c: Ctx,
+    p: PipeId,
+    b: &[u8],
+    items: LinkedList<Item>,
+) -> Result<LinkedList<Item>, NoMemory>
     ensures { IfOk result (λ r. r ≡ after_frame z (entries_of past.now) c p b.now items) }
 {
     if takes(alloc, z, past, c, b)? {
@@ -132,7 +158,10 @@ fn not_from(items: LinkedList<Item>, p: PipeId) -> Result<LinkedList<Item>, NoMe
     }
 }
 
-fn still_wanted(items: LinkedList<Item>, ts: &LinkedList<Bytes>) -> Result<LinkedList<Item>, NoMemory>
+fn still_wanted(
+    items: LinkedList<Item>,
+    ts: &LinkedList<Bytes>,
+) -> Result<LinkedList<Item>, NoMemory>
     ensures { IfOk result (λ kept. kept ≡ filter (λ i. is_wanted_by ts.now i.message.body) items) }
 {
     let mut items = items;
@@ -151,13 +180,28 @@ fn still_wanted(items: LinkedList<Item>, ts: &LinkedList<Bytes>) -> Result<Linke
 fn after_down(z: Setting, p: PipeId, items: LinkedList<Item>) -> Result<LinkedList<Item>, NoMemory>
     ensures { IfOk result (λ r. r ≡ after_down z p items) }
 {
-    if is_reply(z.role) { not_from(items, p) } else { Ok(items) }
+    if is_reply(z.role) {
+        not_from(items, p)
+    } else {
+        Ok(items)
+    }
 }
 
-fn given(alloc: Global, z: Setting, before: &Past, c: Ctx, op: OpName, items: LinkedList<Item>) -> Result<LinkedList<Item>, NoMemory>
+fn given(
+    alloc: Global,
+    z: Setting,
+    before: &Past,
+    c: Ctx,
+    op: OpName,
+    items: LinkedList<Item>,
+) -> Result<LinkedList<Item>, NoMemory>
     ensures { IfOk result (λ r. r ≡ (if is_on_pool z c (pending (entries_of before.now) op) then drop 1 items else items)) }
 {
-    if is_on_pool(z, c, pending(alloc, before, op)?) { Ok(without_first(items)) } else { Ok(items) }
+    if is_on_pool(z, c, pending(alloc, before, op)?) {
+        Ok(without_first(items))
+    } else {
+        Ok(items)
+    }
 }
 
 fn keeps(how: Keeping, c: Ctx) -> bool
@@ -170,12 +214,24 @@ fn keeps(how: Keeping, c: Ctx) -> bool
     }
 }
 
-fn pool_keeping(alloc: Global, z: Setting, how: Keeping, past: &Past, c: Ctx) -> Result<LinkedList<Item>, NoMemory>
+fn pool_keeping(
+    alloc: Global,
+    z: Setting,
+    how: Keeping,
+    past: &Past,
+    c: Ctx,
+) -> Result<LinkedList<Item>, NoMemory>
     ensures { IfOk result (λ r. r ≡ pool_keeping z how (entries_of past.now) c) }
 {
     match past {
         Past::Start => Ok(LinkedList::new(alloc)),
-        Past::After(Entry::Unkept(_), before) => pool_keeping(alloc, z, Keeping::Nowhere, before, c),
+        Past::After(Entry::Unkept(_), before) => pool_keeping(
+            alloc,
+            z,
+            Keeping::Nowhere,
+            before,
+            c,
+        ),
         Past::After(Entry::Dry(d), before) => pool_keeping(alloc, z, Keeping::Below(*d), before, c),
         Past::After(Entry::Frame(p, b), before) => {
             let items = pool_keeping(alloc, z, Keeping::Everywhere, before, c)?;
@@ -191,7 +247,11 @@ fn pool_keeping(alloc: Global, z: Setting, how: Keeping, past: &Past, c: Ctx) ->
         }
         Past::After(Entry::Topic(d, _, Switch::Off), before) => {
             let items = pool_keeping(alloc, z, Keeping::Everywhere, before, c)?;
-            if d.0 == c.0 { still_wanted(items, &topics(alloc, past, c)?) } else { Ok(items) }
+            if d.0 == c.0 {
+                still_wanted(items, &topics(alloc, past, c)?)
+            } else {
+                Ok(items)
+            }
         }
         Past::After(Entry::Down(p, _), before) => {
             let items = pool_keeping(alloc, z, Keeping::Everywhere, before, c)?;
@@ -285,7 +345,10 @@ fn first_origin(items: LinkedList<Item>) -> Option<Origin>
     let mut items = items;
     match items.pop_front() {
         None => None,
-        Some(i) => Some(Origin { pipe: i.pipe, words: i.words }),
+        Some(i) => Some(Origin {
+            pipe: i.pipe,
+            words: i.words,
+        }),
     }
 }
 
@@ -302,10 +365,18 @@ fn given_from(alloc: Global, z: Setting, past: &Past, c: Ctx) -> Result<Option<O
             }
         }
         Past::After(Entry::Begin(_, _, d, _, _), before) => {
-            if d.0 == c.0 { Ok(None) } else { given_from(alloc, z, before, c) }
+            if d.0 == c.0 {
+                Ok(None)
+            } else {
+                given_from(alloc, z, before, c)
+            }
         }
         Past::After(Entry::Ctx(d, Gate::Shut), before) => {
-            if d.0 == c.0 { Ok(None) } else { given_from(alloc, z, before, c) }
+            if d.0 == c.0 {
+                Ok(None)
+            } else {
+                given_from(alloc, z, before, c)
+            }
         }
         Past::After(_, before) => given_from(alloc, z, before, c),
     }
@@ -315,7 +386,11 @@ fn given_from(alloc: Global, z: Setting, past: &Past, c: Ctx) -> Result<Option<O
 pub fn stored(alloc: Global, z: Setting, past: &Past, c: Ctx) -> Result<Option<Origin>, NoMemory>
     ensures { IfOk result (λ r. r ≡ stored z (entries_of past.now) c) }
 {
-    if has_stored(z) { given_from(alloc, z, past, c) } else { Ok(None) }
+    if has_stored(z) {
+        given_from(alloc, z, past, c)
+    } else {
+        Ok(None)
+    }
 }
 
 fn route(alloc: Global, z: Setting, past: &Past, op: OpName) -> Result<Option<Origin>, NoMemory>
@@ -324,7 +399,11 @@ fn route(alloc: Global, z: Setting, past: &Past, op: OpName) -> Result<Option<Or
     match past {
         Past::Start => Ok(None),
         Past::After(Entry::Begin(other, _, c, _, _), before) => {
-            if same_op(*other, op) { stored(alloc, z, before, *c) } else { route(alloc, z, before, op) }
+            if same_op(*other, op) {
+                stored(alloc, z, before, *c)
+            } else {
+                route(alloc, z, before, op)
+            }
         }
         Past::After(_, before) => route(alloc, z, before, op),
     }
@@ -346,14 +425,23 @@ fn may_go(z: Setting, origin: &Option<Origin>, header: &[u8], p: PipeId) -> bool
 {
     match z.role {
         Role::Rep | Role::Respondent => {
-            if z.raw { is_number(first_word(header), p.0) } else { is_origin(origin, p) }
+            if z.raw {
+                is_number(first_word(header), p.0)
+            } else {
+                is_origin(origin, p)
+            }
         }
         Role::Bus => !z.raw || !is_number(first_word(header), p.0),
         _ => true,
     }
 }
 
-fn may_all_go(pipes: LinkedList<PipeId>, z: Setting, origin: &Option<Origin>, header: &[u8]) -> Result<LinkedList<PipeId>, NoMemory>
+fn may_all_go(
+    pipes: LinkedList<PipeId>,
+    z: Setting,
+    origin: &Option<Origin>,
+    header: &[u8],
+) -> Result<LinkedList<PipeId>, NoMemory>
     ensures { IfOk result (λ kept. kept ≡ filter (may_go z.role z.raw origin.now header.now) pipes) }
 {
     let mut pipes = pipes;
@@ -370,7 +458,12 @@ fn may_all_go(pipes: LinkedList<PipeId>, z: Setting, origin: &Option<Origin>, he
 }
 
 /// The pipes to which the send may go.
-pub fn targets(alloc: Global, z: Setting, past: &Past, s: &Begun) -> Result<LinkedList<PipeId>, NoMemory>
+pub fn targets(
+    alloc: Global,
+    z: Setting,
+    past: &Past,
+    s: &Begun,
+) -> Result<LinkedList<PipeId>, NoMemory>
     ensures { IfOk result (λ r. r ≡ targets z (entries_of past.now) s.now) }
 {
     match &s.act {
@@ -408,7 +501,13 @@ fn asked_bytes(alloc: Global, r: &Option<Request>) -> Result<Option<Bytes>, NoMe
     }
 }
 
-fn bytes_for(alloc: Global, z: Setting, origin: &Option<Origin>, r: &Option<Request>, m: &Message) -> Result<Option<Bytes>, NoMemory>
+fn bytes_for(
+    alloc: Global,
+    z: Setting,
+    origin: &Option<Origin>,
+    r: &Option<Request>,
+    m: &Message,
+) -> Result<Option<Bytes>, NoMemory>
     ensures { IfOk result (λ b. b ≡ bytes_for z.role z.raw origin.now r.now m.now) }
 {
     match z.role {
@@ -431,7 +530,12 @@ fn bytes_for(alloc: Global, z: Setting, origin: &Option<Origin>, r: &Option<Requ
 }
 
 /// What goes out for the send.
-pub fn bytes_of(alloc: Global, z: Setting, past: &Past, s: &Begun) -> Result<Option<Bytes>, NoMemory>
+pub fn bytes_of(
+    alloc: Global,
+    z: Setting,
+    past: &Past,
+    s: &Begun,
+) -> Result<Option<Bytes>, NoMemory>
     ensures { IfOk result (λ b. b ≡ bytes_of z (entries_of past.now) s.now) }
 {
     match &s.act {
@@ -476,7 +580,13 @@ pub fn is_due_again(alloc: Global, z: Setting, past: &Past, r: &Request) -> Resu
     is_lost(alloc, z, past, r.last_out)
 }
 
-fn any_again(alloc: Global, z: Setting, past: &Past, b: &[u8], live: LinkedList<Request>) -> Result<bool, NoMemory>
+fn any_again(
+    alloc: Global,
+    z: Setting,
+    past: &Past,
+    b: &[u8],
+    live: LinkedList<Request>,
+) -> Result<bool, NoMemory>
     ensures { IfOk result (λ found. found ≡ list_any (λ r. is_due_again z (entries_of past.now) r && same_bytes (wire_of r) b.now) live) }
 {
     let mut live = live;
@@ -512,13 +622,23 @@ pub fn unclaimed(alloc: Global, z: Setting, past: &Past) -> Result<bool, NoMemor
     match past {
         Past::After(Entry::Out(_, b), before) => Ok(!is_resend(alloc, z, before, b.as_slice())?),
         Past::After(Entry::Full(_) | Entry::Down(_, _), before) => {
-            if floods(z.role) { unclaimed(alloc, z, before) } else { Ok(false) }
+            if floods(z.role) {
+                unclaimed(alloc, z, before)
+            } else {
+                Ok(false)
+            }
         }
         _ => Ok(false),
     }
 }
 
-fn is_answered_by(alloc: Global, z: Setting, past: &Past, s: &Begun, seen: &LinkedList<PipeId>) -> Result<bool, NoMemory>
+fn is_answered_by(
+    alloc: Global,
+    z: Setting,
+    past: &Past,
+    s: &Begun,
+    seen: &LinkedList<PipeId>,
+) -> Result<bool, NoMemory>
     ensures { IfOk result (λ found. found ≡ is_answered_by z (entries_of past.now) s.now seen.now) }
 {
     let ts = targets(alloc, z, past, s)?;
@@ -529,7 +649,14 @@ fn is_answered_by(alloc: Global, z: Setting, past: &Past, s: &Begun, seen: &Link
 }
 
 #[tactic(auto, using(sp_history::proofs::Flooding::flooded_here))]
-fn flooded(alloc: Global, z: Setting, s: &Begun, b: &[u8], seen: LinkedList<PipeId>, past: &Past) -> Result<bool, NoMemory>
+fn flooded(
+    alloc: Global,
+    z: Setting,
+    s: &Begun,
+    b: &[u8],
+    seen: LinkedList<PipeId>,
+    past: &Past,
+) -> Result<bool, NoMemory>
     ensures { IfOk result (λ found. found ≡ flooded z s.now b.now seen (entries_of past.now)) }
 {
     if is_answered_by(alloc, z, past, s, &seen)? {
@@ -556,7 +683,13 @@ fn flooded(alloc: Global, z: Setting, s: &Begun, b: &[u8], seen: LinkedList<Pipe
     }
 }
 
-fn is_flooded(alloc: Global, z: Setting, past: &Past, s: &Begun, b: Option<Bytes>) -> Result<bool, NoMemory>
+fn is_flooded(
+    alloc: Global,
+    z: Setting,
+    past: &Past,
+    s: &Begun,
+    b: Option<Bytes>,
+) -> Result<bool, NoMemory>
     ensures { IfOk result (λ found. found ≡ is_flooded z (entries_of past.now) s.now b) }
 {
     match b {
@@ -565,7 +698,11 @@ fn is_flooded(alloc: Global, z: Setting, past: &Past, s: &Begun, b: Option<Bytes
     }
 }
 
-fn begun_before(alloc: Global, op: OpName, ss: LinkedList<Begun>) -> Result<LinkedList<Begun>, NoMemory>
+fn begun_before(
+    alloc: Global,
+    op: OpName,
+    ss: LinkedList<Begun>,
+) -> Result<LinkedList<Begun>, NoMemory>
     ensures { IfOk result (λ found. found ≡ begun_before op ss) }
 {
     let mut ss = ss;
@@ -582,7 +719,13 @@ fn begun_before(alloc: Global, op: OpName, ss: LinkedList<Begun>) -> Result<Link
     }
 }
 
-fn any_for(alloc: Global, z: Setting, past: &Past, p: PipeId, ss: LinkedList<Begun>) -> Result<bool, NoMemory>
+fn any_for(
+    alloc: Global,
+    z: Setting,
+    past: &Past,
+    p: PipeId,
+    ss: LinkedList<Begun>,
+) -> Result<bool, NoMemory>
     ensures { IfOk result (λ found. found ≡ list_any (λ other. has (targets z (entries_of past.now) other) p) ss) }
 {
     let mut ss = ss;
@@ -598,7 +741,13 @@ fn any_for(alloc: Global, z: Setting, past: &Past, p: PipeId, ss: LinkedList<Beg
     }
 }
 
-fn is_first_for(alloc: Global, z: Setting, past: &Past, s: &Begun, p: PipeId) -> Result<bool, NoMemory>
+fn is_first_for(
+    alloc: Global,
+    z: Setting,
+    past: &Past,
+    s: &Begun,
+    p: PipeId,
+) -> Result<bool, NoMemory>
     ensures { IfOk result (λ found. found ≡ is_first_for z (entries_of past.now) s.now p) }
 {
     let earlier = begun_before(alloc, s.op, pend(alloc, past)?)?;

@@ -116,7 +116,12 @@ pub fn without_ended(es: LinkedList<Ended>, op: OpName) -> Result<LinkedList<End
     }
 }
 
-fn add_ended(alloc: Global, es: LinkedList<Ended>, ending: &Ending, s: Option<Begun>) -> Result<LinkedList<Ended>, NoMemory>
+fn add_ended(
+    alloc: Global,
+    es: LinkedList<Ended>,
+    ending: &Ending,
+    s: Option<Begun>,
+) -> Result<LinkedList<Ended>, NoMemory>
     ensures { IfOk result (λ found. found ≡ es ++ ended_as ending.now s) }
 {
     let mut es = es;
@@ -171,7 +176,11 @@ pub fn begins(past: &Past, slot: u32) -> Result<u64, NoMemory>
         Past::Start => Ok(0),
         Past::After(Entry::Begin(op, _, _, _, _), before) => {
             let found = begins(before, slot)?;
-            if op.slot == slot { one_more(found) } else { Ok(found) }
+            if op.slot == slot {
+                one_more(found)
+            } else {
+                Ok(found)
+            }
         }
         Past::After(_, before) => begins(before, slot),
     }
@@ -242,7 +251,11 @@ pub fn due(ds: LinkedList<Timer>, t: Tick) -> Result<LinkedList<Timer>, NoMemory
     }
 }
 
-fn add_timer(ds: LinkedList<Timer>, op: OpName, deadline: Option<Tick>) -> Result<LinkedList<Timer>, NoMemory>
+fn add_timer(
+    ds: LinkedList<Timer>,
+    op: OpName,
+    deadline: Option<Tick>,
+) -> Result<LinkedList<Timer>, NoMemory>
     ensures { IfOk result (λ found. found ≡ ds ++ timer_of op deadline) }
 {
     let mut ds = ds;
@@ -401,10 +414,18 @@ pub fn topics(alloc: Global, past: &Past, c: Ctx) -> Result<LinkedList<Bytes>, N
         }
         Past::After(Entry::Topic(d, t, Switch::Off), before) => {
             let ts = topics(alloc, before, c)?;
-            if d.0 == c.0 { without_topic(ts, t) } else { Ok(ts) }
+            if d.0 == c.0 {
+                without_topic(ts, t)
+            } else {
+                Ok(ts)
+            }
         }
         Past::After(Entry::Ctx(d, Gate::Shut), before) => {
-            if d.0 == c.0 { Ok(LinkedList::new(alloc)) } else { topics(alloc, before, c) }
+            if d.0 == c.0 {
+                Ok(LinkedList::new(alloc))
+            } else {
+                topics(alloc, before, c)
+            }
         }
         Past::After(_, before) => topics(alloc, before, c),
     }
@@ -425,7 +446,14 @@ pub fn counts(past: &Past) -> Result<Totals, NoMemory>
     ensures { IfOk result (λ found. found ≡ counts (entries_of past.now)) }
 {
     match past {
-        Past::Start => Ok(Totals { begun: 0, won: 0, gone: 0, frames: 0, outs: 0, fulls: 0 }),
+        Past::Start => Ok(Totals {
+            begun: 0,
+            won: 0,
+            gone: 0,
+            frames: 0,
+            outs: 0,
+            fulls: 0,
+        }),
         Past::After(e, before) => count(e, counts(before)?),
     }
 }
@@ -434,12 +462,30 @@ fn count(e: &Entry, so_far: Totals) -> Result<Totals, NoMemory>
     ensures { IfOk result (λ found. found ≡ counted e.now so_far) }
 {
     match e {
-        Entry::Begin(_, _, _, _, _) => Ok(Totals { begun: one_more(so_far.begun)?, ..so_far }),
-        Entry::End(_, Ending::Won(_)) => Ok(Totals { won: one_more(so_far.won)?, ..so_far }),
-        Entry::End(_, Ending::Gone(_, _)) => Ok(Totals { gone: one_more(so_far.gone)?, ..so_far }),
-        Entry::Frame(_, _) => Ok(Totals { frames: one_more(so_far.frames)?, ..so_far }),
-        Entry::Out(_, _) => Ok(Totals { outs: one_more(so_far.outs)?, ..so_far }),
-        Entry::Full(_) => Ok(Totals { fulls: one_more(so_far.fulls)?, ..so_far }),
+        Entry::Begin(_, _, _, _, _) => Ok(Totals {
+            begun: one_more(so_far.begun)?,
+            ..so_far
+        }),
+        Entry::End(_, Ending::Won(_)) => Ok(Totals {
+            won: one_more(so_far.won)?,
+            ..so_far
+        }),
+        Entry::End(_, Ending::Gone(_, _)) => Ok(Totals {
+            gone: one_more(so_far.gone)?,
+            ..so_far
+        }),
+        Entry::Frame(_, _) => Ok(Totals {
+            frames: one_more(so_far.frames)?,
+            ..so_far
+        }),
+        Entry::Out(_, _) => Ok(Totals {
+            outs: one_more(so_far.outs)?,
+            ..so_far
+        }),
+        Entry::Full(_) => Ok(Totals {
+            fulls: one_more(so_far.fulls)?,
+            ..so_far
+        }),
         _ => Ok(so_far),
     }
 }

@@ -11,7 +11,9 @@ ghost use Rattle.history_judge.specs.Story.{entries_of};
 ghost use Rattle.sp_history.specs.Past.{now, pend, pending, without_begun};
 ghost use Rattle.std.specs.Option.{option_map};
 
-use crate::lists::{first_word, has_ctx, is_empty, is_number, same_bytes, same_op, without_begun, word};
+use crate::lists::{
+    first_word, has_ctx, is_empty, is_number, same_bytes, same_op, without_begun, word,
+};
 use crate::past::{now, pend, pending};
 use crate::story::{Past, copy_bytes};
 use sp_base::{Bytes, Ctx, NoMemory, OpName, PipeId, Role, Tick};
@@ -159,13 +161,23 @@ pub fn after_word(b: &[u8]) -> &[u8]
     if b.len() < 4 { &[] } else { &b[4..] }
 }
 
-fn item(alloc: Global, p: PipeId, words: &[u8], header: &[u8], body: &[u8]) -> Result<Item, NoMemory>
+fn item(
+    alloc: Global,
+    p: PipeId,
+    words: &[u8],
+    header: &[u8],
+    body: &[u8],
+) -> Result<Item, NoMemory>
     ensures { IfOk result (λ i. i ≡ record { pipe = p; words = words.now; message = record { header = header.now; body = body.now } }) }
 {
     let words = Bytes::from_slice(alloc, words)?;
     let header = Bytes::from_slice(alloc, header)?;
     let body = Bytes::from_slice(alloc, body)?;
-    Ok(Item { pipe: p, words, message: Message { header, body } })
+    Ok(Item {
+        pipe: p,
+        words,
+        message: Message { header, body },
+    })
 }
 
 fn plain_item(alloc: Global, p: PipeId, b: &[u8]) -> Result<Item, NoMemory>
@@ -243,7 +255,11 @@ fn next_number(dice: u32, last: Option<u32>) -> u32
 fn after(id: u32) -> u32
     ensures { result ≡ 2 ^ 31 + (id + 1) % 2 ^ 31 }
 {
-    if id == u32::MAX { 0x8000_0000 } else { 0x8000_0000 + (id + 1) % 0x8000_0000 }
+    if id == u32::MAX {
+        0x8000_0000
+    } else {
+        0x8000_0000 + (id + 1) % 0x8000_0000
+    }
 }
 
 fn has_id(id: u32, live: &LinkedList<Request>) -> bool
@@ -258,13 +274,21 @@ fn free_from(tries: usize, live: &LinkedList<Request>, id: u32) -> u32
     if tries == 0 {
         return id;
     }
-    if has_id(id, live) { free_from(tries - 1, live, after(id)) } else { id }
+    if has_id(id, live) {
+        free_from(tries - 1, live, after(id))
+    } else {
+        id
+    }
 }
 
 fn next_id(z: Setting, rs: &Requests) -> u32
     ensures { result ≡ next_id z rs.now }
 {
-    free_from(rs.live.len(), &rs.live, next_number(z.options.dice, rs.last_id))
+    free_from(
+        rs.live.len(),
+        &rs.live,
+        next_number(z.options.dice, rs.last_id),
+    )
 }
 
 // ---- One request
@@ -311,7 +335,13 @@ fn with_out(alloc: Global, t: Tick, p: PipeId, b: &[u8], r: Request) -> Result<R
     Ok(r)
 }
 
-fn with_frame(alloc: Global, z: Setting, p: PipeId, b: &[u8], r: Request) -> Result<Request, NoMemory>
+fn with_frame(
+    alloc: Global,
+    z: Setting,
+    p: PipeId,
+    b: &[u8],
+    r: Request,
+) -> Result<Request, NoMemory>
     ensures { IfOk result (λ s. s ≡ with_frame z p b.now r) }
 {
     let mut r = r;
@@ -339,7 +369,13 @@ fn is_over(z: Setting, t: Tick, r: &Request) -> bool
 
 // ---- All of them
 
-fn all_with_out(alloc: Global, t: Tick, p: PipeId, b: &[u8], live: LinkedList<Request>) -> Result<LinkedList<Request>, NoMemory>
+fn all_with_out(
+    alloc: Global,
+    t: Tick,
+    p: PipeId,
+    b: &[u8],
+    live: LinkedList<Request>,
+) -> Result<LinkedList<Request>, NoMemory>
     ensures { IfOk result (λ found. found ≡ map (with_out t p b.now) live) }
 {
     let mut live = live;
@@ -354,7 +390,13 @@ fn all_with_out(alloc: Global, t: Tick, p: PipeId, b: &[u8], live: LinkedList<Re
     }
 }
 
-fn all_with_frame(alloc: Global, z: Setting, p: PipeId, b: &[u8], live: LinkedList<Request>) -> Result<LinkedList<Request>, NoMemory>
+fn all_with_frame(
+    alloc: Global,
+    z: Setting,
+    p: PipeId,
+    b: &[u8],
+    live: LinkedList<Request>,
+) -> Result<LinkedList<Request>, NoMemory>
     ensures { IfOk result (λ found. found ≡ map (with_frame z p b.now) live) }
 {
     let mut live = live;
@@ -396,7 +438,11 @@ fn is_bereft(cs: &LinkedList<Ctx>, rs: &Requests, s: &Begun) -> bool
     has_ctx(cs, s.ctx) && !is_orphan(rs, s.op)
 }
 
-fn bereft(ss: LinkedList<Begun>, cs: &LinkedList<Ctx>, rs: &Requests) -> Result<LinkedList<Begun>, NoMemory>
+fn bereft(
+    ss: LinkedList<Begun>,
+    cs: &LinkedList<Ctx>,
+    rs: &Requests,
+) -> Result<LinkedList<Begun>, NoMemory>
     ensures { IfOk result (λ kept. kept ≡ filter (is_bereft cs.now rs.now) ss) }
 {
     let mut ss = ss;
@@ -444,7 +490,11 @@ fn without_orphan_of(os: LinkedList<Orphan>, op: OpName) -> Result<LinkedList<Or
     }
 }
 
-fn orphans_of(h: How, ss: LinkedList<Begun>, os: LinkedList<Orphan>) -> Result<LinkedList<Orphan>, NoMemory>
+fn orphans_of(
+    h: How,
+    ss: LinkedList<Begun>,
+    os: LinkedList<Orphan>,
+) -> Result<LinkedList<Orphan>, NoMemory>
     ensures { IfOk result (λ found. found ≡ os ++ map (orphan_of h) ss) }
 {
     let mut ss = ss;
@@ -458,22 +508,45 @@ fn orphans_of(h: How, ss: LinkedList<Begun>, os: LinkedList<Orphan>) -> Result<L
     }
 }
 
-fn end_on(cs: &LinkedList<Ctx>, h: How, ss: LinkedList<Begun>, rs: Requests) -> Result<Requests, NoMemory>
+fn end_on(
+    cs: &LinkedList<Ctx>,
+    h: How,
+    ss: LinkedList<Begun>,
+    rs: Requests,
+) -> Result<Requests, NoMemory>
     ensures { IfOk result (λ found. found ≡ end_on cs.now h ss rs) }
 {
     let left = bereft(ss, cs, &rs)?;
     let live = not_on(rs.live, cs)?;
     let orphans = orphans_of(h, left, rs.orphans)?;
-    Ok(Requests { live, orphans, last_id: rs.last_id })
+    Ok(Requests {
+        live,
+        orphans,
+        last_id: rs.last_id,
+    })
 }
 
-fn begin_on(z: Setting, t: Tick, c: Ctx, body: Bytes, rs: Requests, none: LinkedList<Item>) -> Result<Requests, NoMemory>
+fn begin_on(
+    z: Setting,
+    t: Tick,
+    c: Ctx,
+    body: Bytes,
+    rs: Requests,
+    none: LinkedList<Item>,
+) -> Result<Requests, NoMemory>
     requires { none ≡ [] }
     ensures { IfOk result (λ found. found ≡ begin_on z t c body rs) }
 {
     let mut rs = rs;
     let id = next_id(z, &rs);
-    rs.live.push_back(Request { ctx: c, id, body, birth: t, last_out: None, replies: none })?;
+    rs.live.push_back(Request {
+        ctx: c,
+        id,
+        body,
+        birth: t,
+        last_out: None,
+        replies: none,
+    })?;
     rs.last_id = Some(id);
     Ok(rs)
 }
@@ -483,13 +556,7 @@ fn of_live(rs: &Requests, s: Option<Begun>) -> Option<Begun>
 {
     match s {
         None => None,
-        Some(s) => {
-            if is_orphan(rs, s.op) {
-                None
-            } else {
-                Some(s)
-            }
-        }
+        Some(s) => { if is_orphan(rs, s.op) { None } else { Some(s) } }
     }
 }
 
@@ -501,7 +568,14 @@ fn one_ctx(alloc: Global, c: Ctx) -> Result<LinkedList<Ctx>, NoMemory>
     Ok(cs)
 }
 
-fn after_end(alloc: Global, z: Setting, ending: &Ending, s: Option<Begun>, ss: LinkedList<Begun>, rs: Requests) -> Result<Requests, NoMemory>
+fn after_end(
+    alloc: Global,
+    z: Setting,
+    ending: &Ending,
+    s: Option<Begun>,
+    ss: LinkedList<Begun>,
+    rs: Requests,
+) -> Result<Requests, NoMemory>
     ensures { IfOk result (λ found. found ≡ after_end z ending.now s ss rs) }
 {
     let Some(s) = s else {
@@ -514,7 +588,11 @@ fn after_end(alloc: Global, z: Setting, ending: &Ending, s: Option<Begun>, ss: L
                 end_on(&one_ctx(alloc, s.ctx)?, How::Answered, ss, rs)
             } else {
                 let live = all_with_taken(s.ctx, rs.live)?;
-                Ok(Requests { live, orphans: rs.orphans, last_id: rs.last_id })
+                Ok(Requests {
+                    live,
+                    orphans: rs.orphans,
+                    last_id: rs.last_id,
+                })
             }
         }
         Ending::Gone(_, _) => {
@@ -531,7 +609,11 @@ fn without_orphan(op: OpName, rs: Requests) -> Result<Requests, NoMemory>
     ensures { IfOk result (λ found. found ≡ without_orphan op rs) }
 {
     let orphans = without_orphan_of(rs.orphans, op)?;
-    Ok(Requests { live: rs.live, orphans, last_id: rs.last_id })
+    Ok(Requests {
+        live: rs.live,
+        orphans,
+        last_id: rs.last_id,
+    })
 }
 
 /// The contexts of the surveys that are over, and all the requests as they were.
@@ -541,7 +623,12 @@ struct Over {
     live: LinkedList<Request>,
 }
 
-fn add_over(z: Setting, t: Tick, r: &Request, cs: LinkedList<Ctx>) -> Result<LinkedList<Ctx>, NoMemory>
+fn add_over(
+    z: Setting,
+    t: Tick,
+    r: &Request,
+    cs: LinkedList<Ctx>,
+) -> Result<LinkedList<Ctx>, NoMemory>
     ensures { IfOk result (λ found. found ≡ (if is_over z t r.now then r.now.ctx ∷ cs else cs)) }
 {
     let mut cs = cs;
@@ -551,12 +638,20 @@ fn add_over(z: Setting, t: Tick, r: &Request, cs: LinkedList<Ctx>) -> Result<Lin
     Ok(cs)
 }
 
-fn over_ctxs(alloc: Global, z: Setting, t: Tick, live: LinkedList<Request>) -> Result<Over, NoMemory>
+fn over_ctxs(
+    alloc: Global,
+    z: Setting,
+    t: Tick,
+    live: LinkedList<Request>,
+) -> Result<Over, NoMemory>
     ensures { IfOk result (λ r. (r.cs ≡ map (λ r. r.ctx) (filter (is_over z t) live)) × (r.live ≡ live)) }
 {
     let mut live = live;
     match live.pop_front() {
-        None => Ok(Over { cs: LinkedList::new(alloc), live }),
+        None => Ok(Over {
+            cs: LinkedList::new(alloc),
+            live,
+        }),
         Some(r) => {
             let found = over_ctxs(alloc, z, t, live)?;
             let cs = add_over(z, t, &r, found.cs)?;
@@ -568,14 +663,24 @@ fn over_ctxs(alloc: Global, z: Setting, t: Tick, live: LinkedList<Request>) -> R
 }
 
 #[tactic(auto, unfolding(sp_history::specs::Requests::after_moment))]
-fn after_moment(alloc: Global, z: Setting, t: Tick, ss: LinkedList<Begun>, rs: Requests) -> Result<Requests, NoMemory>
+fn after_moment(
+    alloc: Global,
+    z: Setting,
+    t: Tick,
+    ss: LinkedList<Begun>,
+    rs: Requests,
+) -> Result<Requests, NoMemory>
     ensures { IfOk result (λ found. found ≡ after_moment z t ss rs) }
 {
     if is_req(z.role) {
         return Ok(rs);
     }
     let found = over_ctxs(alloc, z, t, rs.live)?;
-    let rs = Requests { live: found.live, orphans: rs.orphans, last_id: rs.last_id };
+    let rs = Requests {
+        live: found.live,
+        orphans: rs.orphans,
+        last_id: rs.last_id,
+    };
     end_on(&found.cs, How::Over, ss, rs)
 }
 
@@ -584,10 +689,21 @@ fn after_moment(alloc: Global, z: Setting, t: Tick, ss: LinkedList<Begun>, rs: R
 fn none(alloc: Global) -> Requests
     ensures { result ≡ no_requests }
 {
-    Requests { live: LinkedList::new(alloc), orphans: LinkedList::new(alloc), last_id: None }
+    Requests {
+        live: LinkedList::new(alloc),
+        orphans: LinkedList::new(alloc),
+        last_id: None,
+    }
 }
 
-fn after_begin(alloc: Global, z: Setting, before: &Past, c: Ctx, m: &Message, rs: Requests) -> Result<Requests, NoMemory>
+fn after_begin(
+    alloc: Global,
+    z: Setting,
+    before: &Past,
+    c: Ctx,
+    m: &Message,
+    rs: Requests,
+) -> Result<Requests, NoMemory>
     ensures { IfOk result (λ found. found ≡ begin_on z (now (entries_of before.now)) c m.now.body (end_on (c ∷ []) How.Replaced (pend (entries_of before.now)) rs)) }
 {
     let ss = pend(alloc, before)?;
@@ -596,7 +712,14 @@ fn after_begin(alloc: Global, z: Setting, before: &Past, c: Ctx, m: &Message, rs
     begin_on(z, now(before), c, body, rs, LinkedList::new(alloc))
 }
 
-fn after_ending(alloc: Global, z: Setting, before: &Past, op: OpName, ending: &Ending, rs: Requests) -> Result<Requests, NoMemory>
+fn after_ending(
+    alloc: Global,
+    z: Setting,
+    before: &Past,
+    op: OpName,
+    ending: &Ending,
+    rs: Requests,
+) -> Result<Requests, NoMemory>
     ensures { IfOk result (λ found. found ≡ without_orphan op (after_end z ending.now (of_live rs (pending (entries_of before.now) op)) (without_begun (pend (entries_of before.now)) op) rs)) }
 {
     let s = of_live(&rs, pending(alloc, before, op)?);
@@ -621,7 +744,11 @@ fn asked(alloc: Global, z: Setting, past: &Past) -> Result<Requests, NoMemory>
         Past::After(Entry::Out(p, b), before) => {
             let rs = asked(alloc, z, before)?;
             let live = all_with_out(alloc, now(before), *p, b.as_slice(), rs.live)?;
-            Ok(Requests { live, orphans: rs.orphans, last_id: rs.last_id })
+            Ok(Requests {
+                live,
+                orphans: rs.orphans,
+                last_id: rs.last_id,
+            })
         }
         Past::After(Entry::Unkept(_), before) => match &**before {
             Past::After(Entry::Frame(_, _), earlier) => asked(alloc, z, earlier),
@@ -630,7 +757,11 @@ fn asked(alloc: Global, z: Setting, past: &Past) -> Result<Requests, NoMemory>
         Past::After(Entry::Frame(p, b), before) => {
             let rs = asked(alloc, z, before)?;
             let live = all_with_frame(alloc, z, *p, b.as_slice(), rs.live)?;
-            Ok(Requests { live, orphans: rs.orphans, last_id: rs.last_id })
+            Ok(Requests {
+                live,
+                orphans: rs.orphans,
+                last_id: rs.last_id,
+            })
         }
         Past::After(Entry::Ctx(c, Gate::Shut), before) => {
             let rs = asked(alloc, z, before)?;
@@ -642,7 +773,11 @@ fn asked(alloc: Global, z: Setting, past: &Past) -> Result<Requests, NoMemory>
         }
         Past::After(Entry::Close(_), before) => {
             let rs = asked(alloc, z, before)?;
-            Ok(Requests { live: LinkedList::new(alloc), orphans: rs.orphans, last_id: rs.last_id })
+            Ok(Requests {
+                live: LinkedList::new(alloc),
+                orphans: rs.orphans,
+                last_id: rs.last_id,
+            })
         }
         Past::After(_, before) => asked(alloc, z, before),
     }
@@ -652,7 +787,11 @@ fn asked(alloc: Global, z: Setting, past: &Past) -> Result<Requests, NoMemory>
 pub fn requests(alloc: Global, z: Setting, past: &Past) -> Result<Requests, NoMemory>
     ensures { IfOk result (λ found. found ≡ requests z (entries_of past.now)) }
 {
-    if has_requests(z) { asked(alloc, z, past) } else { Ok(none(alloc)) }
+    if has_requests(z) {
+        asked(alloc, z, past)
+    } else {
+        Ok(none(alloc))
+    }
 }
 
 fn first_on(c: Ctx, live: LinkedList<Request>) -> Option<Request>
@@ -680,11 +819,20 @@ pub fn live_on(alloc: Global, z: Setting, past: &Past, c: Ctx) -> Result<Option<
 }
 
 /// The live request of the operation, which is pending.
-pub fn request_of(alloc: Global, z: Setting, past: &Past, s: &Begun) -> Result<Option<Request>, NoMemory>
+pub fn request_of(
+    alloc: Global,
+    z: Setting,
+    past: &Past,
+    s: &Begun,
+) -> Result<Option<Request>, NoMemory>
     ensures { IfOk result (λ found. found ≡ request_of z (entries_of past.now) s.now) }
 {
     let rs = requests(alloc, z, past)?;
-    if is_orphan(&rs, s.op) { Ok(None) } else { Ok(first_on(s.ctx, rs.live)) }
+    if is_orphan(&rs, s.op) {
+        Ok(None)
+    } else {
+        Ok(first_on(s.ctx, rs.live))
+    }
 }
 
 fn how_of(op: OpName, os: LinkedList<Orphan>) -> Option<How>
@@ -704,7 +852,12 @@ fn how_of(op: OpName, os: LinkedList<Orphan>) -> Option<How>
 }
 
 /// How the request of the operation ended.
-pub fn how_ended(alloc: Global, z: Setting, past: &Past, op: OpName) -> Result<Option<How>, NoMemory>
+pub fn how_ended(
+    alloc: Global,
+    z: Setting,
+    past: &Past,
+    op: OpName,
+) -> Result<Option<How>, NoMemory>
     ensures { IfOk result (λ found. found ≡ how_ended z (entries_of past.now) op) }
 {
     let rs = requests(alloc, z, past)?;

@@ -13,7 +13,9 @@ use crate::faults::Fault;
 use crate::kept::{is_due_again, is_sent, kept, stored, unclaimed};
 use crate::lists::{has_ctx, has_pipe, is_empty, is_of, same_bytes, without_ctx, without_pipe};
 use crate::past::{begins, ctxs, one_more, pend, pending, uncollected, up};
-use crate::requests::{floods, has_requests, how_ended, is_sub, live_on, malformed, request_of, resends};
+use crate::requests::{
+    floods, has_requests, how_ended, is_sub, live_on, malformed, request_of, resends,
+};
 use crate::story::Past;
 use sp_base::{Bytes, Ctx, NoMemory, OpName, PipeId, Role};
 use sp_history::entry::{Act, Cause, Ending, Entry, Gate, Message, Outcome, Why};
@@ -320,7 +322,16 @@ pub fn may_dry(alloc: Global, z: Setting, past: &Past, c: Ctx) -> Result<bool, N
 }
 
 /// What is wrong with this begin in a turn of caller k.
-pub fn may_begin(alloc: Global, z: Setting, k: u32, past: &Past, op: OpName, caller: u32, c: Ctx, act: &Act) -> Result<Option<Fault>, NoMemory>
+pub fn may_begin(
+    alloc: Global,
+    z: Setting,
+    k: u32,
+    past: &Past,
+    op: OpName,
+    caller: u32,
+    c: Ctx,
+    act: &Act,
+) -> Result<Option<Fault>, NoMemory>
     ensures { IfOk result (λ f. Finds f (MayBegin z k (entries_of past.now) op caller c act.now)) }
 {
     if caller != k {
@@ -388,7 +399,8 @@ fn is_message(found: Option<Message>, m: &Message) -> bool
 {
     match found {
         None => false,
-        Some(a) => are_equal(a.header.as_slice(), m.header.as_slice()) && are_equal(a.body.as_slice(), m.body.as_slice()),
+        Some(a) => are_equal(a.header.as_slice(), m.header.as_slice())
+            && are_equal(a.body.as_slice(), m.body.as_slice()),
     }
 }
 
@@ -401,7 +413,13 @@ fn is_op(found: Option<OpName>, op: OpName) -> bool
     }
 }
 
-fn may_receive(alloc: Global, z: Setting, past: &Past, s: &Begun, m: &Message) -> Result<Option<Fault>, NoMemory>
+fn may_receive(
+    alloc: Global,
+    z: Setting,
+    past: &Past,
+    s: &Begun,
+    m: &Message,
+) -> Result<Option<Fault>, NoMemory>
     ensures { IfOk result (λ f. Finds f (MayReceive z (entries_of past.now) s.now m.now)) }
 {
     if !is_recv(&s.act) {
@@ -431,21 +449,40 @@ fn was_over(how: Option<How>) -> bool
     matches!(how, Some(How::Over))
 }
 
-fn may_go(alloc: Global, z: Setting, past: &Past, s: &Begun, cause: Cause, by: u32) -> Result<Option<Fault>, NoMemory>
+fn may_go(
+    alloc: Global,
+    z: Setting,
+    past: &Past,
+    s: &Begun,
+    cause: Cause,
+    by: u32,
+) -> Result<Option<Fault>, NoMemory>
     ensures { IfOk result (λ f. Finds f (MayGo z (entries_of past.now) s.now cause by)) }
 {
     match cause {
         Cause::Cancelled | Cause::TimedOut => {
-            if 1 <= by && by <= z.callers { Ok(None) } else { Ok(Some(Fault::WrongSeat)) }
+            if 1 <= by && by <= z.callers {
+                Ok(None)
+            } else {
+                Ok(Some(Fault::WrongSeat))
+            }
         }
         Cause::Closed => {
-            if by == 0 { Ok(None) } else { Ok(Some(Fault::WrongSeat)) }
+            if by == 0 {
+                Ok(None)
+            } else {
+                Ok(Some(Fault::WrongSeat))
+            }
         }
         Cause::Superseded => {
             if by != 0 {
                 return Ok(Some(Fault::WrongSeat));
             }
-            if was_superseded(how_ended(alloc, z, past, s.op)?) { Ok(None) } else { Ok(Some(Fault::NotSuperseded)) }
+            if was_superseded(how_ended(alloc, z, past, s.op)?) {
+                Ok(None)
+            } else {
+                Ok(Some(Fault::NotSuperseded))
+            }
         }
         Cause::SurveyOver => {
             if by != 0 {
@@ -454,12 +491,22 @@ fn may_go(alloc: Global, z: Setting, past: &Past, s: &Begun, cause: Cause, by: u
             if !is_recv(&s.act) {
                 return Ok(Some(Fault::NotReceive));
             }
-            if was_over(how_ended(alloc, z, past, s.op)?) { Ok(None) } else { Ok(Some(Fault::SurveyNotOver)) }
+            if was_over(how_ended(alloc, z, past, s.op)?) {
+                Ok(None)
+            } else {
+                Ok(Some(Fault::SurveyNotOver))
+            }
         }
     }
 }
 
-fn may_end_as(alloc: Global, z: Setting, past: &Past, ending: &Ending, s: &Begun) -> Result<Option<Fault>, NoMemory>
+fn may_end_as(
+    alloc: Global,
+    z: Setting,
+    past: &Past,
+    ending: &Ending,
+    s: &Begun,
+) -> Result<Option<Fault>, NoMemory>
     ensures { IfOk result (λ f. Finds f (MayEndAs z (entries_of past.now) ending.now s.now)) }
 {
     match ending {
@@ -468,13 +515,23 @@ fn may_end_as(alloc: Global, z: Setting, past: &Past, ending: &Ending, s: &Begun
             if is_recv(&s.act) {
                 return Ok(Some(Fault::NotSend));
             }
-            if is_sent(alloc, z, past, s)? { Ok(None) } else { Ok(Some(Fault::NotSent)) }
+            if is_sent(alloc, z, past, s)? {
+                Ok(None)
+            } else {
+                Ok(Some(Fault::NotSent))
+            }
         }
         Ending::Gone(cause, by) => may_go(alloc, z, past, s, *cause, *by),
     }
 }
 
-pub fn may_finish(alloc: Global, z: Setting, past: &Past, op: OpName, ending: &Ending) -> Result<Option<Fault>, NoMemory>
+pub fn may_finish(
+    alloc: Global,
+    z: Setting,
+    past: &Past,
+    op: OpName,
+    ending: &Ending,
+) -> Result<Option<Fault>, NoMemory>
     ensures { IfOk result (λ f. Finds f (MatchOption (pending (entries_of past.now) op) ⊥ (MayEndAs z (entries_of past.now) ending.now))) }
 {
     match pending(alloc, past, op)? {
@@ -500,5 +557,8 @@ pub fn is_up(alloc: Global, past: &Past, p: PipeId) -> Result<bool, NoMemory>
 pub fn comes_after_close(e: &Entry) -> bool
     ensures { result ≡ comes_after_close e.now }
 {
-    matches!(e, Entry::Took(_, _) | Entry::Taken(_) | Entry::Met(_) | Entry::NoUp(_, _))
+    matches!(
+        e,
+        Entry::Took(_, _) | Entry::Taken(_) | Entry::Met(_) | Entry::NoUp(_, _)
+    )
 }

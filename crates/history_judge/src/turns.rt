@@ -18,9 +18,15 @@ ghost use Rattle.history_judge.specs.Faults.{Finds, Judges, JudgesFrom, full_pip
 use crate::faults::{Fault, Verdict};
 use crate::kept::{is_due_again, kept, targets, wanted};
 use crate::lists::{has_ctx, has_pipe, is_empty};
-use crate::past::{caller_of, counts, ctxs, due_at, is_closed, now, one_more, opened, pend, topics, untaken, up, ups};
+use crate::past::{
+    caller_of, counts, ctxs, due_at, is_closed, now, one_more, opened, pend, topics, untaken, up,
+    ups,
+};
 use crate::requests::{has_contexts, has_topics, is_pair, is_reply, is_sub, requests, resends};
-use crate::rules::{comes_after_close, condemned, goes_on, has_topic, is_after_frame, is_pending_on, is_recv, is_uncollected, is_up, may_begin, may_dry, may_end, may_finish};
+use crate::rules::{
+    comes_after_close, condemned, goes_on, has_topic, is_after_frame, is_pending_on, is_recv,
+    is_uncollected, is_up, may_begin, may_dry, may_end, may_finish,
+};
 use crate::story::Past;
 use sp_base::{Bytes, Ctx, NoMemory, OpName, PipeId, Tick};
 use sp_history::entry::{Entry, Gate, Switch, Totals, Turn, Why};
@@ -49,7 +55,13 @@ fn is_malformed(why: Why) -> bool
     matches!(why, Why::Malformed)
 }
 
-fn may_go_down(alloc: Global, z: Setting, past: &Past, p: PipeId, why: Why) -> Result<Option<Fault>, NoMemory>
+fn may_go_down(
+    alloc: Global,
+    z: Setting,
+    past: &Past,
+    p: PipeId,
+    why: Why,
+) -> Result<Option<Fault>, NoMemory>
     ensures { IfOk result (λ f. Finds f (IsUp (entries_of past.now) p × (IsTrue (has (condemned z (entries_of past.now)) p) → why ≡ Malformed))) }
 {
     if !is_up(alloc, past, p)? {
@@ -62,7 +74,12 @@ fn may_go_down(alloc: Global, z: Setting, past: &Past, p: PipeId, why: Why) -> R
     Ok(None)
 }
 
-fn may_be_pulled(alloc: Global, z: Setting, past: &Past, p: PipeId) -> Result<Option<Fault>, NoMemory>
+fn may_be_pulled(
+    alloc: Global,
+    z: Setting,
+    past: &Past,
+    p: PipeId,
+) -> Result<Option<Fault>, NoMemory>
     ensures { IfOk result (λ f. Finds f (IsUp (entries_of past.now) p × IsTrue (wanted z (entries_of past.now) p))) }
 {
     if !is_up(alloc, past, p)? {
@@ -74,7 +91,12 @@ fn may_be_pulled(alloc: Global, z: Setting, past: &Past, p: PipeId) -> Result<Op
     Ok(None)
 }
 
-fn may_be_framed(alloc: Global, z: Setting, past: &Past, p: PipeId) -> Result<Option<Fault>, NoMemory>
+fn may_be_framed(
+    alloc: Global,
+    z: Setting,
+    past: &Past,
+    p: PipeId,
+) -> Result<Option<Fault>, NoMemory>
     ensures { IfOk result (λ f. Finds f (IsUp (entries_of past.now) p × IsTrue (wanted z (entries_of past.now) p) × (has (condemned z (entries_of past.now)) p ≡ false))) }
 {
     if !is_up(alloc, past, p)? {
@@ -93,13 +115,26 @@ fn may_be_framed(alloc: Global, z: Setting, past: &Past, p: PipeId) -> Result<Op
 fn must_be_up(alloc: Global, past: &Past, p: PipeId) -> Result<Option<Fault>, NoMemory>
     ensures { IfOk result (λ f. Finds f (IsUp (entries_of past.now) p)) }
 {
-    if is_up(alloc, past, p)? { Ok(None) } else { Ok(Some(Fault::NotUp)) }
+    if is_up(alloc, past, p)? {
+        Ok(None)
+    } else {
+        Ok(Some(Fault::NotUp))
+    }
 }
 
-fn may_be_unkept(alloc: Global, z: Setting, past: &Past, p: PipeId) -> Result<Option<Fault>, NoMemory>
+fn may_be_unkept(
+    alloc: Global,
+    z: Setting,
+    past: &Past,
+    p: PipeId,
+) -> Result<Option<Fault>, NoMemory>
     ensures { IfOk result (λ f. Finds f (IsTrue (is_after_frame z (entries_of past.now) p))) }
 {
-    if is_after_frame(alloc, z, past, p)? { Ok(None) } else { Ok(Some(Fault::NoFrameBefore)) }
+    if is_after_frame(alloc, z, past, p)? {
+        Ok(None)
+    } else {
+        Ok(Some(Fault::NoFrameBefore))
+    }
 }
 
 fn is_first(pipes: LinkedList<PipeId>, p: PipeId) -> bool
@@ -115,10 +150,20 @@ fn is_first(pipes: LinkedList<PipeId>, p: PipeId) -> bool
 fn may_be_taken(alloc: Global, past: &Past, p: PipeId) -> Result<Option<Fault>, NoMemory>
     ensures { IfOk result (λ f. Finds f (head_of (untaken (entries_of past.now)) ≡ Some p)) }
 {
-    if is_first(untaken(alloc, past)?, p) { Ok(None) } else { Ok(Some(Fault::NotNextTaken)) }
+    if is_first(untaken(alloc, past)?, p) {
+        Ok(None)
+    } else {
+        Ok(Some(Fault::NotNextTaken))
+    }
 }
 
-fn may_take(alloc: Global, k: u32, past: &Past, op: OpName, caller: u32) -> Result<Option<Fault>, NoMemory>
+fn may_take(
+    alloc: Global,
+    k: u32,
+    past: &Past,
+    op: OpName,
+    caller: u32,
+) -> Result<Option<Fault>, NoMemory>
     ensures { IfOk result (λ f. Finds f ((caller ≡ k) × (caller_of (entries_of past.now) op ≡ Some k) × IsTrue (is_uncollected (entries_of past.now) op))) }
 {
     if caller != k {
@@ -130,7 +175,11 @@ fn may_take(alloc: Global, k: u32, past: &Past, op: OpName, caller: u32) -> Resu
     match caller_of(past, op) {
         None => Ok(Some(Fault::NothingToCollect)),
         Some(by) => {
-            if by == k { Ok(None) } else { Ok(Some(Fault::OtherCaller)) }
+            if by == k {
+                Ok(None)
+            } else {
+                Ok(Some(Fault::OtherCaller))
+            }
         }
     }
 }
@@ -141,14 +190,23 @@ fn are_same(ops: &LinkedList<OpName>, others: &LinkedList<OpName>) -> bool
     ops == others
 }
 
-fn may_tick(alloc: Global, past: &Past, t: Tick, ops: &LinkedList<OpName>) -> Result<Option<Fault>, NoMemory>
+fn may_tick(
+    alloc: Global,
+    past: &Past,
+    t: Tick,
+    ops: &LinkedList<OpName>,
+) -> Result<Option<Fault>, NoMemory>
     ensures { IfOk result (λ f. Finds f ((now (entries_of past.now) ≤ t) × (ops.now ≡ due_at (entries_of past.now) t))) }
 {
     if now(past).0 > t.0 {
         return Ok(Some(Fault::TimeGoesBack));
     }
     let found = due_at(alloc, past, t)?;
-    if are_same(ops, &found) { Ok(None) } else { Ok(Some(Fault::WrongDue)) }
+    if are_same(ops, &found) {
+        Ok(None)
+    } else {
+        Ok(Some(Fault::WrongDue))
+    }
 }
 
 fn may_open(z: Setting, past: &Past, c: Ctx) -> Result<Option<Fault>, NoMemory>
@@ -186,29 +244,53 @@ fn topic_fault(alloc: Global, z: Setting, past: &Past, c: Ctx) -> Result<Option<
         return Ok(Some(Fault::NoTopics));
     }
     let open = ctxs(alloc, past)?;
-    if has_ctx(&open, c) { Ok(None) } else { Ok(Some(Fault::NoSuchContext)) }
+    if has_ctx(&open, c) {
+        Ok(None)
+    } else {
+        Ok(Some(Fault::NoSuchContext))
+    }
 }
 
-fn may_put_on(alloc: Global, z: Setting, past: &Past, c: Ctx, t: &Bytes) -> Result<Option<Fault>, NoMemory>
+fn may_put_on(
+    alloc: Global,
+    z: Setting,
+    past: &Past,
+    c: Ctx,
+    t: &Bytes,
+) -> Result<Option<Fault>, NoMemory>
     ensures { IfOk result (λ f. Finds f (IsTrue (has_topics z) × IsTrue (has (ctxs (entries_of past.now)) c) × (has_topic (topics (entries_of past.now) c) t.now ≡ false))) }
 {
     match topic_fault(alloc, z, past, c)? {
         Some(fault) => Ok(Some(fault)),
         None => {
             let ts = topics(alloc, past, c)?;
-            if has_topic(&ts, t.as_slice()) { Ok(Some(Fault::TopicThere)) } else { Ok(None) }
+            if has_topic(&ts, t.as_slice()) {
+                Ok(Some(Fault::TopicThere))
+            } else {
+                Ok(None)
+            }
         }
     }
 }
 
-fn may_take_off(alloc: Global, z: Setting, past: &Past, c: Ctx, t: &Bytes) -> Result<Option<Fault>, NoMemory>
+fn may_take_off(
+    alloc: Global,
+    z: Setting,
+    past: &Past,
+    c: Ctx,
+    t: &Bytes,
+) -> Result<Option<Fault>, NoMemory>
     ensures { IfOk result (λ f. Finds f (IsTrue (has_topics z) × IsTrue (has (ctxs (entries_of past.now)) c) × IsTrue (has_topic (topics (entries_of past.now) c) t.now))) }
 {
     match topic_fault(alloc, z, past, c)? {
         Some(fault) => Ok(Some(fault)),
         None => {
             let ts = topics(alloc, past, c)?;
-            if has_topic(&ts, t.as_slice()) { Ok(None) } else { Ok(Some(Fault::TopicAbsent)) }
+            if has_topic(&ts, t.as_slice()) {
+                Ok(None)
+            } else {
+                Ok(Some(Fault::TopicAbsent))
+            }
         }
     }
 }
@@ -229,17 +311,31 @@ fn may_close(alloc: Global, past: &Past, t: Totals) -> Result<Option<Fault>, NoM
     if !up(alloc, past)?.is_empty() {
         return Ok(Some(Fault::StillUp));
     }
-    if are_totals(past, t)? { Ok(None) } else { Ok(Some(Fault::WrongTotals)) }
+    if are_totals(past, t)? {
+        Ok(None)
+    } else {
+        Ok(Some(Fault::WrongTotals))
+    }
 }
 
 fn may_be_dry(alloc: Global, z: Setting, past: &Past, c: Ctx) -> Result<Option<Fault>, NoMemory>
     ensures { IfOk result (λ f. Finds f (IsTrue (may_dry z (entries_of past.now) c))) }
 {
-    if may_dry(alloc, z, past, c)? { Ok(None) } else { Ok(Some(Fault::NothingCopied)) }
+    if may_dry(alloc, z, past, c)? {
+        Ok(None)
+    } else {
+        Ok(Some(Fault::NothingCopied))
+    }
 }
 
 /// What is wrong with the entry itself.
-fn may_come(alloc: Global, z: Setting, k: u32, past: &Past, e: &Entry) -> Result<Option<Fault>, NoMemory>
+fn may_come(
+    alloc: Global,
+    z: Setting,
+    k: u32,
+    past: &Past,
+    e: &Entry,
+) -> Result<Option<Fault>, NoMemory>
     ensures { IfOk result (λ f. Finds f (MayCome z k (entries_of past.now) e.now)) }
 {
     match e {
@@ -269,7 +365,13 @@ fn may_come(alloc: Global, z: Setting, k: u32, past: &Past, e: &Entry) -> Result
 }
 
 /// What is wrong with the entry here.
-fn allowed(alloc: Global, z: Setting, k: u32, past: &Past, e: &Entry) -> Result<Option<Fault>, NoMemory>
+fn allowed(
+    alloc: Global,
+    z: Setting,
+    k: u32,
+    past: &Past,
+    e: &Entry,
+) -> Result<Option<Fault>, NoMemory>
     ensures { IfOk result (λ f. Finds f (Allowed z k (entries_of past.now) e.now)) }
 {
     if !goes_on(alloc, z, past, e)? {
@@ -299,7 +401,13 @@ fn are_full(fulls: &LinkedList<PipeId>, pipes: &LinkedList<PipeId>) -> bool
     pipes.iter().all(|p| has_pipe(fulls, *p))
 }
 
-fn send_settled(alloc: Global, z: Setting, past: &Past, fulls: &LinkedList<PipeId>, s: &Begun) -> Result<bool, NoMemory>
+fn send_settled(
+    alloc: Global,
+    z: Setting,
+    past: &Past,
+    fulls: &LinkedList<PipeId>,
+    s: &Begun,
+) -> Result<bool, NoMemory>
     ensures { IfOk result (λ r. r ≡ send_settled z (entries_of past.now) (has fulls.now) s.now) }
 {
     if is_recv(&s.act) {
@@ -320,7 +428,13 @@ fn is_dry(past: &Past, c: Ctx) -> bool
     }
 }
 
-fn request_settled(alloc: Global, z: Setting, past: &Past, fulls: &LinkedList<PipeId>, r: &Request) -> Result<bool, NoMemory>
+fn request_settled(
+    alloc: Global,
+    z: Setting,
+    past: &Past,
+    fulls: &LinkedList<PipeId>,
+    r: &Request,
+) -> Result<bool, NoMemory>
     ensures { IfOk result (λ b. b ≡ request_settled z (entries_of past.now) (has fulls.now) r.now) }
 {
     if !is_due_again(alloc, z, past, r)? {
@@ -330,7 +444,12 @@ fn request_settled(alloc: Global, z: Setting, past: &Past, fulls: &LinkedList<Pi
     Ok(are_full(fulls, &pipes) || is_dry(past, r.ctx))
 }
 
-fn receives_settled(alloc: Global, z: Setting, past: &Past, ss: LinkedList<Begun>) -> Result<bool, NoMemory>
+fn receives_settled(
+    alloc: Global,
+    z: Setting,
+    past: &Past,
+    ss: LinkedList<Begun>,
+) -> Result<bool, NoMemory>
     ensures { IfOk result (λ r. r ≡ list_all (receive_settled z (entries_of past.now)) ss) }
 {
     let mut ss = ss;
@@ -345,7 +464,13 @@ fn receives_settled(alloc: Global, z: Setting, past: &Past, ss: LinkedList<Begun
     }
 }
 
-fn sends_settled(alloc: Global, z: Setting, past: &Past, fulls: &LinkedList<PipeId>, ss: LinkedList<Begun>) -> Result<bool, NoMemory>
+fn sends_settled(
+    alloc: Global,
+    z: Setting,
+    past: &Past,
+    fulls: &LinkedList<PipeId>,
+    ss: LinkedList<Begun>,
+) -> Result<bool, NoMemory>
     ensures { IfOk result (λ r. r ≡ list_all (send_settled z (entries_of past.now) (has fulls.now)) ss) }
 {
     let mut ss = ss;
@@ -360,7 +485,13 @@ fn sends_settled(alloc: Global, z: Setting, past: &Past, fulls: &LinkedList<Pipe
     }
 }
 
-fn requests_settled(alloc: Global, z: Setting, past: &Past, fulls: &LinkedList<PipeId>, live: LinkedList<Request>) -> Result<bool, NoMemory>
+fn requests_settled(
+    alloc: Global,
+    z: Setting,
+    past: &Past,
+    fulls: &LinkedList<PipeId>,
+    live: LinkedList<Request>,
+) -> Result<bool, NoMemory>
     ensures { IfOk result (λ r. r ≡ list_all (request_settled z (entries_of past.now) (has fulls.now)) live) }
 {
     let mut live = live;
@@ -376,7 +507,12 @@ fn requests_settled(alloc: Global, z: Setting, past: &Past, fulls: &LinkedList<P
 }
 
 /// What the turn that ends here leaves undone.
-fn undone(alloc: Global, z: Setting, past: &Past, fulls: &LinkedList<PipeId>) -> Result<Option<Fault>, NoMemory>
+fn undone(
+    alloc: Global,
+    z: Setting,
+    past: &Past,
+    fulls: &LinkedList<PipeId>,
+) -> Result<Option<Fault>, NoMemory>
     ensures { IfOk result (λ f. Finds f (SettledWith z (entries_of past.now) (has fulls.now))) }
 {
     if !receives_settled(alloc, z, past, pend(alloc, past)?)? {
@@ -418,20 +554,35 @@ struct Followed {
     fault: Option<Fault>,
 }
 
-fn follow(alloc: Global, z: Setting, k: u32, past: Past, entries: LinkedList<Entry>, fulls: LinkedList<PipeId>) -> Result<Followed, NoMemory>
+fn follow(
+    alloc: Global,
+    z: Setting,
+    k: u32,
+    past: Past,
+    entries: LinkedList<Entry>,
+    fulls: LinkedList<PipeId>,
+) -> Result<Followed, NoMemory>
     ensures past { IfOk result (λ r. entries_of r.past ≡ onto entries (entries_of past)) }
     ensures fulls { IfOk result (λ r. (turn : List Entry) → fulls ≡ full_pipes turn → r.fulls ≡ full_pipes (onto entries turn)) }
     ensures fault { IfOk result (λ r. Finds r.fault (Follows z k (entries_of past) entries)) }
 {
     let mut entries = entries;
     match entries.pop_front() {
-        None => Ok(Followed { past, fulls, fault: None }),
+        None => Ok(Followed {
+            past,
+            fulls,
+            fault: None,
+        }),
         Some(e) => {
             let first = allowed(alloc, z, k, &past, &e)?;
             let fulls = with_full(&e, fulls)?;
             let past = Past::After(e, Box::new(alloc, past)?);
             let rest = follow(alloc, z, k, past, entries, fulls)?;
-            Ok(Followed { past: rest.past, fulls: rest.fulls, fault: first.or(rest.fault) })
+            Ok(Followed {
+                past: rest.past,
+                fulls: rest.fulls,
+                fault: first.or(rest.fault),
+            })
         }
     }
 }
@@ -453,7 +604,11 @@ fn start_fault(z: Setting, k: u32, entries: &LinkedList<Entry>) -> Option<Fault>
     if k < 1 || k > z.callers {
         return Some(Fault::NoSuchCaller);
     }
-    if starts_well(z, entries) { None } else { Some(Fault::BeginsInMidTurn) }
+    if starts_well(z, entries) {
+        None
+    } else {
+        Some(Fault::BeginsInMidTurn)
+    }
 }
 
 /// A past to which a turn was added, what is wrong with the turn, and what it leaves undone.
@@ -464,7 +619,13 @@ struct Judged {
     undone: Option<Fault>,
 }
 
-fn judge_turn(alloc: Global, z: Setting, past: Past, k: u32, entries: LinkedList<Entry>) -> Result<Judged, NoMemory>
+fn judge_turn(
+    alloc: Global,
+    z: Setting,
+    past: Past,
+    k: u32,
+    entries: LinkedList<Entry>,
+) -> Result<Judged, NoMemory>
     ensures past { IfOk result (λ r. entries_of r.past ≡ onto entries (entries_of past)) }
     ensures legal { IfOk result (λ r. Finds r.illegal (LegalTurn z (entries_of past) (record { number = k; entries = entries }))) }
     ensures settled { IfOk result (λ r. Finds r.undone (SettledBy z (onto entries (entries_of past)) (onto entries []))) }
@@ -473,7 +634,11 @@ fn judge_turn(alloc: Global, z: Setting, past: Past, k: u32, entries: LinkedList
     let followed = follow(alloc, z, k, past, entries, LinkedList::new(alloc))?;
     let end = may_end(alloc, z, &followed.past)?;
     let undone = undone(alloc, z, &followed.past, &followed.fulls)?;
-    Ok(Judged { past: followed.past, illegal: start.or(followed.fault).or(end), undone })
+    Ok(Judged {
+        past: followed.past,
+        illegal: start.or(followed.fault).or(end),
+        undone,
+    })
 }
 
 /// The verdict on a turn and on what follows it.
@@ -493,7 +658,12 @@ fn together(illegal: Option<Fault>, undone: Option<Fault>, rest: Verdict) -> Ver
 }
 
 #[tactic(auto, using(crate::proofs::Verdicts::judged))]
-fn judge_from(alloc: Global, z: Setting, past: Past, turns: LinkedList<Turn<Entry>>) -> Result<Verdict, NoMemory>
+fn judge_from(
+    alloc: Global,
+    z: Setting,
+    past: Past,
+    turns: LinkedList<Turn<Entry>>,
+) -> Result<Verdict, NoMemory>
     ensures { IfOk result (λ v. JudgesFrom v z (entries_of past) turns) }
 {
     let mut turns = turns;
@@ -508,7 +678,11 @@ fn judge_from(alloc: Global, z: Setting, past: Past, turns: LinkedList<Turn<Entr
 }
 
 /// Whether the history is legal and settled for the setting, and if not, the first thing that is wrong with it.
-pub fn judge(alloc: Global, z: Setting, history: LinkedList<Turn<Entry>>) -> Result<Verdict, NoMemory>
+pub fn judge(
+    alloc: Global,
+    z: Setting,
+    history: LinkedList<Turn<Entry>>,
+) -> Result<Verdict, NoMemory>
     ensures { IfOk result (λ v. Judges v z history) }
 {
     judge_from(alloc, z, Past::Start, history)

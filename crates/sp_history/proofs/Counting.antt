@@ -84,6 +84,7 @@ given_here z past c op m s none h found oldest how = rw found (go (pool_of z s.c
   where
     of_pool : option_map (λ (i : Item). i.message) (head_of (pool z past (pool_of z s.ctx))) ≡ Some m
     of_pool = rw none at oldest
+
     go : (b : Bool) → (pool_of z s.ctx == c) ≡ b → cond b (given_count z past c + 1) (given_count z past c) + length (cond b (drop 1 (pool z past c)) (pool z past c)) ≤ frame_total past
     go false e = h
     go true e =

@@ -139,6 +139,7 @@ apart_times (q ∷ qs) h = (absent (has qs q) refl, apart_times qs fewer)
         go : (b : Bool) → cond b (times qs p + 1) (times qs p) ≤ 1 → times qs p ≤ 1
         go true k = omega arith
         go false k = k
+
     absent : (b : Bool) → has qs q ≡ b → has qs q ≡ false
     absent false e = e
     absent true e =
@@ -151,8 +152,8 @@ pub pipes_apart : (z : Setting) (history : List (Turn Entry)) → Legal z histor
 unfolding times
 pipes_apart z history l =
     apart_times (up (past_of history)) (λ p.
-      let c : PipeCounted (past_of history) p = pipe_all z [] history p (refl, omega arith, λ k. omega arith) l in
-      omega (arith, c.0, c.1))
+    let c : PipeCounted (past_of history) p = pipe_all z [] history p (refl, omega arith, λ k. omega arith) l in
+    omega (arith, c.0, c.1))
 
 -- an operation that has ended isn't pending
 pub ended_is_gone : (z : Setting) (history : List (Turn Entry)) (op : OpName) → Legal z history → 1 ≤ end_count (past_of history) op → is_some (pending (past_of history) op) ≡ false

@@ -50,11 +50,11 @@ pub legal_more : (t : Moment) (h : List (Turn Entry)) → Legal t.z h → t.befo
     → Legal t.z (h ++ turn_of t ∷ [])
 legal_more t h l b k back start ends =
     Legal-append t.z h (turn_of t) l (record {
-        is_caller = k;
-        starts_well = starts_all t.z t.turn start;
-        entries = rw b at (follows t.z t.caller t.before t.turn [] back tt);
-        whole = rw (past_is t h b) ends;
-      })
+      is_caller = k;
+      starts_well = starts_all t.z t.turn start;
+      entries = rw b at (follows t.z t.caller t.before t.turn [] back tt);
+      whole = rw (past_is t h b) ends;
+    })
 
 pub settled_more : (t : Moment) (h : List (Turn Entry)) → Settled t.z h → t.before ≡ past_of h → SettledBy t.z (past t) t.turn → Settled t.z (h ++ turn_of t ∷ [])
 settled_more t h s b settled = Settled-append t.z h (turn_of t) s (rw (past_is t h b, onto-twice t.turn) settled)

@@ -28,7 +28,6 @@ is_dry (Dry d ∷ past) c = (d == c) || is_dry past c
 is_dry (Tick t due ∷ past) c = false
 is_dry (_ ∷ past) c = is_dry past c
 
-
 -- a pending receive finds nothing kept
 abbrev pub receive_settled : Setting → List Entry → Begun → Bool
 receive_settled z past s = not (is_recv s.act) || is_nil (kept z past s.ctx)

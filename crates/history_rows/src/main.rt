@@ -1,0 +1,139 @@
+//! Reads worked histories, and says of each whether it is what it is said to be.
+//!
+//! A row is a line `= NAME ROLE OPTION.. : VERDICT`, a line for each turn, and an empty line; a line that begins with `#`
+//! says something to the reader. A turn is `CALLER: ENTRY, ENTRY ..`, where the caller's number may be left out for 1.
+//! `text` has the words of the entries. Printed are the rows whose verdict is another one, and how many rows there were.
+#![tactic(auto)]
+
+mod text;
+
+use anyhow::Result;
+use history_judge::faults::Verdict;
+use history_judge::turns::judge;
+use sp_history::entry::{Entry, Turn};
+use sp_history::setting::Setting;
+use std::alloc::Global;
+use std::collections::LinkedList;
+use text::{setting_of, turn_of};
+
+/// How many rows had which verdict, and of how many it was another one than was said.
+#[derive(Clone, Copy)]
+struct Tally {
+    right: u32,
+    illegal: u32,
+    unsettled: u32,
+    others: u32,
+}
+
+/// The row that is being read.
+#[derive(Drop)]
+struct Row {
+    title: String,
+    said: String,
+    setting: Option<Setting>,
+    turns: LinkedList<Turn<Entry>>,
+}
+
+fn empty_row(alloc: Global) -> Row {
+    Row {
+        title: String::new(alloc),
+        said: String::new(alloc),
+        setting: None,
+        turns: LinkedList::new(alloc),
+    }
+}
+
+fn begin_row(alloc: Global, line: &str) -> Result<Row> {
+    let (title, said) = line.split_once(" : ").unwrap_or((line, "?"));
+    Ok(Row {
+        title: String::from_str(alloc, title)?,
+        said: String::from_str(alloc, said)?,
+        setting: setting_of(alloc, title).ok(),
+        turns: LinkedList::new(alloc),
+    })
+}
+
+fn counted(tally: Tally, verdict: Verdict) -> Tally {
+    match verdict {
+        Verdict::Right => Tally {
+            right: tally.right.saturating_add(1),
+            ..tally
+        },
+        Verdict::Illegal(_) => Tally {
+            illegal: tally.illegal.saturating_add(1),
+            ..tally
+        },
+        Verdict::Unsettled(_) => Tally {
+            unsettled: tally.unsettled.saturating_add(1),
+            ..tally
+        },
+    }
+}
+
+fn another(rt: &impl Print, title: &str, found: &str, tally: Tally) -> Result<Tally> {
+    println!(rt; "{title} : {found}")?;
+    Ok(Tally {
+        others: tally.others.saturating_add(1),
+        ..tally
+    })
+}
+
+/// Judges the row.
+fn end_row<R: Print + AllocGlobal>(rt: &R, row: Row, tally: Tally) -> Result<Tally> {
+    let Row {
+        title,
+        said,
+        setting,
+        turns,
+    } = row;
+    let Some(z) = setting else {
+        return another(rt, title.as_str(), "no such setting", tally);
+    };
+    let Ok(verdict) = judge(rt.alloc(), z, turns) else {
+        return another(rt, title.as_str(), "no memory", tally);
+    };
+    let tally = counted(tally, verdict);
+    let found = format!(in rt.alloc(); "{verdict:?}")?;
+    if found.as_str() == said.as_str() {
+        Ok(tally)
+    } else {
+        another(rt, title.as_str(), found.as_str(), tally)
+    }
+}
+
+fn add_turn(alloc: Global, row: Row, line: &str) -> Result<Row> {
+    let mut row = row;
+    match turn_of(alloc, line) {
+        Ok(turn) => row.turns.push_back(turn)?,
+        Err(_) => row.setting = None,
+    }
+    Ok(row)
+}
+
+fn main(rt: HostRuntime) -> Result<()> {
+    let mut tally = Tally {
+        right: 0,
+        illegal: 0,
+        unsettled: 0,
+        others: 0,
+    };
+    let mut row = empty_row(rt.alloc());
+    for line in rt.lines(rt.alloc()) {
+        let line = line?;
+        let line = line.as_str();
+        if line.starts_with("= ") {
+            row = begin_row(rt.alloc(), line)?;
+        } else if line.is_empty() {
+            tally = end_row(&rt, row, tally)?;
+            row = empty_row(rt.alloc());
+        } else if !line.starts_with("#") {
+            row = add_turn(rt.alloc(), row, line)?;
+        }
+    }
+    println!(rt;
+        "{} right, {} illegal, {} unsettled",
+        tally.right, tally.illegal, tally.unsettled
+    )?;
+    println!(rt; "{} otherwise than said", tally.others)?;
+    Ok(())
+}
