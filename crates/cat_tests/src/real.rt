@@ -23,7 +23,7 @@ fn files_of_the_machine_are_read(rt: HostRuntime) -> Result<(), Fail> {
 fn the_pace_rests_where_nothing_moved(rt: HostRuntime) -> Result<(), Fail> {
     let mut pace = RealPace::new(rt.clone()?)?;
     let mut latest = Tick(0);
-    for _turn in 0..3 {
+    for turn in 0..3 {
         if let Paced::At(tick) = pace.turn(false) {
             latest = tick;
         }
@@ -42,7 +42,7 @@ fn the_output_takes_a_piece(rt: HostRuntime) -> Result<(), Fail> {
 // Gives back what there is.
 fn done<N: Net>(net: &mut N, link: N::L)
     requires { (N.L.seen link).place < (N.seen net.old).opened }
-    ensures { (N.seen net.new).listens ≡ (N.seen net.old).listens }
+    ensures { (N.seen net.new).opened ≡ (N.seen net.old).opened }
 {
     let mut link = link;
     link.shut();
@@ -54,11 +54,13 @@ fn passes<A: Link, B: Link, P: Pace>(from: &mut A, to: &mut B, pace: &mut P) -> 
     requires from_open { (A.seen from.old).is_open ≡ true }
     requires to_open { (B.seen to.old).is_open ≡ true }
     ensures from_place { (A.seen from.new).place ≡ (A.seen from.old).place }
+    ensures from_still { (A.seen from.new).is_open ≡ true }
     ensures to_place { (B.seen to.new).place ≡ (B.seen to.old).place }
+    ensures to_still { (B.seen to.new).is_open ≡ true }
 {
     let sent = from.write(b"x");
     let mut buffer = [0u8; 4];
-    for _turn in 0..1_000 {
+    for turn in 0..1_000 {
         let _paced = pace.turn(false);
         if let LinkRead::Got(n) = to.read(&mut buffer) {
             return n == 1 && buffer[0] == b'x' && matches!(sent, LinkWrite::Took(1));
@@ -73,7 +75,7 @@ fn accepted<N: Net, P: Pace>(net: &mut N, at: u32, pace: &mut P) -> Option<N::L>
     ensures open_ { IfSome result (λ l. ((N.L.seen l).is_open ≡ true) × ((N.L.seen l).place < (N.seen net.new).opened)) }
     ensures opened { (N.seen net.old).opened ≤ (N.seen net.new).opened }
 {
-    for _turn in 0..1_000 {
+    for turn in 0..1_000 {
         let _paced = pace.turn(false);
         match net.accept(at) {
             Linked::Got(link) => return Some(link),
@@ -103,17 +105,25 @@ fn talks_to_itself<N: Net, P: Pace>(net: &mut N, at: u32, addr: &Addr, pace: &mu
     there && back
 }
 
+// Listens at a port that is free, and talks to itself there.
+fn talks_at<N: Net, P: Pace>(net: &mut N, pace: &mut P, port: u16) -> Option<bool> {
+    let addr = Addr::Tcp {
+        host: Host::V4(127, 0, 0, 1),
+        port,
+    };
+    match net.listen(&addr) {
+        Listened::At(at) => Some(talks_to_itself(net, at, &addr, pace)),
+        Listened::Failed => None,
+    }
+}
+
 #[test]
 fn the_net_links_this_machine_to_itself(rt: HostRuntime) -> Result<(), Fail> {
     let mut net = TcpNet::new(rt.clone()?, rt.alloc());
     let mut pace = RealPace::new(rt.clone()?)?;
     for port in 47_815..47_835 {
-        let addr = Addr::Tcp {
-            host: Host::V4(127, 0, 0, 1),
-            port,
-        };
-        if let Listened::At(at) = net.listen(&addr) {
-            assert!(rt; talks_to_itself(&mut net, at, &addr, &mut pace));
+        if let Some(talked) = talks_at(&mut net, &mut pace, port) {
+            assert!(rt; talked);
             return Ok(());
         }
     }

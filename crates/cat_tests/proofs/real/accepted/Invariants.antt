@@ -1,8 +1,8 @@
 use Rattle.std.proofs.Common.{◌≡◌, ◌≤◌}
 use Rattle.cat_tests.proofs.real.accepted.Given as goal
 
-abbrev pub invariant-loop-_turn : goal.invariant-loop-_turn
-invariant-loop-_turn g l = record {
+abbrev pub invariant-loop-turn : goal.invariant-loop-turn
+invariant-loop-turn g l = record {
   listens : (g.N.Net.seen l.net).listens ≡ (g.N.Net.seen l.fn.net).listens;
   opened : (g.N.Net.seen l.fn.net).opened ≤ (g.N.Net.seen l.net).opened;
 }
