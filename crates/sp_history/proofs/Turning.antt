@@ -5,7 +5,7 @@ use Rattle.sp_history.specs.declared.entry.Entry.{Entry}
 use Rattle.sp_history.specs.declared.entry.Entry.TheVariants.{Unkept, Dry}
 use Rattle.sp_history.specs.declared.setting.Setting.{Setting}
 use Rattle.sp_history.specs.Past.{onto, past_of}
-use Rattle.sp_history.specs.Legal.{Follows, Legal, LegalTurn, MayEnd, starts_well}
+use Rattle.sp_history.specs.Legal.{Follows, Legal, MayEnd, starts_well}
 use Rattle.sp_history.specs.Settled.{SettledBy, Settled}
 use Rattle.sp_history.specs.Moments.{Moment, past, turn_of, Back, starts_back, may_start}
 use Rattle.sp_history.proofs.Appending.{past_of-append, Legal-append, Settled-append}

@@ -3,7 +3,7 @@ use Rattle.std.specs.Prelude.{Bool, true, false, not, ◌&&◌}
 use Rattle.sp_base.specs.Roles.{has_contexts as role_has_contexts}
 use Rattle.sp_history.specs.declared.setting.Setting.{Setting}
 use Rattle.sp_base.specs.declared.role.Role.{Role}
-use Rattle.sp_base.specs.declared.role.Role.TheVariants.{Pair0, Pub, Sub, Req, Rep, Push, Pull, Surveyor, Respondent, Bus}
+use Rattle.sp_base.specs.declared.role.Role.TheVariants.{Pair0, Pub, Sub, Req, Rep, Surveyor, Respondent, Bus}
 
 -- a send goes to every target, in the turn of its begin
 abbrev pub floods : Role → Bool

@@ -1,5 +1,5 @@
 -- What no turn leaves undone.
-use Rattle.std.specs.Prelude.{ℕ, ◌≡◌, ◌==◌, Bool, false, not, ◌&&◌, ◌||◌, ⊤, IsTrue, List, [], ◌∷◌, Option, Some, None}
+use Rattle.std.specs.Prelude.{ℕ, ◌≡◌, ◌==◌, Bool, false, not, ◌&&◌, ◌||◌, ⊤, IsTrue, List, [], ◌∷◌}
 use Rattle.std.specs.List.{list_all}
 use Rattle.sp_history.specs.declared.entry.Turn.{Turn}
 use Rattle.sp_history.specs.declared.entry.Entry.{Entry}
