@@ -1,5 +1,5 @@
 -- How the rounds keep the account of the links of a run.
-use Rattle.std.proofs.Common.{◌≡◌, ◌≤◌, ◌<◌, ◌+◌, ◌++◌, ◌⊎◌, ℕ, zero, suc, true, false, cond, List, [], ◌∷◌, length, eqb, Option, Some, None, refl, sym, ap, subst, ◌∙◌, append_assoc, append-nil, arith, inl, inr}
+use Rattle.std.proofs.Common.{◌≡◌, ◌≤◌, ◌<◌, ◌+◌, ◌-◌, ◌++◌, ◌⊎◌, ℕ, zero, suc, true, false, cond, List, [], ◌∷◌, length, eqb, Option, Some, None, refl, sym, ap, subst, ◌∙◌, append_assoc, append-nil, arith, inl, inr}
 use Rattle.std.specs.Prelude.{IsSome, IfSome, slice_get}
 use Rattle.std.specs.FinMap.{FinMap, get, insert, get-insert}
 use Rattle.std.specs.Ordering.{nat_cmp, eq_by_cmp, is_eq}
@@ -11,12 +11,12 @@ use Rattle.std.proofs.lemmas.List.Concat.{flat_map-append}
 use Rattle.sp_spec.specs.SpTcp.{hello}
 use Rattle.sp_spec.specs.Outside.{grown, Told, IsFront}
 use Rattle.sp_spec.specs.Print.{ascii_lines}
-use Rattle.sp_base.specs.Views.{LinkView, NetView}
+use Rattle.sp_base.specs.Views.{LinkView, NetView, PaceView}
 use Rattle.sp_base.specs.Steps.{IsNew, IsHandedOut, AfterGiveBack}
 use Rattle.sp_base.specs.declared.addr.Scheme.{Scheme}
 use Rattle.cat_run.specs.Links.{Accounts, IsSpent, shown}
 use Rattle.cat_run.specs.Serving.{IsUsable, HasRead, Printed, LeftBy, Serves, IsTail}
-use Rattle.cat_run.specs.Rounds.{all_of, WasServed, WereServed, IsTailOf, Owes, Path, KeepsOthers, Asked, IsFirstSpent, shut_view, LetGo, GaveUp, IsKept, Start, Holding, Stands, Ledger, FirstMet, FirstServed, Closes, Closing, GoesOn, Turned, IsLeft}
+use Rattle.cat_run.specs.Rounds.{all_of, WasServed, WereServed, IsTailOf, Owes, Path, KeepsOthers, Asked, IsFirstSpent, Spends, shut_view, LetGo, GaveUp, IsKept, Start, Holding, Stands, Ledger, FirstMet, FirstServed, Closes, Closing, GoesOn, Turned, IsLeft}
 use Rattle.cat_run.specs.declared.held.Held.{Held}
 use Rattle.cat_run.specs.declared.held.Step.{Step}
 use Rattle.cat_run.specs.declared.held.Step.TheVariants as step
@@ -257,13 +257,14 @@ module _ {L : Type 0} (seen : L → LinkView) where
 -- ---- how often the net was asked
 
 pub asked_none : (net : NetView) → Asked 0 net net
-asked_none net = record { idle = omega arith; fault = omega arith; open_ = omega arith; rose = (λ p q. omega arith) }
+asked_none net = record { idle = omega arith; fault = omega arith; open_ = omega arith; most = omega arith; rose = (λ p q. omega arith) }
 
 pub asked_more : (n : ℕ) (a b c : NetView) → Asked n a b → Asked 1 b c → Asked (n + 1) a c
 asked_more n a b c p q = record {
   idle = omega (arith, p.idle, q.idle);
   fault = omega (arith, p.fault, q.fault);
   open_ = omega (arith, p.open_, q.open_);
+  most = omega (arith, p.most, q.most);
   rose = (λ i f. omega (arith, q.rose i f, p.rose (omega (arith, q.idle, i)) (omega (arith, q.fault, f))));
 }
 
@@ -273,7 +274,58 @@ asked_given n a b c link p gave = record {
   idle = omega (arith, p.idle, gave.idles);
   fault = omega (arith, p.fault, gave.faults);
   open_ = omega (arith, p.open_, gave.opened);
+  most = omega (arith, p.most, gave.opened);
   rose = (λ i f. omega (arith, gave.idles, gave.faults, gave.opened, p.rose (omega (arith, gave.idles, i)) (omega (arith, gave.faults, f))));
+}
+
+-- the net was asked to listen before
+pub asked_listening : (n : ℕ) (a b c : NetView) → b.opened ≡ a.opened → b.idles ≡ a.idles → a.faults ≤ b.faults → Asked n b c → Asked n a c
+asked_listening n a b c opened idles faults q = record {
+  idle = omega (arith, idles, q.idle);
+  fault = omega (arith, faults, q.fault);
+  open_ = omega (arith, opened, q.open_);
+  most = omega (arith, opened, q.most);
+  rose = (λ i f. omega (arith, opened, idles, faults, q.rose i f));
+}
+
+-- nothing was spent
+pub spends_none : (s : Status) (net : NetView) (pace : PaceView) → (s ≡ status.Over → ⊥) → Spends s net net pace pace
+spends_none s net pace other =
+    let none : pace.left - pace.left ≡ 0 = omega arith in
+    record {
+      turns = omega arith;
+      asked = subst (λ n. Asked n net net) (sym none) (asked_none net);
+      over = (λ e. absurd (other e));
+      first = (λ e. absurd (other e));
+    }
+
+-- so many turns were taken
+pub spends_some : (s : Status) (n : ℕ) (net net' : NetView) (pace pace' : PaceView) → n + pace'.left ≡ pace.left → Asked n net net' → (s ≡ status.Over → ⊥) → Spends s net net' pace pace'
+spends_some s n net net' pace pace' e asked other =
+    let is : pace.left - pace'.left ≡ n = omega (arith, e) in
+    record {
+      turns = omega (arith, e);
+      asked = subst (λ m. Asked m net net') (sym is) asked;
+      over = (λ f. absurd (other f));
+      first = (λ f. absurd (other f));
+    }
+
+pub spends_all : (n : ℕ) (net net' : NetView) (pace pace' : PaceView) → n + pace'.left ≡ pace.left → pace'.left ≡ 0 → Asked n net net' → (net.opened < net'.opened → IsFirstSpent net'.back net.opened) → Spends status.Over net net' pace pace'
+spends_all n net net' pace pace' e none asked first =
+    let is : pace.left - pace'.left ≡ n = omega (arith, e) in
+    record {
+      turns = omega (arith, e);
+      asked = subst (λ m. Asked m net net') (sym is) asked;
+      over = (λ f. none);
+      first = (λ f. first);
+    }
+
+pub spends_listening : (s : Status) (a b c : NetView) (pace pace' : PaceView) → b.opened ≡ a.opened → b.idles ≡ a.idles → a.faults ≤ b.faults → Spends s b c pace pace' → Spends s a c pace pace'
+spends_listening s a b c pace pace' opened idles faults q = record {
+  turns = q.turns;
+  asked = asked_listening (pace.left - pace'.left) a b c opened idles faults q.asked;
+  over = q.over;
+  first = (λ e lt. subst (IsFirstSpent c.back) opened (q.first e (omega (arith, opened, lt))));
 }
 
 -- ---- the end of a run

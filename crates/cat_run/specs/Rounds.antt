@@ -5,7 +5,7 @@ use Rattle.std.specs.FinMap.{FinMap, get}
 use Rattle.std.specs.Ordering.{nat_cmp}
 use Rattle.sp_spec.specs.Outside.{grown, Told, IsFront}
 use Rattle.sp_spec.specs.Print.{ascii, ascii_lines}
-use Rattle.sp_base.specs.Views.{LinkView, NetView}
+use Rattle.sp_base.specs.Views.{LinkView, NetView, PaceView}
 use Rattle.sp_base.specs.Steps.{AfterGiveBack}
 use Rattle.cat_run.specs.Links.{Accounts, IsSpent, shown}
 use Rattle.cat_run.specs.Serving.{IsUsable, HasRead, Printed, LeftBy}
@@ -59,16 +59,26 @@ pub record Path (s : Status) (count first opened : ℕ) (back : FinMap nat_cmp L
 abbrev pub KeepsOthers : ℕ → ℕ → FinMap nat_cmp LinkView → FinMap nat_cmp LinkView → Type 0
 KeepsOthers first opened before back = (place : ℕ) → (place < first) ⊎ (opened ≤ place) → get back place ≡ get before place
 
--- the net was asked so often: its counts rose together by at least that, unless one stands at its type's end
+-- the net was asked so often: its counts rose together by at least that, unless one stands at its type's end; and it
+-- handed out at most as many links
 pub record Asked (n : ℕ) (old new : NetView) : Type 0 where
   pub idle : old.idles ≤ new.idles
   pub fault : old.faults ≤ new.faults
   pub open_ : old.opened ≤ new.opened
+  pub most : new.opened ≤ old.opened + n
   pub rose : new.idles < 2 ^ 64 - 1 → new.faults < 2 ^ 64 - 1 → old.idles + old.faults + old.opened + n ≤ new.idles + new.faults + new.opened
 
 -- the first link of the run is back, and a round was spent on it
 abbrev pub IsFirstSpent : FinMap nat_cmp LinkView → ℕ → Type 0
 IsFirstSpent back first = (link : LinkView) × (get back first ≡ Some link) × IsSpent link
+
+-- what the turns of a run were spent on: each asked the net once; at Over none is left, and a round was spent on the
+-- first link of the run
+pub record Spends (s : Status) (net net' : NetView) (pace pace' : PaceView) : Type 0 where
+  pub turns : pace'.left ≤ pace.left
+  pub asked : Asked (pace.left - pace'.left) net net'
+  pub over : s ≡ status.Over → pace'.left ≡ 0
+  pub first : s ≡ status.Over → net.opened < net'.opened → IsFirstSpent net'.back net.opened
 
 -- ---- the parts of a round
 

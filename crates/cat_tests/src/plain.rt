@@ -1,5 +1,9 @@
-use sp_base::{Bytes, Files, Role, Whole, next_value};
-use sp_fakes::MemFiles;
+ghost use Rattle.std.specs.Prelude.{◌≡◌, true};
+ghost use Rattle.sp_base.specs.Addresses.{is_dialable};
+
+use sp_base::{Addr, Bytes, Files, Host, Link, LinkRead, Linked, Net, Role, Whole, next_value};
+use sp_fakes::{LinkStep, MemFiles, MemLink, MemNet};
+use sp_tcp::Greeting;
 use std::test::Fail;
 
 #[test]
@@ -57,5 +61,116 @@ fn files_in_memory_are_read_by_their_names(rt: HostRuntime) -> Result<(), Fail> 
     assert!(rt; matches!(&found, Whole::Bytes(b) if b.as_slice().len() == 3));
     let missing = files.whole("b");
     assert!(rt; matches!(&missing, Whole::Failed));
+    Ok(())
+}
+
+#[test]
+fn greetings_of_all_roles(rt: HostRuntime) -> Result<(), Fail> {
+    let greetings: &[(Role, &[u8])] = &[
+        (Role::Pair0, b"\x00SP\x00\x00\x10\x00\x00"),
+        (Role::Pub, b"\x00SP\x00\x00\x20\x00\x00"),
+        (Role::Sub, b"\x00SP\x00\x00\x21\x00\x00"),
+        (Role::Req, b"\x00SP\x00\x00\x30\x00\x00"),
+        (Role::Rep, b"\x00SP\x00\x00\x31\x00\x00"),
+        (Role::Push, b"\x00SP\x00\x00\x50\x00\x00"),
+        (Role::Pull, b"\x00SP\x00\x00\x51\x00\x00"),
+        (Role::Surveyor, b"\x00SP\x00\x00\x62\x00\x00"),
+        (Role::Respondent, b"\x00SP\x00\x00\x63\x00\x00"),
+        (Role::Bus, b"\x00SP\x00\x00\x70\x00\x00"),
+    ];
+    for (role, bytes) in greetings {
+        let greeting = Greeting::new(*role);
+        assert_eq!(rt; greeting.hello(), *bytes);
+    }
+    Ok(())
+}
+
+// Reads once, and says what came: the first byte, or a mark.
+fn read_byte<L: Link>(link: &mut L) -> u8
+    requires { (L.seen link.old).is_open ≡ true }
+    ensures { (L.seen link.new).is_open ≡ true }
+{
+    let mut buffer = [0u8; 8];
+    match link.read(&mut buffer) {
+        LinkRead::Got(_) => buffer[0],
+        LinkRead::NotYet => b'-',
+        LinkRead::Ended => b'.',
+        LinkRead::Failed => b'!',
+    }
+}
+
+// What each of eight reads of a link gives, with a write of three bytes before the sixth.
+fn reads_of<L: Link>(link: &mut L) -> [u8; 8]
+    requires { (L.seen link.old).is_open ≡ true }
+{
+    let a = read_byte(link);
+    let b = read_byte(link);
+    let c = read_byte(link);
+    let d = read_byte(link);
+    let e = read_byte(link);
+    let _written = link.write(b"xyz");
+    let f = read_byte(link);
+    let g = read_byte(link);
+    let h = read_byte(link);
+    [a, b, c, d, e, f, g, h]
+}
+
+#[test]
+fn a_link_in_memory_goes_by_its_script(rt: HostRuntime) -> Result<(), Fail> {
+    let alloc = rt.alloc();
+    let mut script = Vec::new(alloc);
+    script.push(LinkStep::Bytes(Bytes::from_slice(alloc, b"a")?))?;
+    script.push(LinkStep::Fail)?;
+    script.push(LinkStep::NotYet)?;
+    script.push(LinkStep::After(3))?;
+    script.push(LinkStep::Bytes(Bytes::from_slice(alloc, b"b")?))?;
+    script.push(LinkStep::End)?;
+    let mut link = MemLink::new(alloc, script, 9, Vec::new(alloc));
+    assert_eq!(rt; reads_of(&mut link), *b"a!---b..");
+    assert_eq!(rt; link.written(), b"xyz".as_slice());
+    Ok(())
+}
+
+// Dials twice: whether the first was a fault, and the second a link.
+fn dials<N: Net>(net: &mut N, addr: &Addr) -> bool
+    requires { is_dialable addr.now ≡ true }
+{
+    let failed = match net.dial(addr) {
+        Linked::Failed => true,
+        Linked::NotYet => false,
+        Linked::Got(link) => {
+            net.give_back(link);
+            false
+        }
+    };
+    match net.dial(addr) {
+        Linked::Got(link) => {
+            net.give_back(link);
+            failed
+        }
+        Linked::NotYet | Linked::Failed => false,
+    }
+}
+
+// Some address that can be dialed.
+fn address() -> Addr
+    ensures { is_dialable result ≡ true }
+{
+    Addr::Tcp {
+        host: Host::V4(127, 0, 0, 1),
+        port: 5555,
+    }
+}
+
+#[test]
+fn a_failed_dial_uses_up_no_link(rt: HostRuntime) -> Result<(), Fail> {
+    let alloc = rt.alloc();
+    let mut links = Vec::new(alloc);
+    links.push(MemLink::new(alloc, Vec::new(alloc), 9, Vec::new(alloc)))?;
+    let mut outgoing = Vec::new(alloc);
+    outgoing.push((address(), links))?;
+    let mut net = MemNet::new(alloc, Vec::new(alloc), outgoing, vec![in alloc; 0]?)?;
+    assert!(rt; dials(&mut net, &address()));
+    assert_eq!(rt; net.opened(), 1);
     Ok(())
 }

@@ -28,12 +28,16 @@ HasLeft (steps.After n) offset = Unit {0}
 HasLeft steps.End offset = Unit {0}
 HasLeft steps.Fail offset = Unit {0}
 
+-- the steps that a link reads by
+abbrev pub script_of : MemLink → List LinkStep
+script_of l = l.script.items
+
 -- what came is what the script gives, as far as it was read
 abbrev pub link_view : MemLink → LinkView
 link_view l = record {
   place = l.number;
   scheme = l.scheme;
-  came = Some (given l.script.items l.at l.offset);
+  came = Some (given (script_of l) l.at l.offset);
   written = Some l.kept.items;
   faults = l.fault_count;
   idles = l.idle_count;

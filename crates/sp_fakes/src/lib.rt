@@ -4,6 +4,8 @@
 //! number 0.
 #![tactic(auto)]
 
+ghost use Rattle.std.specs.Prelude.{◌↔◌, IsTrue, Contains};
+
 mod files;
 mod link;
 mod net;
@@ -19,6 +21,8 @@ pub use sink::MemSink;
 pub use wire::{MemWire, WireStep};
 
 // A number stands in the list of those that fail.
-fn is_listed(fails: &[u64], call: u64) -> bool {
+fn is_listed(fails: &[u64], call: u64) -> bool
+    ensures { IsTrue result ↔ Contains fails.now call }
+{
     fails.contains(&call)
 }

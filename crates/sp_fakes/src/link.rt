@@ -1,6 +1,6 @@
 //! A link that reads by a script and keeps what was written.
 ghost use Rattle.std.specs.Prelude.{◌≡◌, ◌<◌, ◌≤◌, ◌+◌, ℕ, IsTrue, Some, [], true, false, length, take, drop, slice_get};
-ghost use Rattle.sp_fakes.specs.Scripts.{given, step_bytes, HasLeft, link_view, unread_at};
+ghost use Rattle.sp_fakes.specs.Scripts.{given, step_bytes, HasLeft, link_view, script_of, unread_at};
 ghost use Rattle.sp_fakes.specs.declared.link.LinkStep.{LinkStep as Step};
 
 use crate::is_listed;
@@ -45,7 +45,8 @@ impl MemLink {
     /// Reads by the script, and takes at most `take` bytes at a write; the writes with these numbers fail, and so
     /// does one for which there is no memory.
     pub fn new(alloc: Global, script: Vec<LinkStep>, take: usize, fails: Vec<u64>) -> MemLink
-        ensures { link_view result ≡ unread_at 0 Scheme.Tcp }
+        ensures unread { link_view result ≡ unread_at 0 Scheme.Tcp }
+        ensures script { script_of result ≡ script.items }
     {
         MemLink {
             script,
@@ -86,7 +87,8 @@ impl MemLink {
 
     /// The same link, not read or written yet, at this place.
     pub fn placed(self, number: u32, scheme: Scheme) -> MemLink
-        ensures { link_view result ≡ unread_at number scheme }
+        ensures unread { link_view result ≡ unread_at number scheme }
+        ensures script { script_of result ≡ script_of self }
     {
         let MemLink {
             script,

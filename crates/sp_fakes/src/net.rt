@@ -1,5 +1,5 @@
 //! A net of links in memory.
-ghost use Rattle.std.specs.Prelude.{◌≡◌, ◌≤◌, ◌+◌, ℕ, Some, IfSome, IfOk, length};
+ghost use Rattle.std.specs.Prelude.{◌≡◌, ◌≤◌, ◌+◌, ℕ, Some, None, IfSome, IfNone, IfOk, length};
 ghost use Rattle.std.specs.FinMap as map;
 ghost use Rattle.std.specs.Ordering.{nat_cmp};
 ghost use Rattle.sp_base.specs.Views.{LinkView};
@@ -105,7 +105,10 @@ impl MemNet {
     }
 
     /// The link that was given back with this place.
-    pub fn returned(&self, place: u32) -> Option<&MemLink> {
+    pub fn returned(&self, place: u32) -> Option<&MemLink>
+        ensures found { IfSome result (λ link. map.get (net_view self.now).back place ≡ Some (link_view link.now)) }
+        ensures none { IfNone result (map.get (net_view self.now).back place ≡ None) }
+    {
         let mut rest = &self.returned;
         while let Returned::More(link, below) = rest {
             if link.place() == place {

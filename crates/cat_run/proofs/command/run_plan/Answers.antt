@@ -1,4 +1,4 @@
-use Rattle.cat_run.proofs.Standing.{is_there}
+use Rattle.cat_run.proofs.Standing.{is_there, spends_none, spends_listening}
 use Rattle.sp_base.specs.Addresses.{scheme_of}
 use Rattle.cat_run.proofs.command.run_plan.Goals as goal
 
