@@ -22,7 +22,7 @@ pub fn words(
     requires callers { (0 < callers) × (callers ≤ 64) }
     ensures size { IfOk result (λ made. (made.0.slots ≡ slots) × (made.0.callers ≡ callers)) }
     ensures core { IfOk result (λ made. (made.1.words ≡ made.0.id) × (made.1.view ≡ record (new_core slots) { made = callers })) }
-    ensures seats { IfOk result (λ made. (length made.2 ≡ callers) × AreFresh 0 made.0.id made.2) }
+    ensures seats { IfOk result (λ made. (length made.2 ≡ callers) × AreFresh slots 0 made.0.id made.2) }
 {
     let generations = zeros(alloc, slots)?;
     let (table, seat) = Table::of_words(alloc, generations.as_slice(), &slots)?;
@@ -55,7 +55,7 @@ fn make_callers(
     requires fresh { core.old.view.made ≡ 0 }
     requires callers { callers ≤ 64 }
     ensures own { core.new.words ≡ core.old.words }
-    ensures made { IfOk result (λ l. (core.new.view ≡ record core.old.view { made = callers }) × (length l ≡ callers) × AreFresh 0 core.old.words l) }
+    ensures made { IfOk result (λ l. (core.new.view ≡ record core.old.view { made = callers }) × (length l ≡ callers) × AreFresh core.old.view.slots 0 core.old.words l) }
 {
     let mut seats = Vec::with_capacity(alloc, callers as usize)?;
     for made in 0..callers {

@@ -18,7 +18,7 @@ load-requires c =
     let w = c.self.invariant in
     let d = c.deref-2.ensures in
     let wide = ap (λ t. t.shared.table_id.words) d ∙ w.0 in
-    (c.join_seat.ensures.0 ∙ (ap (λ z. z.words) c.core.view_is ∙ (c.requires.core ∙ (sym (ap (λ z. z.id) c.self.view_is) ∙ sym (ap (λ t. t.shared.table_id) d)))), omega arith, learns_ok _ _ _ _ 0)
+    (c.join_seat.ensures.0 ∙ (ap (λ z. z.words) c.core.view_is ∙ (c.requires.core ∙ (sym (ap (λ z. z.id) c.self.view_is) ∙ sym (ap (λ t. t.shared.table_id) d)))), omega arith, learns_ok _ _ _ _ 0 (search rules))
 
 pub returns-clause-winners : goal.returns-clause-winners
-returns-clause-winners c = one_winner c.load.new.seat.me.0 (search rules)
+returns-clause-winners c = one_winner c.core.inside.seat.me.0.slots c.load.new.seat.me.0 (search rules)
