@@ -1,15 +1,14 @@
 -- The core's view and the wins of each caller are still there after each kind of step.
-use Rattle.std.proofs.Common.{◌≡◌, ◌≢◌, ℕ, zero, suc, ◌+◌, ◌<◌, ◌≤◌, List, [], ◌∷◌, ◌++◌, length, set, refl, sym, ap, ◌∙◌, subst, ⊎_elim, inl, inr, arith}
+use Rattle.std.proofs.Common.{◌≡◌, ◌≢◌, ℕ, zero, suc, ◌+◌, ◌<◌, List, [], ◌∷◌, ◌++◌, length, set, refl, sym, ap, ◌∙◌, subst, ⊎_elim, inl, inr, arith}
 use mathlib.Core.Logic.{dite}
 use mathlib.Core.Option.{some, some-injective, some-ne-none}
 use native.Mathlib.Decide.{ℕ_discrete}
 use lib.ListN.{get_elem?}
 use Rattle.atomic_table.proofs.Lists.{set_here, set_else, at_longer, at_last}
-use Rattle.aio_word.specs.declared.rule.Kept.{Kept}
 use Rattle.aio_word.specs.declared.rule.Role.{Role}
 use Rattle.aio_word.specs.declared.rule.Role.TheVariants.{Core, Caller, Note}
 use Rattle.aio_word.specs.declared.rule.View.{View}
-use Rattle.aio_word.specs.Views.{Stands, absorbed, spent}
+use Rattle.aio_word.specs.Views.{absorbed, spent}
 use Rattle.aio_word.specs.Rule.{IsKept, IsHolder, AllHeld}
 use Rattle.aio_word.proofs.Entries.{Stands-more, put₁, put₁_here, put₁_else}
 
@@ -40,8 +39,8 @@ pub held_set : (seat : ℕ → ℕ) (made id : ℕ) (views : List View) (v w : V
 held_set seat made id views v w at keep held k small =
     let h = held k small in
     dite (ℕ_discrete (seat k) id)
-        (λ e. (w, ap (λ (z : ℕ). get_elem? (set views id w) z) e ∙ set_here views id w (at_length views id v at), keep k (subst (λ (u : View). IsHolder k u.role u.number u.kept) (same_view views (seat k) id h.0 v e h.1 at) h.2)))
-        (λ other. (h.0, set_else views id (seat k) w other ∙ h.1, h.2))
+    (λ e. (w, ap (λ (z : ℕ). get_elem? (set views id w) z) e ∙ set_here views id w (at_length views id v at), keep k (subst (λ (u : View). IsHolder k u.role u.number u.kept) (same_view views (seat k) id h.0 v e h.1 at) h.2)))
+    (λ other. (h.0, set_else views id (seat k) w other ∙ h.1, h.2))
 
 -- a view is added that has no wins of its own number
 pub held_more : (seat : ℕ → ℕ) (made : ℕ) (views : List View) (w : View) → AllHeld seat made views → AllHeld seat made (views ++ w ∷ [])
@@ -66,9 +65,10 @@ pub held_joined : (seat : ℕ → ℕ) (made id other : ℕ) (views : List View)
 held_joined seat made id other views u w apart at core kept there caller held k small = dite (ℕ_discrete k w.number)
     (λ e. (u, ap (λ (z : ℕ). get_elem? (set views other spent) z) (put₁_here seat w.number id k e) ∙ (set_else views other id spent (λ z. apart (sym z)) ∙ at), inl (core, inr (subst (λ (z : ℕ). IsKept z u.kept) (sym e) kept))))
     (λ differs. let h = held k small in (
-        h.0,
-        ap (λ (z : ℕ). get_elem? (set views other spent) z) (put₁_else seat w.number id k differs) ∙ (set_else views other (seat k) spent (λ z. away differs (subst (λ (x : View). IsHolder k x.role x.number x.kept) (same_view views (seat k) other h.0 w z h.1 there) h.2)) ∙ h.1),
-        h.2))
+      h.0,
+      ap (λ (z : ℕ). get_elem? (set views other spent) z) (put₁_else seat w.number id k differs) ∙ (set_else views other (seat k) spent (λ z. away differs (subst (λ (x : View). IsHolder k x.role x.number x.kept) (same_view views (seat k) other h.0 w z h.1 there) h.2)) ∙ h.1),
+      h.2,
+    ))
   where
     away : k ≢ w.number → IsHolder k w.role w.number w.kept → ⊥
     away differs h = ⊎_elim (λ t. core_caller w.role t.0 caller) (λ t. differs (sym t.1)) h

@@ -241,6 +241,15 @@ impl Words {
     {
         let CallSeat { seat, number: _ } = seat;
         self.table.shared.join_seat::<Joined>(&mut core.seat, seat);
+        self.learn(core);
+    }
+
+    // A step that changes nothing, and tells the core the rule.
+    pub(crate) fn learn(&self, core: &mut CoreSeat)
+        requires core { core.old.words ≡ self.now.id }
+        ensures same { core.new ≡ core.old }
+        ensures rule { IsKnownCore self.now.slots core.new.view }
+    {
         self.table.shared.load::<Learns>(&mut core.seat, 0);
     }
 }

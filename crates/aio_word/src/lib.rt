@@ -32,7 +32,7 @@ mod word;
 
 pub use answers::{Decided, Look, Polled, Raced, Worn};
 pub use calls::Words;
-pub use law::rule_gives_one_winner;
+pub use law::{rule_gives_one_winner, wins_are_the_callers};
 pub use make::words;
 pub use phase::Phase;
 pub use rule::{Entry, Kept, Role, View, WordsRule};

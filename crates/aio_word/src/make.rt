@@ -2,6 +2,7 @@
 ghost use Rattle.std.specs.Prelude.{◌≡◌, ℕ, ◌+◌, ◌<◌, ◌≤◌, length, replicate, IfOk};
 ghost use Rattle.aio_word.specs.Views.{one_more, new_caller, new_core};
 ghost use Rattle.aio_word.specs.Fresh.{AreFresh};
+ghost use Rattle.aio_word.specs.OneWinner.{IsKnownCore};
 
 use crate::calls::Words;
 use crate::rule::NewCaller;
@@ -22,6 +23,7 @@ pub fn words(
     requires callers { (0 < callers) × (callers ≤ 64) }
     ensures size { IfOk result (λ made. (made.0.slots ≡ slots) × (made.0.callers ≡ callers)) }
     ensures core { IfOk result (λ made. (made.1.words ≡ made.0.id) × (made.1.view ≡ record (new_core slots) { made = callers })) }
+    ensures rule { IfOk result (λ made. IsKnownCore slots made.1.view) }
     ensures seats { IfOk result (λ made. (length made.2 ≡ callers) × AreFresh slots 0 made.0.id made.2) }
 {
     let generations = zeros(alloc, slots)?;
@@ -34,6 +36,7 @@ pub fn words(
     };
     let mut core = CoreSeat { seat, generations };
     let seats = make_callers(alloc, &words, &mut core, callers)?;
+    words.learn(&mut core);
     Ok((words, core, seats))
 }
 
