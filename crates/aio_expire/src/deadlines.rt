@@ -10,7 +10,9 @@ use std::marker::Model;
 /// When a slot's operation expires.
 #[derive(Clone, Copy, Debug, PartialEq, Eq)]
 pub struct Deadline {
+    /// It is due at this moment and at each later one.
     pub at: Tick,
+    /// The slot's operation.
     pub op: OpName,
 }
 

@@ -36,6 +36,7 @@ impl NameList {
         })
     }
 
+    /// The names, in the order in which they came.
     pub fn as_slice(&self) -> &[OpName]
         ensures { result.now ≡ self.now.names }
     {

@@ -1,7 +1,7 @@
 -- The rule with its fates gives what is true of the words and of all seats.
-use Rattle.std.proofs.Common.{◌≡◌, ◌≢◌, ◌↔◌, ℕ, zero, suc, ◌<◌, ◌≤◌, true, false, true≢false, List, [], ◌∷◌, length, get_or, set, refl, sym, ap, ◌∙◌, subst, ⊎_elim, inl, inr, arith}
+use Rattle.std.proofs.Common.{◌≡◌, ◌≢◌, ◌⊎◌, ◌↔◌, ℕ, ◌<◌, ◌≤◌, true, false, true≢false, List, get_or, set, refl, sym, ap, ◌∙◌, subst, ⊎_elim, inl, inr, arith}
 use mathlib.Core.Logic.{dite}
-use mathlib.Core.Option.{some, some-ne-none}
+use mathlib.Core.Option.{some, some-injective}
 use native.Mathlib.Decide.{ℕ_discrete, dec_le}
 use lib.ListN.{get_elem?}
 use Rattle.atomic_table.proofs.Lists.{set_here}
@@ -14,12 +14,13 @@ use Rattle.aio_word.specs.declared.rule.Role.TheVariants.{Core, Caller, Note, Sp
 use Rattle.aio_word.specs.declared.rule.View.{View}
 use Rattle.aio_word.specs.Word.{is_decided}
 use Rattle.aio_word.specs.Views.{shown, times, Stands, Each}
-use Rattle.aio_word.specs.Rule.{Fate, Lawful, owns, IsEnd, IsRead, IsOwner, IsCore, IsCaller, Knows, Ruled}
+use Rattle.aio_word.specs.Rule.{Fate, Lawful, owns, IsEnd, IsRead, IsOwner, IsKept, IsCore, IsCaller, Knows, Ruled}
 use Rattle.aio_word.specs.OneWinner.{HasCore, HasWins, WasBegun, OneWinner, IsKnown}
 use Rattle.aio_word.proofs.Entries.{Each-at, some_named, owned, disowned}
 use Rattle.aio_word.proofs.Decode.{core_by}
 use Rattle.aio_word.proofs.Told.{one_entry}
 use Rattle.aio_word.proofs.Changes.{St, now, shows_now}
+use Rattle.aio_word.proofs.Holders.{at_length}
 
 module _ (n : ℕ) (s : St) (r : Ruled n s) where
   word : ℕ → ℕ
@@ -31,7 +32,7 @@ module _ (n : ℕ) (s : St) (r : Ruled n s) where
   owner_of : (k : ℕ) (wins : List Entry) (h : HasWins s.views k wins) → IsOwner r.fate r.seat r.made h.1.0 k wins
   owner_of k wins h = ⊎_elim
       (λ (t : (h.0.role ≡ Caller) × (h.0.number ≡ k) × (h.0.wins ≡ wins)).
-      let c : IsCaller r.fate r.seat r.made h.1.0 h.0 = subst (λ (p : Role). Knows r.fate r.seat r.made h.1.0 n r.generation p h.0) t.0 (r.views h.1.0 h.0 h.1.1) in
+      let c : IsCaller r.fate r.seat r.made h.1.0 n h.0 = subst (λ (p : Role). Knows r.fate r.seat r.made h.1.0 n r.generation p h.0) t.0 (r.views h.1.0 h.0 h.1.1) in
       subst (λ (z : ℕ × List Entry). IsOwner r.fate r.seat r.made h.1.0 z.0 z.1) (λ i. (t.1 i, t.2 i)) c.owner)
       (λ (t : (h.0.role ≡ Core) × Stands (let x : Kept = record { number = k; wins = wins } in x) h.0.kept).
       Each-at (λ (q : Kept). IsOwner r.fate r.seat r.made h.1.0 q.number q.wins) h.0.kept (record { number = k; wins = wins }) t.1 (core_of h.0 (h.1, t.0)).kept)
@@ -105,12 +106,30 @@ module _ (n : ℕ) (s : St) (r : Ruled n s) where
       let p = end_of c h t.0 t.1 in
       absurd (true≢false (sym (subst (λ (z : ℕ × ℕ). is_decided (r.fate z.0 z.1).0 ≡ true) (λ k. (t.2 k, t.3 k)) (ap (λ (f : Fate). is_decided f.0) p.1 ∙ p.0)) ∙ o)))
 
+  core_there : (c : View) × HasCore s.views c
+  core_there = let h = r.held 0 (omega arith) in ⊎_elim
+      (λ (t : (h.0.role ≡ Core) × ((0 ≡ 0) ⊎ IsKept 0 h.0.kept)). (h.0, ((r.seat 0, h.1), t.0)))
+      (λ (t : (h.0.role ≡ Caller) × (h.0.number ≡ 0) × (0 < 0)). let z = t.2 in absurd (omega arith))
+      h.2
+
+  wins_there : (k : ℕ) → 0 < k → k ≤ r.made → (wins : List Entry) × HasWins s.views k wins
+  wins_there k pos small = let h = r.held k small in ⊎_elim
+      (λ (t : (h.0.role ≡ Core) × ((k ≡ 0) ⊎ IsKept k h.0.kept)). ⊎_elim
+      (λ (z : k ≡ 0). absurd (omega arith))
+      (λ (q : IsKept k h.0.kept). (q.0, (h.0, (r.seat k, h.1), inr (t.0, q.1))))
+      t.1)
+      (λ (t : (h.0.role ≡ Caller) × (h.0.number ≡ k) × (0 < k)). (h.0.wins, (h.0, (r.seat k, h.1), inl (t.0, t.1, refl))))
+      h.2
+
   open_by : (p : Phase) (b : ℕ) → Lawful p b → is_decided p ≡ false → b ≡ 0
   open_by p b l o = core_by p b l o
 
   pub holds : OneWinner n s.words s.views
   holds = record {
     wide = r.wide;
+    core = core_there;
+    one_core = λ c d h g. some-injective c d (sym h.0.1 ∙ (ap (λ (z : ℕ). get_elem? s.views z) (sym (core_of c h).here ∙ (core_of d g).here) ∙ g.0.1));
+    all_wins = λ c h k pos small. wins_there k pos (let m = (core_of c h).made_is in omega arith);
     generations = λ c h. let k = core_of c h in (k.long, λ i inside. current i inside ∙ sym (k.generations i inside));
     idle = idle;
     lawful = lawful;
@@ -138,6 +157,11 @@ module _ (n : ℕ) (s : St) (r : Ruled n s) where
         let by : (r.fate i (e i inside).generation).1 ≡ (e i inside).by = ap (λ (f : Fate). f.1) (truth i inside) in
         let made : c.made ≡ r.made = (core_of c h).made_is in
         omega arith;
+    end_numbers = λ c h x st.
+        let few = r.numbers x.slot x.generation in
+        let by : (r.fate x.slot x.generation).1 ≡ x.by = ap (λ (f : Fate). f.1) (end_of c h x st).1 in
+        let made : c.made ≡ r.made = (core_of c h).made_is in
+        omega arith;
     reads = λ c h v hv other x st d.
         let is = Each-at (IsRead r.fate) v.reads x st (reads_of hv.0 v v.role refl other (r.views hv.0 v hv.1)) d in
         let b = was_begun c h x d is in (
@@ -148,10 +172,6 @@ module _ (n : ℕ) (s : St) (r : Ruled n s) where
         );
   }
 
-at_length : (l : List View) (i : ℕ) (v : View) → get_elem? l i ≡ some v → i < length l
-at_length [] i v e = absurd (some-ne-none v (sym e))
-at_length (x ∷ xs) zero v e = omega arith
-at_length (x ∷ xs) (suc i) v e = let h = at_length xs i v e in omega arith
-
-pub known : (n : ℕ) (s : St) (words : List ℕ) (id : ℕ) (v w : View) → get_elem? s.views id ≡ some v → Ruled n record { words = words; homes = s.homes; views = set s.views id w } → IsKnown w
-known n s words id v w at r = (n, words, set s.views id w, holds n record { words = words; homes = s.homes; views = set s.views id w } r, (id, set_here s.views id w (at_length s.views id v at)))
+-- after a step the rule is known of the seat's view
+pub known : (n : ℕ) (s : St) (words : List ℕ) (id : ℕ) (v w : View) → v.slots ≡ n → get_elem? s.views id ≡ some v → Ruled n record { words = words; homes = s.homes; views = set s.views id w } → IsKnown v.slots w
+known n s words id v w slots at r = subst (λ (m : ℕ). IsKnown m w) (sym slots) (words, set s.views id w, holds n record { words = words; homes = s.homes; views = set s.views id w } r, (id, set_here s.views id w (at_length s.views id v at)))

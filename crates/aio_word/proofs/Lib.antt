@@ -1,6 +1,7 @@
 pub mod Decode
 pub mod Entries
 pub mod Fates
+pub mod Holders
 pub mod Told
 pub mod Changes
 pub mod Steps

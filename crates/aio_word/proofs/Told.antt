@@ -48,8 +48,8 @@ module _ (fate : ℕ → ℕ → Fate) (e : Entry) (is : fate e.slot e.generatio
     made = let b : (fate e.slot e.generation).1 ≡ e.by = ap (λ (f : Fate). f.1) is in omega (arith, few, b, c.made_is);
   }
 
-  pub seen : (seat : ℕ → ℕ) (made at : ℕ) (v : View) → IsCaller fate seat made at v → IsBegun e → IsSeen v e
-  seen seat made at v c begun = record { begun = begun; told = told v.number v.wins c.owner.wins_are }
+  pub seen : (seat : ℕ → ℕ) (made at n : ℕ) (v : View) → IsCaller fate seat made at n v → IsBegun e → IsSeen v e
+  seen seat made at n v c begun = record { begun = begun; told = told v.number v.wins c.owner.wins_are }
 
 pub core_end : (p : Phase) → is_core_end p ≡ true → (is_decided p ≡ true) × Lawful p 0 × (p ≢ Idle)
 core_end Idle h = absurd (true≢false (sym h))

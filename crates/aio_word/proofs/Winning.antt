@@ -10,8 +10,8 @@ use Rattle.aio_word.specs.OneWinner.{OneWinner, IsKnownCore, HasCore, HasWins}
 use Rattle.aio_word.specs.Winners.{IsJoined, AllSeen, HasOneWinner}
 use Rattle.aio_word.proofs.Entries.{some_named}
 
-pub one_winner : (v : View) → IsKnownCore v → HasOneWinner v
-one_winner v known = record {
+pub one_winner : (n : ℕ) (v : View) → IsKnownCore n v → HasOneWinner v
+one_winner n v known = record {
   named = λ k wins j e st. (
     (λ by. (rule.past_wins v core k wins (at k wins j) e st).1 by),
     (λ w. (rule.only_wins v core k wins (at k wins j) e w).3),
@@ -26,24 +26,24 @@ one_winner v known = record {
   all = λ seen k wins j e st. seen_end seen k wins j e st;
 }
   where
-    rule : OneWinner known.1.0 known.1.1 known.1.2
-    rule = known.1.3
+    rule : OneWinner n known.1.0 known.1.1
+    rule = known.1.2
 
-    core : HasCore known.1.2 v
-    core = (known.1.4, known.0)
+    core : HasCore known.1.1 v
+    core = (known.1.3, known.0)
 
-    at : (k : ℕ) (wins : List Entry) → IsJoined v k wins → HasWins known.1.2 k wins
-    at k wins j = (v, known.1.4, inr (known.0, j))
+    at : (k : ℕ) (wins : List Entry) → IsJoined v k wins → HasWins known.1.1 k wins
+    at k wins j = (v, known.1.3, inr (known.0, j))
 
     seen_end : AllSeen v → (k : ℕ) (wins : List Entry) → IsJoined v k wins → (e : Entry) → Stands e wins → Stands e v.ends
     seen_end seen k wins j e st =
-        let begun = (known.1.3.only_wins v (known.1.4, known.0) k wins (v, known.1.4, inr (known.0, j)) e st).0 in
-        let long = (known.1.3.generations v (known.1.4, known.0)).0 in
+        let begun = (known.1.2.only_wins v (known.1.3, known.0) k wins (v, known.1.3, inr (known.0, j)) e st).0 in
+        let long = (known.1.2.generations v (known.1.3, known.0)).0 in
         let here : 0 < times e.slot e.generation v.ends = dite (ℕ_discrete e.generation (slice_index v.generations e.slot))
         (λ z. ⊎_elim (λ (n : slice_index v.generations e.slot ≡ 0). absurd (omega arith))
         (λ (t : 0 < times e.slot (slice_index v.generations e.slot) v.ends). subst (λ (g : ℕ). 0 < times e.slot g v.ends) (sym z) t)
         (seen e.slot (omega arith)))
-        (λ z. let p = known.1.3.past v (known.1.4, known.0) e.slot e.generation begun.0 begun.1 (omega arith) in omega arith) in
+        (λ z. let p = known.1.2.past v (known.1.3, known.0) e.slot e.generation begun.0 begun.1 (omega arith) in omega arith) in
         let d = some_named e.slot e.generation v.ends here in
-        let same = known.1.3.agree v (known.1.4, known.0) k wins (v, known.1.4, inr (known.0, j)) d.0 e d.1 st (sym d.2, sym d.3) in
+        let same = known.1.2.agree v (known.1.3, known.0) k wins (v, known.1.3, inr (known.0, j)) d.0 e d.1 st (sym d.2, sym d.3) in
         subst (λ (y : Entry). Stands y v.ends) (sym same) d.1

@@ -26,12 +26,16 @@ abbrev pub MatchDecided : Decided → View → OpName → Phase → View → Typ
 MatchDecided Mine v op to w = CoreTook v op to w
 MatchDecided (Other phase by) v op to w = (is_decided phase ≡ true) × CoreSaw v (of_op op phase by) w
 
+-- a name that a word can show
+abbrev pub IsOpen : ℕ → OpName → Type 0
+IsOpen slots op = (op.slot < slots) × (0 < op.generation)
+
 abbrev pub MatchRaced : Raced → View → ℕ → OpName → Phase → View → Type 0
-MatchRaced raced.Won v slots op to w = CallTook v op to w
-MatchRaced (raced.Ended phase by) v slots op to w = CallEnded v op phase by w
+MatchRaced raced.Won v slots op to w = IsOpen slots op × CallTook v op to w
+MatchRaced (raced.Ended phase by) v slots op to w = IsOpen slots op × CallEnded v op phase by w
 MatchRaced raced.Stale v slots op to w = CallStale v slots op w
 
 abbrev pub MatchPolled : Polled → View → ℕ → OpName → View → Type 0
-MatchPolled polled.Pending v slots op w = w ≡ saw v (of_op op Pending 0)
-MatchPolled (polled.Ended phase by) v slots op w = CallEnded v op phase by w
+MatchPolled polled.Pending v slots op w = IsOpen slots op × (w ≡ saw v (of_op op Pending 0))
+MatchPolled (polled.Ended phase by) v slots op w = IsOpen slots op × CallEnded v op phase by w
 MatchPolled polled.Stale v slots op w = CallStale v slots op w

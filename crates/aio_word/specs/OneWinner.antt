@@ -33,6 +33,10 @@ WasBegun n c e = (e.slot < n) × (0 < e.generation) × (e.generation ≤ slice_i
 
 pub record OneWinner (n : ℕ) (words : List ℕ) (views : List View) : Type 0 where
   pub wide : length words ≡ n
+  -- there is one core's view, and each number from 1 to `made` has its wins in a view
+  pub core : (c : View) × HasCore views c
+  pub one_core : (c d : View) → HasCore views c → HasCore views d → c ≡ d
+  pub all_wins : (c : View) → HasCore views c → (k : ℕ) → 0 < k → k ≤ c.made → (wins : List Entry) × HasWins views k wins
   -- the word's generation is the core's. It is idle exactly at generation 0
   pub generations : (c : View) → HasCore views c → (length c.generations ≡ n) × ((i : ℕ) → i < n → generation_of (slice_index words i) ≡ slice_index c.generations i)
   pub idle : (i : ℕ) → i < n → (phase_of (slice_index words i) ≡ Idle) ↔ (generation_of (slice_index words i) ≡ 0)
@@ -61,16 +65,21 @@ pub record OneWinner (n : ℕ) (words : List ℕ) (views : List View) : Type 0 w
   pub only_wins : (c : View) → HasCore views c → (k : ℕ) (wins : List Entry) → HasWins views k wins → (e : Entry) → Stands e wins → WasBegun n c e × (is_decided e.phase ≡ true) × Lawful e.phase e.by × (e.by ≡ k) × (0 < k)
   -- no operation stands in the wins of two
   pub apart : (k l : ℕ) (wins others : List Entry) → HasWins views k wins → HasWins views l others → (e d : Entry) → Stands e wins → Stands d others → IsSame e d → k ≡ l
-  -- no number above the callers' is named
+  -- no number above `made` is named, by a word or by an end
   pub numbers : (c : View) → HasCore views c → (i : ℕ) → i < n → by_of (slice_index words i) ≤ c.made
+  pub end_numbers : (c : View) → HasCore views c → (e : Entry) → Stands e c.ends → e.by ≤ c.made
   -- a read that was decided is what the word shows, or the ends have it so
   pub reads : (c : View) → HasCore views c → (v : View) → HasView views v → v.role ≢ Spent → (e : Entry) → Stands e v.reads → is_decided e.phase ≡ true
       → WasBegun n c e × ((e ≡ shown e.slot (slice_index words e.slot)) ⊎ Stands e c.ends)
 
--- there was a moment at which all this held, and at which a seat had this view
-abbrev pub IsKnown : View → Type 0
-IsKnown v = (n : ℕ) × (words : List ℕ) × (views : List View) × OneWinner n words views × HasView views v
+-- there was a moment at which all this held of words of so many slots, and at which a seat had this view
+abbrev pub IsKnown : ℕ → View → Type 0
+IsKnown slots v = (words : List ℕ) × (views : List View) × OneWinner slots words views × HasView views v
+
+-- the same of a caller's view
+abbrev pub IsKnownCaller : ℕ → View → Type 0
+IsKnownCaller slots v = (v.role ≡ Caller) × IsKnown slots v
 
 -- the same of the core's view
-abbrev pub IsKnownCore : View → Type 0
-IsKnownCore v = (v.role ≡ Core) × IsKnown v
+abbrev pub IsKnownCore : ℕ → View → Type 0
+IsKnownCore slots v = (v.role ≡ Core) × IsKnown slots v

@@ -17,7 +17,9 @@ pub enum Decided {
 /// How an operation stands, and who ended it: a caller's number, or 0 for the core and where it has not ended.
 #[derive(Clone, Copy, PartialEq, Eq, Debug)]
 pub struct Look {
+    /// How it stands.
     pub phase: Phase,
+    /// Who ended it.
     pub by: u32,
 }
 
@@ -35,6 +37,7 @@ pub enum Raced {
 /// What a caller's look found.
 #[derive(Clone, Copy, PartialEq, Eq, Debug)]
 pub enum Polled {
+    /// It has not ended.
     Pending,
     /// It has ended so. `by` is the caller's number, or 0 for the core.
     Ended { phase: Phase, by: u32 },

@@ -6,13 +6,13 @@ ghost use Rattle.aio_word.specs.Word.{is_core_end, is_call_end, is_decided};
 ghost use Rattle.aio_word.specs.Sight.{IsSameSeat};
 ghost use Rattle.aio_word.specs.Views.{learned, absorbed};
 ghost use Rattle.aio_word.specs.Answers.{HasSeen, IsName, CoreSaw, Agrees, of_op};
-ghost use Rattle.aio_word.specs.OneWinner.{IsKnown, IsKnownCore};
+ghost use Rattle.aio_word.specs.OneWinner.{IsKnownCaller, IsKnownCore};
 ghost use Rattle.aio_word.specs.Winners.{HasOneWinner};
 ghost use Rattle.aio_word.specs.Meanings.{MatchDecided, MatchRaced, MatchPolled, BeganAt, IsWorn};
 
 use crate::answers::{Decided, Look, Polled, Raced, Worn};
 use crate::phase::Phase;
-use crate::rule::{Begins, Decides, Joined, Learns, Looks, Noted, OneWinner, Polls, Races, View};
+use crate::rule::{Begins, Decides, Joined, Learns, Looks, Noted, Polls, Races, View, WordsRule};
 use crate::seats::{CallSeat, CoreSeat};
 use crate::word::{LAST, by_in, generation_in, phase_in, word_with};
 use atomic_table::Table;
@@ -26,7 +26,7 @@ use std::sync::Arc;
 #[derive(Drop)]
 pub struct Words {
     // The words, by slot, under the rule.
-    pub(crate) table: Arc<Table<(), View, u32, OneWinner, Global>, Global>,
+    pub(crate) table: Arc<Table<(), View, u32, WordsRule, Global>, Global>,
     // Slots are the numbers below this.
     pub(crate) slots: u32,
     // Callers are numbered from 1 to this.
@@ -67,7 +67,7 @@ impl Words {
         ensures own { core.new.words ≡ core.old.words }
         ensures begun { MatchResult result (λ op. (op.slot ≡ slot) × BeganAt core.old.view op core.new.view) (λ _. IsWorn core.old.view slot × (core.new.view ≡ core.old.view)) }
         ensures name { IfOk result (λ op. IsName core.new.view self.now.slots op) }
-        ensures rule { IfOk result (λ _. IsKnownCore core.new.view) }
+        ensures rule { IfOk result (λ _. IsKnownCore self.now.slots core.new.view) }
     {
         // The model's facts are known from here on.
         let _slots = &self.slots;
@@ -90,7 +90,7 @@ impl Words {
         ensures own { core.new.words ≡ core.old.words }
         ensures answer { CoreSaw core.old.view (of_op op result.phase result.by) core.new.view }
         ensures seen { is_decided result.phase ≡ true → HasSeen core.new.view op.slot }
-        ensures rule { IsKnownCore core.new.view }
+        ensures rule { IsKnownCore self.now.slots core.new.view }
     {
         let found = self
             .table
@@ -110,7 +110,7 @@ impl Words {
         ensures own { core.new.words ≡ core.old.words }
         ensures answer { MatchDecided result core.old.view op to core.new.view }
         ensures seen { HasSeen core.new.view op.slot }
-        ensures rule { IsKnownCore core.new.view }
+        ensures rule { IsKnownCore self.now.slots core.new.view }
     {
         // The model's facts are known from here on.
         let _generations = &core.generations;
@@ -134,7 +134,7 @@ impl Words {
         requires own { seat.old.words ≡ self.now.id }
         ensures own { IsSameSeat seat.old seat.new }
         ensures answer { MatchRaced result seat.old.view self.now.slots op Cancelled seat.new.view }
-        ensures rule { op.slot < self.now.slots → IsKnown seat.new.view }
+        ensures rule { op.slot < self.now.slots → IsKnownCaller self.now.slots seat.new.view }
     {
         self.race(seat, op, Phase::Cancelled)
     }
@@ -144,7 +144,7 @@ impl Words {
         requires own { seat.old.words ≡ self.now.id }
         ensures own { IsSameSeat seat.old seat.new }
         ensures answer { MatchRaced result seat.old.view self.now.slots op Expired seat.new.view }
-        ensures rule { op.slot < self.now.slots → IsKnown seat.new.view }
+        ensures rule { op.slot < self.now.slots → IsKnownCaller self.now.slots seat.new.view }
     {
         self.race(seat, op, Phase::Expired)
     }
@@ -156,7 +156,7 @@ impl Words {
         requires end { is_call_end to ≡ true }
         ensures own { IsSameSeat seat.old seat.new }
         ensures answer { MatchRaced result seat.old.view self.now.slots op to seat.new.view }
-        ensures rule { op.slot < self.now.slots → IsKnown seat.new.view }
+        ensures rule { op.slot < self.now.slots → IsKnownCaller self.now.slots seat.new.view }
     {
         if op.slot >= self.slots {
             return Raced::Stale;
@@ -190,7 +190,7 @@ impl Words {
         requires own { seat.old.words ≡ self.now.id }
         ensures own { IsSameSeat seat.old seat.new }
         ensures answer { MatchPolled result seat.old.view self.now.slots op seat.new.view }
-        ensures rule { op.slot < self.now.slots → IsKnown seat.new.view }
+        ensures rule { op.slot < self.now.slots → IsKnownCaller self.now.slots seat.new.view }
     {
         if op.slot >= self.slots {
             return Polled::Stale;
@@ -221,7 +221,7 @@ impl Words {
         ensures own { (seat.new.words ≡ seat.old.words) × (seat.new.view ≡ seat.old.view) }
         ensures answer { CoreSaw (learned core.old.view seat.old.view) (of_op op result.phase result.by) core.new.view }
         ensures seen { is_decided result.phase ≡ true → HasSeen core.new.view op.slot }
-        ensures rule { IsKnownCore core.new.view }
+        ensures rule { IsKnownCore self.now.slots core.new.view }
         ensures read { Agrees (of_op op result.phase result.by) seat.old.view.reads }
     {
         let note = self.table.shared.split_seat::<Noted>(&mut seat.seat);
@@ -237,10 +237,19 @@ impl Words {
         ensures own { core.new.words ≡ core.old.words }
         ensures joined { core.new.view ≡ absorbed core.old.view seat.view }
         ensures winners { HasOneWinner core.new.view }
-        ensures rule { IsKnownCore core.new.view }
+        ensures rule { IsKnownCore self.now.slots core.new.view }
     {
         let CallSeat { seat, number: _ } = seat;
         self.table.shared.join_seat::<Joined>(&mut core.seat, seat);
+        self.learn(core);
+    }
+
+    // A step that changes nothing, and tells the core the rule.
+    pub(crate) fn learn(&self, core: &mut CoreSeat)
+        requires core { core.old.words ≡ self.now.id }
+        ensures same { core.new ≡ core.old }
+        ensures rule { IsKnownCore self.now.slots core.new.view }
+    {
         self.table.shared.load::<Learns>(&mut core.seat, 0);
     }
 }

@@ -14,13 +14,14 @@
 //! (`Words::join`).
 //!
 //! What a seat knows is ghost: it is a `View`, which grows at the seat's own steps. `Rule` in specs/ says what holds
-//! between any two steps of any threads, and `OneWinner` restates it as what it gives; each step is proved to keep
-//! it for every interleaving. Every step is sequentially consistent. Nothing waits, and only `words` and
+//! between any two steps of any threads, and `OneWinner` says what that gives (`rule_gives_one_winner`); each step is
+//! proved to keep the rule for every interleaving. Every step is sequentially consistent. Nothing waits, and only `words` and
 //! `Words::share` take memory.
 #![tactic(auto)]
 
 mod answers;
 mod calls;
+mod law;
 mod make;
 mod phase;
 mod rule;
@@ -31,7 +32,8 @@ mod word;
 
 pub use answers::{Decided, Look, Polled, Raced, Worn};
 pub use calls::Words;
+pub use law::{rule_gives_one_winner, wins_are_the_callers};
 pub use make::words;
 pub use phase::Phase;
-pub use rule::{Entry, Kept, OneWinner, Role, View};
+pub use rule::{Entry, Kept, Role, View, WordsRule};
 pub use seats::{CallSeat, CoreSeat, SeatList};

@@ -2,6 +2,7 @@
 ghost use Rattle.std.specs.Prelude.{◌≡◌, ℕ, ◌+◌, ◌<◌, ◌≤◌, length, replicate, IfOk};
 ghost use Rattle.aio_word.specs.Views.{one_more, new_caller, new_core};
 ghost use Rattle.aio_word.specs.Fresh.{AreFresh};
+ghost use Rattle.aio_word.specs.OneWinner.{IsKnownCore};
 
 use crate::calls::Words;
 use crate::rule::NewCaller;
@@ -22,7 +23,8 @@ pub fn words(
     requires callers { (0 < callers) × (callers ≤ 64) }
     ensures size { IfOk result (λ made. (made.0.slots ≡ slots) × (made.0.callers ≡ callers)) }
     ensures core { IfOk result (λ made. (made.1.words ≡ made.0.id) × (made.1.view ≡ record (new_core slots) { made = callers })) }
-    ensures seats { IfOk result (λ made. (length made.2 ≡ callers) × AreFresh 0 made.0.id made.2) }
+    ensures rule { IfOk result (λ made. IsKnownCore slots made.1.view) }
+    ensures seats { IfOk result (λ made. (length made.2 ≡ callers) × AreFresh slots 0 made.0.id made.2) }
 {
     let generations = zeros(alloc, slots)?;
     let (table, seat) = Table::of_words(alloc, generations.as_slice(), &slots)?;
@@ -34,6 +36,7 @@ pub fn words(
     };
     let mut core = CoreSeat { seat, generations };
     let seats = make_callers(alloc, &words, &mut core, callers)?;
+    words.learn(&mut core);
     Ok((words, core, seats))
 }
 
@@ -55,7 +58,7 @@ fn make_callers(
     requires fresh { core.old.view.made ≡ 0 }
     requires callers { callers ≤ 64 }
     ensures own { core.new.words ≡ core.old.words }
-    ensures made { IfOk result (λ l. (core.new.view ≡ record core.old.view { made = callers }) × (length l ≡ callers) × AreFresh 0 core.old.words l) }
+    ensures made { IfOk result (λ l. (core.new.view ≡ record core.old.view { made = callers }) × (length l ≡ callers) × AreFresh core.old.view.slots 0 core.old.words l) }
 {
     let mut seats = Vec::with_capacity(alloc, callers as usize)?;
     for made in 0..callers {

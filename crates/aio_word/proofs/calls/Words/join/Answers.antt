@@ -1,6 +1,5 @@
-use Rattle.std.proofs.Common.{arith, rules, ap, ◌∙◌, sym}
+use Rattle.std.proofs.Common.{arith, rules, ap, ◌∙◌}
 use Rattle.aio_word.proofs.Seating.{absorbs}
-use Rattle.aio_word.proofs.Steps.{learns_ok}
 use Rattle.aio_word.proofs.Winning.{one_winner}
 use Rattle.aio_word.proofs.calls.Words.join.Goals as goal
 
@@ -13,12 +12,5 @@ join_seat-requires c =
     let wide = ap (λ t. t.shared.table_id.words) d ∙ w.0 in
     (search rules, search rules, caller.0, omega arith, absorbs _ _ _ _ _ core.1 caller.1)
 
-pub load-requires : goal.load-requires
-load-requires c =
-    let w = c.self.invariant in
-    let d = c.deref-2.ensures in
-    let wide = ap (λ t. t.shared.table_id.words) d ∙ w.0 in
-    (c.join_seat.ensures.0 ∙ (ap (λ z. z.words) c.core.view_is ∙ (c.requires.core ∙ (sym (ap (λ z. z.id) c.self.view_is) ∙ sym (ap (λ t. t.shared.table_id) d)))), omega arith, learns_ok _ _ _ _ 0)
-
 pub returns-clause-winners : goal.returns-clause-winners
-returns-clause-winners c = one_winner c.load.new.seat.me.0 (search rules)
+returns-clause-winners c = one_winner c.args.self.now.slots c.learn.new.core.view c.learn.ensures.rule

@@ -31,7 +31,9 @@ returns-clause-answer c =
     let v = c.seat.inside.seat.me.0 in
     let g = c.args.op.generation in
     let n = c.compare_exchange-found.result in
-    let w = call_unraced v c.compare_exchange-found.new.seat.me.0 c.args.op.slot _ _ n c.if-found-pending.false (ap (λ m. m.0) x.0) in
-    subst (λ (s : Sight). CallEnded s.view c.args.op c.phase_in.result c.by_in.result c.compare_exchange-found.new.seat.me.0) c.seat.view_is (
-    call_missed v c.compare_exchange-found.new.seat.me.0 c.args.op.slot g c.phase_in.result c.by_in.result n (omega arith) (sym c.if-generation_in-op.false ∙ c.generation_in.ensures) c.phase_in.ensures c.by_in.ensures
-    (λ e. c.if-found-pending.false (let f = e in omega arith)) w x.1)
+    let w = call_unraced v c.compare_exchange-found.new.seat.me.0 c.args.op.slot _ _ n c.if-found-pending.false (ap (λ m. m.0) x.0) in (
+      search rules,
+      subst (λ (s : Sight). CallEnded s.view c.args.op c.phase_in.result c.by_in.result c.compare_exchange-found.new.seat.me.0) c.seat.view_is (
+          call_missed v c.compare_exchange-found.new.seat.me.0 c.args.op.slot g c.phase_in.result c.by_in.result n (omega arith) (sym c.if-generation_in-op.false ∙ c.generation_in.ensures) c.phase_in.ensures c.by_in.ensures
+          (λ e. c.if-found-pending.false (let f = e in omega arith)) w x.1),
+    )
