@@ -29,7 +29,7 @@ impl<S: Stands> Model for PassList<S> {
 }
 
 impl<S: Stands> PassList<S> {
-    ghost use Rattle.std.specs.Prelude.{◌≡◌, ◌<◌, [], ◌∷◌, ◌++◌, false, length, IfSome, IfNone};
+    ghost use Rattle.std.specs.Prelude.{◌≡◌, ◌<◌, [], ◌∷◌, ◌++◌, false, length, IfSome, IfNone, MatchBool};
     ghost use Rattle.turn_lock.specs.Passes.{IsOf};
 
     /// Takes the last pass. It is `None` exactly where the list is empty.
@@ -40,6 +40,13 @@ impl<S: Stands> PassList<S> {
         ensures same { (self.new.callers ≡ self.old.callers) × (self.new.lock ≡ self.old.lock) }
     {
         self.passes.pop()
+    }
+
+    /// Whether no pass is out. Where one is, there is room to put one back.
+    pub fn is_full(&self) -> bool
+        ensures { MatchBool result (length self.now.items ≡ self.now.callers) (length self.now.items < self.now.callers) }
+    {
+        self.passes.len() == self.callers as usize
     }
 
     /// Puts a pass of this lock back, at the end. It takes no memory.
