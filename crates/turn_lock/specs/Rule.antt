@@ -24,7 +24,7 @@ bare = core.some None ∷ []
 abbrev pub out : {S : Type 0} → Slot S
 out = core.none ∷ []
 
--- the seat has drawn the ticket, and it is not served yet
+-- the seat has drawn the ticket, and the ticket's turn is not yet published
 abbrev pub Draws : Stage → ℕ → Type 0
 Draws (Waiting t) n = t ≡ n
 Draws (Inside t) n = t ≡ n

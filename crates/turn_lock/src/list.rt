@@ -15,31 +15,38 @@ pub struct PassList<S: Stands> {
 }
 
 impl<S: Stands> Model for PassList<S> {
-    ghost use Rattle.std.specs.Prelude.{◌≡◌, ◌≤◌, [], false};
+    ghost use Rattle.std.specs.Prelude.{◌≡◌, ◌≤◌, []};
     ghost use Rattle.std.specs.Vec.{vec_capacity};
     ghost use Rattle.std.specs.List.{All};
     ghost use Rattle.turn_lock.specs.Plays.{dealer};
-    ghost use Rattle.turn_lock.specs.Passes.{IsOf, ListView};
+    ghost use Rattle.turn_lock.specs.Passes.{IsReady, ListView};
 
     ghost Value = { ListView S.Entry S.Label };
 
     ghost view = { λ l. record { items = l.passes.items; callers = l.callers; lock = l.first.table_id } };
 
-    ghost invariant = { λ l. record { room : vec_capacity l.passes ≡ l.callers; some_caller : 1 ≤ l.callers; first : l.first.me ≡ (dealer l.first.me.0.label l.callers, []); outside : All (λ p. IsOf l.first.table_id p × (p.inside ≡ false)) l.passes.items } };
+    ghost invariant = { λ l. record { room : vec_capacity l.passes ≡ l.callers; some_caller : 1 ≤ l.callers; first : l.first.me ≡ (dealer l.first.me.0.label l.callers, []); outside : All (IsReady l.first.table_id) l.passes.items } };
 }
 
 impl<S: Stands> PassList<S> {
-    ghost use Rattle.std.specs.Prelude.{◌≡◌, ◌<◌, [], ◌∷◌, ◌++◌, false, length, IfSome, IfNone};
-    ghost use Rattle.turn_lock.specs.Passes.{IsOf};
+    ghost use Rattle.std.specs.Prelude.{◌≡◌, ◌<◌, [], ◌∷◌, ◌++◌, false, length, IfSome, IfNone, MatchBool};
+    ghost use Rattle.turn_lock.specs.Passes.{IsOf, IsReady};
 
     /// Takes the last pass. It is `None` exactly where the list is empty.
     pub fn pop(&mut self) -> Option<TurnPass<S>>
         ensures none { IfNone result ((self.old.items ≡ []) × (self.new.items ≡ [])) }
         ensures last { IfSome result (λ p. self.old.items ≡ self.new.items ++ p ∷ []) }
-        ensures outside { IfSome result (λ p. IsOf self.old.lock p × (p.inside ≡ false)) }
+        ensures outside { IfSome result (IsReady self.old.lock) }
         ensures same { (self.new.callers ≡ self.old.callers) × (self.new.lock ≡ self.old.lock) }
     {
         self.passes.pop()
+    }
+
+    /// Whether no pass is out. Where one is, there is room to put one back.
+    pub fn is_full(&self) -> bool
+        ensures { MatchBool result (length self.now.items ≡ self.now.callers) (length self.now.items < self.now.callers) }
+    {
+        self.passes.len() == self.callers as usize
     }
 
     /// Puts a pass of this lock back, at the end. It takes no memory.

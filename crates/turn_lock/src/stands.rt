@@ -2,6 +2,8 @@
 use std::marker::Brand;
 
 /// A state that stands for histories. The lock hands it from turn to turn.
+///
+/// Whoever has the state must spend it: give it back by `leave`, or take it apart after `end`. The lock can't ask for that by itself. It is kept where the state's type has no `Drop`, since then no caller can let the state go.
 pub trait Stands {
     ghost use Rattle.std.specs.Prelude.{List};
     ghost use Rattle.turn_lock.specs.declared.turn.Turn.{Turn};

@@ -56,6 +56,10 @@ impl<S: Stands> TurnLock<S> {
     }
 
     /// Waits for the turn, and hands out the state. It stands for the history so far, which begins with what the pass had seen.
+    ///
+    /// The state is to go back by `leave`, by the same pass. It can't be dropped where its type has no `Drop`, so give the state's type none: a caller that lost the state would keep all others waiting.
+    ///
+    /// The last ticket, 2^64 - 1, is never drawn. Where it is the next one, the call waits for ever.
     pub fn enter<R: Wait>(&self, rt: &R, pass: &mut TurnPass<S>) -> S
         requires lock { IsOf (lock_id self.now) pass.old }
         requires outside { pass.old.inside ≡ false }
@@ -70,6 +74,7 @@ impl<S: Stands> TurnLock<S> {
     {
         let ticket = self.draw(rt, &mut pass.seat);
         self.wait(rt, &mut pass.seat, ticket);
+        pass.inside = true;
         let found = self.table.shared.exchange(&mut pass.seat, 0, None);
         let Some(state) = found else { unreachable!() };
         state
@@ -107,5 +112,6 @@ impl<S: Stands> TurnLock<S> {
         self.table
             .shared
             .fetch_add::<Publish<T>>(&mut pass.seat, 1, 1);
+        pass.inside = false;
     }
 }

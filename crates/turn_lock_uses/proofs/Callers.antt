@@ -1,13 +1,154 @@
 -- Callers that acted, in the history of their lock.
-use Rattle.std.proofs.Common.{◌≡◌, ℕ, List, length, Option, ap, ◌∙◌, sym, zero-add, ◌+◌}
+use Rattle.std.proofs.Common.{◌≡◌, ◌≢◌, ℕ, zero, suc, ◌+◌, ◌≤◌, ◌==◌, ◌⊎◌, inl, inr, ⊎_elim, List, [], ◌∷◌, ◌++◌, length, Option, cond, Bool, refl, sym, ap, ◌∙◌, subst, arith, append-nil, append_assoc, length-append, eq-eqb}
+use Rattle.std.specs.Prelude.{All}
+use Rattle.std.proofs.lemmas.List.Elements.{filter-append, All-head, All-tail}
 use Rattle.atomic_table.specs.Seated.{TableId}
 use Rattle.turn_lock.specs.declared.turn.Turn.{Turn}
-use Rattle.turn_lock.specs.History.{turns_of}
-use Rattle.turn_lock.specs.Passes.{PassView, FitsIn, new_pass}
-use Rattle.turn_lock_uses.specs.Acts.{Acted}
+use Rattle.turn_lock.specs.History.{turns_of, OthersAfter, IsByCallers}
+use Rattle.turn_lock.specs.Passes.{PassView, IsReady, IsSameCaller, OwnTurn, FitsIn, new_pass}
+use Rattle.turn_lock.proofs.Keeps.{nothing_more}
+use Rattle.turn_lock_uses.specs.declared.setting.Setting.{Setting}
+use Rattle.turn_lock_uses.specs.Acts.{Acted, AnswersInOrder, RepliesTo}
+
+one_or_two : (n : ℕ) → 1 ≤ n → n ≤ 2 → (n ≡ 1) ⊎ (n ≡ 2)
+one_or_two zero low high = absurd (omega arith)
+one_or_two (suc zero) low high = inl refl
+one_or_two (suc (suc zero)) low high = inr refl
+one_or_two (suc (suc (suc n))) low high = absurd (omega arith)
+
+one_to_three : (n : ℕ) → 1 ≤ n → n ≤ 3 → (n ≡ 1) ⊎ ((n ≡ 2) ⊎ (n ≡ 3))
+one_to_three zero low high = absurd (omega arith)
+one_to_three (suc zero) low high = inl refl
+one_to_three (suc (suc zero)) low high = inr (inl refl)
+one_to_three (suc (suc (suc zero))) low high = inr (inr refl)
+one_to_three (suc (suc (suc (suc n)))) low high = absurd (omega arith)
+
+module _ {A : Type 0} where
+  pub nil_or : (x : A) (xs ys : List A) → xs ++ x ∷ ys ≡ [] → ⊥
+  nil_or x [] ys e = cc
+  nil_or x (z ∷ zs) ys e = cc
+
+  -- an element of two lists in a row stands in the first or in the second
+  pub stands_in : (xs ys front : List A) (t : A) (rest : List A) → xs ++ ys ≡ front ++ t ∷ rest
+      → ((more : List A) × (xs ≡ front ++ t ∷ more)) ⊎ ((less : List A) × (front ≡ xs ++ less) × (ys ≡ less ++ t ∷ rest))
+  stands_in [] ys front t rest e = inr (front, refl, e)
+  stands_in (x ∷ xs) ys [] t rest e = let f : x ≡ t = cc in inl (xs, ap (λ (z : A). z ∷ xs) f)
+  stands_in (x ∷ xs) ys (z ∷ zs) t rest e = let f : x ≡ z = cc in let g : xs ++ ys ≡ zs ++ t ∷ rest = cc in
+      ⊎_elim
+      (λ (h : (more : List A) × (xs ≡ zs ++ t ∷ more)). inl (h.0, (λ i. f i ∷ h.1 i)))
+      (λ (h : (less : List A) × (zs ≡ xs ++ less) × (ys ≡ less ++ t ∷ rest)). inr (h.0, (λ i. sym f i ∷ h.1 i), h.2))
+      (stands_in xs ys zs t rest g)
+
+  pub only_one : (less rest : List A) (u t : A) → u ∷ [] ≡ less ++ t ∷ rest → (less ≡ []) × (u ≡ t)
+  only_one [] rest u t e = (refl, cc)
+  only_one (z ∷ zs) rest u t e = let f : [] ≡ zs ++ t ∷ rest = cc in absurd (nil_or t zs rest (sym f))
+
+module _ {E : Type 0} where
+  turns_own : (n : ℕ) (t : Turn E) → t.number ≡ n → turns_of n (t ∷ []) ≡ t ∷ []
+  turns_own n t e = ap (λ (b : Bool). cond b (t ∷ []) []) (eq-eqb t.number n e)
+
+  turns_split : (n : ℕ) (xs ys : List (Turn E)) → turns_of n (xs ++ ys) ≡ turns_of n xs ++ turns_of n ys
+  turns_split n xs ys = filter-append (λ (t : Turn E). t.number == n) xs ys
+
+  -- where there are no turns of a number, none of them has it
+  pub none_there : (n : ℕ) (past front rest : List (Turn E)) (t : Turn E) → turns_of n past ≡ [] → past ≡ front ++ t ∷ rest → t.number ≡ n → ⊥
+  none_there n past front rest t none is e =
+      let all : turns_of n (front ++ t ∷ rest) ≡ [] = sym (ap (turns_of n) is) ∙ none in
+      let front_is = turns_split n front (t ∷ rest) in
+      let here : turns_of n (t ∷ rest) ≡ t ∷ turns_of n rest = ap (λ (b : Bool). cond b (t ∷ turns_of n rest) (turns_of n rest)) (eq-eqb t.number n e) in
+      nil_or t (turns_of n front) (turns_of n rest) (ap (λ (l : List (Turn E)). turns_of n front ++ l) (sym here) ∙ (sym front_is ∙ all))
+
+  -- a caller's turns, and one more
+  turns_more : (n : ℕ) (past between : List (Turn E)) (t : Turn E) → turns_of n between ≡ [] → t.number ≡ n → turns_of n (past ++ (between ++ t ∷ [])) ≡ turns_of n past ++ t ∷ []
+  turns_more n past between t none e = turns_split n past (between ++ t ∷ []) ∙ ap (λ (l : List (Turn E)). turns_of n past ++ l) (turns_split n between (t ∷ []) ∙ ((λ i. none i ++ turns_own n t e i)))
+
+  turns_same : (n : ℕ) (past between : List (Turn E)) → turns_of n between ≡ [] → turns_of n (past ++ between) ≡ turns_of n past
+  turns_same n past between none = turns_split n past between ∙ (ap (λ (l : List (Turn E)). turns_of n past ++ l) none ∙ append-nil (turns_of n past))
+
+  answered_more : (answers : ℕ → List (Turn E) → Turn E → Type 0) (n k : ℕ) (before past between : List (Turn E)) (t : Turn E) → AnswersInOrder answers n before past → length (turns_of n past) ≡ k → turns_of n between ≡ []
+      → answers k (before ++ (past ++ between)) t → AnswersInOrder answers n before (past ++ (between ++ t ∷ []))
+  answered_more answers n k before past between t so_far turns none new front u rest is e = ⊎_elim
+      (λ (h : (more : List (Turn E)) × (past ≡ front ++ u ∷ more)). so_far front u h.0 h.1 e)
+      (λ (h : (less : List (Turn E)) × (front ≡ past ++ less) × (between ++ t ∷ [] ≡ less ++ u ∷ rest)). ⊎_elim
+      (λ (g : (more : List (Turn E)) × (between ≡ h.0 ++ u ∷ more)). absurd (none_there n between h.0 g.0 u none g.1 e))
+      (λ (g : (less : List (Turn E)) × (h.0 ≡ between ++ less) × (t ∷ [] ≡ less ++ u ∷ rest)).
+      let last = only_one g.0 rest t u g.2 in
+      let whole : front ≡ past ++ between = h.1 ∙ ap (λ (l : List (Turn E)). past ++ l) (g.1 ∙ (ap (λ (l : List (Turn E)). between ++ l) last.0 ∙ append-nil between)) in
+      let count : length (turns_of n front) ≡ k = ap (λ (l : List (Turn E)). length (turns_of n l)) whole ∙ (ap length (turns_same n past between none) ∙ turns) in
+      subst (λ (z : ℕ × List (Turn E) × Turn E). answers z.0 (before ++ z.1) z.2) (λ i. (sym count i, sym whole i, last.1 i)) new)
+      (stands_in between (t ∷ []) h.0 u rest h.2))
+      (stands_in past (between ++ t ∷ []) front u rest is)
 
 module _ {E L : Type 0} where
-  -- the history has as many turns of a new pass as it acted
-  pub turns_made : (lock : TableId) (first label : Option L) (k times : ℕ) (past : List (Turn E)) (p q : PassView E L) → p ≡ new_pass lock first k → Acted lock p times q → FitsIn past label q → length (turns_of k past) ≡ times
-  turns_made lock first label k times past p q is acted fits = let number : q.number ≡ k = acted.same.0 ∙ ap (λ (z : PassView E L). z.number) is in
-      sym (ap length (fits.1 ∙ ap (λ (n : ℕ). turns_of n past) number)) ∙ (acted.turns ∙ (ap (λ (z : PassView E L). length z.mine + times) is ∙ zero-add times))
+  pub none_yet : (answers : ℕ → List (Turn E) → Turn E → Type 0) (lock : TableId) (p : PassView E L) → IsReady lock p → Acted answers lock p 0 p
+  none_yet answers lock p ready = record {
+    ready = ready;
+    same = (refl, refl);
+    past = [];
+    seen = sym (append-nil p.seen);
+    mine = sym (append-nil p.mine);
+    turns = refl;
+    answered = λ front t rest is _. absurd (nil_or t front rest (sym is));
+  }
+
+  pub one_more : (answers : ℕ → List (Turn E) → Turn E → Type 0) (lock : TableId) (k : ℕ) (p q r : PassView E L) (past : List (Turn E)) (t : Turn E) → Acted answers lock p k q → IsReady lock r → IsSameCaller q r → OwnTurn q past t r → answers k past t
+      → Acted answers lock p (k + 1) r
+  one_more answers lock k p q r past t a ready same own answer =
+      let n : ℕ = p.number in let between = own.others.0 in
+      let number : q.number ≡ n = a.same.0 in
+      let none : turns_of n between ≡ [] = ap (λ (z : ℕ). turns_of z between) (sym number) ∙ own.others.2 in
+      let mine_so = turns_more n a.past between t none (own.number ∙ number) in
+      let before : past ≡ p.seen ++ (a.past ++ between) = own.others.1 ∙ (ap (λ (l : List (Turn E)). l ++ between) a.seen ∙ append_assoc p.seen a.past between) in record {
+        ready = ready;
+        same = (same.0 ∙ a.same.0, same.1 ∙ a.same.1);
+        past = a.past ++ (between ++ t ∷ []);
+        seen = own.seen ∙ (ap (λ (l : List (Turn E)). l ++ t ∷ []) before ∙ (append_assoc p.seen (a.past ++ between) (t ∷ []) ∙ ap (λ (l : List (Turn E)). p.seen ++ l) (append_assoc a.past between (t ∷ []))));
+        mine = own.mine ∙ (ap (λ (l : List (Turn E)). l ++ t ∷ []) a.mine ∙ (append_assoc p.mine (turns_of n a.past) (t ∷ []) ∙ ap (λ (l : List (Turn E)). p.mine ++ l) (sym mine_so)));
+        turns = ap length mine_so ∙ (length-append (turns_of n a.past) (t ∷ []) ∙ ap (λ (z : ℕ). z + 1) a.turns);
+        answered = answered_more answers n k p.seen a.past between t a.answered a.turns none (subst (λ (l : List (Turn E)). answers k l t) before answer);
+      }
+
+  new_acted : (answers : ℕ → List (Turn E) → Turn E → Type 0) (lock lock' : TableId) (first label : Option L) (k times : ℕ) (past : List (Turn E)) (q : PassView E L) → Acted answers lock' (new_pass lock first k) times q → FitsIn past label q
+      → (length (turns_of k past) ≡ times) × AnswersInOrder answers k [] past
+  new_acted answers lock lock' first label k times past q a fits =
+      let number : q.number ≡ k = a.same.0 in let rest = fits.0.0 in
+      let whole : past ≡ a.past ++ rest = fits.0.1 ∙ ap (λ (l : List (Turn E)). l ++ rest) a.seen in
+      let mine : turns_of k a.past ≡ turns_of k past = sym a.mine ∙ (fits.1 ∙ ap (λ (z : ℕ). turns_of z past) number) in
+      let none : turns_of k rest ≡ [] = nothing_more (turns_of k a.past) (turns_of k rest) (mine ∙ (ap (turns_of k) whole ∙ turns_split k a.past rest)) in (
+        ap length (sym mine) ∙ a.turns,
+        λ front t after is e. ⊎_elim
+            (λ (h : (more : List (Turn E)) × (a.past ≡ front ++ t ∷ more)). a.answered front t h.0 h.1 e)
+            (λ (h : (less : List (Turn E)) × (front ≡ a.past ++ less) × (rest ≡ less ++ t ∷ after)). absurd (none_there k rest h.0 after t none h.2 e))
+            (stands_in a.past rest front t after (sym whole ∙ is)),
+      )
+
+  -- the history has as many turns of a new pass as it acted, and they answer in order
+  pub turns_made : (answers : ℕ → List (Turn E) → Turn E → Type 0) (lock lock' : TableId) (first label : Option L) (k times : ℕ) (past : List (Turn E)) (p q : PassView E L) → p ≡ new_pass lock first k → Acted answers lock' p times q → FitsIn past label q
+      → (length (turns_of k past) ≡ times) × AnswersInOrder answers k [] past
+  turns_made answers lock lock' first label k times past p q is acted fits = new_acted answers lock lock' first label k times past q (subst (λ (z : PassView E L). Acted answers lock' z times q) is acted) fits
+
+module _ {E : Type 0} where
+  -- the same where what answers speaks of the label
+  pub replies_made : (replies : ℕ → ℕ → Option ℕ → List (Turn E) → Turn E → Type 0) (lock lock' : TableId) (first label : Option Setting) (k times : ℕ) (past : List (Turn E)) (p q : PassView E Setting) → p ≡ new_pass lock first k → Acted (RepliesTo replies p.label) lock' p times q → FitsIn past label q
+      → (length (turns_of k past) ≡ times) × AnswersInOrder (RepliesTo replies first) k [] past
+  replies_made replies lock lock' first label k times past p q is acted fits = new_acted (RepliesTo replies first) lock lock' first label k times past q (subst (λ (z : PassView E Setting). Acted (RepliesTo replies z.label) lock' z times q) is acted) fits
+
+  -- every turn answers
+  abbrev pub AllAnswer : (ℕ → List (Turn E) → Turn E → Type 0) → List (Turn E) → Type 0
+  AllAnswer answers past = (front : List (Turn E)) (t : Turn E) (rest : List (Turn E)) → past ≡ front ++ t ∷ rest → answers (length (turns_of t.number front)) front t
+
+  by_there : (callers : ℕ) (past front rest : List (Turn E)) (t : Turn E) → IsByCallers callers past → past ≡ front ++ t ∷ rest → (1 ≤ t.number) × (t.number ≤ callers)
+  by_there callers [] front rest t all is = absurd (nil_or t front rest (sym is))
+  by_there callers (x ∷ xs) [] rest t all is = let e : x ≡ t = cc in subst (λ (z : Turn E). (1 ≤ z.number) × (z.number ≤ callers)) e (All-head (λ (z : Turn E). (1 ≤ z.number) × (z.number ≤ callers)) x xs all)
+  by_there callers (x ∷ xs) (z ∷ zs) rest t all is = let e : xs ≡ zs ++ t ∷ rest = cc in by_there callers xs zs rest t (All-tail (λ (z : Turn E). (1 ≤ z.number) × (z.number ≤ callers)) x xs all) e
+
+  answer_at : (answers : ℕ → List (Turn E) → Turn E → Type 0) (k : ℕ) (past front rest : List (Turn E)) (t : Turn E) → AnswersInOrder answers k [] past → past ≡ front ++ t ∷ rest → t.number ≡ k → answers (length (turns_of t.number front)) front t
+  answer_at answers k past front rest t all is e = subst (λ (z : ℕ). answers (length (turns_of z front)) front t) (sym e) (all front t rest is e)
+
+  pub both_answer : (answers : ℕ → List (Turn E) → Turn E → Type 0) (past : List (Turn E)) → IsByCallers 2 past → AnswersInOrder answers 1 [] past → AnswersInOrder answers 2 [] past → AllAnswer answers past
+  both_answer answers past by first second front t rest is = let known = by_there 2 past front rest t by is in
+      ⊎_elim (answer_at answers 1 past front rest t first is) (answer_at answers 2 past front rest t second is) (one_or_two t.number known.0 known.1)
+
+  pub three_answer : (answers : ℕ → List (Turn E) → Turn E → Type 0) (past : List (Turn E)) → IsByCallers 3 past → AnswersInOrder answers 1 [] past → AnswersInOrder answers 2 [] past → AnswersInOrder answers 3 [] past → AllAnswer answers past
+  three_answer answers past by first second third front t rest is = let known = by_there 3 past front rest t by is in
+      ⊎_elim (answer_at answers 1 past front rest t first is) (⊎_elim (answer_at answers 2 past front rest t second is) (answer_at answers 3 past front rest t third is)) (one_to_three t.number known.0 known.1)

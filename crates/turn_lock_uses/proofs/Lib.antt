@@ -1,3 +1,4 @@
 pub mod Sums
 pub mod WriteLemmas
 pub mod Callers
+pub mod WholeLogs

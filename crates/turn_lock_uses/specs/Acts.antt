@@ -1,14 +1,28 @@
--- What a caller that acts asks of its pass, and what it did.
-use Rattle.std.specs.Prelude.{◌≡◌, ◌+◌, ℕ, false, length}
+-- What a caller that acts did.
+use Rattle.std.specs.Prelude.{◌≡◌, ℕ, List, ◌∷◌, ◌++◌, length, Option, Some}
 use Rattle.atomic_table.specs.Seated.{TableId}
-use Rattle.turn_lock.specs.Passes.{PassView, IsOf, IsSameCaller}
+use Rattle.turn_lock.specs.declared.turn.Turn.{Turn}
+use Rattle.turn_lock.specs.History.{turns_of}
+use Rattle.turn_lock.specs.Passes.{PassView, IsReady, IsSameCaller}
+use Rattle.turn_lock_uses.specs.declared.setting.Setting.{Setting}
 
-module _ {E L : Type 0} where
-  abbrev pub IsReady : TableId → PassView E L → Type 0
-  IsReady lock p = IsOf lock p × (p.inside ≡ false)
+module _ {E : Type 0} where
+  -- the turn is an answer of a machine with the label's room
+  abbrev pub RepliesTo : (ℕ → ℕ → Option ℕ → List (Turn E) → Turn E → Type 0) → Option Setting → ℕ → List (Turn E) → Turn E → Type 0
+  RepliesTo replies label value past t = (z : Setting) × (label ≡ Some z) × (reply : Option ℕ) × replies z.room value reply past t
 
-  -- the caller has taken so many turns, and is ready again
-  pub record Acted (lock : TableId) (before : PassView E L) (count : ℕ) (after : PassView E L) : Type 0 where
-    pub ready : IsReady lock after
-    pub same : IsSameCaller before after
-    pub turns : length after.mine ≡ length before.mine + count
+  -- each turn of this number in the part of the history behind `before` answers over all that stood before it, the first to the value 0, the next to 1, and so on
+  abbrev pub AnswersInOrder : (ℕ → List (Turn E) → Turn E → Type 0) → ℕ → List (Turn E) → List (Turn E) → Type 0
+  AnswersInOrder answers n before past = (front : List (Turn E)) (t : Turn E) (rest : List (Turn E)) → past ≡ front ++ t ∷ rest → t.number ≡ n → answers (length (turns_of n front)) (before ++ front) t
+
+  module _ {L : Type 0} where
+    -- the caller has taken so many turns, one for each value from 0 on, and is ready again
+    pub record Acted (answers : ℕ → List (Turn E) → Turn E → Type 0) (lock : TableId) (before : PassView E L) (count : ℕ) (after : PassView E L) : Type 0 where
+      pub ready : IsReady lock after
+      pub same : IsSameCaller before after
+      -- what was seen since
+      pub past : List (Turn E)
+      pub seen : after.seen ≡ before.seen ++ past
+      pub mine : after.mine ≡ before.mine ++ turns_of before.number past
+      pub turns : length (turns_of before.number past) ≡ count
+      pub answered : AnswersInOrder answers before.number before.seen past

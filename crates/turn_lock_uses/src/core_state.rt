@@ -1,9 +1,10 @@
 //! A state that is generic in its machine, whose contract says only that there is a turn.
-ghost use Rattle.std.specs.Prelude.{◌≡◌, false, List, IfSome};
+ghost use Rattle.std.specs.Prelude.{◌≡◌, false, List, Some};
 ghost use Rattle.turn_lock.specs.declared.turn.Turn.{Turn};
+ghost use Rattle.turn_lock_uses.specs.declared.setting.Setting.{Setting};
 ghost use Rattle.turn_lock.specs.Locks.{lock_id};
-ghost use Rattle.turn_lock.specs.Passes.{IsOf, IsSameCaller, OwnTurn};
-ghost use Rattle.turn_lock_uses.specs.Acts.{IsReady, Acted};
+ghost use Rattle.turn_lock.specs.Passes.{IsOf, IsReady, IsSameCaller, OwnTurn};
+ghost use Rattle.turn_lock_uses.specs.Acts.{RepliesTo, Acted};
 
 use crate::setting::Setting;
 use atomic_table::Seat;
@@ -17,6 +18,7 @@ pub trait Machine {
     ghost use Rattle.std.specs.Prelude.{◌≡◌, ◌++◌, ◌∷◌, [], ℕ, List, Option};
     ghost use Rattle.turn_lock.specs.declared.turn.Turn.{Turn};
 
+    /// What a turn of the machine is a list of.
     type Entry;
 
     ghost stands: { Self → List (Turn Self.Entry) → Type 0 };
@@ -61,7 +63,7 @@ pub fn act<M: Machine, R: Wait>(
     ensures lock { IsOf (lock_id lock.now) pass.new }
     ensures same { IsSameCaller pass.old pass.new }
     ensures outside { pass.new.inside ≡ false }
-    ensures turn { (past : List (Turn M.Entry)) × (t : Turn M.Entry) × OwnTurn pass.old past t pass.new × IfSome pass.old.label (λ z. M.replies z.room value result past t) }
+    ensures turn { (past : List (Turn M.Entry)) × (t : Turn M.Entry) × OwnTurn pass.old past t pass.new × (z : Setting) × (pass.old.label ≡ Some z) × M.replies z.room value result past t }
 {
     let mut core = lock.enter(rt, pass);
     let reply = core.machine.act(pass.number(), value);
@@ -77,7 +79,7 @@ fn act_times<M: Machine, R: Wait>(
     times: u64,
 ) -> TurnPass<Core<M>>
     requires { IsReady (lock_id lock.now) pass }
-    ensures { Acted (lock_id lock.now) pass times result }
+    ensures { Acted (RepliesTo M.replies pass.label) (lock_id lock.now) pass times result }
 {
     for value in 0..times {
         act(rt, lock, &mut pass, value);
@@ -95,18 +97,18 @@ pub fn act_both<M: Machine + Send, R: Threads + Wait + Sync>(
 ) -> (TurnPass<Core<M>>, TurnPass<Core<M>>)
     requires first { IsReady (lock_id lock.now) first }
     requires second { IsReady (lock_id lock.now) second }
-    ensures first { Acted (lock_id lock.now) first times result.0 }
-    ensures second { Acted (lock_id lock.now) second times result.1 }
+    ensures first { Acted (RepliesTo M.replies first.label) (lock_id lock.now) first times result.0 }
+    ensures second { Acted (RepliesTo M.replies second.label) (lock_id lock.now) second times result.1 }
 {
     join(
         rt,
         || -> TurnPass<Core<M>>
             requires { IsReady (lock_id lock.now) first }
-            ensures { Acted (lock_id lock.entry.now) first times result }
+            ensures { Acted (RepliesTo M.replies first.label) (lock_id lock.entry.now) first times result }
         { act_times(rt, lock, first, times) },
         || -> TurnPass<Core<M>>
             requires { IsReady (lock_id lock.now) second }
-            ensures { Acted (lock_id lock.entry.now) second times result }
+            ensures { Acted (RepliesTo M.replies second.label) (lock_id lock.entry.now) second times result }
         { act_times(rt, lock, second, times) },
     )
 }
@@ -123,19 +125,19 @@ pub fn act_all<M: Machine + Send, R: Threads + Wait + Sync>(
     requires first { IsReady (lock_id lock.now) first }
     requires second { IsReady (lock_id lock.now) second }
     requires third { IsReady (lock_id lock.now) third }
-    ensures first { Acted (lock_id lock.now) first times result.0 }
-    ensures second { Acted (lock_id lock.now) second times result.1 }
-    ensures third { Acted (lock_id lock.now) third times result.2 }
+    ensures first { Acted (RepliesTo M.replies first.label) (lock_id lock.now) first times result.0 }
+    ensures second { Acted (RepliesTo M.replies second.label) (lock_id lock.now) second times result.1 }
+    ensures third { Acted (RepliesTo M.replies third.label) (lock_id lock.now) third times result.2 }
 {
     let (first, (second, third)) = join(
         rt,
         || -> TurnPass<Core<M>>
             requires { IsReady (lock_id lock.now) first }
-            ensures { Acted (lock_id lock.entry.now) first times result }
+            ensures { Acted (RepliesTo M.replies first.label) (lock_id lock.entry.now) first times result }
         { act_times(rt, lock, first, times) },
         || -> (TurnPass<Core<M>>, TurnPass<Core<M>>)
             requires { IsReady (lock_id lock.now) second × IsReady (lock_id lock.now) third }
-            ensures { Acted (lock_id lock.entry.now) second times result.0 × Acted (lock_id lock.entry.now) third times result.1 }
+            ensures { Acted (RepliesTo M.replies second.label) (lock_id lock.entry.now) second times result.0 × Acted (RepliesTo M.replies third.label) (lock_id lock.entry.now) third times result.1 }
         { act_both(rt, lock, second, third, times) },
     );
     (first, second, third)

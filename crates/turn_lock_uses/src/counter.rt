@@ -1,10 +1,11 @@
 //! A counter that callers add to in turns.
-ghost use Rattle.std.specs.Prelude.{◌≡◌, ◌+◌, min, false, List, IfSome};
+ghost use Rattle.std.specs.Prelude.{◌≡◌, ◌+◌, min, false, List, IfSome, length};
 ghost use Rattle.turn_lock.specs.declared.turn.Turn.{Turn};
 ghost use Rattle.turn_lock.specs.Locks.{lock_id};
-ghost use Rattle.turn_lock.specs.Passes.{IsOf, OwnTurn};
+ghost use Rattle.turn_lock.specs.Passes.{IsOf, IsReady, IsSameCaller, OwnTurn};
 ghost use Rattle.turn_lock_uses.specs.declared.counter.Added.{Added};
-ghost use Rattle.turn_lock_uses.specs.Totals.{total};
+ghost use Rattle.turn_lock_uses.specs.Acts.{Acted};
+ghost use Rattle.turn_lock_uses.specs.Totals.{total, Adds, IsByTwo};
 
 use std::alloc::Global;
 use std::marker::Brand;
@@ -31,6 +32,7 @@ impl Stands for Counter {
 }
 
 impl Counter {
+    /// Takes the counter apart, which spends it, and gives its count.
     pub fn into_count(self) -> u64
         ensures { result ≡ self.count }
     {
@@ -44,6 +46,7 @@ pub fn add<R: Wait>(rt: &R, lock: &TurnLock<Counter>, pass: &mut TurnPass<Counte
     requires lock { IsOf (lock_id lock.now) pass.old }
     requires outside { pass.old.inside ≡ false }
     ensures lock { IsOf (lock_id lock.now) pass.new }
+    ensures same { IsSameCaller pass.old pass.new }
     ensures outside { pass.new.inside ≡ false }
     ensures count { result ≡ total pass.new.seen }
     ensures turn { (past : List (Turn Added)) × (t : Turn Added) × OwnTurn pass.old past t pass.new × (result ≡ min (total past + n) u64.MAX) }
@@ -55,30 +58,31 @@ pub fn add<R: Wait>(rt: &R, lock: &TurnLock<Counter>, pass: &mut TurnPass<Counte
     count
 }
 
+// Adds 1 so many times.
 fn add_times<R: Wait>(
     rt: &R,
     lock: &TurnLock<Counter>,
     mut pass: TurnPass<Counter>,
     times: u64,
 ) -> TurnPass<Counter>
-    requires lock { IsOf (lock_id lock.now) pass }
-    requires outside { pass.inside ≡ false }
-    ensures lock { IsOf (lock_id lock.now) result }
-    ensures outside { result.inside ≡ false }
+    requires { IsReady (lock_id lock.now) pass }
+    ensures { Acted (λ _. Adds 1) (lock_id lock.now) pass times result }
 {
-    for _ in 0..times {
+    for added in 0..times {
         add(rt, lock, &mut pass, 1);
     }
     pass
 }
 
-/// Two threads add in turns. The count is that of the whole history. `None` is for want of memory.
+/// Two threads add 1 in turns, each so many times. It gives the count, up to the greatest, and a pass that has seen the whole history. `None` is for want of memory.
 pub fn count_in_turns<R: Threads + Wait + Sync>(
     rt: &R,
     alloc: Global,
     times: u64,
 ) -> Option<(u64, TurnPass<Counter>)>
-    ensures { IfSome result (λ r. r.0 ≡ total r.1.seen) }
+    ensures total { IfSome result (λ r. r.0 ≡ total r.1.seen) }
+    ensures count { IfSome result (λ r. r.0 ≡ min (length r.1.seen) u64.MAX) }
+    ensures turns { IfSome result (λ r. IsByTwo times r.1.seen) }
 {
     let (lock, mut list) = match TurnLock::new(alloc, Counter { count: 0 }, 2) {
         Ok(made) => made,
@@ -96,12 +100,12 @@ pub fn count_in_turns<R: Threads + Wait + Sync>(
     let (first, second) = join(
         rt,
         || -> TurnPass<Counter>
-            requires { IsOf (lock_id lock) first × (first.inside ≡ false) }
-            ensures { IsOf (lock_id lock) result × (result.inside ≡ false) }
+            requires { IsReady (lock_id lock) first }
+            ensures { Acted (λ _. Adds 1) (lock_id lock) first times result }
         { add_times(rt, &lock, first, times) },
         || -> TurnPass<Counter>
-            requires { IsOf (lock_id lock) second × (second.inside ≡ false) }
-            ensures { IsOf (lock_id lock) result × (result.inside ≡ false) }
+            requires { IsReady (lock_id lock) second }
+            ensures { Acted (λ _. Adds 1) (lock_id lock) second times result }
         { add_times(rt, &lock, second, times) },
     );
     list.give(first);

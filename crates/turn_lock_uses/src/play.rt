@@ -1,5 +1,6 @@
 //! Three threads that write into one register.
 ghost use Rattle.std.specs.Prelude.{◌≡◌, [], IfOk};
+ghost use Rattle.std.specs.Vec.{vec_capacity};
 ghost use Rattle.turn_lock_uses.specs.Logs.{IsLogOfThree};
 
 use crate::core_state::{Core, act_all};
@@ -38,7 +39,7 @@ fn take_turns<R: Threads + Wait + Sync>(
     times: u64,
 ) -> Result<Vec<Write>, AllocError>
     requires { (core.machine.value ≡ 0) × (core.machine.log.items ≡ []) }
-    ensures { IfOk result (λ log. IsLogOfThree times log.items) }
+    ensures { IfOk result (λ log. IsLogOfThree times (vec_capacity core.machine.log) log.items) }
 {
     let (lock, mut list) = match TurnLock::new(alloc, core, 3) {
         Ok(made) => made,
@@ -71,7 +72,7 @@ pub fn write_in_turns<R: Threads + Wait + Sync>(
     times: u64,
     room: usize,
 ) -> Result<Vec<Write>, AllocError>
-    ensures { IfOk result (λ log. IsLogOfThree times log.items) }
+    ensures { IfOk result (λ log. IsLogOfThree times room log.items) }
 {
     let machine = Register::new(alloc, room)?;
     let made = Table::<u8, (), (), NoRule, Global>::of_words(alloc, &[0], &());

@@ -28,6 +28,7 @@ impl Register {
         })
     }
 
+    /// Takes the register apart, which spends it, and gives all that was written, in order.
     pub fn into_log(self) -> Vec<Write>
         ensures { result ≡ self.log }
     {

@@ -1,7 +1,7 @@
-use Rattle.std.proofs.Common.{◌≡◌, false}
 use Rattle.turn_lock.specs.Locks.{lock_id}
-use Rattle.turn_lock.specs.Passes.{IsOf}
+use Rattle.turn_lock_uses.specs.Acts.{Acted}
+use Rattle.turn_lock_uses.specs.Totals.{Adds}
 use Rattle.turn_lock_uses.proofs.counter.add_times.Given as goal
 
-abbrev pub invariant-loop : goal.invariant-loop
-invariant-loop g l = IsOf (lock_id l.lock) l.pass × (l.pass.inside ≡ false)
+abbrev pub invariant-loop-added : goal.invariant-loop-added
+invariant-loop-added g l = Acted (λ _. Adds 1) (lock_id l.lock) l.initial.pass l.added l.pass

@@ -3,7 +3,7 @@ use Rattle.std.proofs.lemmas.List.Elements.{All-pop}
 use Rattle.turn_lock.specs.History.{IsByCallers}
 use Rattle.turn_lock.specs.Passes.{FitsIn}
 use Rattle.turn_lock.proofs.Lists.{new_passes-pop}
-use Rattle.turn_lock_uses.proofs.Callers.{turns_made}
+use Rattle.turn_lock_uses.proofs.WholeLogs.{whole_log}
 use Rattle.turn_lock_uses.proofs.play.take_turns.Goals as goal
 
 pub returns : goal.returns
@@ -14,11 +14,6 @@ returns g c = let past = c.end-core.result.1.seen in let label = c.end-core.resu
     let third = All-pop (FitsIn past label) _ _ (Some c.act_all-first.result.2) c.give-3.ensures.pass c.end-core.ensures.passes in
     let second = All-pop (FitsIn past label) _ _ (Some c.act_all-first.result.1) c.give-2.ensures.pass third.0 in
     let first = All-pop (FitsIn past label) _ _ (Some c.act_all-first.result.0) c.give.ensures.pass second.0 in
-    let callers = c.give-3.ensures.same.0 ∙ (c.give-2.ensures.same.0 ∙ (c.give.ensures.same.0 ∙ (c.pop-3.ensures.same.0 ∙ (c.pop-2.ensures.same.0 ∙ (c.pop.ensures.same.0 ∙ ap (λ l. l.callers) made))))) in (
-      past,
-      ap (λ v. v.items) c.into_log-2.ensures ∙ c.end-core.ensures.state.0,
-      subst (λ n. IsByCallers n past) callers c.end-core.ensures.callers,
-      turns_made _ _ _ 1 _ _ _ _ front.1 acted.first first.1,
-      turns_made _ _ _ 2 _ _ _ _ middle.1 acted.second second.1,
-      turns_made _ _ _ 3 _ _ _ _ last.1 acted.third third.1,
-    )
+    let callers = c.give-3.ensures.same.0 ∙ (c.give-2.ensures.same.0 ∙ (c.give.ensures.same.0 ∙ (c.pop-3.ensures.same.0 ∙ (c.pop-2.ensures.same.0 ∙ (c.pop.ensures.same.0 ∙ ap (λ l. l.callers) made))))) in
+    whole_log _ _ _ label _ past _ _ _ _ _ _ _ (ap (λ v. v.items) c.into_log-2.ensures ∙ c.end-core.ensures.state.0) (subst (λ n. IsByCallers n past) callers c.end-core.ensures.callers)
+    front.1 acted.first first.1 middle.1 acted.second second.1 last.1 acted.third third.1

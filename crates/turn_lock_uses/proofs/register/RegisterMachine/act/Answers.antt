@@ -17,5 +17,5 @@ returns-clause-turn c = λ past s. let wrote = writes_of-wrote past c.args.calle
   record { number = c.args.caller; entries = record { 0 = c.args.value } ∷ [] },
   refl,
   (c.push_reserved.ensures.items ∙ (ap (λ ws. ws ++ w ∷ []) s.0 ∙ sym wrote), c.replace.ensures.after ∙ sym (ap (value_after 0) wrote ∙ value_after-push 0 (writes_of past) w)),
-  (c.replace.ensures.value ∙ s.1, refl),
+  (search (rules, arith), c.replace.ensures.value ∙ s.1, refl),
 )
