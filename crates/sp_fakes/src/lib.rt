@@ -4,7 +4,8 @@
 //! number 0.
 #![tactic(auto)]
 
-ghost use Rattle.std.specs.Prelude.{◌↔◌, IsTrue, Contains};
+ghost use Rattle.std.specs.Prelude.{◌≡◌};
+ghost use Rattle.sp_fakes.specs.MemWires.{is_among};
 
 mod files;
 mod link;
@@ -22,7 +23,7 @@ pub use wire::{MemWire, WireStep};
 
 // A number stands in the list of those that fail.
 fn is_listed(fails: &[u64], call: u64) -> bool
-    ensures { IsTrue result ↔ Contains fails.now call }
+    ensures { result ≡ is_among call fails.now }
 {
     fails.contains(&call)
 }

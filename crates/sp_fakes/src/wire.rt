@@ -1,8 +1,8 @@
 //! A wire that pulls by a script and keeps what was put.
-ghost use Rattle.std.specs.Prelude.{◌≡◌, ◌<◌, ◌≤◌, ◌+◌, ◌↔◌, true, vec_len, vec_capacity, Some, map, length};
+ghost use Rattle.std.specs.Prelude.{◌≡◌, ◌<◌, ◌≤◌, ◌+◌, ◌-◌, true, vec_len, vec_capacity, Some, map, length};
 ghost use Rattle.sp_msg.specs.Views.{wire_text};
-ghost use Rattle.sp_msg.specs.Wires.{came_after, IsBare};
-ghost use Rattle.sp_fakes.specs.MemWires.{unused_wire};
+ghost use Rattle.sp_msg.specs.Wires.{AfterPull, AfterRoom, AfterPut, AfterFlush, AfterShut, came_after, may_flush, IsBare};
+ghost use Rattle.sp_fakes.specs.MemWires.{unused_wire, HasRoom, MemPulled, MemPut, OnlyWire};
 
 use crate::is_listed;
 use sp_base::Bytes;
@@ -27,7 +27,9 @@ pub enum WireStep {
 /// After a script without an end nothing more is there, for ever. What is put is written at once.
 #[derive(Debug, Drop)]
 pub struct MemWire {
+    /// Where memory for messages is taken.
     alloc: Global,
+    /// What it gives.
     script: Vec<WireStep>,
     /// How many steps were passed.
     at: usize,
@@ -39,17 +41,17 @@ pub struct MemWire {
     pulls: u64,
     /// What was put.
     kept: Vec<Message>,
+    /// What it shows beside its bytes.
     marks: WireMarks,
 }
 
 impl Model for MemWire {
     ghost use Rattle.std.specs.Prelude.{◌≡◌, ◌≤◌, ◌<◌, true, length, vec_len, vec_capacity};
-    ghost use Rattle.sp_msg.specs.Views.{WireView};
-    ghost use Rattle.sp_fakes.specs.MemWires.{mem_view};
+    ghost use Rattle.sp_fakes.specs.MemWires.{MemView, mem_view};
 
-    ghost Value = { WireView };
+    ghost Value = { MemView };
 
-    ghost view = { λ w. mem_view w.script.items w.at w.kept.items w.marks };
+    ghost view = { λ w. mem_view w.script.items w.at w.kept.items w.marks w.fails.items w.pulls w.most };
 
     ghost invariant = { λ w. (w.at ≤ length w.script.items) × (w.marks.is_ready ≡ true → vec_len w.kept < vec_capacity w.kept) };
 }
@@ -59,7 +61,7 @@ fn take_room(kept: &mut Vec<Message>, most: u64) -> Room
     ensures items { kept.new.items ≡ kept.old.items }
     ensures grown { vec_capacity kept.old ≤ vec_capacity kept.new }
     ensures room { result ≡ Room.Yes → vec_len kept.new < vec_capacity kept.new }
-    ensures full { (result ≡ Room.Full) ↔ (most ≤ vec_len kept.old) }
+    ensures most { HasRoom result (most - length kept.old.items) }
 {
     if kept.len() as u64 >= most {
         return Room::Full;
@@ -74,7 +76,7 @@ impl MemWire {
     /// Pulls by the script, and takes at most so many messages; the pulls with these numbers fail, the first being
     /// number 0, and use up no step.
     pub fn new(alloc: Global, frames: Vec<WireStep>, room: u64, fails: Vec<u64>) -> MemWire
-        ensures { result ≡ unused_wire }
+        ensures { result ≡ record { wire = unused_wire; left = frames.items; fails = fails.items; pulls = 0; room = room } }
     {
         MemWire {
             alloc,
@@ -90,7 +92,7 @@ impl MemWire {
 
     /// What was put.
     pub fn outs(&self) -> &[Message]
-        ensures { self.now.outs ≡ Some (map wire_text result.now) }
+        ensures { self.now.wire.outs ≡ Some (map wire_text result.now) }
     {
         &self.kept
     }
@@ -98,7 +100,8 @@ impl MemWire {
     // What the next pull gives.
     fn next_step(&mut self) -> WireIn
         ensures bare { IsBare result }
-        ensures came { self.new ≡ record self.old { came = came_after result self.old.came } }
+        ensures came { self.new.wire ≡ record self.old.wire { came = came_after result self.old.wire.came } }
+        ensures gives { MemPulled result self.old self.new }
     {
         let fails = is_listed(&self.fails, self.pulls);
         self.pulls = self.pulls.saturating_add(1);
@@ -127,21 +130,35 @@ impl MemWire {
 }
 
 impl Wire for MemWire {
-    ghost shown = { λ w. w };
+    ghost shown = { λ w. w.wire };
 
-    fn pull<R: Wait>(&mut self, _rt: &R) -> WireIn {
+    fn pull<R: Wait>(&mut self, _rt: &R) -> WireIn
+        requires { self.old.wire.is_open ≡ true }
+        ensures after { AfterPull result self.old.wire self.new.wire }
+        ensures gives { MemPulled result self.old self.new }
+    {
         let answer = self.next_step();
         self.marks.pulled(&answer);
         answer
     }
 
-    fn room<R: Wait>(&mut self, _rt: &R) -> Room {
+    fn room<R: Wait>(&mut self, _rt: &R) -> Room
+        requires { self.old.wire.is_open ≡ true }
+        ensures after { AfterRoom result self.old.wire self.new.wire }
+        ensures has { HasRoom result self.old.room }
+        ensures rest { OnlyWire self.old self.new }
+    {
         let answer = take_room(&mut self.kept, self.most);
         self.marks.roomed(answer);
         answer
     }
 
-    fn put<R: Wait>(&mut self, _rt: &R, m: Message) {
+    fn put<R: Wait>(&mut self, _rt: &R, m: Message)
+        requires is_open { self.old.wire.is_open ≡ true }
+        requires is_ready { self.old.wire.is_ready ≡ true }
+        ensures after { AfterPut m self.old.wire self.new.wire }
+        ensures rest { MemPut self.old self.new }
+    {
         self.marks.put();
         match self.kept.push(m) {
             Ok(()) => {}
@@ -149,12 +166,20 @@ impl Wire for MemWire {
         }
     }
 
-    fn flush<R: Wait>(&mut self, _rt: &R) -> WireFlush {
+    fn flush<R: Wait>(&mut self, _rt: &R) -> WireFlush
+        requires { may_flush self.old.wire ≡ true }
+        ensures after { AfterFlush result self.old.wire self.new.wire }
+        ensures empty { result ≡ WireFlush.Empty }
+        ensures rest { OnlyWire self.old self.new }
+    {
         self.marks.flushed(WireFlush::Empty);
         WireFlush::Empty
     }
 
-    fn shut(&mut self) {
+    fn shut(&mut self)
+        ensures after { AfterShut self.old.wire self.new.wire }
+        ensures rest { OnlyWire self.old self.new }
+    {
         self.marks.shut();
     }
 }

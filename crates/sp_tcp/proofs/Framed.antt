@@ -4,7 +4,7 @@ use Rattle.std.proofs.lemmas.List.{length-take, take-append-le, take-append-drop
 use Rattle.sp_spec.specs.SpTcp.{frame, frames, text, shows, begins, IsOversize}
 use Rattle.sp_spec.specs.Outside.{Told, IsFront}
 use Rattle.sp_spec.proofs.Shows.{frames-cons, shows-front, length-frame}
-use Rattle.sp_tcp.specs.Inlets.{IsPart, IsTooLong}
+use Rattle.sp_tcp.specs.Readings.{IsPart, IsTooLong}
 use Rattle.sp_tcp.specs.Outlets.{SentWithin}
 use Rattle.sp_tcp.specs.TcpWires.{number_in, taken_in, put_in, ReadsAs, WritesAs, TcpState, tcp_view, Holds, ShowsIn, WrittenIn, CutShort, Framed, AllShown, NextFits, NextTooLong}
 use Rattle.sp_tcp.proofs.Gathers.{frames-nil}

@@ -6,7 +6,7 @@ use Rattle.sp_spec.specs.SpTcp.{hello, frames, text, shows, Fit, begins, IsOvers
 use Rattle.sp_spec.specs.Outside.{grown, Told}
 use Rattle.sp_spec.proofs.Shows.{frames-append, begins-false, shows-rest, shows-text, Fit-append}
 use Rattle.sp_msg.specs.Wires.{with_text}
-use Rattle.sp_tcp.specs.Inlets.{IsPart, IsTooLong}
+use Rattle.sp_tcp.specs.Readings.{IsPart, IsTooLong}
 use Rattle.sp_tcp.specs.Outlets.{SentWithin}
 use Rattle.sp_tcp.specs.TcpWires.{number_in, told_number, greatest, taken_in, put_in, ReadsAs, WritesAs}
 use Rattle.sp_tcp.proofs.Writes.{sent_le}

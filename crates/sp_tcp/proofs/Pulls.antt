@@ -6,7 +6,8 @@ use Rattle.sp_base.specs.Views.{LinkView}
 use Rattle.sp_base.specs.Steps.{Came, Quiet}
 use Rattle.sp_msg.specs.declared.wire.WireIn.{WireIn}
 use Rattle.sp_tcp.specs.Links.{ReadCounts}
-use Rattle.sp_tcp.specs.Inlets.{IsPart, PullAnswer, PulledFrom}
+use Rattle.sp_tcp.specs.Inlets.{PullAnswer, PulledFrom}
+use Rattle.sp_tcp.specs.Readings.{IsPart}
 
 pub record PullGoing (max : ℕ) (old now : List ℕ) (link link' : LinkView) : Type 0 where
   pub piece : List ℕ

@@ -1,6 +1,6 @@
 -- What reading and taking do to what came.
-use Rattle.std.specs.Prelude.{◌≡◌, ◌≤◌, ◌<◌, ◌+◌, ◌++◌, ◌⊎◌, ℕ, true, false, List, [], length, Result, Ok, Err}
-use Rattle.sp_spec.specs.SpTcp.{size_of, frame}
+use Rattle.std.specs.Prelude.{◌≡◌, ◌≤◌, ◌<◌, ◌++◌, ℕ, true, false, List, [], length, Result, Ok, Err}
+use Rattle.sp_spec.specs.SpTcp.{frame}
 use Rattle.sp_spec.specs.Outside.{Rose}
 use Rattle.sp_base.specs.Views.{LinkView}
 use Rattle.sp_base.specs.Steps.{Came, Quiet}
@@ -10,16 +10,9 @@ use Rattle.sp_base.specs.declared.outside.LinkRead.TheVariants as reads
 use Rattle.sp_msg.specs.declared.wire.WireIn.{WireIn}
 use Rattle.sp_msg.specs.declared.wire.WireIn.TheVariants as ins
 use Rattle.sp_tcp.specs.Links.{ReadCounts}
+use Rattle.sp_tcp.specs.Readings.{IsPart, IsTooLong}
 use Rattle.sp_tcp.specs.declared.inlet.Taken.{Taken}
 use Rattle.sp_tcp.specs.declared.inlet.Taken.TheVariants as t
-
--- less than a whole message, and not a size above max
-abbrev pub IsPart : ℕ → List ℕ → Type 0
-IsPart max s = (length s < 8) ⊎ ((8 ≤ length s) × (size_of s ≤ max) × (length s < 8 + size_of s))
-
--- a size above max
-abbrev pub IsTooLong : ℕ → List ℕ → Type 0
-IsTooLong max s = (8 ≤ length s) × (max < size_of s)
 
 abbrev pub TakenAs : ℕ → Taken → List ℕ → List ℕ → Type 0
 TakenAs max (t.Message m) old new = (m.header ≡ []) × (length m.body ≤ max) × (old ≡ frame m.body ++ new)

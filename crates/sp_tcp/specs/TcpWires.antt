@@ -18,7 +18,7 @@ use Rattle.sp_msg.specs.declared.wire.WireFlush.{WireFlush}
 use Rattle.sp_msg.specs.declared.wire.WireFlush.TheVariants as flushes
 use Rattle.sp_tcp.specs.Views.{TcpView, InletView, OutletView}
 use Rattle.sp_tcp.specs.Links.{ReadCounts, WriteCounts}
-use Rattle.sp_tcp.specs.Inlets.{IsPart, IsTooLong}
+use Rattle.sp_tcp.specs.Readings.{IsPart, IsTooLong}
 use Rattle.sp_tcp.specs.Outlets.{SentWithin}
 
 -- the role number in the greeting that a text begins with

@@ -23,6 +23,7 @@ pub enum Greeted {
 /// peer's greeting so far, and whether it still waits for more; after `Peer` or `Bad` it takes no more.
 #[derive(Debug, Drop)]
 pub struct Greeting {
+    /// The own role.
     role: Role,
     /// The own greeting.
     own: [u8; 8],
@@ -62,6 +63,7 @@ fn is_same(a: &[u8], b: &[u8]) -> bool
 }
 
 impl Greeting {
+    /// The greetings of a link with this own role, of whose peer nothing came yet.
     pub fn new(role: Role) -> Greeting
         ensures { result ≡ record { role = role; fed = []; is_open = true } }
     {

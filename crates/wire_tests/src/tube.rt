@@ -8,15 +8,21 @@ use std::alloc::Global;
 /// Bytes that are written and then read, in order; proofs don't see them.
 #[derive(Drop)]
 pub struct Tube {
+    /// What was written.
     bytes: Vec<u8>,
     /// How many bytes were read.
     at: usize,
     /// How many writes take nothing, before one takes all.
     held: u64,
+    /// How many writes there were.
     writes: u64,
+    /// Writes that failed.
     fault_count: u64,
+    /// Reads that found nothing.
     idle_count: u64,
+    /// Writes that took nothing.
     stall_count: u64,
+    /// It was not shut yet.
     opened: bool,
 }
 
@@ -50,6 +56,11 @@ impl Tube {
     /// How many writes there were, also those that took nothing.
     pub fn writes(&self) -> u64 {
         self.writes
+    }
+
+    /// Whether it was not shut yet.
+    pub fn is_open(&self) -> bool {
+        self.opened
     }
 
     /// How many bytes were written.
