@@ -108,6 +108,7 @@ module _ (full : ℕ → Bool) (p : ℕ) where
     where
       turned : (m n : ℕ) (b : Bool) → (m == n) ≡ true → (n == m) ≡ false → ⊥
       turned m n b h k = grind (arith, nat_tests)
+
       go : (b : Bool) → (u == p) ≡ b → (b || has us p) ≡ true → (c : Bool) → (p == u) ≡ c → free_count (map (port_of (λ q. (p == q) || full q)) us) ≤ free_count (map (port_of full) us)
           → (has us p ≡ true → free_count (map (port_of (λ q. (p == q) || full q)) us) < free_count (map (port_of full) us))
           → plus (c || full u) (free_count (map (port_of (λ q. (p == q) || full q)) us)) < plus (full u) (free_count (map (port_of full) us))
@@ -131,6 +132,7 @@ free_is_up full (u ∷ us) x h = go (full u) refl h (free_is_up full us x)
   where
     some_inj : (y : Port) → Some y ≡ Some x → y ≡ x
     some_inj y q = cc
+
     go : (f : Bool) → full u ≡ f → cond (not f) (Some (record { pipe = u; is_full = f })) (find is_free (map (port_of full) us)) ≡ Some x
         → (find is_free (map (port_of full) us) ≡ Some x → (has us x.pipe ≡ true) × (full x.pipe ≡ false)) → (((u == x.pipe) || has us x.pipe) ≡ true) × (full x.pipe ≡ false)
     go true e h again = let r = again h in (ap (λ b. (u == x.pipe) || b) r.0 ∙ or_right (u == x.pipe), r.1)

@@ -103,6 +103,7 @@ found_recv op (w ∷ ws) s h = go (is_of op (begun_of w)) (found_recv op ws s) h
   where
     some_inj : Some (begun_of w) ≡ Some s → begun_of w ≡ s
     some_inj q = cc
+
     go : (b : Bool) → (find (is_of op) (map begun_of ws) ≡ Some s → s.act ≡ Recv) → cond b (Some (begun_of w)) (find (is_of op) (map begun_of ws)) ≡ Some s → s.act ≡ Recv
     go true again h = sym (ap (λ (r : Begun). r.act) (some_inj h))
     go false again h = again h
@@ -155,8 +156,7 @@ pub given_ties : (m n : Pull) (t : Moment) (op : OpName) (s : Begun) (text : Mes
     → (text_of k.message ≡ text) × Ties n (also t (End op (Won (Received text))))
 given_ties m n t op s text k h c e f same =
     let items_are : item_of k ∷ map item_of n.kept.items ≡ pool t.z (past t) 0 = sym (ap (map item_of) f) ∙ h.items in
-    let oldest : Some (text_of k.message) ≡ Some text = rw (kept_pull t.z (past t) s.ctx (is_pull m t h), ← items_are) at c.may.oldest in
-    (
+    let oldest : Some (text_of k.message) ≡ Some text = rw (kept_pull t.z (past t) s.ctx (is_pull m t h), ← items_are) at c.may.oldest in (
       cc,
       record {
         kind = rw (same.0, same.1) h.kind;

@@ -41,6 +41,7 @@ find_sent op (w ∷ ws) s h = go (is_for op w) h (find_sent op ws s)
   where
     some_inj : Some (sent_of w) ≡ Some s → sent_of w ≡ s
     some_inj q = cc
+
     go : (b : Bool) → cond b (Some (sent_of w)) (find (is_of op) (map sent_of ws)) ≡ Some s → (find (is_of op) (map sent_of ws) ≡ Some s → (v : Sending) × (find (is_for op) ws ≡ Some v) × (sent_of v ≡ s))
         → (v : Sending) × (cond b (Some w) (find (is_for op) ws) ≡ Some v) × (sent_of v ≡ s)
     go true h again = (w, refl, some_inj h)

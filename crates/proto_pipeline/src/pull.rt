@@ -61,8 +61,7 @@ impl Pull {
         ensures same { (self.new.kept ≡ self.old.kept) × (self.new.raw ≡ self.old.raw) × (self.new.options ≡ self.old.options) }
         ensures room { (vec_capacity self.new.waiting ≡ vec_capacity self.old.waiting) × (vec_len self.new.waiting ≤ vec_len self.old.waiting) }
     {
-        self.waiting
-            .retain(|w| !(w.op.slot == op.slot && w.op.generation == op.generation));
+        self.waiting.retain(|w| !(w.op.slot == op.slot && w.op.generation == op.generation));
     }
 }
 

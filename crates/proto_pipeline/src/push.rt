@@ -1,5 +1,5 @@
 //! The machine of push.
-ghost use Rattle.std.specs.Prelude.{◌≡◌, ◌+◌, map, find, length, option_to_list, IfOk};
+ghost use Rattle.std.specs.Prelude.{◌≡◌, ◌+◌, ◌==◌, not, map, filter, find, length, option_to_list, IfOk};
 ghost use Rattle.std.specs.VecDeque.{deque_len, deque_capacity};
 ghost use Rattle.std.specs.Option.{option_map};
 ghost use Rattle.std.specs.List.{position};
@@ -71,13 +71,21 @@ fn clear(ports: &mut [Port])
     }
 }
 
+// Knows the pipe no longer.
+fn forget(ports: &mut Vec<Port>, p: PipeId)
+    ensures { ports.new.items ≡ filter (λ x. not (x.pipe == p)) ports.old.items }
+{
+    ports.retain(|x| x.pipe.0 != p.0);
+}
+
+// Where the first stands that is not full.
 fn free_place(ports: &[Port]) -> Option<usize>
     ensures { result ≡ position is_free ports.now }
 {
     ports.iter().position(|x| !x.is_full)
 }
 
-// The first pipe that is not full.
+// A pipe that is not full.
 fn free_port(ports: &[Port]) -> Option<PipeId>
     ensures { result ≡ option_map (λ (x : PortType). x.pipe) (find is_free ports.now) }
 {
@@ -87,12 +95,11 @@ fn free_port(ports: &[Port]) -> Option<PipeId>
     }
 }
 
+// Where the operation stands.
 fn place_of(waiting: &VecDeque<Sending>, op: OpName) -> Option<usize>
     ensures { result ≡ position (is_for op) waiting.now.items }
 {
-    waiting
-        .iter()
-        .position(|w| w.op.slot == op.slot && w.op.generation == op.generation)
+    waiting.iter().position(|w| w.op.slot == op.slot && w.op.generation == op.generation)
 }
 
 // Takes the message of the operation out.
@@ -169,7 +176,7 @@ impl Proto for Push {
     }
 
     fn down(&mut self, p: PipeId) {
-        self.ports.retain(|x| x.pipe.0 != p.0);
+        forget(&mut self.ports, p);
     }
 
     fn wants(&self, p: PipeId) -> bool {

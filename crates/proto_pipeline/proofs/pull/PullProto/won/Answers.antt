@@ -13,8 +13,7 @@ returns-in-Some-clause-given c =
     let items : was.kept.items ≡ c.in-Some.k ∷ c.pop_front.new.self.items = rw (← c.forget.ensures.same.0) c.in-Some.ensures.items in
     let is : Pull = record { raw = mid.raw; options = mid.options; kept = c.pop_front.new.self; waiting = mid.waiting } in
     let given = given_ties was is t c.args.op s m c.in-Some.k h k c.forget.ensures.waiting items (c.forget.ensures.same.1, c.forget.ensures.same.2) in
-    let less : length mid.waiting.items < length was.waiting.items = fewer was is t c.args.op s h k.pending c.forget.ensures.waiting in
-    (
+    let less : length mid.waiting.items < length was.waiting.items = fewer was is t c.args.op s h k.pending c.forget.ensures.waiting in (
       ap (λ (x : Message). Some x) given.0,
       given.1,
       (

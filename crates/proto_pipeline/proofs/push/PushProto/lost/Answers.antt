@@ -9,8 +9,7 @@ returns-clause-lost c =
     λ t s cause by l h p.
     let was = c.args.self.now in
     let is : Push = record { raw = was.raw; options = was.options; ports = was.ports; waiting = c.take.new.waiting } in
-    let one : length (option_to_list c.take.result) ≡ 1 = one_taken was t c.args.op s c.take.result h p c.take.ensures.message in
-    (
+    let one : length (option_to_list c.take.result) ≡ 1 = one_taken was t c.args.op s c.take.result h p c.take.ensures.message in (
       lost_message was t c.args.op s c.take.result h p c.take.ensures.message,
       lost_ties was is t c.args.op cause by h c.take.ensures.rest refl (refl, refl),
       (omega (arith, one, c.take.ensures.len), omega (arith, one, c.take.ensures.len, c.take.ensures.capacity, was.waiting.small.1)),

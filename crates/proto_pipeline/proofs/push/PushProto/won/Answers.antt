@@ -17,8 +17,7 @@ pub returns-in-Some-clause-sent : goal.returns-in-Some-clause-sent
 returns-in-Some-clause-sent c =
     λ t p s b o l h k.
     let was = c.args.self.now in
-    let is : Push = record { raw = was.raw; options = was.options; ports = was.ports; waiting = c.take.new.waiting } in
-    (
+    let is : Push = record { raw = was.raw; options = was.options; ports = was.ports; waiting = c.take.new.waiting } in (
       sent_text was t c.args.op p s b c.in-Some.message c.header_clear.new.self h k c.in-Some.ensures.message c.header_clear.ensures,
       sent_ties was is t c.args.op p b h c.take.ensures.rest refl (refl, refl),
       (omega (arith, c.in-Some.ensures.len), omega (arith, c.in-Some.ensures.len, c.take.ensures.capacity, was.waiting.small.1)),
