@@ -1,6 +1,6 @@
 -- A pull stands for its history after each call.
-use Rattle.std.proofs.Common.{◌≡◌, refl, ap, sym, ◌∙◌, List, [], ◌∷◌, ◌++◌, ℕ, Bool, true, false, cond, arith, Option, Some, None, length, slice_index_or, ◌<◌, ◌≤◌}
-use Rattle.std.specs.Prelude.{map, find, not, ◌&&◌, ◌||◌, ◌==◌, option_to_list}
+use Rattle.std.proofs.Common.{◌≡◌, refl, ap, sym, ◌∙◌, List, [], ◌∷◌, ℕ, Bool, true, false, cond, arith, Some, None, length, ◌<◌, ◌≤◌}
+use Rattle.std.specs.Prelude.{map, find, not, ◌&&◌, ◌||◌, ◌==◌}
 use Rattle.std.proofs.lemmas.Bool.Decides.{nat_tests}
 use Rattle.std.specs.List.{list_all, list_any}
 use Rattle.std.specs.Option.{option_map}
@@ -15,7 +15,6 @@ use Rattle.sp_history.specs.declared.entry.Ending.TheVariants.{Won, Gone}
 use Rattle.sp_history.specs.declared.entry.Outcome.TheVariants.{Received}
 use Rattle.sp_history.specs.declared.entry.Message.{Message}
 use Rattle.sp_history.specs.declared.parts.Begun.{Begun}
-use Rattle.sp_history.specs.declared.parts.Item.{Item}
 use Rattle.sp_history.specs.Lists.{is_nil}
 use Rattle.sp_history.specs.Past.{is_of, without_begun, pend, pending}
 use Rattle.sp_history.specs.Kept.{pool, kept, wanted, is_from, has_none_of}
@@ -23,7 +22,7 @@ use Rattle.sp_history.specs.Settled.{receive_settled, send_settled, has_full}
 use Rattle.sp_history.specs.Legal.{is_recv_on}
 use Rattle.sp_history.specs.Moments.{Moment, past, also}
 use Rattle.sp_history.proofs.OnceHolds.{same_op-refl}
-use Rattle.sp_proto.specs.Kinds.{Kind, kind_of, text_of}
+use Rattle.sp_proto.specs.Kinds.{Kind, text_of}
 use Rattle.sp_proto.specs.Machines.{CanGive, CanSend, IsIdle, message_of}
 use Rattle.proto_pipeline.specs.declared.pull.Pull.{Pull}
 use Rattle.proto_pipeline.specs.declared.pull.Kept.{Kept}

@@ -1,7 +1,7 @@
 -- A push stands for its history after each call.
-use Rattle.std.proofs.Common.{◌≡◌, refl, ap, sym, ◌∙◌, subst, List, [], ◌∷◌, ◌++◌, ℕ, ◌+◌, Bool, true, false, cond, arith, Option, Some, None, length, map, ◌<◌, ◌≤◌}
+use Rattle.std.proofs.Common.{◌≡◌, refl, ap, sym, ◌∙◌, subst, List, [], ◌∷◌, ◌++◌, ℕ, Bool, true, false, arith, Option, Some, None, length, map, ◌<◌, ◌≤◌}
 use Rattle.std.specs.Prelude.{find, filter, not, option_to_list, ◌&&◌, ◌||◌, ◌==◌}
-use Rattle.std.specs.List.{list_any, list_all}
+use Rattle.std.specs.List.{list_all}
 use Rattle.std.specs.Option.{option_map}
 use Rattle.std.proofs.lemmas.Bool.Decides.{nat_tests}
 use Rattle.std.proofs.lemmas.List.{map-append}
@@ -12,26 +12,25 @@ use Rattle.sp_msg.specs.Views.{MessageView, wire_text}
 use Rattle.sp_history.specs.declared.setting.Setting.{Setting}
 use Rattle.sp_history.specs.declared.entry.Entry.{Entry}
 use Rattle.sp_history.specs.declared.entry.Entry.TheVariants.{Begin, End, Out, Down, Full}
-use Rattle.sp_history.specs.declared.entry.Act.{Act}
 use Rattle.sp_history.specs.declared.entry.Act.TheVariants.{Recv, Send}
 use Rattle.sp_history.specs.declared.entry.Cause.{Cause}
 use Rattle.sp_history.specs.declared.entry.Why.{Why}
 use Rattle.sp_history.specs.declared.entry.Ending.TheVariants.{Won, Gone}
-use Rattle.sp_history.specs.declared.entry.Outcome.TheVariants.{Received, Sent}
+use Rattle.sp_history.specs.declared.entry.Outcome.TheVariants.{Sent}
 use Rattle.sp_history.specs.declared.entry.Message.{Message}
 use Rattle.sp_history.specs.declared.parts.Begun.{Begun}
 use Rattle.sp_history.specs.declared.parts.Origin.{Origin}
-use Rattle.sp_history.specs.Lists.{has, without, is_nil, same_op}
+use Rattle.sp_history.specs.Lists.{has, without, is_nil}
 use Rattle.sp_history.specs.Setting.{is_reply}
 use Rattle.sp_history.specs.Past.{is_of, without_begun, pend, pending, up, ups}
 use Rattle.sp_history.specs.Kept.{route}
 use Rattle.sp_history.specs.Sends.{may_go, targets, bytes_of}
 use Rattle.sp_history.specs.Settled.{receive_settled, send_settled, has_full}
-use Rattle.sp_history.specs.Legal.{is_recv, is_at}
+use Rattle.sp_history.specs.Legal.{is_recv}
 use Rattle.sp_history.specs.Once.{AreApart}
 use Rattle.sp_history.specs.Moments.{Moment, Lawful, past, also, next}
 use Rattle.sp_history.proofs.OnceHolds.{same_op-refl}
-use Rattle.sp_proto.specs.Kinds.{Kind, kind_of, text_of, entry_act}
+use Rattle.sp_proto.specs.Kinds.{Kind, text_of, entry_act}
 use Rattle.sp_proto.specs.declared.Act.{Act as Asked}
 use Rattle.sp_proto.specs.declared.Act.TheVariants as asked
 use Rattle.sp_proto.specs.Machines.{CanGive, CanSend, IsIdle, message_of}

@@ -1,8 +1,7 @@
-use Rattle.std.proofs.Common.{sym, ap, ◌∙◌, ◌∷◌, ◌≡◌, List, arith, length, Some, ◌<◌}
+use Rattle.std.proofs.Common.{ap, ◌∷◌, ◌≡◌, arith, length, Some, ◌<◌}
 use Rattle.sp_history.specs.declared.entry.Message.{Message}
-use Rattle.proto_pipeline.proofs.Pulled.{no_send, given_ties, none_given, fewer}
+use Rattle.proto_pipeline.proofs.Pulled.{no_send, given_ties, fewer}
 use Rattle.proto_pipeline.specs.declared.pull.Pull.{Pull}
-use Rattle.proto_pipeline.specs.declared.pull.Kept.{Kept}
 use Rattle.proto_pipeline.proofs.pull.PullProto.won.Goals as goal
 
 pub returns-in-Some-clause-given : goal.returns-in-Some-clause-given

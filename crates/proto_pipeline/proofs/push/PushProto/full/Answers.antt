@@ -1,4 +1,4 @@
-use Rattle.std.proofs.Common.{rules, refl, ◌≡◌, ◌<◌, arith, map}
+use Rattle.std.proofs.Common.{refl, ◌≡◌, ◌<◌, arith, map}
 use Rattle.std.specs.Vec.{with_items}
 use Rattle.proto_pipeline.specs.declared.push.Push.{Push}
 use Rattle.proto_pipeline.specs.Pushes.{free_count, marked}

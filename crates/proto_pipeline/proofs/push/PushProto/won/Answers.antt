@@ -1,5 +1,4 @@
-use Rattle.std.proofs.Common.{refl, sym, arith, ◌≡◌, ◌<◌, length, Some, ◌∙◌, ap}
-use Rattle.std.specs.Prelude.{option_to_list}
+use Rattle.std.proofs.Common.{refl, arith}
 use Rattle.proto_pipeline.specs.declared.push.Push.{Push}
 use Rattle.proto_pipeline.proofs.Pushed.{no_give, not_none, sent_ties, sent_text}
 use Rattle.proto_pipeline.proofs.push.PushProto.won.Goals as goal
