@@ -5,8 +5,8 @@ use Rattle.std.specs.Ordering.{nat_cmp, eq_by_cmp, is_eq}
 use Rattle.std.specs.Cmp.{nat_cmp_total}
 use Rattle.std.specs.declared.cmp.Ordering.TheVariants.{Less, Equal, Greater}
 use Rattle.std.proofs.lemmas.Bool.{le-ltb, eq-eqb}
-use Rattle.sp_base.specs.Addresses.{scheme_of}
 use Rattle.sp_base.specs.declared.addr.Scheme.{Scheme}
+use Rattle.sp_base.specs.declared.addr.Scheme.TheVariants as schemes
 use Rattle.cat_tests.proofs.real.talks_at.Goals as goal
 
 same_number : (n : ℕ) → eq_by_cmp nat_cmp n n ≡ true
@@ -20,4 +20,4 @@ is_there old new n scheme e =
     subst IsSome (sym (ap (λ m. get m n) e ∙ get-insert nat_cmp_total old n scheme n ∙ ap (λ b. cond b (Some scheme) (get old n)) (same_number n))) refl
 
 pub talks_to_itself-requires-clause-at : goal.talks_to_itself-requires-clause-at
-talks_to_itself-requires-clause-at g c = is_there (g.N.Net.seen c.args.net.now).listens (g.N.Net.seen c.listen.new.self).listens c.in-At.at (scheme_of ?) c.in-At.ensures.shows.listens
+talks_to_itself-requires-clause-at g c = is_there (g.N.Net.seen c.args.net.now).listens (g.N.Net.seen c.listen.new.self).listens c.in-At.at schemes.Tcp c.in-At.ensures.shows.listens
