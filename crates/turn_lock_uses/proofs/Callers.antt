@@ -1,10 +1,9 @@
 -- Callers that acted, in the history of their lock.
-use Rattle.std.proofs.Common.{◌≡◌, ◌≢◌, ℕ, zero, suc, ◌+◌, ◌≤◌, ◌==◌, ◌⊎◌, inl, inr, ⊎_elim, List, [], ◌∷◌, ◌++◌, length, Option, cond, Bool, refl, sym, ap, ◌∙◌, subst, arith, append-nil, append_assoc, length-append, eq-eqb}
-use Rattle.std.specs.Prelude.{All}
+use Rattle.std.proofs.Common.{◌≡◌, ℕ, zero, suc, ◌+◌, ◌≤◌, ◌==◌, ◌⊎◌, inl, inr, ⊎_elim, List, [], ◌∷◌, ◌++◌, length, Option, cond, Bool, refl, sym, ap, ◌∙◌, subst, arith, append-nil, append_assoc, length-append, eq-eqb}
 use Rattle.std.proofs.lemmas.List.Elements.{filter-append, All-head, All-tail}
 use Rattle.atomic_table.specs.Seated.{TableId}
 use Rattle.turn_lock.specs.declared.turn.Turn.{Turn}
-use Rattle.turn_lock.specs.History.{turns_of, OthersAfter, IsByCallers}
+use Rattle.turn_lock.specs.History.{turns_of, IsByCallers}
 use Rattle.turn_lock.specs.Passes.{PassView, IsReady, IsSameCaller, OwnTurn, FitsIn, new_pass}
 use Rattle.turn_lock.proofs.Keeps.{nothing_more}
 use Rattle.turn_lock_uses.specs.declared.setting.Setting.{Setting}

@@ -2,7 +2,6 @@
 ghost use Rattle.std.specs.Prelude.{◌≡◌, false, List, Some};
 ghost use Rattle.turn_lock.specs.declared.turn.Turn.{Turn};
 ghost use Rattle.turn_lock_uses.specs.declared.setting.Setting.{Setting};
-ghost use Rattle.turn_lock.specs.Locks.{lock_id};
 ghost use Rattle.turn_lock.specs.Passes.{IsOf, IsReady, IsSameCaller, OwnTurn};
 ghost use Rattle.turn_lock_uses.specs.Acts.{RepliesTo, Acted};
 
@@ -21,6 +20,7 @@ pub trait Machine {
     /// What a turn of the machine is a list of.
     type Entry;
 
+    // For which histories the machine stands, oldest turn first.
     ghost stands: { Self → List (Turn Self.Entry) → Type 0 };
 
     // What no call changes.
@@ -37,7 +37,9 @@ pub trait Machine {
 
 /// A machine, and the seat of a table whose name all passes know by their label. It must be spent.
 pub struct Core<M: Machine> {
+    /// What the calls act on.
     pub machine: M,
+    /// A seat of the table whose name the label has.
     pub words: Seat<u8, ()>,
 }
 
@@ -58,9 +60,9 @@ pub fn act<M: Machine, R: Wait>(
     pass: &mut TurnPass<Core<M>>,
     value: u64,
 ) -> Option<u64>
-    requires lock { IsOf (lock_id lock.now) pass.old }
+    requires lock { IsOf lock.now pass.old }
     requires outside { pass.old.inside ≡ false }
-    ensures lock { IsOf (lock_id lock.now) pass.new }
+    ensures lock { IsOf lock.now pass.new }
     ensures same { IsSameCaller pass.old pass.new }
     ensures outside { pass.new.inside ≡ false }
     ensures turn { (past : List (Turn M.Entry)) × (t : Turn M.Entry) × OwnTurn pass.old past t pass.new × (z : Setting) × (pass.old.label ≡ Some z) × M.replies z.room value result past t }
@@ -78,8 +80,8 @@ fn act_times<M: Machine, R: Wait>(
     mut pass: TurnPass<Core<M>>,
     times: u64,
 ) -> TurnPass<Core<M>>
-    requires { IsReady (lock_id lock.now) pass }
-    ensures { Acted (RepliesTo M.replies pass.label) (lock_id lock.now) pass times result }
+    requires { IsReady lock.now pass }
+    ensures { Acted (RepliesTo M.replies pass.label) lock.now pass times result }
 {
     for value in 0..times {
         act(rt, lock, &mut pass, value);
@@ -95,20 +97,20 @@ pub fn act_both<M: Machine + Send, R: Threads + Wait + Sync>(
     second: TurnPass<Core<M>>,
     times: u64,
 ) -> (TurnPass<Core<M>>, TurnPass<Core<M>>)
-    requires first { IsReady (lock_id lock.now) first }
-    requires second { IsReady (lock_id lock.now) second }
-    ensures first { Acted (RepliesTo M.replies first.label) (lock_id lock.now) first times result.0 }
-    ensures second { Acted (RepliesTo M.replies second.label) (lock_id lock.now) second times result.1 }
+    requires first { IsReady lock.now first }
+    requires second { IsReady lock.now second }
+    ensures first { Acted (RepliesTo M.replies first.label) lock.now first times result.0 }
+    ensures second { Acted (RepliesTo M.replies second.label) lock.now second times result.1 }
 {
     join(
         rt,
         || -> TurnPass<Core<M>>
-            requires { IsReady (lock_id lock.now) first }
-            ensures { Acted (RepliesTo M.replies first.label) (lock_id lock.entry.now) first times result }
+            requires { IsReady lock.now first }
+            ensures { Acted (RepliesTo M.replies first.label) lock.entry.now first times result }
         { act_times(rt, lock, first, times) },
         || -> TurnPass<Core<M>>
-            requires { IsReady (lock_id lock.now) second }
-            ensures { Acted (RepliesTo M.replies second.label) (lock_id lock.entry.now) second times result }
+            requires { IsReady lock.now second }
+            ensures { Acted (RepliesTo M.replies second.label) lock.entry.now second times result }
         { act_times(rt, lock, second, times) },
     )
 }
@@ -122,22 +124,22 @@ pub fn act_all<M: Machine + Send, R: Threads + Wait + Sync>(
     third: TurnPass<Core<M>>,
     times: u64,
 ) -> (TurnPass<Core<M>>, TurnPass<Core<M>>, TurnPass<Core<M>>)
-    requires first { IsReady (lock_id lock.now) first }
-    requires second { IsReady (lock_id lock.now) second }
-    requires third { IsReady (lock_id lock.now) third }
-    ensures first { Acted (RepliesTo M.replies first.label) (lock_id lock.now) first times result.0 }
-    ensures second { Acted (RepliesTo M.replies second.label) (lock_id lock.now) second times result.1 }
-    ensures third { Acted (RepliesTo M.replies third.label) (lock_id lock.now) third times result.2 }
+    requires first { IsReady lock.now first }
+    requires second { IsReady lock.now second }
+    requires third { IsReady lock.now third }
+    ensures first { Acted (RepliesTo M.replies first.label) lock.now first times result.0 }
+    ensures second { Acted (RepliesTo M.replies second.label) lock.now second times result.1 }
+    ensures third { Acted (RepliesTo M.replies third.label) lock.now third times result.2 }
 {
     let (first, (second, third)) = join(
         rt,
         || -> TurnPass<Core<M>>
-            requires { IsReady (lock_id lock.now) first }
-            ensures { Acted (RepliesTo M.replies first.label) (lock_id lock.entry.now) first times result }
+            requires { IsReady lock.now first }
+            ensures { Acted (RepliesTo M.replies first.label) lock.entry.now first times result }
         { act_times(rt, lock, first, times) },
         || -> (TurnPass<Core<M>>, TurnPass<Core<M>>)
-            requires { IsReady (lock_id lock.now) second × IsReady (lock_id lock.now) third }
-            ensures { Acted (RepliesTo M.replies second.label) (lock_id lock.entry.now) second times result.0 × Acted (RepliesTo M.replies third.label) (lock_id lock.entry.now) third times result.1 }
+            requires { IsReady lock.now second × IsReady lock.now third }
+            ensures { Acted (RepliesTo M.replies second.label) lock.entry.now second times result.0 × Acted (RepliesTo M.replies third.label) lock.entry.now third times result.1 }
         { act_both(rt, lock, second, third, times) },
     );
     (first, second, third)

@@ -1,12 +1,12 @@
 //! A counter that callers add to in turns.
 ghost use Rattle.std.specs.Prelude.{◌≡◌, ◌+◌, min, false, List, IfSome, length};
 ghost use Rattle.turn_lock.specs.declared.turn.Turn.{Turn};
-ghost use Rattle.turn_lock.specs.Locks.{lock_id};
 ghost use Rattle.turn_lock.specs.Passes.{IsOf, IsReady, IsSameCaller, OwnTurn};
 ghost use Rattle.turn_lock_uses.specs.declared.counter.Added.{Added};
 ghost use Rattle.turn_lock_uses.specs.Acts.{Acted};
 ghost use Rattle.turn_lock_uses.specs.Totals.{total, Adds, IsByTwo};
 
+use crate::endings::end_with_two;
 use std::alloc::Global;
 use std::marker::Brand;
 use std::sync::Wait;
@@ -18,6 +18,7 @@ pub struct Added(pub u64);
 
 /// A count of all that was added. It must be spent.
 pub struct Counter {
+    /// The sum of all that the turns added, up to the greatest count.
     pub count: u64,
 }
 
@@ -43,9 +44,9 @@ impl Counter {
 
 /// Adds, up to the greatest count, and gives the count.
 pub fn add<R: Wait>(rt: &R, lock: &TurnLock<Counter>, pass: &mut TurnPass<Counter>, n: u64) -> u64
-    requires lock { IsOf (lock_id lock.now) pass.old }
+    requires lock { IsOf lock.now pass.old }
     requires outside { pass.old.inside ≡ false }
-    ensures lock { IsOf (lock_id lock.now) pass.new }
+    ensures lock { IsOf lock.now pass.new }
     ensures same { IsSameCaller pass.old pass.new }
     ensures outside { pass.new.inside ≡ false }
     ensures count { result ≡ total pass.new.seen }
@@ -65,8 +66,8 @@ fn add_times<R: Wait>(
     mut pass: TurnPass<Counter>,
     times: u64,
 ) -> TurnPass<Counter>
-    requires { IsReady (lock_id lock.now) pass }
-    ensures { Acted (λ _. Adds 1) (lock_id lock.now) pass times result }
+    requires { IsReady lock.now pass }
+    ensures { Acted (λ _. Adds 1) lock.now pass times result }
 {
     for added in 0..times {
         add(rt, lock, &mut pass, 1);
@@ -100,16 +101,14 @@ pub fn count_in_turns<R: Threads + Wait + Sync>(
     let (first, second) = join(
         rt,
         || -> TurnPass<Counter>
-            requires { IsReady (lock_id lock) first }
-            ensures { Acted (λ _. Adds 1) (lock_id lock) first times result }
+            requires { IsReady lock first }
+            ensures { Acted (λ _. Adds 1) lock first times result }
         { add_times(rt, &lock, first, times) },
         || -> TurnPass<Counter>
-            requires { IsReady (lock_id lock) second }
-            ensures { Acted (λ _. Adds 1) (lock_id lock) second times result }
+            requires { IsReady lock second }
+            ensures { Acted (λ _. Adds 1) lock second times result }
         { add_times(rt, &lock, second, times) },
     );
-    list.give(first);
-    list.give(second);
-    let (counter, pass) = lock.end(rt, list);
+    let (counter, pass) = end_with_two(rt, lock, list, first, second);
     Some((counter.into_count(), pass))
 }

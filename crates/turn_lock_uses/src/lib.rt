@@ -1,10 +1,11 @@
 //! Two ways to use a turn lock.
 //!
-//! `counter` has a state whose calls know the turn that they add, and leave by `leave`. `core_state` has a state that is generic in its machine, whose contract says only that there is such a turn: its calls leave by `leave_some`, and ensure one turn of the caller's own and an answer over the history before it. `register` is such a machine, with its history at hand.
+//! `counter` has a state whose calls know the turn that they add, and leave by `leave`. `core_state` has a state that is generic in its machine, whose contract says only that there is such a turn: its calls leave by `leave_some`, and ensure one turn of the caller's own and an answer over the history before it. `register` is such a machine, with its history at hand. `endings` says what the end tells of each caller.
 #![tactic(auto)]
 
 mod core_state;
 mod counter;
+mod endings;
 mod play;
 mod register;
 mod setting;
@@ -14,6 +15,7 @@ mod writes;
 
 pub use core_state::{Core, Machine, act, act_all, act_both};
 pub use counter::{Added, Counter, add, count_in_turns};
+pub use endings::{end_with_three, end_with_two};
 pub use play::write_in_turns;
 pub use register::Register;
 pub use setting::Setting;

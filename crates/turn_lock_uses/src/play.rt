@@ -4,6 +4,7 @@ ghost use Rattle.std.specs.Vec.{vec_capacity};
 ghost use Rattle.turn_lock_uses.specs.Logs.{IsLogOfThree};
 
 use crate::core_state::{Core, act_all};
+use crate::endings::end_with_three;
 use crate::register::Register;
 use crate::writes::Write;
 use atomic_table::{Table, TableRule};
@@ -58,10 +59,7 @@ fn take_turns<R: Threads + Wait + Sync>(
         unreachable!()
     };
     let (first, second, third) = act_all(rt, &lock, first, second, third, times);
-    list.give(first);
-    list.give(second);
-    list.give(third);
-    let (core, _pass) = lock.end(rt, list);
+    let (core, _pass) = end_with_three(rt, lock, list, first, second, third);
     Ok(core.into_log())
 }
 

@@ -13,7 +13,9 @@ use std::mem;
 
 /// A value, and all writes up to it. It must be spent.
 pub struct Register {
+    /// What was written last, or 0 where nothing was.
     pub value: u64,
+    /// All that was written, in order. Its capacity is the register's room.
     pub log: Vec<Write>,
 }
 

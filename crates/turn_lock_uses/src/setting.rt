@@ -6,6 +6,7 @@ use std::marker::Model;
 
 /// What no call changes: the machine's room, and the name of the words. No value of it is made.
 pub struct Setting {
+    /// How much the machine has room for.
     pub room: u64,
     pub ghost words: { TableId } by { table_id_coded },
 }

@@ -6,6 +6,8 @@ pub struct Written(pub u64);
 /// Which caller wrote which value.
 #[derive(Clone, Copy, Debug, PartialEq, Eq)]
 pub struct Write {
+    /// The caller's number.
     pub by: u32,
+    /// What it wrote.
     pub value: u64,
 }

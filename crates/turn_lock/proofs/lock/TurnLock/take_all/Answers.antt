@@ -1,6 +1,7 @@
-use Rattle.std.proofs.Common.{◌≡◌, ◌∙◌, false, ap, arith}
-use Rattle.std.proofs.lemmas.List.Elements.{All-pop}
-use Rattle.turn_lock.specs.Passes.{IsOf}
+use Rattle.std.proofs.Common.{◌∙◌, ap, subst, sym}
+use Rattle.std.specs.Prelude.{All}
+use Rattle.std.proofs.lemmas.List.Elements.{All-nil}
+use Rattle.turn_lock.specs.Passes.{FitsIn}
 use Rattle.turn_lock.proofs.Lists.{taken}
 use Rattle.turn_lock.proofs.lock.TurnLock.take_all.Goals as goal
 
@@ -9,9 +10,9 @@ loop-other-preserved g c = let i = c.loop-other.invariant in let e = c.take_in.e
   lock = e.lock ∙ i.lock;
   ended = e.ended;
   kept = (own, label);
-  own = (All-pop (λ p. IsOf c.args.self.now.table.shared.table_id p × (p.inside ≡ false)) _ _ _ c.pop.ensures.items i.own).0;
-  fits = taken _ _ _ _ _ _ _ c.in-Some.other (ap (λ z. z.seen) own) label c.in-Some.ensures.items e.fits i.fits;
+  same = (c.pop.ensures.same.0 ∙ i.same.0, c.pop.ensures.same.1 ∙ i.same.1);
+  fits = taken _ _ _ _ _ _ _ c.in-Some.other (ap (λ z. z.seen) own) label c.in-Some.ensures.last e.fits i.fits;
 }
 
 pub returns-clause-fits : goal.returns-clause-fits
-returns-clause-fits g c = let none = c.in_default.ensures.cases.0 in c.loop-other.invariant.fits (λ k d low. absurd (omega arith))
+returns-clause-fits g c = c.loop-other.invariant.fits (subst (All (FitsIn c.args.seat.now.me.0.own.seen c.args.seat.now.me.0.label)) (sym c.in_default.ensures.none.0) (All-nil (FitsIn c.args.seat.now.me.0.own.seen c.args.seat.now.me.0.label)))

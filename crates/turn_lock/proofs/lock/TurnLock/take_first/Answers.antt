@@ -1,4 +1,4 @@
-use Rattle.std.proofs.Common.{rules, ap, ◌∙◌}
+use Rattle.std.proofs.Common.{rules, ap, ◌∙◌, sym}
 use Rattle.turn_lock.specs.Plays.{told_by}
 use Rattle.turn_lock.proofs.Lists.{told_callers}
 use Rattle.turn_lock.proofs.Ends.{joins_dealer, tells}
@@ -7,7 +7,7 @@ use Rattle.turn_lock.proofs.lock.TurnLock.take_first.Goals as goal
 pub join_seat-requires : goal.join_seat-requires
 join_seat-requires g c = let o = c.requires.ended in (
   search rules,
-  c.requires.own,
+  c.requires.own ∙ sym c.self.view_is,
   ap (λ m. m.1) c.requires.first,
   search rules,
   joins_dealer _ _ _ _ o.0 _ _ c.args.callers o.1 (ap (λ m. m.0) c.requires.first),
