@@ -1,10 +1,8 @@
 //! The real outside: TCP of std without waiting, standard output, std's files, and a pace by the clock. Each raises a
 //! count at each error and tells nothing of its content; what they do with the machine is trusted.
-ghost use Rattle.std.specs.Prelude.{ℕ, List, None, ◌≡◌, ◌<◌, ◌-◌, ◌^◌, IfSome};
-ghost use Rattle.std.specs.FinMap as map;
-ghost use Rattle.sp_base.specs.Listeners.{listens_of};
+ghost use Rattle.std.specs.Prelude.{ℕ, List, None, ◌≡◌, ◌<◌, ◌-◌, ◌^◌, false, IfOk, IfSome};
 ghost use Rattle.sp_base.specs.Steps.{IsNew};
-ghost use Rattle.cat_run.specs.Real.{counts_view, returned_entries};
+ghost use Rattle.cat_run.specs.Real.{counts_view, real_net_view, unasked_net};
 
 use sp_base::{
     Addr, Bytes, Files, Host, Link, LinkRead, LinkWrite, Linked, Listened, ListenerSchemes, Net,
@@ -124,7 +122,10 @@ pub struct TcpNet<R: std::net::Net<Listener = TcpListener, Stream = TcpStream> +
 }
 
 impl<R: std::net::Net<Listener = TcpListener, Stream = TcpStream> + Drop> TcpNet<R> {
-    pub fn new(rt: R, alloc: Global) -> TcpNet<R> {
+    /// A net that listens nowhere and has handed out no link.
+    pub fn new(rt: R, alloc: Global) -> TcpNet<R>
+        ensures { real_net_view result.schemes result.opened result.back result.faults result.idles ≡ unasked_net }
+    {
         TcpNet {
             rt,
             alloc,
@@ -194,7 +195,7 @@ fn link_of(alloc: Global, stream: TcpStream, place: u32, scheme: Scheme) -> Opti
 impl<R: std::net::Net<Listener = TcpListener, Stream = TcpStream> + Drop> Net for TcpNet<R> {
     type L = TcpLink;
 
-    ghost seen = { λ n. record { listens = listens_of n.schemes; opened = n.opened; back = map.from_entries (returned_entries n.back); faults = n.faults; idles = n.idles } };
+    ghost seen = { λ n. real_net_view n.schemes n.opened n.back n.faults n.idles };
 
     fn listen(&mut self, addr: &Addr) -> Listened {
         if let Some(listener) = bind(&self.rt, addr) {
@@ -279,25 +280,31 @@ pub struct RealPace<R: Clock + Drop> {
     start: Instant,
     left: u64,
     latest: u64,
+    over: bool,
 }
 
 impl<R: Clock + Drop> RealPace<R> {
-    pub fn new(rt: R) -> io::Result<RealPace<R>> {
+    /// A pace whose ticks count from now on. Fails where the clock does.
+    pub fn new(rt: R) -> io::Result<RealPace<R>>
+        ensures { IfOk result (λ p. (p.left ≡ 2 ^ 64 - 1) × (p.over ≡ false)) }
+    {
         let start = Instant::now(&rt)?;
         Ok(RealPace {
             rt,
             start,
             left: u64::MAX,
             latest: 0,
+            over: false,
         })
     }
 }
 
 impl<R: Clock + Drop> Pace for RealPace<R> {
-    ghost seen = { λ p. record { left = p.left; latest = p.latest } };
+    ghost seen = { λ p. record { left = p.left; latest = p.latest; is_over = p.over } };
 
     fn turn(&mut self, moved: bool) -> Paced {
         if self.left == 0 {
+            self.over = true;
             return Paced::Over;
         }
         self.left -= 1;
@@ -320,7 +327,10 @@ pub struct RealOut<R: Print + Drop> {
 }
 
 impl<R: Print + Drop> RealOut<R> {
-    pub fn new(rt: R) -> RealOut<R> {
+    /// Standard output, with no fault so far.
+    pub fn new(rt: R) -> RealOut<R>
+        ensures { result.faults ≡ 0 }
+    {
         RealOut { rt, faults: 0 }
     }
 }
@@ -347,7 +357,10 @@ pub struct RealFiles<R: std::rt::Files + AllocGlobal + Drop> {
 }
 
 impl<R: std::rt::Files + AllocGlobal + Drop> RealFiles<R> {
-    pub fn new(rt: R) -> RealFiles<R> {
+    /// The files of the machine, with no fault so far.
+    pub fn new(rt: R) -> RealFiles<R>
+        ensures { result.faults ≡ 0 }
+    {
         RealFiles { rt, faults: 0 }
     }
 }

@@ -1,6 +1,9 @@
 use crate::TURNS;
-use crate::play::{HELLO_80, HELLO_81, SIX, link_of, one, play, taking};
+use crate::play::{
+    HELLO_80, HELLO_81, SIX, between, followed, link_of, one, play, taking, trickle,
+};
 use cat_run::Status;
+use sp_fakes::LinkStep;
 use std::test::Fail;
 
 const HELLO_FRAME: &[u8] = b"\x00\x00\x00\x00\x00\x00\x00\x05hello";
@@ -52,7 +55,9 @@ fn a_link_that_stops_in_its_greeting_holds_nobody_up(rt: HostRuntime) -> Result<
     assert_eq!(rt; came.status, Status::Done);
     assert_eq!(rt; came.printed.as_slice(), b"hello\n".as_slice());
     assert_eq!(rt; came.written.as_slice(), HELLO_81);
+    assert_eq!(rt; came.second.as_slice(), HELLO_81);
     assert_eq!(rt; came.opened, 2);
+    assert_eq!(rt; came.left, TURNS - 2);
     Ok(())
 }
 
@@ -60,6 +65,7 @@ fn a_link_that_stops_in_its_greeting_holds_nobody_up(rt: HostRuntime) -> Result<
 fn a_peer_of_another_role_is_given_back(rt: HostRuntime) -> Result<(), Fail> {
     let came = one(&rt, &[b"\x00SP\x00\x00\x30\x00\x00"], false)?;
     assert_eq!(rt; came.status, Status::Over);
+    assert_eq!(rt; came.written.as_slice(), HELLO_81);
     assert_eq!(rt; came.printed.len(), 0);
     assert_eq!(rt; came.left, 0);
     Ok(())
@@ -73,6 +79,7 @@ fn a_link_that_ends_inside_a_message_prints_nothing(rt: HostRuntime) -> Result<(
         true,
     )?;
     assert_eq!(rt; came.status, Status::Over);
+    assert_eq!(rt; came.written.as_slice(), HELLO_81);
     assert_eq!(rt; came.printed.len(), 0);
     Ok(())
 }
@@ -123,5 +130,101 @@ fn a_link_may_take_little_at_a_time(rt: HostRuntime) -> Result<(), Fail> {
     assert_eq!(rt; came.status, Status::Over);
     assert_eq!(rt; came.written.len(), 0);
     assert_eq!(rt; came.printed.len(), 0);
+    Ok(())
+}
+
+#[test]
+fn a_link_that_pauses_is_read_on(rt: HostRuntime) -> Result<(), Fail> {
+    let alloc = rt.alloc();
+    let mut links = Vec::new(alloc);
+    links.push(between(alloc, HELLO_80, LinkStep::NotYet, HELLO_FRAME)?)?;
+    let came = play(&rt, SIX, links, Vec::new(alloc), Vec::new(alloc), TURNS)?;
+    assert_eq!(rt; came.status, Status::Done);
+    assert_eq!(rt; came.printed.as_slice(), b"hello\n".as_slice());
+    assert_eq!(rt; came.written.as_slice(), HELLO_81);
+    assert_eq!(rt; came.left, TURNS - 2);
+    Ok(())
+}
+
+#[test]
+fn a_link_that_ended_is_followed_by_the_next(rt: HostRuntime) -> Result<(), Fail> {
+    let came = followed(&rt, link_of(rt.alloc(), &[HELLO_80], true, 1_000_000)?)?;
+    assert_eq!(rt; came.status, Status::Done);
+    assert_eq!(rt; came.printed.as_slice(), b"later\n".as_slice());
+    assert_eq!(rt; came.written.as_slice(), HELLO_81);
+    assert_eq!(rt; came.second.as_slice(), HELLO_81);
+    assert_eq!(rt; came.left, TURNS - 2);
+    Ok(())
+}
+
+#[test]
+fn a_link_that_failed_is_followed_by_the_next(rt: HostRuntime) -> Result<(), Fail> {
+    let first = between(rt.alloc(), HELLO_80, LinkStep::Fail, HELLO_FRAME)?;
+    let came = followed(&rt, first)?;
+    assert_eq!(rt; came.status, Status::Done);
+    assert_eq!(rt; came.printed.as_slice(), b"later\n".as_slice());
+    assert_eq!(rt; came.written.as_slice(), HELLO_81);
+    assert_eq!(rt; came.second.as_slice(), HELLO_81);
+    assert_eq!(rt; came.left, TURNS - 2);
+    Ok(())
+}
+
+#[test]
+fn a_link_with_an_oversize_is_followed_by_the_next(rt: HostRuntime) -> Result<(), Fail> {
+    let above = b"\x00\x00\x00\x00\x00\x10\x00\x01";
+    let first = link_of(rt.alloc(), &[HELLO_80, above, b"x"], false, 1_000_000)?;
+    let came = followed(&rt, first)?;
+    assert_eq!(rt; came.status, Status::Done);
+    assert_eq!(rt; came.printed.as_slice(), b"later\n".as_slice());
+    assert_eq!(rt; came.written.as_slice(), HELLO_81);
+    assert_eq!(rt; came.second.as_slice(), HELLO_81);
+    assert_eq!(rt; came.left, TURNS - 2);
+    Ok(())
+}
+
+#[test]
+fn a_link_that_comes_while_one_is_held_is_given_back_unread(rt: HostRuntime) -> Result<(), Fail> {
+    let first = between(rt.alloc(), HELLO_80, LinkStep::NotYet, HELLO_FRAME)?;
+    let came = followed(&rt, first)?;
+    assert_eq!(rt; came.status, Status::Done);
+    assert_eq!(rt; came.printed.as_slice(), b"hello\n".as_slice());
+    assert_eq!(rt; came.written.as_slice(), HELLO_81);
+    assert_eq!(rt; came.opened, 2);
+    assert_eq!(rt; came.second.len(), 0);
+    assert_eq!(rt; came.left, TURNS - 2);
+    Ok(())
+}
+
+// A greeting, a size and a body are so many bytes, and each is a read.
+#[test]
+fn a_round_has_64_reads(rt: HostRuntime) -> Result<(), Fail> {
+    const FORTY_EIGHT: &[u8] = b"a body of forty-eight bytes, all of them visible";
+    let alloc = rt.alloc();
+    let mut links = Vec::new(alloc);
+    links.push(trickle(
+        alloc,
+        &[HELLO_80, b"\x00\x00\x00\x00\x00\x00\x00\x30", FORTY_EIGHT],
+    )?)?;
+    let came = play(&rt, SIX, links, Vec::new(alloc), Vec::new(alloc), TURNS)?;
+    assert_eq!(rt; came.status, Status::Done);
+    assert_eq!(rt; came.printed.len(), 49);
+    assert_eq!(rt; came.left, TURNS - 1);
+    let mut links = Vec::new(alloc);
+    links.push(trickle(
+        alloc,
+        &[
+            HELLO_80,
+            b"\x00\x00\x00\x00\x00\x00\x00\x31",
+            FORTY_EIGHT,
+            b"!",
+        ],
+    )?)?;
+    let came = play(&rt, SIX, links, Vec::new(alloc), Vec::new(alloc), TURNS)?;
+    assert_eq!(rt; came.status, Status::Done);
+    assert_eq!(rt;
+        came.printed.as_slice(),
+        b"a body of forty-eight bytes, all of them visible!\n".as_slice()
+    );
+    assert_eq!(rt; came.left, TURNS - 2);
     Ok(())
 }

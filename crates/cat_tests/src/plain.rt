@@ -8,22 +8,24 @@ use std::test::Fail;
 
 #[test]
 fn roles_have_their_numbers(rt: HostRuntime) -> Result<(), Fail> {
-    let roles: &[(Role, u16, u16, &str)] = &[
-        (Role::Pair0, 16, 16, "pair"),
-        (Role::Pub, 32, 33, "pub"),
-        (Role::Sub, 33, 32, "sub"),
-        (Role::Req, 48, 49, "req"),
-        (Role::Rep, 49, 48, "rep"),
-        (Role::Push, 80, 81, "push"),
-        (Role::Pull, 81, 80, "pull"),
-        (Role::Surveyor, 98, 99, "surveyor"),
-        (Role::Respondent, 99, 98, "respondent"),
-        (Role::Bus, 112, 112, "bus"),
+    // Each with its number, its peer's, its name, and whether it sends, receives and has contexts.
+    let roles: &[(Role, u16, u16, &str, [bool; 3])] = &[
+        (Role::Pair0, 16, 16, "pair", [true, true, false]),
+        (Role::Pub, 32, 33, "pub", [true, false, false]),
+        (Role::Sub, 33, 32, "sub", [false, true, true]),
+        (Role::Req, 48, 49, "req", [true, true, true]),
+        (Role::Rep, 49, 48, "rep", [true, true, true]),
+        (Role::Push, 80, 81, "push", [true, false, false]),
+        (Role::Pull, 81, 80, "pull", [false, true, false]),
+        (Role::Surveyor, 98, 99, "surveyor", [true, true, true]),
+        (Role::Respondent, 99, 98, "respondent", [true, true, true]),
+        (Role::Bus, 112, 112, "bus", [true, true, false]),
     ];
-    for (role, number, peer, name) in roles {
+    for (role, number, peer, name, can) in roles {
         assert_eq!(rt; role.number(), *number);
         assert_eq!(rt; role.peer().number(), *peer);
         assert_eq!(rt; role.name(), *name);
+        assert_eq!(rt; [role.sends(), role.receives(), role.contexts()], *can);
         assert_eq!(rt; Role::from_number(*number), Some(*role));
     }
     for number in [0, 17, 34, 65_535] {
@@ -58,7 +60,7 @@ fn files_in_memory_are_read_by_their_names(rt: HostRuntime) -> Result<(), Fail> 
     ))?;
     let mut files = MemFiles::new(alloc, pairs, Vec::new(alloc));
     let found = files.whole("a");
-    assert!(rt; matches!(&found, Whole::Bytes(b) if b.as_slice().len() == 3));
+    assert!(rt; matches!(&found, Whole::Bytes(b) if b.as_slice() == b"one".as_slice()));
     let missing = files.whole("b");
     assert!(rt; matches!(&missing, Whole::Failed));
     Ok(())

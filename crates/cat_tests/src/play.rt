@@ -1,4 +1,8 @@
 //! What the tests run, and what they compare.
+ghost use Rattle.std.specs.Prelude.{◌≡◌, ◌≤◌, ◌+◌, IfOk};
+ghost use Rattle.sp_base.specs.declared.addr.Scheme.TheVariants as schemes;
+ghost use Rattle.sp_fakes.specs.MemLinks.{link_view, unread_at};
+
 use crate::TURNS;
 use cat_run::{Status, run};
 use sp_base::{Bytes, NoMemory};
@@ -27,7 +31,9 @@ pub fn link_of(
     pieces: &[&[u8]],
     ends: bool,
     take: usize,
-) -> Result<MemLink, NoMemory> {
+) -> Result<MemLink, NoMemory>
+    ensures { IfOk result (λ link. link_view link ≡ unread_at 0 schemes.Tcp) }
+{
     let mut script = Vec::new(alloc);
     for piece in pieces {
         script.push(LinkStep::Bytes(Bytes::from_slice(alloc, piece)?))?;
@@ -38,7 +44,37 @@ pub fn link_of(
     Ok(MemLink::new(alloc, script, take, Vec::new(alloc)))
 }
 
-fn words(alloc: Global, texts: &[&str]) -> Result<Vec<String>, NoMemory> {
+/// A link that gives these bytes one at a time, and then nothing for ever.
+pub fn trickle(alloc: Global, texts: &[&[u8]]) -> Result<MemLink, NoMemory>
+    ensures { IfOk result (λ link. link_view link ≡ unread_at 0 schemes.Tcp) }
+{
+    let mut script = Vec::new(alloc);
+    for text in texts {
+        for byte in text.iter() {
+            script.push(LinkStep::Bytes(Bytes::from_slice(alloc, &[*byte])?))?;
+        }
+    }
+    Ok(MemLink::new(alloc, script, 1_000_000, Vec::new(alloc)))
+}
+
+/// A link that gives a piece, then this step, then another piece.
+pub fn between(
+    alloc: Global,
+    piece: &[u8],
+    step: LinkStep,
+    more: &[u8],
+) -> Result<MemLink, NoMemory>
+    ensures { IfOk result (λ link. link_view link ≡ unread_at 0 schemes.Tcp) }
+{
+    let mut script = Vec::new(alloc);
+    script.push(LinkStep::Bytes(Bytes::from_slice(alloc, piece)?))?;
+    script.push(step)?;
+    script.push(LinkStep::Bytes(Bytes::from_slice(alloc, more)?))?;
+    Ok(MemLink::new(alloc, script, 1_000_000, Vec::new(alloc)))
+}
+
+/// The words of a list.
+pub fn words(alloc: Global, texts: &[&str]) -> Result<Vec<String>, NoMemory> {
     let mut list = Vec::new(alloc);
     for text in texts {
         list.push(String::from_str(alloc, text)?)?;
@@ -46,15 +82,24 @@ fn words(alloc: Global, texts: &[&str]) -> Result<Vec<String>, NoMemory> {
     Ok(list)
 }
 
-/// What a run came to: its status, what was printed, what was written on the first link, how many links were handed
-/// out, and how many turns are left.
+/// What a run came to: its status, what was printed, what was written on the first link and on the second, how many
+/// links were handed out, and how many turns are left.
 #[derive(Drop)]
 pub struct Came {
     pub status: Status,
     pub printed: Vec<u8>,
     pub written: Vec<u8>,
+    pub second: Vec<u8>,
     pub opened: u32,
     pub left: u64,
+}
+
+// What was written on the link that was given back with this place; nothing where none was.
+fn written_on(alloc: Global, net: &MemNet, place: u32) -> Result<Vec<u8>, NoMemory> {
+    match net.returned(place) {
+        Some(link) => Ok(Vec::from_slice(alloc, link.written())?),
+        None => Ok(Vec::new(alloc)),
+    }
 }
 
 /// Runs the words over these links; the calls with these numbers fail.
@@ -65,7 +110,10 @@ pub fn play<R: AllocGlobal>(
     net_fails: Vec<u64>,
     sink_fails: Vec<u64>,
     turns: u64,
-) -> Result<Came, NoMemory> {
+) -> Result<Came, NoMemory>
+    ensures spent { IfOk result (λ came. came.opened + came.left ≤ turns) }
+    ensures over { IfOk result (λ came. came.status ≡ Status.Over → came.left ≡ 0) }
+{
     let alloc = rt.alloc();
     let list = words(alloc, texts)?;
     let mut incoming = Vec::new(alloc);
@@ -75,21 +123,23 @@ pub fn play<R: AllocGlobal>(
     let mut pace = MemPace::new(turns, 1);
     let mut out = MemSink::new(alloc, sink_fails);
     let end = run(rt, &list, &mut net, &mut files, &mut pace, &mut out, 0);
-    let written = match net.returned(0) {
-        Some(link) => Vec::from_slice(alloc, link.written())?,
-        None => Vec::new(alloc),
-    };
+    let written = written_on(alloc, &net, 0)?;
+    let second = written_on(alloc, &net, 1)?;
     Ok(Came {
         status: end.status,
         printed: Vec::from_slice(alloc, out.text())?,
         written,
+        second,
         opened: net.opened(),
         left: pace.left(),
     })
 }
 
 /// The six words over one link that takes any length.
-pub fn one<R: AllocGlobal>(rt: &R, pieces: &[&[u8]], ends: bool) -> Result<Came, NoMemory> {
+pub fn one<R: AllocGlobal>(rt: &R, pieces: &[&[u8]], ends: bool) -> Result<Came, NoMemory>
+    ensures spent { IfOk result (λ came. came.opened + came.left ≤ TURNS) }
+    ensures over { IfOk result (λ came. came.status ≡ Status.Over → came.left ≡ 0) }
+{
     taking(rt, pieces, ends, 1_000_000)
 }
 
@@ -99,15 +149,38 @@ pub fn taking<R: AllocGlobal>(
     pieces: &[&[u8]],
     ends: bool,
     take: usize,
-) -> Result<Came, NoMemory> {
+) -> Result<Came, NoMemory>
+    ensures spent { IfOk result (λ came. came.opened + came.left ≤ TURNS) }
+    ensures over { IfOk result (λ came. came.status ≡ Status.Over → came.left ≡ 0) }
+{
     let alloc = rt.alloc();
     let mut links = Vec::new(alloc);
     links.push(link_of(alloc, pieces, ends, take)?)?;
     play(rt, SIX, links, Vec::new(alloc), Vec::new(alloc), TURNS)
 }
 
+/// The six words over two links, the second of which gives a good greeting and the message `later`.
+pub fn followed<R: AllocGlobal>(rt: &R, first: MemLink) -> Result<Came, NoMemory>
+    ensures spent { IfOk result (λ came. came.opened + came.left ≤ TURNS) }
+    ensures over { IfOk result (λ came. came.status ≡ Status.Over → came.left ≡ 0) }
+{
+    let alloc = rt.alloc();
+    let mut links = Vec::new(alloc);
+    links.push(first)?;
+    links.push(link_of(
+        alloc,
+        &[HELLO_80, b"\x00\x00\x00\x00\x00\x00\x00\x05later"],
+        false,
+        1_000_000,
+    )?)?;
+    play(rt, SIX, links, Vec::new(alloc), Vec::new(alloc), TURNS)
+}
+
 /// The words over no link.
-pub fn unlinked<R: AllocGlobal>(rt: &R, texts: &[&str]) -> Result<Came, NoMemory> {
+pub fn unlinked<R: AllocGlobal>(rt: &R, texts: &[&str]) -> Result<Came, NoMemory>
+    ensures spent { IfOk result (λ came. came.opened + came.left ≤ TURNS) }
+    ensures over { IfOk result (λ came. came.status ≡ Status.Over → came.left ≡ 0) }
+{
     let alloc = rt.alloc();
     play(
         rt,

@@ -42,7 +42,8 @@ fn the_output_takes_a_piece(rt: HostRuntime) -> Result<(), Fail> {
 // Gives back what there is.
 fn done<N: Net>(net: &mut N, link: N::L)
     requires { (N.L.seen link).place < (N.seen net.old).opened }
-    ensures { (N.seen net.new).opened ≡ (N.seen net.old).opened }
+    ensures opened { (N.seen net.new).opened ≡ (N.seen net.old).opened }
+    ensures listens { (N.seen net.new).listens ≡ (N.seen net.old).listens }
 {
     let mut link = link;
     link.shut();
@@ -85,34 +86,126 @@ fn accepted<N: Net, P: Pace>(net: &mut N, at: u32, pace: &mut P) -> Option<N::L>
     None
 }
 
-// Dials the own listener, and sends a byte each way.
-fn talks_to_itself<N: Net, P: Pace>(net: &mut N, at: u32, addr: &Addr, pace: &mut P) -> bool
+// Nobody has dialed yet, and this is no fault.
+fn nobody_comes<N: Net>(net: &mut N, at: u32) -> bool
+    requires { IsSome (map.get (N.seen net.old).listens at) }
+    ensures { (N.seen net.new).listens ≡ (N.seen net.old).listens }
+{
+    match net.accept(at) {
+        Linked::NotYet => true,
+        Linked::Failed => false,
+        Linked::Got(link) => {
+            done(net, link);
+            false
+        }
+    }
+}
+
+// Nobody listens there yet, and this is no fault.
+fn is_refused<N: Net>(net: &mut N, addr: &Addr) -> bool
+    requires { is_dialable addr.now ≡ true }
+{
+    match net.dial(addr) {
+        Linked::NotYet => true,
+        Linked::Failed => false,
+        Linked::Got(link) => {
+            done(net, link);
+            false
+        }
+    }
+}
+
+// Nothing is there to be read yet, and this is no fault.
+fn nothing_comes<L: Link>(link: &mut L) -> bool
+    requires { (L.seen link.old).is_open ≡ true }
+    ensures place { (L.seen link.new).place ≡ (L.seen link.old).place }
+    ensures still { (L.seen link.new).is_open ≡ true }
+{
+    let mut buffer = [0u8; 4];
+    matches!(link.read(&mut buffer), LinkRead::NotYet)
+}
+
+// The peer's end comes within so many turns, and no fault before it.
+fn ends<L: Link, P: Pace>(link: &mut L, pace: &mut P) -> bool
+    requires { (L.seen link.old).is_open ≡ true }
+    ensures { (L.seen link.new).place ≡ (L.seen link.old).place }
+{
+    let mut buffer = [0u8; 4];
+    for turn in 0..1_000 {
+        let _paced = pace.turn(false);
+        match link.read(&mut buffer) {
+            LinkRead::Ended => return true,
+            LinkRead::NotYet => (),
+            LinkRead::Got(_) | LinkRead::Failed => return false,
+        }
+    }
+    false
+}
+
+/// What was so while a net talked to itself.
+#[derive(Clone, Copy, Debug, PartialEq, Eq)]
+struct Talk {
+    nobody_came: bool,
+    nothing_came: bool,
+    there: bool,
+    back: bool,
+    ended: bool,
+}
+
+// Dials the own listener, sends a byte each way, and ends.
+fn talks_to_itself<N: Net, P: Pace>(net: &mut N, at: u32, addr: &Addr, pace: &mut P) -> Option<Talk>
     requires at { IsSome (map.get (N.seen net.old).listens at) }
     requires addr { is_dialable addr.now ≡ true }
 {
+    let nobody_came = nobody_comes(net, at);
     let mut dialed = match net.dial(addr) {
         Linked::Got(link) => link,
-        Linked::NotYet | Linked::Failed => return false,
+        Linked::NotYet | Linked::Failed => return None,
     };
     let Some(mut met) = accepted(net, at, pace) else {
         done(net, dialed);
-        return false;
+        return None;
     };
+    let nothing_came = nothing_comes(&mut met);
     let there = passes(&mut dialed, &mut met, pace);
     let back = passes(&mut met, &mut dialed, pace);
     done(net, dialed);
+    let ended = ends(&mut met, pace);
     done(net, met);
-    there && back
+    Some(Talk {
+        nobody_came,
+        nothing_came,
+        there,
+        back,
+        ended,
+    })
 }
 
-// Listens at a port that is free, and talks to itself there.
-fn talks_at<N: Net, P: Pace>(net: &mut N, pace: &mut P, port: u16) -> Option<bool> {
+/// What was so before a net listened, and while it did.
+#[derive(Clone, Copy, Debug, PartialEq, Eq)]
+struct Tried {
+    refused: bool,
+    talk: Option<Talk>,
+    in_use: bool,
+}
+
+// Listens at a port that is free, talks to itself there, and tries to listen there again.
+fn tries_at<N: Net, P: Pace>(net: &mut N, pace: &mut P, port: u16) -> Option<Tried> {
     let addr = Addr::Tcp {
         host: Host::V4(127, 0, 0, 1),
         port,
     };
+    let refused = is_refused(net, &addr);
     match net.listen(&addr) {
-        Listened::At(at) => Some(talks_to_itself(net, at, &addr, pace)),
+        Listened::At(at) => {
+            let talk = talks_to_itself(net, at, &addr, pace);
+            let in_use = matches!(net.listen(&addr), Listened::Failed);
+            Some(Tried {
+                refused,
+                talk,
+                in_use,
+            })
+        }
         Listened::Failed => None,
     }
 }
@@ -121,9 +214,18 @@ fn talks_at<N: Net, P: Pace>(net: &mut N, pace: &mut P, port: u16) -> Option<boo
 fn the_net_links_this_machine_to_itself(rt: HostRuntime) -> Result<(), Fail> {
     let mut net = TcpNet::new(rt.clone()?, rt.alloc());
     let mut pace = RealPace::new(rt.clone()?)?;
-    for port in 47_815..47_835 {
-        if let Some(talked) = talks_at(&mut net, &mut pace, port) {
-            assert!(rt; talked);
+    for port in 27_815..27_835 {
+        if let Some(tried) = tries_at(&mut net, &mut pace, port) {
+            let all = Talk {
+                nobody_came: true,
+                nothing_came: true,
+                there: true,
+                back: true,
+                ended: true,
+            };
+            assert_eq!(rt; tried.talk, Some(all));
+            assert!(rt; tried.refused);
+            assert!(rt; tried.in_use);
             return Ok(());
         }
     }

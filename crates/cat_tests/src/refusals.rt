@@ -1,7 +1,10 @@
+ghost use Rattle.sp_fakes.specs.Nets.{net_view};
+
 use crate::TURNS;
-use crate::play::{HELLO_80, SIX, link_of, play, unlinked};
-use cat_run::{Status, complaint};
-use sp_base::{Bytes, NoMemory};
+use crate::play::{HELLO_80, SIX, link_of, play, unlinked, words};
+use cat_run::{Status, complaint, run};
+use sp_base::{Addr, Bytes, Host, Link, Linked, Listened, Net, NoMemory};
+use sp_fakes::{MemFiles, MemNet, MemPace, MemSink, NetLink};
 use std::alloc::Global;
 use std::test::Fail;
 
@@ -104,5 +107,58 @@ fn complaints(rt: HostRuntime) -> Result<(), Fail> {
         let said = said(rt.alloc(), *status)?;
         assert_eq!(rt; said.as_slice(), *line);
     }
+    Ok(())
+}
+
+/// A net in memory that remembers where it was asked to listen.
+#[derive(Drop)]
+struct Heard {
+    net: MemNet,
+    host: Host,
+    port: u16,
+}
+
+impl Net for Heard {
+    type L = NetLink;
+
+    ghost seen = { λ n. net_view n.net };
+
+    fn listen(&mut self, addr: &Addr) -> Listened {
+        if let Addr::Tcp { host, port } = addr {
+            self.host = *host;
+            self.port = *port;
+        }
+        self.net.listen(addr)
+    }
+
+    fn accept(&mut self, at: u32) -> Linked<NetLink> {
+        self.net.accept(at)
+    }
+
+    fn dial(&mut self, addr: &Addr) -> Linked<NetLink> {
+        self.net.dial(addr)
+    }
+
+    fn give_back(&mut self, link: NetLink) {
+        self.net.give_back(link)
+    }
+}
+
+#[test]
+fn it_listens_at_the_address_of_the_words(rt: HostRuntime) -> Result<(), Fail> {
+    let alloc = rt.alloc();
+    let list = words(alloc, SIX)?;
+    let mut net = Heard {
+        net: MemNet::new(alloc, Vec::new(alloc), Vec::new(alloc), Vec::new(alloc))?,
+        host: Host::Any,
+        port: 0,
+    };
+    let mut files = MemFiles::new(alloc, Vec::new(alloc), Vec::new(alloc));
+    let mut pace = MemPace::new(TURNS, 1);
+    let mut out = MemSink::new(alloc, Vec::new(alloc));
+    let end = run(&rt, &list, &mut net, &mut files, &mut pace, &mut out, 0);
+    assert_eq!(rt; end.status, Status::Over);
+    assert_eq!(rt; net.host, Host::V4(127, 0, 0, 1));
+    assert_eq!(rt; net.port, 5555);
     Ok(())
 }

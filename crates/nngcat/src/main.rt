@@ -1,4 +1,4 @@
-//! Sends and receives messages over nng's sockets, as nngcat(1) does. All that it does is the call `run`; here are
+//! Prints the messages that come over TCP to a pull, as nngcat(1) does. All that it does is the call `run`; here are
 //! only the real parts that it is given, and what is said at its end.
 #![tactic(auto)]
 

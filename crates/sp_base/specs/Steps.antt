@@ -138,8 +138,8 @@ pub record AfterGiveBack (link : LinkView) (old new : NetView) : Type 0 where
 -- ---- the pace, the sink, the files
 
 abbrev pub AfterTurn : Paced → PaceView → PaceView → Type 0
-AfterTurn (paced.At tick) old new = (old.left ≡ new.left + 1) × (old.latest ≤ tick) × (new.latest ≡ tick)
-AfterTurn paced.Over old new = (old.left ≡ 0) × (new.left ≡ 0) × (new.latest ≡ old.latest)
+AfterTurn (paced.At tick) old new = (old.left ≡ new.left + 1) × (old.latest ≤ tick) × (new.latest ≡ tick) × (new.is_over ≡ old.is_over)
+AfterTurn paced.Over old new = (old.left ≡ 0) × (new.left ≡ 0) × (new.latest ≡ old.latest) × (new.is_over ≡ true)
 
 -- a front of the piece went out before the fault
 abbrev pub AfterPut : Sunk → List ℕ → SinkView → SinkView → Type 0

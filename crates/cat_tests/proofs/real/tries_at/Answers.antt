@@ -1,4 +1,4 @@
-use Rattle.std.proofs.Common.{◌≡◌, ℕ, true, cond, eqb, Option, Some, refl, sym, ap, subst, ◌∙◌, arith}
+use Rattle.std.proofs.Common.{◌≡◌, ℕ, true, cond, eqb, Some, refl, sym, ap, subst, ◌∙◌, arith}
 use Rattle.std.specs.Prelude.{IsSome}
 use Rattle.std.specs.FinMap.{FinMap, get, insert, get-insert}
 use Rattle.std.specs.Ordering.{nat_cmp, eq_by_cmp, is_eq}
@@ -7,7 +7,7 @@ use Rattle.std.specs.declared.cmp.Ordering.TheVariants.{Less, Equal, Greater}
 use Rattle.std.proofs.lemmas.Bool.{le-ltb, eq-eqb}
 use Rattle.sp_base.specs.declared.addr.Scheme.{Scheme}
 use Rattle.sp_base.specs.declared.addr.Scheme.TheVariants as schemes
-use Rattle.cat_tests.proofs.real.talks_at.Goals as goal
+use Rattle.cat_tests.proofs.real.tries_at.Goals as goal
 
 same_number : (n : ℕ) → eq_by_cmp nat_cmp n n ≡ true
 same_number n =
@@ -19,5 +19,5 @@ is_there : (old new : FinMap nat_cmp Scheme) (n : ℕ) (scheme : Scheme) → new
 is_there old new n scheme e =
     subst IsSome (sym (ap (λ m. get m n) e ∙ get-insert nat_cmp_total old n scheme n ∙ ap (λ b. cond b (Some scheme) (get old n)) (same_number n))) refl
 
-pub talks_to_itself-requires-clause-at : goal.talks_to_itself-requires-clause-at
-talks_to_itself-requires-clause-at g c = is_there (g.N.Net.seen c.args.net.now).listens (g.N.Net.seen c.listen.new.self).listens c.in-At.at schemes.Tcp c.in-At.ensures.shows.listens
+pub talks_to_itself-talk-requires-clause-at : goal.talks_to_itself-talk-requires-clause-at
+talks_to_itself-talk-requires-clause-at g c = is_there (g.N.Net.seen c.is_refused-refused.new.net).listens (g.N.Net.seen c.listen.new.self).listens c.in-At.at schemes.Tcp c.in-At.ensures.shows.listens
