@@ -1,3 +1,6 @@
 mod Given
+mod Left
+mod Listening
+mod Queues
 mod Names
 mod Frames

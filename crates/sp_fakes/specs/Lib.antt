@@ -1,4 +1,6 @@
+pub mod Calls
 pub mod Scripts
+pub mod MemLinks
 pub mod Paces
 pub mod Sinks
 pub mod FilesHeld

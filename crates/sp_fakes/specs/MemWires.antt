@@ -1,6 +1,5 @@
 -- What a wire in memory shows.
-use Rattle.std.specs.Prelude.{◌≡◌, ◌<◌, ◌-◌, ℕ, Bool, true, false, List, [], ◌∷◌, Some, length, map, take, drop, eqb}
-use Rattle.std.specs.List.{list_any}
+use Rattle.std.specs.Prelude.{◌≡◌, ◌<◌, ◌-◌, ℕ, Bool, true, false, List, [], ◌∷◌, Some, length, map, take, drop}
 use Rattle.sp_msg.specs.Views.{MessageView, WireView, wire_text, Nameless}
 use Rattle.sp_msg.specs.Marks.{wire_view, fresh_marks, one_more}
 use Rattle.sp_msg.specs.declared.marks.WireMarks.{WireMarks}
@@ -8,6 +7,7 @@ use Rattle.sp_msg.specs.declared.wire.WireIn.{WireIn}
 use Rattle.sp_msg.specs.declared.wire.WireIn.TheVariants as ins
 use Rattle.sp_msg.specs.declared.wire.Room.{Room}
 use Rattle.sp_msg.specs.declared.wire.Room.TheVariants as rooms
+use Rattle.sp_fakes.specs.Calls.{is_among}
 use Rattle.sp_fakes.specs.declared.wire.WireStep.{WireStep}
 use Rattle.sp_fakes.specs.declared.wire.WireStep.TheVariants as steps
 
@@ -38,9 +38,6 @@ mem_view script at kept marks fails pulls most = record { wire = mem_wire script
 -- nothing was pulled or put, and every call is lawful
 abbrev pub unused_wire : WireView
 unused_wire = wire_view Nameless (Some []) (Some []) 0 false fresh_marks
-
-abbrev pub is_among : ℕ → List ℕ → Bool
-is_among n ns = list_any (λ y. eqb y n) ns
 
 -- a message of these bytes, or want of memory, and then the step is not passed
 abbrev pub GivesBytes : List ℕ → List WireStep → WireIn → List WireStep → Type 0

@@ -5,7 +5,7 @@
 #![tactic(auto)]
 
 ghost use Rattle.std.specs.Prelude.{◌≡◌};
-ghost use Rattle.sp_fakes.specs.MemWires.{is_among};
+ghost use Rattle.sp_fakes.specs.Calls.{is_among};
 
 mod files;
 mod link;

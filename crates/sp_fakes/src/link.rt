@@ -1,6 +1,7 @@
 //! A link that reads by a script and keeps what was written.
-ghost use Rattle.std.specs.Prelude.{◌≡◌, ◌<◌, ◌≤◌, ◌+◌, ℕ, IsTrue, Some, [], true, false, length, take, drop, slice_get};
-ghost use Rattle.sp_fakes.specs.Scripts.{given, step_bytes, HasLeft, link_view, script_of, unread_at};
+ghost use Rattle.std.specs.Prelude.{◌≡◌, ◌<◌, ◌≤◌, ◌+◌, ℕ, List, IsTrue, Some, [], true, false, length, take, drop, min, slice_get};
+ghost use Rattle.sp_base.specs.declared.outside.LinkRead.{LinkRead as Read};
+ghost use Rattle.sp_fakes.specs.Scripts.{given, left_at, IsSpent, HasLeft, GivesNext, stands_at_end};
 ghost use Rattle.sp_fakes.specs.declared.link.LinkStep.{LinkStep as Step};
 
 use crate::is_listed;
@@ -39,14 +40,18 @@ pub struct MemLink {
     stall_count: u64,
     opened: bool,
     at_end: bool,
+    ghost stays: { IsTrue (stands_at_end at_end script.items at) },
 }
 
 impl MemLink {
+    ghost use Rattle.sp_fakes.specs.MemLinks.{link_view, link_script, as_made, unread_at};
+
     /// Reads by the script, and takes at most `take` bytes at a write; the writes with these numbers fail, and so
     /// does one for which there is no memory.
     pub fn new(alloc: Global, script: Vec<LinkStep>, take: usize, fails: Vec<u64>) -> MemLink
         ensures unread { link_view result ≡ unread_at 0 Scheme.Tcp }
-        ensures script { script_of result ≡ script.items }
+        ensures made { as_made result ≡ record { left = script.items; most = take; writes = record { made = 0; fails = fails.items } } }
+        ensures script { link_script result ≡ as_made result }
     {
         MemLink {
             script,
@@ -73,11 +78,6 @@ impl MemLink {
         &self.kept
     }
 
-    /// How many steps of its script were passed.
-    pub fn passed(&self) -> usize {
-        self.at
-    }
-
     /// Whether it may be read and written.
     pub fn is_open(&self) -> bool
         ensures { result ≡ (link_view self.now).is_open }
@@ -85,10 +85,11 @@ impl MemLink {
         self.opened
     }
 
-    /// The same link, not read or written yet, at this place.
+    /// The link as it was made, at this place.
     pub fn placed(self, number: u32, scheme: Scheme) -> MemLink
         ensures unread { link_view result ≡ unread_at number scheme }
-        ensures script { script_of result ≡ script_of self }
+        ensures made { as_made result ≡ as_made self }
+        ensures script { link_script result ≡ as_made self }
     {
         let MemLink {
             script,
@@ -127,18 +128,30 @@ impl MemLink {
 }
 
 impl Link for MemLink {
+    ghost use Rattle.sp_base.specs.Steps.{AfterRead, AfterWrite, AfterShut};
+    ghost use Rattle.sp_fakes.specs.Calls.{next_fails, one_call};
+    ghost use Rattle.sp_fakes.specs.Scripts.{ReadBy, WrittenBy, faults_read, faults_written};
+    ghost use Rattle.sp_fakes.specs.MemLinks.{link_view, link_script, as_made, written_on};
+
     ghost seen = { link_view };
 
     fn place(&self) -> u32 {
         self.number
     }
 
-    fn read(&mut self, buf: &mut [u8]) -> LinkRead {
-        let written = self.kept.len() as u64;
-        skip(&self.script, &mut self.at, &mut self.offset, written);
+    fn read(&mut self, buf: &mut [u8]) -> LinkRead
+        requires is_open { (link_view self.old).is_open ≡ true }
+        requires room { 0 < length buf.old }
+        ensures after { AfterRead result buf.new (link_view self.old) (link_view self.new) }
+        ensures by { ReadBy (length (written_on self.old)) result buf.new (link_script self.old) (link_script self.new) }
+        ensures faults { (link_view self.new).faults ≡ faults_read result (link_view self.old).faults }
+        ensures made { as_made self.new ≡ as_made self.old }
+    {
         if self.at_end {
             return LinkRead::Ended;
         }
+        let written = self.kept.len() as u64;
+        skip(&self.script, &mut self.at, &mut self.offset, written);
         if self.at >= self.script.len() {
             self.idle_count = self.idle_count.saturating_add(1);
             return LinkRead::NotYet;
@@ -172,7 +185,15 @@ impl Link for MemLink {
         }
     }
 
-    fn write(&mut self, buf: &[u8]) -> LinkWrite {
+    fn write(&mut self, buf: &[u8]) -> LinkWrite
+        requires is_open { (link_view self.old).is_open ≡ true }
+        requires some { 0 < length buf.now }
+        ensures after { AfterWrite result buf.now (link_view self.old) (link_view self.new) }
+        ensures by { WrittenBy result (next_fails (link_script self.old).writes) (link_script self.old).most (length buf.now) }
+        ensures script { link_script self.new ≡ record (link_script self.old) { writes = one_call (link_script self.old).writes } }
+        ensures faults { (link_view self.new).faults ≡ faults_written result (link_view self.old).faults }
+        ensures made { as_made self.new ≡ as_made self.old }
+    {
         let fails = is_listed(&self.fails, self.writes);
         self.writes = self.writes.saturating_add(1);
         if fails {
@@ -191,15 +212,19 @@ impl Link for MemLink {
         LinkWrite::Failed
     }
 
-    fn shut(&mut self) {
+    fn shut(&mut self)
+        ensures after { AfterShut (link_view self.old) (link_view self.new) }
+        ensures script { link_script self.new ≡ link_script self.old }
+        ensures made { as_made self.new ≡ as_made self.old }
+    {
         self.opened = false;
     }
 }
 
 // Whether a step has nothing more to give.
 fn is_spent(step: &LinkStep, offset: usize, written: u64) -> bool
-    ensures spent { result ≡ true → length (step_bytes step.now) ≤ offset }
-    ensures left { result ≡ false → HasLeft step.now offset }
+    ensures spent { result ≡ true → IsSpent step.now offset written }
+    ensures left { result ≡ false → HasLeft step.now offset written }
 {
     match step {
         LinkStep::Bytes(b) => b.as_slice().len() <= offset,
@@ -213,7 +238,8 @@ fn is_spent(step: &LinkStep, offset: usize, written: u64) -> bool
 // Passes the steps that have nothing more to give.
 fn skip(script: &[LinkStep], at: &mut usize, offset: &mut usize, written: u64)
     ensures given { given script.now at.new offset.new ≡ given script.now at.old offset.old }
-    ensures left { (step : Step) → slice_get script.now at.new ≡ Some step → HasLeft step offset.new }
+    ensures gives { (result : Read) → (buf : List ℕ) → (left : List Step) → GivesNext written (left_at script.now at.new offset.new) result buf left → GivesNext written (left_at script.now at.old offset.old) result buf left }
+    ensures left { (step : Step) → slice_get script.now at.new ≡ Some step → HasLeft step offset.new written }
 {
     while *at < script.len() {
         if !is_spent(&script[*at], *offset, written) {
@@ -228,9 +254,8 @@ fn skip(script: &[LinkStep], at: &mut usize, offset: &mut usize, written: u64)
 fn copy_front(bytes: &[u8], offset: usize, buf: &mut [u8]) -> usize
     requires some { offset < length bytes.now }
     requires room { 0 < length buf.old }
-    ensures low { 0 < result }
+    ensures size { result ≡ min (length (drop offset bytes.now)) (length buf.new) }
     ensures within { offset + result ≤ length bytes.now }
-    ensures high { result ≤ length buf.new }
     ensures same { take result buf.new ≡ take result (drop offset bytes.now) }
 {
     let rest = &bytes[offset..];

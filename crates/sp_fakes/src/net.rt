@@ -1,10 +1,14 @@
 //! A net of links in memory.
-ghost use Rattle.std.specs.Prelude.{◌≡◌, ◌≤◌, ◌+◌, ℕ, Some, None, IfSome, IfNone, IfOk, length};
+ghost use Rattle.std.specs.Prelude.{◌≡◌, ◌≤◌, ◌<◌, ◌+◌, ◌-◌, ◌^◌, ◌↔◌, ℕ, Some, None, IfSome, IfNone, IfOk, IsSome, IsTrue, true, length};
 ghost use Rattle.std.specs.FinMap as map;
 ghost use Rattle.std.specs.Ordering.{nat_cmp};
 ghost use Rattle.sp_base.specs.Views.{LinkView};
-ghost use Rattle.sp_fakes.specs.Scripts.{link_view, unread_at};
-ghost use Rattle.sp_fakes.specs.Nets.{net_view, fresh_net, IsLinked, HasNone};
+ghost use Rattle.sp_base.specs.Addresses.{is_linked, is_dialable};
+ghost use Rattle.sp_base.specs.Steps.{AfterRead, AfterWrite, AfterShut, AfterListen, AfterAccept, AfterDial, AfterGiveBack};
+ghost use Rattle.sp_fakes.specs.Calls.{next_fails, one_call};
+ghost use Rattle.sp_fakes.specs.Scripts.{ReadBy, WrittenBy, faults_read, faults_written};
+ghost use Rattle.sp_fakes.specs.MemLinks.{link_view, link_script, as_made, written_on, unread_at};
+ghost use Rattle.sp_fakes.specs.Nets.{net_view, net_script, fresh_net, queue_of, queues_of, queues_to, all_as_made, lists_as_made, dials_as_made, Queue, RefusedAs, GoesAt, GoesTo, IsPast, IsPlaceOf, ListenBy, AcceptBy, DialBy, IsFirst, IsHandedOn, IsLinked, HasNone, HasNoListener, faults_listened, faults_linked};
 
 use crate::is_listed;
 use crate::link::MemLink;
@@ -35,15 +39,31 @@ impl Link for NetLink {
         self.link.place()
     }
 
-    fn read(&mut self, buf: &mut [u8]) -> LinkRead {
+    fn read(&mut self, buf: &mut [u8]) -> LinkRead
+        requires is_open { (link_view self.old.link).is_open ≡ true }
+        requires room { 0 < length buf.old }
+        ensures after { AfterRead result buf.new (link_view self.old.link) (link_view self.new.link) }
+        ensures by { ReadBy (length (written_on self.old.link)) result buf.new (link_script self.old.link) (link_script self.new.link) }
+        ensures faults { (link_view self.new.link).faults ≡ faults_read result (link_view self.old.link).faults }
+    {
         self.link.read(buf)
     }
 
-    fn write(&mut self, buf: &[u8]) -> LinkWrite {
+    fn write(&mut self, buf: &[u8]) -> LinkWrite
+        requires is_open { (link_view self.old.link).is_open ≡ true }
+        requires some { 0 < length buf.now }
+        ensures after { AfterWrite result buf.now (link_view self.old.link) (link_view self.new.link) }
+        ensures by { WrittenBy result (next_fails (link_script self.old.link).writes) (link_script self.old.link).most (length buf.now) }
+        ensures script { link_script self.new.link ≡ record (link_script self.old.link) { writes = one_call (link_script self.old.link).writes } }
+        ensures faults { (link_view self.new.link).faults ≡ faults_written result (link_view self.old.link).faults }
+    {
         self.link.write(buf)
     }
 
-    fn shut(&mut self) {
+    fn shut(&mut self)
+        ensures after { AfterShut (link_view self.old.link) (link_view self.new.link) }
+        ensures script { link_script self.new.link ≡ link_script self.old.link }
+    {
         self.link.shut()
     }
 }
@@ -63,13 +83,39 @@ pub struct MemNet {
 }
 
 // The links with the room for their return.
-fn with_nodes(alloc: Global, list: Vec<MemLink>) -> Result<Vec<NetLink>, NoMemory> {
+fn with_nodes(alloc: Global, list: Vec<MemLink>) -> Result<Vec<NetLink>, NoMemory>
+    ensures { IfOk result (λ links. queue_of links.items ≡ all_as_made list.items) }
+{
     let mut links = Vec::new(alloc);
     for link in list {
         let node = Box::new(alloc, Returned::Nothing)?;
         links.push(NetLink { link, node })?;
     }
     Ok(links)
+}
+
+// The lists with the room for their return.
+fn all_with_nodes(alloc: Global, lists: Vec<Vec<MemLink>>) -> Result<Vec<Vec<NetLink>>, NoMemory>
+    ensures { IfOk result (λ all. queues_of all.items ≡ lists_as_made lists.items) }
+{
+    let mut all = Vec::new(alloc);
+    for list in lists {
+        all.push(with_nodes(alloc, list)?)?;
+    }
+    Ok(all)
+}
+
+fn addresses_with_nodes(
+    alloc: Global,
+    lists: Vec<(Addr, Vec<MemLink>)>,
+) -> Result<Vec<(Addr, Vec<NetLink>)>, NoMemory>
+    ensures { IfOk result (λ all. queues_to all.items ≡ dials_as_made lists.items) }
+{
+    let mut all = Vec::new(alloc);
+    for (addr, list) in lists {
+        all.push((addr, with_nodes(alloc, list)?))?;
+    }
+    Ok(all)
 }
 
 impl MemNet {
@@ -81,19 +127,17 @@ impl MemNet {
         outgoing: Vec<(Addr, Vec<MemLink>)>,
         fails: Vec<u64>,
     ) -> Result<MemNet, NoMemory>
-        ensures { IfOk result (λ net. net_view net ≡ fresh_net) }
+        ensures fresh { IfOk result (λ net. net_view net ≡ fresh_net) }
+        ensures calls { IfOk result (λ net. (net_script net).calls ≡ record { made = 0; fails = fails.items }) }
+        ensures listened { IfOk result (λ net. (net_script net).listened ≡ 0) }
+        ensures accepts { IfOk result (λ net. (net_script net).accepts ≡ lists_as_made incoming.items) }
+        ensures dials { IfOk result (λ net. (net_script net).dials ≡ dials_as_made outgoing.items) }
     {
-        let mut accepted = Vec::new(alloc);
-        for list in incoming {
-            accepted.push(with_nodes(alloc, list)?)?;
-        }
-        let mut dialed = Vec::new(alloc);
-        for (addr, list) in outgoing {
-            dialed.push((addr, with_nodes(alloc, list)?))?;
-        }
+        let incoming = all_with_nodes(alloc, incoming)?;
+        let outgoing = addresses_with_nodes(alloc, outgoing)?;
         Ok(MemNet {
-            incoming: accepted,
-            outgoing: dialed,
+            incoming,
+            outgoing,
             listeners: ListenerSchemes::new(alloc),
             handed: 0,
             returned: Returned::Nothing,
@@ -126,18 +170,33 @@ impl MemNet {
         self.handed
     }
 
-    // Whether this call fails.
+    // Whether this call is listed.
     fn fails(&mut self) -> bool
-        ensures { net_view self.new ≡ net_view self.old }
+        ensures view { net_view self.new ≡ net_view self.old }
+        ensures listed { result ≡ next_fails (net_script self.old).calls }
+        ensures script { net_script self.new ≡ record (net_script self.old) { calls = one_call (net_script self.old).calls } }
     {
         let fails = is_listed(&self.fails, self.calls);
         self.calls = self.calls.saturating_add(1);
         fails
     }
 
+    // Whether this accept or dial fails.
+    fn refuses(&mut self) -> bool
+        ensures view { net_view self.new ≡ net_view self.old }
+        ensures refused { RefusedAs result (next_fails (net_script self.old).calls) (net_view self.old).opened }
+        ensures script { net_script self.new ≡ record (net_script self.old) { calls = one_call (net_script self.old).calls } }
+    {
+        let fails = self.fails();
+        fails || self.handed >= u32::MAX - 1
+    }
+
     // Nobody is there.
     fn idle(&mut self) -> Linked<NetLink>
-        ensures { HasNone result (net_view self.old) (net_view self.new) }
+        ensures none { HasNone result (net_view self.old) (net_view self.new) }
+        ensures answer { result ≡ Linked.NotYet }
+        ensures script { net_script self.new ≡ net_script self.old }
+        ensures faults { (net_view self.new).faults ≡ faults_linked result (net_view self.old).faults }
     {
         self.idle_count = self.idle_count.saturating_add(1);
         Linked::NotYet
@@ -145,22 +204,37 @@ impl MemNet {
 
     // A fault.
     fn fault(&mut self) -> Linked<NetLink>
-        ensures { HasNone result (net_view self.old) (net_view self.new) }
+        ensures none { HasNone result (net_view self.old) (net_view self.new) }
+        ensures answer { result ≡ Linked.Failed }
+        ensures script { net_script self.new ≡ net_script self.old }
+        ensures faults { (net_view self.new).faults ≡ faults_linked result (net_view self.old).faults }
     {
         self.fault_count = self.fault_count.saturating_add(1);
         Linked::Failed
     }
 
-    // Hands out the link that is found, if there is one and places are left.
+    // No listener was added.
+    fn no_listener(&mut self) -> Listened
+        ensures answer { result ≡ Listened.Failed }
+        ensures none { HasNoListener result (net_view self.old) (net_view self.new) }
+        ensures script { net_script self.new ≡ net_script self.old }
+        ensures faults { (net_view self.new).faults ≡ faults_listened result (net_view self.old).faults }
+    {
+        self.fault_count = self.fault_count.saturating_add(1);
+        Listened::Failed
+    }
+
+    // Hands out the link that is found, if there is one.
     fn hand_out(&mut self, found: Option<NetLink>, scheme: Scheme) -> Linked<NetLink>
-        ensures { IsLinked result (Some scheme) (net_view self.old) (net_view self.new) }
+        requires { (net_view self.old).opened < 2 ^ 32 - 2 }
+        ensures linked { IsLinked result (Some scheme) (net_view self.old) (net_view self.new) }
+        ensures on { IsHandedOn found result }
+        ensures script { net_script self.new ≡ net_script self.old }
+        ensures faults { (net_view self.new).faults ≡ faults_linked result (net_view self.old).faults }
     {
         let Some(NetLink { link, node }) = found else {
             return self.idle();
         };
-        if self.handed >= u32::MAX - 1 {
-            return self.fault();
-        }
         let number = self.handed;
         self.handed += 1;
         Linked::Got(NetLink {
@@ -175,18 +249,28 @@ impl Net for MemNet {
 
     ghost seen = { net_view };
 
-    fn listen(&mut self, addr: &Addr) -> Listened {
-        if !self.fails() {
-            if let Ok(number) = self.listeners.add(addr.scheme()) {
-                return Listened::At(number);
-            }
+    fn listen(&mut self, addr: &Addr) -> Listened
+        requires { is_linked addr.now ≡ true }
+        ensures after { AfterListen result addr.now (net_view self.old) (net_view self.new) }
+        ensures by { ListenBy result (net_script self.old) (net_script self.new) }
+        ensures faults { (net_view self.new).faults ≡ faults_listened result (net_view self.old).faults }
+    {
+        if self.fails() {
+            return self.no_listener();
         }
-        self.fault_count = self.fault_count.saturating_add(1);
-        Listened::Failed
+        match self.listeners.add(addr.scheme()) {
+            Ok(number) => Listened::At(number),
+            Err(_) => self.no_listener(),
+        }
     }
 
-    fn accept(&mut self, at: u32) -> Linked<NetLink> {
-        if self.fails() {
+    fn accept(&mut self, at: u32) -> Linked<NetLink>
+        requires { IsSome (map.get (net_view self.old).listens at) }
+        ensures after { AfterAccept (λ l. link_view l.link) result at (net_view self.old) (net_view self.new) }
+        ensures by { AcceptBy result at (net_view self.old).opened (net_script self.old) (net_script self.new) }
+        ensures faults { (net_view self.new).faults ≡ faults_linked result (net_view self.old).faults }
+    {
+        if self.refuses() {
             return self.fault();
         }
         let scheme = self.listeners.scheme(at);
@@ -194,15 +278,24 @@ impl Net for MemNet {
         self.hand_out(found, scheme)
     }
 
-    fn dial(&mut self, addr: &Addr) -> Linked<NetLink> {
-        if self.fails() {
+    fn dial(&mut self, addr: &Addr) -> Linked<NetLink>
+        requires { is_dialable addr.now ≡ true }
+        ensures after { AfterDial (λ l. link_view l.link) result addr.now (net_view self.old) (net_view self.new) }
+        ensures by { DialBy result addr.now (net_view self.old).opened (net_script self.old) (net_script self.new) }
+        ensures faults { (net_view self.new).faults ≡ faults_linked result (net_view self.old).faults }
+    {
+        if self.refuses() {
             return self.fault();
         }
         let found = first_to(&mut self.outgoing, addr);
         self.hand_out(found, addr.scheme())
     }
 
-    fn give_back(&mut self, link: NetLink) {
+    fn give_back(&mut self, link: NetLink)
+        requires { (link_view link.link).place < (net_view self.old).opened }
+        ensures after { AfterGiveBack (link_view link.link) (net_view self.old) (net_view self.new) }
+        ensures script { net_script self.new ≡ net_script self.old }
+    {
         let NetLink { link, mut node } = link;
         *node = mem::replace(&mut self.returned, Returned::Nothing);
         self.returned = Returned::More(link, node);
@@ -210,7 +303,9 @@ impl Net for MemNet {
 }
 
 // The first link of a list.
-fn take_first(list: &mut Vec<NetLink>) -> Option<NetLink> {
+fn take_first(list: &mut Vec<NetLink>) -> Option<NetLink>
+    ensures { IsFirst result (queue_of list.old.items) (queue_of list.new.items) }
+{
     if list.is_empty() {
         None
     } else {
@@ -219,21 +314,41 @@ fn take_first(list: &mut Vec<NetLink>) -> Option<NetLink> {
 }
 
 // The next link of a listener.
-fn first_of(incoming: &mut Vec<Vec<NetLink>>, at: usize) -> Option<NetLink> {
-    take_first(incoming.get_mut(at)?)
+fn first_of(incoming: &mut Vec<Vec<NetLink>>, at: usize) -> Option<NetLink>
+    ensures { (queue : Queue) × (after : Queue) × GoesAt at (queues_of incoming.old.items) (queues_of incoming.new.items) queue after × IsFirst result queue after }
+{
+    if at >= incoming.len() {
+        return None;
+    }
+    take_first(&mut incoming[at])
 }
 
 // The next link of an address.
-fn first_to(outgoing: &mut Vec<(Addr, Vec<NetLink>)>, addr: &Addr) -> Option<NetLink> {
-    for (known, list) in outgoing.iter_mut() {
-        if is_same(known, addr) {
-            return take_first(list);
+fn first_to(outgoing: &mut Vec<(Addr, Vec<NetLink>)>, addr: &Addr) -> Option<NetLink>
+    ensures { (queue : Queue) × (after : Queue) × GoesTo addr.now (queues_to outgoing.old.items) (queues_to outgoing.new.items) queue after × IsFirst result queue after }
+{
+    match place_of(outgoing, addr) {
+        Some(at) => take_first(&mut outgoing[at].1),
+        None => None,
+    }
+}
+
+// The place of the first list of an address.
+fn place_of(outgoing: &[(Addr, Vec<NetLink>)], addr: &Addr) -> Option<usize>
+    ensures found { IfSome result (λ at. IsPlaceOf addr.now outgoing.now at) }
+    ensures none { IfNone result (IsPast addr.now outgoing.now (length outgoing.now)) }
+{
+    for at in 0..outgoing.len() {
+        if is_same(&outgoing[at].0, addr) {
+            return Some(at);
         }
     }
     None
 }
 
-fn is_same(a: &Addr, b: &Addr) -> bool {
+fn is_same(a: &Addr, b: &Addr) -> bool
+    ensures { IsTrue result ↔ (a.now ≡ b.now) }
+{
     match (a, b) {
         (Addr::Tcp { host, port }, Addr::Tcp { host: h, port: p }) => host == h && port == p,
         (

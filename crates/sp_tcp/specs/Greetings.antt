@@ -1,5 +1,5 @@
 -- What a greeting answers to the bytes that were fed.
-use Rattle.std.specs.Prelude.{◌≡◌, ◌≤◌, ◌<◌, ◌++◌, ℕ, Bool, true, false, List, length}
+use Rattle.std.specs.Prelude.{◌≡◌, ◌≤◌, ◌<◌, ◌++◌, ℕ, Bool, true, false, List, length, take}
 use Rattle.sp_spec.specs.Outside.{IsFront}
 use Rattle.sp_spec.specs.SpTcp.{hello}
 use Rattle.sp_base.specs.Roles.{role_number, role_peer}
@@ -11,15 +11,16 @@ use Rattle.sp_tcp.specs.declared.greeting.Greeted.TheVariants as g
 abbrev pub peer_hello : Role → List ℕ
 peer_hello role = hello (role_number (role_peer role))
 
--- the two greetings of a role, and how many bytes of the second came
-pub record AreGreetings (role : Role) (own peer : List ℕ) (seen : ℕ) : Type 0 where
+-- the two greetings of a role, and how many bytes of the second came; while more is waited for, these alone were fed
+pub record AreGreetings (role : Role) (own peer : List ℕ) (seen : ℕ) (waits : Bool) (fed : List ℕ) : Type 0 where
   pub own_is : own ≡ hello (role_number role)
   pub peer_is : peer ≡ peer_hello role
   pub within : seen ≤ 8
+  pub begun : waits ≡ true → fed ≡ take seen peer
 
 -- More: what was fed is a proper front of the peer's greeting. Peer: with a part of the piece it is that greeting.
 -- Bad: neither of the two is a front of the other.
-abbrev pub FedAs : Greeted → List ℕ → List ℕ → List ℕ → List ℕ → Bool → Type 0
-FedAs g.More piece peer fed fed' is_open = IsFront (fed ++ piece) peer × (length (fed ++ piece) < length peer) × (fed' ≡ fed ++ piece) × (is_open ≡ true)
-FedAs (g.Peer rest) piece peer fed fed' is_open = ((head : List ℕ) × (tail : List ℕ) × (piece ≡ head ++ tail) × (fed ++ head ≡ peer) × (length tail ≡ rest)) × (is_open ≡ false)
-FedAs g.Bad piece peer fed fed' is_open = ¬ IsFront (fed ++ piece) peer × ¬ IsFront peer (fed ++ piece) × (is_open ≡ false)
+abbrev pub FedAs : Greeted → List ℕ → List ℕ → List ℕ → Bool → Type 0
+FedAs g.More piece peer fed is_open = IsFront (fed ++ piece) peer × (length (fed ++ piece) < length peer) × (is_open ≡ true)
+FedAs (g.Peer rest) piece peer fed is_open = ((head : List ℕ) × (tail : List ℕ) × (piece ≡ head ++ tail) × (fed ++ head ≡ peer) × (length tail ≡ rest)) × (is_open ≡ false)
+FedAs g.Bad piece peer fed is_open = ¬ IsFront (fed ++ piece) peer × ¬ IsFront peer (fed ++ piece) × (is_open ≡ false)

@@ -1,10 +1,11 @@
 //! Greetings (SP TCP mapping, "Connection initiation"): each side writes its own 8 bytes first, and reads those
 //! of its peer's role.
-ghost use Rattle.std.specs.Prelude.{◌≡◌, ◌≤◌, ◌+◌, ◌↔◌, ℕ, true, [], take, drop, length, IsTrue};
+ghost use Rattle.std.specs.Prelude.{◌≡◌, ◌≤◌, ◌+◌, ◌++◌, ◌↔◌, ℕ, true, [], take, drop, length, IsTrue};
 ghost use Rattle.sp_spec.specs.SpTcp.{hello};
 ghost use Rattle.sp_base.specs.Roles.{role_number};
 ghost use Rattle.sp_tcp.specs.Greetings.{FedAs, peer_hello};
 
+use crate::fed::{Fed, Piece};
 use sp_base::Role;
 use std::marker::Model;
 
@@ -19,8 +20,8 @@ pub enum Greeted {
     Bad,
 }
 
-/// The greetings of a link: the own one, and how far the peer's came. Contracts see the own role, the bytes of the
-/// peer's greeting so far, and whether it still waits for more; after `Peer` or `Bad` it takes no more.
+/// The greetings of a link: the own one, and how far the peer's came. Contracts see the own role, all bytes that were
+/// fed, and whether it still waits for more; after `Peer` or `Bad` it takes no more.
 #[derive(Debug, Drop)]
 pub struct Greeting {
     /// The own role.
@@ -33,6 +34,8 @@ pub struct Greeting {
     seen: usize,
     /// Whether it still waits for more.
     waits: bool,
+    /// All bytes that were fed. They take no memory.
+    fed: Fed,
 }
 
 impl Model for Greeting {
@@ -44,9 +47,9 @@ impl Model for Greeting {
 
     ghost Value = { GreetingView };
 
-    ghost view = { λ g. record { role = g.role; fed = take g.seen g.peer; is_open = g.waits } };
+    ghost view = { λ g. record { role = g.role; fed = g.fed.bytes; is_open = g.waits } };
 
-    ghost invariant = { λ g. AreGreetings g.role g.own g.peer g.seen };
+    ghost invariant = { λ g. AreGreetings g.role g.own g.peer g.seen g.waits g.fed.bytes };
 }
 
 fn greeting_of(number: u16) -> [u8; 8]
@@ -73,6 +76,7 @@ impl Greeting {
             peer: greeting_of(role.peer().number()),
             seen: 0,
             waits: true,
+            fed: Fed::none(),
         }
     }
 
@@ -83,12 +87,21 @@ impl Greeting {
         &self.own
     }
 
+    /// Whether it waits for more of the peer's greeting, so that more may be fed.
+    pub fn is_open(&self) -> bool
+        ensures { result ≡ self.now.is_open }
+    {
+        self.waits
+    }
+
     /// Takes the next piece that came, however the bytes are cut. Takes no memory.
     pub fn feed(&mut self, piece: &[u8]) -> Greeted
         requires { self.old.is_open ≡ true }
         ensures role { self.new.role ≡ self.old.role }
-        ensures exact { FedAs result piece.now (peer_hello self.old.role) self.old.fed self.new.fed self.new.is_open }
+        ensures fed { self.new.fed ≡ self.old.fed ++ piece.now }
+        ensures exact { FedAs result piece.now (peer_hello self.old.role) self.old.fed self.new.is_open }
     {
+        self.fed = self.fed.and(&Piece { bytes: piece });
         let wanted = &self.peer[self.seen..];
         let count = wanted.len().min(piece.len());
         if !is_same(&piece[..count], &wanted[..count]) {

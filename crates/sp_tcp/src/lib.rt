@@ -14,6 +14,7 @@
 //! The plain reader stands beside it as the definition's own program.
 #![tactic(auto)]
 
+mod fed;
 mod greeting;
 mod inlet;
 mod outlet;

@@ -1,8 +1,8 @@
 -- What links show that tell nothing of their bytes.
-use Rattle.std.specs.Prelude.{false, None}
+use Rattle.std.specs.Prelude.{ℕ, List, false, None}
 use Rattle.sp_base.specs.Views.{LinkView}
 use Rattle.sp_base.specs.declared.addr.Scheme.TheVariants as schemes
-use Rattle.sp_fakes.specs.Scripts.{link_view}
+use Rattle.sp_fakes.specs.MemLinks.{link_view}
 use Rattle.sp_fakes.specs.declared.link.MemLink.{MemLink}
 use Rattle.wire_tests.specs.declared.tube.Tube.{Tube}
 
@@ -21,3 +21,10 @@ tube_view t = record {
   is_open = t.opened;
   ended = false;
 }
+
+-- what was written on a tube, and how many writes there were
+abbrev pub written_in : Tube → List ℕ
+written_in t = t.bytes.items
+
+abbrev pub writes_of : Tube → ℕ
+writes_of t = t.writes

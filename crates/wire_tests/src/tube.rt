@@ -1,6 +1,8 @@
 //! A link that gives back what was written.
-ghost use Rattle.std.specs.Prelude.{◌≡◌, ◌≤◌, true, length};
-ghost use Rattle.wire_tests.specs.Untolds.{tube_view};
+ghost use Rattle.std.specs.Prelude.{◌≡◌, ◌≤◌, ◌<◌, [], true, length};
+ghost use Rattle.sp_base.specs.Steps.{AfterWrite};
+ghost use Rattle.sp_msg.specs.Marks.{one_more};
+ghost use Rattle.wire_tests.specs.Untolds.{tube_view, written_in, writes_of};
 
 use sp_base::{Link, LinkRead, LinkWrite};
 use std::alloc::Global;
@@ -39,7 +41,9 @@ fn copy_front(from: &[u8], to: &mut [u8]) -> usize
 impl Tube {
     /// An empty one, whose first writes take nothing.
     pub fn new(alloc: Global, held: u64) -> Tube
-        ensures { (tube_view result).is_open ≡ true }
+        ensures is_open { (tube_view result).is_open ≡ true }
+        ensures empty { written_in result ≡ [] }
+        ensures writes { writes_of result ≡ 0 }
     {
         Tube {
             bytes: Vec::new(alloc),
@@ -54,17 +58,23 @@ impl Tube {
     }
 
     /// How many writes there were, also those that took nothing.
-    pub fn writes(&self) -> u64 {
+    pub fn writes(&self) -> u64
+        ensures { result ≡ writes_of self.now }
+    {
         self.writes
     }
 
     /// Whether it was not shut yet.
-    pub fn is_open(&self) -> bool {
+    pub fn is_open(&self) -> bool
+        ensures { result ≡ (tube_view self.now).is_open }
+    {
         self.opened
     }
 
     /// How many bytes were written.
-    pub fn len(&self) -> usize {
+    pub fn len(&self) -> usize
+        ensures { result ≡ length (written_in self.now) }
+    {
         self.bytes.len()
     }
 }
@@ -89,7 +99,12 @@ impl Link for Tube {
         LinkRead::Got(n)
     }
 
-    fn write(&mut self, buf: &[u8]) -> LinkWrite {
+    fn write(&mut self, buf: &[u8]) -> LinkWrite
+        requires is_open { (tube_view self.old).is_open ≡ true }
+        requires some { 0 < length buf.now }
+        ensures after { AfterWrite result buf.now (tube_view self.old) (tube_view self.new) }
+        ensures writes { writes_of self.new ≡ one_more (writes_of self.old) }
+    {
         self.writes = self.writes.saturating_add(1);
         if self.held > 0 {
             self.held -= 1;

@@ -1,7 +1,8 @@
 use Rattle.std.proofs.Common.{◌≡◌, List, ℕ, [], Some, ap, ◌∙◌}
 use Rattle.sp_base.specs.declared.addr.Scheme.{Scheme}
 use Rattle.sp_base.specs.declared.addr.Scheme.TheVariants as Schemes
-use Rattle.sp_fakes.specs.Scripts.{given, unread_at}
+use Rattle.sp_fakes.specs.Scripts.{given}
+use Rattle.sp_fakes.specs.MemLinks.{unread_at}
 use Rattle.sp_fakes.proofs.Given.{given-start}
 use Rattle.sp_fakes.proofs.link.MemLink.new.Goals as goal
 

@@ -1,11 +1,11 @@
-use Rattle.std.proofs.Common.{◌≡◌, ℕ, true, cond, eqb, Option, Some, None, refl, sym, ap, ◌∙◌, arith}
-use Rattle.std.specs.FinMap.{find, get, from_entries, get-from_entries}
+use Rattle.std.proofs.Common.{◌≡◌, ℕ, true, cond, eqb, Some, sym, ap, ◌∙◌, arith}
+use Rattle.std.specs.FinMap.{find, get-from_entries}
 use Rattle.std.specs.Ordering.{nat_cmp, eq_by_cmp, is_eq}
 use Rattle.std.specs.Cmp.{nat_cmp_total}
 use Rattle.std.specs.declared.cmp.Ordering.TheVariants.{Less, Equal, Greater}
 use Rattle.std.proofs.lemmas.Bool.{le-ltb, eq-eqb}
 use Rattle.sp_fakes.specs.declared.net.Returned.{Returned}
-use Rattle.sp_fakes.specs.Scripts.{link_view}
+use Rattle.sp_fakes.specs.MemLinks.{link_view}
 use Rattle.sp_fakes.specs.Nets.{returned_entries}
 use Rattle.sp_fakes.proofs.net.MemNet.returned.Goals as goal
 
