@@ -1,6 +1,6 @@
 -- What it means that a test finds a fault, and what a verdict says.
 use Rattle.std.specs.Prelude.{ℕ, List, [], ◌∷◌, Option, Some, None}
-use Rattle.sp_history.specs.declared.entry.Turn.{Turn}
+use Rattle.turn_lock.specs.declared.turn.Turn.{Turn}
 use Rattle.sp_history.specs.declared.entry.Entry.{Entry}
 use Rattle.sp_history.specs.declared.entry.Entry.TheVariants.{Full}
 use Rattle.sp_history.specs.declared.setting.Setting.{Setting}

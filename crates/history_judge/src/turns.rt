@@ -29,11 +29,12 @@ use crate::rules::{
 };
 use crate::story::Past;
 use sp_base::{Bytes, Ctx, NoMemory, OpName, PipeId, Tick};
-use sp_history::entry::{Entry, Gate, Switch, Totals, Turn, Why};
+use sp_history::entry::{Entry, Gate, Switch, Totals, Why};
 use sp_history::parts::{Begun, Orphan, Request};
 use sp_history::setting::Setting;
 use std::alloc::Global;
 use std::collections::LinkedList;
+use turn_lock::Turn;
 
 // ---- One entry
 

@@ -10,11 +10,12 @@ mod text;
 use anyhow::Result;
 use history_judge::faults::Verdict;
 use history_judge::turns::judge;
-use sp_history::entry::{Entry, Turn};
+use sp_history::entry::Entry;
 use sp_history::setting::Setting;
 use std::alloc::Global;
 use std::collections::LinkedList;
 use text::{setting_of, turn_of};
+use turn_lock::Turn;
 
 /// How many rows had which verdict, and of how many it was another one than was said.
 #[derive(Clone, Copy)]

@@ -12,14 +12,18 @@
 //! | the close | `close BEGUN WON GONE FRAMES OUTS FULLS` |
 //!
 //! Bytes are hexadecimal, `-` where there are none.
+//!
+//! Behind a row's role may stand `raw`, `old` (a full queue of a sub keeps its old messages), and with a number each
+//! `slots3`, `queue3`, `dice7`, `ttl2`, `survey5`, `resend7`.
 
 use sp_base::{Bytes, Ctx, NoMemory, OpName, PipeId, Role, Tick};
 use sp_history::entry::{
-    Act, Cause, Ending, Entry, Gate, Message, Miss, Outcome, Switch, Totals, Turn, Why, WireName,
+    Act, Cause, Ending, Entry, Gate, Message, Miss, Outcome, Switch, Totals, Why, WireName,
 };
 use sp_history::setting::{Options, Setting};
 use std::alloc::{AllocError, AllocFailed, Global};
 use std::collections::LinkedList;
+use turn_lock::Turn;
 
 /// The line has no reading, or there was no memory for it.
 #[derive(Clone, Copy, Debug)]
@@ -61,6 +65,13 @@ fn number(text: &str) -> Result<u64, Unread> {
 
 fn small(text: &str) -> Result<u32, Unread> {
     match text.parse::<u32>() {
+        Ok(n) => Ok(n),
+        Err(_) => Err(Unread),
+    }
+}
+
+fn smaller(text: &str) -> Result<u8, Unread> {
+    match text.parse::<u8>() {
         Ok(n) => Ok(n),
         Err(_) => Err(Unread),
     }
@@ -355,6 +366,12 @@ fn with_option(z: Setting, w: &str) -> Result<Setting, Unread> {
         z.options.queue = small(n)?;
     } else if let Some(n) = w.strip_prefix("dice") {
         z.options.dice = small(n)?;
+    } else if let Some(n) = w.strip_prefix("ttl") {
+        z.options.ttl = smaller(n)?;
+    } else if let Some(n) = w.strip_prefix("survey") {
+        z.options.survey = number(n)?;
+    } else if let Some(n) = w.strip_prefix("resend") {
+        z.options.resend = number(n)?;
     } else {
         return Err(Unread);
     }

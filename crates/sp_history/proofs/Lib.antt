@@ -7,3 +7,15 @@ pub mod Giving
 pub mod Turning
 pub mod Claiming
 pub mod Counting
+pub mod Adding
+pub mod Changing
+pub mod Backing
+pub mod Asking
+pub mod Replying
+pub mod Keeping
+pub mod Wiring
+pub mod Sweeping
+pub mod Ids
+pub mod Apart
+pub mod Counted
+pub mod Storing

@@ -1,4 +1,4 @@
--- What goes with what in a history.
+-- What goes with what in a history. All of it is own: the words of laws.
 use Rattle.std.specs.Prelude.{◌≡◌, true, false, ⊤, List, [], ◌∷◌, Some}
 use Rattle.sp_base.specs.declared.OpName.{OpName}
 use Rattle.sp_history.specs.declared.parts.Begun.{Begun}

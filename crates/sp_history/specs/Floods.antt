@@ -1,4 +1,4 @@
--- A send that goes to each of its targets, in words.
+-- A send that goes to each of its targets, in words. All of it is own: the words of laws.
 use Rattle.std.specs.Prelude.{◌≡◌, ℕ, true, false, ⊤, List, [], ◌∷◌, ◌++◌}
 use Rattle.sp_history.specs.declared.entry.Entry.{Entry}
 use Rattle.sp_history.specs.declared.entry.Entry.TheVariants.{Out, Full, Down}

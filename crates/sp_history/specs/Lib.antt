@@ -16,3 +16,4 @@ pub mod Once
 pub mod Claims
 pub mod Swept
 pub mod Wires
+pub mod Changes

@@ -1,6 +1,6 @@
--- A moment of a socket: its setting, and the history so far with the turn that is under way.
+-- A moment of a socket: its setting, and the history so far with the turn that is under way. All of it is own.
 use Rattle.std.specs.Prelude.{◌≡◌, ℕ, Bool, true, false, not, ⊤, List, [], ◌∷◌, ◌++◌}
-use Rattle.sp_history.specs.declared.entry.Turn.{Turn}
+use Rattle.turn_lock.specs.declared.turn.Turn.{Turn}
 use Rattle.sp_history.specs.declared.entry.Entry.{Entry}
 use Rattle.sp_history.specs.declared.entry.Entry.TheVariants.{Unkept, Dry, Met, NoUp, Quiet, Stall, Clear, Taken, Took}
 use Rattle.sp_history.specs.declared.setting.Setting.{Setting}

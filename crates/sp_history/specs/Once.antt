@@ -1,4 +1,4 @@
--- How often a history begins, ends and collects an operation.
+-- How often a history begins, ends and collects an operation. All of it is own: the words of laws.
 use Rattle.std.specs.Prelude.{◌≡◌, ℕ, ◌+◌, ◌≤◌, ◌==◌, true, false, ⊤, if◌then◌else◌, List, [], ◌∷◌}
 use Rattle.sp_base.specs.declared.OpName.{OpName}
 use Rattle.sp_history.specs.declared.entry.Entry.{Entry}
@@ -46,6 +46,18 @@ abbrev pub down_count : List Entry → ℕ → ℕ
 down_count [] p = 0
 down_count (Down q why ∷ past) p = if q == p then down_count past p + 1 else down_count past p
 down_count (_ ∷ past) p = down_count past p
+
+-- the pipe came up and didn't go down
+abbrev pub StaysUp : List Entry → ℕ → Type 0
+StaysUp past p = (up_count past p ≡ 1) × (down_count past p ≡ 0)
+
+-- the operation was begun and didn't end
+abbrev pub IsUnended : List Entry → OpName → Type 0
+IsUnended past op = (begin_count past op ≡ 1) × (end_count past op ≡ 0)
+
+-- the operation ended and wasn't collected
+abbrev pub IsUntaken : List Entry → OpName → Type 0
+IsUntaken past op = (end_count past op ≡ 1) × (took_count past op ≡ 0)
 
 -- each operation is begun at most once, ends at most once and not before, and is collected at most once and not before
 pub record Once (past : List Entry) (op : OpName) : Type 0 where

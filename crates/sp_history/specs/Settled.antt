@@ -1,7 +1,8 @@
--- What no turn leaves undone.
+-- What no turn leaves undone. That an operation ends as soon as it can is nng_aio(5); that this is asked after each
+-- turn is own.
 use Rattle.std.specs.Prelude.{ℕ, ◌≡◌, ◌==◌, Bool, false, not, ◌&&◌, ◌||◌, ⊤, IsTrue, List, [], ◌∷◌}
 use Rattle.std.specs.List.{list_all}
-use Rattle.sp_history.specs.declared.entry.Turn.{Turn}
+use Rattle.turn_lock.specs.declared.turn.Turn.{Turn}
 use Rattle.sp_history.specs.declared.entry.Entry.{Entry}
 use Rattle.sp_history.specs.declared.entry.Entry.TheVariants.{Full, Tick, Dry}
 use Rattle.sp_history.specs.Lists.{is_nil}
@@ -15,7 +16,7 @@ use Rattle.sp_history.specs.Sends.{targets, is_due_again}
 use Rattle.sp_history.specs.Legal.{is_recv}
 use Rattle.sp_history.specs.Past.{up, pend, onto}
 
--- the turn have a Full of the pipe
+-- the turn has a Full of the pipe
 abbrev pub has_full : List Entry → ℕ → Bool
 has_full [] p = false
 has_full (Full q ∷ turn) p = (q == p) || has_full turn p
@@ -53,10 +54,15 @@ pub record SettledWith (z : Setting) (past : List Entry) (full : ℕ → Bool) :
 abbrev pub SettledBy : Setting → List Entry → List Entry → Type 0
 SettledBy z past turn = SettledWith z past (has_full turn)
 
+-- after a turn on top of this past
+abbrev pub SettledTurn : Setting → List Entry → Turn Entry → Type 0
+SettledTurn z past t = SettledBy z (onto t.entries past) (onto t.entries [])
+
 -- each turn leaves the socket settled
 abbrev pub SettledFrom : Setting → List Entry → List (Turn Entry) → Type 0
 SettledFrom z past [] = ⊤
 SettledFrom z past (t ∷ turns) = SettledBy z (onto t.entries past) (onto t.entries []) × SettledFrom z (onto t.entries past) turns
 
+-- a history, from its first turn on
 abbrev pub Settled : Setting → List (Turn Entry) → Type 0
 Settled z history = SettledFrom z [] history

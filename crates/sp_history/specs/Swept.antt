@@ -1,7 +1,7 @@
--- Turns in which each pipe was served.
-use Rattle.std.specs.Prelude.{ℕ, ◌+◌, ◌==◌, nat_le, Bool, false, not, ◌&&◌, ◌||◌, IsTrue, if◌then◌else◌, List, [], ◌∷◌}
+-- Turns in which each pipe was served. All of it is own.
+use Rattle.std.specs.Prelude.{◌≡◌, ◌⊎◌, ◌≤◌, ℕ, ◌+◌, ◌==◌, nat_le, Bool, false, not, ◌&&◌, ◌||◌, IsTrue, if◌then◌else◌, List, [], ◌∷◌, ◌++◌}
 use Rattle.std.specs.List.{list_any, list_all}
-use Rattle.sp_history.specs.declared.entry.Turn.{Turn}
+use Rattle.turn_lock.specs.declared.turn.Turn.{Turn}
 use Rattle.sp_history.specs.declared.entry.Entry.{Entry}
 use Rattle.sp_history.specs.declared.entry.Entry.TheVariants.{Frame, Quiet, Stall, Clear}
 use Rattle.sp_history.specs.declared.setting.Setting.{Setting}
@@ -46,3 +46,38 @@ is_flushed (_ ∷ entries) p = is_flushed entries p
 
 abbrev pub AreFlushed : List Entry → Turn Entry → Type 0
 AreFlushed past t = IsTrue (list_all (is_flushed t.entries) (up (onto t.entries past)))
+
+-- ---- The same in words
+
+-- the pipe's wire had nothing to pull
+pub record RanDry (entries : List Entry) (p : ℕ) : Type 0 where
+  pub before : List Entry
+  pub after : List Entry
+  pub stands : entries ≡ before ++ Quiet p ∷ after
+
+-- after its last frame of the turn the pipe isn't wanted
+pub record EndsUnwanted (z : Setting) (past entries : List Entry) (p : ℕ) : Type 0 where
+  pub before : List Entry
+  pub bytes : List ℕ
+  pub after : List Entry
+  pub stands : entries ≡ before ++ Frame p bytes ∷ after
+  pub is_last : frame_count after p ≡ 0
+  pub unwanted : wanted z (Frame p bytes ∷ onto before past) p ≡ false
+
+-- the pipe has no frame in the turn, and wasn't wanted when it began
+pub record BeginsUnwanted (z : Setting) (past entries : List Entry) (p : ℕ) : Type 0 where
+  pub no_frame : frame_count entries p ≡ 0
+  pub unwanted : wanted z past p ≡ false
+
+abbrev pub IsServed : Setting → List Entry → List Entry → ℕ → Type 0
+IsServed z past entries p =
+    RanDry entries p ⊎ ((64 ≤ frame_count entries p) ⊎ (EndsUnwanted z past entries p ⊎ BeginsUnwanted z past entries p))
+
+-- a flush of the pipe stands before its first frame
+pub record IsFlushedFirst (entries : List Entry) (p : ℕ) : Type 0 where
+  pub before : List Entry
+  pub flush : Entry
+  pub after : List Entry
+  pub stands : entries ≡ before ++ flush ∷ after
+  pub is_flush : (flush ≡ Stall p) ⊎ (flush ≡ Clear p)
+  pub no_frame : frame_count before p ≡ 0

@@ -152,10 +152,3 @@ pub enum Entry {
     /// The socket closed.
     Close(Totals),
 }
-
-/// A caller's number, and what happened while it had the socket, in order.
-#[derive(Drop)]
-pub struct Turn<E> {
-    pub number: u32,
-    pub entries: LinkedList<E>,
-}
