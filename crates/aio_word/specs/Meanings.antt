@@ -18,6 +18,10 @@ use Rattle.aio_word.specs.Answers.{CoreSaw, CoreTook, CallTook, CallEnded, CallS
 abbrev pub BeganAt : View → OpName → View → Type 0
 BeganAt v op w = (op.generation ≡ slice_index v.generations op.slot + 1) × (op.generation < 2 ^ 40) × (w ≡ record v { generations = slice_set v.generations op.slot op.generation })
 
+-- the name of the slot's next operation
+abbrev pub IsNextName : View → OpName → Type 0
+IsNextName v op = (op.generation ≡ slice_index v.generations op.slot + 1) × (op.generation < 2 ^ 40)
+
 -- the slot has had its last generation
 abbrev pub IsWorn : View → ℕ → Type 0
 IsWorn v slot = slice_index v.generations slot ≡ 2 ^ 40 - 1

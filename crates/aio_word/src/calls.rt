@@ -8,7 +8,7 @@ ghost use Rattle.aio_word.specs.Views.{learned, absorbed};
 ghost use Rattle.aio_word.specs.Answers.{HasSeen, IsName, CoreSaw, Agrees, of_op};
 ghost use Rattle.aio_word.specs.OneWinner.{IsKnownCaller, IsKnownCore};
 ghost use Rattle.aio_word.specs.Winners.{HasOneWinner};
-ghost use Rattle.aio_word.specs.Meanings.{MatchDecided, MatchRaced, MatchPolled, BeganAt, IsWorn};
+ghost use Rattle.aio_word.specs.Meanings.{MatchDecided, MatchRaced, MatchPolled, BeganAt, IsNextName, IsWorn};
 
 use crate::answers::{Decided, Look, Polled, Raced, Worn};
 use crate::phase::Phase;
@@ -81,6 +81,24 @@ impl Words {
         self.table.shared.store::<Begins>(&mut core.seat, at, word);
         core.generations[at] = generation;
         Ok(OpName { slot, generation })
+    }
+
+    /// The name of the slot's next operation, as `begin` will give it. `Worn` where `begin` answers it. No step.
+    pub fn next(&self, core: &CoreSeat, slot: u32) -> Result<OpName, Worn>
+        requires own { core.now.words ≡ self.now.id }
+        requires slot { slot < self.now.slots }
+        ensures { MatchResult result (λ op. (op.slot ≡ slot) × IsNextName core.now.view op) (λ _. IsWorn core.now.view slot) }
+    {
+        // The model's facts are known from here on.
+        let _slots = &self.slots;
+        let last = core.generations[slot as usize];
+        if LAST <= last {
+            return Err(Worn);
+        }
+        Ok(OpName {
+            slot,
+            generation: last + 1,
+        })
     }
 
     /// How the core's operation stands. Where it has ended, the core notes the end. Never `Idle`.

@@ -1,0 +1,11 @@
+pub mod Lawfuls
+pub mod Desking
+pub mod Changing
+pub mod Carrying
+pub mod Timing
+pub mod Shelving
+pub mod Ending
+pub mod Starting
+pub mod Steps
+pub mod Opening
+pub mod TurnEnds

@@ -1,0 +1,9 @@
+pub mod Errors
+pub mod Ends
+pub mod Moving
+pub mod Desks
+pub mod Shelves
+pub mod Wires
+pub mod Lines
+pub mod Owning
+pub mod Standing
