@@ -169,7 +169,7 @@ fn bind<R: std::net::Net<Listener = TcpListener, Stream = TcpStream>>(
 
 // A link that doesn't wait, and whose small messages aren't held back.
 fn link_of(alloc: Global, stream: TcpStream, place: u32, scheme: Scheme) -> Option<TcpLink>
-    requires { place < 2 ^ 32 - 1 }
+    requires { place < 2 ^ 32 - 2 }
     ensures fresh { IfSome result (λ l. IsNew place (counts_view l.counts)) }
     ensures scheme { IfSome result (λ l. l.counts.scheme ≡ scheme) }
 {

@@ -6,6 +6,10 @@ mod addresses;
 #[cfg(test)]
 mod first_path;
 #[cfg(test)]
+mod nets;
+#[cfg(test)]
+mod numbers;
+#[cfg(test)]
 mod plain;
 #[cfg(test)]
 mod play;

@@ -14,6 +14,8 @@ fn files_of_the_machine_are_read(rt: HostRuntime) -> Result<(), Fail> {
     let mut files = RealFiles::new(rt.clone()?);
     let empty = files.whole("/dev/null");
     assert!(rt; matches!(&empty, Whole::Bytes(b) if b.as_slice().is_empty()));
+    let some = files.whole("/etc/passwd");
+    assert!(rt; matches!(&some, Whole::Bytes(b) if !b.as_slice().is_empty()));
     let missing = files.whole("/no/such/file");
     assert!(rt; matches!(&missing, Whole::Failed));
     Ok(())
@@ -210,25 +212,32 @@ fn tries_at<N: Net, P: Pace>(net: &mut N, pace: &mut P, port: u16) -> Option<Tri
     }
 }
 
+// Whether all went well at one port, or none where the port is taken.
+fn goes_well<N: Net, P: Pace>(net: &mut N, pace: &mut P, port: u16) -> Option<bool> {
+    let all = Talk {
+        nobody_came: true,
+        nothing_came: true,
+        there: true,
+        back: true,
+        ended: true,
+    };
+    let tried = tries_at(net, pace, port)?;
+    Some(tried.talk == Some(all) && tried.refused && tried.in_use)
+}
+
 #[test]
-fn the_net_links_this_machine_to_itself(rt: HostRuntime) -> Result<(), Fail> {
+fn the_net_links_this_machine_to_itself_at_two_ports(rt: HostRuntime) -> Result<(), Fail> {
     let mut net = TcpNet::new(rt.clone()?, rt.alloc());
     let mut pace = RealPace::new(rt.clone()?)?;
-    for port in 27_815..27_835 {
-        if let Some(tried) = tries_at(&mut net, &mut pace, port) {
-            let all = Talk {
-                nobody_came: true,
-                nothing_came: true,
-                there: true,
-                back: true,
-                ended: true,
-            };
-            assert_eq!(rt; tried.talk, Some(all));
-            assert!(rt; tried.refused);
-            assert!(rt; tried.in_use);
-            return Ok(());
+    let mut well: u32 = 0;
+    for port in 27_815..27_845 {
+        if well < 2 {
+            if let Some(one) = goes_well(&mut net, &mut pace, port) {
+                assert!(rt; one);
+                well += 1;
+            }
         }
     }
-    assert!(rt; false, "no port was free");
+    assert!(rt; well == 2, "too few ports were free");
     Ok(())
 }

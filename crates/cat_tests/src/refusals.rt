@@ -72,6 +72,22 @@ fn a_failing_output_ends_the_run(rt: HostRuntime) -> Result<(), Fail> {
 }
 
 #[test]
+fn one_message_is_one_put(rt: HostRuntime) -> Result<(), Fail> {
+    let alloc = rt.alloc();
+    let mut links = Vec::new(alloc);
+    links.push(link_of(
+        alloc,
+        &[HELLO_80, b"\x00\x00\x00\x00\x00\x00\x00\x05hello"],
+        false,
+        1_000_000,
+    )?)?;
+    let came = play(&rt, SIX, links, Vec::new(alloc), vec![in alloc; 1]?, TURNS)?;
+    assert_eq!(rt; came.status, Status::Done);
+    assert_eq!(rt; came.printed.as_slice(), b"hello\n".as_slice());
+    Ok(())
+}
+
+#[test]
 fn a_pace_of_nothing_is_over(rt: HostRuntime) -> Result<(), Fail> {
     let alloc = rt.alloc();
     let mut links = Vec::new(alloc);

@@ -12,6 +12,7 @@ use crate::is_listed;
 use sp_base::{Bytes, Files, Whole};
 use std::alloc::Global;
 
+/// Files in memory, by their names.
 #[derive(Debug, Drop)]
 pub struct MemFiles {
     alloc: Global,

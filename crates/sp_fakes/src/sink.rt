@@ -8,6 +8,7 @@ use crate::is_listed;
 use sp_base::{Sink, Sunk};
 use std::alloc::Global;
 
+/// A sink that keeps what was put, and whose puts fail by their numbers.
 #[derive(Debug, Drop)]
 pub struct MemSink {
     kept: Vec<u8>,

@@ -1,0 +1,44 @@
+use crate::play::link_of;
+use sp_base::{Addr, Host, Link, LinkRead, Linked, Listened, Net};
+use sp_fakes::MemNet;
+use std::test::Fail;
+
+// Listens at a port, accepts there, and answers the listener's number and how many bytes came of the link at once.
+fn first_read(net: &mut MemNet, port: u16) -> Option<(u32, usize)> {
+    let addr = Addr::Tcp {
+        host: Host::Any,
+        port,
+    };
+    let Listened::At(at) = net.listen(&addr) else {
+        return None;
+    };
+    let mut link = match net.accept(at) {
+        Linked::Got(link) => link,
+        Linked::NotYet | Linked::Failed => return None,
+    };
+    let mut buffer = [0u8; 16];
+    let came = match link.read(&mut buffer) {
+        LinkRead::Got(n) => Some((at, n)),
+        LinkRead::NotYet | LinkRead::Ended | LinkRead::Failed => None,
+    };
+    link.shut();
+    net.give_back(link);
+    came
+}
+
+#[test]
+fn each_listener_has_links_of_its_own(rt: HostRuntime) -> Result<(), Fail> {
+    let alloc = rt.alloc();
+    let mut incoming = Vec::new(alloc);
+    for text in [b"a".as_slice(), b"bb".as_slice(), b"ccc".as_slice()] {
+        let mut links = Vec::new(alloc);
+        links.push(link_of(alloc, &[text], false, 1_000_000)?)?;
+        incoming.push(links)?;
+    }
+    let mut net = MemNet::new(alloc, incoming, Vec::new(alloc), Vec::new(alloc))?;
+    assert_eq!(rt; first_read(&mut net, 1), Some((0, 1)));
+    assert_eq!(rt; first_read(&mut net, 2), Some((1, 2)));
+    assert_eq!(rt; first_read(&mut net, 3), Some((2, 3)));
+    assert_eq!(rt; first_read(&mut net, 4), None);
+    Ok(())
+}
