@@ -24,6 +24,8 @@ pub enum Fault {
     AfterClose,
     /// Pipes and contexts are numbered from 1 on.
     WrongNumber,
+    /// The numbers of pipes end at 2^31 - 1.
+    NoMoreNumbers,
     /// A pair has one pipe.
     SecondPipe,
     /// The pipe isn't up.

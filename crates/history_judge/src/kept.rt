@@ -1,23 +1,24 @@
 //! Kept messages, and where a send goes.
 
-ghost use Rattle.std.specs.Prelude.{◌≡◌, ◌++◌, ◌∷◌, [], ◌&&◌, ◌||◌, IfOk, filter, find, not, drop, if◌then◌else◌};
+ghost use Rattle.std.specs.Prelude.{◌≡◌, ◌==◌, ◌++◌, ◌∷◌, [], ◌&&◌, ◌||◌, IfOk, filter, find, not, drop, if◌then◌else◌};
 ghost use Rattle.std.specs.List.{list_any};
 ghost use Rattle.std.specs.Option.{option_map};
 ghost use Rattle.sp_history.specs.Lists.{has, same_bytes, same_op, matches, head_of};
-ghost use Rattle.sp_history.specs.Past.{pending};
+ghost use Rattle.sp_history.specs.Past.{pending, topics};
 ghost use Rattle.sp_history.specs.Requests.{wire_of};
 ghost use Rattle.sp_history.specs.Kept.{pool_of, is_wanted_by, takes, add_item, add_discarding, add_for, after_frame, is_on_pool, is_from, after_down, keeps, pool_keeping, pool, replies_of, kept, has_none_of, wanted_for, wanted, origin_of, is_on_ctx, given_from, stored, route};
 ghost use Rattle.sp_history.specs.Sends.{is_origin, may_go, targets, traced, bytes_for, bytes_of, are_bytes, is_lost, is_due_again, is_resend, unclaimed, is_answered_by, flooded, is_flooded, begun_before, is_first_for, follows_out, goes_nowhere, is_sent};
 ghost use Rattle.history_judge.specs.Story.{entries_of};
 
+use crate::frames::{
+    after_word, floods, has_requests, has_stored, has_topics, is_reply, item_of, malformed, resends,
+};
 use crate::lists::{
     all_in, first_word, has_ctx, has_pipe, is_empty, is_number, matches, same_bytes, same_op,
 };
+use crate::one_request::wire_of;
 use crate::past::{ctxs, now, pend, pending, topics, up};
-use crate::requests::{
-    after_word, floods, has_requests, has_stored, has_topics, is_reply, item_of, live_on,
-    malformed, request_of, requests, resends, wire_of,
-};
+use crate::requests::{live_on, request_of, requests};
 use crate::story::{Past, copy_bytes};
 use sp_base::{Bytes, Ctx, NoMemory, OpName, PipeId, Role};
 use sp_history::entry::{Act, Ending, Entry, Gate, Message, Outcome, Switch};
@@ -214,6 +215,51 @@ fn keeps(how: Keeping, c: Ctx) -> bool
     }
 }
 
+fn if_kept(
+    alloc: Global,
+    z: Setting,
+    how: Keeping,
+    before: &Past,
+    c: Ctx,
+    p: PipeId,
+    b: &[u8],
+    items: LinkedList<Item>,
+) -> Result<LinkedList<Item>, NoMemory>
+    ensures { IfOk result (λ r. r ≡ (if keeps how c then after_frame z (entries_of before.now) c p b.now items else items)) }
+{
+    if keeps(how, c) {
+        after_frame(alloc, z, before, c, p, b, items)
+    } else {
+        Ok(items)
+    }
+}
+
+fn after_topic(
+    alloc: Global,
+    past: &Past,
+    d: Ctx,
+    c: Ctx,
+    items: LinkedList<Item>,
+) -> Result<LinkedList<Item>, NoMemory>
+    ensures { IfOk result (λ r. r ≡ (if d == c then filter (λ i. is_wanted_by (topics (entries_of past.now) c) i.message.body) items else items)) }
+{
+    if d.0 == c.0 {
+        still_wanted(items, &topics(alloc, past, c)?)
+    } else {
+        Ok(items)
+    }
+}
+
+fn after_shut(alloc: Global, d: Ctx, c: Ctx, items: LinkedList<Item>) -> LinkedList<Item>
+    ensures { result ≡ (if d == c then [] else items) }
+{
+    if d.0 == c.0 {
+        LinkedList::new(alloc)
+    } else {
+        items
+    }
+}
+
 fn pool_keeping(
     alloc: Global,
     z: Setting,
@@ -235,11 +281,7 @@ fn pool_keeping(
         Past::After(Entry::Dry(d), before) => pool_keeping(alloc, z, Keeping::Below(*d), before, c),
         Past::After(Entry::Frame(p, b), before) => {
             let items = pool_keeping(alloc, z, Keeping::Everywhere, before, c)?;
-            if keeps(how, c) {
-                after_frame(alloc, z, before, c, *p, b.as_slice(), items)
-            } else {
-                Ok(items)
-            }
+            if_kept(alloc, z, how, before, c, *p, b.as_slice(), items)
         }
         Past::After(Entry::End(op, Ending::Won(Outcome::Received(_))), before) => {
             let items = pool_keeping(alloc, z, Keeping::Everywhere, before, c)?;
@@ -247,22 +289,15 @@ fn pool_keeping(
         }
         Past::After(Entry::Topic(d, _, Switch::Off), before) => {
             let items = pool_keeping(alloc, z, Keeping::Everywhere, before, c)?;
-            if d.0 == c.0 {
-                still_wanted(items, &topics(alloc, past, c)?)
-            } else {
-                Ok(items)
-            }
+            after_topic(alloc, past, *d, c, items)
         }
         Past::After(Entry::Down(p, _), before) => {
             let items = pool_keeping(alloc, z, Keeping::Everywhere, before, c)?;
             after_down(z, *p, items)
         }
         Past::After(Entry::Ctx(d, Gate::Shut), before) => {
-            if d.0 == c.0 {
-                Ok(LinkedList::new(alloc))
-            } else {
-                pool_keeping(alloc, z, Keeping::Everywhere, before, c)
-            }
+            let items = pool_keeping(alloc, z, Keeping::Everywhere, before, c)?;
+            Ok(after_shut(alloc, *d, c, items))
         }
         Past::After(Entry::Close(_), _) => Ok(LinkedList::new(alloc)),
         Past::After(_, before) => pool_keeping(alloc, z, Keeping::Everywhere, before, c),

@@ -5,8 +5,10 @@
 #![tactic(auto)]
 
 pub mod faults;
+pub mod frames;
 pub mod kept;
 pub mod lists;
+pub mod one_request;
 pub mod past;
 pub mod requests;
 pub mod rules;

@@ -8,30 +8,35 @@ use sp_base::{Ctx, NoMemory, OpName, PipeId};
 use sp_history::parts::Begun;
 use std::collections::LinkedList;
 
+/// The pipe stands in the list.
 pub fn has_pipe(pipes: &LinkedList<PipeId>, p: PipeId) -> bool
     ensures { result ≡ has pipes.now p }
 {
     pipes.iter().any(|q| q.0 == p.0)
 }
 
+/// The context stands in the list.
 pub fn has_ctx(contexts: &LinkedList<Ctx>, c: Ctx) -> bool
     ensures { result ≡ has contexts.now c }
 {
     contexts.iter().any(|d| d.0 == c.0)
 }
 
+/// Each pipe of the first list stands in the whole.
 pub fn all_in(pipes: &LinkedList<PipeId>, whole: &LinkedList<PipeId>) -> bool
     ensures { result ≡ all_in pipes.now whole.now }
 {
     pipes.iter().all(|p| has_pipe(whole, *p))
 }
 
+/// Nothing stands in the list.
 pub fn is_empty<T>(xs: &LinkedList<T>) -> bool
     ensures { result ≡ is_nil xs.now }
 {
     xs.is_empty()
 }
 
+/// The bytes are the same, and as many.
 pub fn same_bytes(a: &[u8], b: &[u8]) -> bool
     ensures { result ≡ same_bytes a.now b.now }
 {
@@ -42,12 +47,14 @@ pub fn same_bytes(a: &[u8], b: &[u8]) -> bool
     }
 }
 
+/// The same slot and generation.
 pub fn same_op(a: OpName, b: OpName) -> bool
     ensures { result ≡ same_op a b }
 {
     a.slot == b.slot && a.generation == b.generation
 }
 
+/// The operation has this name.
 pub fn is_of(op: OpName, s: &Begun) -> bool
     ensures { result ≡ is_of op s.now }
 {
@@ -61,12 +68,14 @@ pub fn matches(body: &[u8], topic: &[u8]) -> bool
     body.starts_with(topic)
 }
 
+/// The number in 4 bytes, the highest first.
 pub fn word(n: u32) -> [u8; 4]
     ensures { result ≡ word n }
 {
     n.to_be_bytes()
 }
 
+/// The number of the first 4 bytes, if there are so many.
 pub fn first_word(b: &[u8]) -> Option<u32>
     ensures { result ≡ first_word b.now }
 {
@@ -76,6 +85,7 @@ pub fn first_word(b: &[u8]) -> Option<u32>
     Some(u32::from_be_bytes([b[0], b[1], b[2], b[3]]))
 }
 
+/// It is there, and this number.
 pub fn is_number(found: Option<u32>, n: u32) -> bool
     ensures { result ≡ is_number found n }
 {
@@ -85,6 +95,7 @@ pub fn is_number(found: Option<u32>, n: u32) -> bool
     }
 }
 
+/// The list without this pipe.
 pub fn without_pipe(pipes: LinkedList<PipeId>, p: PipeId) -> Result<LinkedList<PipeId>, NoMemory>
     ensures { IfOk result (λ kept. kept ≡ without pipes p) }
 {
@@ -101,6 +112,7 @@ pub fn without_pipe(pipes: LinkedList<PipeId>, p: PipeId) -> Result<LinkedList<P
     }
 }
 
+/// The list without this context.
 pub fn without_ctx(contexts: LinkedList<Ctx>, c: Ctx) -> Result<LinkedList<Ctx>, NoMemory>
     ensures { IfOk result (λ kept. kept ≡ without contexts c) }
 {
@@ -117,6 +129,7 @@ pub fn without_ctx(contexts: LinkedList<Ctx>, c: Ctx) -> Result<LinkedList<Ctx>,
     }
 }
 
+/// All operations but this one.
 pub fn without_begun(ss: LinkedList<Begun>, op: OpName) -> Result<LinkedList<Begun>, NoMemory>
     ensures { IfOk result (λ kept. kept ≡ without_begun ss op) }
 {

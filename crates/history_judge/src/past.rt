@@ -23,6 +23,7 @@ pub fn one_more(n: u64) -> Result<u64, NoMemory>
     Ok(n + 1)
 }
 
+/// The pipes that are up.
 pub fn up(alloc: Global, past: &Past) -> Result<LinkedList<PipeId>, NoMemory>
     ensures { IfOk result (λ found. found ≡ up (entries_of past.now)) }
 {
@@ -41,6 +42,7 @@ pub fn up(alloc: Global, past: &Past) -> Result<LinkedList<PipeId>, NoMemory>
     }
 }
 
+/// How many pipes came up. Past 2^64 - 1 a count answers `NoMemory`.
 pub fn ups(past: &Past) -> Result<u64, NoMemory>
     ensures { IfOk result (λ found. found ≡ ups (entries_of past.now)) }
 {
@@ -51,6 +53,7 @@ pub fn ups(past: &Past) -> Result<u64, NoMemory>
     }
 }
 
+/// The pipes that are down and whose wire wasn't taken, in the order in which they went down.
 pub fn untaken(alloc: Global, past: &Past) -> Result<LinkedList<PipeId>, NoMemory>
     ensures { IfOk result (λ found. found ≡ untaken (entries_of past.now)) }
 {
@@ -76,6 +79,7 @@ fn begun(alloc: Global, op: OpName, c: Ctx, act: &Act) -> Result<Begun, NoMemory
     Ok(Begun { op, ctx: c, act })
 }
 
+/// The operations that have a begin and no end, in the order of their begins.
 pub fn pend(alloc: Global, past: &Past) -> Result<LinkedList<Begun>, NoMemory>
     ensures { IfOk result (λ found. found ≡ pend (entries_of past.now)) }
 {
@@ -94,12 +98,14 @@ pub fn pend(alloc: Global, past: &Past) -> Result<LinkedList<Begun>, NoMemory>
     }
 }
 
+/// The operation, while it is pending.
 pub fn pending(alloc: Global, past: &Past, op: OpName) -> Result<Option<Begun>, NoMemory>
     ensures { IfOk result (λ found. found ≡ pending (entries_of past.now) op) }
 {
     Ok(find_begun(pend(alloc, past)?, op))
 }
 
+/// All ended operations but this one.
 pub fn without_ended(es: LinkedList<Ended>, op: OpName) -> Result<LinkedList<Ended>, NoMemory>
     ensures { IfOk result (λ kept. kept ≡ filter (λ e. not (same_op e.begun.op op)) es) }
 {
@@ -135,6 +141,7 @@ fn add_ended(
     }
 }
 
+/// The operations that ended and were not collected, in the order of their ends.
 pub fn uncollected(alloc: Global, past: &Past) -> Result<LinkedList<Ended>, NoMemory>
     ensures { IfOk result (λ found. found ≡ uncollected (entries_of past.now)) }
 {
@@ -153,6 +160,7 @@ pub fn uncollected(alloc: Global, past: &Past) -> Result<LinkedList<Ended>, NoMe
     }
 }
 
+/// Who began the operation.
 pub fn caller_of(past: &Past, op: OpName) -> Option<u32>
     ensures { result ≡ caller_of (entries_of past.now) op }
 {
@@ -169,6 +177,7 @@ pub fn caller_of(past: &Past, op: OpName) -> Option<u32>
     }
 }
 
+/// How often an operation was begun at the slot.
 pub fn begins(past: &Past, slot: u32) -> Result<u64, NoMemory>
     ensures { IfOk result (λ found. found ≡ begins (entries_of past.now) slot) }
 {
@@ -203,6 +212,7 @@ fn is_due(t: Tick, d: &Timer) -> bool
     d.due.0 <= t.0
 }
 
+/// All deadlines but that of this operation.
 pub fn without_timer(ds: LinkedList<Timer>, op: OpName) -> Result<LinkedList<Timer>, NoMemory>
     ensures { IfOk result (λ kept. kept ≡ filter (λ d. not (same_op d.op op)) ds) }
 {
@@ -219,6 +229,7 @@ pub fn without_timer(ds: LinkedList<Timer>, op: OpName) -> Result<LinkedList<Tim
     }
 }
 
+/// The deadlines that are still to come at the moment.
 pub fn not_due(ds: LinkedList<Timer>, t: Tick) -> Result<LinkedList<Timer>, NoMemory>
     ensures { IfOk result (λ kept. kept ≡ filter (λ d. not (is_due t d)) ds) }
 {
@@ -235,6 +246,7 @@ pub fn not_due(ds: LinkedList<Timer>, t: Tick) -> Result<LinkedList<Timer>, NoMe
     }
 }
 
+/// The deadlines that are reached at the moment.
 pub fn due(ds: LinkedList<Timer>, t: Tick) -> Result<LinkedList<Timer>, NoMemory>
     ensures { IfOk result (λ kept. kept ≡ filter (is_due t) ds) }
 {
@@ -268,6 +280,7 @@ fn add_timer(
     }
 }
 
+/// The deadlines of the pending operations that were in no due list, in the order of their begins.
 pub fn timers(alloc: Global, past: &Past) -> Result<LinkedList<Timer>, NoMemory>
     ensures { IfOk result (λ found. found ≡ timers (entries_of past.now)) }
 {
@@ -345,6 +358,7 @@ fn ops_of(alloc: Global, ds: LinkedList<Timer>) -> Result<LinkedList<OpName>, No
     }
 }
 
+/// The operations that fall due at the moment, by deadline and then by slot.
 pub fn due_at(alloc: Global, past: &Past, t: Tick) -> Result<LinkedList<OpName>, NoMemory>
     ensures { IfOk result (λ found. found ≡ due_at (entries_of past.now) t) }
 {
@@ -352,6 +366,7 @@ pub fn due_at(alloc: Global, past: &Past, t: Tick) -> Result<LinkedList<OpName>,
     ops_of(alloc, by_deadline(ds)?)
 }
 
+/// How many contexts were opened.
 pub fn opened(past: &Past) -> Result<u64, NoMemory>
     ensures { IfOk result (λ found. found ≡ opened (entries_of past.now)) }
 {
@@ -362,6 +377,7 @@ pub fn opened(past: &Past) -> Result<u64, NoMemory>
     }
 }
 
+/// The contexts that are open, 0 always.
 pub fn ctxs(alloc: Global, past: &Past) -> Result<LinkedList<Ctx>, NoMemory>
     ensures { IfOk result (λ found. found ≡ ctxs (entries_of past.now)) }
 {
@@ -384,6 +400,7 @@ pub fn ctxs(alloc: Global, past: &Past) -> Result<LinkedList<Ctx>, NoMemory>
     }
 }
 
+/// All topics but this one.
 pub fn without_topic(ts: LinkedList<Bytes>, t: &Bytes) -> Result<LinkedList<Bytes>, NoMemory>
     ensures { IfOk result (λ kept. kept ≡ filter (λ u. not (same_bytes u t.now)) ts) }
 {
@@ -400,6 +417,7 @@ pub fn without_topic(ts: LinkedList<Bytes>, t: &Bytes) -> Result<LinkedList<Byte
     }
 }
 
+/// The topics of the context that are on, in the order in which they were put on.
 pub fn topics(alloc: Global, past: &Past, c: Ctx) -> Result<LinkedList<Bytes>, NoMemory>
     ensures { IfOk result (λ found. found ≡ topics (entries_of past.now) c) }
 {
@@ -431,6 +449,7 @@ pub fn topics(alloc: Global, past: &Past, c: Ctx) -> Result<LinkedList<Bytes>, N
     }
 }
 
+/// The socket is closed.
 pub fn is_closed(past: &Past) -> bool
     ensures { result ≡ is_closed (entries_of past.now) }
 {

@@ -1,371 +1,23 @@
-//! Frames, backtraces and requests.
+//! The requests of a socket, and what each entry makes of them.
 
-ghost use Rattle.std.specs.Prelude.{if◌then◌else◌, ◌≡◌, ◌++◌, ◌-◌, ◌^◌, ◌<◌, IfOk, [], ◌∷◌, ◌+◌, ◌%◌, take, filter, find, map, not, drop, length, Option, Some, None};
-ghost use Rattle.std.specs.List.{list_any};
-ghost use Rattle.sp_history.specs.Lists.{has, same_op};
-ghost use Rattle.sp_history.specs.Backtrace.{back, behind, is_short};
-ghost use Rattle.sp_history.specs.Frames.{malformed, plain_item, traced_item, item_of};
-ghost use Rattle.sp_history.specs.Requests.{no_requests, next_number, has_id, free_from, next_id, is_on, wire_of, is_for, has_room, with_out, with_frame, with_taken, is_over, is_orphan, orphan_of, is_bereft, end_on, begin_on, of_live, after_end, without_orphan, over_at, after_moment, asked, requests, live_on, request_of, how_ended};
-ghost use Rattle.sp_history.specs.Setting.{is_req, is_sub, is_pair, is_reply, is_asker, floods, has_contexts, has_topics, has_requests, resends, has_stored};
-ghost use Rattle.history_judge.specs.Story.{entries_of};
-ghost use Rattle.sp_history.specs.Past.{now, pend, pending, without_begun};
+ghost use Rattle.std.specs.Prelude.{if◌then◌else◌, ◌≡◌, ◌++◌, IfOk, [], ◌∷◌, filter, find, map, not};
 ghost use Rattle.std.specs.Option.{option_map};
+ghost use Rattle.sp_history.specs.Lists.{has, same_op};
+ghost use Rattle.sp_history.specs.Requests.{no_requests, is_on, with_out, with_frame, with_taken, change_live, is_over, is_orphan, orphan_of, is_bereft, end_on, begin_on, of_live, after_end, without_orphan, over_at, after_moment, asked, requests, live_on, request_of, how_ended};
+ghost use Rattle.sp_history.specs.Past.{now, pend, pending, without_begun};
+ghost use Rattle.history_judge.specs.Story.{entries_of};
 
-use crate::lists::{
-    first_word, has_ctx, is_empty, is_number, same_bytes, same_op, without_begun, word,
-};
+use crate::frames::{has_requests, is_req};
+use crate::lists::{has_ctx, same_op, without_begun};
+use crate::one_request::{is_on, is_over, next_id, with_frame, with_out, with_taken};
 use crate::past::{now, pend, pending};
 use crate::story::{Past, copy_bytes};
-use sp_base::{Bytes, Ctx, NoMemory, OpName, PipeId, Role, Tick};
+use sp_base::{Bytes, Ctx, NoMemory, OpName, PipeId, Tick};
 use sp_history::entry::{Act, Ending, Entry, Gate, Message, Outcome};
-use sp_history::parts::{Back, Begun, How, Item, LastOut, Orphan, Request, Requests};
+use sp_history::parts::{Begun, How, Item, Orphan, Request, Requests};
 use sp_history::setting::Setting;
 use std::alloc::Global;
 use std::collections::LinkedList;
-
-// ---- Roles
-
-pub fn floods(role: Role) -> bool
-    ensures { result ≡ floods role }
-{
-    matches!(role, Role::Pub | Role::Surveyor | Role::Bus)
-}
-
-pub fn is_sub(role: Role) -> bool
-    ensures { result ≡ is_sub role }
-{
-    matches!(role, Role::Sub)
-}
-
-pub fn is_req(role: Role) -> bool
-    ensures { result ≡ is_req role }
-{
-    matches!(role, Role::Req)
-}
-
-pub fn is_reply(role: Role) -> bool
-    ensures { result ≡ is_reply role }
-{
-    matches!(role, Role::Rep | Role::Respondent)
-}
-
-pub fn is_pair(role: Role) -> bool
-    ensures { result ≡ is_pair role }
-{
-    matches!(role, Role::Pair0)
-}
-
-pub fn is_asker(role: Role) -> bool
-    ensures { result ≡ is_asker role }
-{
-    matches!(role, Role::Req | Role::Surveyor)
-}
-
-pub fn has_contexts(z: Setting) -> bool
-    ensures { result ≡ has_contexts z }
-{
-    z.role.contexts() && !z.raw
-}
-
-pub fn has_topics(z: Setting) -> bool
-    ensures { result ≡ has_topics z }
-{
-    is_sub(z.role) && !z.raw
-}
-
-pub fn has_requests(z: Setting) -> bool
-    ensures { result ≡ has_requests z }
-{
-    is_asker(z.role) && !z.raw
-}
-
-pub fn resends(z: Setting) -> bool
-    ensures { result ≡ resends z }
-{
-    is_req(z.role) && !z.raw
-}
-
-pub fn has_stored(z: Setting) -> bool
-    ensures { result ≡ has_stored z }
-{
-    is_reply(z.role) && !z.raw
-}
-
-// ---- Frames
-
-fn behind(alloc: Global, w: &[u8], found: Back) -> Result<Back, NoMemory>
-    ensures { IfOk result (λ r. r ≡ behind w.now found) }
-{
-    match found {
-        Back::Found(words, rest) => {
-            let mut whole = Bytes::from_slice(alloc, w)?;
-            whole.append(words.as_slice())?;
-            Ok(Back::Found(whole, rest))
-        }
-        Back::TooFar => Ok(Back::TooFar),
-        Back::Short => Ok(Back::Short),
-    }
-}
-
-/// The backtrace at the front of the bytes, with this many hops left.
-pub fn back(alloc: Global, hops: u8, b: &[u8]) -> Result<Back, NoMemory>
-    ensures { IfOk result (λ r. r ≡ back hops b.now) }
-{
-    if hops == 0 {
-        return Ok(Back::TooFar);
-    }
-    if b.len() < 4 {
-        return Ok(Back::Short);
-    }
-    let first = &b[..4];
-    let rest = &b[4..];
-    if b[0] >= 128 {
-        return found(alloc, first, rest);
-    }
-    let further = back(alloc, hops - 1, rest)?;
-    behind(alloc, first, further)
-}
-
-fn found(alloc: Global, words: &[u8], rest: &[u8]) -> Result<Back, NoMemory>
-    ensures { IfOk result (λ r. r ≡ Back.Found words.now rest.now) }
-{
-    let words = Bytes::from_slice(alloc, words)?;
-    let rest = Bytes::from_slice(alloc, rest)?;
-    Ok(Back::Found(words, rest))
-}
-
-fn is_short(found: &Back) -> bool
-    ensures { result ≡ is_short found.now }
-{
-    matches!(found, Back::Short)
-}
-
-pub fn malformed(alloc: Global, z: Setting, b: &[u8]) -> Result<bool, NoMemory>
-    ensures { IfOk result (λ r. r ≡ malformed z b.now) }
-{
-    match z.role {
-        Role::Pub => Ok(true),
-        Role::Req | Role::Surveyor => Ok(b.len() < 4),
-        Role::Rep | Role::Respondent => {
-            let found = back(alloc, z.options.ttl, b)?;
-            Ok(is_short(&found))
-        }
-        _ => Ok(false),
-    }
-}
-
-/// The bytes without the first 4.
-pub fn after_word(b: &[u8]) -> &[u8]
-    ensures { result.now ≡ drop 4 b.now }
-{
-    if b.len() < 4 { &[] } else { &b[4..] }
-}
-
-fn item(
-    alloc: Global,
-    p: PipeId,
-    words: &[u8],
-    header: &[u8],
-    body: &[u8],
-) -> Result<Item, NoMemory>
-    ensures { IfOk result (λ i. i ≡ record { pipe = p; words = words.now; message = record { header = header.now; body = body.now } }) }
-{
-    let words = Bytes::from_slice(alloc, words)?;
-    let header = Bytes::from_slice(alloc, header)?;
-    let body = Bytes::from_slice(alloc, body)?;
-    Ok(Item {
-        pipe: p,
-        words,
-        message: Message { header, body },
-    })
-}
-
-fn plain_item(alloc: Global, p: PipeId, b: &[u8]) -> Result<Item, NoMemory>
-    ensures { IfOk result (λ i. i ≡ plain_item p b.now) }
-{
-    item(alloc, p, &[], &[], b)
-}
-
-fn traced_item(alloc: Global, raw: bool, p: PipeId, found: Back) -> Result<Option<Item>, NoMemory>
-    ensures { IfOk result (λ i. i ≡ traced_item raw p found) }
-{
-    match found {
-        Back::Found(words, rest) => {
-            if raw {
-                let mut header = Bytes::from_slice(alloc, &word(p.0))?;
-                header.append(words.as_slice())?;
-                Ok(Some(item(alloc, p, &[], header.as_slice(), rest.as_slice())?))
-            } else {
-                Ok(Some(item(alloc, p, words.as_slice(), &[], rest.as_slice())?))
-            }
-        }
-        Back::TooFar => Ok(None),
-        Back::Short => Ok(None),
-    }
-}
-
-fn worded_item(alloc: Global, p: PipeId, b: &[u8]) -> Result<Item, NoMemory>
-    ensures { IfOk result (λ i. i ≡ record { pipe = p; words = []; message = record { header = take 4 b.now; body = drop 4 b.now } }) }
-{
-    if b.len() < 4 {
-        return item(alloc, p, &[], b, &[]);
-    }
-    item(alloc, p, &[], &b[..4], &b[4..])
-}
-
-/// What a frame of the pipe is kept as, if at all.
-pub fn item_of(alloc: Global, z: Setting, p: PipeId, b: &[u8]) -> Result<Option<Item>, NoMemory>
-    ensures { IfOk result (λ i. i ≡ item_of z p b.now) }
-{
-    match z.role {
-        Role::Pair0 | Role::Pull | Role::Sub => Ok(Some(plain_item(alloc, p, b)?)),
-        Role::Bus => {
-            if z.raw {
-                Ok(Some(item(alloc, p, &[], &word(p.0), b)?))
-            } else {
-                Ok(Some(plain_item(alloc, p, b)?))
-            }
-        }
-        Role::Req | Role::Surveyor => {
-            if z.raw {
-                Ok(Some(worded_item(alloc, p, b)?))
-            } else {
-                Ok(Some(plain_item(alloc, p, after_word(b))?))
-            }
-        }
-        Role::Rep | Role::Respondent => {
-            let found = back(alloc, z.options.ttl, b)?;
-            traced_item(alloc, z.raw, p, found)
-        }
-        Role::Push | Role::Pub => Ok(None),
-    }
-}
-
-// ---- Ids
-
-fn next_number(dice: u32, last: Option<u32>) -> u32
-    ensures { result ≡ next_number dice last }
-{
-    match last {
-        None => 0x8000_0000 + dice % 0x8000_0000,
-        Some(id) => after(id),
-    }
-}
-
-fn after(id: u32) -> u32
-    ensures { result ≡ 2 ^ 31 + (id + 1) % 2 ^ 31 }
-{
-    if id == u32::MAX {
-        0x8000_0000
-    } else {
-        0x8000_0000 + (id + 1) % 0x8000_0000
-    }
-}
-
-fn has_id(id: u32, live: &LinkedList<Request>) -> bool
-    ensures { result ≡ list_any (has_id id) live.now }
-{
-    live.iter().any(|r| r.id == id)
-}
-
-fn free_from(tries: usize, live: &LinkedList<Request>, id: u32) -> u32
-    ensures { result ≡ free_from tries live.now id }
-{
-    if tries == 0 {
-        return id;
-    }
-    if has_id(id, live) {
-        free_from(tries - 1, live, after(id))
-    } else {
-        id
-    }
-}
-
-fn next_id(z: Setting, rs: &Requests) -> u32
-    ensures { result ≡ next_id z rs.now }
-{
-    free_from(
-        rs.live.len(),
-        &rs.live,
-        next_number(z.options.dice, rs.last_id),
-    )
-}
-
-// ---- One request
-
-fn is_on(c: Ctx, r: &Request) -> bool
-    ensures { result ≡ is_on c r.now }
-{
-    r.ctx.0 == c.0
-}
-
-/// What goes out for it.
-pub fn wire_of(alloc: Global, r: &Request) -> Result<Bytes, NoMemory>
-    ensures { IfOk result (λ b. b ≡ wire_of r.now) }
-{
-    let mut whole = Bytes::from_slice(alloc, &word(r.id))?;
-    whole.append(r.body.as_slice())?;
-    Ok(whole)
-}
-
-fn is_for(b: &[u8], r: &Request) -> bool
-    ensures { result ≡ is_for b.now r.now }
-{
-    is_number(first_word(b), r.id)
-}
-
-fn has_room(z: Setting, r: &Request) -> bool
-    ensures { result ≡ has_room z r.now }
-{
-    if is_req(z.role) {
-        r.last_out.is_some() && is_empty(&r.replies)
-    } else {
-        r.replies.len() < z.options.queue as usize
-    }
-}
-
-fn with_out(alloc: Global, t: Tick, p: PipeId, b: &[u8], r: Request) -> Result<Request, NoMemory>
-    ensures { IfOk result (λ s. s ≡ with_out t p b.now r) }
-{
-    let mut r = r;
-    let wire = wire_of(alloc, &r)?;
-    if same_bytes(b, wire.as_slice()) {
-        r.last_out = Some(LastOut { pipe: p, when: t });
-    }
-    Ok(r)
-}
-
-fn with_frame(
-    alloc: Global,
-    z: Setting,
-    p: PipeId,
-    b: &[u8],
-    r: Request,
-) -> Result<Request, NoMemory>
-    ensures { IfOk result (λ s. s ≡ with_frame z p b.now r) }
-{
-    let mut r = r;
-    if is_for(b, &r) && has_room(z, &r) {
-        r.replies.push_back(plain_item(alloc, p, after_word(b))?)?;
-    }
-    Ok(r)
-}
-
-fn with_taken(c: Ctx, r: Request) -> Request
-    ensures { result ≡ with_taken c r }
-{
-    let mut r = r;
-    if is_on(c, &r) {
-        let _ = r.replies.pop_front();
-    }
-    r
-}
-
-fn is_over(z: Setting, t: Tick, r: &Request) -> bool
-    ensures { result ≡ is_over z t r.now }
-{
-    z.options.survey <= t.0 && r.birth.0 <= t.0 - z.options.survey
-}
 
 // ---- All of them
 
@@ -426,7 +78,7 @@ fn all_with_taken(c: Ctx, live: LinkedList<Request>) -> Result<LinkedList<Reques
     }
 }
 
-pub fn is_orphan(rs: &Requests, op: OpName) -> bool
+fn is_orphan(rs: &Requests, op: OpName) -> bool
     ensures { result ≡ is_orphan rs.now op }
 {
     rs.orphans.iter().any(|o| same_op(o.op, op))
@@ -728,6 +380,50 @@ fn after_ending(
     without_orphan(op, rs)
 }
 
+fn after_out(
+    alloc: Global,
+    before: &Past,
+    p: PipeId,
+    b: &[u8],
+    rs: Requests,
+) -> Result<Requests, NoMemory>
+    ensures { IfOk result (λ found. found ≡ change_live (with_out (now (entries_of before.now)) p b.now) rs) }
+{
+    let live = all_with_out(alloc, now(before), p, b, rs.live)?;
+    Ok(Requests {
+        live,
+        orphans: rs.orphans,
+        last_id: rs.last_id,
+    })
+}
+
+fn after_frame(
+    alloc: Global,
+    z: Setting,
+    p: PipeId,
+    b: &[u8],
+    rs: Requests,
+) -> Result<Requests, NoMemory>
+    ensures { IfOk result (λ found. found ≡ change_live (with_frame z p b.now) rs) }
+{
+    let live = all_with_frame(alloc, z, p, b, rs.live)?;
+    Ok(Requests {
+        live,
+        orphans: rs.orphans,
+        last_id: rs.last_id,
+    })
+}
+
+fn after_close(alloc: Global, rs: Requests) -> Requests
+    ensures { result ≡ record rs { live = [] } }
+{
+    Requests {
+        live: LinkedList::new(alloc),
+        orphans: rs.orphans,
+        last_id: rs.last_id,
+    }
+}
+
 fn asked(alloc: Global, z: Setting, past: &Past) -> Result<Requests, NoMemory>
     ensures { IfOk result (λ found. found ≡ asked z (entries_of past.now)) }
 {
@@ -743,12 +439,7 @@ fn asked(alloc: Global, z: Setting, past: &Past) -> Result<Requests, NoMemory>
         }
         Past::After(Entry::Out(p, b), before) => {
             let rs = asked(alloc, z, before)?;
-            let live = all_with_out(alloc, now(before), *p, b.as_slice(), rs.live)?;
-            Ok(Requests {
-                live,
-                orphans: rs.orphans,
-                last_id: rs.last_id,
-            })
+            after_out(alloc, before, *p, b.as_slice(), rs)
         }
         Past::After(Entry::Unkept(_), before) => match &**before {
             Past::After(Entry::Frame(_, _), earlier) => asked(alloc, z, earlier),
@@ -756,12 +447,7 @@ fn asked(alloc: Global, z: Setting, past: &Past) -> Result<Requests, NoMemory>
         },
         Past::After(Entry::Frame(p, b), before) => {
             let rs = asked(alloc, z, before)?;
-            let live = all_with_frame(alloc, z, *p, b.as_slice(), rs.live)?;
-            Ok(Requests {
-                live,
-                orphans: rs.orphans,
-                last_id: rs.last_id,
-            })
+            after_frame(alloc, z, *p, b.as_slice(), rs)
         }
         Past::After(Entry::Ctx(c, Gate::Shut), before) => {
             let rs = asked(alloc, z, before)?;
@@ -771,14 +457,7 @@ fn asked(alloc: Global, z: Setting, past: &Past) -> Result<Requests, NoMemory>
             let rs = asked(alloc, z, before)?;
             after_moment(alloc, z, *t, pend(alloc, before)?, rs)
         }
-        Past::After(Entry::Close(_), before) => {
-            let rs = asked(alloc, z, before)?;
-            Ok(Requests {
-                live: LinkedList::new(alloc),
-                orphans: rs.orphans,
-                last_id: rs.last_id,
-            })
-        }
+        Past::After(Entry::Close(_), before) => Ok(after_close(alloc, asked(alloc, z, before)?)),
         Past::After(_, before) => asked(alloc, z, before),
     }
 }

@@ -1,21 +1,21 @@
 //! What may come next, and how a turn may end.
 
-ghost use Rattle.std.specs.Prelude.{◌==◌, ◌++◌, ◌≡◌, ◌↔◌, ◌&&◌, ◌||◌, ◌∷◌, [], IsTrue, IfOk, filter, find, not, is_some, Option, Some, None, MatchOption};
+ghost use Rattle.std.specs.Prelude.{◌==◌, ◌++◌, ◌≡◌, ◌≤◌, ◌↔◌, ◌&&◌, ◌||◌, ◌∷◌, [], IsTrue, IfOk, filter, find, not, is_some, Option, Some, None, MatchOption};
 ghost use Rattle.std.specs.List.{list_any};
 ghost use Rattle.std.specs.Option.{option_map};
 ghost use Rattle.sp_history.specs.Lists.{head_of, same_bytes};
 ghost use Rattle.sp_history.specs.Past.{pending, totals};
+ghost use Rattle.sp_history.specs.Requests.{how_ended};
 ghost use Rattle.sp_history.specs.Legal.{is_recv, is_recv_on, is_at, is_free, is_pending_on, has_topic, does, state_for, is_state, condemned, ctx_of, unshut, is_closing, is_unkept, sending, MayEnd, is_memory_down, is_part_of_send, goes_on, is_after_frame, is_after_any_frame, is_due_on, may_dry, MayBegin, MayReceive, was_superseded, was_over, MayGo, MayEndAs, is_uncollected, IsUp, comes_after_close};
 ghost use Rattle.history_judge.specs.Story.{entries_of};
 ghost use Rattle.history_judge.specs.Faults.{Finds};
 
 use crate::faults::Fault;
+use crate::frames::{floods, has_requests, is_sub, malformed, resends};
 use crate::kept::{is_due_again, is_sent, kept, stored, unclaimed};
 use crate::lists::{has_ctx, has_pipe, is_empty, is_of, same_bytes, without_ctx, without_pipe};
 use crate::past::{begins, ctxs, one_more, pend, pending, uncollected, up};
-use crate::requests::{
-    floods, has_requests, how_ended, is_sub, live_on, malformed, request_of, resends,
-};
+use crate::requests::{how_ended, live_on, request_of};
 use crate::story::Past;
 use sp_base::{Bytes, Ctx, NoMemory, OpName, PipeId, Role};
 use sp_history::entry::{Act, Cause, Ending, Entry, Gate, Message, Outcome, Why};
@@ -26,6 +26,7 @@ use std::collections::LinkedList;
 
 // ---- Small words
 
+/// The act is a receive.
 pub fn is_recv(act: &Act) -> bool
     ensures { result ≡ is_recv act.now }
 {
@@ -50,6 +51,7 @@ fn any_ended_at(slot: u32, es: &LinkedList<Ended>) -> bool
     es.iter().any(|e| e.begun.op.slot == slot)
 }
 
+/// No operation of the slot is pending or uncollected.
 pub fn is_free(alloc: Global, past: &Past, slot: u32) -> Result<bool, NoMemory>
     ensures { IfOk result (λ r. r ≡ is_free (entries_of past.now) slot) }
 {
@@ -64,6 +66,7 @@ fn any_on(c: Ctx, ss: &LinkedList<Begun>) -> bool
     ss.iter().any(|s| s.ctx.0 == c.0)
 }
 
+/// An operation is pending on the context.
 pub fn is_pending_on(alloc: Global, past: &Past, c: Ctx) -> Result<bool, NoMemory>
     ensures { IfOk result (λ r. r ≡ is_pending_on (entries_of past.now) c) }
 {
@@ -71,6 +74,7 @@ pub fn is_pending_on(alloc: Global, past: &Past, c: Ctx) -> Result<bool, NoMemor
     Ok(any_on(c, &ss))
 }
 
+/// The topic is on.
 pub fn has_topic(ts: &LinkedList<Bytes>, t: &[u8]) -> bool
     ensures { result ≡ has_topic ts.now t.now }
 {
@@ -136,6 +140,7 @@ pub fn is_state(alloc: Global, z: Setting, past: &Past, c: Ctx, act: &Act) -> Re
 
 // ---- What an entry leaves to be done in its turn
 
+/// The pipes with a malformed frame that have not gone down since.
 pub fn condemned(alloc: Global, z: Setting, past: &Past) -> Result<LinkedList<PipeId>, NoMemory>
     ensures { IfOk result (λ r. r ≡ condemned z (entries_of past.now)) }
 {
@@ -198,6 +203,7 @@ fn is_closing(past: &Past) -> bool
     }
 }
 
+/// An Unkept came last.
 pub fn is_unkept(past: &Past) -> bool
     ensures { result ≡ is_unkept (entries_of past.now) }
 {
@@ -260,6 +266,7 @@ fn is_part_of_send(z: Setting, e: &Entry) -> bool
     }
 }
 
+/// The pipe of an Unkept goes down at once, and an Out is followed by the rest of its send.
 pub fn goes_on(alloc: Global, z: Setting, past: &Past, e: &Entry) -> Result<bool, NoMemory>
     ensures { IfOk result (λ r. r ≡ goes_on z (entries_of past.now) e.now) }
 {
@@ -275,6 +282,7 @@ pub fn goes_on(alloc: Global, z: Setting, past: &Past, e: &Entry) -> Result<bool
     }
 }
 
+/// A frame of the pipe came last, and is not malformed.
 pub fn is_after_frame(alloc: Global, z: Setting, past: &Past, p: PipeId) -> Result<bool, NoMemory>
     ensures { IfOk result (λ r. r ≡ is_after_frame z (entries_of past.now) p) }
 {
@@ -304,6 +312,7 @@ fn is_due_on(alloc: Global, z: Setting, past: &Past, r: Option<Request>) -> Resu
     }
 }
 
+/// A copy for the context may find no memory.
 pub fn may_dry(alloc: Global, z: Setting, past: &Past, c: Ctx) -> Result<bool, NoMemory>
     ensures { IfOk result (λ b. b ≡ may_dry z (entries_of past.now) c) }
 {
@@ -449,6 +458,65 @@ fn was_over(how: Option<How>) -> bool
     matches!(how, Some(How::Over))
 }
 
+fn by_caller(z: Setting, by: u32) -> Option<Fault>
+    ensures { Finds result ((1 ≤ by) × (by ≤ z.callers)) }
+{
+    if 1 <= by && by <= z.callers {
+        None
+    } else {
+        Some(Fault::WrongSeat)
+    }
+}
+
+fn by_socket(by: u32) -> Option<Fault>
+    ensures { Finds result (by ≡ 0) }
+{
+    if by == 0 {
+        None
+    } else {
+        Some(Fault::WrongSeat)
+    }
+}
+
+fn go_superseded(
+    alloc: Global,
+    z: Setting,
+    past: &Past,
+    s: &Begun,
+    by: u32,
+) -> Result<Option<Fault>, NoMemory>
+    ensures { IfOk result (λ f. Finds f ((by ≡ 0) × IsTrue (was_superseded (how_ended z (entries_of past.now) s.now.op)))) }
+{
+    if by != 0 {
+        return Ok(Some(Fault::WrongSeat));
+    }
+    if !was_superseded(how_ended(alloc, z, past, s.op)?) {
+        return Ok(Some(Fault::NotSuperseded));
+    }
+    Ok(None)
+}
+
+fn go_over(
+    alloc: Global,
+    z: Setting,
+    past: &Past,
+    s: &Begun,
+    by: u32,
+) -> Result<Option<Fault>, NoMemory>
+    ensures { IfOk result (λ f. Finds f ((by ≡ 0) × IsTrue (is_recv s.now.act) × IsTrue (was_over (how_ended z (entries_of past.now) s.now.op)))) }
+{
+    if by != 0 {
+        return Ok(Some(Fault::WrongSeat));
+    }
+    if !is_recv(&s.act) {
+        return Ok(Some(Fault::NotReceive));
+    }
+    if !was_over(how_ended(alloc, z, past, s.op)?) {
+        return Ok(Some(Fault::SurveyNotOver));
+    }
+    Ok(None)
+}
+
 fn may_go(
     alloc: Global,
     z: Setting,
@@ -460,43 +528,10 @@ fn may_go(
     ensures { IfOk result (λ f. Finds f (MayGo z (entries_of past.now) s.now cause by)) }
 {
     match cause {
-        Cause::Cancelled | Cause::TimedOut => {
-            if 1 <= by && by <= z.callers {
-                Ok(None)
-            } else {
-                Ok(Some(Fault::WrongSeat))
-            }
-        }
-        Cause::Closed => {
-            if by == 0 {
-                Ok(None)
-            } else {
-                Ok(Some(Fault::WrongSeat))
-            }
-        }
-        Cause::Superseded => {
-            if by != 0 {
-                return Ok(Some(Fault::WrongSeat));
-            }
-            if was_superseded(how_ended(alloc, z, past, s.op)?) {
-                Ok(None)
-            } else {
-                Ok(Some(Fault::NotSuperseded))
-            }
-        }
-        Cause::SurveyOver => {
-            if by != 0 {
-                return Ok(Some(Fault::WrongSeat));
-            }
-            if !is_recv(&s.act) {
-                return Ok(Some(Fault::NotReceive));
-            }
-            if was_over(how_ended(alloc, z, past, s.op)?) {
-                Ok(None)
-            } else {
-                Ok(Some(Fault::SurveyNotOver))
-            }
-        }
+        Cause::Cancelled | Cause::TimedOut => Ok(by_caller(z, by)),
+        Cause::Closed => Ok(by_socket(by)),
+        Cause::Superseded => go_superseded(alloc, z, past, s, by),
+        Cause::SurveyOver => go_over(alloc, z, past, s, by),
     }
 }
 
@@ -525,6 +560,7 @@ fn may_end_as(
     }
 }
 
+/// What is wrong with this end.
 pub fn may_finish(
     alloc: Global,
     z: Setting,
@@ -540,6 +576,7 @@ pub fn may_finish(
     }
 }
 
+/// The operation ended and was not collected.
 pub fn is_uncollected(alloc: Global, past: &Past, op: OpName) -> Result<bool, NoMemory>
     ensures { IfOk result (λ r. r ≡ is_uncollected (entries_of past.now) op) }
 {
@@ -547,6 +584,7 @@ pub fn is_uncollected(alloc: Global, past: &Past, op: OpName) -> Result<bool, No
     Ok(es.iter().any(|e| is_of(op, &e.begun)))
 }
 
+/// The pipe is up.
 pub fn is_up(alloc: Global, past: &Past, p: PipeId) -> Result<bool, NoMemory>
     ensures { IfOk result (λ r. IsTrue r ↔ IsUp (entries_of past.now) p) }
 {
@@ -554,6 +592,7 @@ pub fn is_up(alloc: Global, past: &Past, p: PipeId) -> Result<bool, NoMemory>
     Ok(has_pipe(&pipes, p))
 }
 
+/// It may still come when the socket is closed.
 pub fn comes_after_close(e: &Entry) -> bool
     ensures { result ≡ comes_after_close e.now }
 {

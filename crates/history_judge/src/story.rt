@@ -13,12 +13,14 @@ pub enum Past {
     After(Entry, Box<Past>),
 }
 
+/// The same bytes, in memory of their own.
 pub fn copy_bytes(alloc: Global, b: &Bytes) -> Result<Bytes, NoMemory>
     ensures { IfOk result (λ copy. copy ≡ b.now) }
 {
     Bytes::from_slice(alloc, b.as_slice())
 }
 
+/// The same message, in memory of its own.
 pub fn copy_message(alloc: Global, m: &Message) -> Result<Message, NoMemory>
     ensures { IfOk result (λ copy. copy ≡ m.now) }
 {
@@ -27,6 +29,7 @@ pub fn copy_message(alloc: Global, m: &Message) -> Result<Message, NoMemory>
     Ok(Message { header, body })
 }
 
+/// The same act, in memory of its own.
 pub fn copy_act(alloc: Global, act: &Act) -> Result<Act, NoMemory>
     ensures { IfOk result (λ copy. copy ≡ act.now) }
 {
@@ -36,6 +39,7 @@ pub fn copy_act(alloc: Global, act: &Act) -> Result<Act, NoMemory>
     }
 }
 
+/// The same outcome, in memory of its own.
 pub fn copy_outcome(alloc: Global, r: &Outcome) -> Result<Outcome, NoMemory>
     ensures { IfOk result (λ copy. copy ≡ r.now) }
 {
@@ -45,6 +49,7 @@ pub fn copy_outcome(alloc: Global, r: &Outcome) -> Result<Outcome, NoMemory>
     }
 }
 
+/// The same ending, in memory of its own.
 pub fn copy_ending(alloc: Global, ending: &Ending) -> Result<Ending, NoMemory>
     ensures { IfOk result (λ copy. copy ≡ ending.now) }
 {

@@ -1,6 +1,6 @@
 //! Whole turns and histories.
 
-ghost use Rattle.std.specs.Prelude.{◌≡◌, ◌≢◌, ◌↔◌, ◌≤◌, ◌+◌, ◌∷◌, ◌||◌, ◌&&◌, [], ℕ, List, IsTrue, IfOk, not, Option, Some, None, true, false};
+ghost use Rattle.std.specs.Prelude.{◌≡◌, ◌≢◌, ◌↔◌, ◌≤◌, ◌<◌, ◌^◌, ◌+◌, ◌∷◌, ◌||◌, ◌&&◌, [], ℕ, List, IsTrue, IfOk, not, Option, Some, None, true, false};
 ghost use Rattle.std.specs.List.{list_all};
 ghost use Rattle.sp_history.specs.declared.entry.Entry.{Entry};
 ghost use Rattle.sp_history.specs.declared.entry.Entry.TheVariants.{Full};
@@ -16,13 +16,14 @@ ghost use Rattle.history_judge.specs.Story.{entries_of};
 ghost use Rattle.history_judge.specs.Faults.{Finds, Judges, JudgesFrom, full_pipes, verdict_of};
 
 use crate::faults::{Fault, Verdict};
+use crate::frames::{has_contexts, has_topics, is_pair, is_reply, is_sub, resends};
 use crate::kept::{is_due_again, kept, targets, wanted};
 use crate::lists::{has_ctx, has_pipe, is_empty};
 use crate::past::{
     caller_of, counts, ctxs, due_at, is_closed, now, one_more, opened, pend, topics, untaken, up,
     ups,
 };
-use crate::requests::{has_contexts, has_topics, is_pair, is_reply, is_sub, requests, resends};
+use crate::requests::requests;
 use crate::rules::{
     comes_after_close, condemned, goes_on, has_topic, is_after_frame, is_pending_on, is_recv,
     is_uncollected, is_up, may_begin, may_dry, may_end, may_finish,
@@ -39,13 +40,16 @@ use turn_lock::Turn;
 // ---- One entry
 
 fn may_come_up(alloc: Global, z: Setting, past: &Past, p: PipeId) -> Result<Option<Fault>, NoMemory>
-    ensures { IfOk result (λ f. Finds f ((p ≡ ups (entries_of past.now) + 1) × (IsTrue (is_pair z.role) → up (entries_of past.now) ≡ []))) }
+    ensures { IfOk result (λ f. Finds f ((p ≡ ups (entries_of past.now) + 1) × (IsTrue (is_pair z.role) → up (entries_of past.now) ≡ []) × (p < 2 ^ 31))) }
 {
     if u64::from(p.0) != one_more(ups(past)?)? {
         return Ok(Some(Fault::WrongNumber));
     }
     if is_pair(z.role) && !up(alloc, past)?.is_empty() {
         return Ok(Some(Fault::SecondPipe));
+    }
+    if p.0 > 0x7fff_ffff {
+        return Ok(Some(Fault::NoMoreNumbers));
     }
     Ok(None)
 }

@@ -131,6 +131,8 @@ fn main(rt: HostRuntime) -> Result<()> {
             row = add_turn(rt.alloc(), row, line)?;
         }
     }
+    // The last row needs no empty line behind it.
+    tally = end_row(&rt, row, tally)?;
     println!(rt;
         "{} right, {} illegal, {} unsettled",
         tally.right, tally.illegal, tally.unsettled

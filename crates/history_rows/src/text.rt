@@ -15,6 +15,9 @@
 //!
 //! Behind a row's role may stand `raw`, `old` (a full queue of a sub keeps its old messages), and with a number each
 //! `slots3`, `queue3`, `dice7`, `ttl2`, `survey5`, `resend7`.
+//!
+//! No clause says what a text reads as: the notation is the rows' own, and this is all that there is of it. A line that
+//! was read as another entry would show in the verdict of its row.
 
 use sp_base::{Bytes, Ctx, NoMemory, OpName, PipeId, Role, Tick};
 use sp_history::entry::{

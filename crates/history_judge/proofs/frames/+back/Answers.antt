@@ -1,6 +1,6 @@
 use Rattle.std.proofs.Common.{refl}
 use Rattle.history_judge.proofs.Reading.{back_found, back_further}
-use Rattle.history_judge.proofs.requests.+back.Goals as goal
+use Rattle.history_judge.proofs.frames.+back.Goals as goal
 
 pub returns-then-b-ge128 : goal.returns-then-b-ge128
 returns-then-b-ge128 t c = rw (← back_found c.args.hops c.args.b.now c.if-hops-eq0.false c.if-b-lt4.false c.if-b-ge128.true) c.found.ensures
