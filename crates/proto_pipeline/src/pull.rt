@@ -82,6 +82,8 @@ impl Proto for Pull {
 
     ghost silent = { laws.silent };
 
+    ghost anew = { laws.anew };
+
     fn role(&self) -> Role {
         Role::Pull
     }

@@ -150,6 +150,8 @@ impl Proto for Push {
 
     ghost silent = { laws.silent };
 
+    ghost anew = { laws.anew };
+
     fn role(&self) -> Role {
         Role::Push
     }

@@ -31,7 +31,7 @@ ghost use Rattle.sp_history.specs.Past.{pending, up};
 ghost use Rattle.sp_history.specs.Kept.{wanted};
 ghost use Rattle.sp_history.specs.Legal.{Calm};
 ghost use Rattle.sp_history.specs.Moments.{Moment, Lawful, IsSilent, past, also, next};
-ghost use Rattle.sp_proto.specs.Kinds.{Kind, kind_of, text_of, entry_act};
+ghost use Rattle.sp_proto.specs.Kinds.{Kind, Starts, kind_of, text_of, entry_act};
 ghost use Rattle.sp_proto.specs.Machines.{CanGive, CanSend, Takes, Served, Offers, Checks, Frames, message_of};
 
 use sp_base::{Ctx, NoMemory, OpName, PipeId, Role, Tick};
@@ -203,4 +203,7 @@ pub trait Proto: Drop {
 
     // What the owner records without the machine changes nothing for it.
     ghost silent: { (m : Self) (t : Moment) (e : Entry) → IsSilent e → ties m t → ties m (also t e) };
+
+    // A machine that stands for an empty past stands for that of every socket of its kind.
+    ghost anew: { (m : Self) (t : Moment) → past t ≡ [] → ties m t → Starts ties m (kind m) };
 }
