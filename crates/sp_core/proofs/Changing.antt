@@ -131,7 +131,7 @@ without_removed (x ∷ xs) (suc i) h l =
 -- ---- The pipes of a history
 
 -- none is up twice, none has a number that was not given yet, and none is both up and untaken
-abbrev Numbered : List Entry → Type 0
+abbrev pub Numbered : List Entry → Type 0
 Numbered before = AreDistinct (up before) × ((p : ℕ) → ups before < p → (has (up before) p ≡ false) × (has (untaken before) p ≡ false)) × ((p : ℕ) → has (up before) p ≡ true → has (untaken before) p ≡ false)
 
 not_equal : (y p : ℕ) → y < p → (y == p) ≡ false
@@ -144,7 +144,7 @@ up_parted before q p h n u = go (has (up before) p) refl (sym (has-push (up befo
     go true e k = h.2 p e
     go false e k = let same : q ≡ p = equal_numbers q p k in (h.1 p (omega (arith, n, same))).1
 
-down_low : (before : List Entry) (q p : ℕ) → Numbered before → has (up before) q ≡ true → ups before < p → (q == p) ≡ false
+pub down_low : (before : List Entry) (q p : ℕ) → Numbered before → has (up before) q ≡ true → ups before < p → (q == p) ≡ false
 down_low before q p h u l = go (q == p) refl
   where
     go : (b : Bool) → (q == p) ≡ b → b ≡ false
@@ -155,7 +155,7 @@ down_parted : (before : List Entry) (q p : ℕ) → Numbered before → has (wit
 down_parted before q p h u =
     let k = without-left (up before) q p u in has-more (untaken before) q p (h.2 p k.0) k.1
 
-numbered_next : (z : Setting) (k : ℕ) (before : List Entry) (e : Entry) → Numbered before → Allowed z k before e → Numbered (e ∷ before)
+pub numbered_next : (z : Setting) (k : ℕ) (before : List Entry) (e : Entry) → Numbered before → Allowed z k before e → Numbered (e ∷ before)
 numbered_next z k before (Up q place name) h a =
     let q_is : q ≡ ups before + 1 = a.itself.0 in (
       distinct-more (up before) q h.0 (h.1 q (omega (arith, q_is))).0,
@@ -171,7 +171,7 @@ numbered_next z k before (Taken q) h a =
     (h.0, λ p l. ((h.1 p l).0, has-without (untaken before) q p (h.1 p l).1), λ p u. has-without (untaken before) q p (h.2 p u))
 numbered_next z k before _ h a = h
 
-numbered : (t : Moment) → Lawful t → Numbered (past t)
+pub numbered : (t : Moment) → Lawful t → Numbered (past t)
 numbered t l = by_steps t Numbered (tt, λ p l. (refl, refl), λ p u. refl) (λ k before e h a. numbered_next t.z k before e h a) l
 
 pub ups_distinct : (t : Moment) → Lawful t → AreDistinct (up (past t))
@@ -180,6 +180,15 @@ ups_distinct t l = (numbered t l).0
 -- a pipe that is up isn't one of those that are down until taken
 pub up_untaken : (t : Moment) (p : ℕ) → Lawful t → has (up (past t)) p ≡ true → has (untaken (past t)) p ≡ false
 up_untaken t p l u = (numbered t l).2 p u
+
+fallen_next : (z : Setting) (k : ℕ) (before : List Entry) (e : Entry) → Numbered before × AreDistinct (untaken before) → Allowed z k before e → Numbered (e ∷ before) × AreDistinct (untaken (e ∷ before))
+fallen_next z k before (Down q why) h a = (numbered_next z k before (Down q why) h.0 a, distinct-more (untaken before) q h.1 (h.0.2 q a.itself.0))
+fallen_next z k before (Up q place name) h a = (numbered_next z k before (Up q place name) h.0 a, h.1)
+fallen_next z k before (Taken q) h a = (numbered_next z k before (Taken q) h.0 a, distinct-without (untaken before) q h.1)
+fallen_next z k before _ h a = (h.0, h.1)
+
+pub untaken_distinct : (t : Moment) → Lawful t → AreDistinct (untaken (past t))
+untaken_distinct t l = (by_steps t (λ before. Numbered before × AreDistinct (untaken before)) ((tt, λ p l. (refl, refl), λ p u. refl), tt) (λ k before e h a. fallen_next t.z k before e h a) l).1
 
 -- ---- Entries of one pipe
 

@@ -41,6 +41,7 @@ use Rattle.sp_core.specs.declared.lines.Lines.{Lines}
 use Rattle.sp_core.specs.Wires.{ShowsWhy}
 use Rattle.sp_core.specs.Lines.{Carriers}
 use Rattle.sp_core.specs.Owning.{Owns}
+use Rattle.sp_core.specs.Tallies.{Tallies}
 use Rattle.sp_core.proofs.Lawfuls.{one_more, closed_none, pipes_closed}
 
 or_left : (a b : Bool) → a ≡ true → (a || b) ≡ true
@@ -132,6 +133,7 @@ module _ {W : Type 0} (shown : W → WireView) where
         down_is = h.down_is;
         down_wires = λ i d m. let q = h.down_wires i d m in record { agrees = q.agrees; why_is = q.why_is; shows = why_same t.z op ending (past t) _ _ _ q.shows };
         down_room = h.down_room;
+        few = h.few;
       }
 
   pub lines_begun : (l : Lines W) (t : Moment) (op : OpName) (k c : ℕ) (act : Act) (deadline : Option ℕ) → Carriers shown l t → Carriers shown l (also t (Begin op k c act deadline))
@@ -142,13 +144,14 @@ module _ {W : Type 0} (shown : W → WireView) where
         down_is = h.down_is;
         down_wires = λ i d m. let q = h.down_wires i d m in record { agrees = q.agrees; why_is = q.why_is; shows = why_begun t.z op k c act deadline (past t) _ _ _ q.shows };
         down_room = h.down_room;
+        few = h.few;
       }
 
 module _ {P W : Type 0} (ties : P → Moment → Type 0) (room : P → ℕ) (shown : W → WireView) where
   pub ended : (c d : Core P W) (t : Moment) (op : OpName) (s : Begun) (ending : Ending) → Owns ties room shown [] c t → pending (past t) op ≡ Some s → MayEndAs t.z (past t) ending s → IsOfTurn ending
-      → ties d.proto (also t (End op ending)) → Desks d.desk (also t (End op ending)) → Shelves [] d.shelf (also t (End op ending)) → d.lines ≡ c.lines → d.closed ≡ c.closed → length d.shelf.free.items + length d.shelf.done.items ≤ room d.proto
+      → ties d.proto (also t (End op ending)) → Desks d.desk (also t (End op ending)) → Shelves [] d.shelf (also t (End op ending)) → d.lines ≡ c.lines → Tallies d.tally (also t (End op ending)) → d.closed ≡ c.closed → length d.shelf.free.items + length d.shelf.done.items ≤ room d.proto
       → Owns ties room shown [] d (also t (End op ending))
-  ended c d t op s ending g p m h pr de sh li cl ro =
+  ended c d t op s ending g p m h pr de sh li ta cl ro =
       record {
         lawful = may_end t op s ending g.lawful g.calm p m;
         calm = calm_ended t.z op ending (past t) h g.calm;
@@ -156,6 +159,7 @@ module _ {P W : Type 0} (ties : P → Moment → Type 0) (room : P → ℕ) (sho
         desk = de;
         shelf = sh;
         lines = rw li (lines_ended shown c.lines t op ending g.lines);
+        tally = ta;
         closed = g.closed ∙ sym cl;
         room_is = omega (arith, ro);
       }
@@ -170,6 +174,7 @@ module _ {P W : Type 0} (ties : P → Moment → Type 0) (room : P → ℕ) (sho
         desk = g.desk;
         shelf = g.shelf;
         lines = g.lines;
+        tally = g.tally;
         closed = g.closed;
         room_is = omega (arith, g.room_is, r);
       }
@@ -204,10 +209,10 @@ back_is (Send m) (Some v) h = let same : text_of v ≡ m = cc in ap (λ (x : Mes
 module _ {P W : Type 0} (ties : P → Moment → Type 0) (room : P → ℕ) (shown : W → WireView) where
   -- a caller has ended it, and the core has recorded that
   pub gone : (c d : Core P W) (t : Moment) (op : OpName) (s : Begun) (cause : Cause) (by : ℕ) → Owns ties room shown [] c t → pending (past t) op ≡ Some s → DecidedAs (decision.Gone cause by) op t d.desk
-      → ties d.proto (also t (End op (Gone cause by))) → Shelves [] d.shelf (also t (End op (Gone cause by))) → d.lines ≡ c.lines → d.closed ≡ c.closed → length d.shelf.free.items + length d.shelf.done.items ≤ room d.proto
+      → ties d.proto (also t (End op (Gone cause by))) → Shelves [] d.shelf (also t (End op (Gone cause by))) → d.lines ≡ c.lines → Tallies d.tally (also t (End op (Gone cause by))) → d.closed ≡ c.closed → length d.shelf.free.items + length d.shelf.done.items ≤ room d.proto
       → Owns ties room shown [] d (also t (End op (Gone cause by)))
-  gone c d t op s cause by g p h pr sh li cl ro =
-      ended ties room shown c d t op s (Gone cause by) g p (callers_end t s cause by h.0 h.1 h.2) h.0 pr h.3 sh li cl ro
+  gone c d t op s cause by g p h pr sh li ta cl ro =
+      ended ties room shown c d t op s (Gone cause by) g p (callers_end t s cause by h.0 h.1 h.2) h.0 pr h.3 sh li ta cl ro
 
 -- it may end so
 pub gone_lawful : (t : Moment) (op : OpName) (s : Begun) (cause : Cause) (by : ℕ) (d : Desk) → Lawful t → Calm t.z (past t) → pending (past t) op ≡ Some s → DecidedAs (decision.Gone cause by) op t d → Lawful (also t (End op (Gone cause by)))
@@ -264,17 +269,17 @@ module _ {P W : Type 0} (ties : P → Moment → Type 0) (room : P → ℕ) (sho
   -- the words alone have changed, and go with the same moment
   pub with_desk : (drawn : List ℕ) (c : Core P W) (d : Desk) (t : Moment) → Owns ties room shown drawn c t → Desks d t → Owns ties room shown drawn (record c { desk = d }) t
   with_desk drawn c d t g h =
-      record { lawful = g.lawful; calm = g.calm; proto = g.proto; desk = h; shelf = g.shelf; lines = g.lines; closed = g.closed; room_is = g.room_is }
+      record { lawful = g.lawful; calm = g.calm; proto = g.proto; desk = h; shelf = g.shelf; lines = g.lines; tally = g.tally; closed = g.closed; room_is = g.room_is }
 
   -- so have the pipes alone
   pub with_lines : (drawn : List ℕ) (c : Core P W) (l : Lines W) (t : Moment) → Owns ties room shown drawn c t → Carriers shown l t → Owns ties room shown drawn (record c { lines = l }) t
   with_lines drawn c l t g h =
-      record { lawful = g.lawful; calm = g.calm; proto = g.proto; desk = g.desk; shelf = g.shelf; lines = h; closed = g.closed; room_is = g.room_is }
+      record { lawful = g.lawful; calm = g.calm; proto = g.proto; desk = g.desk; shelf = g.shelf; lines = h; tally = g.tally; closed = g.closed; room_is = g.room_is }
 
   -- the pipe was found full
-  pub found_full : (c d : Core P W) (t : Moment) (p : ℕ) → Owns ties room shown [] c t → has (up (past t)) p ≡ true → ties d.proto (also t (Full p)) → room c.proto ≤ room d.proto → Carriers shown d.lines (also t (Full p)) → d.desk ≡ c.desk → d.shelf ≡ c.shelf → d.closed ≡ c.closed
+  pub found_full : (c d : Core P W) (t : Moment) (p : ℕ) → Owns ties room shown [] c t → has (up (past t)) p ≡ true → ties d.proto (also t (Full p)) → room c.proto ≤ room d.proto → Carriers shown d.lines (also t (Full p)) → Tallies d.tally (also t (Full p)) → d.desk ≡ c.desk → d.shelf ≡ c.shelf → d.closed ≡ c.closed
       → Owns ties room shown [] d (also t (Full p))
-  found_full c d t p g h pr ro li de sh cl =
+  found_full c d t p g h pr ro li ta de sh cl =
       record {
         lawful = full_lawful t p g.lawful g.calm h;
         calm = record { condemned_gone = g.calm.condemned_gone; outs_claimed = and_false (floods t.z.role) _ g.calm.outs_claimed; unkept_gone = refl; all_shut = g.calm.all_shut; closed_all = g.calm.closed_all };
@@ -282,14 +287,15 @@ module _ {P W : Type 0} (ties : P → Moment → Type 0) (room : P → ℕ) (sho
         desk = rw de g.desk;
         shelf = rw sh g.shelf;
         lines = li;
+        tally = ta;
         closed = g.closed ∙ sym cl;
         room_is = omega (arith, g.room_is, ro, ap (λ x. length x.free.items) sh, ap (λ x. length x.done.items) sh);
       }
 
   -- the pipe went down
-  pub went_down : (c d : Core P W) (t : Moment) (p : ℕ) (why : Why) → Owns ties room shown [] c t → has (up (past t)) p ≡ true → why ≢ whys.Closed → ties d.proto (also t (Down p why)) → room c.proto ≤ room d.proto → Carriers shown d.lines (also t (Down p why)) → d.desk ≡ c.desk → d.shelf ≡ c.shelf → d.closed ≡ c.closed
+  pub went_down : (c d : Core P W) (t : Moment) (p : ℕ) (why : Why) → Owns ties room shown [] c t → has (up (past t)) p ≡ true → why ≢ whys.Closed → ties d.proto (also t (Down p why)) → room c.proto ≤ room d.proto → Carriers shown d.lines (also t (Down p why)) → Tallies d.tally (also t (Down p why)) → d.desk ≡ c.desk → d.shelf ≡ c.shelf → d.closed ≡ c.closed
       → Owns ties room shown [] d (also t (Down p why))
-  went_down c d t p why g h n pr ro li de sh cl =
+  went_down c d t p why g h n pr ro li ta de sh cl =
       record {
         lawful = down_lawful t p why g.lawful g.calm h;
         calm = record { condemned_gone = ap (λ xs. without xs p) g.calm.condemned_gone; outs_claimed = and_false (floods t.z.role) _ g.calm.outs_claimed; unkept_gone = refl; all_shut = g.calm.all_shut; closed_all = not_closing t.z p why (past t) n ∙ g.calm.closed_all };
@@ -297,14 +303,15 @@ module _ {P W : Type 0} (ties : P → Moment → Type 0) (room : P → ℕ) (sho
         desk = rw de g.desk;
         shelf = rw sh g.shelf;
         lines = li;
+        tally = ta;
         closed = g.closed ∙ sym cl;
         room_is = omega (arith, g.room_is, ro, ap (λ x. length x.free.items) sh, ap (λ x. length x.done.items) sh);
       }
 
   -- the message was put on the pipe, and the send has ended
-  pub sent : (c d : Core P W) (t : Moment) (op : OpName) (p : ℕ) (s : Begun) (b : List ℕ) → Owns ties room shown [] c t → CanSend t op p s b → ties d.proto (also (also t (Out p b)) (End op (Won Sent))) → Desks d.desk (also t (End op (Won Sent))) → Shelves [] d.shelf (also t (End op (Won Sent))) → Carriers shown d.lines (also t (Out p b)) → d.closed ≡ c.closed → length d.shelf.free.items + length d.shelf.done.items ≤ room d.proto
+  pub sent : (c d : Core P W) (t : Moment) (op : OpName) (p : ℕ) (s : Begun) (b : List ℕ) → Owns ties room shown [] c t → CanSend t op p s b → ties d.proto (also (also t (Out p b)) (End op (Won Sent))) → Desks d.desk (also t (End op (Won Sent))) → Shelves [] d.shelf (also t (End op (Won Sent))) → Carriers shown d.lines (also t (Out p b)) → Tallies d.tally (also (also t (Out p b)) (End op (Won Sent))) → d.closed ≡ c.closed → length d.shelf.free.items + length d.shelf.done.items ≤ room d.proto
       → Owns ties room shown [] d (also (also t (Out p b)) (End op (Won Sent)))
-  sent c d t op p s b g can pr de sh li cl ro =
+  sent c d t op p s b g can pr de sh li ta cl ro =
       record {
         lawful = sent_lawful t op p s b g.lawful g.calm can;
         calm = record { condemned_gone = g.calm.condemned_gone; outs_claimed = refl; unkept_gone = refl; all_shut = g.calm.all_shut; closed_all = g.calm.closed_all };
@@ -312,6 +319,7 @@ module _ {P W : Type 0} (ties : P → Moment → Type 0) (room : P → ℕ) (sho
         desk = de;
         shelf = sh;
         lines = lines_ended shown d.lines (also t (Out p b)) op (Won Sent) li;
+        tally = ta;
         closed = g.closed ∙ sym cl;
         room_is = omega (arith, ro);
       }

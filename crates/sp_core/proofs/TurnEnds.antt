@@ -15,7 +15,9 @@ use Rattle.sp_proto.specs.Kinds.{Kind, kind_of, setting_of}
 use Rattle.sp_core.specs.declared.owner.Core.{Core}
 use Rattle.sp_core.specs.Moving.{AreSettling, Later}
 use Rattle.sp_core.specs.Owning.{Owns}
-use Rattle.sp_core.specs.Standing.{StandsFor, Turns, IsSettled, BeganBy, RefusedFor, core_setting}
+use Rattle.sp_core.specs.declared.tally.Tally.{Tally}
+use Rattle.sp_core.specs.Tallies.{Tallies}
+use Rattle.sp_core.specs.Standing.{StandsFor, Turns, IsSettled, HasFirst, BeganBy, RefusedFor, core_setting}
 use Rattle.sp_core.specs.declared.ops.BeginError.{BeginError}
 use Rattle.sp_core.proofs.Steps.{settling-append}
 
@@ -57,8 +59,8 @@ module _ {P W : Type 0} (ties : P → Moment → Type 0) (room : P → ℕ) (sho
   pub next_lawful : (c : Core P W) (h : List (Turn Entry)) (k : ℕ) (s : StandsFor ties room shown c h) → Lawful (next s.at k)
   next_lawful c h k s = record { history = h; legal = s.legal; before = s.past_is; turn = tt; starts = refl }
 
-  pub begins_turn : (c : Core P W) (p : P) (h : List (Turn Entry)) (k : ℕ) (s : StandsFor ties room shown c h) → ties p (next s.at k) → room c.proto ≤ room p → Owns ties room shown [] (record c { proto = p }) (next s.at k)
-  begins_turn c p h k s pr ro =
+  pub begins_turn : (c : Core P W) (p : P) (q : Tally) (h : List (Turn Entry)) (k : ℕ) (s : StandsFor ties room shown c h) → ties p (next s.at k) → Tallies q (next s.at k) → room c.proto ≤ room p → Owns ties room shown [] (record c { proto = p; tally = q }) (next s.at k)
+  begins_turn c p q h k s pr ta ro =
       let g = s.owns in
       record {
         lawful = next_lawful c h k s;
@@ -67,6 +69,7 @@ module _ {P W : Type 0} (ties : P → Moment → Type 0) (room : P → ℕ) (sho
         desk = g.desk;
         shelf = g.shelf;
         lines = g.lines;
+        tally = ta;
         closed = g.closed;
         room_is = omega (arith, g.room_is, ro);
       }
@@ -120,6 +123,35 @@ module _ {P W : Type 0} (ties : P → Moment → Type 0) (room : P → ℕ) (sho
         past_is,
         refl,
       )
+
+  -- a turn that went this far
+  pub in_turn : (c d : Core P W) (h : List (Turn Entry)) (k : ℕ) (u : Moment) (s : StandsFor ties room shown c h) → (1 ≤ k) × (k ≤ c.desk.words.callers) → u.z ≡ s.at.z → u.before ≡ past s.at → u.caller ≡ k → Owns ties room shown [] d u → Turns ties room shown [] d h k u
+  in_turn c d h k u s ks z_is b e g =
+      record {
+        legal = rw z_is s.legal;
+        settled = rw z_is s.settled;
+        before = b ∙ s.past_is;
+        caller = e;
+        known = (ks.0, omega (arith, ks.1, s.owns.desk.callers_are, ap (λ (z : Setting). z.callers) z_is));
+        owns = g;
+      }
+
+  -- a turn of this entry and of what settling records
+  pub first_so : (c d : Core P W) (h : List (Turn Entry)) (k : ℕ) (e : Entry) (u : Moment) (s : StandsFor ties room shown c h) → (1 ≤ k) × (k ≤ c.desk.words.callers) → Later (also (next s.at k) e) u → Owns ties room shown [] d u → IsSettled u
+      → (v : Turn Entry) × (v.number ≡ k) × StandsFor ties room shown d (h ++ v ∷ []) × HasFirst e v
+  first_so c d h k e u s ks l g settled =
+      let m = also (next s.at k) e in
+      let v = turn_ends d h k u (in_turn c d h k u s ks (later_z m u l) (later_before m u l) (later_caller m u l) g) settled in
+      let entries : onto u.turn [] ≡ e ∷ onto l.0 [] = ap (λ (xs : List Entry). onto xs []) (later_turn m u l) ∙ stands_in l.0 e [] in
+      (turn_of u, v.0, v.1, record { late = onto l.0 []; entries = entries; late_settles = settling-order l.0 l.1 })
+
+  -- a turn of what settling records
+  pub settling_so : (c d : Core P W) (h : List (Turn Entry)) (k : ℕ) (u : Moment) (s : StandsFor ties room shown c h) → (1 ≤ k) × (k ≤ c.desk.words.callers) → Later (next s.at k) u → Owns ties room shown [] d u → IsSettled u
+      → (v : Turn Entry) × (v.number ≡ k) × StandsFor ties room shown d (h ++ v ∷ []) × AreSettling v.entries
+  settling_so c d h k u s ks l g settled =
+      let o = opened c d h k u s ks l g in
+      let v = turn_ends d h k u o.2 settled in
+      (turn_of u, v.0, v.1, settling-order u.turn o.0)
 
   -- the core has changed, and stands for the same moment
   pub again : (c d : Core P W) (drawn : List ℕ) (h : List (Turn Entry)) (k : ℕ) (t : Moment) → Turns ties room shown drawn c h k t → Owns ties room shown [] d t → Turns ties room shown [] d h k t

@@ -5,5 +5,11 @@ pub mod Desks
 pub mod Shelves
 pub mod Wires
 pub mod Lines
+pub mod Tallies
 pub mod Owning
 pub mod Standing
+pub mod Closing
+pub mod Attaching
+pub mod Collecting
+pub mod Parts
+pub mod Serving

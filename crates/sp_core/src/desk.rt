@@ -8,6 +8,7 @@ ghost use Rattle.sp_history.specs.Moments.{Moment, Lawful, past, also};
 ghost use Rattle.sp_core.specs.Desks.{Desks, DecidedAs, GoneAs};
 ghost use Rattle.sp_core.specs.Shelves.{IsWornOut};
 ghost use Rattle.sp_core.specs.Owning.{IsNext};
+ghost use Rattle.sp_core.specs.Closing.{ShutAs};
 
 use aio_word::{CoreSeat, Decided, Phase, Words};
 use sp_base::OpName;
@@ -30,7 +31,7 @@ pub struct Desk {
 }
 
 // How a caller ends an operation that its word shows so; no other phase comes here.
-fn gone(phase: Phase, by: u32) -> Option<Decision>
+pub(crate) fn gone(phase: Phase, by: u32) -> Option<Decision>
     ensures { GoneAs result phase by }
 {
     match phase {
@@ -74,6 +75,24 @@ impl Desk {
     {
         match self.words.decide(&mut self.seat, op, Phase::Won) {
             Decided::Mine => Decision::Won,
+            Decided::Other { phase, by } => match gone(phase, by) {
+                Some(decision) => decision,
+                None => unreachable!(),
+            },
+        }
+    }
+
+    /// Ends the pending operation for the close, unless a caller ended it.
+    pub fn shut(&mut self, op: OpName) -> Decision
+        requires { (t : Moment) × (s : Begun) × Lawful t × Desks self.old t × (pending (past t) op ≡ Some s) }
+        ensures words { self.new.words ≡ self.old.words }
+        ensures ended { (t : Moment) (s : Begun) → Lawful t → Desks self.old t → pending (past t) op ≡ Some s → ShutAs result op t self.new }
+    {
+        match self.words.decide(&mut self.seat, op, Phase::Shut) {
+            Decided::Mine => Decision::Gone {
+                cause: Cause::Closed,
+                by: 0,
+            },
             Decided::Other { phase, by } => match gone(phase, by) {
                 Some(decision) => decision,
                 None => unreachable!(),

@@ -7,7 +7,7 @@
 //! collected, and the slot is free again then.
 //!
 //! Who owns what: the core has the machine, the words with its own seat, the lists of operations, and the pipes with
-//! their wires. It is no one's but its owner's: a call takes `&mut self`, and no call waits. Each call is one turn of the
+//! their wires. It is no one's but its owner's: a call takes `&mut self`. No call waits for a peer; one that takes `rt` may spin, as a wire may. Each call is one turn of the
 //! caller whose number it is given. What a call did is said over the history of the socket (`sp_history`): from standing
 //! for a history the core comes to stand for it with one turn more, legal and settled.
 //!
@@ -15,15 +15,25 @@
 //! until there is none.
 #![tactic(auto)]
 
+mod apart;
+mod closing;
+mod collect;
 mod desk;
 mod label;
+mod leaving;
 mod lines;
 mod ops;
 mod owner;
+mod pipes;
+mod reading;
+mod serve;
 mod shelf;
-#[cfg(test)]
-mod tests;
+mod tally;
 
+pub use apart::WireList;
+pub use collect::Collected;
 pub use label::CoreLabel;
 pub use ops::{BeginError, Op, Outcome};
 pub use owner::Core;
+pub use pipes::{AttachError, Gone};
+pub use serve::Served;

@@ -11,7 +11,7 @@ ghost use Rattle.sp_history.specs.declared.entry.Ending.TheVariants.{Gone};
 ghost use Rattle.sp_history.specs.declared.entry.Message.{Message as Text};
 ghost use Rattle.sp_history.specs.declared.entry.Act.{Act as ActType};
 ghost use Rattle.sp_history.specs.declared.entry.Act.TheVariants as acts;
-ghost use Rattle.sp_history.specs.Moments.{Moment, past, also};
+ghost use Rattle.sp_history.specs.Moments.{Moment, past, also, next};
 ghost use Rattle.sp_history.specs.Past.{pending, is_closed};
 ghost use Rattle.sp_proto.specs.Kinds.{Kind, Starts, setting_of, entry_act, text_of, verb_of};
 ghost use Rattle.sp_proto.specs.Machines.{CanGive, CanSend};
@@ -29,6 +29,7 @@ use crate::label::CoreLabel;
 use crate::lines::{Asked, Lines};
 use crate::ops::{BeginError, Op, Outcome};
 use crate::shelf::Shelf;
+use crate::tally::Tally;
 use aio_word::{SeatList, words};
 use sp_base::{Ctx, NoMemory, OpName, PipeId, Tick};
 use sp_history::entry::{Cause, Entry};
@@ -46,6 +47,7 @@ pub struct Core<P, W> {
     pub(crate) desk: Desk,
     pub(crate) shelf: Shelf,
     pub(crate) lines: Lines<W>,
+    pub(crate) tally: Tally,
     pub(crate) closed: bool,
 }
 
@@ -78,6 +80,7 @@ impl<P: Proto, W: Wire> Core<P, W> {
                     desk,
                     shelf,
                     lines: Lines::new(alloc),
+                    tally: Tally::new(),
                     closed: false,
                 },
                 seats,
@@ -157,9 +160,18 @@ impl<P: Proto, W: Wire> Core<P, W> {
         ensures turns { (h : List (Turn Entry)) → StandsFor P.ties P.room W.shown self.old h → (t : Moment) × AreSettling t.turn × IsSettled t × (t.z ≡ core_setting P.kind self.old) × Turns P.ties P.room W.shown [] self.new h k t }
         ensures words { self.new.desk.words ≡ self.old.desk.words }
     {
-        self.proto.fresh();
+        self.begin_turn();
         self.find_ended(c);
         self.settle(rt);
+    }
+
+    // A turn begins.
+    pub(crate) fn begin_turn(&mut self)
+        ensures begins { (h : List (Turn Entry)) (k : ℕ) (s : StandsFor P.ties P.room W.shown self.old h) → Owns P.ties P.room W.shown [] self.new (next s.at k) }
+        ensures words { self.new.desk.words ≡ self.old.desk.words }
+    {
+        self.proto.fresh();
+        self.tally.turn();
     }
 
     // Records which pending operations of the context callers have ended.
@@ -198,7 +210,7 @@ impl<P: Proto, W: Wire> Core<P, W> {
     }
 
     // Records that a caller has ended the pending operation, as the desk has it already.
-    fn note_gone(&mut self, op: OpName, cause: Cause, by: u32)
+    pub(crate) fn note_gone(&mut self, op: OpName, cause: Cause, by: u32)
         requires { (d : DeskType) × (t : Moment) × (s : Begun) × Owns P.ties P.room W.shown [] (record self.old { desk = d }) t × (pending (past t) op ≡ Some s) × DecidedAs (Decision.Gone cause by) op t self.old.desk }
         ensures later { (d : DeskType) (t : Moment) (s : Begun) → Owns P.ties P.room W.shown [] (record self.old { desk = d }) t → pending (past t) op ≡ Some s → DecidedAs (Decision.Gone cause by) op t self.old.desk → Owns P.ties P.room W.shown [] self.new (also t (End op (Gone cause by))) }
         ensures left { P.left self.new.proto < P.left self.old.proto }
@@ -206,6 +218,7 @@ impl<P: Proto, W: Wire> Core<P, W> {
         ensures words { self.new.desk.words ≡ self.old.desk.words }
     {
         let back = self.proto.lost(op);
+        self.tally.gone();
         self.shelf.finish(op, Outcome::Gone { cause, by, back });
     }
 
@@ -260,13 +273,14 @@ impl<P: Proto, W: Wire> Core<P, W> {
             Ok(()) => {
                 self.desk.begin(op);
                 self.shelf.start(op, c, deadline);
+                self.tally.begun();
                 Ok(())
             }
         }
     }
 
     // Does what can be done, until nothing is left.
-    fn settle<R: Wait>(&mut self, rt: &R)
+    pub(crate) fn settle<R: Wait>(&mut self, rt: &R)
         requires { (t : Moment) × Owns P.ties P.room W.shown [] self.old t }
         ensures later { (t : Moment) → Owns P.ties P.room W.shown [] self.old t → (u : Moment) × Later t u × Owns P.ties P.room W.shown [] self.new u × IsSettled u }
         ensures words { self.new.desk.words ≡ self.old.desk.words }
@@ -291,6 +305,7 @@ impl<P: Proto, W: Wire> Core<P, W> {
             Decision::Won => {
                 if let Some(m) = self.proto.won(op, None) {
                     self.shelf.finish(op, Outcome::Received(m));
+                    self.tally.won();
                 }
             }
             Decision::Gone { cause, by } => self.note_gone(op, cause, by),
@@ -309,8 +324,14 @@ impl<P: Proto, W: Wire> Core<P, W> {
         };
         match self.lines.ask(rt, i) {
             Asked::Yes => self.send_at(rt, op, pipe, i),
-            Asked::Full => self.proto.full(pipe),
-            Asked::Gone(_) => self.proto.down(pipe),
+            Asked::Full => {
+                self.proto.full(pipe);
+                self.tally.full();
+            }
+            Asked::Gone(_) => {
+                self.proto.down(pipe);
+                self.tally.down();
+            }
         }
     }
 
@@ -326,6 +347,8 @@ impl<P: Proto, W: Wire> Core<P, W> {
                 if let Some(m) = self.proto.won(op, Some(pipe)) {
                     self.lines.put(rt, i, m);
                     self.shelf.finish(op, Outcome::Sent);
+                    self.tally.out();
+                    self.tally.won();
                 }
             }
             Decision::Gone { cause, by } => self.note_gone(op, cause, by),

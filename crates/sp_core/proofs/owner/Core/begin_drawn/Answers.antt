@@ -15,7 +15,7 @@ returns-in-Ok-clause-begun g c =
     λ t h n k.
     let act = entry_act c.args.act in
     let l = begin_lawful t c.args.op c.args.c act c.args.deadline h.lawful h.calm n k in
-    let is : Core g.row.P.Denot g.row.W.Denot = record { proto = c.begin.new.self; desk = c.begin-in-Ok.new.self; shelf = c.start.new.self; lines = c.args.self.now.lines; closed = c.args.self.now.closed } in
+    let is : Core g.row.P.Denot g.row.W.Denot = record { proto = c.begin.new.self; desk = c.begin-in-Ok.new.self; shelf = c.start.new.self; lines = c.args.self.now.lines; tally = c.begun.new.self; closed = c.args.self.now.closed } in
     let f = c.start.ensures in
     begun g.P.Proto.ties g.P.Proto.room g.W.Wire.shown c.args.self.now is t c.args.op c.args.c act c.args.deadline h l (c.in-Ok.ensures.begun t c.args.deadline l h.proto) (c.begin-in-Ok.ensures.begun t c.args.c act c.args.deadline h.lawful h.desk n) (f.started t act h.shelf l)
-    refl refl (omega (arith, h.room_is, f.lengths.0, f.lengths.1, c.begin.ensures.room))
+    refl (c.begun.ensures t c.args.op t.caller c.args.c act c.args.deadline h.tally) refl (omega (arith, h.room_is, f.lengths.0, f.lengths.1, c.begin.ensures.room))

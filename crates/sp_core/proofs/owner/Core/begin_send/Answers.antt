@@ -1,12 +1,21 @@
-use Rattle.std.proofs.Common.{refl, ◌∙◌, []}
+use Rattle.std.proofs.Common.{◌≡◌, refl, sym, ◌∙◌, [], true, false, arith, inl, inr}
+use Rattle.sp_base.specs.declared.OpName.{OpName}
+use Rattle.sp_core.specs.Owning.{IsNext}
+use Rattle.sp_core.specs.Shelves.{AllTaken}
 use Rattle.sp_history.specs.declared.entry.Entry.TheVariants.{Begin}
 use Rattle.sp_history.specs.declared.entry.Act.TheVariants as acts
-use Rattle.sp_history.specs.Moments.{also}
+use Rattle.sp_history.specs.Moments.{Moment, past, also}
 use Rattle.sp_proto.specs.Kinds.{text_of}
 use Rattle.sp_core.specs.declared.ops.BeginError.TheVariants as error
 use Rattle.sp_core.specs.Standing.{core_setting}
 use Rattle.sp_core.proofs.TurnEnds.{setting_at, refused, again, began_so, later_z, drawn_none}
 use Rattle.sp_core.proofs.owner.Core.begin_send.Goals as goal
+
+slot_left : (t : Moment) (op : OpName) → IsNext t op → AllTaken t.z (past t) → ⊥
+slot_left t op n all = elim (all op.slot n.inside) [
+  | inl f ↦ let q : true ≡ false = sym n.free ∙ f in absurd cc
+  | inr w ↦ let g = n.generation in let m = n.not_worn in absurd (omega (arith, g, m, w))
+]
 
 pub may_begin-requires : goal.may_begin-requires
 may_begin-requires g c =
@@ -63,7 +72,7 @@ returns-in-Err-begin_drawn-clause-turn g c =
     let can = c.in_default.ensures o.0 (acts.Send (text_of c.args.m)) o.4.owns refl in
     let d = c.in-Some.ensures.drawn o.0 o.4.owns in
     let b = c.in-Err-begin_drawn.ensures.begun o.0 d.0 d.1 can in
-    refused g.P.Proto.ties g.P.Proto.room g.W.Wire.shown c.begin_drawn.new.self _ h c.args.k o.0 error.NoMemory c.args.c (acts.Send (text_of c.args.m)) c.args.deadline (again g.P.Proto.ties g.P.Proto.room g.W.Wire.shown c.open_turn.new.self c.begin_drawn.new.self [] h c.args.k o.0 o.4 b) o.2 o.1 o.3 (can.open_, (can.supported, can.ctx_open, can.no_state))
+    refused g.P.Proto.ties g.P.Proto.room g.W.Wire.shown c.begin_drawn.new.self _ h c.args.k o.0 error.NoMemory c.args.c (acts.Send (text_of c.args.m)) c.args.deadline (again g.P.Proto.ties g.P.Proto.room g.W.Wire.shown c.open_turn.new.self c.begin_drawn.new.self [] h c.args.k o.0 o.4 b) o.2 o.1 o.3 (can.open_, (can.supported, can.ctx_open, can.no_state), slot_left o.0 c.in-Some.op d.1)
 
 pub returns-in-Err-begin_drawn-clause-setting : goal.returns-in-Err-begin_drawn-clause-setting
 returns-in-Err-begin_drawn-clause-setting g c =

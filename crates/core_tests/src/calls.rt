@@ -1,0 +1,227 @@
+//! The calls of a core as a test makes them: each by caller 1, and each operation that it begins is kept.
+ghost use Rattle.std.specs.Prelude.{◌≡◌, ◌<◌, ◌≤◌, ◌++◌, ◌∷◌, [], IfErr};
+ghost use Rattle.sp_proto.specs.Kinds.{Kind, Starts};
+ghost use Rattle.sp_core.specs.Wires.{IsUnused};
+ghost use Rattle.core_tests.specs.Plays.{Plays};
+
+use aio_expire::NameList;
+use aio_word::{CallSeat, Raced, Words};
+use sp_base::{Ctx, OpName, PipeId, Tick};
+use sp_core::{AttachError, BeginError, Collected, Core, Gone, Op, Outcome, Served, WireList};
+use sp_history::entry::Totals;
+use sp_msg::{Message, Wire};
+use sp_proto::Proto;
+use std::alloc::Global;
+use std::process::Abort;
+use std::sync::Wait;
+
+/// A core with one caller, the caller's seat, and the operations that were begun and not collected.
+pub struct Play<P, W> {
+    pub core: Core<P, W>,
+    pub words: Words,
+    pub seat: CallSeat,
+    pub slots: u32,
+    /// In the order of their begins.
+    pub ops: Vec<Op>,
+}
+
+// One operation more.
+fn keep(rt: &impl Abort, ops: &mut Vec<Op>, op: Op)
+    ensures { ops.new.items ≡ ops.old.items ++ op ∷ [] }
+{
+    match ops.push(op) {
+        Ok(()) => (),
+        Err(_) => panic!(rt; "no memory for an operation"),
+    }
+}
+
+// The wires, the last one first.
+fn take_all<W: Drop, R: Wait + Abort>(
+    rt: &R,
+    alloc: Global,
+    wires: WireList<W>,
+) -> Vec<(PipeId, W)> {
+    let mut wires = wires;
+    let mut all = Vec::new(alloc);
+    for _ in rt.forever() {
+        match wires.pop() {
+            None => {
+                wires.destroy_empty();
+                return all;
+            }
+            Some(pipe) => {
+                if all.push(pipe).is_err() {
+                    panic!(rt; "no memory for a pipe")
+                }
+            }
+        }
+    }
+    unreachable!()
+}
+
+impl<P: Proto, W: Wire> Play<P, W> {
+    /// A core of so many slots, to which nothing has happened.
+    pub fn new(rt: &impl Abort, alloc: Global, proto: P, slots: u32) -> Play<P, W>
+        requires slots { (0 < slots) × (slots ≤ 4096) }
+        requires starts { (k : Kind) × Starts P.ties proto k }
+        ensures { Plays P.ties P.room W.shown result.core result.words result.seat result.slots result.ops.items }
+    {
+        match Core::new(alloc, proto, slots, 1) {
+            Err(_) => panic!(rt; "no memory for a core"),
+            Ok((core, mut seats)) => {
+                let Ok(words) = core.words() else {
+                    panic!(rt; "no memory for the words")
+                };
+                let Some(seat) = seats.pop() else {
+                    panic!(rt; "no seat")
+                };
+                Play {
+                    core,
+                    words,
+                    seat,
+                    slots,
+                    ops: Vec::new(alloc),
+                }
+            }
+        }
+    }
+
+    pub fn begin_recv<R: Wait + Abort>(
+        &mut self,
+        rt: &R,
+        c: Ctx,
+        deadline: Option<Tick>,
+    ) -> Result<OpName, BeginError>
+        requires { Plays P.ties P.room W.shown self.old.core self.old.words self.old.seat self.old.slots self.old.ops.items }
+        ensures { Plays P.ties P.room W.shown self.new.core self.new.words self.new.seat self.new.slots self.new.ops.items }
+    {
+        match self.core.begin_recv(rt, 1, c, deadline) {
+            Err(e) => Err(e),
+            Ok(op) => {
+                let name = op.name();
+                keep(rt, &mut self.ops, op);
+                Ok(name)
+            }
+        }
+    }
+
+    pub fn begin_send<R: Wait + Abort>(
+        &mut self,
+        rt: &R,
+        c: Ctx,
+        m: Message,
+        deadline: Option<Tick>,
+    ) -> Result<OpName, (BeginError, Message)>
+        requires { Plays P.ties P.room W.shown self.old.core self.old.words self.old.seat self.old.slots self.old.ops.items }
+        ensures { Plays P.ties P.room W.shown self.new.core self.new.words self.new.seat self.new.slots self.new.ops.items }
+    {
+        match self.core.begin_send(rt, 1, c, m, deadline) {
+            Err(e) => Err(e),
+            Ok(op) => {
+                let name = op.name();
+                keep(rt, &mut self.ops, op);
+                Ok(name)
+            }
+        }
+    }
+
+    pub fn attach<R: Wait>(&mut self, rt: &R, w: W, place: u32) -> Result<PipeId, (AttachError, W)>
+        requires plays { Plays P.ties P.room W.shown self.old.core self.old.words self.old.seat self.old.slots self.old.ops.items }
+        requires unused { IsUnused (W.shown w) }
+        ensures plays { Plays P.ties P.room W.shown self.new.core self.new.words self.new.seat self.new.slots self.new.ops.items }
+        ensures handed_back { IfErr result (λ e. e.1 ≡ w) }
+    {
+        self.core.attach(rt, 1, w, place)
+    }
+
+    pub fn met<R: Wait>(&mut self, rt: &R, place: u32)
+        requires { Plays P.ties P.room W.shown self.old.core self.old.words self.old.seat self.old.slots self.old.ops.items }
+        ensures { Plays P.ties P.room W.shown self.new.core self.new.words self.new.seat self.new.slots self.new.ops.items }
+    {
+        self.core.met(rt, 1, place)
+    }
+
+    pub fn serve<R: Wait>(&mut self, rt: &R) -> Served
+        requires { Plays P.ties P.room W.shown self.old.core self.old.words self.old.seat self.old.slots self.old.ops.items }
+        ensures { Plays P.ties P.room W.shown self.new.core self.new.words self.new.seat self.new.slots self.new.ops.items }
+    {
+        self.core.serve(rt, 1)
+    }
+
+    pub fn take_ended<R: Wait>(&mut self, rt: &R) -> Option<Gone<W>>
+        requires { Plays P.ties P.room W.shown self.old.core self.old.words self.old.seat self.old.slots self.old.ops.items }
+        ensures { Plays P.ties P.room W.shown self.new.core self.new.words self.new.seat self.new.slots self.new.ops.items }
+    {
+        self.core.take_ended(rt, 1)
+    }
+
+    /// The operations that fall due.
+    pub fn due<R: Wait + Abort>(&mut self, rt: &R, alloc: Global, now: Tick) -> NameList
+        requires { Plays P.ties P.room W.shown self.old.core self.old.words self.old.seat self.old.slots self.old.ops.items }
+        ensures { Plays P.ties P.room W.shown self.new.core self.new.words self.new.seat self.new.slots self.new.ops.items }
+    {
+        let Ok(mut names) = NameList::with_room(alloc, self.slots) else {
+            panic!(rt; "no memory for names")
+        };
+        self.core.due(rt, 1, now, &mut names);
+        names
+    }
+
+    pub fn cancel(&mut self, op: OpName) -> Raced
+        requires { Plays P.ties P.room W.shown self.old.core self.old.words self.old.seat self.old.slots self.old.ops.items }
+        ensures { Plays P.ties P.room W.shown self.new.core self.new.words self.new.seat self.new.slots self.new.ops.items }
+    {
+        self.words.cancel(&mut self.seat, op)
+    }
+
+    pub fn expire(&mut self, op: OpName) -> Raced
+        requires { Plays P.ties P.room W.shown self.old.core self.old.words self.old.seat self.old.slots self.old.ops.items }
+        ensures { Plays P.ties P.room W.shown self.new.core self.new.words self.new.seat self.new.slots self.new.ops.items }
+    {
+        self.words.expire(&mut self.seat, op)
+    }
+
+    /// Collects the operation that was begun last of those that are kept. None where it has not ended.
+    pub fn collect<R: Wait + Abort>(&mut self, rt: &R) -> Option<Outcome>
+        requires { Plays P.ties P.room W.shown self.old.core self.old.words self.old.seat self.old.slots self.old.ops.items }
+        ensures { Plays P.ties P.room W.shown self.new.core self.new.words self.new.seat self.new.slots self.new.ops.items }
+    {
+        match self.ops.pop() {
+            None => panic!(rt; "no operation is open"),
+            Some(op) => match self.core.collect(rt, 1, &mut self.seat, op) {
+                Collected::Ended(outcome) => Some(outcome),
+                Collected::NotYet(op) => {
+                    keep(rt, &mut self.ops, op);
+                    None
+                }
+            },
+        }
+    }
+
+    pub fn close<R: Wait>(&mut self, rt: &R) -> Totals
+        requires { Plays P.ties P.room W.shown self.old.core self.old.words self.old.seat self.old.slots self.old.ops.items }
+        ensures { Plays P.ties P.room W.shown self.new.core self.new.words self.new.seat self.new.slots self.new.ops.items }
+    {
+        self.core.close(rt, 1)
+    }
+
+    /// Closes the core, whose operations are all collected, and ends it. The wires that were not taken, the last one first.
+    pub fn finish<R: Wait + Abort>(self, rt: &R, alloc: Global) -> Vec<(PipeId, W)>
+    where
+        W: Drop,
+        requires { Plays P.ties P.room W.shown self.core self.words self.seat self.slots self.ops.items }
+    {
+        let Play {
+            core,
+            words: _,
+            seat: _,
+            slots: _,
+            ops,
+        } = self;
+        assert!(rt; ops.is_empty(), "an operation was not collected");
+        ops.destroy_empty();
+        let mut core = core;
+        core.close(rt, 1);
+        take_all(rt, alloc, core.into_wires())
+    }
+}

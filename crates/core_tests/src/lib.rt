@@ -1,0 +1,7 @@
+//! Tests of cores over machines and wires in memory, with exact answers, numbers, totals and bytes.
+#![tactic(auto)]
+
+#[cfg(test)]
+mod calls;
+#[cfg(test)]
+mod tests;
