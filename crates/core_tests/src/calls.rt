@@ -5,24 +5,63 @@ ghost use Rattle.sp_core.specs.Wires.{IsUnused};
 ghost use Rattle.core_tests.specs.Plays.{Plays};
 
 use aio_expire::NameList;
-use aio_word::{CallSeat, Raced, Words};
+use aio_word::{CallSeat, Raced, SeatList, Words};
 use sp_base::{Ctx, OpName, PipeId, Tick};
 use sp_core::{AttachError, BeginError, Collected, Core, Gone, Op, Outcome, Served, WireList};
-use sp_history::entry::Totals;
+use sp_history::entry::{Miss, Totals};
 use sp_msg::{Message, Wire};
 use sp_proto::Proto;
 use std::alloc::Global;
 use std::process::Abort;
 use std::sync::Wait;
 
-/// A core with one caller, the caller's seat, and the operations that were begun and not collected.
+/// A core, the seat of its caller 1, and the operations that this caller began and did not collect.
 pub struct Play<P, W> {
     pub core: Core<P, W>,
+    /// A share of the core's words.
     pub words: Words,
     pub seat: CallSeat,
+    /// How many slots the core has.
     pub slots: u32,
     /// In the order of their begins.
     pub ops: Vec<Op>,
+}
+
+/// Another caller of a core.
+#[derive(Drop)]
+pub struct Other {
+    pub words: Words,
+    pub seat: CallSeat,
+}
+
+impl Other {
+    /// Cancels the operation.
+    pub fn cancel(&mut self, op: OpName) -> Raced
+        requires { self.old.seat.words ≡ self.old.words.id }
+        ensures { self.new.seat.words ≡ self.new.words.id }
+    {
+        self.words.cancel(&mut self.seat, op)
+    }
+}
+
+// A share of the core's words.
+fn share<P: Proto, W: Wire>(rt: &impl Abort, core: &Core<P, W>) -> Words
+    ensures { result ≡ core.now.desk.words }
+{
+    match core.words() {
+        Ok(words) => words,
+        Err(_) => panic!(rt; "no memory for the words"),
+    }
+}
+
+// The last seat of the list.
+fn last_seat(rt: &impl Abort, seats: &mut SeatList) -> CallSeat
+    ensures { seats.old ≡ seats.new ++ result ∷ [] }
+{
+    match seats.pop() {
+        Some(seat) => seat,
+        None => panic!(rt; "no seat"),
+    }
 }
 
 // One operation more.
@@ -66,26 +105,43 @@ impl<P: Proto, W: Wire> Play<P, W> {
         requires starts { (k : Kind) × Starts P.ties proto k }
         ensures { Plays P.ties P.room W.shown result.core result.words result.seat result.slots result.ops.items }
     {
-        match Core::new(alloc, proto, slots, 1) {
+        let (play, _) = Play::with_other(rt, alloc, proto, slots);
+        play
+    }
+
+    /// The same, and another caller of the core, whose number is 2.
+    pub fn with_other(rt: &impl Abort, alloc: Global, proto: P, slots: u32) -> (Play<P, W>, Other)
+        requires slots { (0 < slots) × (slots ≤ 4096) }
+        requires starts { (k : Kind) × Starts P.ties proto k }
+        ensures plays { Plays P.ties P.room W.shown result.0.core result.0.words result.0.seat result.0.slots result.0.ops.items }
+        ensures other { result.1.seat.words ≡ result.1.words.id }
+    {
+        match Core::new(alloc, proto, slots, 2) {
             Err(_) => panic!(rt; "no memory for a core"),
             Ok((core, mut seats)) => {
-                let Ok(words) = core.words() else {
-                    panic!(rt; "no memory for the words")
-                };
-                let Some(seat) = seats.pop() else {
-                    panic!(rt; "no seat")
-                };
-                Play {
+                let words = share(rt, &core);
+                let others = share(rt, &core);
+                let second = last_seat(rt, &mut seats);
+                let seat = last_seat(rt, &mut seats);
+                let play = Play {
                     core,
                     words,
                     seat,
                     slots,
                     ops: Vec::new(alloc),
-                }
+                };
+                (
+                    play,
+                    Other {
+                        words: others,
+                        seat: second,
+                    },
+                )
             }
         }
     }
 
+    /// Begins a receive, and keeps it.
     pub fn begin_recv<R: Wait + Abort>(
         &mut self,
         rt: &R,
@@ -105,6 +161,7 @@ impl<P: Proto, W: Wire> Play<P, W> {
         }
     }
 
+    /// Begins a send, and keeps it.
     pub fn begin_send<R: Wait + Abort>(
         &mut self,
         rt: &R,
@@ -125,6 +182,7 @@ impl<P: Proto, W: Wire> Play<P, W> {
         }
     }
 
+    /// Attaches the wire.
     pub fn attach<R: Wait>(&mut self, rt: &R, w: W, place: u32) -> Result<PipeId, (AttachError, W)>
         requires plays { Plays P.ties P.room W.shown self.old.core self.old.words self.old.seat self.old.slots self.old.ops.items }
         requires unused { IsUnused (W.shown w) }
@@ -134,6 +192,7 @@ impl<P: Proto, W: Wire> Play<P, W> {
         self.core.attach(rt, 1, w, place)
     }
 
+    /// Notes a link that was met.
     pub fn met<R: Wait>(&mut self, rt: &R, place: u32)
         requires { Plays P.ties P.room W.shown self.old.core self.old.words self.old.seat self.old.slots self.old.ops.items }
         ensures { Plays P.ties P.room W.shown self.new.core self.new.words self.new.seat self.new.slots self.new.ops.items }
@@ -141,6 +200,15 @@ impl<P: Proto, W: Wire> Play<P, W> {
         self.core.met(rt, 1, place)
     }
 
+    /// Notes a link that became no pipe.
+    pub fn missed<R: Wait>(&mut self, rt: &R, place: u32, miss: Miss)
+        requires { Plays P.ties P.room W.shown self.old.core self.old.words self.old.seat self.old.slots self.old.ops.items }
+        ensures { Plays P.ties P.room W.shown self.new.core self.new.words self.new.seat self.new.slots self.new.ops.items }
+    {
+        self.core.missed(rt, 1, place, miss)
+    }
+
+    /// Serves the pipes.
     pub fn serve<R: Wait>(&mut self, rt: &R) -> Served
         requires { Plays P.ties P.room W.shown self.old.core self.old.words self.old.seat self.old.slots self.old.ops.items }
         ensures { Plays P.ties P.room W.shown self.new.core self.new.words self.new.seat self.new.slots self.new.ops.items }
@@ -148,6 +216,7 @@ impl<P: Proto, W: Wire> Play<P, W> {
         self.core.serve(rt, 1)
     }
 
+    /// Takes the oldest pipe that is down.
     pub fn take_ended<R: Wait>(&mut self, rt: &R) -> Option<Gone<W>>
         requires { Plays P.ties P.room W.shown self.old.core self.old.words self.old.seat self.old.slots self.old.ops.items }
         ensures { Plays P.ties P.room W.shown self.new.core self.new.words self.new.seat self.new.slots self.new.ops.items }
@@ -167,6 +236,7 @@ impl<P: Proto, W: Wire> Play<P, W> {
         names
     }
 
+    /// Cancels the operation, by caller 1.
     pub fn cancel(&mut self, op: OpName) -> Raced
         requires { Plays P.ties P.room W.shown self.old.core self.old.words self.old.seat self.old.slots self.old.ops.items }
         ensures { Plays P.ties P.room W.shown self.new.core self.new.words self.new.seat self.new.slots self.new.ops.items }
@@ -174,6 +244,7 @@ impl<P: Proto, W: Wire> Play<P, W> {
         self.words.cancel(&mut self.seat, op)
     }
 
+    /// Ends the operation for its deadline, by caller 1.
     pub fn expire(&mut self, op: OpName) -> Raced
         requires { Plays P.ties P.room W.shown self.old.core self.old.words self.old.seat self.old.slots self.old.ops.items }
         ensures { Plays P.ties P.room W.shown self.new.core self.new.words self.new.seat self.new.slots self.new.ops.items }
@@ -198,6 +269,7 @@ impl<P: Proto, W: Wire> Play<P, W> {
         }
     }
 
+    /// Closes the core.
     pub fn close<R: Wait>(&mut self, rt: &R) -> Totals
         requires { Plays P.ties P.room W.shown self.old.core self.old.words self.old.seat self.old.slots self.old.ops.items }
         ensures { Plays P.ties P.room W.shown self.new.core self.new.words self.new.seat self.new.slots self.new.ops.items }
@@ -214,13 +286,14 @@ impl<P: Proto, W: Wire> Play<P, W> {
         let Play {
             core,
             words: _,
-            seat: _,
+            seat,
             slots: _,
             ops,
         } = self;
         assert!(rt; ops.is_empty(), "an operation was not collected");
         ops.destroy_empty();
         let mut core = core;
+        core.join(seat);
         core.close(rt, 1);
         take_all(rt, alloc, core.into_wires())
     }

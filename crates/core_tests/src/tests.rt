@@ -1,4 +1,5 @@
 //! What cores over machines and wires in memory answer.
+ghost use Rattle.std.specs.Prelude.{◌≡◌};
 ghost use Rattle.sp_proto.specs.Kinds.{Kind, Starts};
 ghost use Rattle.proto_pipeline.specs.Pulls.{Ties as PullTies};
 ghost use Rattle.proto_pipeline.specs.Pushes.{Ties as PushTies};
@@ -11,13 +12,14 @@ use proto_pipeline::{Pull, Push};
 use sp_base::{Bytes, Ctx, OpName, PipeId, Role, SpError, Tick};
 use sp_core::{AttachError, BeginError, Core, Outcome, Served};
 use sp_fakes::{MemWire, WireStep};
-use sp_history::entry::{Cause, Totals, Why};
+use sp_history::entry::{Cause, Miss, Totals, Why};
 use sp_history::setting::Options;
 use sp_msg::{Message, Wire};
 use sp_proto::Proto;
 use std::alloc::Global;
 use std::process::Abort;
 use std::sync::Wait;
+use turn_lock::Stands;
 
 // ---- What a play is made of
 
@@ -185,7 +187,7 @@ fn is_gone(rt: &impl Abort, outcome: Option<Outcome>, why: Cause, who: u32) {
     assert!(rt; gone(rt, outcome, why, who).is_none());
 }
 
-// These are all that falls due.
+// This operation alone falls due.
 fn are_due(rt: &impl Abort, names: &[OpName], op: OpName) {
     assert_eq!(rt; names.len(), 1);
     match names.first() {
@@ -382,6 +384,7 @@ fn a_wire_that_fails_goes_down_alone(rt: HostRuntime) {
     assert_eq!(rt; up(&rt, play.attach(&rt, fails, 0)), 1);
     assert_eq!(rt; up(&rt, play.attach(&rt, giving(&rt, alloc, b"x"), 1)), 2);
     goes_down_alone(&rt, &mut play, Why::Failed);
+    assert_eq!(rt; play.close(&rt), totals(1, 1, 0, 1, 0, 0));
     play.finish(&rt, alloc);
 }
 
@@ -422,6 +425,7 @@ fn a_malformed_wire_goes_down_alone(rt: HostRuntime) {
     assert_eq!(rt; up(&rt, play.attach(&rt, malformed, 0)), 1);
     assert_eq!(rt; up(&rt, play.attach(&rt, giving(&rt, alloc, b"x"), 1)), 2);
     goes_down_alone(&rt, &mut play, Why::Malformed);
+    assert_eq!(rt; play.close(&rt), totals(1, 1, 0, 1, 0, 0));
     play.finish(&rt, alloc);
 }
 
@@ -433,6 +437,7 @@ fn a_wire_that_ends_goes_down_alone(rt: HostRuntime) {
     assert_eq!(rt; up(&rt, play.attach(&rt, ends, 0)), 1);
     assert_eq!(rt; up(&rt, play.attach(&rt, giving(&rt, alloc, b"x"), 1)), 2);
     goes_down_alone(&rt, &mut play, Why::Ended);
+    assert_eq!(rt; play.close(&rt), totals(1, 1, 0, 1, 0, 0));
     play.finish(&rt, alloc);
 }
 
@@ -461,10 +466,14 @@ fn a_wire_comes_back_after_the_close(rt: HostRuntime) {
 fn pipes_are_numbered_from_one(rt: HostRuntime) {
     let alloc = rt.alloc();
     let mut play = Play::<Push, MemWire>::new(&rt, alloc, push(&rt, alloc, false), 1);
+    play.met(&rt, 6);
+    play.missed(&rt, 6, Miss::Bad);
     play.met(&rt, 7);
     assert_eq!(rt; up(&rt, play.attach(&rt, taking(&rt, alloc, 0), 7)), 1);
     assert_eq!(rt; up(&rt, play.attach(&rt, taking(&rt, alloc, 0), 8)), 2);
     assert_eq!(rt; up(&rt, play.attach(&rt, taking(&rt, alloc, 0), 9)), 3);
+    assert_eq!(rt; play.close(&rt), totals(0, 0, 0, 0, 0, 0));
+    play.missed(&rt, 10, Miss::Refused);
     let mut wires = play.finish(&rt, alloc);
     assert_eq!(rt; wires.len(), 3);
     assert_eq!(rt; last(&rt, &mut wires), 1);
@@ -529,6 +538,7 @@ fn a_receive_that_is_cancelled_after_the_frame(rt: HostRuntime) {
     };
     assert_eq!(rt; play.cancel(op), won);
     is_received(&rt, play.collect(&rt), b"x");
+    assert_eq!(rt; play.close(&rt), totals(1, 1, 0, 1, 0, 0));
     play.finish(&rt, alloc);
 }
 
@@ -542,6 +552,11 @@ fn a_deadline_is_named_once(rt: HostRuntime) {
     assert!(rt; play.due(&rt, alloc, Tick(6)).as_slice().is_empty());
     assert!(rt; play.collect(&rt).is_none());
     assert_eq!(rt; play.expire(op), Raced::Won);
+    let expired = Raced::Ended {
+        phase: Phase::Expired,
+        by: 1,
+    };
+    assert_eq!(rt; play.cancel(op), expired);
     is_gone(&rt, play.collect(&rt), Cause::TimedOut, 1);
     // A moment before the last counts as that.
     let next = begun(&rt, play.begin_recv(&rt, Ctx(0), Some(Tick(6))));
@@ -552,12 +567,20 @@ fn a_deadline_is_named_once(rt: HostRuntime) {
     play.finish(&rt, alloc);
 }
 
+// A value that could stand behind the turn lock.
+fn behind_a_lock<S: Stands>(state: S) -> S
+    ensures { result ≡ state }
+{
+    state
+}
+
 #[test]
 fn an_empty_core_hands_its_machine_back(rt: HostRuntime) {
     let alloc = rt.alloc();
     match Core::<Pull, MemWire>::new(alloc, pull(&rt, alloc, false), 1, 1) {
         Err(_) => panic!(rt; "no memory for a core"),
         Ok((core, _)) => {
+            let core = behind_a_lock(core);
             let mut play = Play::<Pull, MemWire>::new(&rt, alloc, core.into_proto(), 2);
             assert_eq!(rt; up(&rt, play.attach(&rt, giving(&rt, alloc, b"x"), 0)), 1);
             begun(&rt, play.begin_recv(&rt, Ctx(0), None));
@@ -624,5 +647,23 @@ fn a_close_takes_its_pipes_down(rt: HostRuntime) {
         }
     }
     assert!(rt; play.take_ended(&rt).is_none());
+    play.finish(&rt, alloc);
+}
+
+#[test]
+fn another_caller_cancels_before_the_frame(rt: HostRuntime) {
+    let alloc = rt.alloc();
+    let (play, other) = Play::<Pull, MemWire>::with_other(&rt, alloc, pull(&rt, alloc, false), 2);
+    let mut play = play;
+    let mut other = other;
+    assert_eq!(rt; up(&rt, play.attach(&rt, giving(&rt, alloc, b"x"), 0)), 1);
+    let first = begun(&rt, play.begin_recv(&rt, Ctx(0), None));
+    assert_eq!(rt; other.cancel(first), Raced::Won);
+    let second = begun(&rt, play.begin_recv(&rt, Ctx(0), None));
+    assert_eq!(rt; (second.slot, second.generation), (1, 1));
+    play.serve(&rt);
+    is_received(&rt, play.collect(&rt), b"x");
+    is_gone(&rt, play.collect(&rt), Cause::Cancelled, 2);
+    assert_eq!(rt; play.close(&rt), totals(2, 1, 1, 1, 0, 0));
     play.finish(&rt, alloc);
 }

@@ -6,5 +6,8 @@ use Rattle.core_tests.proofs.calls.Play.finish.Goals as goal
 pub into_wires-requires : goal.into_wires-requires
 into_wires-requires g c =
     let p = c.requires in
-    let t = c.close.ensures.turn p.history p.stands in
+    let t = c.close.ensures.turn p.history (c.join.ensures.stands p.history p.stands) in
     (p.history ++ t.0 ∷ [], t.2, totals_closed (past_of (p.history ++ t.0 ∷ [])) c.close.result t.3.answer)
+
+pub close-requires-clause-stands : goal.close-requires-clause-stands
+close-requires-clause-stands g c = let p = c.requires in (p.history, c.join.ensures.stands p.history p.stands)
