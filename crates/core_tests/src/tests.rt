@@ -667,3 +667,18 @@ fn another_caller_cancels_before_the_frame(rt: HostRuntime) {
     assert_eq!(rt; play.close(&rt), totals(2, 1, 1, 1, 0, 0));
     play.finish(&rt, alloc);
 }
+
+#[test]
+fn what_a_caller_ended_is_found_at_the_next_begin(rt: HostRuntime) {
+    let alloc = rt.alloc();
+    let mut play = Play::<Pull, MemWire>::new(&rt, alloc, pull(&rt, alloc, false), 2);
+    let first = begun(&rt, play.begin_recv(&rt, Ctx(0), Some(Tick(5))));
+    assert_eq!(rt; play.cancel(first), Raced::Won);
+    begun(&rt, play.begin_recv(&rt, Ctx(0), None));
+    // The first has ended, so that its deadline is gone.
+    assert!(rt; play.due(&rt, alloc, Tick(5)).as_slice().is_empty());
+    assert_eq!(rt; play.close(&rt), totals(2, 0, 2, 0, 0, 0));
+    is_gone(&rt, play.collect(&rt), Cause::Closed, 0);
+    is_gone(&rt, play.collect(&rt), Cause::Cancelled, 1);
+    play.finish(&rt, alloc);
+}
