@@ -43,6 +43,13 @@ impl NameList {
         &self.names
     }
 
+    /// How many names more it can hold.
+    pub fn spare(&self) -> usize
+        ensures { result ≡ self.now.spare }
+    {
+        self.room - self.names.len()
+    }
+
     /// Empties the list. Its room stays.
     pub fn clear(&mut self)
         ensures { self.new ≡ record { names = []; spare = self.old.spare + length self.old.names } }

@@ -1,6 +1,7 @@
 -- What a net in memory shows, and what its calls hand out.
 use Rattle.std.specs.Prelude.{◌≡◌, ◌≤◌, ◌<◌, ◌+◌, ◌-◌, ◌^◌, ◌⊎◌, ℕ, zero, suc, Bool, true, false, List, [], ◌∷◌, length, map, Option, Some, None, Vec, slice_get}
 use Rattle.std.specs.declared.alloc.Global.{Global}
+use Rattle.std.specs.declared.collections.VecDeque.{VecDeque}
 use Rattle.std.specs.FinMap.{empty, from_entries}
 use Rattle.sp_base.specs.Views.{LinkView, NetView}
 use Rattle.sp_base.specs.Listeners.{listens_of}
@@ -41,10 +42,10 @@ Queue = List LinkScript
 abbrev pub queue_of : List NetLink → Queue
 queue_of links = map (λ l. as_made l.link) links
 
-abbrev pub queues_of : List (Vec NetLink Global) → List Queue
+abbrev pub queues_of : List (VecDeque NetLink Global) → List Queue
 queues_of lists = map (λ links. queue_of links.items) lists
 
-abbrev pub queues_to : List (Addr × Vec NetLink Global) → List (Addr × Queue)
+abbrev pub queues_to : List (Addr × VecDeque NetLink Global) → List (Addr × Queue)
 queues_to lists = map (λ d. (d.0, queue_of d.1.items)) lists
 
 -- the same of links that no net has yet
@@ -139,12 +140,12 @@ faults_linked linked.NotYet faults = faults
 faults_linked linked.Failed faults = one_more faults
 
 -- none of the first lists is for this address
-abbrev pub IsPast : Addr → List (Addr × Vec NetLink Global) → ℕ → Type 0
-IsPast addr lists n = (k : ℕ) → k < n → (d : Addr × Vec NetLink Global) → slice_get lists k ≡ Some d → ¬ (d.0 ≡ addr)
+abbrev pub IsPast : Addr → List (Addr × VecDeque NetLink Global) → ℕ → Type 0
+IsPast addr lists n = (k : ℕ) → k < n → (d : Addr × VecDeque NetLink Global) → slice_get lists k ≡ Some d → ¬ (d.0 ≡ addr)
 
 -- and the one at this place is
-abbrev pub IsPlaceOf : Addr → List (Addr × Vec NetLink Global) → ℕ → Type 0
-IsPlaceOf addr lists at = IsPast addr lists at × (at < length lists) × ((d : Addr × Vec NetLink Global) → slice_get lists at ≡ Some d → d.0 ≡ addr)
+abbrev pub IsPlaceOf : Addr → List (Addr × VecDeque NetLink Global) → ℕ → Type 0
+IsPlaceOf addr lists at = IsPast addr lists at × (at < length lists) × ((d : Addr × VecDeque NetLink Global) → slice_get lists at ≡ Some d → d.0 ≡ addr)
 
 -- the first link of a queue is taken, if there is one
 abbrev pub IsFirst : Option NetLink → Queue → Queue → Type 0

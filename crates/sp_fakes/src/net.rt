@@ -16,13 +16,25 @@ use sp_base::{
     Addr, Link, LinkRead, LinkWrite, Linked, Listened, ListenerSchemes, Net, NoMemory, Scheme,
 };
 use std::alloc::Global;
+use std::collections::VecDeque;
 use std::mem;
 
 /// The links that were given back, the newest first.
-#[derive(Drop)]
 pub enum Returned {
     Nothing,
     More(MemLink, Box<Returned>),
+}
+
+impl Drop for Returned {
+    // One after the other: a long list would be too deep to let go by recursion.
+    fn drop(mut self) {
+        loop {
+            match self {
+                Returned::Nothing => return,
+                Returned::More(_, below) => self = Box::into_inner(below),
+            }
+        }
+    }
 }
 
 /// A link of the net, with the room for it among those that come back.
@@ -71,8 +83,8 @@ impl Link for NetLink {
 /// For each listener and each dialed address a list of the links that come.
 #[derive(Drop)]
 pub struct MemNet {
-    incoming: Vec<Vec<NetLink>>,
-    outgoing: Vec<(Addr, Vec<NetLink>)>,
+    incoming: Vec<VecDeque<NetLink>>,
+    outgoing: Vec<(Addr, VecDeque<NetLink>)>,
     listeners: ListenerSchemes,
     handed: u32,
     returned: Returned,
@@ -83,19 +95,22 @@ pub struct MemNet {
 }
 
 // The links with the room for their return.
-fn with_nodes(alloc: Global, list: Vec<MemLink>) -> Result<Vec<NetLink>, NoMemory>
+fn with_nodes(alloc: Global, list: Vec<MemLink>) -> Result<VecDeque<NetLink>, NoMemory>
     ensures { IfOk result (λ links. queue_of links.items ≡ all_as_made list.items) }
 {
-    let mut links = Vec::new(alloc);
+    let mut links = VecDeque::new(alloc);
     for link in list {
         let node = Box::new(alloc, Returned::Nothing)?;
-        links.push(NetLink { link, node })?;
+        links.push_back(NetLink { link, node })?;
     }
     Ok(links)
 }
 
 // The lists with the room for their return.
-fn all_with_nodes(alloc: Global, lists: Vec<Vec<MemLink>>) -> Result<Vec<Vec<NetLink>>, NoMemory>
+fn all_with_nodes(
+    alloc: Global,
+    lists: Vec<Vec<MemLink>>,
+) -> Result<Vec<VecDeque<NetLink>>, NoMemory>
     ensures { IfOk result (λ all. queues_of all.items ≡ lists_as_made lists.items) }
 {
     let mut all = Vec::new(alloc);
@@ -108,7 +123,7 @@ fn all_with_nodes(alloc: Global, lists: Vec<Vec<MemLink>>) -> Result<Vec<Vec<Net
 fn addresses_with_nodes(
     alloc: Global,
     lists: Vec<(Addr, Vec<MemLink>)>,
-) -> Result<Vec<(Addr, Vec<NetLink>)>, NoMemory>
+) -> Result<Vec<(Addr, VecDeque<NetLink>)>, NoMemory>
     ensures { IfOk result (λ all. queues_to all.items ≡ dials_as_made lists.items) }
 {
     let mut all = Vec::new(alloc);
@@ -303,18 +318,14 @@ impl Net for MemNet {
 }
 
 // The first link of a list.
-fn take_first(list: &mut Vec<NetLink>) -> Option<NetLink>
+fn take_first(list: &mut VecDeque<NetLink>) -> Option<NetLink>
     ensures { IsFirst result (queue_of list.old.items) (queue_of list.new.items) }
 {
-    if list.is_empty() {
-        None
-    } else {
-        Some(list.remove(0))
-    }
+    list.pop_front()
 }
 
 // The next link of a listener.
-fn first_of(incoming: &mut Vec<Vec<NetLink>>, at: usize) -> Option<NetLink>
+fn first_of(incoming: &mut Vec<VecDeque<NetLink>>, at: usize) -> Option<NetLink>
     ensures { (queue : Queue) × (after : Queue) × GoesAt at (queues_of incoming.old.items) (queues_of incoming.new.items) queue after × IsFirst result queue after }
 {
     if at >= incoming.len() {
@@ -324,7 +335,7 @@ fn first_of(incoming: &mut Vec<Vec<NetLink>>, at: usize) -> Option<NetLink>
 }
 
 // The next link of an address.
-fn first_to(outgoing: &mut Vec<(Addr, Vec<NetLink>)>, addr: &Addr) -> Option<NetLink>
+fn first_to(outgoing: &mut Vec<(Addr, VecDeque<NetLink>)>, addr: &Addr) -> Option<NetLink>
     ensures { (queue : Queue) × (after : Queue) × GoesTo addr.now (queues_to outgoing.old.items) (queues_to outgoing.new.items) queue after × IsFirst result queue after }
 {
     match place_of(outgoing, addr) {
@@ -334,7 +345,7 @@ fn first_to(outgoing: &mut Vec<(Addr, Vec<NetLink>)>, addr: &Addr) -> Option<Net
 }
 
 // The place of the first list of an address.
-fn place_of(outgoing: &[(Addr, Vec<NetLink>)], addr: &Addr) -> Option<usize>
+fn place_of(outgoing: &[(Addr, VecDeque<NetLink>)], addr: &Addr) -> Option<usize>
     ensures found { IfSome result (λ at. IsPlaceOf addr.now outgoing.now at) }
     ensures none { IfNone result (IsPast addr.now outgoing.now (length outgoing.now)) }
 {

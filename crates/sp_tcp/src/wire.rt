@@ -81,6 +81,20 @@ impl<L: Link> TcpWire<L> {
         })
     }
 
+    /// Whether it may be pulled, asked for room and flushed.
+    pub fn is_open(&self) -> bool
+        ensures { result ≡ self.now.wire.is_open }
+    {
+        self.marks.is_open
+    }
+
+    /// Whether room for one message was found and isn't used yet.
+    pub fn is_ready(&self) -> bool
+        ensures { result ≡ self.now.wire.is_ready }
+    {
+        self.marks.is_ready
+    }
+
     /// The link, as it is.
     pub fn into_link(self) -> L
         ensures link { L.seen result ≡ self.link }

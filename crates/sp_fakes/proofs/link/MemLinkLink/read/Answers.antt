@@ -94,7 +94,7 @@ returns-in-Bytes-clause-after c =
     let high : c.copy_front-n.result ≤ length c.copy_front-n.new.buf = omega (arith, size) in
     let came = more c.args.self.now.script.items c.skip.new.at c.skip.new.offset c.copy_front-n.result c.in-Bytes.b c.copy_front-n.new.buf (given c.args.self.now.script.items c.args.self.now.at c.args.self.now.offset) at_bytes same (rw c.deref.ensures.value at c.skip.ensures.given) in
     record {
-      shows = (low, high, record { place = refl; scheme = refl; came = ap Some came; written = refl; is_open = refl }, c.if-self.false);
+      shows = (low, high, record { place = refl; scheme = refl; came = ap Some came; written = refl; is_open = refl }, c.if-self.false, refl, refl);
       faults = omega arith;
       idles = omega arith;
       stalls = refl;
@@ -106,7 +106,7 @@ returns-in-Fail-clause-after c =
     let within : c.skip.new.at < length c.args.self.now.script.items = search rules in
     let came = passed c.args.self.now.script.items c.skip.new.at c.skip.new.offset steps.Fail _ (stands c.args.self.now.script.items c.skip.new.at c.index.result.now steps.Fail within c.index.ensures c.in-Fail.is) refl (rw c.deref.ensures.value at c.skip.ensures.given) in
     record {
-      shows = (record { place = refl; scheme = refl; came = ap Some came; written = refl; is_open = refl }, search rules, c.if-self.false);
+      shows = (record { place = refl; scheme = refl; came = ap Some came; written = refl; is_open = refl }, search rules, c.if-self.false, refl);
       faults = search rules;
       idles = omega arith;
       stalls = refl;
@@ -118,7 +118,7 @@ returns-in-NotYet-clause-after c =
     let within : c.skip.new.at < length c.args.self.now.script.items = search rules in
     let came = passed c.args.self.now.script.items c.skip.new.at c.skip.new.offset steps.NotYet _ (stands c.args.self.now.script.items c.skip.new.at c.index.result.now steps.NotYet within c.index.ensures c.in-NotYet.is) refl (rw c.deref.ensures.value at c.skip.ensures.given) in
     record {
-      shows = (record { place = refl; scheme = refl; came = ap Some came; written = refl; is_open = refl }, search rules, c.if-self.false);
+      shows = (record { place = refl; scheme = refl; came = ap Some came; written = refl; is_open = refl }, search rules, c.if-self.false, refl);
       faults = omega arith;
       idles = search rules;
       stalls = refl;
