@@ -1,19 +1,23 @@
-//! The real outside: TCP of std without waiting, standard output, std's files, and a pace by the clock. Each raises a
-//! count at each error and tells nothing of its content; what they do with the machine is trusted.
+//! The real outside: TCP without waiting, standard output, std's files, and a pace by the clock that rests until a
+//! socket is ready. Each raises a count at each error and tells nothing of its content; what they do with the machine
+//! is trusted. That a socket is ready ends a rest and decides nothing else.
 ghost use Rattle.std.specs.Prelude.{ℕ, List, None, ◌≡◌, ◌<◌, ◌-◌, ◌^◌, false, IfOk, IfSome};
 ghost use Rattle.sp_base.specs.Steps.{IsNew};
 ghost use Rattle.cat_run.specs.Real.{counts_view, real_net_view, unasked_net};
 
+use crate::back::Returned;
+use mio::net::{TcpListener, TcpStream};
+use mio::{Events, Interest, Poll, Registry, Token};
 use sp_base::{
     Addr, Bytes, Files, Host, Link, LinkRead, LinkWrite, Linked, Listened, ListenerSchemes, Net,
     Pace, Paced, Scheme, Sink, Sunk, Tick, Whole,
 };
 use std::alloc::Global;
 use std::io::{ErrorKind, Read, Write};
-use std::net::{IpAddr, Ipv4Addr, Shutdown, SocketAddr, TcpListener, TcpStream};
+use std::net::{IpAddr, Ipv4Addr, Shutdown, SocketAddr};
 use std::rt::Clock;
 use std::time::{Duration, Instant};
-use std::{fs, io, mem, thread};
+use std::{fs, io, thread};
 
 /// What a link shows but its content.
 #[derive(Clone, Copy, Debug, PartialEq, Eq)]
@@ -27,23 +31,41 @@ pub struct Counts {
     ended: bool,
 }
 
-/// The links that were given back, the newest first.
-#[derive(Drop)]
-pub enum Returned {
-    Nothing,
-    More(Counts, Box<Returned>),
-}
+/// How many connections that were begun are kept; the one that was asked for longest ago goes first.
+const DIALS: usize = 64;
 
-/// A connection that doesn't wait. It has the room for its place among those that come back.
+/// How many sockets that are ready one rest takes note of.
+const READY: usize = 64;
+
+/// How many milliseconds a pace rests at most while something moved not long ago.
+const REST: u64 = 1;
+
+/// How many turns in a row in which nothing moved make a pace idle.
+const QUIET_TURNS: u32 = 100;
+
+/// How many milliseconds an idle pace rests at most.
+const IDLE_REST: u64 = 10;
+
+/// How often a connection that was begun is asked for before another one is begun in its place.
+const ASKS: u32 = 50;
+
+// All sockets have one name, since nobody asks which is ready.
+const ANY: Token = Token(0);
+
+/// A connection that doesn't wait.
 pub struct TcpLink {
     stream: TcpStream,
     counts: Counts,
-    node: Box<Returned>,
 }
 
 // Nothing is there yet.
 fn waits(e: &io::Error) -> bool {
     matches!(e.kind(), ErrorKind::WouldBlock | ErrorKind::Interrupted)
+}
+
+// Nobody is there yet, or whoever came is gone again.
+fn nobody_came(e: &io::Error) -> bool {
+    waits(e) || e.kind() == ErrorKind::ConnectionAborted
 }
 
 // Nobody is there yet.
@@ -108,12 +130,23 @@ impl Link for TcpLink {
     }
 }
 
-/// TCP of std. Listeners and links don't wait; a dial waits for the peer for at most a tenth of a second.
+/// A connection that was begun and isn't made yet.
 #[derive(Drop)]
-pub struct TcpNet<R: std::net::Net<Listener = TcpListener, Stream = TcpStream> + Drop> {
+struct Dialing {
+    to: SocketAddr,
+    stream: TcpStream,
+    // How often it was asked for and wasn't made.
+    asks: u32,
+}
+
+/// TCP. Listeners, links and dials don't wait. A dial that isn't made yet is kept by its address until the next one
+/// asks for it.
+#[derive(Drop)]
+pub struct TcpNet<R: std::net::Net + Drop> {
     rt: R,
-    alloc: Global,
+    registry: Registry,
     listeners: Vec<TcpListener>,
+    dialing: Vec<Dialing>,
     schemes: ListenerSchemes,
     opened: u32,
     back: Returned,
@@ -121,18 +154,20 @@ pub struct TcpNet<R: std::net::Net<Listener = TcpListener, Stream = TcpStream> +
     idles: u64,
 }
 
-impl<R: std::net::Net<Listener = TcpListener, Stream = TcpStream> + Drop> TcpNet<R> {
-    /// A net that listens nowhere and has handed out no link.
-    pub fn new(rt: R, alloc: Global) -> TcpNet<R>
-        ensures { real_net_view result.schemes result.opened result.back result.faults result.idles ≡ unasked_net }
+impl<R: std::net::Net + Drop> TcpNet<R> {
+    /// A net that listens nowhere and has handed out no link. Its sockets end the rests of the pace whose registry
+    /// this is.
+    pub fn new(rt: R, registry: Registry, alloc: Global) -> TcpNet<R>
+        ensures { real_net_view result.schemes result.opened result.back.entries result.faults result.idles ≡ unasked_net }
     {
         TcpNet {
             rt,
-            alloc,
+            registry,
             listeners: Vec::new(alloc),
+            dialing: Vec::new(alloc),
             schemes: ListenerSchemes::new(alloc),
             opened: 0,
-            back: Returned::Nothing,
+            back: Returned::none(),
             faults: 0,
             idles: 0,
         }
@@ -157,25 +192,143 @@ fn socket_addr(addr: &Addr) -> Option<SocketAddr> {
     Some(SocketAddr::new(IpAddr::V4(ip), port))
 }
 
-// A listener that doesn't wait.
-fn bind<R: std::net::Net<Listener = TcpListener, Stream = TcpStream>>(
-    rt: &R,
-    addr: &Addr,
-) -> Option<TcpListener> {
-    let listener = TcpListener::bind(rt, socket_addr(addr)?).ok()?;
-    listener.set_nonblocking(true).ok()?;
+// A listener that ends rests.
+fn bind<R: std::net::Net>(rt: &R, registry: &Registry, addr: &Addr) -> Option<TcpListener> {
+    let mut listener = TcpListener::bind(rt, socket_addr(addr)?).ok()?;
+    let _ = registry.register(&mut listener, ANY, Interest::READABLE);
     Some(listener)
 }
 
-// A link that doesn't wait, and whose small messages aren't held back.
-fn link_of(alloc: Global, stream: TcpStream, place: u32, scheme: Scheme) -> Option<TcpLink>
+// What a listener has. It is reported again where more connections stand behind this one.
+fn take_one(
+    registry: &Registry,
+    listeners: &mut Vec<TcpListener>,
+    at: u32,
+) -> io::Result<TcpStream> {
+    match listeners.get_mut(at as usize) {
+        Some(listener) => {
+            let (mut stream, _) = listener.accept()?;
+            let _ = registry.register(&mut stream, ANY, Interest::READABLE | Interest::WRITABLE);
+            let _ = registry.reregister(listener, ANY, Interest::READABLE);
+            Ok(stream)
+        }
+        None => Err(io::Error::from(ErrorKind::NotFound)),
+    }
+}
+
+// What a dial came to.
+enum Dialed {
+    Stands(TcpStream),
+    NotYet,
+    Failed,
+}
+
+// Begins a connection that ends rests.
+fn begin<R: std::net::Net>(rt: &R, registry: &Registry, to: SocketAddr) -> io::Result<Dialing> {
+    let mut stream = TcpStream::connect(rt, to)?;
+    let _ = registry.register(&mut stream, ANY, Interest::READABLE | Interest::WRITABLE);
+    Ok(Dialing {
+        to,
+        stream,
+        asks: 0,
+    })
+}
+
+// The same, after it was asked for.
+fn asked_once_more(begun: Dialing) -> Dialing {
+    let Dialing { to, stream, asks } = begun;
+    Dialing {
+        to,
+        stream,
+        asks: asks.saturating_add(1),
+    }
+}
+
+// Takes the connection that was begun to an address.
+fn take_begun(dialing: &mut Vec<Dialing>, to: SocketAddr) -> Option<Dialing> {
+    for i in 0..dialing.len() {
+        if dialing[i].to == to {
+            return Some(dialing.remove(i));
+        }
+    }
+    None
+}
+
+// Keeps a connection for the next dial, but one that was asked for so often: packets to its peer may be dropped, and
+// a new one is sent at once. Where there is no room for it, it is given up.
+fn keep_begun(dialing: &mut Vec<Dialing>, begun: Dialing) {
+    if begun.asks >= ASKS {
+        return;
+    }
+    if dialing.len() >= DIALS {
+        let _ = dialing.remove(0);
+    }
+    let _ = dialing.push(begun);
+}
+
+// Whether a connection is made. A socket that was connected to itself counts as refused.
+fn stands(stream: &TcpStream) -> io::Result<bool> {
+    if let Some(e) = stream.take_error()? {
+        return Err(e);
+    }
+    match stream.peer_addr() {
+        Ok(peer) => {
+            if peer == stream.local_addr()? {
+                Err(io::Error::from(ErrorKind::ConnectionRefused))
+            } else {
+                Ok(true)
+            }
+        }
+        Err(e) => {
+            if e.kind() == ErrorKind::NotConnected {
+                Ok(false)
+            } else {
+                Err(e)
+            }
+        }
+    }
+}
+
+// A dial that failed.
+fn not_made(e: &io::Error) -> Dialed {
+    if is_refused(e) {
+        Dialed::NotYet
+    } else {
+        Dialed::Failed
+    }
+}
+
+// Asks for the connection to an address, which is begun where none is under way.
+fn ask<R: std::net::Net>(
+    rt: &R,
+    registry: &Registry,
+    dialing: &mut Vec<Dialing>,
+    to: SocketAddr,
+) -> Dialed {
+    let begun = match take_begun(dialing, to) {
+        Some(begun) => Ok(begun),
+        None => begin(rt, registry, to),
+    };
+    match begun {
+        Ok(begun) => match stands(&begun.stream) {
+            Ok(true) => Dialed::Stands(begun.stream),
+            Ok(false) => {
+                keep_begun(dialing, asked_once_more(begun));
+                Dialed::NotYet
+            }
+            Err(e) => not_made(&e),
+        },
+        Err(e) => not_made(&e),
+    }
+}
+
+// A link whose small messages aren't held back.
+fn link_of(stream: TcpStream, place: u32, scheme: Scheme) -> TcpLink
     requires { place < 2 ^ 32 - 2 }
-    ensures fresh { IfSome result (λ l. IsNew place (counts_view l.counts)) }
-    ensures scheme { IfSome result (λ l. l.counts.scheme ≡ scheme) }
+    ensures fresh { IsNew place (counts_view result.counts) }
+    ensures scheme { result.counts.scheme ≡ scheme }
 {
-    stream.set_nonblocking(true).ok()?;
     let _ = stream.set_nodelay(true);
-    let node = Box::new(alloc, Returned::Nothing).ok()?;
     let counts = Counts {
         place,
         scheme,
@@ -185,20 +338,16 @@ fn link_of(alloc: Global, stream: TcpStream, place: u32, scheme: Scheme) -> Opti
         is_open: true,
         ended: false,
     };
-    Some(TcpLink {
-        stream,
-        counts,
-        node,
-    })
+    TcpLink { stream, counts }
 }
 
-impl<R: std::net::Net<Listener = TcpListener, Stream = TcpStream> + Drop> Net for TcpNet<R> {
+impl<R: std::net::Net + Drop> Net for TcpNet<R> {
     type L = TcpLink;
 
-    ghost seen = { λ n. real_net_view n.schemes n.opened n.back n.faults n.idles };
+    ghost seen = { λ n. real_net_view n.schemes n.opened n.back.entries n.faults n.idles };
 
     fn listen(&mut self, addr: &Addr) -> Listened {
-        if let Some(listener) = bind(&self.rt, addr) {
+        if let Some(listener) = bind(&self.rt, &self.registry, addr) {
             if self.listeners.push(listener).is_ok() {
                 if let Ok(number) = self.schemes.add(addr.scheme()) {
                     return Listened::At(number);
@@ -212,21 +361,16 @@ impl<R: std::net::Net<Listener = TcpListener, Stream = TcpStream> + Drop> Net fo
 
     fn accept(&mut self, at: u32) -> Linked<TcpLink> {
         let scheme = self.schemes.scheme(at);
-        let got = match self.listeners.get(at as usize) {
-            Some(listener) => listener.accept(),
-            None => Err(io::Error::from(ErrorKind::NotFound)),
-        };
-        match got {
-            Ok((stream, _)) => {
+        match take_one(&self.registry, &mut self.listeners, at) {
+            Ok(stream) => {
                 if self.opened < u32::MAX - 1 {
-                    if let Some(link) = link_of(self.alloc, stream, self.opened, scheme) {
-                        self.opened += 1;
-                        return Linked::Got(link);
-                    }
+                    let link = link_of(stream, self.opened, scheme);
+                    self.opened += 1;
+                    return Linked::Got(link);
                 }
             }
             Err(e) => {
-                if waits(&e) {
+                if nobody_came(&e) {
                     self.idles = self.idles.saturating_add(1);
                     return Linked::NotYet;
                 }
@@ -237,65 +381,84 @@ impl<R: std::net::Net<Listener = TcpListener, Stream = TcpStream> + Drop> Net fo
     }
 
     fn dial(&mut self, addr: &Addr) -> Linked<TcpLink> {
-        let got = match socket_addr(addr) {
-            Some(to) => TcpStream::connect_timeout(&self.rt, &to, Duration::from_millis(100)),
-            None => Err(io::Error::from(ErrorKind::NotFound)),
+        let dialed = match socket_addr(addr) {
+            Some(to) => ask(&self.rt, &self.registry, &mut self.dialing, to),
+            None => Dialed::Failed,
         };
-        match got {
-            Ok(stream) => {
+        match dialed {
+            Dialed::Stands(stream) => {
                 if self.opened < u32::MAX - 1 {
-                    if let Some(link) = link_of(self.alloc, stream, self.opened, addr.scheme()) {
-                        self.opened += 1;
-                        return Linked::Got(link);
-                    }
+                    let link = link_of(stream, self.opened, addr.scheme());
+                    self.opened += 1;
+                    return Linked::Got(link);
                 }
             }
-            Err(e) => {
-                if is_refused(&e) {
-                    self.idles = self.idles.saturating_add(1);
-                    return Linked::NotYet;
-                }
+            Dialed::NotYet => {
+                self.idles = self.idles.saturating_add(1);
+                return Linked::NotYet;
             }
+            Dialed::Failed => (),
         }
         self.faults = self.faults.saturating_add(1);
         Linked::Failed
     }
 
     fn give_back(&mut self, link: TcpLink) {
-        let TcpLink {
-            stream: _,
-            counts,
-            mut node,
-        } = link;
-        *node = mem::replace(&mut self.back, Returned::Nothing);
-        self.back = Returned::More(counts, node);
+        let TcpLink { stream: _, counts } = link;
+        self.back = self.back.with(&counts);
     }
 }
 
-/// A pace that sleeps a millisecond where nothing moved, with 2^64 - 1 turns. Its ticks are milliseconds since it was
-/// made.
+/// A pace that rests where nothing moved, for a millisecond or until a socket of its registry is ready, with 2^64 - 1
+/// turns. After a hundred turns in a row in which nothing moved it rests for up to ten milliseconds. Its ticks are
+/// milliseconds since it was made.
 #[derive(Drop)]
 pub struct RealPace<R: Clock + Drop> {
     rt: R,
+    poll: Poll,
+    events: Events,
     start: Instant,
     left: u64,
     latest: u64,
     over: bool,
+    // How many turns in a row moved nothing.
+    quiet: u32,
 }
 
 impl<R: Clock + Drop> RealPace<R> {
-    /// A pace whose ticks count from now on. Fails where the clock does.
-    pub fn new(rt: R) -> io::Result<RealPace<R>>
+    /// A pace whose ticks count from now on. Fails where the clock or the machine's readiness does, or for want of
+    /// memory.
+    pub fn new<N: std::net::Net>(rt: R, net: &N, alloc: Global) -> io::Result<RealPace<R>>
         ensures { IfOk result (λ p. (p.left ≡ 2 ^ 64 - 1) × (p.over ≡ false)) }
     {
+        let poll = Poll::new(net)?;
+        let events = Events::with_capacity(alloc, READY)?;
         let start = Instant::now(&rt)?;
         Ok(RealPace {
             rt,
+            poll,
+            events,
             start,
             left: u64::MAX,
             latest: 0,
             over: false,
+            quiet: 0,
         })
+    }
+
+    /// Where the sockets are made known that end a rest.
+    pub fn registry(&self) -> io::Result<Registry> {
+        self.poll.registry().try_clone()
+    }
+}
+
+// So many milliseconds, or until a socket is ready.
+fn rest<R: Clock>(rt: &R, poll: &mut Poll, events: &mut Events, most: u64) {
+    if poll
+        .poll(events, Some(Duration::from_millis(most)))
+        .is_err()
+    {
+        thread::sleep(rt, Duration::from_millis(most));
     }
 }
 
@@ -308,8 +471,12 @@ impl<R: Clock + Drop> Pace for RealPace<R> {
             return Paced::Over;
         }
         self.left -= 1;
-        if !moved {
-            thread::sleep(&self.rt, Duration::from_millis(1));
+        if moved {
+            self.quiet = 0;
+        } else {
+            self.quiet = self.quiet.saturating_add(1);
+            let most = if self.quiet > QUIET_TURNS { IDLE_REST } else { REST };
+            rest(&self.rt, &mut self.poll, &mut self.events, most);
         }
         if let Ok(since) = self.start.elapsed(&self.rt) {
             let now = u64::try_from(since.as_millis()).unwrap_or(u64::MAX);
@@ -319,14 +486,15 @@ impl<R: Clock + Drop> Pace for RealPace<R> {
     }
 }
 
-/// Standard output. Each piece is written out before the call returns.
+/// Standard output. Each piece is written out before the call returns; where the output takes nothing yet, the call
+/// waits.
 #[derive(Drop)]
-pub struct RealOut<R: Print + Drop> {
+pub struct RealOut<R: Print + Clock + Drop> {
     rt: R,
     faults: u64,
 }
 
-impl<R: Print + Drop> RealOut<R> {
+impl<R: Print + Clock + Drop> RealOut<R> {
     /// Standard output, with no fault so far.
     pub fn new(rt: R) -> RealOut<R>
         ensures { result.faults ≡ 0 }
@@ -335,16 +503,35 @@ impl<R: Print + Drop> RealOut<R> {
     }
 }
 
-impl<R: Print + Drop> Sink for RealOut<R> {
+// Writes all of a piece, and says whether it went.
+fn write_out<R: Print + Clock>(rt: &R, piece: &[u8]) -> bool {
+    let mut rest = piece;
+    for turn in 0..u64::MAX {
+        if rest.is_empty() {
+            return true;
+        }
+        match rt.write_some(rest) {
+            Ok(0) => return false,
+            Ok(n) => rest = &rest[n..],
+            Err(e) => match e.kind() {
+                ErrorKind::WouldBlock => thread::sleep(rt, Duration::from_millis(REST)),
+                ErrorKind::Interrupted => (),
+                _ => return false,
+            },
+        }
+    }
+    false
+}
+
+impl<R: Print + Clock + Drop> Sink for RealOut<R> {
     ghost seen = { λ o. record { text = None; faults = o.faults } };
 
     fn put(&mut self, piece: &[u8]) -> Sunk {
-        match self.rt.write_all(piece) {
-            Ok(()) => Sunk::Done,
-            Err(_) => {
-                self.faults = self.faults.saturating_add(1);
-                Sunk::Failed
-            }
+        if write_out(&self.rt, piece) {
+            Sunk::Done
+        } else {
+            self.faults = self.faults.saturating_add(1);
+            Sunk::Failed
         }
     }
 }
