@@ -1,0 +1,37 @@
+-- What a plan says of its play.
+use Rattle.std.specs.Prelude.{◌≡◌, ℕ, List, Option, Some, None}
+use Rattle.sp_base.specs.Views.{FilesView}
+use Rattle.sp_base.specs.Steps.{Holds}
+use Rattle.sp_base.specs.declared.role.Role.{Role}
+use Rattle.cat_text.specs.declared.plan.CatPlan.{CatPlan}
+use Rattle.cat_text.specs.declared.plan.Data.{Data}
+use Rattle.cat_text.specs.declared.plan.Data.TheVariants as datas
+use Rattle.cat_text.specs.declared.plan.Format.{Format}
+
+-- a play: the role, what its sends carry, if it has data, and the plan's numbers. Times are in seconds
+pub record Play : Type 0 where
+  pub role : Role
+  pub body : Option (List ℕ)
+  pub topics : List (List ℕ)
+  pub count : Option ℕ
+  pub interval : Option ℕ
+  pub recv_timeout : Option ℕ
+  pub send_timeout : Option ℕ
+  pub format : Format
+
+-- what the sends carry: the text, or what is told to stand under the name of the file
+abbrev pub Carries : Data → FilesView → Option (List ℕ) → Type 0
+Carries datas.None files body = body ≡ None
+Carries (datas.Text text) files body = body ≡ Some text
+Carries (datas.File name) files body = (bytes : List ℕ) × (body ≡ Some bytes) × Holds files name bytes
+
+-- the play of a plan, with the files as they are
+pub record IsPlayOf (plan : CatPlan) (files : FilesView) (play : Play) : Type 0 where
+  pub role : play.role ≡ plan.role
+  pub body : Carries plan.data_ files play.body
+  pub topics : play.topics ≡ plan.topics
+  pub count : play.count ≡ plan.count
+  pub interval : play.interval ≡ plan.interval
+  pub recv_timeout : play.recv_timeout ≡ plan.recv_timeout
+  pub send_timeout : play.send_timeout ≡ plan.send_timeout
+  pub format : play.format ≡ plan.format

@@ -1,0 +1,218 @@
+-- What a run of nngcat comes to: its statuses with their causes, and its record.
+use Rattle.std.specs.Prelude.{◌≡◌, ◌⊎◌, ◌≤◌, ◌<◌, ℕ, true, false, Bool, IsTrue, ⊤, List, [], ◌∷◌, ◌++◌, Option, Some, None}
+use Rattle.std.specs.FinMap.{get}
+use Rattle.turn_lock.specs.declared.turn.Turn.{Turn}
+use Rattle.sp_spec.specs.Fronts.{IsViableUpTo}
+use Rattle.sp_spec.specs.Outside.{Rose, grown, IsFront, Told}
+use Rattle.sp_spec.specs.SpTcp.{text}
+use Rattle.sp_base.specs.Views.{LinkView, NetView, PaceView, SinkView, FilesView}
+use Rattle.sp_base.specs.Roles.{role_number}
+use Rattle.sp_base.specs.declared.role.Role.{Role}
+use Rattle.sp_base.specs.declared.addr.Addr.TheVariants as addrs
+use Rattle.sp_base.specs.declared.addr.Scheme.TheVariants as schemes
+use Rattle.sp_history.specs.declared.entry.Miss.TheVariants as misses
+use Rattle.sp_history.specs.declared.entry.Why.TheVariants as whys
+use Rattle.sp_history.specs.declared.entry.Entry.{Entry}
+use Rattle.sp_history.specs.declared.entry.Entry.TheVariants.{NoUp}
+use Rattle.sp_history.specs.declared.setting.Setting.{Setting}
+use Rattle.sp_history.specs.Options.{usual}
+use Rattle.sp_history.specs.Past.{past_of, is_closed, outs, down_for}
+use Rattle.sp_history.specs.Legal.{Legal}
+use Rattle.sp_history.specs.Settled.{Settled}
+use Rattle.cat_text.specs.declared.plan.CatPlan.{CatPlan}
+use Rattle.cat_text.specs.declared.plan.Data.{Data}
+use Rattle.cat_text.specs.declared.plan.Data.TheVariants as datas
+use Rattle.cat_text.specs.declared.plan.End.{End}
+use Rattle.cat_text.specs.declared.plan.End.TheVariants as ends
+use Rattle.cat_text.specs.declared.plan.Plan.{Plan}
+use Rattle.cat_text.specs.declared.plan.Plan.TheVariants as plans
+use Rattle.cat_play.specs.declared.ends.Status.{Status}
+use Rattle.cat_play.specs.declared.ends.Status.TheVariants as status
+use Rattle.cat_play.specs.Plans.{Play, IsPlayOf}
+use Rattle.cat_play.specs.Scripts.{counted, texts, joined, has_reached, timed_out}
+use Rattle.cat_play.specs.Playing.{Plays}
+use Rattle.cat_play.specs.Openings.{Ways}
+use Rattle.cat_play.specs.Recording.{place_of, Records}
+use Rattle.cat_play.specs.Spending.{Spends, EndsInTime}
+use Rattle.cat_play.specs.Drilling.{lines, Drills, GivesAll}
+
+-- what is outside of a run
+pub record World : Type 0 where
+  pub net : NetView
+  pub files : FilesView
+  pub pace : PaceView
+  pub sink : SinkView
+
+abbrev pub world : NetView → FilesView → PaceView → SinkView → World
+world net files pace sink = record { net = net; files = files; pace = pace; sink = sink }
+
+-- the socket of a run
+abbrev pub run_setting : Role → ℕ → Setting
+run_setting role dice = record { role = role; raw = false; options = usual role dice; slots = 16; callers = 1 }
+
+-- the most bytes of a body
+abbrev pub max_body : ℕ
+max_body = 1048576
+
+-- ---- Words
+
+-- the words have this plan, in one of the sets of words that a run reads
+abbrev pub Reads : Type 1
+Reads = List (List ℕ) → Plan → Type 0
+
+abbrev pub IsPlanned : Reads → List (List ℕ) → Type 0
+IsPlanned reads words = (plan : Plan) × reads words plan
+
+-- wrong words are named at the first place from which no list of the set goes on; want of memory is the one other answer
+-- to them
+pub record RefusesWords (reads : Reads) (s : Status) (words : List (List ℕ)) : Type 0 where
+  pub usage : (at : ℕ) → s ≡ status.Usage at → (IsPlanned reads words → ⊥) × IsViableUpTo (IsPlanned reads) words at
+  pub wrong : (IsPlanned reads words → ⊥) → ((at : ℕ) × (s ≡ status.Usage at)) ⊎ (s ≡ status.NoMemory)
+
+-- ---- Statuses
+
+-- two listens on one name within the process
+abbrev pub ListensTwice : List End → Type 0
+ListensTwice es =
+    (name : List ℕ) × (a : List End) × (b : List End) × (c : List End) × (es ≡ a ++ ends.Listen (addrs.Inproc name) ∷ b ++ ends.Listen (addrs.Inproc name) ∷ c)
+
+-- each told link of TCP whose pipe was up when the socket closed holds its whole text
+abbrev pub AreWhole : Setting → NetView → List Entry → Type 0
+AreWhole z net past =
+    (p place : ℕ) (link : LinkView) → down_for past p ≡ Some whys.Closed → place_of past p ≡ Some place → place < net.opened → get net.back place ≡ Some link → link.scheme ≡ schemes.Tcp
+    → Told link.written (λ written. written ≡ text (role_number z.role) (outs past p))
+
+-- the play came to its end: the count is reached, or a receive timed out
+abbrev pub IsFinished : Setting → Play → List Entry → Type 0
+IsFinished z play past =
+    IsTrue (has_reached play.count (counted z play past)) ⊎ IsTrue (timed_out true past)
+
+-- why a run with a record ended so
+abbrev pub EndedFor : Status → Setting → CatPlan → Play → List Entry → World → World → Type 0
+EndedFor status.Done z plan play past old new = IsFinished z play past × AreWhole z new.net past
+EndedFor (status.Usage at) z plan play past old new = ⊥
+EndedFor status.SendTimedOut z plan play past old new = IsTrue (timed_out false past)
+EndedFor status.Over z plan play past old new = new.pace.left ≡ 0
+EndedFor status.NetFault z plan play past old new =
+    (Rose old.net.faults new.net.faults ⊎ ListensTwice plan.ends) × (new.pace.left ≡ old.pace.left) × (new.net.opened ≡ old.net.opened)
+EndedFor status.OutFault z plan play past old new = Rose old.sink.faults new.sink.faults
+EndedFor status.FileFault z plan play past old new = ⊥
+EndedFor status.NoMemory z plan play past old new = ⊤
+
+-- why no socket was opened for a plan: the file can't be read, or memory is wanting
+abbrev pub UnopenedFor : Status → World → World → Type 0
+UnopenedFor status.FileFault old new = Rose old.files.faults new.files.faults
+UnopenedFor status.NoMemory old new = ⊤
+UnopenedFor _ old new = ⊥
+
+-- nothing was asked of net, pace and sink
+pub record Untried (old new : World) : Type 0 where
+  pub net : new.net ≡ old.net
+  pub pace : new.pace ≡ old.pace
+  pub sink : new.sink ≡ old.sink
+
+-- the pace has said that no turn is left exactly where the run ends so
+pub record PacedBy (s : Status) (old new : World) : Type 0 where
+  pub over : s ≡ status.Over → (new.pace.left ≡ 0) × (new.pace.is_over ≡ true)
+  pub not_over : ¬ (s ≡ status.Over) → new.pace.is_over ≡ old.pace.is_over
+
+-- the files hold what they held; where the plan names none they were not asked
+pub record FilesBy (data_ : Data) (old new : World) : Type 0 where
+  pub holds : new.files.holds ≡ old.files.holds
+  pub faults : old.files.faults ≤ new.files.faults
+  pub unasked : ((name : List ℕ) → data_ ≡ datas.File name → ⊥) → new.files ≡ old.files
+
+-- ---- The record
+
+-- all of these texts, or a front of the last in its place
+abbrev pub IsCutShort : List (List ℕ) → List ℕ → Type 0
+IsCutShort ts piece = (piece ≡ joined ts)
+    ⊎ ((before : List (List ℕ)) × (last : List ℕ) × (front : List ℕ) × (ts ≡ before ++ last ∷ []) × IsFront front last × (piece ≡ joined before ++ front))
+
+-- the sink's text grew by these; where a put failed or memory was wanting, the last may be cut short
+abbrev pub Printed : Status → List (List ℕ) → World → World → Type 0
+Printed status.OutFault ts old new = (piece : List ℕ) × IsCutShort ts piece × (new.sink.text ≡ grown old.sink.text piece)
+Printed status.NoMemory ts old new = (piece : List ℕ) × IsCutShort ts piece × (new.sink.text ≡ grown old.sink.text piece)
+Printed _ ts old new = new.sink.text ≡ grown old.sink.text (joined ts)
+
+-- a link was missed for want of memory
+abbrev pub has_dry_miss : List Entry → Bool
+has_dry_miss [] = false
+has_dry_miss (NoUp place misses.NoMemory ∷ past) = true
+has_dry_miss (_ ∷ past) = has_dry_miss past
+
+-- links of other runs stay as they are
+abbrev pub KeepsOthers : NetView → NetView → Type 0
+KeepsOthers old new = (place : ℕ) → (place < old.opened) ⊎ (new.opened ≤ place) → get new.back place ≡ get old.back place
+
+-- a run that opened its socket
+pub record Runs (ways : Ways) (s : Status) (plan : CatPlan) (play : Play) (dice : ℕ) (record_ : List (Turn Entry)) (old new : World) : Type 0 where
+  pub legal : Legal (run_setting plan.role dice) record_
+  pub settled : Settled (run_setting plan.role dice) record_
+  pub closed : IsTrue (is_closed (past_of record_))
+  pub plays : Plays (run_setting plan.role dice) play record_
+  pub printed : Printed s (texts play (past_of record_)) old new
+  pub records : Records ways (run_setting plan.role dice) max_body old.net.opened new.net.opened new.net.back record_
+  pub others : KeepsOthers old.net new.net
+  pub spends : Spends plan.ends record_ old.net new.net old.pace new.pace
+  pub ended : EndedFor s (run_setting plan.role dice) plan play (past_of record_) old new
+  pub paced : PacedBy s old new
+  -- want of memory for a link ends the run
+  pub memory : has_dry_miss (past_of record_) ≡ true → s ≡ status.NoMemory
+
+-- what became of a plan: no socket was opened, or this is its record
+abbrev pub RunsPlan : Ways → Status → CatPlan → ℕ → Option (List (Turn Entry)) → World → World → Type 0
+RunsPlan ways s plan dice None old new = UnopenedFor s old new × Untried old new
+RunsPlan ways s plan dice (Some record_) old new = (play : Play) × IsPlayOf plan old.files play × Runs ways s plan play dice record_ old new
+
+-- the run was called off with rounds or memory wanting
+abbrev pub is_called_off : Status → Bool
+is_called_off status.Over = true
+is_called_off status.NoMemory = true
+is_called_off _ = false
+
+-- the rounds after the end of a plan's play have their excuse
+abbrev pub EndsPlan : Status → CatPlan → ℕ → Option (List (Turn Entry)) → World → World → Type 0
+EndsPlan s plan dice None old new = ⊤
+EndsPlan s plan dice (Some record_) old new =
+    (play : Play) → IsPlayOf plan old.files play → EndsInTime (is_called_off s) (run_setting plan.role dice) play record_ old.net new.net
+
+-- what became of a drill: the three lines at its end, a front of them where a put failed or memory was wanting, and no
+-- other status
+abbrev pub DrillsTo : Status → ℕ → List (Turn Entry) → World → World → Type 0
+DrillsTo status.Done n record_ old new = (new.sink.text ≡ grown old.sink.text (lines n)) × GivesAll n record_
+DrillsTo status.OutFault n record_ old new = Printed status.OutFault (lines n ∷ []) old new × Rose old.sink.faults new.sink.faults
+DrillsTo status.NoMemory n record_ old new = Printed status.NoMemory (lines n ∷ []) old new
+DrillsTo _ n record_ old new = ⊥
+
+abbrev pub RunsDrill : Status → ℕ → Option (List (Turn Entry)) → World → World → Type 0
+RunsDrill s n None old new = (s ≡ status.NoMemory) × (new.sink ≡ old.sink)
+RunsDrill s n (Some record_) old new = Drills record_ × DrillsTo s n record_ old new
+
+-- what became of words with a plan
+abbrev pub RunsAs : (CatPlan → Ways) → Status → Plan → ℕ → Option (List (Turn Entry)) → World → World → Type 0
+RunsAs ways s (plans.Cat plan) dice record_ old new =
+    RunsPlan (ways plan) s plan dice record_ old new × FilesBy plan.data_ old new
+RunsAs ways s (plans.Drill count) dice record_ old new =
+    RunsDrill s count record_ old new × (new.net ≡ old.net) × (new.files ≡ old.files) × (new.pace ≡ old.pace)
+
+-- what became of words without one
+pub record RunsNothing (record_ : Option (List (Turn Entry))) (old new : World) : Type 0 where
+  pub no_record : record_ ≡ None
+  pub untried : Untried old new
+  pub files : new.files ≡ old.files
+
+-- no fault of net, files and sink was counted, no name within the process is listened on twice, and turns are left
+pub record IsSpared (plan : CatPlan) (old new : World) : Type 0 where
+  pub once : ListensTwice plan.ends → ⊥
+  pub net : Rose old.net.faults new.net.faults → ⊥
+  pub files : Rose old.files.faults new.files.faults → ⊥
+  pub sink : Rose old.sink.faults new.sink.faults → ⊥
+  pub turns : new.pace.left ≡ 0 → ⊥
+
+-- the play came to its end, or memory was wanting
+abbrev pub ComesToEnd : Status → Type 0
+ComesToEnd status.Done = ⊤
+ComesToEnd status.SendTimedOut = ⊤
+ComesToEnd status.NoMemory = ⊤
+ComesToEnd _ = ⊥

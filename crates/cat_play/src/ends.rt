@@ -1,0 +1,23 @@
+//! How a run ends.
+
+/// How a run ended.
+#[derive(Clone, Copy, Debug, PartialEq, Eq)]
+pub enum Status {
+    /// The play came to its end: the count is reached, or a receive timed out.
+    Done,
+    /// The words have no plan that can be run; `at` is the length of their longest front with which the words of some
+    /// plan begin.
+    Usage { at: u32 },
+    /// A send took longer than it may.
+    SendTimedOut,
+    /// The pace said that no turn is left before the play came to its end.
+    Over,
+    /// The net failed to listen.
+    NetFault,
+    /// The output failed; a front of the text that it was given may stand there.
+    OutFault,
+    /// A file couldn't be read.
+    FileFault,
+    /// There was no memory, at any point of the run.
+    NoMemory,
+}
