@@ -67,3 +67,23 @@ fn a_slot_has_a_deadline_again(rt: HostRuntime) -> Result<(), Fail> {
     assert_eq!(rt; out.as_slice(), [FIRST].as_slice());
     Ok(())
 }
+
+fn is_send<T: Send>() {}
+
+#[test]
+fn deadlines_and_lists_go_to_other_threads() {
+    is_send::<Deadlines>();
+    is_send::<NameList>();
+}
+
+#[test]
+fn a_list_says_how_much_more_it_holds(rt: HostRuntime) -> Result<(), Fail> {
+    let mut deadlines = Deadlines::new(rt.alloc(), 2)?;
+    let mut out = NameList::with_room(rt.alloc(), 3)?;
+    deadlines.put(FIRST, Tick(1));
+    deadlines.due(Tick(1), &mut out);
+    assert_eq!(rt; out.spare(), 2);
+    out.clear();
+    assert_eq!(rt; out.spare(), 3);
+    Ok(())
+}

@@ -12,6 +12,8 @@
 
 mod marks;
 mod message;
+#[cfg(test)]
+mod tests;
 mod wire;
 
 pub use marks::WireMarks;

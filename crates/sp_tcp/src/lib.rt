@@ -20,6 +20,8 @@ mod inlet;
 mod outlet;
 mod reader;
 mod stage;
+#[cfg(test)]
+mod tests;
 mod wire;
 
 pub use greeting::{Greeted, Greeting};
