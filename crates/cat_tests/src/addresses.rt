@@ -27,6 +27,12 @@ fn addresses_are_read(rt: HostRuntime) {
         assert_eq!(rt; endpoint_of(rt.alloc(), text), Ok((*host, *port)));
     }
     let refused: &[(&str, u32)] = &[
+        ("inproc://", 9),
+        ("inproc:/x", 8),
+        ("inproc://a b", 10),
+        ("inproc://\u{7f}", 9),
+        ("inproc", 6),
+        ("ws://127.0.0.1:80/", 0),
         ("tcp://256.0.0.1:1", 8),
         ("tcp://127.0.0.1", 15),
         ("tcp://1.2.3.4:65536", 18),
@@ -45,4 +51,26 @@ fn addresses_are_read(rt: HostRuntime) {
             Err(AddrError::Fault { at: *at })
         );
     }
+}
+
+// The name of an address within the process, or where its text goes wrong.
+fn name_is(alloc: Global, text: &str, wanted: &[u8]) -> bool {
+    match Addr::read(alloc, text) {
+        Ok(Addr::Inproc { name }) => name.as_slice() == wanted,
+        _ => false,
+    }
+}
+
+#[test]
+fn names_within_the_process_are_read(rt: HostRuntime) {
+    const LONGEST: &str =
+        "inproc://0123456789012345678901234567890123456789012345678901234567890123456789012345678901234567890123456789012345678901234567890123456789";
+    assert!(rt; name_is(rt.alloc(), "inproc://x", b"x"));
+    assert!(rt; name_is(rt.alloc(), "inproc://!~", b"!~"));
+    let name = LONGEST.as_bytes();
+    assert!(rt; name.len() > 137);
+    assert_eq!(rt;
+        endpoint_of(rt.alloc(), LONGEST),
+        Err(AddrError::Fault { at: 137 })
+    );
 }

@@ -15,5 +15,6 @@ fn listeners_are_numbered_from_0_on(rt: HostRuntime) -> Result<(), Fail> {
     assert_eq!(rt; schemes.add(Scheme::Tcp)?, 0);
     assert_eq!(rt; schemes.add(Scheme::Ws)?, 1);
     assert_eq!(rt; schemes.add(Scheme::Tcp)?, 2);
+    assert!(rt; schemes.has(2) && !schemes.has(3));
     Ok(())
 }

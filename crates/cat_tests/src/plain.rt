@@ -47,6 +47,10 @@ fn bytes_grow(rt: HostRuntime) -> Result<(), Fail> {
     let mut bytes = Bytes::from_slice(rt.alloc(), b"x")?;
     bytes.append(b"yz")?;
     assert_eq!(rt; bytes.as_slice(), b"xyz".as_slice());
+    let mut items = bytes.into_vec();
+    items.push(b'!')?;
+    let bytes = Bytes::from_vec(items);
+    assert_eq!(rt; bytes.as_slice(), b"xyz!".as_slice());
     Ok(())
 }
 
