@@ -4,8 +4,10 @@ ghost use Rattle.std.specs.Prelude.{◌≡◌, IfOk, [], take, drop};
 ghost use Rattle.sp_history.specs.Backtrace.{back, behind, is_short};
 ghost use Rattle.sp_history.specs.Frames.{malformed, plain_item, traced_item, item_of};
 ghost use Rattle.sp_history.specs.Setting.{is_req, is_sub, is_pair, is_reply, is_asker, floods, has_contexts, has_topics, has_requests, resends, has_stored};
+ghost use Rattle.history_judge.specs.Story.{entries_of};
 
 use crate::lists::word;
+use crate::story::Past;
 use sp_base::{Bytes, NoMemory, PipeId, Role};
 use sp_history::entry::Message;
 use sp_history::parts::{Back, Item};
@@ -140,10 +142,19 @@ fn is_short(found: &Back) -> bool
     matches!(found, Back::Short)
 }
 
-/// The frame is no message of the protocol.
-pub fn malformed(alloc: Global, z: Setting, b: &[u8]) -> Result<bool, NoMemory>
-    ensures { IfOk result (λ r. r ≡ malformed z b.now) }
+/// A frame of the pipe that comes after this past is no message of the protocol.
+pub fn malformed(
+    alloc: Global,
+    z: Setting,
+    past: &Past,
+    p: PipeId,
+    b: &[u8],
+) -> Result<bool, NoMemory>
+    ensures { IfOk result (λ r. r ≡ malformed z (entries_of past.now) p b.now) }
 {
+    // No rule reads them so far.
+    let _ = past;
+    let _ = p;
     match z.role {
         Role::Pub => Ok(true),
         Role::Req | Role::Surveyor => Ok(b.len() < 4),
@@ -151,7 +162,7 @@ pub fn malformed(alloc: Global, z: Setting, b: &[u8]) -> Result<bool, NoMemory>
             let found = back(alloc, z.options.ttl, b)?;
             Ok(is_short(&found))
         }
-        _ => Ok(false),
+        Role::Pair0 | Role::Sub | Role::Push | Role::Pull | Role::Bus => Ok(false),
     }
 }
 

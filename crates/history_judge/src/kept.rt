@@ -41,10 +41,17 @@ fn is_wanted_by(ts: &LinkedList<Bytes>, b: &[u8]) -> bool
     ts.iter().any(|t| matches(b, t.as_slice()))
 }
 
-fn takes(alloc: Global, z: Setting, past: &Past, c: Ctx, b: &[u8]) -> Result<bool, NoMemory>
-    ensures { IfOk result (λ r. r ≡ takes z (entries_of past.now) c b.now) }
+fn takes(
+    alloc: Global,
+    z: Setting,
+    past: &Past,
+    c: Ctx,
+    p: PipeId,
+    b: &[u8],
+) -> Result<bool, NoMemory>
+    ensures { IfOk result (λ r. r ≡ takes z (entries_of past.now) c p b.now) }
 {
-    if malformed(alloc, z, b)? {
+    if malformed(alloc, z, past, p, b)? {
         return Ok(false);
     }
     if has_topics(z) {
@@ -105,7 +112,8 @@ fn add_for(
     match z.role {
         Role::Sub => add_discarding(z.options.prefer_new, z.options.queue, i, items),
         Role::Bus => add_discarding(false, z.options.queue, i, items),
-        _ => add_item(i, items),
+        Role::Pair0 | Role::Pub | Role::Req | Role::Rep | Role::Push => add_item(i, items),
+        Role::Pull | Role::Surveyor | Role::Respondent => add_item(i, items),
     }
 }
 
@@ -120,7 +128,7 @@ fn after_frame(
 ) -> Result<LinkedList<Item>, NoMemory>
     ensures { IfOk result (λ r. r ≡ after_frame z (entries_of past.now) c p b.now items) }
 {
-    if takes(alloc, z, past, c, b)? {
+    if takes(alloc, z, past, c, p, b)? {
         let i = item_of(alloc, z, p, b)?;
         add_for(z, i, items)
     } else {
@@ -351,7 +359,7 @@ fn wanted_for(role: Role, raw: bool, p: PipeId, items: &LinkedList<Item>) -> boo
         Role::Pair0 => is_empty(items),
         Role::Pull | Role::Rep | Role::Respondent => has_none_of(p, items),
         Role::Req | Role::Surveyor => !raw || has_none_of(p, items),
-        _ => true,
+        Role::Pub | Role::Sub | Role::Push | Role::Bus => true,
     }
 }
 
@@ -467,7 +475,8 @@ fn may_go(z: Setting, origin: &Option<Origin>, header: &[u8], p: PipeId) -> bool
             }
         }
         Role::Bus => !z.raw || !is_number(first_word(header), p.0),
-        _ => true,
+        Role::Pair0 | Role::Pub | Role::Sub | Role::Req => true,
+        Role::Push | Role::Pull | Role::Surveyor => true,
     }
 }
 
@@ -560,7 +569,9 @@ fn bytes_for(
                 traced(alloc, origin, &m.body)
             }
         }
-        _ => Ok(Some(copy_bytes(alloc, &m.body)?)),
+        Role::Pair0 | Role::Pub | Role::Sub | Role::Push | Role::Pull | Role::Bus => {
+            Ok(Some(copy_bytes(alloc, &m.body)?))
+        }
     }
 }
 

@@ -3,9 +3,11 @@
 ghost use Rattle.std.specs.Prelude.{◌≡◌, ◌+◌, ◌%◌, ◌^◌, IfOk};
 ghost use Rattle.std.specs.List.{list_any};
 ghost use Rattle.sp_history.specs.Requests.{next_number, has_id, free_from, next_id, is_on, wire_of, is_for, has_room, with_out, with_frame, with_taken, is_over};
+ghost use Rattle.history_judge.specs.Story.{entries_of};
 
-use crate::frames::{after_word, is_req, plain_item};
+use crate::frames::{after_word, is_req, malformed, plain_item};
 use crate::lists::{first_word, is_empty, is_number, same_bytes, word};
+use crate::story::Past;
 use sp_base::{Bytes, Ctx, NoMemory, PipeId, Tick};
 use sp_history::parts::{LastOut, Request, Requests};
 use sp_history::setting::Setting;
@@ -115,18 +117,19 @@ pub fn with_out(
     Ok(r)
 }
 
-/// A reply goes to the request whose id it has, without the id.
+/// A reply that is not malformed goes to the request whose id it has, without the id.
 pub fn with_frame(
     alloc: Global,
     z: Setting,
+    past: &Past,
     p: PipeId,
     b: &[u8],
     r: Request,
 ) -> Result<Request, NoMemory>
-    ensures { IfOk result (λ s. s ≡ with_frame z p b.now r) }
+    ensures { IfOk result (λ s. s ≡ with_frame z (entries_of past.now) p b.now r) }
 {
     let mut r = r;
-    if is_for(b, &r) && has_room(z, &r) {
+    if !malformed(alloc, z, past, p, b)? && is_for(b, &r) && has_room(z, &r) {
         r.replies.push_back(plain_item(alloc, p, after_word(b))?)?;
     }
     Ok(r)

@@ -45,18 +45,19 @@ fn all_with_out(
 fn all_with_frame(
     alloc: Global,
     z: Setting,
+    past: &Past,
     p: PipeId,
     b: &[u8],
     live: LinkedList<Request>,
 ) -> Result<LinkedList<Request>, NoMemory>
-    ensures { IfOk result (λ found. found ≡ map (with_frame z p b.now) live) }
+    ensures { IfOk result (λ found. found ≡ map (with_frame z (entries_of past.now) p b.now) live) }
 {
     let mut live = live;
     match live.pop_front() {
         None => Ok(live),
         Some(r) => {
-            let mut rest = all_with_frame(alloc, z, p, b, live)?;
-            let r = with_frame(alloc, z, p, b, r)?;
+            let mut rest = all_with_frame(alloc, z, past, p, b, live)?;
+            let r = with_frame(alloc, z, past, p, b, r)?;
             rest.push_front(r)?;
             Ok(rest)
         }
@@ -400,13 +401,14 @@ fn after_out(
 fn after_frame(
     alloc: Global,
     z: Setting,
+    past: &Past,
     p: PipeId,
     b: &[u8],
     rs: Requests,
 ) -> Result<Requests, NoMemory>
-    ensures { IfOk result (λ found. found ≡ change_live (with_frame z p b.now) rs) }
+    ensures { IfOk result (λ found. found ≡ change_live (with_frame z (entries_of past.now) p b.now) rs) }
 {
-    let live = all_with_frame(alloc, z, p, b, rs.live)?;
+    let live = all_with_frame(alloc, z, past, p, b, rs.live)?;
     Ok(Requests {
         live,
         orphans: rs.orphans,
@@ -447,7 +449,7 @@ fn asked(alloc: Global, z: Setting, past: &Past) -> Result<Requests, NoMemory>
         },
         Past::After(Entry::Frame(p, b), before) => {
             let rs = asked(alloc, z, before)?;
-            after_frame(alloc, z, *p, b.as_slice(), rs)
+            after_frame(alloc, z, before, *p, b.as_slice(), rs)
         }
         Past::After(Entry::Ctx(c, Gate::Shut), before) => {
             let rs = asked(alloc, z, before)?;

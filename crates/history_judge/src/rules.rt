@@ -112,7 +112,7 @@ fn recv_state(alloc: Global, z: Setting, past: &Past, c: Ctx) -> Result<bool, No
             let ss = pend(alloc, past)?;
             Ok(any_recv_on(c, &ss))
         }
-        _ => Ok(false),
+        Role::Pair0 | Role::Pub | Role::Sub | Role::Push | Role::Pull | Role::Bus => Ok(false),
     }
 }
 
@@ -121,7 +121,8 @@ fn send_state(alloc: Global, z: Setting, past: &Past, c: Ctx, m: &Message) -> Re
 {
     match z.role {
         Role::Rep | Role::Respondent => Ok(stored(alloc, z, past, c)?.is_none()),
-        _ => Ok(false),
+        Role::Req | Role::Surveyor => Ok(false),
+        Role::Pair0 | Role::Pub | Role::Sub | Role::Push | Role::Pull | Role::Bus => Ok(false),
     }
 }
 
@@ -148,7 +149,7 @@ pub fn condemned(alloc: Global, z: Setting, past: &Past) -> Result<LinkedList<Pi
         Past::Start => Ok(LinkedList::new(alloc)),
         Past::After(Entry::Frame(p, b), before) => {
             let mut pipes = condemned(alloc, z, before)?;
-            if malformed(alloc, z, b.as_slice())? {
+            if malformed(alloc, z, before, *p, b.as_slice())? {
                 pipes.push_back(*p)?;
             }
             Ok(pipes)
@@ -287,11 +288,11 @@ pub fn is_after_frame(alloc: Global, z: Setting, past: &Past, p: PipeId) -> Resu
     ensures { IfOk result (λ r. r ≡ is_after_frame z (entries_of past.now) p) }
 {
     match past {
-        Past::After(Entry::Frame(q, b), _) => {
+        Past::After(Entry::Frame(q, b), before) => {
             if q.0 != p.0 {
                 return Ok(false);
             }
-            Ok(!malformed(alloc, z, b.as_slice())?)
+            Ok(!malformed(alloc, z, before, *q, b.as_slice())?)
         }
         _ => Ok(false),
     }

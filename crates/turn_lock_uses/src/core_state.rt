@@ -14,8 +14,9 @@ use turn_lock::{Stands, TurnLock, TurnPass};
 
 /// What one call does, with one owner.
 pub trait Machine {
-    ghost use Rattle.std.specs.Prelude.{◌≡◌, ◌++◌, ◌∷◌, [], ℕ, List, Option};
+    ghost use Rattle.std.specs.Prelude.{◌≡◌, ℕ, List, Option};
     ghost use Rattle.turn_lock.specs.declared.turn.Turn.{Turn};
+    ghost use Rattle.turn_lock.specs.Turning.{TakesTurn};
 
     /// What a turn of the machine is a list of.
     type Entry;
@@ -31,7 +32,7 @@ pub trait Machine {
 
     /// One turn of the caller's. It may be one with no entries.
     fn act(&mut self, caller: u32, value: u64) -> Option<u64>
-        ensures turn { (past : List (Turn Self.Entry)) → stands self.old past → (t : Turn Self.Entry) × (t.number ≡ caller) × stands self.new (past ++ t ∷ []) × replies (room self.old) value result past t }
+        ensures turn { TakesTurn stands self.old self.new caller (replies (room self.old) value result) }
         ensures room { room self.new ≡ room self.old };
 }
 
