@@ -3,7 +3,12 @@ pub mod Opened
 pub mod Tries
 pub mod Dues
 pub mod Ended
+pub mod DueFirst
 pub mod Acting
+pub mod StaysOpen
+pub mod NoneTaken
+pub mod Keeping
+pub mod Held
 pub mod Listing
 pub mod Closed
 pub mod Collects

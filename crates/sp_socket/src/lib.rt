@@ -17,6 +17,7 @@ mod begin;
 mod calls;
 mod config;
 mod end;
+mod ending;
 mod expiring;
 mod hands;
 mod list;

@@ -1,0 +1,115 @@
+-- Which calls collect nothing.
+use Rattle.std.proofs.Common.{◌≡◌, refl, ap, sym, ◌∙◌, subst, List, [], ◌∷◌, ◌++◌, ℕ, Bool, true, false, cond, arith, inl, inr}
+use Rattle.std.specs.Prelude.{◌≢◌, ◌⊎◌, max, Option, Some, None, Result, Ok, Err}
+use Rattle.turn_lock.specs.declared.turn.Turn.{Turn}
+use Rattle.sp_base.specs.declared.OpName.{OpName}
+use Rattle.sp_msg.specs.Views.{WireView}
+use Rattle.sp_history.specs.declared.entry.Act.{Act}
+use Rattle.sp_history.specs.declared.entry.Entry.{Entry}
+use Rattle.sp_history.specs.declared.entry.Entry.TheVariants.{Took, Tick, Down, Stall, Clear, Close, Begin}
+use Rattle.sp_history.specs.declared.entry.Totals.{Totals}
+use Rattle.sp_history.specs.declared.entry.Why.TheVariants as whys
+use Rattle.sp_history.specs.declared.parts.Begun.{Begun}
+use Rattle.sp_history.specs.declared.setting.Setting.{Setting}
+use Rattle.sp_history.specs.Lists.{same_op}
+use Rattle.sp_history.specs.Past.{past_of, is_closed, up, pend, now, due_at}
+use Rattle.sp_history.proofs.OnceHolds.{same_op-eq}
+use Rattle.sp_core.specs.declared.ops.BeginError.{BeginError}
+use Rattle.sp_core.specs.declared.collect.Collected.{Collected}
+use Rattle.sp_core.specs.declared.collect.Collected.TheVariants as collected
+use Rattle.sp_core.specs.declared.pipes.AttachError.{AttachError}
+use Rattle.sp_core.specs.declared.pipes.Gone.{Gone}
+use Rattle.sp_core.specs.Moving.{AreSettling}
+use Rattle.sp_core.specs.Standing.{BeganBy, HasFirst}
+use Rattle.sp_core.specs.Attaching.{AttachedBy, TookWire}
+use Rattle.sp_core.specs.Serving.{AreServing}
+use Rattle.sp_core.specs.Closing.{ClosedBy, AreEndsOf, AreFallsOf, FallsAs}
+use Rattle.sp_core.specs.Collecting.{CollectedBy, DueBy, DueFrom}
+use Rattle.sp_socket.specs.Open.{NotTaken, NoneTaken}
+
+-- ---- Lists of entries
+
+none_settling : (op : OpName) (es : List Entry) → AreSettling es → NotTaken op es
+none_settling op [] s = tt
+none_settling op (Took other k ∷ es) s = absurd s.0
+none_settling op (_ ∷ es) s = none_settling op es s.1
+
+none_serving : (op : OpName) (es : List Entry) → AreServing es → NotTaken op es
+none_serving op [] s = tt
+none_serving op (Took other k ∷ es) s = absurd s.0
+none_serving op (_ ∷ es) s = none_serving op es s.1
+
+none_both : (op : OpName) (es more : List Entry) → NotTaken op es → NotTaken op more → NotTaken op (es ++ more)
+none_both op [] more a b = b
+none_both op (Took other k ∷ es) more a b = (a.0, none_both op es more a.1 b)
+none_both op (_ ∷ es) more a b = none_both op es more a b
+
+-- only what is settled
+pub none_in : (es : List Entry) → AreSettling es → NoneTaken es
+none_in es s = λ op. none_settling op es s
+
+-- what serving records
+pub none_served : (es : List Entry) → AreServing es → NoneTaken es
+none_served es s = λ op. none_serving op es s
+
+-- one entry and then what is settled
+pub none_first : (e : Entry) (t : Turn Entry) → NoneTaken (e ∷ []) → HasFirst e t → NoneTaken t.entries
+none_first e t n h = λ op. subst (NotTaken op) (sym h.entries) (none_both op (e ∷ []) h.late (n op) (none_settling op h.late h.late_settles))
+
+-- ---- Calls
+
+pub none_began : (r : Result OpName BeginError) (z : Setting) (h : List (Turn Entry)) (t : Turn Entry) (k c : ℕ) (act : Act) (d : Option ℕ) → BeganBy r z h t k c act d → NoneTaken t.entries
+none_began (Ok op) z h t k c act d b = λ x. subst (NotTaken x) (sym b.entries) (none_both x b.early (Begin op k c act d ∷ b.late) (none_settling x b.early b.early_settles) (none_settling x b.late b.late_settles))
+none_began (Err e) z h t k c act d b = none_in t.entries b.0
+
+pub none_attached : (r : Result ℕ AttachError) (z : Setting) (h : List (Turn Entry)) (t : Turn Entry) (place : ℕ) (name : List ℕ) → AttachedBy r z h t place name → NoneTaken t.entries
+none_attached (Ok p) z h t place name b = none_first _ t (λ op. tt) b.1
+none_attached (Err e) z h t place name b = none_in t.entries b.0
+
+pub none_took : {W : Type 0} (shown : W → WireView) (r : Option (Gone W)) (z : Setting) (h : List (Turn Entry)) (t : Turn Entry) → TookWire shown r z h t → NoneTaken t.entries
+none_took shown None z h t b = none_in t.entries b.1
+none_took shown (Some g) z h t b = none_first _ t (λ op. tt) b.2
+
+none_ends : (op : OpName) (callers : ℕ) (ss : List Begun) (es : List Entry) → AreEndsOf callers ss es → NotTaken op es
+none_ends op callers [] es e = subst (NotTaken op) (sym e) tt
+none_ends op callers (s ∷ ss) es e = subst (NotTaken op) (sym e.3) (none_ends op callers ss e.2 e.5)
+
+none_fall : (op : OpName) (p : ℕ) (es : List Entry) → FallsAs p es → NotTaken op es
+none_fall op p es (inl e) = subst (NotTaken op) (sym e) tt
+none_fall op p es (inr (inl e)) = subst (NotTaken op) (sym e) tt
+none_fall op p es (inr (inr e)) = subst (NotTaken op) (sym e.2) tt
+
+none_falls : (op : OpName) (ps : List ℕ) (es : List Entry) → AreFallsOf ps es → NotTaken op es
+none_falls op [] es e = subst (NotTaken op) (sym e) tt
+none_falls op (p ∷ ps) es e = subst (NotTaken op) (sym e.2) (none_both op e.0 e.1 (none_fall op p e.0 e.3) (none_falls op ps e.1 e.4))
+
+pub none_closed : (r : Totals) (callers : ℕ) (h : List (Turn Entry)) (t : Turn Entry) → ClosedBy r callers h t → NoneTaken t.entries
+none_closed r callers h t c = λ op. go op (is_closed (past_of h)) refl
+  where
+    go : (op : OpName) (b : Bool) → is_closed (past_of h) ≡ b → NotTaken op t.entries
+    go op true e = subst (NotTaken op) (sym (c.second e)) tt
+    go op false e =
+        let f = c.first e in
+        subst (NotTaken op) (sym f.entries) (none_both op f.ends (f.falls ++ Close f.totals ∷ []) (none_ends op callers (pend (past_of h)) f.ends f.ended) (none_both op f.falls (Close f.totals ∷ []) (none_falls op (up (past_of h)) f.falls f.fallen) tt))
+
+none_from : (b : Bool) (before : List Entry) (t : Turn Entry) (at : ℕ) (old new : List OpName) → DueFrom b before t at old new → NoneTaken t.entries
+none_from true before t at old new d = none_in t.entries d.0
+none_from false before t at old new d = none_first (Tick at (due_at before at)) t (λ op. tt) d.0
+
+pub none_due : (h : List (Turn Entry)) (t : Turn Entry) (at : ℕ) (old new : List OpName) → DueBy h t at old new → NoneTaken t.entries
+none_due h t at old new d = none_from (is_closed (past_of h)) (past_of h) t (max (now (past_of h)) at) old new d
+
+-- ---- Collecting
+
+same_if : (op other : OpName) (b : Bool) → same_op op other ≡ b → op ≢ other → b ≡ false
+same_if op other true e n = absurd (n (same_op-eq op other e))
+same_if op other false e n = refl
+
+-- of another operation
+pub not_same : (op other : OpName) → op ≢ other → same_op op other ≡ false
+not_same op other n = same_if op other (same_op op other) refl n
+
+pub not_collected : (outcome : _) (op other : OpName) (k : ℕ) (h : List (Turn Entry)) (t : Turn Entry) → CollectedBy (collected.Ended outcome) op k h t → op ≢ other → NotTaken other t.entries
+not_collected outcome op other k h t c n =
+    let took = c.0 in
+    subst (NotTaken other) (sym took.entries) (none_both other took.early (Took op k ∷ took.late) (none_settling other took.early took.early_settles) (not_same op other n, none_settling other took.late took.late_settles))
