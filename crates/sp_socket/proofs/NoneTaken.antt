@@ -6,7 +6,9 @@ use Rattle.sp_base.specs.declared.OpName.{OpName}
 use Rattle.sp_msg.specs.Views.{WireView}
 use Rattle.sp_history.specs.declared.entry.Act.{Act}
 use Rattle.sp_history.specs.declared.entry.Entry.{Entry}
-use Rattle.sp_history.specs.declared.entry.Entry.TheVariants.{Took, Tick, Down, Stall, Clear, Close, Begin}
+use Rattle.sp_history.specs.declared.entry.Entry.TheVariants.{Took, Tick, Down, Stall, Clear, Close, Begin, Ctx, Topic}
+use Rattle.sp_history.specs.declared.entry.Gate.TheVariants.{Open, Shut}
+use Rattle.sp_history.specs.declared.entry.Switch.TheVariants.{On, Off}
 use Rattle.sp_history.specs.declared.entry.Totals.{Totals}
 use Rattle.sp_history.specs.declared.entry.Why.TheVariants as whys
 use Rattle.sp_history.specs.declared.parts.Begun.{Begun}
@@ -19,6 +21,9 @@ use Rattle.sp_core.specs.declared.collect.Collected.{Collected}
 use Rattle.sp_core.specs.declared.collect.Collected.TheVariants as collected
 use Rattle.sp_core.specs.declared.pipes.AttachError.{AttachError}
 use Rattle.sp_core.specs.declared.pipes.Gone.{Gone}
+use Rattle.sp_core.specs.declared.contexts.CtxError.{CtxError}
+use Rattle.sp_core.specs.declared.contexts.TopicError.{TopicError}
+use Rattle.sp_core.specs.Contexts.{OpenedBy, IsCtxEnd, AreCtxEnds, ShutBy, PutOn, SubscribedBy, UnsubscribedBy}
 use Rattle.sp_core.specs.Moving.{AreSettling}
 use Rattle.sp_core.specs.Standing.{BeganBy, HasFirst}
 use Rattle.sp_core.specs.Attaching.{AttachedBy, TookWire}
@@ -91,6 +96,36 @@ none_closed r callers h t c = λ op. go op (is_closed (past_of h)) refl
     go op false e =
         let f = c.first e in
         subst (NotTaken op) (sym f.entries) (none_both op f.ends (f.falls ++ Close f.totals ∷ []) (none_ends op callers (pend (past_of h)) f.ends f.ended) (none_both op f.falls (Close f.totals ∷ []) (none_falls op (up (past_of h)) f.falls f.fallen) tt))
+
+pub none_opened : (r : Result ℕ CtxError) (z : Setting) (h : List (Turn Entry)) (t : Turn Entry) → OpenedBy r z h t → NoneTaken t.entries
+none_opened (Ok c) z h t b = none_first (Ctx c Open) t (λ op. tt) b.1
+none_opened (Err e) z h t b = none_in t.entries b.0
+
+none_ctx_end : (op : OpName) (callers c : ℕ) (past : List Entry) (e : Entry) (es : List Entry) → IsCtxEnd callers c past e → NotTaken op es → NotTaken op (e ∷ es)
+none_ctx_end op callers c past (Took other k) es i n = absurd i
+none_ctx_end op callers c past _ es i n = n
+
+none_ctx_ends : (op : OpName) (callers c : ℕ) (past es : List Entry) → AreCtxEnds callers c past es → NotTaken op es
+none_ctx_ends op callers c past [] a = tt
+none_ctx_ends op callers c past (e ∷ es) a = none_ctx_end op callers c past e es a.0 (none_ctx_ends op callers c (e ∷ past) es a.1)
+
+pub none_shut : (r : Result (Unit {0}) CtxError) (z : Setting) (h : List (Turn Entry)) (t : Turn Entry) (c : ℕ) → ShutBy r z h t c → NoneTaken t.entries
+none_shut (Ok done) z h t c b = λ op.
+    let s = b.1 in
+    subst (NotTaken op) (sym s.entries) (none_both op s.ends (Ctx c Shut ∷ s.late) (none_ctx_ends op z.callers c (past_of h) s.ends s.ended) (none_settling op s.late s.late_settles))
+none_shut (Err e) z h t c b = none_in t.entries b.0
+
+none_put_on : (there : Bool) (c : ℕ) (b : List ℕ) (t : Turn Entry) → PutOn there c b t → NoneTaken t.entries
+none_put_on there c b t (inl h) = none_in t.entries h.1
+none_put_on there c b t (inr h) = none_first (Topic c b On) t (λ op. tt) h.1
+
+pub none_subscribed : (r : Result (Unit {0}) TopicError) (z : Setting) (h : List (Turn Entry)) (t : Turn Entry) (c : ℕ) (b : List ℕ) → SubscribedBy r z h t c b → NoneTaken t.entries
+none_subscribed (Ok done) z h t c b s = none_put_on _ c b t s.2
+none_subscribed (Err e) z h t c b s = none_in t.entries s.0
+
+pub none_unsubscribed : (r : Result (Unit {0}) TopicError) (z : Setting) (h : List (Turn Entry)) (t : Turn Entry) (c : ℕ) (b : List ℕ) → UnsubscribedBy r z h t c b → NoneTaken t.entries
+none_unsubscribed (Ok done) z h t c b s = none_first (Topic c b Off) t (λ op. tt) s.2
+none_unsubscribed (Err e) z h t c b s = none_in t.entries s.0
 
 none_from : (b : Bool) (before : List Entry) (t : Turn Entry) (at : ℕ) (old new : List OpName) → DueFrom b before t at old new → NoneTaken t.entries
 none_from true before t at old new d = none_in t.entries d.0

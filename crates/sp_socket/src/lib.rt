@@ -16,6 +16,7 @@ mod acts;
 mod begin;
 mod calls;
 mod config;
+mod contexts;
 mod end;
 mod ending;
 mod expiring;
@@ -35,6 +36,8 @@ pub use pass::Pass;
 pub use record::Record;
 pub use socket::Socket;
 pub use aio_word::{Polled, Raced};
-pub use sp_core::{AttachError, BeginError, Collected, Gone, Op, Outcome, Served, WireList};
+pub use sp_core::{
+    AttachError, BeginError, Collected, CtxError, Gone, Op, Outcome, Served, TopicError, WireList,
+};
 pub use sp_history::entry::{Cause, Miss, Totals, Why};
 pub use sp_history::setting::Options;
