@@ -1,21 +1,20 @@
 -- What timed out had fallen due before: a due list names pending operations alone.
-use Rattle.std.proofs.Common.{◌≡◌, ◌≢◌, refl, ap, sym, ◌∙◌, subst, List, [], ◌∷◌, ◌++◌, ℕ, ◌+◌, ◌≤◌, Bool, true, false, cond, arith, inl, inr}
+use Rattle.std.proofs.Common.{◌≡◌, refl, ap, sym, ◌∙◌, subst, List, [], ◌∷◌, ◌++◌, ℕ, ◌+◌, ◌≤◌, Bool, true, false, cond, arith, inl, inr}
 use Rattle.std.specs.Prelude.{◌⊎◌, Option, Some, None, filter, map, not}
 use Rattle.turn_lock.specs.declared.turn.Turn.{Turn}
 use Rattle.sp_base.specs.declared.OpName.{OpName}
 use Rattle.aio_word.specs.Views.{Stands}
-use Rattle.sp_history.specs.declared.entry.Cause.{Cause}
 use Rattle.sp_history.specs.declared.entry.Cause.TheVariants as causes
 use Rattle.sp_history.specs.declared.entry.Ending.{Ending}
-use Rattle.sp_history.specs.declared.entry.Ending.TheVariants.{Won, Gone}
+use Rattle.sp_history.specs.declared.entry.Ending.TheVariants.{Gone}
 use Rattle.sp_history.specs.declared.entry.Entry.{Entry}
 use Rattle.sp_history.specs.declared.entry.Entry.TheVariants.{Begin, End, Tick}
 use Rattle.sp_history.specs.declared.parts.Begun.{Begun}
 use Rattle.sp_history.specs.declared.parts.Timer.{Timer}
 use Rattle.sp_history.specs.declared.setting.Setting.{Setting}
 use Rattle.sp_history.specs.Lists.{same_op}
-use Rattle.sp_history.specs.Past.{is_of, pend, without_begun, ends, timer_of, is_due, timers, is_earlier, put_in_order, by_deadline, due_at, onto, past_from, past_of}
-use Rattle.sp_history.specs.Once.{occurs, begin_count, end_count}
+use Rattle.sp_history.specs.Past.{is_of, pend, ends, timer_of, is_due, timers, is_earlier, put_in_order, by_deadline, due_at, onto, past_from, past_of}
+use Rattle.sp_history.specs.Once.{occurs, end_count}
 use Rattle.sp_history.specs.Legal.{Allowed, AreAllowed, Legal}
 use Rattle.sp_history.proofs.Backing.{legal_allowed}
 use Rattle.sp_history.proofs.OnceHolds.{Counted, counted_next, same_op-refl, same_op-eq, occurs-append, occurs-without_other}

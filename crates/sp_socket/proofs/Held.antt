@@ -1,5 +1,5 @@
 -- Several operations that are open for a pass.
-use Rattle.std.proofs.Common.{◌≡◌, ◌≢◌, refl, ap, sym, ◌∙◌, subst, List, [], ◌∷◌, ◌++◌, inl, inr}
+use Rattle.std.proofs.Common.{◌≢◌, sym, subst, List, [], ◌∷◌, ◌++◌}
 use Rattle.sp_base.specs.declared.OpName.{OpName}
 use Rattle.aio_word.specs.Views.{Each}
 use Rattle.sp_socket.specs.Passes.{PassView}

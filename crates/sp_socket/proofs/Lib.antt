@@ -1,14 +1,14 @@
 pub mod Pairs
-pub mod Opened
 pub mod Tries
 pub mod Dues
 pub mod Ended
 pub mod DueFirst
 pub mod Acting
-pub mod StaysOpen
+pub mod BegunOnce
 pub mod NoneTaken
 pub mod Keeping
 pub mod Held
+pub mod Waits
 pub mod Listing
 pub mod Closed
 pub mod Collects

@@ -1,10 +1,10 @@
 -- Operations that their caller began and did not collect.
-use Rattle.std.specs.Prelude.{◌≡◌, ◌≢◌, false, ⊤, List, [], ◌∷◌}
+use Rattle.std.specs.Prelude.{◌≡◌, ◌≢◌, true, ⊤, List, [], ◌∷◌}
 use Rattle.sp_base.specs.declared.OpName.{OpName}
 use Rattle.aio_word.specs.Views.{Each}
 use Rattle.sp_history.specs.declared.entry.Entry.{Entry}
-use Rattle.sp_history.specs.declared.entry.Entry.TheVariants.{Took}
-use Rattle.sp_history.specs.Lists.{same_op}
+use Rattle.sp_history.specs.Changes.{none_of}
+use Rattle.sp_history.specs.Found.{collects}
 use Rattle.sp_core.specs.declared.collect.Collected.{Collected}
 use Rattle.sp_core.specs.declared.collect.Collected.TheVariants as collected
 use Rattle.sp_core.specs.Collecting.{IsOpen}
@@ -24,15 +24,9 @@ abbrev pub AreOpenFor : PassView → List OpName → Type 0
 AreOpenFor p [] = ⊤
 AreOpenFor p (op ∷ ops) = IsOpenFor p op × Each (λ other. op ≢ other) ops × AreOpenFor p ops
 
--- these entries don't collect it
-abbrev pub NotTaken : OpName → List Entry → Type 0
-NotTaken op [] = ⊤
-NotTaken op (Took other k ∷ es) = (same_op other op ≡ false) × NotTaken op es
-NotTaken op (_ ∷ es) = NotTaken op es
-
 -- these entries collect nothing
 abbrev pub NoneTaken : List Entry → Type 0
-NoneTaken es = (op : OpName) → NotTaken op es
+NoneTaken es = (op : OpName) → none_of (collects op) es ≡ true
 
 -- what was open for the pass still is
 abbrev pub KeepsOpen : PassView → PassView → Type 0

@@ -14,7 +14,7 @@ use crate::hands::Hands;
 use crate::list::SocketPasses;
 use crate::record::{Record, Told};
 use crate::socket::Socket;
-use crate::stack::Stack;
+use turn_lock::Stack;
 use sp_core::{Core, WireList};
 use sp_msg::Wire;
 use sp_proto::Proto;

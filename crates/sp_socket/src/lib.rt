@@ -26,7 +26,7 @@ mod pass;
 mod record;
 mod shared;
 mod socket;
-mod stack;
+mod wait;
 
 pub use begin::open;
 pub use config::{Config, OpenError, Ticked};

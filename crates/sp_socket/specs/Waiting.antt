@@ -1,0 +1,33 @@
+-- What waiting for an operation does to a pass.
+use Rattle.std.specs.Prelude.{◌≡◌, List, ◌++◌}
+use Rattle.turn_lock.specs.declared.turn.Turn.{Turn}
+use Rattle.turn_lock.specs.History.{turns_of}
+use Rattle.sp_base.specs.declared.OpName.{OpName}
+use Rattle.aio_word.specs.declared.rule.Entry as word
+use Rattle.sp_history.specs.declared.entry.Entry.{Entry}
+use Rattle.sp_core.specs.declared.ops.Outcome.{Outcome}
+use Rattle.sp_core.specs.declared.collect.Collected.TheVariants as collected
+use Rattle.sp_core.specs.Collecting.{CollectedBy}
+use Rattle.sp_socket.specs.Passes.{PassView, IsSamePass}
+use Rattle.sp_socket.specs.Open.{KeepsOpen}
+use Rattle.sp_socket.specs.Turns.{TookTurn, ReadsFor}
+
+-- the pass has seen more turns, of others and of its own, and what was open for it still is
+pub record Waits (op : OpName) (before now : PassView) : Type 0 where
+  pub same : IsSamePass before now
+  pub between : List (Turn Entry)
+  pub own : List (Turn Entry)
+  pub seen : now.seen ≡ before.seen ++ between
+  pub mine : now.mine ≡ before.mine ++ own
+  pub are_own : turns_of before.number between ≡ own
+  pub wins : now.wins ≡ before.wins
+  pub more : List word.Entry
+  pub reads : now.reads ≡ before.reads ++ more
+  pub open_ : KeepsOpen before now
+
+-- Then, in its last turn, the pass collected it
+pub record WaitedFor (outcome : Outcome) (op : OpName) (before after : PassView) : Type 0 where
+  pub last : PassView
+  pub waits : Waits op before last
+  pub turn : TookTurn (λ z h t. CollectedBy (collected.Ended outcome) op before.number h t) last after
+  pub read : ReadsFor (collected.Ended outcome) op last after
