@@ -21,8 +21,8 @@ use Rattle.sp_history.specs.declared.entry.Entry.TheVariants.{Up, Met, NoUp, End
 use Rattle.sp_history.specs.declared.setting.Setting.{Setting}
 use Rattle.sp_history.specs.Setting.{is_pair}
 use Rattle.sp_history.specs.Lists.{has, without, is_nil, same_op}
-use Rattle.sp_history.specs.Frames.{malformed}
-use Rattle.sp_history.specs.Past.{past_of, up, ups, untaken, frames, outs, now, is_closed, last_frame, down_for}
+use Rattle.sp_history.specs.Legal.{last_is_malformed}
+use Rattle.sp_history.specs.Past.{past_of, up, ups, untaken, frames, outs, now, is_closed, down_for}
 use Rattle.cat_play.specs.Openings.{Ways, peer_number, IsComplete, IsSpoilt, WroteOrStalled, HasOpened, BeganSo}
 use Rattle.cat_play.specs.Playing.{each}
 
@@ -111,14 +111,9 @@ pub record Carries (z : Setting) (past : List Entry) (p : ℕ) (link : LinkView)
   pub came : Told link.came (λ came. IsFront (text (peer_number z.role) (frames past p)) came)
   pub written : Told link.written (λ written. IsFront written (text (role_number z.role) (outs past p)))
 
--- there is a frame, and it is malformed
-abbrev pub is_malformed : Setting → Option (List ℕ) → Bool
-is_malformed z None = false
-is_malformed z (Some b) = malformed z b
-
 -- the last frame of the pipe is malformed
 abbrev pub fell_for_frame : Setting → List Entry → ℕ → Bool
-fell_for_frame z past p = is_malformed z (last_frame past p)
+fell_for_frame z past p = last_is_malformed z past p
 
 -- all that the link shows was pulled
 abbrev pub IsDrained : Setting → ℕ → List Entry → ℕ → LinkView → Type 0

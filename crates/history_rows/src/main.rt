@@ -1,8 +1,8 @@
 //! Reads worked histories, and says of each whether it is what it is said to be.
 //!
-//! A row is a line `= NAME ROLE OPTION.. : VERDICT`, a line for each turn, and an empty line; a line that begins with `#`
-//! says something to the reader. A turn is `CALLER: ENTRY, ENTRY ..`, where the caller's number may be left out for 1.
-//! `text` has the words of the entries. Printed are the rows whose verdict is another one, and how many rows there were.
+//! A row is a line `= NAME ROLE OPTION.. : VERDICT` and a line for each turn, up to an empty line, the next row or the end; a
+//! line that begins with `#` says something to the reader. A turn is `CALLER: ENTRY, ENTRY ..`, where the caller's number may be left out for 1.
+//! `text` has the words of the entries. Printed are the rows whose verdict is another one, and how many rows were begun.
 #![tactic(auto)]
 
 mod text;
@@ -17,9 +17,10 @@ use std::collections::LinkedList;
 use text::{setting_of, turn_of};
 use turn_lock::Turn;
 
-/// How many rows had which verdict, and of how many it was another one than was said.
+/// How many rows were begun, how many had which verdict, and of how many it was another one than was said.
 #[derive(Clone, Copy)]
 struct Tally {
+    rows: u32,
     right: u32,
     illegal: u32,
     unsettled: u32,
@@ -33,15 +34,6 @@ struct Row {
     said: String,
     setting: Option<Setting>,
     turns: LinkedList<Turn<Entry>>,
-}
-
-fn empty_row(alloc: Global) -> Row {
-    Row {
-        title: String::new(alloc),
-        said: String::new(alloc),
-        setting: None,
-        turns: LinkedList::new(alloc),
-    }
 }
 
 fn begin_row(alloc: Global, line: &str) -> Result<Row> {
@@ -79,14 +71,17 @@ fn another(rt: &impl Print, title: &str, found: &str, tally: Tally) -> Result<Ta
     })
 }
 
-/// Judges the row.
-fn end_row<R: Print + AllocGlobal>(rt: &R, row: Row, tally: Tally) -> Result<Tally> {
-    let Row {
+/// Judges the row, if there is one.
+fn end_row<R: Print + AllocGlobal>(rt: &R, row: Option<Row>, tally: Tally) -> Result<Tally> {
+    let Some(Row {
         title,
         said,
         setting,
         turns,
-    } = row;
+    }) = row
+    else {
+        return Ok(tally);
+    };
     let Some(z) = setting else {
         return another(rt, title.as_str(), "no such setting", tally);
     };
@@ -102,8 +97,12 @@ fn end_row<R: Print + AllocGlobal>(rt: &R, row: Row, tally: Tally) -> Result<Tal
     }
 }
 
-fn add_turn(alloc: Global, row: Row, line: &str) -> Result<Row> {
-    let mut row = row;
+/// A line outside a row is one that has no setting.
+fn add_turn(alloc: Global, row: Option<Row>, line: &str) -> Result<Row> {
+    let mut row = match row {
+        Some(row) => row,
+        None => begin_row(alloc, line)?,
+    };
     match turn_of(alloc, line) {
         Ok(turn) => row.turns.push_back(turn)?,
         Err(_) => row.setting = None,
@@ -113,29 +112,31 @@ fn add_turn(alloc: Global, row: Row, line: &str) -> Result<Row> {
 
 fn main(rt: HostRuntime) -> Result<()> {
     let mut tally = Tally {
+        rows: 0,
         right: 0,
         illegal: 0,
         unsettled: 0,
         others: 0,
     };
-    let mut row = empty_row(rt.alloc());
+    let mut row = None;
     for line in rt.lines(rt.alloc()) {
         let line = line?;
         let line = line.as_str();
         if line.starts_with("= ") {
-            row = begin_row(rt.alloc(), line)?;
+            tally = end_row(&rt, row, tally)?;
+            tally.rows = tally.rows.saturating_add(1);
+            row = Some(begin_row(rt.alloc(), line)?);
         } else if line.is_empty() {
             tally = end_row(&rt, row, tally)?;
-            row = empty_row(rt.alloc());
+            row = None;
         } else if !line.starts_with("#") {
-            row = add_turn(rt.alloc(), row, line)?;
+            row = Some(add_turn(rt.alloc(), row, line)?);
         }
     }
-    // The last row needs no empty line behind it.
     tally = end_row(&rt, row, tally)?;
     println!(rt;
-        "{} right, {} illegal, {} unsettled",
-        tally.right, tally.illegal, tally.unsettled
+        "{} rows: {} right, {} illegal, {} unsettled",
+        tally.rows, tally.right, tally.illegal, tally.unsettled
     )?;
     println!(rt; "{} otherwise than said", tally.others)?;
     Ok(())

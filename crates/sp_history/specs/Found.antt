@@ -1,5 +1,5 @@
 -- What is found in a past, and words of the laws about it. All of it is own.
-use Rattle.std.specs.Prelude.{◌≡◌, ℕ, zero, suc, ◌-◌, ◌^◌, ◌≤◌, nat_lt, Bool, true, false, not, ◌||◌, ⊤, if◌then◌else◌, List, [], ◌∷◌, ◌++◌, Option, Some, None}
+use Rattle.std.specs.Prelude.{◌≡◌, ℕ, zero, suc, ◌-◌, ◌^◌, ◌≤◌, nat_le, nat_lt, Bool, true, false, not, ◌||◌, ⊤, if◌then◌else◌, List, [], ◌∷◌, ◌++◌, Option, Some, None}
 use Rattle.std.specs.List.{list_all}
 use Rattle.sp_base.specs.declared.OpName.{OpName}
 use Rattle.sp_history.specs.declared.entry.Act.{Act}
@@ -7,6 +7,8 @@ use Rattle.sp_history.specs.declared.entry.Act.TheVariants.{Send}
 use Rattle.sp_history.specs.declared.entry.Ending.{Ending}
 use Rattle.sp_history.specs.declared.entry.Entry.{Entry}
 use Rattle.sp_history.specs.declared.entry.Entry.TheVariants.{Out, Begin, End, Took, Tick, Ctx, Close}
+use Rattle.sp_history.specs.declared.parts.LastOut.{LastOut}
+use Rattle.sp_history.specs.declared.parts.Request.{Request}
 use Rattle.sp_history.specs.declared.setting.Setting.{Setting}
 use Rattle.sp_history.specs.Lists.{same_op}
 use Rattle.sp_history.specs.Past.{frames, outs, fulls, quiets, stalls, name_of, last_frame, down_for, caller_of, begins}
@@ -113,3 +115,14 @@ pub record SameOfPipe (p : ℕ) (past more : List Entry) : Type 0 where
   pub name : name_of more p ≡ name_of past p
   pub last : last_frame more p ≡ last_frame past p
   pub cause : down_for more p ≡ down_for past p
+
+-- ---- Requests
+
+-- the Out came by this time, if there was one
+abbrev pub is_by : ℕ → Option LastOut → Bool
+is_by t None = true
+is_by t (Some o) = nat_le o.when t
+
+-- the request's last Out did
+abbrev pub is_out_by : ℕ → Request → Bool
+is_out_by t r = is_by t r.last_out

@@ -1,8 +1,8 @@
 //! Laws of histories: what stands in one is found there, which operations are open, and what no longer happens.
 //!
 //! Each function has an empty body, and is there for its contract.
-ghost use Rattle.std.specs.Prelude.{◌≡◌, ◌↔◌, ◌<◌, ◌≤◌, ℕ, true, false, List, [], ◌∷◌, ◌++◌, Option, Some, is_some};
-ghost use Rattle.std.specs.List.{Contains};
+ghost use Rattle.std.specs.Prelude.{◌≡◌, ◌↔◌, ◌^◌, ◌<◌, ◌≤◌, length, ℕ, true, false, List, [], ◌∷◌, ◌++◌, Option, Some, is_some};
+ghost use Rattle.std.specs.List.{Contains, list_any, list_all};
 ghost use Rattle.turn_lock.specs.declared.turn.Turn.{Turn};
 ghost use Rattle.turn_lock.specs.History.{turns_of};
 ghost use Rattle.sp_history.specs.declared.entry.Act.{Act};
@@ -13,11 +13,14 @@ ghost use Rattle.sp_history.specs.declared.setting.Setting.{Setting};
 ghost use Rattle.sp_history.specs.Lists.{has};
 ghost use Rattle.sp_history.specs.Setting.{is_req, has_requests};
 ghost use Rattle.sp_history.specs.Changes.{none_of};
-ghost use Rattle.sp_history.specs.Past.{onto, past_of, past_from, up, ups, pend, caller_of, begins, now};
+ghost use Rattle.sp_history.specs.Past.{onto, past_of, past_from, up, ups, pend, pending, caller_of, begins, now, opened, ctxs};
 ghost use Rattle.sp_history.specs.Once.{begin_count, end_count};
-ghost use Rattle.sp_history.specs.Requests.{requests, live_on};
+ghost use Rattle.sp_history.specs.Requests.{has_id, next_id, is_orphan, requests, live_on};
+ghost use Rattle.sp_history.specs.declared.parts.Requests.{Requests};
+ghost use Rattle.sp_history.specs.Given.{live_ctxs};
+ghost use Rattle.sp_history.specs.Settled.{is_dry};
 ghost use Rattle.sp_history.specs.Legal.{sending, LegalTurn, LegalFrom, Legal, AreAllowed};
-ghost use Rattle.sp_history.specs.Found.{is_out, is_begin, begins_send, collects, moves_surveys, act_of, end_of, IsOpenOf, is_taken, has_no_slot, ticks, last_tick, before_last_tick, AreOrdered, SameOfPipe};
+ghost use Rattle.sp_history.specs.Found.{is_out, is_begin, begins_send, collects, moves_surveys, act_of, end_of, IsOpenOf, is_taken, has_no_slot, ticks, last_tick, before_last_tick, AreOrdered, SameOfPipe, is_out_by};
 ghost use Rattle.sp_base.specs.declared.OpName.{OpName};
 
 // ---- Operations
@@ -76,4 +79,28 @@ pub fn nothing_goes_out_by_itself()
 pub fn a_survey_stays()
     ensures gone { (z : Setting) → has_requests z ≡ true → is_req z.role ≡ false → (c : ℕ) (entries past : List Entry) → none_of begins_send entries ≡ true → is_some (live_on z past c) ≡ false → is_some (live_on z (onto entries past) c) ≡ false }
     ensures stays { (z : Setting) → has_requests z ≡ true → is_req z.role ≡ false → (c : ℕ) (entries past : List Entry) → none_of moves_surveys entries ≡ true → is_some (live_on z (onto entries past) c) ≡ is_some (live_on z past c) }
+{}
+
+// ---- Requests
+
+/// An operation whose request has ended is pending.
+pub fn an_orphan_is_pending()
+    ensures { (z : Setting) (past : List Entry) (op : OpName) → is_orphan (requests z past) op ≡ true → is_some (pending past op) ≡ true }
+{}
+
+/// A live request is on an open context, and its last Out is no later than the last tick.
+pub fn live_requests_stand()
+    ensures open_ { (z : Setting) (history : List (Turn Entry)) (c : ℕ) → Legal z history → has (live_ctxs z (past_of history)) c ≡ true → has (ctxs (past_of history)) c ≡ true }
+    ensures outs { (z : Setting) (past : List Entry) → list_all (is_out_by (now past)) (requests z past).live ≡ true }
+{}
+
+/// Where fewer than 2^31 requests are live, the next one gets an id that none of them has.
+pub fn the_next_id_is_new()
+    ensures { (z : Setting) (rs : Requests) → length rs.live < 2 ^ 31 → list_any (has_id (next_id z rs)) rs.live ≡ false }
+{}
+
+/// An open context was opened, and one that is opened next isn't dry.
+pub fn the_next_context_is_not_dry()
+    ensures opened { (z : Setting) (past : List Entry) (c : ℕ) → AreAllowed z past → has (ctxs past) c ≡ true → c ≤ opened past }
+    ensures dry { (z : Setting) (past : List Entry) (c : ℕ) → AreAllowed z past → opened past < c → is_dry past c ≡ false }
 {}
