@@ -58,7 +58,9 @@ next_long t h long = told_at t.link.came (ReadsAs t.max t.unread) (λ s. IsOvers
 
 pub framed : (t : TcpState) → Holds t → Framed (tcp_view t)
 framed t h = record {
+  spent = t.spent;
   name = refl;
+  waited = h.waited;
   came = told_at t.link.came (ReadsAs t.max t.unread) (ShowsIn (tcp_view t)) (λ s e r. shows_in t s h.small r e) h.reads;
   written = told_at t.link.written (WritesAs t.waiting t.sent) (WrittenIn (tcp_view t)) (λ s e r. written_in t s h.within r e) h.writes;
   faults = h.marks.faults;

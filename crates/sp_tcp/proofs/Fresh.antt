@@ -1,5 +1,5 @@
 -- A new wire over a link.
-use Rattle.std.proofs.Common.{◌≡◌, ◌<◌, ◌^◌, ◌++◌, ℕ, true, false, List, [], Option, Some, None, refl, sym, ap, subst, ◌∙◌, append-nil, arith, lit<}
+use Rattle.std.proofs.Common.{◌≡◌, ◌<◌, ◌+◌, ◌^◌, ◌++◌, ℕ, true, false, List, [], Option, Some, None, refl, sym, ap, subst, ◌∙◌, append-nil, arith, lit<}
 use Rattle.sp_spec.specs.SpTcp.{hello, text}
 use Rattle.sp_spec.specs.Outside.{Told}
 use Rattle.sp_base.specs.Views.{LinkView}
@@ -51,7 +51,7 @@ none_put x None e = refl
 none_put x (Some s) e = ap (λ (b : List (List ℕ)). Some b) (append-nil _ ∙ writes_taken [] 0 s refl (first_write x s e))
 
 abbrev pub first_state : LinkView → List ℕ → OutletView → ℕ → TcpState
-first_state l u o max = record { link = l; unread = u; waiting = o.waiting; sent = o.sent; max = max; marks = fresh_marks }
+first_state l u o max = record { link = l; unread = u; waiting = o.waiting; sent = o.sent; max = max; spent = l.idles + l.stalls; marks = fresh_marks }
 
 abbrev pub nothing : OutletView
 nothing = record { waiting = []; sent = 0 }
@@ -65,6 +65,7 @@ first_holds l rest max lt is_open met = record {
   small = lt;
   most = omega arith;
   room = (λ e. absurd cc);
+  waited = omega arith;
   marks = record {
     link_open = (λ e. is_open);
     going = (λ e. (refl, refl));
@@ -90,7 +91,7 @@ first_wire l rest max lt is_open met =
     record {
       link_is = refl;
       max_is = refl;
-      wire = (λ i. wire_view (wire_name l max) (came i) (outs i) 0 false fresh_marks);
+      wire = (λ i. wire_view (wire_name l max (l.idles + l.stalls)) (came i) (outs i) 0 false fresh_marks);
       framed = framed (first_state l rest nothing max) (first_holds l rest max lt is_open met);
     }
 

@@ -1,10 +1,11 @@
 -- What a pull of a wire over a link comes to.
-use Rattle.std.proofs.Common.{◌≡◌, ◌≤◌, ◌++◌, ℕ, true, false, List, [], ◌∷◌, length, Option, Some, refl, sym, ap, subst, ◌∙◌, append-nil}
+use Rattle.std.proofs.Common.{◌≡◌, ◌≤◌, ◌++◌, ℕ, true, false, List, [], ◌∷◌, length, Option, Some, refl, sym, ap, subst, ◌∙◌, append-nil, arith}
 use Rattle.sp_spec.specs.SpTcp.{frame, frames, shows, Fit, IsOversize}
 use Rattle.sp_spec.specs.Outside.{Told}
 use Rattle.sp_spec.proofs.Shows.{frames-cons}
 use Rattle.sp_base.specs.Views.{LinkView}
-use Rattle.sp_msg.specs.Views.{OverLink, MessageView}
+use Rattle.sp_base.specs.Wires.{OverLink, scheme_number}
+use Rattle.sp_msg.specs.Views.{MessageView}
 use Rattle.sp_msg.specs.Marks.{marks_pulled}
 use Rattle.sp_msg.specs.Wires.{AfterPull, came_after, IsBare}
 use Rattle.sp_msg.specs.declared.wire.WireIn.{WireIn}
@@ -19,7 +20,7 @@ use Rattle.sp_tcp.proofs.Framed.{framed, all_shown, next_fits, next_long}
 
 -- the state after a pull with this answer
 abbrev pub pulled_state : WireIn → TcpState → LinkView → List ℕ → TcpState
-pulled_state result t l u = record { link = l; unread = u; waiting = t.waiting; sent = t.sent; max = t.max; marks = marks_pulled result t.marks }
+pulled_state result t l u = record { link = l; unread = u; waiting = t.waiting; sent = t.sent; max = t.max; spent = t.spent; marks = marks_pulled result t.marks }
 
 -- bytes came, and the frames of these bodies were taken
 record Step (max : ℕ) (old u piece : List ℕ) (new : List (List ℕ)) : Type 0 where
@@ -92,6 +93,7 @@ pulled_holds result t u l h o p =
       small = h.small;
       most = h.most;
       room = (λ e. h.room (sym (ready_pulled result t.marks) ∙ e));
+      waited = omega (arith, h.waited, p.counts.idles, p.counts.stalls);
       marks = pulled_marks result t.max t.link l t.unread u (t.unread ++ p.piece) t.marks o h.marks p.counts p.came.is_open p.answer;
     }
 
@@ -101,10 +103,11 @@ pulled_shows result t u l h p =
     let place : l.place ≡ t.link.place = p.came.place in
     let written : l.written ≡ t.link.written = p.came.written in
     let peer : told_number l.came ≡ told_number t.link.came = number_on t.max t.unread p.piece t.link.came l.came p.came.came h.reads in
-    let name : wire_name l t.max ≡ wire_name t.link t.max = (λ i. OverLink (place i) t.max (told_number (written i)) (peer i)) in
+    let scheme : l.scheme ≡ t.link.scheme = p.came.scheme in
+    let name : wire_name l t.max t.spent ≡ wire_name t.link t.max t.spent = (λ i. OverLink (place i) t.max (scheme_number (scheme i)) t.spent (told_number (written i)) (peer i)) in
     let came : taken_in t.max u l.came ≡ came_after result (taken_in t.max t.unread t.link.came) = taken_on t.max t.unread u p.piece (taken result) t.link.came l.came h.small s.fit s.is p.came.came h.reads ∙ came_is result (taken_in t.max t.unread t.link.came) in
     let outs : put_in t.waiting t.sent l.written ≡ put_in t.waiting t.sent t.link.written = ap (put_in t.waiting t.sent) written in
-    after_pull result (wire_name t.link t.max) (wire_name l t.max) (taken_in t.max t.unread t.link.came) (taken_in t.max u l.came) (put_in t.waiting t.sent t.link.written) (put_in t.waiting t.sent l.written) (length t.waiting) (length t.waiting) false t.marks (bare_of result t.max (t.unread ++ p.piece) u t.link l p.answer) name came outs refl
+    after_pull result (wire_name t.link t.max t.spent) (wire_name l t.max t.spent) (taken_in t.max t.unread t.link.came) (taken_in t.max u l.came) (put_in t.waiting t.sent t.link.written) (put_in t.waiting t.sent l.written) (length t.waiting) (length t.waiting) false t.marks (bare_of result t.max (t.unread ++ p.piece) u t.link l p.answer) name came outs refl
 
 tcp_pulled : (result : WireIn) (t : TcpState) (u : List ℕ) (l : LinkView) → Holds t → Holds (pulled_state result t l u) → PulledFrom t.max result t.unread u t.link l → TcpPulled result (tcp_view t) (tcp_view (pulled_state result t l u))
 tcp_pulled result t u l h h2 p = record {

@@ -6,7 +6,8 @@ use Rattle.sp_spec.specs.Outside.{Told}
 use Rattle.sp_spec.proofs.Shows.{Fit-append}
 use Rattle.sp_base.specs.Views.{LinkView}
 use Rattle.sp_base.specs.Steps.{AfterShut as LinkShut}
-use Rattle.sp_msg.specs.Views.{OverLink, MessageView, wire_text}
+use Rattle.sp_base.specs.Wires.{OverLink, scheme_number}
+use Rattle.sp_msg.specs.Views.{MessageView, wire_text}
 use Rattle.sp_msg.specs.Marks.{marks_roomed, marks_flushed, marks_put, marks_shut}
 use Rattle.sp_msg.specs.Wires.{AfterRoom, AfterFlush, AfterPut, AfterShut, with_text}
 use Rattle.sp_msg.specs.declared.marks.WireMarks.{WireMarks}
@@ -24,7 +25,7 @@ use Rattle.sp_tcp.proofs.Framed.{framed}
 
 -- the state with another link, another outlet and other marks
 abbrev pub with_write : TcpState → LinkView → OutletView → WireMarks → TcpState
-with_write t l o k = record { link = l; unread = t.unread; waiting = o.waiting; sent = o.sent; max = t.max; marks = k }
+with_write t l o k = record { link = l; unread = t.unread; waiting = o.waiting; sent = o.sent; max = t.max; spent = t.spent; marks = k }
 
 abbrev pub outlet_in : TcpState → OutletView
 outlet_in t = record { waiting = t.waiting; sent = t.sent }
@@ -49,11 +50,12 @@ write_holds t l o k h w within room marks =
       small = h.small;
       most = omega (arith, fewer t l o w, h.most);
       room = room;
+      waited = omega (arith, h.waited, w.counts.idles, w.counts.stalls);
       marks = marks;
     }
 
 record Kept (t : TcpState) (l : LinkView) (o : OutletView) : Type 0 where
-  name : wire_name l t.max ≡ wire_name t.link t.max
+  name : wire_name l t.max t.spent ≡ wire_name t.link t.max t.spent
   came : taken_in t.max t.unread l.came ≡ taken_in t.max t.unread t.link.came
   outs : put_in o.waiting o.sent l.written ≡ put_in t.waiting t.sent t.link.written
 
@@ -61,10 +63,11 @@ kept : (t : TcpState) (l : LinkView) (o : OutletView) → Holds t → Wrote (out
 kept t l o h w within =
     let parts = Fit-apart greatest w.gone o.waiting (subst (Fit greatest) w.left h.fit) in
     let place : l.place ≡ t.link.place = w.went.place in
+    let scheme : l.scheme ≡ t.link.scheme = w.went.scheme in
     let came : l.came ≡ t.link.came = w.went.came in
     let own : told_number l.written ≡ told_number t.link.written = own_on t.waiting t.sent w.piece t.link.written l.written w.went.written h.writes in
     record {
-      name = (λ i. OverLink (place i) t.max (own i) (told_number (came i)));
+      name = (λ i. OverLink (place i) t.max (scheme_number (scheme i)) t.spent (own i) (told_number (came i)));
       came = ap (taken_in t.max t.unread) came;
       outs = put_on t.waiting o.waiting w.gone t.sent o.sent w.piece t.link.written l.written h.within within parts.0 w.left w.text w.went.written h.writes;
     }
@@ -110,7 +113,7 @@ roomed flush room t o l h p r =
     let e = kept t l o h w p.within in
     record {
       holds = h2;
-      after = after_room room (wire_name t.link t.max) (wire_name l t.max) (taken_in t.max t.unread t.link.came) (taken_in t.max t.unread l.came) (put_in t.waiting t.sent t.link.written) (put_in o.waiting o.sent l.written) (length t.waiting) (length o.waiting) false t.marks e.name e.came e.outs (fewer t l o w);
+      after = after_room room (wire_name t.link t.max t.spent) (wire_name l t.max t.spent) (taken_in t.max t.unread t.link.came) (taken_in t.max t.unread l.came) (put_in t.waiting t.sent t.link.written) (put_in o.waiting o.sent l.written) (length t.waiting) (length o.waiting) false t.marks e.name e.came e.outs (fewer t l o w);
       cause = room_cause room t l o k (omega (arith, fewer t l o w, h.most)) f;
       tcp = tcp_wrote t l o k w;
       is_framed = framed (with_write t l o k) h2;
@@ -148,7 +151,7 @@ flushed result t o l h p =
     let e = kept t l o h w p.within in
     record {
       holds = h2;
-      after = after_flush result (wire_name t.link t.max) (wire_name l t.max) (taken_in t.max t.unread t.link.came) (taken_in t.max t.unread l.came) (put_in t.waiting t.sent t.link.written) (put_in o.waiting o.sent l.written) (length t.waiting) (length o.waiting) false t.marks e.name e.came e.outs (fewer t l o w) (waits_as result o.waiting t.link l p.answer);
+      after = after_flush result (wire_name t.link t.max t.spent) (wire_name l t.max t.spent) (taken_in t.max t.unread t.link.came) (taken_in t.max t.unread l.came) (put_in t.waiting t.sent t.link.written) (put_in o.waiting o.sent l.written) (length t.waiting) (length o.waiting) false t.marks e.name e.came e.outs (fewer t l o w) (waits_as result o.waiting t.link l p.answer);
       cause = flush_cause result t l o k p.answer;
       tcp = tcp_wrote t l o k w;
       is_framed = framed (with_write t l o k) h2;
@@ -176,6 +179,7 @@ put_holds t o m h ready is lt within =
       small = h.small;
       most = omega (arith, count, h.room ready);
       room = (λ e. absurd (none_ready e));
+      waited = h.waited;
       marks = put_marks t.max t.link t.unread t.marks h.marks;
     }
 
@@ -183,7 +187,7 @@ pub put_shows : (t : TcpState) (o : OutletView) (m : MessageView) → o ≡ reco
 put_shows t o m is =
     let count : length o.waiting ≡ length t.waiting + 1 = omega (arith, ap (λ (x : OutletView). length x.waiting) is, length-append t.waiting (wire_text m ∷ [])) in
     let outs : put_in o.waiting o.sent t.link.written ≡ with_text (put_in t.waiting t.sent t.link.written) (wire_text m) = ap (λ (x : OutletView). put_in x.waiting x.sent t.link.written) is ∙ put_more t.waiting (wire_text m) t.sent t.link.written in
-    after_put m (wire_name t.link t.max) (taken_in t.max t.unread t.link.came) (put_in t.waiting t.sent t.link.written) (put_in o.waiting o.sent t.link.written) (length t.waiting) (length o.waiting) false t.marks outs (omega (arith, count)) (omega (arith, count))
+    after_put m (wire_name t.link t.max t.spent) (taken_in t.max t.unread t.link.came) (put_in t.waiting t.sent t.link.written) (put_in o.waiting o.sent t.link.written) (length t.waiting) (length o.waiting) false t.marks outs (omega (arith, count)) (omega (arith, count))
 
 pub record PutTo (m : MessageView) (t t2 : TcpState) : Type 0 where
   pub holds : Holds t2
@@ -210,6 +214,7 @@ shut_holds_at t h = record {
   small = h.small;
   most = h.most;
   room = (λ e. absurd (none_ready e));
+  waited = h.waited;
   marks = shut_marks t.max t.link t.unread t.marks h.marks;
 }
 

@@ -1,5 +1,5 @@
 -- What a wire over a link shows, and what ties it to its link.
-use Rattle.std.specs.Prelude.{◌≡◌, ◌≤◌, ◌<◌, ◌-◌, ◌^◌, ◌++◌, ◌⊎◌, ℕ, true, false, List, [], ◌∷◌, length, take, drop, Option, Some, None}
+use Rattle.std.specs.Prelude.{◌≡◌, ◌≤◌, ◌<◌, ◌+◌, ◌-◌, ◌^◌, ◌++◌, ◌⊎◌, ℕ, true, false, List, [], ◌∷◌, length, take, drop, Option, Some, None}
 use Rattle.std.specs.Int.{w16, from_be_bytes}
 use Rattle.sp_spec.specs.SpTcp.{hello, frame, frames, text, shows, Fit, IsOversize}
 use Rattle.sp_spec.specs.Outside.{Rose, Told, IsFront}
@@ -7,7 +7,7 @@ use Rattle.sp_base.specs.Views.{LinkView}
 use Rattle.sp_base.specs.Steps.{Came, Went}
 use Rattle.sp_base.specs.Roles.{role_number, role_peer}
 use Rattle.sp_base.specs.declared.role.Role.{Role}
-use Rattle.sp_msg.specs.Views.{WireView, WireName, OverLink}
+use Rattle.sp_base.specs.Wires.{WireView, WireName, OverLink, scheme_number}
 use Rattle.sp_msg.specs.Marks.{wire_view, fresh_marks}
 use Rattle.sp_msg.specs.declared.marks.WireMarks.{WireMarks}
 use Rattle.sp_msg.specs.declared.wire.WireIn.{WireIn}
@@ -50,16 +50,17 @@ pub record TcpState : Type 0 where
   pub waiting : List (List ℕ)
   pub sent : ℕ
   pub max : ℕ
+  pub spent : ℕ
   pub marks : WireMarks
 
-abbrev pub tcp_state : LinkView → InletView → OutletView → ℕ → WireMarks → TcpState
-tcp_state link inlet outlet max marks = record { link = link; unread = inlet.unread; waiting = outlet.waiting; sent = outlet.sent; max = max; marks = marks }
+abbrev pub tcp_state : LinkView → InletView → OutletView → ℕ → ℕ → WireMarks → TcpState
+tcp_state link inlet outlet max spent marks = record { link = link; unread = inlet.unread; waiting = outlet.waiting; sent = outlet.sent; max = max; spent = spent; marks = marks }
 
-abbrev pub wire_name : LinkView → ℕ → WireName
-wire_name link max = OverLink link.place max (told_number link.written) (told_number link.came)
+abbrev pub wire_name : LinkView → ℕ → ℕ → WireName
+wire_name link max spent = OverLink link.place max (scheme_number link.scheme) spent (told_number link.written) (told_number link.came)
 
 abbrev pub wire_of : TcpState → WireView
-wire_of t = wire_view (wire_name t.link t.max) (taken_in t.max t.unread t.link.came) (put_in t.waiting t.sent t.link.written) (length t.waiting) false t.marks
+wire_of t = wire_view (wire_name t.link t.max t.spent) (taken_in t.max t.unread t.link.came) (put_in t.waiting t.sent t.link.written) (length t.waiting) false t.marks
 
 abbrev pub tcp_view : TcpState → TcpView
 tcp_view t = record { wire = wire_of t; link = t.link; max = t.max }
@@ -99,6 +100,7 @@ pub record Holds (t : TcpState) : Type 0 where
   pub small : t.max < 2 ^ 64
   pub most : length t.waiting ≤ 16
   pub room : t.marks.is_ready ≡ true → length t.waiting < 16
+  pub waited : t.spent ≤ t.link.idles + t.link.stalls
   pub marks : MarksHold t.max t.link t.unread t.marks
 
 -- ---- what callers see
@@ -138,7 +140,9 @@ NextFits v = Told v.link.came (λ s. IsOversize (number_in s) v.max s → ⊥)
 
 -- SP over TCP, at every moment: what ties a wire's texts, counts and end to its link
 pub record Framed (v : TcpView) : Type 0 where
-  pub name : v.wire.name ≡ OverLink v.link.place v.max (told_number v.link.written) (told_number v.link.came)
+  pub spent : ℕ
+  pub name : v.wire.name ≡ wire_name v.link v.max spent
+  pub waited : spent ≤ v.link.idles + v.link.stalls
   pub came : Told v.link.came (ShowsIn v)
   pub written : Told v.link.written (WrittenIn v)
   pub faults : v.wire.faults ≤ v.link.faults
@@ -211,5 +215,5 @@ none_of (Some _) = Some []
 pub record IsNewWire (max : ℕ) (link : LinkView) (v : TcpView) : Type 0 where
   pub link_is : v.link ≡ link
   pub max_is : v.max ≡ max
-  pub wire : v.wire ≡ wire_view (wire_name link max) (none_of link.came) (none_of link.written) 0 false fresh_marks
+  pub wire : v.wire ≡ wire_view (wire_name link max (link.idles + link.stalls)) (none_of link.came) (none_of link.written) 0 false fresh_marks
   pub framed : Framed v

@@ -19,6 +19,7 @@ mod greeting;
 mod inlet;
 mod outlet;
 mod reader;
+mod spent;
 mod stage;
 #[cfg(test)]
 mod tests;

@@ -1,11 +1,13 @@
 //! A wire over a link: messages in frames.
-ghost use Rattle.std.specs.Prelude.{◌≡◌, true, MatchResult};
+ghost use Rattle.std.specs.Prelude.{◌≡◌, ℕ, true, MatchResult};
 ghost use Rattle.sp_base.specs.Steps.{AfterShut as LinkShut};
 ghost use Rattle.sp_msg.specs.Wires.{AfterPull, AfterRoom, AfterPut, AfterFlush, AfterShut, may_flush};
-ghost use Rattle.sp_tcp.specs.TcpWires.{Met, IsNewWire, Framed, TcpPulled, TcpWrote, RoomAfter, RoomCause, FlushCause};
+ghost use Rattle.sp_msg.specs.Marks.{fresh_marks};
+ghost use Rattle.sp_tcp.specs.TcpWires.{tcp_state, tcp_view, Holds, Met, IsNewWire, Framed, TcpPulled, TcpWrote, RoomAfter, RoomCause, FlushCause};
 
 use crate::inlet::{Inlet, pull_from};
 use crate::outlet::{MOST_WAITING, Outlet, write_from};
+use crate::spent::Spent;
 use sp_base::{Link, NoMemory};
 use sp_msg::{Message, Room, Wire, WireFlush, WireIn, WireMarks};
 use std::alloc::Global;
@@ -26,6 +28,8 @@ pub struct TcpWire<L: Link> {
     max: u32,
     /// What it shows beside its bytes.
     marks: WireMarks,
+    /// How often the link had had nothing to read or had taken nothing when the wire was made.
+    spent: Spent,
 }
 
 impl<L: Link> Model for TcpWire<L> {
@@ -34,9 +38,9 @@ impl<L: Link> Model for TcpWire<L> {
 
     ghost Value = { TcpView };
 
-    ghost view = { λ w. tcp_view (tcp_state (L.seen w.link) w.inlet w.outlet w.max w.marks) };
+    ghost view = { λ w. tcp_view (tcp_state (L.seen w.link) w.inlet w.outlet w.max w.spent.ticks w.marks) };
 
-    ghost invariant = { λ w. Holds (tcp_state (L.seen w.link) w.inlet w.outlet w.max w.marks) };
+    ghost invariant = { λ w. Holds (tcp_state (L.seen w.link) w.inlet w.outlet w.max w.spent.ticks w.marks) };
 }
 
 // The answer on room after the writing ended so, where so many messages are not wholly written.
@@ -72,13 +76,23 @@ impl<L: Link> TcpWire<L> {
         let Ok(outlet) = Outlet::new(alloc) else {
             return Err((NoMemory, link));
         };
-        Ok(TcpWire {
+        Ok(TcpWire::made(link, inlet, outlet, max))
+    }
+
+    // A new wire over a link that had so often had nothing to read or had taken nothing.
+    fn made(link: L, inlet: Inlet, outlet: Outlet, max: u32) -> TcpWire<L>
+        ghost spent: { ℕ }
+        requires { Holds (tcp_state (L.seen link) inlet outlet max spent fresh_marks) }
+        ensures { result ≡ tcp_view (tcp_state (L.seen link) inlet outlet max spent fresh_marks) }
+    {
+        TcpWire {
             link,
             inlet,
             outlet,
             max,
             marks: WireMarks::new(),
-        })
+            spent: Spent::of(),
+        }
     }
 
     /// Whether it may be pulled, asked for room and flushed.
@@ -106,6 +120,7 @@ impl<L: Link> TcpWire<L> {
             outlet: _,
             max: _,
             marks: _,
+            spent: _,
         } = self;
         link
     }

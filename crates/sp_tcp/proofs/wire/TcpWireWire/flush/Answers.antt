@@ -13,20 +13,20 @@ pub invariant_of-self : goal.invariant_of-self
 invariant_of-self g c =
     let w = c.self.inside in
     let seen = g.L.Link.seen in
-    let t : TcpState = tcp_state (seen w.link) w.inlet w.outlet w.max w.marks in
+    let t : TcpState = tcp_state (seen w.link) w.inlet w.outlet w.max w.spent.ticks w.marks in
     let l = seen c.write_from-answer.new.link in
     let o = c.write_from-answer.new.outlet in
     let p = flushed c.write_from-answer.result t o l c.self.invariant c.write_from-answer.ensures in
-    let q = subst (λ (k : WireMarks). Flushed c.write_from-answer.result t (tcp_state l w.inlet o w.max k)) (sym c.flushed.ensures) p in
+    let q = subst (λ (k : WireMarks). Flushed c.write_from-answer.result t (tcp_state l w.inlet o w.max w.spent.ticks k)) (sym c.flushed.ensures) p in
     q.holds
 
 pub returns : goal.returns
 returns g c =
     let w = c.self.inside in
     let seen = g.L.Link.seen in
-    let t : TcpState = tcp_state (seen w.link) w.inlet w.outlet w.max w.marks in
+    let t : TcpState = tcp_state (seen w.link) w.inlet w.outlet w.max w.spent.ticks w.marks in
     let l = seen c.write_from-answer.new.link in
     let o = c.write_from-answer.new.outlet in
     let p = flushed c.write_from-answer.result t o l c.self.invariant c.write_from-answer.ensures in
-    let q = subst (λ (k : WireMarks). Flushed c.write_from-answer.result t (tcp_state l w.inlet o w.max k)) (sym c.flushed.ensures) p in
+    let q = subst (λ (k : WireMarks). Flushed c.write_from-answer.result t (tcp_state l w.inlet o w.max w.spent.ticks k)) (sym c.flushed.ensures) p in
     rw (← c.self.view_is) (record { after = q.after; cause = q.cause; tcp = q.tcp; framed = q.is_framed })

@@ -11,20 +11,20 @@ pub invariant_of-self : goal.invariant_of-self
 invariant_of-self g c =
     let w = c.self.inside in
     let seen = g.L.Link.seen in
-    let t : TcpState = tcp_state (seen w.link) w.inlet w.outlet w.max w.marks in
+    let t : TcpState = tcp_state (seen w.link) w.inlet w.outlet w.max w.spent.ticks w.marks in
     let o = c.put-2.new.self in
     let ready : w.marks.is_ready ≡ true = ap (λ (v : TcpView). v.wire.is_ready) c.self.view_is ∙ c.requires.is_ready in
     let h = put_holds t o (wire_text c.args.m) c.self.invariant ready c.put-2.ensures.text c.put-2.ensures.fit c.put-2.ensures.within in
-    let q = subst (λ (k : WireMarks). PutTo c.args.m t (tcp_state (seen w.link) w.inlet o w.max k)) (sym c.put.ensures) (record { holds = h; after = put_shows t o c.args.m c.put-2.ensures.text; is_framed = framed (with_put t o) h }) in
+    let q = subst (λ (k : WireMarks). PutTo c.args.m t (tcp_state (seen w.link) w.inlet o w.max w.spent.ticks k)) (sym c.put.ensures) (record { holds = h; after = put_shows t o c.args.m c.put-2.ensures.text; is_framed = framed (with_put t o) h }) in
     q.holds
 
 pub returns : goal.returns
 returns g c =
     let w = c.self.inside in
     let seen = g.L.Link.seen in
-    let t : TcpState = tcp_state (seen w.link) w.inlet w.outlet w.max w.marks in
+    let t : TcpState = tcp_state (seen w.link) w.inlet w.outlet w.max w.spent.ticks w.marks in
     let o = c.put-2.new.self in
     let ready : w.marks.is_ready ≡ true = ap (λ (v : TcpView). v.wire.is_ready) c.self.view_is ∙ c.requires.is_ready in
     let h = put_holds t o (wire_text c.args.m) c.self.invariant ready c.put-2.ensures.text c.put-2.ensures.fit c.put-2.ensures.within in
-    let q = subst (λ (k : WireMarks). PutTo c.args.m t (tcp_state (seen w.link) w.inlet o w.max k)) (sym c.put.ensures) (record { holds = h; after = put_shows t o c.args.m c.put-2.ensures.text; is_framed = framed (with_put t o) h }) in
+    let q = subst (λ (k : WireMarks). PutTo c.args.m t (tcp_state (seen w.link) w.inlet o w.max w.spent.ticks k)) (sym c.put.ensures) (record { holds = h; after = put_shows t o c.args.m c.put-2.ensures.text; is_framed = framed (with_put t o) h }) in
     rw (← c.self.view_is) (record { after = q.after; link = refl; framed = q.is_framed })
