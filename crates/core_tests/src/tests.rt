@@ -246,6 +246,7 @@ fn goes_down_alone<P: Proto, W: Wire + Drop, R: Wait + Abort>(
         moved: true,
         ended: 1,
         waiting: 0,
+        up: 1,
     };
     assert_eq!(rt; play.serve(rt), served);
     match play.take_ended(rt) {
@@ -272,6 +273,7 @@ fn a_pull_core_gives_what_came(rt: HostRuntime) {
         moved: true,
         ended: 0,
         waiting: 0,
+        up: 1,
     };
     assert_eq!(rt; play.serve(&rt), served);
     is_received(&rt, play.collect(&rt), b"x");
@@ -401,6 +403,7 @@ fn a_wire_that_failed_is_handed_out_with_what_was_put(rt: HostRuntime) {
         moved: true,
         ended: 1,
         waiting: 0,
+        up: 1,
     };
     assert_eq!(rt; play.serve(&rt), served);
     match play.take_ended(&rt) {
@@ -602,6 +605,7 @@ fn a_frame_stays_for_the_next_receive(rt: HostRuntime) {
         moved: true,
         ended: 0,
         waiting: 0,
+        up: 2,
     };
     assert_eq!(rt; play.serve(&rt), served);
     is_received(&rt, play.collect(&rt), b"x");
@@ -622,12 +626,14 @@ fn a_quiet_wire_is_asked_once_a_turn(rt: HostRuntime) {
         moved: false,
         ended: 0,
         waiting: 0,
+        up: 1,
     };
     assert_eq!(rt; play.serve(&rt), nothing);
     let fell = Served {
         moved: true,
         ended: 1,
         waiting: 0,
+        up: 0,
     };
     assert_eq!(rt; play.serve(&rt), fell);
     play.finish(&rt, alloc);
