@@ -475,7 +475,11 @@ impl<R: Clock + Drop> Pace for RealPace<R> {
             self.quiet = 0;
         } else {
             self.quiet = self.quiet.saturating_add(1);
-            let most = if self.quiet > QUIET_TURNS { IDLE_REST } else { REST };
+            let most = if self.quiet > QUIET_TURNS {
+                IDLE_REST
+            } else {
+                REST
+            };
             rest(&self.rt, &mut self.poll, &mut self.events, most);
         }
         if let Ok(since) = self.start.elapsed(&self.rt) {
