@@ -13,7 +13,7 @@ use sp_base::{
     Pace, Paced, Scheme, Sink, Sunk, Tick, Whole,
 };
 use std::alloc::Global;
-use std::io::{ErrorKind, Read, Write};
+use std::io::{BufReader, ErrorKind, Read, Write};
 use std::net::{IpAddr, Ipv4Addr, Shutdown, SocketAddr};
 use std::rt::Clock;
 use std::time::{Duration, Instant};
@@ -475,7 +475,11 @@ impl<R: Clock + Drop> Pace for RealPace<R> {
             self.quiet = 0;
         } else {
             self.quiet = self.quiet.saturating_add(1);
-            let most = if self.quiet > QUIET_TURNS { IDLE_REST } else { REST };
+            let most = if self.quiet > QUIET_TURNS {
+                IDLE_REST
+            } else {
+                REST
+            };
             rest(&self.rt, &mut self.poll, &mut self.events, most);
         }
         if let Ok(since) = self.start.elapsed(&self.rt) {
@@ -536,14 +540,14 @@ impl<R: Print + Clock + Drop> Sink for RealOut<R> {
     }
 }
 
-/// Files by their names.
+/// Files by their names; the name `-` is standard input, which gives all that comes until its end.
 #[derive(Drop)]
-pub struct RealFiles<R: std::rt::Files + AllocGlobal + Drop> {
+pub struct RealFiles<R: std::rt::Files + Input + AllocGlobal + Drop> {
     rt: R,
     faults: u64,
 }
 
-impl<R: std::rt::Files + AllocGlobal + Drop> RealFiles<R> {
+impl<R: std::rt::Files + Input + AllocGlobal + Drop> RealFiles<R> {
     /// The files of the machine, with no fault so far.
     pub fn new(rt: R) -> RealFiles<R>
         ensures { result.faults ≡ 0 }
@@ -552,16 +556,27 @@ impl<R: std::rt::Files + AllocGlobal + Drop> RealFiles<R> {
     }
 }
 
-impl<R: std::rt::Files + AllocGlobal + Drop> Files for RealFiles<R> {
+// All that a file, or standard input, holds.
+fn read_all<R: std::rt::Files + Input + AllocGlobal>(rt: &R, name: &str) -> io::Result<Vec<u8>> {
+    if name != "-" {
+        return fs::read(rt, name);
+    }
+    let mut bytes = Vec::new(rt.alloc());
+    let mut input = BufReader::new(rt.alloc(), rt.reader())?;
+    let _all = input.read_to_end(&mut bytes)?;
+    Ok(bytes)
+}
+
+impl<R: std::rt::Files + Input + AllocGlobal + Drop> Files for RealFiles<R> {
     ghost seen = { λ f. record { holds = None; faults = f.faults } };
 
     fn whole(&mut self, name: &str) -> Whole {
-        match fs::read(&self.rt, name) {
-            Ok(bytes) => match Bytes::from_slice(self.rt.alloc(), &bytes) {
-                Ok(bytes) => Whole::Bytes(bytes),
-                Err(_) => Whole::NoMemory,
-            },
-            Err(_) => {
+        match read_all(&self.rt, name) {
+            Ok(bytes) => Whole::Bytes(Bytes::from_vec(bytes)),
+            Err(e) => {
+                if e.kind() == ErrorKind::OutOfMemory {
+                    return Whole::NoMemory;
+                }
                 self.faults = self.faults.saturating_add(1);
                 Whole::Failed
             }

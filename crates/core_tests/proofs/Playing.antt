@@ -1,5 +1,5 @@
 -- What a turn of caller 1 does to the operations that are held.
-use Rattle.std.proofs.Common.{◌≡◌, refl, ap, sym, ◌∙◌, subst, List, [], ◌∷◌, ◌++◌, ℕ, ◌+◌, ◌≤◌, ◌<◌, Bool, true, false, cond, arith, Option, Some, None, Result, Ok, Err, inl, inr}
+use Rattle.std.proofs.Common.{◌≡◌, refl, ap, sym, ◌∙◌, subst, List, [], ◌∷◌, ◌++◌, ℕ, zero, suc, ◌+◌, ◌≤◌, ◌<◌, Bool, true, false, cond, arith, Option, Some, None, Result, Ok, Err, inl, inr}
 use Rattle.std.specs.Prelude.{⊤}
 use Rattle.std.proofs.lemmas.Bool.Decides.{nat_tests}
 use Rattle.sp_base.specs.declared.OpName.{OpName}
@@ -8,7 +8,7 @@ use Rattle.sp_msg.specs.Views.{WireView}
 use Rattle.sp_history.specs.declared.parts.Begun.{Begun}
 use Rattle.sp_history.specs.declared.entry.Act.{Act}
 use Rattle.sp_history.specs.declared.entry.Entry.{Entry}
-use Rattle.sp_history.specs.declared.entry.Entry.TheVariants.{Up, Taken, Begin, Took, Close}
+use Rattle.sp_history.specs.declared.entry.Entry.TheVariants.{Up, Taken, Begin, End, Took, Close}
 use Rattle.sp_history.specs.declared.entry.Totals.{Totals}
 use Rattle.sp_history.specs.declared.setting.Setting.{Setting}
 use Rattle.sp_history.specs.Lists.{same_op}
@@ -24,6 +24,14 @@ use Rattle.sp_core.specs.declared.pipes.AttachError.{AttachError}
 use Rattle.sp_core.specs.declared.pipes.Gone.{Gone}
 use Rattle.sp_core.specs.Moving.{IsSettling, AreSettling}
 use Rattle.sp_core.specs.Standing.{StandsFor, HasBegin, HasFirst, BeganBy}
+use Rattle.sp_msg.specs.Views.{MessageView}
+use Rattle.sp_proto.specs.Kinds.{text_of}
+use Rattle.sp_history.specs.declared.entry.Act.TheVariants.{Recv}
+use Rattle.sp_history.specs.declared.entry.Ending.{Ending}
+use Rattle.sp_history.specs.declared.entry.Ending.TheVariants.{Won, Gone as GoneEnd}
+use Rattle.sp_history.specs.declared.entry.Outcome.TheVariants.{Received}
+use Rattle.sp_core.specs.declared.immediate.NowError.{NowError}
+use Rattle.sp_core.specs.Immediate.{AreLost, HasLost, ReceivedNow}
 use Rattle.sp_core.specs.Attaching.{AttachedBy, TookWire}
 use Rattle.sp_core.specs.Collecting.{IsOpen, IsOpenBefore, HasTook, DueFrom, DueBy}
 use Rattle.sp_core.specs.Serving.{IsServing, AreServing}
@@ -155,6 +163,30 @@ held_with : (past : List Entry) (ops more : List OpName) (early late : List Entr
 held_with past ops more early late e es is quiet h =
     subst (λ (x : List Entry). AreHeld x more) (sym (ap (λ (x : List Entry). onto x past) is ∙ onto-append early (e ∷ late) past)) (held_plain (e ∷ onto early past) more late (settling_plain late quiet) h)
 
+-- a receive that was begun and collected at once
+held_try : (past : List Entry) (ops : List OpName) (op : OpName) (c : ℕ) (ending : Ending) → AreHeld past ops → AreHeld (Took op 1 ∷ End op ending ∷ Begin op 1 c Recv None ∷ past) ops
+held_try past ops op c ending a =
+    held_took (End op ending ∷ Begin op 1 c Recv None ∷ past) ops op (held_entry (Begin op 1 c Recv None ∷ past) (ops ++ op ∷ []) (End op ending) tt (held_begin past ops op c Recv None a))
+
+held_lost : (n c callers : ℕ) (es past : List Entry) (ops : List OpName) → AreLost n 1 c callers es → AreHeld past ops → AreHeld (onto es past) ops
+held_lost zero c callers es past ops l a = subst (λ (xs : List Entry). AreHeld (onto xs past) ops) (sym l) a
+held_lost (suc n) c callers es past ops l a =
+    let front = held_lost n c callers l.0 past ops l.3 a in
+    let one = l.4 in
+    let last : AreHeld (onto l.1 (onto l.0 past)) ops = subst (λ (xs : List Entry). AreHeld (onto xs (onto l.0 past)) ops) (sym one.entries) (held_plain _ ops one.late (settling_plain one.late one.late_settles) (held_try (onto l.0 past) ops one.op c (GoneEnd one.cause one.by) front)) in
+    subst (λ (xs : List Entry). AreHeld xs ops) (sym (ap (λ (xs : List Entry). onto xs past) l.2 ∙ onto-append l.0 l.1 past)) last
+
+held_has_lost : (c callers : ℕ) (es past : List Entry) (ops : List OpName) → HasLost 1 c callers es → AreHeld past ops → AreHeld (onto es past) ops
+held_has_lost c callers es past ops l a =
+    subst (λ (xs : List Entry). AreHeld xs ops) (sym (ap (λ (xs : List Entry). onto xs past) l.entries ∙ onto-append l.early l.lost past)) (held_lost l.count c callers l.lost (onto l.early past) ops l.are_lost (held_plain past ops l.early (settling_plain l.early l.early_settles) a))
+
+held_now : (r : Result MessageView NowError) (z : Setting) (h : List (Turn Entry)) (t : Turn Entry) (c : ℕ) (ops : List OpName) → ReceivedNow r z h t 1 c → AreHeld (past_of h) ops → AreHeld (onto t.entries (past_of h)) ops
+held_now (Ok m) z h t c ops n a =
+    let front = held_has_lost c z.callers n.front (past_of h) ops n.front_lost a in
+    let last = held_plain _ ops n.late (settling_plain n.late n.late_settles) (held_try (onto n.front (past_of h)) ops n.op c (Won (Received (text_of m))) front) in
+    subst (λ (xs : List Entry). AreHeld xs ops) (sym (ap (λ (xs : List Entry). onto xs (past_of h)) n.entries ∙ onto-append n.front _ (past_of h))) last
+held_now (Err e) z h t c ops n a = held_has_lost c z.callers t.entries (past_of h) ops n.0 a
+
 -- ---- Plays
 
 module _ {P W : Type 0} (ties : P → Moment → Type 0) (room : P → ℕ) (shown : W → WireView) where
@@ -176,6 +208,10 @@ module _ {P W : Type 0} (ties : P → Moment → Type 0) (room : P → ℕ) (sho
       → Plays ties room shown d w s n ops
   plain_turn c d w s n ops p t st plain same =
       more_turn c d w s n ops ops p t st (held_plain (past_of p.history) ops t.entries plain p.held) same
+
+  pub now_turn : (c d : Core P W) (w : Named) (s : Sight) (n : ℕ) (ops : List OpName) (p : Plays ties room shown c w s n ops) (t : Turn Entry) (r : Result MessageView NowError) (z : Setting) (x : ℕ) → StandsFor ties room shown d (p.history ++ t ∷ []) → ReceivedNow r z p.history t 1 x
+      → d.desk.words ≡ c.desk.words → Plays ties room shown d w s n ops
+  now_turn c d w s n ops p t r z x st now same = more_turn c d w s n ops ops p t st (held_now r z p.history t x ops now p.held) same
 
   pub begun_turn : (c d : Core P W) (w : Named) (s : Sight) (n : ℕ) (ops more : List OpName) (p : Plays ties room shown c w s n ops) (t : Turn Entry) (op : OpName) (x : ℕ) (act : Act) (dl : Option ℕ) → StandsFor ties room shown d (p.history ++ t ∷ [])
       → HasBegin op 1 x act dl t → d.desk.words ≡ c.desk.words → more ≡ ops ++ op ∷ [] → Plays ties room shown d w s n more

@@ -7,7 +7,9 @@ ghost use Rattle.core_tests.specs.Plays.{Plays};
 use aio_expire::NameList;
 use aio_word::{CallSeat, Raced, SeatList, Words};
 use sp_base::{Ctx, OpName, PipeId, Tick};
-use sp_core::{AttachError, BeginError, Collected, Core, Gone, Op, Outcome, Served, WireList};
+use sp_core::{
+    AttachError, BeginError, Collected, Core, Gone, NowError, Op, Outcome, Served, WireList,
+};
 use sp_history::entry::{Miss, Totals};
 use sp_msg::{Message, Wire};
 use sp_proto::Proto;
@@ -159,6 +161,14 @@ impl<P: Proto, W: Wire> Play<P, W> {
                 Ok(name)
             }
         }
+    }
+
+    /// Receives at once.
+    pub fn try_recv<R: Wait + Abort>(&mut self, rt: &R, c: Ctx) -> Result<Message, NowError>
+        requires { Plays P.ties P.room W.shown self.old.core self.old.words self.old.seat self.old.slots self.old.ops.items }
+        ensures { Plays P.ties P.room W.shown self.new.core self.new.words self.new.seat self.new.slots self.new.ops.items }
+    {
+        self.core.try_recv(rt, 1, c)
     }
 
     /// Begins a send, and keeps it.

@@ -10,7 +10,7 @@ use crate::calls::Play;
 use aio_word::{Phase, Raced};
 use proto_pipeline::{Pull, Push};
 use sp_base::{Bytes, Ctx, OpName, PipeId, Role, SpError, Tick};
-use sp_core::{AttachError, BeginError, Core, Outcome, Served};
+use sp_core::{AttachError, BeginError, Core, NowError, Outcome, Served};
 use sp_fakes::{MemWire, WireStep};
 use sp_history::entry::{Cause, Miss, Totals, Why};
 use sp_history::setting::Options;
@@ -246,6 +246,7 @@ fn goes_down_alone<P: Proto, W: Wire + Drop, R: Wait + Abort>(
         moved: true,
         ended: 1,
         waiting: 0,
+        up: 1,
     };
     assert_eq!(rt; play.serve(rt), served);
     match play.take_ended(rt) {
@@ -272,6 +273,7 @@ fn a_pull_core_gives_what_came(rt: HostRuntime) {
         moved: true,
         ended: 0,
         waiting: 0,
+        up: 1,
     };
     assert_eq!(rt; play.serve(&rt), served);
     is_received(&rt, play.collect(&rt), b"x");
@@ -401,6 +403,7 @@ fn a_wire_that_failed_is_handed_out_with_what_was_put(rt: HostRuntime) {
         moved: true,
         ended: 1,
         waiting: 0,
+        up: 1,
     };
     assert_eq!(rt; play.serve(&rt), served);
     match play.take_ended(&rt) {
@@ -602,6 +605,7 @@ fn a_frame_stays_for_the_next_receive(rt: HostRuntime) {
         moved: true,
         ended: 0,
         waiting: 0,
+        up: 2,
     };
     assert_eq!(rt; play.serve(&rt), served);
     is_received(&rt, play.collect(&rt), b"x");
@@ -622,12 +626,14 @@ fn a_quiet_wire_is_asked_once_a_turn(rt: HostRuntime) {
         moved: false,
         ended: 0,
         waiting: 0,
+        up: 1,
     };
     assert_eq!(rt; play.serve(&rt), nothing);
     let fell = Served {
         moved: true,
         ended: 1,
         waiting: 0,
+        up: 0,
     };
     assert_eq!(rt; play.serve(&rt), fell);
     play.finish(&rt, alloc);
@@ -680,5 +686,70 @@ fn what_a_caller_ended_is_found_at_the_next_begin(rt: HostRuntime) {
     assert_eq!(rt; play.close(&rt), totals(2, 0, 2, 0, 0, 0));
     is_gone(&rt, play.collect(&rt), Cause::Closed, 0);
     is_gone(&rt, play.collect(&rt), Cause::Cancelled, 1);
+    play.finish(&rt, alloc);
+}
+
+// It received this.
+fn is_now(rt: &impl Abort, answer: Result<Message, NowError>, body: &[u8]) {
+    match answer {
+        Ok(m) => {
+            assert!(rt; m.header().is_empty());
+            assert!(rt; m.body() == body);
+        }
+        Err(_) => panic!(rt; "nothing was received"),
+    }
+}
+
+// It was refused for this.
+fn is_not_now(rt: &impl Abort, answer: Result<Message, NowError>, why: NowError) {
+    match answer {
+        Ok(_) => panic!(rt; "something was received"),
+        Err(e) => assert_eq!(rt; e, why),
+    }
+}
+
+#[test]
+fn what_is_kept_is_received_at_once(rt: HostRuntime) {
+    let alloc = rt.alloc();
+    let mut play = Play::<Pull, MemWire>::new(&rt, alloc, pull(&rt, alloc, false), 1);
+    assert_eq!(rt; up(&rt, play.attach(&rt, giving(&rt, alloc, b"x"), 0)), 1);
+    assert_eq!(rt; up(&rt, play.attach(&rt, giving(&rt, alloc, b"y"), 1)), 2);
+    is_not_now(&rt, play.try_recv(&rt, Ctx(0)), NowError::Again);
+    play.serve(&rt);
+    is_now(&rt, play.try_recv(&rt, Ctx(0)), b"x");
+    is_now(&rt, play.try_recv(&rt, Ctx(0)), b"y");
+    is_not_now(&rt, play.try_recv(&rt, Ctx(0)), NowError::Again);
+    is_not_now(
+        &rt,
+        play.try_recv(&rt, Ctx(5)),
+        NowError::Begin(BeginError::NotSupported),
+    );
+    // The one slot has an operation that was not collected.
+    begun(&rt, play.begin_recv(&rt, Ctx(0), None));
+    is_not_now(
+        &rt,
+        play.try_recv(&rt, Ctx(0)),
+        NowError::Begin(BeginError::Busy),
+    );
+    assert_eq!(rt; play.close(&rt), totals(3, 2, 1, 2, 0, 0));
+    is_not_now(
+        &rt,
+        play.try_recv(&rt, Ctx(0)),
+        NowError::Begin(BeginError::Closed),
+    );
+    assert_eq!(rt; SpError::from(NowError::Again), SpError::Again);
+    play.finish(&rt, alloc);
+}
+
+#[test]
+fn a_push_receives_nothing_at_once(rt: HostRuntime) {
+    let alloc = rt.alloc();
+    let mut play = Play::<Push, MemWire>::new(&rt, alloc, push(&rt, alloc, false), 1);
+    is_not_now(
+        &rt,
+        play.try_recv(&rt, Ctx(0)),
+        NowError::Begin(BeginError::NotSupported),
+    );
+    play.close(&rt);
     play.finish(&rt, alloc);
 }

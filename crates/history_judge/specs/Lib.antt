@@ -1,2 +1,1 @@
-pub mod Story
 pub mod Faults

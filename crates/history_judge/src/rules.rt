@@ -7,16 +7,19 @@ ghost use Rattle.sp_history.specs.Lists.{head_of, same_bytes};
 ghost use Rattle.sp_history.specs.Past.{pending, totals};
 ghost use Rattle.sp_history.specs.Requests.{how_ended};
 ghost use Rattle.sp_history.specs.Legal.{is_recv, is_recv_on, is_at, is_free, is_pending_on, has_topic, does, state_for, is_state, condemned, ctx_of, unshut, is_closing, is_unkept, sending, MayEnd, is_memory_down, is_part_of_send, goes_on, is_after_frame, is_after_any_frame, is_due_on, may_dry, MayBegin, MayReceive, was_superseded, was_over, MayGo, MayEndAs, is_uncollected, IsUp, comes_after_close};
-ghost use Rattle.history_judge.specs.Story.{entries_of};
+ghost use Rattle.history_judge_past.specs.Story.{entries_of};
 ghost use Rattle.history_judge.specs.Faults.{Finds};
 
 use crate::faults::Fault;
-use crate::frames::{floods, has_requests, is_sub, malformed, resends};
-use crate::kept::{is_due_again, is_sent, kept, stored, unclaimed};
-use crate::lists::{has_ctx, has_pipe, is_empty, is_of, same_bytes, without_ctx, without_pipe};
-use crate::past::{begins, ctxs, one_more, pend, pending, uncollected, up};
-use crate::requests::{how_ended, live_on, request_of};
-use crate::story::Past;
+use history_judge_past::frames::{floods, has_requests, is_sub, malformed, resends};
+use history_judge_past::kept::{kept, stored};
+use history_judge_past::lists::{
+    has_ctx, has_pipe, is_empty, is_of, same_bytes, without_ctx, without_pipe,
+};
+use history_judge_past::past::{begins, ctxs, one_more, pend, pending, uncollected, up};
+use history_judge_past::requests::{how_ended, live_on, request_of};
+use history_judge_past::sends::{is_due_again, is_sent, unclaimed};
+use history_judge_past::story::Past;
 use sp_base::{Bytes, Ctx, NoMemory, OpName, PipeId, Role};
 use sp_history::entry::{Act, Cause, Ending, Entry, Gate, Message, Outcome, Why};
 use sp_history::parts::{Begun, Ended, How, Item, Request};

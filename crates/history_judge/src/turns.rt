@@ -12,23 +12,24 @@ ghost use Rattle.sp_history.specs.Kept.{wanted};
 ghost use Rattle.sp_history.specs.Requests.{requests};
 ghost use Rattle.sp_history.specs.Legal.{IsUp, condemned, is_pending_on, has_topic, is_uncollected, is_after_frame, may_dry, MayCome, Allowed, Follows, starts_well, LegalTurn};
 ghost use Rattle.sp_history.specs.Settled.{is_dry, receive_settled, send_settled, request_settled, SettledWith, SettledBy};
-ghost use Rattle.history_judge.specs.Story.{entries_of};
+ghost use Rattle.history_judge_past.specs.Story.{entries_of};
 ghost use Rattle.history_judge.specs.Faults.{Finds, Judges, JudgesFrom, full_pipes, verdict_of};
 
 use crate::faults::{Fault, Verdict};
-use crate::frames::{has_contexts, has_topics, is_pair, is_reply, is_sub, resends};
-use crate::kept::{is_due_again, kept, targets, wanted};
-use crate::lists::{has_ctx, has_pipe, is_empty};
-use crate::past::{
-    caller_of, counts, ctxs, due_at, is_closed, now, one_more, opened, pend, topics, untaken, up,
-    ups,
-};
-use crate::requests::requests;
 use crate::rules::{
     comes_after_close, condemned, goes_on, has_topic, is_after_frame, is_pending_on, is_recv,
     is_uncollected, is_up, may_begin, may_dry, may_end, may_finish,
 };
-use crate::story::Past;
+use history_judge_past::frames::{has_contexts, has_topics, is_pair, is_reply, is_sub, resends};
+use history_judge_past::kept::{kept, wanted};
+use history_judge_past::lists::{has_ctx, has_pipe, is_empty};
+use history_judge_past::past::{
+    caller_of, counts, ctxs, due_at, is_closed, now, one_more, opened, pend, topics, untaken, up,
+    ups,
+};
+use history_judge_past::requests::requests;
+use history_judge_past::sends::{is_due_again, targets};
+use history_judge_past::story::Past;
 use sp_base::{Bytes, Ctx, NoMemory, OpName, PipeId, Tick};
 use sp_history::entry::{Entry, Gate, Switch, Totals, Why};
 use sp_history::parts::{Begun, Orphan, Request};

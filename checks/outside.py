@@ -1,0 +1,173 @@
+#!/usr/bin/env python3
+"""Tries the built nngcat from outside: peers written here, and Debian's nngcat where it is installed.
+
+Skips what is missing. Each check prints a line; the status is the number of checks that failed.
+"""
+import os
+import shutil
+import socket
+import subprocess
+import sys
+import time
+
+HERE = os.path.dirname(os.path.abspath(__file__))
+OURS = os.path.join(HERE, "..", "crates", "nngcat", "out", "nngcat")
+THEIRS = shutil.which("nngcat")
+LINKS = int(os.environ.get("LINKS", "100000"))
+MESSAGES = int(os.environ.get("MESSAGES", "1000000"))
+
+PUSH, PULL = 0x50, 0x51
+
+
+def free_port():
+    with socket.socket() as s:
+        s.bind(("127.0.0.1", 0))
+        return s.getsockname()[1]
+
+
+def greeting(role):
+    return b"\0SP\0\0" + bytes([role]) + b"\0\0"
+
+
+def frame(body):
+    return len(body).to_bytes(8, "big") + body
+
+
+def connect(port, tries=200):
+    for _ in range(tries):
+        try:
+            return socket.create_connection(("127.0.0.1", port))
+        except OSError:
+            time.sleep(0.02)
+    raise OSError("nobody listens")
+
+
+def start(*words, **more):
+    return subprocess.Popen([OURS, *words], stdout=subprocess.PIPE, stderr=subprocess.PIPE, **more)
+
+
+def address(port):
+    return f"tcp://127.0.0.1:{port}"
+
+
+def many_links():
+    """Links that come and go leave no trace: a message is printed after so many, with status 0."""
+    port = free_port()
+    run = start("--pull", "--listen", address(port), "--ascii", "--count", "1")
+    held = connect(port)
+    for _ in range(LINKS):
+        connect(port).close()
+    held.sendall(greeting(PUSH) + frame(b"last"))
+    out, err = run.communicate(timeout=120)
+    held.close()
+    return out == b"last\n" and run.returncode == 0, f"{LINKS} links, status {run.returncode} {err!r}"
+
+
+def many_messages():
+    """So many messages, whole and in order."""
+    port = free_port()
+    run = start("--pull", "--listen", address(port), "--raw", "--count", str(MESSAGES))
+    peer = connect(port)
+    peer.sendall(greeting(PUSH))
+    begun = time.time()
+    pid = os.fork()
+    if pid == 0:
+        for first in range(0, MESSAGES, 1000):
+            peer.sendall(b"".join(frame(b"%015d\n" % n) for n in range(first, min(first + 1000, MESSAGES))))
+        os._exit(0)
+    out, err = run.communicate(timeout=300)
+    os.waitpid(pid, 0)
+    peer.close()
+    took = time.time() - begun
+    right = out == b"".join(b"%015d\n" % n for n in range(MESSAGES))
+    return right and run.returncode == 0, f"{MESSAGES} messages in {took:.1f} s, status {run.returncode} {err!r}"
+
+
+def slow_reader():
+    """An output that is full and doesn't wait is no fault: all comes once it is read."""
+    port = free_port()
+    reader, writer = os.pipe()
+    os.set_blocking(writer, False)
+    run = subprocess.Popen([OURS, "--pull", "--listen", address(port), "--raw", "--count", "40"],
+                           stdout=writer, stderr=subprocess.PIPE)
+    os.close(writer)
+    peer = connect(port)
+    body = bytes(range(250)) * 40
+    peer.sendall(greeting(PUSH) + frame(body) * 40)
+    time.sleep(1)
+    parts = []
+    while True:
+        piece = os.read(reader, 65536)
+        if not piece:
+            break
+        parts.append(piece)
+    run.wait(timeout=60)
+    peer.close()
+    os.close(reader)
+    return b"".join(parts) == body * 40 and run.returncode == 0, f"status {run.returncode}"
+
+
+def broken_peers():
+    """A peer that dies within a message, one that never greets, one of another role: others are served."""
+    port = free_port()
+    run = start("--pull", "--listen", address(port), "--ascii", "--count", "1")
+    silent = connect(port)
+    dying = connect(port)
+    dying.sendall(greeting(PUSH) + (9).to_bytes(8, "big") + b"abc")
+    dying.close()
+    other = connect(port)
+    other.sendall(greeting(0x30))
+    peer = connect(port)
+    peer.sendall(greeting(PUSH) + frame(b"hello"))
+    out, _ = run.communicate(timeout=60)
+    for s in (silent, other, peer):
+        s.close()
+    return out == b"hello\n" and run.returncode == 0, f"{out!r}, status {run.returncode}"
+
+
+def theirs_to_ours():
+    """Debian's nngcat pushes to our pull."""
+    port = free_port()
+    run = start("--pull", "--listen", address(port), "--ascii", "--count", "1")
+    connect(port).close()
+    subprocess.run([THEIRS, "--push", "--dial", address(port), "--data", "hello"], timeout=60)
+    out, _ = run.communicate(timeout=60)
+    return out == b"hello\n" and run.returncode == 0, f"{out!r}, status {run.returncode}"
+
+
+def ours_to_theirs():
+    """Our push dials Debian's pull."""
+    port = free_port()
+    pull = subprocess.Popen([THEIRS, "--pull", "--listen", address(port), "--ascii", "--count", "1"],
+                            stdout=subprocess.PIPE)
+    run = start("--push", "--dial", address(port), "--data", "hello", "--count", "1")
+    out, _ = pull.communicate(timeout=60)
+    run.communicate(timeout=60)
+    return out == b"hello\n" and run.returncode == 0, f"{out!r}, status {run.returncode}"
+
+
+def main():
+    if not os.access(OURS, os.X_OK):
+        print("skipped: crates/nngcat/out/nngcat isn't built")
+        return 0
+    checks = [broken_peers, slow_reader, many_links, many_messages]
+    if THEIRS:
+        checks += [theirs_to_ours, ours_to_theirs]
+    else:
+        print("skipped: no nngcat of nng is installed")
+    wanted = sys.argv[1:]
+    failed = 0
+    for check in checks:
+        if wanted and check.__name__ not in wanted:
+            continue
+        try:
+            well, told = check()
+        except Exception as e:
+            well, told = False, repr(e)
+        failed += not well
+        print(f"{'ok    ' if well else 'FAILED'} {check.__name__}: {told}", flush=True)
+    return failed
+
+
+if __name__ == "__main__":
+    sys.exit(main())

@@ -1,4 +1,0 @@
-use Rattle.history_judge.proofs.frames.+back.Given as goal
-
-abbrev pub decreases-back : goal.decreases-back
-decreases-back l = l.hops

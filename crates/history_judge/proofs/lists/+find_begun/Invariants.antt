@@ -1,5 +1,0 @@
-use Rattle.std.proofs.Common.{length}
-use Rattle.history_judge.proofs.lists.+find_begun.Given as goal
-
-abbrev pub decreases-find_begun : goal.decreases-find_begun
-decreases-find_begun l = length l.ss

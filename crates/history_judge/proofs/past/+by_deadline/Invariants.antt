@@ -1,5 +1,0 @@
-use Rattle.std.proofs.Common.{length}
-use Rattle.history_judge.proofs.past.+by_deadline.Given as goal
-
-abbrev pub decreases-by_deadline : goal.decreases-by_deadline
-decreases-by_deadline l = length l.ds

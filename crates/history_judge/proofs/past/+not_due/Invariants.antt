@@ -1,5 +1,0 @@
-use Rattle.std.proofs.Common.{length}
-use Rattle.history_judge.proofs.past.+not_due.Given as goal
-
-abbrev pub decreases-not_due : goal.decreases-not_due
-decreases-not_due l = length l.ds

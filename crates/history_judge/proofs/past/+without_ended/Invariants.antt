@@ -1,5 +1,0 @@
-use Rattle.std.proofs.Common.{length}
-use Rattle.history_judge.proofs.past.+without_ended.Given as goal
-
-abbrev pub decreases-without_ended : goal.decreases-without_ended
-decreases-without_ended l = length l.es

@@ -1,0 +1,12 @@
+pub mod Fronts
+pub mod Places
+pub mod Piping
+pub mod Taking
+pub mod Homes
+pub mod Replied
+pub mod Ended
+pub mod Offered
+pub mod Trailing
+pub mod Framed
+pub mod Checked
+pub mod Roles

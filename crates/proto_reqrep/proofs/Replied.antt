@@ -1,0 +1,308 @@
+-- A rep stands for its history after each call.
+use Rattle.std.proofs.Common.{◌≡◌, ◌≢◌, refl, ap, sym, ◌∙◌, subst, List, [], ◌∷◌, ◌++◌, ℕ, ◌+◌, Bool, true, false, cond, arith, Option, Some, None, length, map, ◌<◌, ◌≤◌}
+use Rattle.std.specs.Prelude.{Vec, find, filter, drop, not, option_to_list, is_some, ◌&&◌, ◌||◌, ◌==◌}
+use Rattle.std.specs.List.{list_all, list_any}
+use Rattle.std.specs.Option.{option_map}
+use Rattle.std.proofs.lemmas.Bool.Decides.{nat_tests}
+use Rattle.std.proofs.lemmas.List.{map-append}
+use Rattle.sp_base.specs.declared.OpName.{OpName}
+use Rattle.sp_base.specs.declared.role.Role.{Role}
+use Rattle.sp_base.specs.declared.role.Role.TheVariants as role
+use Rattle.sp_msg.specs.Views.{MessageView, wire_text}
+use Rattle.sp_history.specs.declared.setting.Setting.{Setting}
+use Rattle.sp_history.specs.declared.entry.Entry.{Entry}
+use Rattle.sp_history.specs.declared.entry.Entry.TheVariants.{Begin, End, Out, Down, Full, Frame, Unkept, Ctx}
+use Rattle.sp_history.specs.declared.entry.Gate.TheVariants.{Open, Shut}
+use Rattle.sp_history.specs.declared.entry.Act.{Act}
+use Rattle.sp_history.specs.declared.entry.Act.TheVariants.{Recv, Send}
+use Rattle.sp_history.specs.declared.entry.Cause.{Cause}
+use Rattle.sp_history.specs.declared.entry.Why.{Why}
+use Rattle.sp_history.specs.declared.entry.Ending.{Ending}
+use Rattle.sp_history.specs.declared.entry.Ending.TheVariants.{Won, Gone}
+use Rattle.sp_history.specs.declared.entry.Outcome.TheVariants.{Received, Sent}
+use Rattle.sp_history.specs.declared.entry.Message.{Message}
+use Rattle.sp_history.specs.declared.parts.Begun.{Begun}
+use Rattle.sp_history.specs.declared.parts.Item.{Item}
+use Rattle.sp_history.specs.declared.parts.Request.{Request}
+use Rattle.sp_history.specs.declared.parts.Origin.{Origin}
+use Rattle.sp_history.specs.Lists.{has, without, is_nil, is_number, same_op}
+use Rattle.sp_history.specs.Setting.{is_reply, floods, has_topics, has_stored}
+use Rattle.sp_history.specs.Past.{is_of, without_begun, pend, pending, up, ups, ctxs}
+use Rattle.sp_history.specs.Kept.{route, pool, kept, wanted, stored, is_from, has_none_of}
+use Rattle.sp_history.specs.Sends.{may_go, targets, bytes_of, begun_before, is_first_for, unclaimed, goes_nowhere}
+use Rattle.sp_history.specs.Settled.{receive_settled, send_settled, has_full}
+use Rattle.sp_history.specs.Legal.{Calm, is_recv, is_recv_on, is_at}
+use Rattle.sp_history.specs.Once.{AreApart}
+use Rattle.sp_history.specs.Moments.{Moment, Lawful, past, also, next}
+use Rattle.sp_history.proofs.OnceHolds.{same_op-refl}
+use Rattle.sp_proto.specs.Kinds.{Kind, text_of, entry_act}
+use Rattle.sp_proto.specs.Machines.{CanGive, CanSend, CanDrop, CanAgain, IsIdle, message_of}
+use Rattle.proto_reqrep.specs.declared.rep.Reply.{Reply}
+use Rattle.proto_reqrep.specs.declared.rep.Kept.{Kept}
+use Rattle.proto_reqrep.specs.declared.rep.Source.{Source}
+use Rattle.proto_reqrep.specs.declared.rep.Place.{Place}
+use Rattle.proto_reqrep.specs.declared.rep.Answer.{Answer}
+use Rattle.proto_reqrep.specs.declared.rep.Waiting.{Waiting}
+use Rattle.proto_reqrep.specs.declared.ports.Port.{Port}
+use Rattle.proto_reqrep.specs.declared.ports.Way.{Way}
+use Rattle.proto_reqrep.specs.declared.ports.Way.TheVariants as ways
+use Rattle.proto_reqrep.specs.Ports.{port_of, marked, cleared, free_count, where_is}
+use Rattle.proto_reqrep.specs.Reps.{Ties, item_of, origin_of, origin_at, begun_of, act_of, ctx_of, is_for, is_receive, is_ready, can_go, isnt_full, target_of, way_of, out_text, without_first, Routed, AreHome}
+use Rattle.proto_reqrep.proofs.Taking.{find_begun, find_own, without_all, apart_without, apart_more}
+use Rattle.proto_reqrep.proofs.Piping.{ports_without, has_without, fewer_free, ports_marked, marks_fewer, ports_cleared, goes_on, is_full_at, nowhere_up, has_number, all_full}
+use Rattle.proto_reqrep.proofs.Homes.{opens_none, shut_ctxs, shut_origins}
+use Rattle.proto_reqrep.specs.Reps.{role_of}
+use Rattle.proto_reqrep.specs.declared.rep.ReplyRole.{ReplyRole}
+use Rattle.proto_reqrep.specs.declared.rep.ReplyRole.TheVariants as sides
+use Rattle.proto_reqrep.proofs.Roles.{replies, no_floods}
+
+pub is_rep : (m : Reply) (t : Moment) → Ties m t → t.z.role ≡ role_of m.role
+is_rep m t h = ap (λ (k : Kind). k.role) h.kind
+
+pub is_raw : (m : Reply) (t : Moment) → Ties m t → t.z.raw ≡ m.raw
+is_raw m t h = ap (λ (k : Kind). k.raw) h.kind
+
+pub kept_rep : (y : ReplyRole) (z : Setting) (before : List Entry) (c : ℕ) → z.role ≡ role_of y → kept z before c ≡ pool z before 0
+kept_rep sides.Rep z before c h = rw h refl
+kept_rep sides.Respondent z before c h = rw h refl
+
+-- ---- Frames are wanted
+
+any_from : (p : ℕ) (ks : List Kept) → list_any (is_from p) (map item_of ks) ≡ list_any (λ (k : Kept). k.pipe == p) ks
+any_from p [] = refl
+any_from p (k ∷ ks) = ap (λ b. (k.pipe == p) || b) (any_from p ks)
+
+pub wants_means : (y : ReplyRole) (z : Setting) (before : List Entry) (p : ℕ) (ks : List Kept) → z.role ≡ role_of y → map item_of ks ≡ pool z before 0 → not (list_any (λ (k : Kept). k.pipe == p) ks) ≡ wanted z before p
+wants_means y z before p ks h e = ap not (sym (any_from p ks)) ∙ ap (has_none_of p) (e ∙ sym (kept_rep y z before 0 h)) ∙ wanted_is y z before p h
+  where
+    wanted_is : (y : ReplyRole) (z : Setting) (before : List Entry) (p : ℕ) → z.role ≡ role_of y → has_none_of p (kept z before 0) ≡ wanted z before p
+    wanted_is sides.Rep z before p h = rw h refl
+    wanted_is sides.Respondent z before p h = rw h refl
+
+-- ---- What is kept for a context
+
+none_left : {A : Type 0} (f : Kept → A) (n : ℕ) (ks : List Kept) → n ≡ length ks → (n == 0) ≡ is_nil (map f ks)
+none_left f n [] e = grind (arith, nat_tests)
+none_left f n (k ∷ ks) e = grind (arith, nat_tests)
+
+pub keeps_means : (m : Reply) (t : Moment) (c n : ℕ) (b : Bool) → Ties m t → n ≡ length m.kept.items → b ≡ (n == 0) → not b ≡ not (is_nil (kept t.z (past t) c))
+keeps_means m t c n b h e k =
+    ap not (k ∙ none_left item_of n m.kept.items e ∙ ap is_nil (h.items ∙ sym (kept_rep m.role t.z (past t) c (is_rep m t h))))
+
+-- ---- Pipes
+
+kept_without : (p : ℕ) (ks : List Kept) → map item_of (filter (λ (k : Kept). not (k.pipe == p)) ks) ≡ filter (λ i. not (is_from p i)) (map item_of ks)
+kept_without p [] = refl
+kept_without p (k ∷ ks) = go (k.pipe == p) (kept_without p ks)
+  where
+    go : (b : Bool) → map item_of (filter (λ (k : Kept). not (k.pipe == p)) ks) ≡ filter (λ i. not (is_from p i)) (map item_of ks)
+        → map item_of (cond (not b) (k ∷ filter (λ (k : Kept). not (k.pipe == p)) ks) (filter (λ (k : Kept). not (k.pipe == p)) ks)) ≡ cond (not b) (item_of k ∷ filter (λ i. not (is_from p i)) (map item_of ks)) (filter (λ i. not (is_from p i)) (map item_of ks))
+    go true h = h
+    go false h = ap (λ (rest : List Item). item_of k ∷ rest) h
+
+pool_down : (y : ReplyRole) (z : Setting) (before : List Entry) (p : ℕ) (why : Why) → z.role ≡ role_of y → pool z (Down p why ∷ before) 0 ≡ filter (λ i. not (is_from p i)) (pool z before 0)
+pool_down y z before p why h = ap (λ b. cond b (filter (λ i. not (is_from p i)) (pool z before 0)) (pool z before 0)) (replies y z h)
+
+pub down_ties : (m n : Reply) (t : Moment) (p : ℕ) (why : Why) → Ties m t → n.ports.items ≡ filter (λ (x : Port). not (x.pipe == p)) m.ports.items → n.kept.items ≡ filter (λ (k : Kept). not (k.pipe == p)) m.kept.items
+    → n.waiting ≡ m.waiting → n.places ≡ m.places → (n.raw ≡ m.raw) × (n.options ≡ m.options) × (n.role ≡ m.role) → Ties n (also t (Down p why))
+down_ties m n t p why h e f w l same =
+    record {
+      kind = rw (same.0, same.1, same.2) h.kind;
+      most = rw same.1 h.most;
+      ports = e ∙ ap (filter (λ (x : Port). not (x.pipe == p))) h.ports ∙ ports_without (λ q. has_full t.turn q) (up (past t)) p;
+      known = λ q k. h.known q (has_without (up (past t)) p q k);
+      unmet = h.unmet;
+      items = ap (map item_of) f ∙ kept_without p m.kept.items ∙ ap (filter (λ i. not (is_from p i))) h.items ∙ sym (pool_down m.role t.z (past t) p why (is_rep m t h));
+      pending = rw w h.pending;
+      apart = h.apart;
+      contexts = rw l h.contexts;
+      homes = h.homes;
+      stored = rw l h.stored;
+      routed = rw w h.routed;
+    }
+
+pub down_left : (m : Reply) (t : Moment) (op : OpName) (p : ℕ) (s : Begun) (b : List ℕ) (xs : List Port) → Ties m t → CanSend t op p s b → xs ≡ filter (λ (x : Port). not (x.pipe == p)) m.ports.items → free_count xs < free_count m.ports.items
+down_left m t op p s b xs h c e =
+    let full : ℕ → Bool = λ q. has_full t.turn q in
+    let now : xs ≡ map (port_of full) (without (up (past t)) p) = e ∙ ap (filter (λ (x : Port). not (x.pipe == p))) h.ports ∙ ports_without full (up (past t)) p in
+    rw (now, h.ports) (fewer_free full p (up (past t)) c.not_full c.is_up)
+
+pub full_ties : (m n : Reply) (t : Moment) (p : ℕ) → Lawful (also t (Full p)) → Ties m t → n.ports.items ≡ map (marked p) m.ports.items → n.kept ≡ m.kept → n.waiting ≡ m.waiting → n.places ≡ m.places → (n.raw ≡ m.raw) × (n.options ≡ m.options) × (n.role ≡ m.role) → Ties n (also t (Full p))
+full_ties m n t p l h e f w g same =
+    record {
+      kind = rw (same.0, same.1, same.2) h.kind;
+      most = rw same.1 h.most;
+      ports = e ∙ ap (map (marked p)) h.ports ∙ ports_marked (λ q. has_full t.turn q) p (up (past t));
+      known = h.known;
+      unmet = λ q k. ap (λ b. (p == q) || b) (h.unmet q k) ∙ other q (h.known p l.turn.0.itself) k;
+      items = rw f h.items;
+      pending = rw w h.pending;
+      apart = h.apart;
+      contexts = rw g h.contexts;
+      homes = h.homes;
+      stored = rw g h.stored;
+      routed = rw w h.routed;
+    }
+  where
+    other : (q : ℕ) → p ≤ ups (past t) → ups (past t) < q → ((p == q) || false) ≡ false
+    other q k g = grind (arith, nat_tests)
+
+pub full_left : (m : Reply) (t : Moment) (op : OpName) (p : ℕ) (s : Begun) (b : List ℕ) (xs : List Port) → Ties m t → CanSend t op p s b → xs ≡ map (marked p) m.ports.items → free_count xs < free_count m.ports.items
+full_left m t op p s b xs h c e =
+    let full : ℕ → Bool = λ q. has_full t.turn q in
+    let now : xs ≡ map (port_of (λ q. (p == q) || full q)) (up (past t)) = e ∙ ap (map (marked p)) h.ports ∙ ports_marked full p (up (past t)) in
+    rw (now, h.ports) (marks_fewer full p (up (past t)) c.not_full c.is_up)
+
+pub fresh_ties : (m n : Reply) (t : Moment) (k : ℕ) → Ties m t → n.ports.items ≡ map cleared m.ports.items → n.kept ≡ m.kept → n.waiting ≡ m.waiting → n.places ≡ m.places → (n.raw ≡ m.raw) × (n.options ≡ m.options) × (n.role ≡ m.role) → Ties n (next t k)
+fresh_ties m n t k h e f w g same =
+    record {
+      kind = rw (same.0, same.1, same.2) h.kind;
+      most = rw same.1 h.most;
+      ports = e ∙ ap (map cleared) h.ports ∙ ports_cleared (λ q. has_full t.turn q) (up (past t));
+      known = h.known;
+      unmet = λ q g. refl;
+      items = rw f h.items;
+      pending = rw w h.pending;
+      apart = h.apart;
+      contexts = rw g h.contexts;
+      homes = h.homes;
+      stored = rw g h.stored;
+      routed = rw w h.routed;
+    }
+
+-- ---- Contexts
+
+or_left : (a b : Bool) → a ≡ true → (a || b) ≡ true
+or_left a b h = rw h refl
+
+has_first : (cs ds : List ℕ) (c : ℕ) → has cs c ≡ true → has (cs ++ ds) c ≡ true
+has_first [] ds c h = absurd cc
+has_first (x ∷ cs) ds c h = go (x == c) h (has_first cs ds c)
+  where
+    go : (b : Bool) → (b || has cs c) ≡ true → (has cs c ≡ true → has (cs ++ ds) c ≡ true) → (b || has (cs ++ ds) c) ≡ true
+    go true h again = refl
+    go false h again = again h
+
+homes_opened : (cs ds : List ℕ) (ss : List Begun) → AreHome cs ss → AreHome (cs ++ ds) ss
+homes_opened cs ds [] h = h
+homes_opened cs ds (s ∷ ss) h = (has_first cs ds s.ctx h.0, homes_opened cs ds ss h.1)
+
+pub opened_ties : (m n : Reply) (t : Moment) (c : ℕ) → Ties m t → n.places.items ≡ m.places.items ++ record { ctx = c; stored = None } ∷ [] → n.ports ≡ m.ports → n.kept ≡ m.kept → n.waiting ≡ m.waiting → (n.raw ≡ m.raw) × (n.options ≡ m.options) × (n.role ≡ m.role) → Ties n (also t (Ctx c Open))
+opened_ties m n t c h e p f w same =
+    record {
+      kind = rw (same.0, same.1, same.2) h.kind;
+      most = rw same.1 h.most;
+      ports = rw p h.ports;
+      known = h.known;
+      unmet = h.unmet;
+      items = rw f h.items;
+      pending = rw w h.pending;
+      apart = h.apart;
+      contexts = ap (map ctx_of) e ∙ map-append ctx_of m.places.items (record { ctx = c; stored = None } ∷ []) ∙ ap (λ (cs : List ℕ). cs ++ c ∷ []) h.contexts;
+      homes = homes_opened (ctxs (past t)) (c ∷ []) (pend (past t)) h.homes;
+      stored = λ d. ap (origin_at d) e ∙ opens_none c m.places.items d ∙ h.stored d;
+      routed = rw w h.routed;
+    }
+
+has_still : (cs : List ℕ) (c d : ℕ) → has cs d ≡ true → (d == c) ≡ false → has (without cs c) d ≡ true
+has_still [] c d h k = absurd cc
+has_still (x ∷ cs) c d h k = go (x == c) refl (x == d) refl h (has_still cs c d)
+  where
+    third : (l m n : ℕ) → (l == m) ≡ true → (l == n) ≡ true → (n == m) ≡ false → ⊥
+    third l m n h k f = grind (arith, nat_tests)
+
+    go : (a : Bool) → (x == c) ≡ a → (b : Bool) → (x == d) ≡ b → (b || has cs d) ≡ true → (has cs d ≡ true → (d == c) ≡ false → has (without cs c) d ≡ true) → has (cond (not a) (x ∷ without cs c) (without cs c)) d ≡ true
+    go true f true g h again = absurd (third x c d f g k)
+    go true f false g h again = again h k
+    go false f true g h again = rw g refl
+    go false f false g h again = rw g (again h k)
+
+homes_shut : (cs : List ℕ) (c : ℕ) (ss : List Begun) → AreHome cs ss → list_any (λ (s : Begun). s.ctx == c) ss ≡ false → AreHome (without cs c) ss
+homes_shut cs c [] h k = h
+homes_shut cs c (s ∷ ss) h k = go (s.ctx == c) refl k (homes_shut cs c ss h.1)
+  where
+    go : (b : Bool) → (s.ctx == c) ≡ b → (b || list_any (λ (s : Begun). s.ctx == c) ss) ≡ false → (list_any (λ (s : Begun). s.ctx == c) ss ≡ false → AreHome (without cs c) ss) → AreHome (without cs c) (s ∷ ss)
+    go true e k again = absurd cc
+    go false e k again = (has_still cs c s.ctx h.0 e, again k)
+
+swapped : (b e : Bool) (o : Option Origin) → cond e None (cond b o None) ≡ cond b (cond e None o) None
+swapped true e o = refl
+swapped false true o = refl
+swapped false false o = refl
+
+pool_shut : (z : Setting) (before : List Entry) (c : ℕ) → c ≢ 0 → pool z (Ctx c Shut ∷ before) 0 ≡ pool z before 0
+pool_shut z before c h =
+    let away : (c == 0) ≡ false = grind (arith, nat_tests) in rw away refl
+
+pub shut_ties : (m n : Reply) (t : Moment) (c : ℕ) → Lawful (also t (Ctx c Shut)) → Ties m t → n.places.items ≡ filter (λ (x : Place). not (x.ctx == c)) m.places.items → n.ports ≡ m.ports → n.kept ≡ m.kept → n.waiting ≡ m.waiting → (n.raw ≡ m.raw) × (n.options ≡ m.options) × (n.role ≡ m.role) → Ties n (also t (Ctx c Shut))
+shut_ties m n t c l h e p f w same =
+    record {
+      kind = rw (same.0, same.1, same.2) h.kind;
+      most = rw same.1 h.most;
+      ports = rw p h.ports;
+      known = h.known;
+      unmet = h.unmet;
+      items = rw f h.items ∙ sym (pool_shut t.z (past t) c l.turn.0.itself.0);
+      pending = rw w h.pending;
+      apart = h.apart;
+      contexts = ap (map ctx_of) e ∙ shut_ctxs c m.places.items ∙ ap (λ cs. without cs c) h.contexts;
+      homes = homes_shut (ctxs (past t)) c (pend (past t)) h.homes l.turn.0.itself.2;
+      stored = λ d. ap (origin_at d) e ∙ shut_origins c m.places.items d ∙ ap (λ (o : Option Origin). cond (c == d) None o) (h.stored d) ∙ swapped (has_stored t.z) (c == d) _;
+      routed = rw w h.routed;
+    }
+
+-- ---- Begin
+
+homes_more : (cs : List ℕ) (ss : List Begun) (s : Begun) → AreHome cs ss → has cs s.ctx ≡ true → AreHome cs (ss ++ s ∷ [])
+homes_more cs [] s h k = (k, h)
+homes_more cs (r ∷ ss) s h k = (h.0, homes_more cs ss s h.1 k)
+
+left_of : (a b : Bool) → (not a && b) ≡ true → a ≡ false
+left_of a b h = elim a as (λ v. (not v && b) ≡ true → v ≡ false) [ true ↦ λ q. absurd cc | false ↦ λ q. refl ] h
+
+-- the sends that waited, and one more
+routed_more : (routes : OpName → Option Origin) (x : Option Origin) (op : OpName) (ws : List Waiting) (w : Waiting) → w.op ≡ op → list_any (is_at op.slot) (map begun_of ws) ≡ false → Routed routes ws
+    → ((r : Answer) → w.answer ≡ Some r → option_map origin_of r.source ≡ x) → Routed (λ o. cond (same_op op o) x (routes o)) (ws ++ w ∷ [])
+routed_more routes x op [] w i h k n = (λ r e. n r e ∙ sym (ap (λ b. cond b x (routes w.op)) (subst (λ (o : OpName). same_op op o ≡ true) (sym i) (same_op-refl op))), k)
+routed_more routes x op (v ∷ ws) w i h k n = go (is_at op.slot (begun_of v)) refl h (routed_more routes x op ws w i)
+  where
+    differ : (m n : ℕ) → (m == n) ≡ false → (n == m) ≡ false
+    differ m n h = grind (arith, nat_tests)
+
+    go : (b : Bool) → is_at op.slot (begun_of v) ≡ b → (b || list_any (is_at op.slot) (map begun_of ws)) ≡ false
+        → (list_any (is_at op.slot) (map begun_of ws) ≡ false → Routed routes ws → ((r : Answer) → w.answer ≡ Some r → option_map origin_of r.source ≡ x) → Routed (λ o. cond (same_op op o) x (routes o)) (ws ++ w ∷ []))
+        → Routed (λ o. cond (same_op op o) x (routes o)) (v ∷ ws ++ w ∷ [])
+    go true e h again = absurd cc
+    go false e h again =
+        let other : same_op op v.op ≡ false = rw (differ v.op.slot op.slot e) refl in
+        (λ r q. k.0 r q ∙ sym (ap (λ b. cond b x (routes v.op)) other), again h k.1 n)
+
+pub begun_ties : (m n : Reply) (t : Moment) (w : Waiting) (a : Act) (source : Option Source) (deadline : Option ℕ) → Lawful (also t (Begin w.op t.caller w.ctx a deadline)) → Ties m t → act_of w.answer ≡ a → ((r : Answer) → w.answer ≡ Some r → r.source ≡ source)
+    → option_map origin_of source ≡ origin_at w.ctx m.places.items → ((d : ℕ) → origin_at d n.places.items ≡ cond (w.ctx == d) None (origin_at d m.places.items)) → map ctx_of n.places.items ≡ map ctx_of m.places.items
+    → n.waiting.items ≡ m.waiting.items ++ w ∷ [] → n.ports ≡ m.ports → n.kept ≡ m.kept → (n.raw ≡ m.raw) × (n.options ≡ m.options) × (n.role ≡ m.role) → Ties n (also t (Begin w.op t.caller w.ctx a deadline))
+begun_ties m n t w a source deadline l h i j u v x e p f same =
+    let may = l.turn.0.itself in
+    let free = left_of _ _ may.slot_free in
+    record {
+      kind = rw (same.0, same.1, same.2) h.kind;
+      most = rw same.1 h.most;
+      ports = rw p h.ports;
+      known = h.known;
+      unmet = h.unmet;
+      items = rw f h.items;
+      pending =
+          ap (map begun_of) e ∙ map-append begun_of m.waiting.items (w ∷ []) ∙ ap (λ (ss : List Begun). ss ++ begun_of w ∷ []) h.pending
+          ∙ ap (λ (b : Act). pend (past t) ++ record { op = w.op; ctx = w.ctx; act = b } ∷ []) i;
+      apart = apart_more (pend (past t)) (record { op = w.op; ctx = w.ctx; act = a }) h.apart free;
+      contexts = x ∙ h.contexts;
+      homes = homes_more (ctxs (past t)) (pend (past t)) (record { op = w.op; ctx = w.ctx; act = a }) h.homes may.ctx_open;
+      stored = λ d. v d ∙ ap (λ (o : Option Origin). cond (w.ctx == d) None o) (h.stored d) ∙ swapped (has_stored t.z) (w.ctx == d) _;
+      routed =
+          rw e
+          (routed_more (λ o. route t.z (past t) o) (stored t.z (past t) w.ctx) w.op m.waiting.items w refl (rw h.pending free) h.routed (λ r q. ap (option_map origin_of) (j r q) ∙ u ∙ h.stored w.ctx));
+    }
+
+-- ---- What a rep never does
+
+pub never_floods : {A : Type 0} (m : Reply) (t : Moment) → Ties m t → floods t.z.role ≡ true → A
+never_floods m t h f = let k : false ≡ true = sym (no_floods m.role t.z (is_rep m t h)) ∙ f in absurd cc

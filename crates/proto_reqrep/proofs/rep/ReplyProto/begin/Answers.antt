@@ -1,0 +1,41 @@
+use Rattle.std.proofs.Common.{rules, refl, ap, sym, ◌∙◌, ◌≡◌, ◌++◌, ◌∷◌, [], Some, None, map, cond, ℕ, List}
+use Rattle.std.specs.Prelude.{◌==◌}
+use Rattle.std.specs.Vec.{with_items}
+use Rattle.std.specs.Option.{option_map}
+use Rattle.sp_proto.specs.Kinds.{entry_act}
+use Rattle.proto_reqrep.specs.declared.rep.Reply.{Reply}
+use Rattle.proto_reqrep.specs.declared.rep.Place.{Place}
+use Rattle.proto_reqrep.specs.declared.rep.Waiting.{Waiting}
+use Rattle.proto_reqrep.specs.Reps.{origin_at, origin_of, ctx_of}
+use Rattle.proto_reqrep.proofs.Homes.{places_written}
+use Rattle.proto_reqrep.proofs.Replied.{begun_ties}
+use Rattle.proto_reqrep.proofs.rep.ReplyProto.begin.Goals as goal
+
+pub returns-clause-begun : goal.returns-clause-begun
+returns-clause-begun c =
+    λ t deadline n l h.
+    let was = c.args.self.now in
+    let w : Waiting = record { op = c.args.op; ctx = c.args.c; answer = c.answer_of-answer.result } in
+    let items : c.push_back.new.self.items ≡ was.waiting.items ++ w ∷ [] = search rules in
+    let is : Reply = record { alloc = was.alloc; role = was.role; raw = was.raw; options = was.options; ports = was.ports; kept = was.kept; waiting = c.push_back.new.self; places = with_items was.places c.unstore-source.new.places } in
+    let olds = c.deref_mut.ensures.value in
+    let written : is.places.items ≡ c.unstore-source.new.places = places_written was.places c.unstore-source.new.places c.deref_mut.result.now olds c.unstore-source.ensures.ctxs in
+    begun_ties
+    was
+    is
+    t
+    w
+    (entry_act c.args.act)
+    c.unstore-source.result
+    deadline
+    l
+    h
+    c.answer_of-answer.ensures.act
+    c.answer_of-answer.ensures.source
+    (c.unstore-source.ensures.result ∙ ap (origin_at c.args.c) olds)
+    (λ d. ap (origin_at d) written ∙ c.unstore-source.ensures.stored d ∙ ap (λ (xs : List Place). cond (c.args.c == d) None (origin_at d xs)) olds)
+    (ap (map ctx_of) written ∙ c.unstore-source.ensures.ctxs ∙ ap (map ctx_of) olds)
+    items
+    refl
+    refl
+    (refl, refl, refl)

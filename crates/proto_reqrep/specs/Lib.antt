@@ -1,0 +1,4 @@
+pub mod Ports
+pub mod Trails
+pub mod Reps
+pub mod RepLaws

@@ -1,0 +1,177 @@
+-- What a rep stands for.
+use Rattle.std.specs.Prelude.{◌≡◌, ◌≤◌, ◌<◌, ◌==◌, ◌&&◌, ℕ, Bool, true, false, not, ⊤, if◌then◌else◌, List, [], ◌∷◌, ◌++◌, map, find, drop, Option, Some, None, MatchOption, is_some}
+use Rattle.std.specs.List.{list_any}
+use Rattle.std.specs.Option.{option_map}
+use Rattle.sp_base.specs.declared.OpName.{OpName}
+use Rattle.sp_base.specs.declared.role.Role.{Role}
+use Rattle.sp_base.specs.declared.role.Role.TheVariants as role
+use Rattle.sp_msg.specs.Views.{MessageView}
+use Rattle.sp_history.specs.declared.entry.Act.{Act}
+use Rattle.sp_history.specs.declared.entry.Act.TheVariants.{Recv, Send}
+use Rattle.sp_history.specs.declared.parts.Begun.{Begun}
+use Rattle.sp_history.specs.declared.parts.Item.{Item}
+use Rattle.sp_history.specs.declared.parts.Origin.{Origin}
+use Rattle.sp_history.specs.declared.setting.Options.{Options}
+use Rattle.sp_history.specs.Lists.{has, same_op, first_word}
+use Rattle.sp_history.specs.Past.{pend, ctxs, up, ups}
+use Rattle.sp_history.specs.Kept.{pool, stored, route}
+use Rattle.sp_history.specs.Once.{AreApart}
+use Rattle.sp_history.specs.Settled.{has_full}
+use Rattle.sp_history.specs.Moments.{Moment, past}
+use Rattle.sp_proto.specs.Kinds.{Kind, kind_of, text_of}
+use Rattle.sp_proto.specs.declared.Offer.{Offer}
+use Rattle.sp_proto.specs.declared.Verb.{Verb}
+use Rattle.sp_proto.specs.declared.Verb.TheVariants as verbs
+use Rattle.sp_proto.specs.declared.Offer.TheVariants as offers
+use Rattle.proto_reqrep.specs.Ports.{port_of, where_is}
+use Rattle.proto_reqrep.specs.declared.ports.Port.{Port}
+use Rattle.proto_reqrep.specs.declared.ports.Way.{Way}
+use Rattle.proto_reqrep.specs.declared.ports.Way.TheVariants as ways
+use Rattle.proto_reqrep.specs.declared.rep.Reply.{Reply}
+use Rattle.proto_reqrep.specs.declared.rep.Kept.{Kept}
+use Rattle.proto_reqrep.specs.declared.rep.Source.{Source}
+use Rattle.proto_reqrep.specs.declared.rep.Place.{Place}
+use Rattle.proto_reqrep.specs.declared.rep.Answer.{Answer}
+use Rattle.proto_reqrep.specs.declared.rep.Waiting.{Waiting}
+use Rattle.proto_reqrep.specs.declared.rep.ReplyRole.{ReplyRole}
+use Rattle.proto_reqrep.specs.declared.rep.ReplyRole.TheVariants as sides
+
+abbrev pub role_of : ReplyRole → Role
+role_of sides.Rep = role.Rep
+role_of sides.Respondent = role.Respondent
+
+-- a rep or a respondent, cooked or raw
+abbrev pub reply_kind : Role → Bool → Options → Kind
+reply_kind r raw options = record { role = r; raw = raw; options = options }
+
+abbrev pub item_of : Kept → Item
+item_of k = record { pipe = k.pipe; words = k.words; message = text_of k.message }
+
+abbrev pub origin_of : Source → Origin
+origin_of s = record { pipe = s.pipe; words = s.words }
+
+-- ---- Contexts
+
+abbrev pub ctx_of : Place → ℕ
+ctx_of x = x.ctx
+
+abbrev pub is_home : ℕ → Place → Bool
+is_home c x = x.ctx == c
+
+abbrev pub origin_in : Option Place → Option Origin
+origin_in None = None
+origin_in (Some x) = option_map origin_of x.stored
+
+-- what is stored with the context
+abbrev pub origin_at : ℕ → List Place → Option Origin
+origin_at c xs = origin_in (find (is_home c) xs)
+
+-- ---- Operations
+
+abbrev pub act_of : Option Answer → Act
+act_of None = Recv
+act_of (Some r) = Send (text_of r.message)
+
+abbrev pub begun_of : Waiting → Begun
+begun_of w = record { op = w.op; ctx = w.ctx; act = act_of w.answer }
+
+abbrev pub is_for : OpName → Waiting → Bool
+is_for op w = same_op w.op op
+
+-- without the first of this name
+abbrev pub without_first : OpName → List Waiting → List Waiting
+without_first op [] = []
+without_first op (w ∷ ws) = if is_for op w then ws else w ∷ without_first op ws
+
+abbrev pub is_receive : Waiting → Bool
+is_receive w = not (is_some w.answer)
+
+abbrev pub state_at : List Waiting → List Place → ℕ → Verb → Bool
+state_at ws xs c verbs.Recv = list_any (λ (w : Waiting). is_receive w && (w.ctx == c)) ws
+state_at ws xs c verbs.Send = not (is_some (origin_at c xs))
+
+-- the pipe to which a send may go
+abbrev pub target_of : Bool → Answer → Option ℕ
+target_of true r = first_word r.message.header
+target_of false r = option_map (λ (s : Source). s.pipe) r.source
+
+abbrev pub way_of : Bool → List Port → Answer → Way
+way_of raw xs r = where_is xs (target_of raw r)
+
+abbrev pub isnt_full : Way → Bool
+isnt_full ways.Full = false
+isnt_full ways.Nowhere = true
+isnt_full (ways.To p) = true
+
+abbrev pub can_go : Bool → List Port → Option Answer → Bool
+can_go raw xs None = false
+can_go raw xs (Some r) = isnt_full (way_of raw xs r)
+
+-- a send whose pipe isn't up and full
+abbrev pub is_ready : Bool → List Port → Waiting → Bool
+is_ready raw xs w = can_go raw xs w.answer
+
+abbrev pub words_of : Option Source → List ℕ
+words_of None = []
+words_of (Some s) = s.words
+
+abbrev pub out_text : Bool → Answer → List ℕ
+out_text true r = drop 4 r.message.header ++ r.message.body
+out_text false r = words_of r.source ++ r.message.body
+
+abbrev pub way_offer : OpName → Way → Offer
+way_offer op (ways.To p) = offers.Send op p
+way_offer op ways.Full = offers.Drop op
+way_offer op ways.Nowhere = offers.Drop op
+
+abbrev pub answer_offer : Bool → List Port → OpName → Option Answer → Offer
+answer_offer raw xs op None = offers.Idle
+answer_offer raw xs op (Some r) = way_offer op (way_of raw xs r)
+
+abbrev pub send_offer : Bool → List Port → Option Waiting → Offer
+send_offer raw xs None = offers.Idle
+send_offer raw xs (Some w) = answer_offer raw xs w.op w.answer
+
+-- the oldest request is given, and, cooked, stored with the context
+abbrev pub Given : ℕ → Option MessageView → Reply → Reply → Option Kept → Type 0
+Given c r m n None = (r ≡ None) × (m.kept.items ≡ []) × (n.places ≡ m.places)
+Given c r m n (Some k) =
+    (r ≡ Some k.message) × (m.kept.items ≡ k ∷ n.kept.items) × (map ctx_of n.places.items ≡ map ctx_of m.places.items)
+    × (m.raw ≡ true → n.places ≡ m.places)
+    × (m.raw ≡ false → has (map ctx_of m.places.items) c ≡ true → (d : ℕ) → origin_at d n.places.items ≡ (if c == d then Some (record { pipe = k.pipe; words = k.words }) else origin_at d m.places.items))
+
+abbrev pub Gives : ℕ → Option MessageView → Reply → Reply → Type 0
+Gives c r m n = (k : Option Kept) × Given c r m n k
+
+-- ---- What it stands for
+
+-- each send has the request that it answers
+abbrev pub Routed : (OpName → Option Origin) → List Waiting → Type 0
+Routed routes [] = ⊤
+Routed routes (w ∷ ws) = ((r : Answer) → w.answer ≡ Some r → option_map origin_of r.source ≡ routes w.op) × Routed routes ws
+
+-- each operation is of one of these contexts
+abbrev pub AreHome : List ℕ → List Begun → Type 0
+AreHome cs [] = ⊤
+AreHome cs (s ∷ ss) = (has cs s.ctx ≡ true) × AreHome cs ss
+
+-- The machine is of this kind; knows these pipes as up and which of them are full, none with a number above that of the
+-- last one that came up; keeps these items; has these operations pending, the oldest first, each on an open context;
+-- and has stored, with each context and with each pending send, this request
+pub record Shows (m : Reply) (k : Kind) (us : List ℕ) (last : ℕ) (full : ℕ → Bool) (is : List Item) (ss : List Begun) (cs : List ℕ) (st : ℕ → Option Origin) (routes : OpName → Option Origin) : Type 0 where
+  pub kind : k ≡ reply_kind (role_of m.role) m.raw m.options
+  pub most : m.options.ttl ≤ 15
+  pub ports : m.ports.items ≡ map (port_of full) us
+  pub known : (q : ℕ) → has us q ≡ true → q ≤ last
+  pub unmet : (q : ℕ) → last < q → full q ≡ false
+  pub items : map item_of m.kept.items ≡ is
+  pub pending : map begun_of m.waiting.items ≡ ss
+  pub apart : AreApart ss
+  pub contexts : map ctx_of m.places.items ≡ cs
+  pub homes : AreHome cs ss
+  pub stored : (c : ℕ) → origin_at c m.places.items ≡ st c
+  pub routed : Routed routes m.waiting.items
+
+abbrev pub Ties : Reply → Moment → Type 0
+Ties m t =
+    Shows m (kind_of t.z) (up (past t)) (ups (past t)) (λ q. has_full t.turn q) (pool t.z (past t) 0) (pend (past t)) (ctxs (past t)) (λ c. stored t.z (past t) c) (λ op. route t.z (past t) op)

@@ -1,0 +1,572 @@
+//! The machine of rep, and of respondent.
+ghost use Rattle.std.specs.Prelude.{◌≡◌, ◌≤◌, ◌<◌, ◌+◌, ◌==◌, ℕ, List, [], Some, None, IfOk, IfSome, OnOk, not, map, filter, find, length, option_to_list, if◌then◌else◌, ◌∷◌, ◌&&◌, true, is_some};
+ghost use Rattle.std.specs.VecDeque.{deque_len, deque_capacity};
+ghost use Rattle.std.specs.Option.{option_map};
+ghost use Rattle.std.specs.List.{position, list_any};
+ghost use Rattle.sp_base.specs.declared.role.Role.TheVariants as role;
+ghost use Rattle.sp_history.specs.Options.{Fits};
+ghost use Rattle.sp_history.specs.Lists.{has};
+ghost use Rattle.sp_history.specs.Frames.{traced_item};
+ghost use Rattle.sp_history.specs.Backtrace.{back};
+ghost use Rattle.sp_history.specs.declared.parts.Back.TheVariants.{Found};
+ghost use Rattle.sp_msg.specs.Views.{wire_text};
+ghost use Rattle.sp_proto.specs.Kinds.{Starts, entry_act};
+ghost use Rattle.proto_reqrep.specs.declared.rep.Waiting.{Waiting as WaitingType};
+ghost use Rattle.proto_reqrep.specs.declared.rep.Answer.{Answer as AnswerType};
+ghost use Rattle.proto_reqrep.specs.Reps.{Ties, reply_kind, role_of, item_of, origin_of, origin_at, is_for, is_home, is_receive, is_ready, way_of, out_text, without_first, ctx_of, send_offer, Gives, act_of, state_at};
+
+use crate::ports::{Port, Way, clear, forget, mark, way_to};
+use crate::trail::{Trail, Words, first_word, scan};
+use sp_base::{Ctx, NoMemory, OpName, PipeId, Role, Tick};
+use sp_history::setting::Options;
+use sp_msg::Message;
+use sp_proto::{Act, CheckError, Offer, Proto, UpFault, Verb, Verdict};
+use std::alloc::Global;
+use std::collections::VecDeque;
+
+/// A request that is kept. Raw, its pipe and its words stand in the header as well.
+#[derive(Drop)]
+struct Kept {
+    pipe: PipeId,
+    words: Words,
+    message: Message,
+}
+
+/// Where a request came from.
+#[derive(Drop)]
+struct Source {
+    pipe: PipeId,
+    words: Words,
+}
+
+/// An open context, and the request that its next send answers.
+#[derive(Drop)]
+struct Place {
+    ctx: Ctx,
+    stored: Option<Source>,
+}
+
+/// A send that waits: its message, as it was begun, and, cooked, the request that it answers.
+#[derive(Drop)]
+struct Answer {
+    message: Message,
+    source: Option<Source>,
+}
+
+/// An operation that waits: a send, or a receive.
+#[derive(Drop)]
+struct Waiting {
+    op: OpName,
+    ctx: Ctx,
+    answer: Option<Answer>,
+}
+
+/// Which of the two it is.
+#[derive(Clone, Copy, PartialEq, Eq, Debug)]
+enum ReplyRole {
+    Rep,
+    Respondent,
+}
+
+/// A rep (nng_rep(7)) or a respondent (nng_respondent(7)), cooked or raw.
+#[derive(Drop)]
+pub struct Reply {
+    alloc: Global,
+    role: ReplyRole,
+    raw: bool,
+    options: Options,
+    /// In the order in which they came up.
+    ports: Vec<Port>,
+    /// The oldest first, at most one of each pipe.
+    kept: VecDeque<Kept>,
+    /// In the order of their begins.
+    waiting: VecDeque<Waiting>,
+    /// In the order in which they were opened.
+    places: Vec<Place>,
+}
+
+// The context's place.
+fn home(places: &[Place], c: Ctx) -> Option<usize>
+    ensures { result ≡ position (is_home c) places.now }
+{
+    places.iter().position(|x| x.ctx.0 == c.0)
+}
+
+// The context is open.
+fn is_open(places: &[Place], c: Ctx) -> bool
+    ensures { result ≡ list_any (is_home c) places.now }
+{
+    places.iter().any(|x| x.ctx.0 == c.0)
+}
+
+// A request is stored with the context.
+fn is_stored(places: &[Place], c: Ctx) -> bool
+    ensures { result ≡ is_some (origin_at c places.now) }
+{
+    match home(places, c) {
+        None => false,
+        Some(i) => places[i].stored.is_some(),
+    }
+}
+
+// Stores a request with the context.
+fn store(places: &mut [Place], c: Ctx, source: Source)
+    ensures ctxs { map ctx_of places.new ≡ map ctx_of places.old }
+    ensures stored { (d : ℕ) → has (map ctx_of places.old) c ≡ true → origin_at d places.new ≡ (if c == d then Some (origin_of source) else origin_at d places.old) }
+{
+    match home(places, c) {
+        None => {}
+        Some(i) => places[i].stored = Some(source),
+    }
+}
+
+// Takes the request away that is stored with the context.
+fn unstore(places: &mut [Place], c: Ctx) -> Option<Source>
+    ensures ctxs { map ctx_of places.new ≡ map ctx_of places.old }
+    ensures result { option_map origin_of result ≡ origin_at c places.old }
+    ensures stored { (d : ℕ) → origin_at d places.new ≡ (if c == d then None else origin_at d places.old) }
+{
+    match home(places, c) {
+        None => None,
+        Some(i) => places[i].stored.take(),
+    }
+}
+
+// Where a send may go.
+fn way_of(raw: bool, ports: &[Port], answer: &Answer) -> Way
+    ensures { result ≡ way_of raw ports.now answer.now }
+{
+    if raw {
+        return match first_word(answer.message.header()) {
+            None => way_to(ports, None),
+            Some(p) => way_to(ports, Some(PipeId(p))),
+        };
+    }
+    match &answer.source {
+        None => way_to(ports, None),
+        Some(s) => way_to(ports, Some(s.pipe)),
+    }
+}
+
+// Whether it is a send whose pipe isn't up and full.
+fn is_ready(raw: bool, ports: &[Port], w: &Waiting) -> bool
+    ensures { result ≡ is_ready raw ports.now w.now }
+{
+    match &w.answer {
+        None => false,
+        Some(r) => way_of(raw, ports, r) != Way::Full,
+    }
+}
+
+// Where the first such send stands.
+fn ready_place(raw: bool, ports: &[Port], waiting: &VecDeque<Waiting>) -> Option<usize>
+    ensures { result ≡ position (is_ready raw ports.now) waiting.now.items }
+{
+    waiting.iter().position(|w| is_ready(raw, ports, w))
+}
+
+// Where the first receive stands.
+fn receive_place(waiting: &VecDeque<Waiting>) -> Option<usize>
+    ensures { result ≡ position is_receive waiting.now.items }
+{
+    waiting.iter().position(|w| w.answer.is_none())
+}
+
+// Where the operation stands.
+fn place_of(waiting: &VecDeque<Waiting>, op: OpName) -> Option<usize>
+    ensures { result ≡ position (is_for op) waiting.now.items }
+{
+    waiting.iter().position(|w| w.op.slot == op.slot && w.op.generation == op.generation)
+}
+
+// Takes the operation out.
+fn take(waiting: &mut VecDeque<Waiting>, op: OpName) -> Option<Waiting>
+    ensures found { result ≡ find (is_for op) waiting.old.items }
+    ensures rest { waiting.new.items ≡ without_first op waiting.old.items }
+    ensures len { deque_len waiting.new + length (option_to_list result) ≡ deque_len waiting.old }
+    ensures capacity { deque_capacity waiting.new ≡ deque_capacity waiting.old }
+{
+    match place_of(waiting, op) {
+        None => None,
+        Some(i) => match waiting.remove(i) {
+            Some(w) => Some(w),
+            None => None,
+        },
+    }
+}
+
+// A send of the act, with the request that it answers.
+fn answer_of(act: Act, source: Option<Source>) -> Option<Answer>
+    ensures act { act_of result ≡ entry_act act }
+    ensures source { (r : AnswerType) → result ≡ Some r → r.source ≡ source }
+{
+    match act {
+        Act::Recv => None,
+        Act::Send(message) => Some(Answer { message, source }),
+    }
+}
+
+// What goes out for a send.
+fn outward(raw: bool, answer: Answer) -> Message
+    ensures { wire_text result ≡ out_text raw answer }
+{
+    let mut message = answer.message;
+    if raw {
+        if message.header_trim_u32().is_err() {
+            message.header_clear();
+        }
+        return message;
+    }
+    message.header_clear();
+    match &answer.source {
+        None => {}
+        Some(s) => s.words.lead(&mut message),
+    }
+    message
+}
+
+// A frame with a whole backtrace, as it is kept.
+fn traced(alloc: Global, raw: bool, ttl: u8, p: PipeId, m: Message) -> Result<Kept, NoMemory>
+    requires header { m.header ≡ [] }
+    ensures { IfOk result (λ k. (words rest : List ℕ) → back ttl m.body ≡ Found words rest → Some (item_of k) ≡ traced_item raw p (Found words rest)) }
+{
+    let mut message = m;
+    match Words::take(alloc, &mut message, ttl) {
+        Err(e) => Err(e),
+        Ok(words) => {
+            if raw {
+                let _ = message.header_append_u32(p.0);
+                words.lead(&mut message);
+                return Ok(Kept {
+                    pipe: p,
+                    words: Words::none(alloc),
+                    message,
+                });
+            }
+            Ok(Kept {
+                pipe: p,
+                words,
+                message,
+            })
+        }
+    }
+}
+
+// The first place.
+fn first_places(alloc: Global) -> Result<Vec<Place>, NoMemory>
+    ensures { IfOk result (λ v. v.items ≡ record { ctx = 0; stored = None } ∷ []) }
+{
+    let mut places = Vec::new(alloc);
+    match places.push(Place {
+        ctx: Ctx(0),
+        stored: None,
+    }) {
+        Ok(()) => Ok(places),
+        Err(_) => Err(NoMemory),
+    }
+}
+
+// A machine to which nothing has happened.
+fn unused(alloc: Global, role: ReplyRole, options: Options, raw: bool) -> Result<Reply, NoMemory>
+    requires { Fits options }
+    ensures { IfOk result (λ m. Starts Ties m (reply_kind (role_of role) raw options)) }
+{
+    match first_places(alloc) {
+        Err(e) => Err(e),
+        Ok(places) => Ok(Reply {
+            alloc,
+            role,
+            raw,
+            options,
+            ports: Vec::new(alloc),
+            kept: VecDeque::new(alloc),
+            waiting: VecDeque::new(alloc),
+            places,
+        }),
+    }
+}
+
+/// Respondents. They are reps of another role.
+pub struct Respond;
+
+impl Respond {
+    /// A respondent to which nothing has happened.
+    pub fn new(alloc: Global, options: Options, raw: bool) -> Result<Reply, NoMemory>
+        requires { Fits options }
+        ensures { IfOk result (λ m. Starts Ties m (reply_kind role.Respondent raw options)) }
+    {
+        unused(alloc, ReplyRole::Respondent, options, raw)
+    }
+}
+
+impl Reply {
+    /// A rep to which nothing has happened.
+    pub fn new(alloc: Global, options: Options, raw: bool) -> Result<Reply, NoMemory>
+        requires { Fits options }
+        ensures { IfOk result (λ m. Starts Ties m (reply_kind role.Rep raw options)) }
+    {
+        unused(alloc, ReplyRole::Rep, options, raw)
+    }
+
+    fn keeps_of(&self, p: PipeId) -> bool
+        ensures { result ≡ list_any (λ k. k.pipe == p) self.now.kept.items }
+    {
+        self.kept.iter().any(|k| k.pipe.0 == p.0)
+    }
+
+    // The first send that can go, or is to go nowhere.
+    fn next_send(&self) -> Offer
+        ensures { result ≡ send_offer self.now.raw self.now.ports.items (find (is_ready self.now.raw self.now.ports.items) self.now.waiting.items) }
+    {
+        match ready_place(self.raw, &self.ports, &self.waiting) {
+            None => Offer::Idle,
+            Some(i) => {
+                let w = &self.waiting[i];
+                match &w.answer {
+                    None => Offer::Idle,
+                    Some(r) => match way_of(self.raw, &self.ports, r) {
+                        Way::To(pipe) => Offer::Send { op: w.op, pipe },
+                        Way::Full => Offer::Drop { op: w.op },
+                        Way::Nowhere => Offer::Drop { op: w.op },
+                    },
+                }
+            }
+        }
+    }
+
+    // Gives the oldest request to a receive of the context, and, cooked, stores where it came from.
+    fn give(&mut self, c: Ctx) -> Option<Message>
+        ensures same { (self.new.raw ≡ self.old.raw) × (self.new.options ≡ self.old.options) × (self.new.role ≡ self.old.role) × (self.new.ports ≡ self.old.ports) × (self.new.waiting ≡ self.old.waiting) }
+        ensures given { Gives c result self.old self.new }
+    {
+        match self.kept.pop_front() {
+            None => None,
+            Some(
+                Kept {
+                    pipe,
+                    words,
+                    message,
+                },
+            ) => {
+                if !self.raw {
+                    store(&mut self.places, c, Source { pipe, words });
+                }
+                Some(message)
+            }
+        }
+    }
+
+    // The state of the context has no place for it.
+    fn has_state(&self, c: Ctx, verb: Verb) -> bool
+        ensures { result ≡ state_at self.now.waiting.items self.now.places.items c verb }
+    {
+        match verb {
+            Verb::Recv => self.is_receiving(c),
+            Verb::Send => !is_stored(&self.places, c),
+        }
+    }
+
+    fn is_receiving(&self, c: Ctx) -> bool
+        ensures { result ≡ list_any (λ w. is_receive w && (w.ctx == c)) self.now.waiting.items }
+    {
+        self.waiting
+            .iter()
+            .any(|w| w.answer.is_none() && w.ctx.0 == c.0)
+    }
+}
+
+impl Proto for Reply {
+    ghost use Rattle.std.specs.Prelude.{◌-◌, ◌+◌};
+    ghost use Rattle.std.specs.VecDeque.{deque_len, deque_capacity};
+    ghost use Rattle.proto_reqrep.specs.Ports.{free_count};
+    ghost use Rattle.proto_reqrep.specs.Reps.{Ties, reply_kind, role_of};
+    ghost use Rattle.proto_reqrep.specs.RepLaws as laws;
+
+    ghost kind = { λ m. reply_kind (role_of m.role) m.raw m.options };
+
+    ghost ties = { Ties };
+
+    ghost room = { λ m. deque_capacity m.waiting - deque_len m.waiting };
+
+    ghost left = { λ m. free_count m.ports.items + deque_len m.waiting };
+
+    ghost copies = { λ m op. 0 };
+
+    ghost kinds = { laws.kinds };
+
+    ghost silent = { laws.silent };
+
+    ghost anew = { laws.anew };
+
+    fn role(&self) -> Role {
+        match self.role {
+            ReplyRole::Rep => Role::Rep,
+            ReplyRole::Respondent => Role::Respondent,
+        }
+    }
+
+    fn raw(&self) -> bool {
+        self.raw
+    }
+
+    fn reserve(&mut self, slots: u32) -> Result<(), NoMemory> {
+        match self.waiting.reserve(slots as usize) {
+            Ok(()) => Ok(()),
+            Err(_) => Err(NoMemory),
+        }
+    }
+
+    fn up(&mut self, p: PipeId) -> Result<(), UpFault> {
+        match self.ports.push(Port {
+            pipe: p,
+            is_full: false,
+        }) {
+            Ok(()) => Ok(()),
+            Err(_) => Err(UpFault::NoMemory),
+        }
+    }
+
+    fn down(&mut self, p: PipeId) {
+        forget(&mut self.ports, p);
+        self.kept.retain(|k| k.pipe.0 != p.0);
+    }
+
+    fn wants(&self, p: PipeId) -> bool {
+        !self.keeps_of(p)
+    }
+
+    fn frame(&mut self, p: PipeId, m: Message) -> Verdict {
+        match scan(m.body(), self.options.ttl) {
+            Trail::Short => Verdict::Malformed,
+            Trail::TooFar => Verdict::Fine,
+            Trail::Whole => match traced(self.alloc, self.raw, self.options.ttl, p, m) {
+                Err(_) => Verdict::NoMemory,
+                Ok(k) => match self.kept.push_back(k) {
+                    Ok(()) => Verdict::Fine,
+                    Err(_) => Verdict::NoMemory,
+                },
+            },
+        }
+    }
+
+    fn keeps(&self, c: Ctx) -> bool {
+        let _ = c;
+        !self.kept.is_empty()
+    }
+
+    fn check(&self, c: Ctx, verb: Verb) -> Result<(), CheckError> {
+        if self.raw && c.0 != 0 {
+            return Err(CheckError::NotSupported);
+        }
+        if !is_open(&self.places, c) {
+            return Err(CheckError::NoEntry);
+        }
+        if !self.raw && self.has_state(c, verb) {
+            return Err(CheckError::State);
+        }
+        Ok(())
+    }
+
+    fn begin(&mut self, op: OpName, c: Ctx, act: Act) -> Result<(), Message> {
+        let source = unstore(&mut self.places, c);
+        let answer = answer_of(act, source);
+        if self
+            .waiting
+            .push_back(Waiting { op, ctx: c, answer })
+            .is_err()
+        {
+            unreachable!()
+        }
+        Ok(())
+    }
+
+    fn fresh(&mut self) {
+        clear(&mut self.ports);
+    }
+
+    fn offer(&mut self) -> Offer {
+        if !self.kept.is_empty() {
+            match receive_place(&self.waiting) {
+                None => {}
+                Some(i) => {
+                    return Offer::Give {
+                        op: self.waiting[i].op,
+                    };
+                }
+            }
+        }
+        self.next_send()
+    }
+
+    fn full(&mut self, p: PipeId) {
+        mark(&mut self.ports, p);
+    }
+
+    fn goes_to(&self, op: OpName, p: PipeId) -> bool {
+        let _ = op;
+        let _ = p;
+        false
+    }
+
+    fn flood(&mut self, op: OpName, p: PipeId) -> Message {
+        let _ = op;
+        let _ = p;
+        unreachable!()
+    }
+
+    fn again(&mut self, c: Ctx, p: PipeId) -> Option<Message> {
+        let _ = c;
+        let _ = p;
+        None
+    }
+
+    fn won(&mut self, op: OpName, out: Option<PipeId>) -> Option<Message> {
+        let _ = out;
+        match take(&mut self.waiting, op) {
+            None => None,
+            Some(w) => match w.answer {
+                Some(r) => Some(outward(self.raw, r)),
+                None => self.give(w.ctx),
+            },
+        }
+    }
+
+    fn lost(&mut self, op: OpName) -> Option<Message> {
+        match take(&mut self.waiting, op) {
+            None => None,
+            Some(w) => match w.answer {
+                Some(r) => Some(r.message),
+                None => None,
+            },
+        }
+    }
+
+    fn clock(&mut self, now: Tick) {
+        let _ = now;
+    }
+
+    fn open_ctx(&mut self, c: Ctx) -> Result<(), NoMemory> {
+        match self.places.push(Place {
+            ctx: c,
+            stored: None,
+        }) {
+            Ok(()) => Ok(()),
+            Err(_) => Err(NoMemory),
+        }
+    }
+
+    fn close_ctx(&mut self, c: Ctx) {
+        self.places.retain(|x| x.ctx.0 != c.0);
+    }
+
+    fn topic(&mut self, c: Ctx, t: &[u8], on: bool) -> Result<bool, NoMemory> {
+        let _ = c;
+        let _ = t;
+        let _ = on;
+        Ok(false)
+    }
+
+    fn close(&mut self) {
+        self.kept.clear();
+    }
+}

@@ -1,0 +1,38 @@
+use Rattle.std.proofs.Common.{◌≡◌, ◌∙◌, refl, sym, ap, [], Bool, true, false}
+use Rattle.std.specs.Prelude.{not}
+use Rattle.sp_history.specs.declared.entry.Act.TheVariants as acts
+use Rattle.sp_history.specs.Moments.{past}
+use Rattle.sp_core.proofs.TurnEnds.{drawn_none}
+use Rattle.sp_core.proofs.Trying.{slot_left, goes_back}
+use Rattle.sp_core.proofs.owner.Core.draw_to_receive.Goals as goal
+
+nothing : (a r : Bool) → r ≡ not a → r ≡ false → a ≡ true
+nothing true r h e = refl
+nothing false r h e = let q : true ≡ false = sym h ∙ e in absurd cc
+
+something : (a r : Bool) → r ≡ not a → r ≡ true → a ≡ false
+something false r h e = refl
+something true r h e = let q : false ≡ true = sym h ∙ e in absurd cc
+
+pub returns-in_default-draw-clause-drawn : goal.returns-in_default-draw-clause-drawn
+returns-in_default-draw-clause-drawn g c =
+    λ t h.
+    let can = c.in_default.ensures t acts.Recv h refl in
+    let d = drawn_none c.draw.result _ _ c.in_default-draw.not-Some (c.draw.ensures.drawn t h) in
+    (d.0, ((can.open_, (can.supported, can.ctx_open, can.no_state), d.1), λ q. cc))
+
+pub returns-then-not-keeps-clause-drawn : goal.returns-then-not-keeps-clause-drawn
+returns-then-not-keeps-clause-drawn g c =
+    λ t h.
+    let can = c.in_default.ensures t acts.Recv h refl in
+    let d = c.in-Some.ensures.drawn t h in (
+      goes_back g.P.Proto.ties g.P.Proto.room g.W.Wire.shown c.draw.new.self c.put_back.new.self c.in-Some.op.slot t d.0 (c.put_back.ensures.back t d.0.shelf) c.put_back.ensures.lengths,
+      (can.open_, (can.supported, can.ctx_open, can.no_state), slot_left t c.in-Some.op d.1, nothing _ c.keeps.result (c.keeps.ensures t d.0.lawful d.0.proto can.role_does can.ctx_open) c.if-not-keeps.true),
+    )
+
+pub returns-clause-drawn : goal.returns-clause-drawn
+returns-clause-drawn g c =
+    λ t h.
+    let can = c.in_default.ensures t acts.Recv h refl in
+    let d = c.in-Some.ensures.drawn t h in
+    (d.0, d.1, can, something _ c.keeps.result (c.keeps.ensures t d.0.lawful d.0.proto can.role_does can.ctx_open) c.if-not-keeps.false)

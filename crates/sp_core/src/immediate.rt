@@ -1,0 +1,128 @@
+//! The immediate receive: an operation is begun, won and collected in one turn, where a message is kept.
+//!
+//! Nothing is begun where nothing is kept. A caller that guessed the name of the operation may end it first; then the
+//! message stays, and the next try has another name.
+ghost use Rattle.std.specs.Prelude.{◌≡◌, ◌≤◌, ◌++◌, ◌∷◌, ℕ, List, [], Some, true, false, MatchResult};
+ghost use Rattle.std.specs.Option.{option_map};
+ghost use Rattle.turn_lock.specs.declared.turn.Turn.{Turn};
+ghost use Rattle.sp_history.specs.declared.entry.Act.TheVariants as acts;
+ghost use Rattle.sp_history.specs.declared.entry.Entry.{Entry};
+ghost use Rattle.sp_history.specs.declared.entry.Entry.TheVariants.{Begin};
+ghost use Rattle.sp_history.specs.Lists.{is_nil};
+ghost use Rattle.sp_history.specs.Past.{past_of};
+ghost use Rattle.sp_history.specs.Kept.{kept};
+ghost use Rattle.sp_history.specs.Moments.{Moment, past, also};
+ghost use Rattle.sp_core.specs.Errors.{now_number};
+ghost use Rattle.sp_core.specs.Immediate.{ReceivedNow, RefusedNow, NowTo, TriedTo};
+ghost use Rattle.sp_core.specs.Looking.{Grows, HasLooked, reads_of};
+ghost use Rattle.sp_core.specs.Owning.{Owns, CanBegin, IsNext};
+ghost use Rattle.sp_core.specs.Standing.{StandsFor, IsSettled, core_setting};
+
+use crate::ops::{BeginError, Outcome};
+use crate::owner::Core;
+use sp_base::{Ctx, OpName, SpError};
+use sp_history::entry::Entry;
+use sp_msg::{Message, Wire};
+use sp_proto::{Act, Proto, Verb};
+use std::sync::Wait;
+
+/// Why nothing was received at once, the first cause that stands.
+#[derive(Clone, Copy, PartialEq, Eq, Debug)]
+pub enum NowError {
+    /// As no receive begins. Never for want of memory.
+    Begin(BeginError),
+    /// Nothing is kept for the context.
+    Again,
+}
+
+impl From<NowError> for SpError {
+    ghost from_gives = { λ why r. r ≡ now_number why };
+
+    fn from(why: NowError) -> SpError {
+        match why {
+            NowError::Begin(e) => SpError::from(e),
+            NowError::Again => SpError::Again,
+        }
+    }
+}
+
+impl<P: Proto, W: Wire> Core<P, W> {
+    /// Receives the oldest message that is kept for the context, if there is one: an operation is begun, won and
+    /// collected in one turn. Refused as `begin_recv` is, and then where nothing is kept. Takes no memory.
+    pub fn try_recv<R: Wait>(&mut self, rt: &R, k: u32, c: Ctx) -> Result<Message, NowError>
+        requires stands { (h : List (Turn Entry)) × StandsFor P.ties P.room W.shown self.old h }
+        requires caller { (1 ≤ k) × (k ≤ self.old.desk.words.callers) }
+        ensures turn { (h : List (Turn Entry)) → StandsFor P.ties P.room W.shown self.old h → (t : Turn Entry) × (t.number ≡ k) × StandsFor P.ties P.room W.shown self.new (h ++ t ∷ []) × ReceivedNow result (core_setting P.kind self.old) h t k c × HasLooked c (past_of h) t.entries (reads_of self.old) (reads_of self.new) }
+        ensures setting { core_setting P.kind self.new ≡ core_setting P.kind self.old }
+        ensures words { self.new.desk.words ≡ self.old.desk.words }
+    {
+        self.open_turn(rt, k, c);
+        self.receive_now(rt, c)
+    }
+
+    // Tries until a message is received, or none can be. The turn is settled before and after.
+    fn receive_now<R: Wait>(&mut self, rt: &R, c: Ctx) -> Result<Message, NowError>
+        requires { (t : Moment) × Owns P.ties P.room W.shown [] self.old t × IsSettled t }
+        ensures received { (t : Moment) → Owns P.ties P.room W.shown [] self.old t → IsSettled t → (u : Moment) × Owns P.ties P.room W.shown [] self.new u × IsSettled u × NowTo result c t u }
+        ensures words { self.new.desk.words ≡ self.old.desk.words }
+        ensures reads { Grows (reads_of self.old) (reads_of self.new) }
+    {
+        for _ in rt.forever() {
+            match self.try_once(rt, c) {
+                Err(e) => return Err(e),
+                Ok(Some(m)) => return Ok(m),
+                Ok(None) => (),
+            }
+        }
+        unreachable!()
+    }
+
+    // One try: none where a caller ended the receive first.
+    fn try_once<R: Wait>(&mut self, rt: &R, c: Ctx) -> Result<Option<Message>, NowError>
+        requires { (t : Moment) × Owns P.ties P.room W.shown [] self.old t × IsSettled t }
+        ensures tried { (t : Moment) → Owns P.ties P.room W.shown [] self.old t → IsSettled t → (u : Moment) × Owns P.ties P.room W.shown [] self.new u × IsSettled u × TriedTo result c t u }
+        ensures words { self.new.desk.words ≡ self.old.desk.words }
+        ensures reads { Grows (reads_of self.old) (reads_of self.new) }
+    {
+        let op = match self.draw_to_receive(c) {
+            Err(e) => return Err(e),
+            Ok(op) => op,
+        };
+        match self.begin_drawn(op, c, Act::Recv, None) {
+            Ok(()) => (),
+            Err(_) => unreachable!(),
+        }
+        self.give(op);
+        let outcome = self.take(op);
+        self.settle(rt);
+        match outcome {
+            Outcome::Received(m) => Ok(Some(m)),
+            Outcome::Gone {
+                cause: _,
+                by: _,
+                back: _,
+            } => Ok(None),
+            Outcome::Sent => unreachable!(),
+        }
+    }
+
+    // Draws a slot for a receive that can be given something at once.
+    fn draw_to_receive(&mut self, c: Ctx) -> Result<OpName, NowError>
+        requires { (t : Moment) × Owns P.ties P.room W.shown [] self.old t }
+        ensures drawn { (t : Moment) → Owns P.ties P.room W.shown [] self.old t → MatchResult result (λ op. Owns P.ties P.room W.shown (op.slot ∷ []) self.new t × IsNext t op × CanBegin t c acts.Recv × (is_nil (kept t.z (past t) c) ≡ false)) (λ e. Owns P.ties P.room W.shown [] self.new t × RefusedNow e t.z (past t) c) }
+        ensures words { self.new.desk.words ≡ self.old.desk.words }
+        ensures reads { reads_of self.new ≡ reads_of self.old }
+    {
+        if let Err(e) = self.may_begin(c, Verb::Recv) {
+            return Err(NowError::Begin(e));
+        }
+        let Some(op) = self.draw() else {
+            return Err(NowError::Begin(BeginError::Busy));
+        };
+        if !self.proto.keeps(c) {
+            self.shelf.put_back(op.slot);
+            return Err(NowError::Again);
+        }
+        Ok(op)
+    }
+}

@@ -1,0 +1,165 @@
+-- Each step of an end keeps the rule of the lane.
+use Rattle.std.proofs.Common.{◌≡◌, ◌≢◌, ◌≤◌, ℕ, zero, suc, true, true≢false, List, [], ◌∷◌, ◌++◌, length, set, sym, refl, ap, ◌∙◌, subst, ⊎_elim, append_assoc, arith}
+use Rattle.std.proofs.lemmas.List.{length-append}
+use mathlib.Core.Option.{some, some-ne-none}
+use lib.ListN.{get_elem?}
+use Rattle.crossbeam_queue.specs.Fifo.{Pushes, Pops, Forks, Merges, Learns}
+use Rattle.crossbeam_queue.proofs.Lists.{at_set, at_snoc}
+use Rattle.sp_lane.specs.declared.rule.Side.{Side}
+use Rattle.sp_lane.specs.declared.item.Item.{Item}
+use Rattle.sp_lane.specs.Fronts.{IsFront}
+use Rattle.sp_lane.specs.Order.{both_ends, spent, putting, taking, joined, marked, with_put, with_taken, HasPut, HasTaken, IsHeld, IsWaiting, IsLeft, Fits, IsInOrder}
+use Rattle.sp_lane.proofs.Fronts.{front_nil, front_self, front_more}
+
+at_end : (l : List Side) (a b : Side) (j : ℕ) → get_elem? l j ≢ some b → get_elem? (l ++ a ∷ []) j ≡ some b → j ≡ length l
+at_end [] a b zero n e = refl
+at_end [] a b (suc j) n e = absurd (some-ne-none b (sym e))
+at_end (x ∷ xs) a b zero n e = absurd (n e)
+at_end (x ∷ xs) a b (suc j) n e = ap suc (at_end xs a b j n e)
+
+abbrev All : (ℕ → Side → Type 0) → List Side → Type 0
+All F views = (port : ℕ) (v : Side) → get_elem? views port ≡ some v → F port v
+
+all_set : (F : ℕ → Side → Type 0) (views : List Side) (port : ℕ) (w : Side) → F port w → ((j : ℕ) (u : Side) → j ≢ port → get_elem? views j ≡ some u → F j u) → All F (set views port w)
+all_set F views port w mine others j u e = ⊎_elim (λ (x : (j ≡ port) × (w ≡ u)). subst (λ (y : ℕ × Side). F y.0 y.1) (λ i. (sym x.0 i, x.1 i)) mine)
+    (λ (x : (j ≢ port) × (get_elem? views j ≡ some u)). others j u x.0 x.1) (at_set views port j w u e)
+
+-- a pass that may do nothing fits anywhere
+idle : (writer reader : ℕ) (put taken : List Item) (port : ℕ) → Fits writer reader put taken port spent
+idle writer reader put taken port = record { writes = (λ p. absurd (true≢false (sym p))); reads = (λ p. absurd (true≢false (sym p))) }
+
+pub begins : IsInOrder [] (both_ends ∷ [])
+begins = record {
+  writer = 0;
+  reader = 0;
+  put = [];
+  taken = [];
+  rest = refl;
+  most = omega arith;
+  fits = all_set (Fits 0 0 [] []) (both_ends ∷ []) 0 both_ends (record { writes = (λ _. (refl, refl, front_nil [])); reads = (λ _. (refl, refl, front_nil [])) })
+      (λ j u other e. absurd (other (at_end [] both_ends u j (λ x. some-ne-none u (sym x)) e)));
+}
+
+pub puts : (n port : ℕ) (v : Side) (x : Item) → n ≤ 8192 → v.puts ≡ true → Pushes IsInOrder n port v x (HasPut v x)
+puts n port v x few may items views room h at =
+    let w : Side = with_put v x h.taken in
+    let mine = (h.fits port v at).writes may in
+    let sent = h.put ++ x ∷ [] in (
+      w,
+      record {
+        writer = h.writer;
+        reader = h.reader;
+        put = sent;
+        taken = h.taken;
+        rest = ap (λ l. l ++ x ∷ []) h.rest ∙ append_assoc h.taken items (x ∷ []);
+        most = omega (arith, room, few, length-append items (x ∷ []));
+        fits = all_set (Fits h.writer h.reader sent h.taken) views port w
+            (record { writes = (λ _. (mine.0, ap (λ l. l ++ x ∷ []) mine.1, front_self h.taken)); reads = (λ p. let r = (h.fits port v at).reads p in (r.0, r.1, front_more v.seen_put h.put (x ∷ []) r.2)) })
+            (λ j u other e. record { writes = (λ p. absurd (other (((h.fits j u e).writes p).0 ∙ sym mine.0))); reads = (λ p. let r = (h.fits j u e).reads p in (r.0, r.1, front_more u.seen_put h.put (x ∷ []) r.2)) });
+      },
+      (h.taken, refl, mine.2, (items, mine.1 ∙ h.rest)),
+    )
+
+pub takes : (port : ℕ) (v : Side) → v.takes ≡ true → Pops IsInOrder port v (HasTaken v)
+takes port v may x items views h at =
+    let w : Side = with_taken v x h.put in
+    let mine = (h.fits port v at).reads may in
+    let got = h.taken ++ x ∷ [] in
+    let whole : h.put ≡ got ++ items = h.rest ∙ sym (append_assoc h.taken (x ∷ []) items) in (
+      w,
+      record {
+        writer = h.writer;
+        reader = h.reader;
+        put = h.put;
+        taken = got;
+        rest = whole;
+        most = omega (arith, h.most);
+        fits = all_set (Fits h.writer h.reader h.put got) views port w
+            (record { writes = (λ p. let r = (h.fits port v at).writes p in (r.0, r.1, front_more v.seen_taken h.taken (x ∷ []) r.2)); reads = (λ _. (mine.0, ap (λ l. l ++ x ∷ []) mine.1, front_self h.put)) })
+            (λ j u other e. record { writes = (λ p. let r = (h.fits j u e).writes p in (r.0, r.1, front_more u.seen_taken h.taken (x ∷ []) r.2)); reads = (λ p. absurd (other (((h.fits j u e).reads p).0 ∙ sym mine.0))) });
+      },
+      (h.put, refl, mine.2, (items, whole ∙ ap (λ l. (l ++ x ∷ []) ++ items) (sym mine.1))),
+    )
+
+pub forks : (port : ℕ) (v : Side) → v.puts ≡ true → v.takes ≡ true → Forks IsInOrder port v (putting v) (taking v)
+forks port v a b items views h at =
+    let l : Side = putting v in
+    let r : Side = taking v in
+    let first = (h.fits port v at).writes a in
+    let second = (h.fits port v at).reads b in
+    let vs : List Side = set views port l in
+    let Old : ℕ → Side → Type 0 = λ j u. (u.puts ≡ true → (j ≡ h.writer) × (u.put ≡ h.put) × IsFront u.seen_taken h.taken) × (u.takes ≢ true) in
+    let old : All Old vs = all_set Old views port l ((λ _. (first.0, first.1, front_nil h.taken)), λ p. true≢false (sym p)) (λ j u other e. ((h.fits j u e).writes, λ p. other (((h.fits j u e).reads p).0 ∙ sym second.0))) in
+    record {
+      writer = h.writer;
+      reader = length vs;
+      put = h.put;
+      taken = h.taken;
+      rest = h.rest;
+      most = h.most;
+      fits = (λ j u e. ⊎_elim (λ x. record { writes = (old j u x).0; reads = (λ p. absurd ((old j u x).1 p)) })
+          (λ (is : r ≡ u). record {
+            writes = (λ p. absurd (true≢false (sym (ap (λ (y : Side). y.puts) is ∙ p))));
+            reads = (λ p. (at_end vs r u j (λ x. (old j u x).1 p) e, ap (λ (y : Side). y.taken) (sym is) ∙ second.1, subst (λ (y : Side). IsFront y.seen_put h.put) is (front_nil h.put)));
+          })
+          (at_snoc vs r u j e));
+    }
+
+-- a mark changes nothing of what the rule says
+pub marks : (port : ℕ) (v : Side) → Forks IsInOrder port v (marked v) spent
+marks port v items views h at =
+    let l : Side = marked v in
+    let mine = h.fits port v at in
+    let vs : List Side = set views port l in
+    let F : ℕ → Side → Type 0 = Fits h.writer h.reader h.put h.taken in
+    let old : All F vs = all_set F views port l (record { writes = mine.writes; reads = mine.reads }) (λ j u _ e. h.fits j u e) in
+    record {
+      writer = h.writer;
+      reader = h.reader;
+      put = h.put;
+      taken = h.taken;
+      rest = h.rest;
+      most = h.most;
+      fits = (λ j u e. ⊎_elim (λ x. old j u x) (λ (is : spent ≡ u). subst (F j) is (idle h.writer h.reader h.put h.taken j)) (at_snoc vs spent u j e));
+    }
+
+pub merges : (port : ℕ) (v : Side) (other : ℕ) (u : Side) → v.puts ≡ true → u.takes ≡ true → Merges IsInOrder port v other u (joined v u) spent
+merges port v other u a b items views h at two at' =
+    let both : Side = joined v u in
+    let mine = (h.fits port v at).writes a in
+    let vs : List Side = set views port both in
+    let was : get_elem? views other ≡ some u = ⊎_elim (λ x. absurd (two x.0)) (λ x. x.1) (at_set views port other both u at') in
+    let theirs = (h.fits other u was).reads b in
+    let Now : ℕ → Side → Type 0 = λ j y. j ≢ other → Fits h.writer port h.put h.taken j y in
+    let now : All Now vs = all_set Now views port both (λ _. record { writes = (λ _. mine); reads = (λ _. (refl, theirs.1, theirs.2)) })
+    (λ j y _ e apart. record { writes = (h.fits j y e).writes; reads = (λ p. absurd (apart (((h.fits j y e).reads p).0 ∙ sym theirs.0))) }) in
+    record {
+      writer = h.writer;
+      reader = port;
+      put = h.put;
+      taken = h.taken;
+      rest = h.rest;
+      most = h.most;
+      fits = all_set (Fits h.writer port h.put h.taken) vs other spent (idle h.writer port h.put h.taken other) (λ j y apart e. now j y e apart);
+    }
+
+pub left : (port : ℕ) (v : Side) → v.puts ≡ true → v.takes ≡ true → Learns IsInOrder port v (IsLeft v)
+left port v a b items views h at =
+    let put = (h.fits port v at).writes a in
+    let taken = (h.fits port v at).reads b in
+    record {
+      rest = put.1 ∙ h.rest ∙ ap (λ l. l ++ items) (sym taken.1);
+      most = h.most;
+      seen_taken = subst (IsFront v.seen_taken) (sym taken.1) put.2;
+      seen_put = subst (IsFront v.seen_put) (sym put.1) taken.2;
+    }
+
+pub held : (port : ℕ) (v : Side) → v.puts ≡ true → Learns IsInOrder port v (IsHeld v)
+held port v a items views h at =
+    let put = (h.fits port v at).writes a in
+    (h.taken, put.1 ∙ h.rest, put.2)
+
+pub waiting : (port : ℕ) (v : Side) → v.takes ≡ true → Learns IsInOrder port v (IsWaiting v)
+waiting port v b items views h at =
+    let taken = (h.fits port v at).reads b in
+    subst (IsFront v.seen_put) (h.rest ∙ ap (λ l. l ++ items) (sym taken.1)) taken.2

@@ -1,0 +1,228 @@
+//! A wire over two lanes: what it puts goes into the one, what it pulls comes from the other.
+ghost use Rattle.std.specs.Prelude.{◌≡◌, true, false, IfSome, Some};
+ghost use Rattle.sp_msg.specs.Wires.{AfterPull, AfterRoom, AfterPut, AfterFlush, AfterShut, may_flush};
+ghost use Rattle.sp_lane.specs.Lanes.{has_end};
+ghost use Rattle.sp_lane.specs.LaneWires.{new_lane_wire, PulledFrom, Joins, Pushed, TriedEnd, Drained, room_of, flush_of, is_lost, LanePulled, LaneRoomed, LaneFlushed, SameLanes};
+
+use crate::ends::{LaneIn, LaneOut};
+use crate::item::{Put, PutEnd, Taken};
+use sp_msg::{Message, Room, Wire, WireFlush, WireIn, WireMarks};
+use std::marker::Model;
+use std::sync::Wait;
+
+/// A wire over two lanes. It keeps one message in hand, so `put` never fails. `pull` alone takes memory, where it
+/// joins a header and a body.
+#[derive(Drop)]
+pub struct LaneWire {
+    /// Where messages are put.
+    out: LaneIn,
+    /// Where they come from.
+    inp: LaneOut,
+    /// The message that was put and isn't in the lane yet.
+    hand: Option<Message>,
+    /// The last message that was taken was lost for want of memory.
+    lost: bool,
+    /// The wire was shut: a flush puts the end mark behind the message in hand.
+    is_shut: bool,
+    /// What it shows beside its bytes.
+    marks: WireMarks,
+}
+
+impl Model for LaneWire {
+    ghost use Rattle.sp_lane.specs.LaneWires.{LaneWireView, lane_wire_view, IsLaneWire};
+
+    ghost Value = { LaneWireView };
+
+    ghost view = { λ w. lane_wire_view w.out w.inp w.hand w.lost w.is_shut w.marks };
+
+    ghost invariant = { λ w. IsLaneWire w.out w.hand w.lost w.is_shut w.marks };
+}
+
+// The message as a wire gives it: all of it is body.
+fn bare(m: Message) -> WireIn
+    ensures { Joins m result }
+{
+    let mut m = m;
+    match m.join() {
+        Ok(()) => WireIn::Message(m),
+        Err(_) => WireIn::NoMemory,
+    }
+}
+
+// What the next item of the lane comes to.
+fn pull_from<R: Wait>(inp: &mut LaneOut, rt: &R) -> WireIn
+    ensures { PulledFrom result inp.old inp.new }
+{
+    match inp.take(rt) {
+        Taken::Message(m) => bare(m),
+        Taken::Empty => WireIn::NotYet,
+        Taken::End => WireIn::Ended,
+    }
+}
+
+// Puts what is in hand into the lane, if it isn't full; what stays in hand comes back.
+fn push_hand<R: Wait>(out: &mut LaneIn, hand: Option<Message>, rt: &R) -> Option<Message>
+    requires { IfSome hand (λ _. has_end out.old.put ≡ false) }
+    ensures { Pushed hand result out.old out.new }
+{
+    match hand {
+        None => None,
+        Some(m) => match out.put(rt, m) {
+            Put::Done => None,
+            Put::Full(back) => Some(back),
+        },
+    }
+}
+
+// Puts the end mark where it is wanted, if the lane isn't full.
+fn try_end<R: Wait>(out: &mut LaneIn, wanted: bool, rt: &R)
+    requires { wanted ≡ true → has_end out.old.put ≡ false }
+    ensures { TriedEnd wanted out.old out.new }
+{
+    if wanted {
+        match out.put_end(rt) {
+            PutEnd::Done => {}
+            PutEnd::Full => {}
+        }
+    }
+}
+
+// The message in hand goes first, and behind it the end mark of a wire that was shut.
+fn drain<R: Wait>(out: &mut LaneIn, hand: Option<Message>, is_shut: bool, rt: &R) -> Option<Message>
+    requires { IfSome hand (λ _. has_end out.old.put ≡ false) }
+    ensures { Drained is_shut hand result out.old out.new }
+{
+    let left = push_hand(out, hand, rt);
+    let wanted = is_shut && (left.is_none() && !out.is_ended());
+    try_end(out, wanted, rt);
+    left
+}
+
+fn room_of(hand: &Option<Message>) -> Room
+    ensures { result ≡ room_of hand.now }
+{
+    match hand {
+        None => Room::Yes,
+        Some(_) => Room::Full,
+    }
+}
+
+fn flush_of(hand: &Option<Message>) -> WireFlush
+    ensures { result ≡ flush_of hand.now }
+{
+    match hand {
+        None => WireFlush::Empty,
+        Some(_) => WireFlush::NotYet,
+    }
+}
+
+fn is_lost(answer: &WireIn) -> bool
+    ensures { result ≡ is_lost answer.now }
+{
+    match answer {
+        WireIn::NoMemory => true,
+        WireIn::Message(_) => false,
+        WireIn::NotYet => false,
+        WireIn::Ended => false,
+        WireIn::Malformed => false,
+        WireIn::Failed => false,
+        WireIn::Refused => false,
+    }
+}
+
+impl LaneWire {
+    /// A wire over two lanes, at the one of which nothing is ended. It counts from here on. No memory, no refusal.
+    pub fn new(out: LaneIn, inp: LaneOut) -> LaneWire
+        requires { has_end out.put ≡ false }
+        ensures { result ≡ new_lane_wire out inp }
+    {
+        let mut out = out;
+        let mut inp = inp;
+        out.mark();
+        inp.mark();
+        LaneWire {
+            out,
+            inp,
+            hand: None,
+            lost: false,
+            is_shut: false,
+            marks: WireMarks::new(),
+        }
+    }
+
+    /// Both halves, as they are; a message in hand is dropped.
+    pub fn into_halves(self) -> (LaneIn, LaneOut)
+        ensures out { result.0 ≡ self.out }
+        ensures inp { result.1 ≡ self.inp }
+    {
+        let LaneWire {
+            out,
+            inp,
+            hand: _,
+            lost: _,
+            is_shut: _,
+            marks: _,
+        } = self;
+        (out, inp)
+    }
+}
+
+impl Wire for LaneWire {
+    ghost shown = { λ w. w.wire };
+
+    fn pull<R: Wait>(&mut self, rt: &R) -> WireIn
+        requires { self.old.wire.is_open ≡ true }
+        ensures after { AfterPull result self.old.wire self.new.wire }
+        ensures lane { LanePulled result self.old self.new }
+    {
+        let answer = pull_from(&mut self.inp, rt);
+        self.marks.pulled(&answer);
+        self.lost = is_lost(&answer);
+        answer
+    }
+
+    fn room<R: Wait>(&mut self, rt: &R) -> Room
+        requires { self.old.wire.is_open ≡ true }
+        ensures after { AfterRoom result self.old.wire self.new.wire }
+        ensures lane { LaneRoomed result self.old self.new }
+    {
+        let hand = self.hand.take();
+        self.hand = push_hand(&mut self.out, hand, rt);
+        let answer = room_of(&self.hand);
+        self.marks.roomed(answer);
+        answer
+    }
+
+    fn put<R: Wait>(&mut self, _rt: &R, m: Message)
+        requires is_open { self.old.wire.is_open ≡ true }
+        requires is_ready { self.old.wire.is_ready ≡ true }
+        ensures after { AfterPut m self.old.wire self.new.wire }
+        ensures hand { self.new.hand ≡ Some m }
+        ensures lanes { SameLanes self.old self.new }
+    {
+        self.hand = Some(m);
+        self.marks.put();
+    }
+
+    fn flush<R: Wait>(&mut self, rt: &R) -> WireFlush
+        requires { may_flush self.old.wire ≡ true }
+        ensures after { AfterFlush result self.old.wire self.new.wire }
+        ensures lane { LaneFlushed result self.old self.new }
+    {
+        let hand = self.hand.take();
+        self.hand = drain(&mut self.out, hand, self.is_shut, rt);
+        let answer = flush_of(&self.hand);
+        self.marks.flushed(answer);
+        answer
+    }
+
+    fn shut(&mut self)
+        ensures after { AfterShut self.old.wire self.new.wire }
+        ensures drains { self.new.wire.drains ≡ true }
+        ensures hand { self.new.hand ≡ self.old.hand }
+        ensures lanes { SameLanes self.old self.new }
+    {
+        self.is_shut = true;
+        self.marks.shut();
+    }
+}
