@@ -24,12 +24,12 @@ begin_grows op (Begin other k c act d) p = go (same_op other op)
     go false = omega arith
 begin_grows op _ p = omega arith
 
-more_begun : (op : OpName) (es p : List Entry) → begin_count p op ≤ begin_count (onto es p) op
+pub more_begun : (op : OpName) (es p : List Entry) → begin_count p op ≤ begin_count (onto es p) op
 more_begun op [] p = omega arith
 more_begun op (e ∷ es) p = omega (arith, begin_grows op e p, more_begun op es (e ∷ p))
 
 -- what was never begun has no caller
-no_caller : (p : List Entry) (op : OpName) → begin_count p op ≡ 0 → caller_of p op ≡ None
+pub no_caller : (p : List Entry) (op : OpName) → begin_count p op ≡ 0 → caller_of p op ≡ None
 no_caller [] op h = refl
 no_caller (Begin other k c act d ∷ p) op h = go (same_op other op) h (no_caller p op)
   where

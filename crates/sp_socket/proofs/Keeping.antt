@@ -23,10 +23,10 @@ use Rattle.sp_core.specs.declared.label.CoreLabel.{CoreLabel}
 use Rattle.sp_socket.specs.declared.hands.Hands.{Hands}
 use Rattle.sp_socket.specs.Passes.{PassView, TurnsOf, pass_of}
 use Rattle.sp_socket.specs.Turns.{TookTurn}
-use Rattle.sp_socket.specs.Open.{IsOpenFor, OpensFor, NoneTaken, KeepsOpen, KeepsOthers}
+use Rattle.sp_socket.specs.Open.{IsOpenFor, OpensFor, LeavesOpen, KeepsOpen, KeepsOthers}
 use Rattle.sp_socket.proofs.Acting.{own_more, Went, took_here}
 use Rattle.sp_socket.proofs.BegunOnce.{closed_before}
-use Rattle.sp_socket.proofs.NoneTaken.{none_settling, none_in, not_collected}
+use Rattle.sp_socket.proofs.NoneTaken.{leaves, none_settling, none_in, not_collected}
 
 module _ (says : Setting → List (Turn Entry) → Turn Entry → Type 0) (before after : PassView) (t : TookTurn says before after) (same : after.number ≡ before.number) where
   legal_turn : Legal t.label.setting (t.past ++ t.turn ∷ [])
@@ -53,8 +53,8 @@ module _ (says : Setting → List (Turn Entry) → Turn Entry → Type 0) (befor
   pub keeps_one : (op : OpName) → none_of (collects op) t.turn.entries ≡ true → IsOpenFor before op → IsOpenFor after op
   keeps_one op n o = for_pass op (open_after t.label.setting t.past t.turn before.number op legal_turn (was_open op o) n)
 
-  pub keeps : NoneTaken t.turn.entries → KeepsOpen before after
-  keeps n = λ op o. keeps_one op (n op) o
+  pub keeps : LeavesOpen t.past t.turn → KeepsOpen before after
+  keeps n = λ op o. keeps_one op (n op (subst (λ (i : ℕ). IsOpenOf i op (past_of t.past)) (sym t.number) (was_open op o))) o
 
   -- what the turn has begun is open, and wasn't
   pub opens : (op : OpName) (c : ℕ) (act : Act) (d : Option ℕ) → HasBegin op before.number c act d t.turn → OpensFor before after op
@@ -63,7 +63,7 @@ module _ (says : Setting → List (Turn Entry) → Turn Entry → Type 0) (befor
        λ was. closed_before t.label.setting t.past t.turn op before.number c act d legal_turn b before.number (was_open op was))
 
 -- the same, of what the lock and the core said of the turn
-pub kept : (says : Setting → List (Turn Entry) → Turn Entry → Type 0) (t0 t1 t2 : TurnsOf) (h k : Hands) (x : Turn Entry) (label : CoreLabel) (before : PassView) → before ≡ pass_of t0 h → Went says t0 t1 t2 h k x label → t2.number ≡ before.number → NoneTaken x.entries → KeepsOpen before (pass_of t2 k)
+pub kept : (says : Setting → List (Turn Entry) → Turn Entry → Type 0) (t0 t1 t2 : TurnsOf) (h k : Hands) (x : Turn Entry) (label : CoreLabel) (before : PassView) → before ≡ pass_of t0 h → Went says t0 t1 t2 h k x label → t2.number ≡ before.number → LeavesOpen t1.seen x → KeepsOpen before (pass_of t2 k)
 kept says t0 t1 t2 h k x label before is w same n =
     subst (λ (b : PassView). KeepsOpen b (pass_of t2 k)) (sym is)
       (keeps says (pass_of t0 h) (pass_of t2 k) (took_here says t0 t1 t2 h k x label w) (same ∙ ap (λ (b : PassView). b.number) is) n)
@@ -80,6 +80,6 @@ began_open P (Err e) h = tt
 
 -- what was not collected is open still
 pub others_open : (r : Collected) (op : OpName) (before after : PassView) → TookTurn (λ z h t. CollectedBy r op before.number h t) before after → after.number ≡ before.number → KeepsOthers r op before after
-others_open (collected.NotYet o) op before after t same = keeps (λ z h u. CollectedBy (collected.NotYet o) op before.number h u) before after t same (none_in t.turn.entries t.said.1)
+others_open (collected.NotYet o) op before after t same = keeps (λ z h u. CollectedBy (collected.NotYet o) op before.number h u) before after t same (leaves t.past t.turn (none_in t.turn.entries t.said.1))
 others_open (collected.Ended outcome) op before after t same = λ other n o.
     keeps_one (λ z h u. CollectedBy (collected.Ended outcome) op before.number h u) before after t same other (not_collected outcome op other before.number t.past t.turn t.said n) o

@@ -6,6 +6,7 @@ pub mod DueFirst
 pub mod Acting
 pub mod BegunOnce
 pub mod NoneTaken
+pub mod Immediately
 pub mod Keeping
 pub mod Held
 pub mod Waits

@@ -31,7 +31,7 @@ use Rattle.sp_core.specs.Closing.{ClosedBy, AreEndsOf, AreFallsOf, FallsAs}
 use Rattle.sp_core.specs.Collecting.{CollectedBy, DueBy, DueFrom}
 use Rattle.sp_history.specs.Changes.{none_of}
 use Rattle.sp_history.specs.Found.{collects}
-use Rattle.sp_socket.specs.Open.{NoneTaken}
+use Rattle.sp_socket.specs.Open.{NoneTaken, LeavesOpen}
 
 -- ---- Lists of entries
 
@@ -63,6 +63,10 @@ none_served es s = λ op. none_serving op es s
 -- one entry and then what is settled
 pub none_first : (e : Entry) (t : Turn Entry) → NoneTaken (e ∷ []) → HasFirst e t → NoneTaken t.entries
 none_first e t n h = λ op. subst (NotTaken op) (sym h.entries) (none_both op (e ∷ []) h.late (n op) (none_settling op h.late h.late_settles))
+
+-- what collects nothing collects nothing that was open
+pub leaves : (h : List (Turn Entry)) (t : Turn Entry) → NoneTaken t.entries → LeavesOpen h t
+leaves h t n = λ op o. n op
 
 -- ---- Calls
 

@@ -1,10 +1,12 @@
 -- Operations that their caller began and did not collect.
 use Rattle.std.specs.Prelude.{◌≡◌, ◌≢◌, true, ⊤, List, [], ◌∷◌}
+use Rattle.turn_lock.specs.declared.turn.Turn.{Turn}
 use Rattle.sp_base.specs.declared.OpName.{OpName}
 use Rattle.aio_word.specs.Views.{Each}
 use Rattle.sp_history.specs.declared.entry.Entry.{Entry}
 use Rattle.sp_history.specs.Changes.{none_of}
-use Rattle.sp_history.specs.Found.{collects}
+use Rattle.sp_history.specs.Found.{IsOpenOf, collects}
+use Rattle.sp_history.specs.Past.{past_of}
 use Rattle.sp_core.specs.declared.collect.Collected.{Collected}
 use Rattle.sp_core.specs.declared.collect.Collected.TheVariants as collected
 use Rattle.sp_core.specs.Collecting.{IsOpen}
@@ -27,6 +29,10 @@ AreOpenFor p (op ∷ ops) = IsOpenFor p op × Each (λ other. op ≢ other) ops 
 -- these entries collect nothing
 abbrev pub NoneTaken : List Entry → Type 0
 NoneTaken es = (op : OpName) → none_of (collects op) es ≡ true
+
+-- behind this history, the turn collects nothing that its caller had open
+abbrev pub LeavesOpen : List (Turn Entry) → Turn Entry → Type 0
+LeavesOpen h t = (op : OpName) → IsOpenOf t.number op (past_of h) → none_of (collects op) t.entries ≡ true
 
 -- what was open for the pass still is
 abbrev pub KeepsOpen : PassView → PassView → Type 0

@@ -37,7 +37,8 @@ pub use record::Record;
 pub use socket::Socket;
 pub use aio_word::{Polled, Raced};
 pub use sp_core::{
-    AttachError, BeginError, Collected, CtxError, Gone, Op, Outcome, Served, TopicError, WireList,
+    AttachError, BeginError, Collected, CtxError, Gone, NowError, Op, Outcome, Served, TopicError,
+    WireList,
 };
 pub use sp_history::entry::{Cause, Miss, Totals, Why};
 pub use sp_history::setting::Options;
