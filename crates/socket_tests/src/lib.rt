@@ -3,11 +3,9 @@
 #![tactic(auto)]
 
 mod callers;
-mod held;
 mod one;
 #[cfg(test)]
 mod tests;
 
 pub use callers::{Caller, finish, give_back, next, opened};
-pub use held::{Flag, HeldWire, serve_held};
 pub use one::receive_one;

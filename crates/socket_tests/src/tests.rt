@@ -7,7 +7,6 @@ ghost use Rattle.sp_core.specs.Wires.{IsUnused};
 ghost use Rattle.socket_tests.specs.Calls.{IsListOf, Calls};
 
 use crate::callers::{Caller, finish, give_back, next, opened};
-use crate::held::{Flag, HeldWire, serve_held};
 use crate::one::receive_one;
 use aio_word::Phase;
 use proto_pipeline::{Pull, Push};
@@ -20,7 +19,6 @@ use sp_socket::{
 use std::alloc::Global;
 use std::process::Abort;
 use std::sync::Wait;
-use std::sync::atomic::{AtomicU64, Ordering};
 use std::thread::{Threads, join_mut};
 
 // ---- What a test is made of
@@ -569,53 +567,5 @@ fn many_receives_are_raced(rt: HostRuntime) {
     assert_eq!(rt; t.won, received);
     assert_eq!(rt; t.gone, 64u64.saturating_sub(received));
     assert!(rt; t.won <= t.frames);
-    finish(&rt, alloc, socket, list);
-}
-
-// ---- A turn that stops
-
-// Two values of one flag.
-fn two_flags(rt: &impl Abort, alloc: Global) -> (Flag, Flag) {
-    let Ok(first) = Flag::new(alloc) else {
-        panic!(rt; "no memory for a flag")
-    };
-    let Ok(second) = first.share() else {
-        panic!(rt; "no memory for a flag")
-    };
-    (first, second)
-}
-
-// A thread is stopped within its turn, by its wire. Another's cancel is answered meanwhile, and a third that wants a turn
-// waits for no more than this one.
-#[test]
-fn a_cancel_is_answered_within_a_held_turn(rt: HostRuntime) {
-    let alloc = rt.alloc();
-    let (mark, marks) = two_flags(&rt, alloc);
-    let (flag, flags) = two_flags(&rt, alloc);
-    let (socket, mut list) = opened(&rt, alloc, pull(&rt, alloc), 4, 3);
-    let mut third = next(&rt, alloc, &socket, &mut list);
-    let mut second = next(&rt, alloc, &socket, &mut list);
-    let mut first = next(&rt, alloc, &socket, &mut list);
-    let held = HeldWire::new(giving_x(&rt, alloc, 1), marks, flags);
-    assert!(rt; first.attach(&rt, &socket, held).is_ok());
-    let a = begun(&rt, first.begin_recv(&rt, &socket, Ctx(0), None));
-    let won = serve_held(
-        &rt,
-        &socket,
-        &mut first,
-        &mut second,
-        &mut third,
-        a,
-        mark.word(),
-        flag.word(),
-    );
-    assert_eq!(rt; mark.word().load(Ordering::SeqCst), 1);
-    assert!(rt; won);
-    assert!(rt; first.serve(&rt, &socket).moved);
-    assert!(rt; is_gone(first.collect(&rt, &socket), Cause::Cancelled, 2));
-    assert!(rt; is_received(third.collect(&rt, &socket), b"x"));
-    give_back(&rt, &socket, &mut list, first);
-    give_back(&rt, &socket, &mut list, second);
-    assert_eq!(rt; give_back(&rt, &socket, &mut list, third), totals(2, 1, 1, 1));
     finish(&rt, alloc, socket, list);
 }
