@@ -1,0 +1,20 @@
+pub mod Pairs
+pub mod Tries
+pub mod Dues
+pub mod Ended
+pub mod DueFirst
+pub mod Acting
+pub mod BegunOnce
+pub mod NoneTaken
+pub mod Immediately
+pub mod Keeping
+pub mod Held
+pub mod Waits
+pub mod Listing
+pub mod Closed
+pub mod Collects
+pub mod Finishes
+pub mod Opens
+pub mod Ticks
+pub mod Joins
+mod Fieldless

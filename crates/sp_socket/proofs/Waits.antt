@@ -1,0 +1,122 @@
+-- Waiting turn by turn.
+use Rattle.std.proofs.Common.{◌≡◌, ◌≢◌, refl, ap, sym, ◌∙◌, subst, List, [], ◌∷◌, ◌++◌, ℕ, ◌+◌, ◌≤◌, Bool, true, false, cond, arith, Some}
+use Rattle.std.specs.Prelude.{◌==◌, filter, is_some}
+use Rattle.turn_lock.specs.declared.turn.Turn.{Turn}
+use Rattle.turn_lock.specs.History.{turns_of, OthersAfter}
+use Rattle.sp_base.specs.declared.OpName.{OpName}
+use Rattle.aio_word.specs.declared.rule.Entry as word
+use Rattle.aio_word.specs.declared.phase.Phase.TheVariants.{Pending}
+use Rattle.aio_word.specs.Answers.{of_op}
+use Rattle.aio_word.specs.Views.{Each}
+use Rattle.sp_history.specs.declared.entry.Entry.{Entry}
+use Rattle.sp_history.specs.declared.entry.Entry.TheVariants.{End}
+use Rattle.sp_history.specs.declared.setting.Setting.{Setting}
+use Rattle.sp_history.specs.Lists.{same_op}
+use Rattle.sp_history.specs.Past.{onto, past_of, pending}
+use Rattle.sp_history.proofs.Appending.{past_of-append}
+use Rattle.sp_history.proofs.Filters.{pending_means}
+use Rattle.sp_history.specs.Once.{end_count}
+use Rattle.sp_history.specs.Legal.{Legal}
+use Rattle.sp_core.specs.declared.ops.Outcome.{Outcome}
+use Rattle.sp_core.specs.declared.collect.Collected.TheVariants as collected
+use Rattle.sp_core.specs.Collecting.{CollectedBy}
+use Rattle.sp_socket.specs.Passes.{PassView, SocketName, IsOf, IsSamePass}
+use Rattle.sp_socket.specs.Open.{KeepsOpen}
+use Rattle.sp_socket.specs.Turns.{TookTurn, ReadsFor}
+use Rattle.sp_socket.specs.Waiting.{NotEnded, Waits, WaitedFor}
+use Rattle.sp_socket.proofs.Acting.{own_more}
+
+-- the pass is still of the socket
+pub still_of : (s : SocketName) (p q : PassView) → IsSamePass p q → IsOf s p → IsOf s q
+still_of s p q same own = (same.1 ∙ own.0, (own.1.0, same.2 ∙ own.1.1, own.1.2, own.1.3))
+
+pub same_twice : (p q r : PassView) → IsSamePass p q → IsSamePass q r → IsSamePass p r
+same_twice p q r a b = (b.0 ∙ a.0, b.1 ∙ a.1, b.2 ∙ a.2)
+
+-- ---- Lists
+
+module _ {A : Type 0} where
+  plus_none : (xs : List A) → xs ≡ xs ++ []
+  plus_none [] = refl
+  plus_none (x ∷ xs) = ap (λ (ys : List A). x ∷ ys) (plus_none xs)
+
+  grouped : (xs ys zs : List A) → (xs ++ ys) ++ zs ≡ xs ++ (ys ++ zs)
+  grouped [] ys zs = refl
+  grouped (x ∷ xs) ys zs = ap (λ (ws : List A). x ∷ ws) (grouped xs ys zs)
+
+  each_more : (P : A → Type 0) (xs : List A) (x : A) → Each P xs → P x → Each P (xs ++ x ∷ [])
+  each_more P [] x h p = (p, tt)
+  each_more P (y ∷ xs) x h p = (h.0, each_more P xs x h.1 p)
+
+turns_both : (n : ℕ) (xs ys : List (Turn Entry)) → turns_of n (xs ++ ys) ≡ turns_of n xs ++ turns_of n ys
+turns_both n [] ys = refl
+turns_both n (t ∷ xs) ys = go (t.number == n) (turns_both n xs ys)
+  where
+    go : (b : Bool) → turns_of n (xs ++ ys) ≡ turns_of n xs ++ turns_of n ys → cond b (t ∷ turns_of n (xs ++ ys)) (turns_of n (xs ++ ys)) ≡ cond b (t ∷ turns_of n xs) (turns_of n xs) ++ turns_of n ys
+    go true h = ap (λ (ts : List (Turn Entry)). t ∷ ts) h
+    go false h = h
+
+-- ---- A turn after which the operation is pending
+
+end_grows : (op : OpName) (e : Entry) (p : List Entry) → end_count p op ≤ end_count (e ∷ p) op
+end_grows op (End other ending) p = go (same_op other op)
+  where
+    go : (b : Bool) → end_count p op ≤ cond b (end_count p op + 1) (end_count p op)
+    go true = omega arith
+    go false = omega arith
+end_grows op _ p = omega arith
+
+more_ended : (op : OpName) (es p : List Entry) → end_count p op ≤ end_count (onto es p) op
+more_ended op [] p = omega arith
+more_ended op (e ∷ es) p = omega (arith, end_grows op e p, more_ended op es (e ∷ p))
+
+none_ends : (op : OpName) (es p : List Entry) → end_count (onto es p) op ≡ 0 → NotEnded op es
+none_ends op [] p h = tt
+none_ends op (End other ending ∷ es) p h =
+    (go (same_op other op) (more_ended op es (End other ending ∷ p)), none_ends op es (End other ending ∷ p) h)
+  where
+    go : (b : Bool) → cond b (end_count p op + 1) (end_count p op) ≤ end_count (onto es (End other ending ∷ p)) op → b ≡ false
+    go true more = absurd (omega (arith, more, h))
+    go false more = refl
+none_ends op (e ∷ es) p h = none_ends op es (e ∷ p) h
+
+pub unended : (z : Setting) (op o : OpName) (k : ℕ) (h : List (Turn Entry)) (t : Turn Entry) → Legal z (h ++ t ∷ []) → CollectedBy (collected.NotYet o) op k h t → NotEnded op t.entries
+unended z op o k h t l c =
+    let s = c.2.0 in
+    let pends : is_some (pending (past_of (h ++ t ∷ [])) op) ≡ true = ap is_some c.2.1 in
+    let none : end_count (past_of (h ++ t ∷ [])) op ≡ 0 = ((pending_means z (h ++ t ∷ []) op l).0 pends).1 in
+    none_ends op t.entries (past_of h) (subst (λ (p : List Entry). end_count p op ≡ 0) (past_of-append h t) none)
+
+-- ---- Waiting
+
+-- before the first turn
+pub no_turn : (op : OpName) (p : PassView) → Waits op p p
+no_turn op p = record { same = (refl, refl, refl); between = []; own = []; seen = plus_none p.seen; mine = plus_none p.mine; are_own = refl; unended = tt; wins = refl; more = []; reads = plus_none p.reads; open_ = λ o h. h }
+
+-- one turn more
+pub turn_more : (op o : OpName) (before mid after : PassView) → Waits op before mid → IsSamePass mid after → TookTurn (λ z h t. CollectedBy (collected.NotYet o) op mid.number h t) mid after → ReadsFor (collected.NotYet o) op mid after → KeepsOpen mid after → Waits op before after
+turn_more op o before mid after w same t r keeps =
+    let n = before.number in
+    let others = t.others in
+    let last = t.turn in
+    let seen_last : word.Entry = of_op op Pending 0 in
+    let number : last.number ≡ n = t.number ∙ w.same.0 in
+    let none : turns_of n others.0 ≡ [] = ap (λ (m : ℕ). turns_of m others.0) (sym w.same.0) ∙ others.2 in
+    record {
+      same = same_twice before mid after w.same same;
+      between = w.between ++ (others.0 ++ last ∷ []);
+      own = w.own ++ last ∷ [];
+      seen = t.seen ∙ ap (λ (h : List (Turn Entry)). h ++ last ∷ []) (others.1 ∙ ap (λ (h : List (Turn Entry)). h ++ others.0) w.seen) ∙ grouped (before.seen ++ w.between) others.0 (last ∷ []) ∙ grouped before.seen w.between (others.0 ++ last ∷ []);
+      mine = t.mine ∙ ap (λ (h : List (Turn Entry)). h ++ last ∷ []) w.mine ∙ grouped before.mine w.own (last ∷ []);
+      are_own = turns_both n w.between (others.0 ++ last ∷ []) ∙ ap (λ (ts : List (Turn Entry)). ts ++ turns_of n (others.0 ++ last ∷ [])) w.are_own ∙ ap (λ (ts : List (Turn Entry)). w.own ++ ts) (own_more n others.0 last number ∙ ap (λ (ts : List (Turn Entry)). ts ++ last ∷ []) none);
+      unended = each_more (λ (x : Turn Entry). NotEnded op x.entries) w.own last w.unended (unended t.label.setting op o mid.number t.past last (subst (Legal t.label.setting) t.seen t.legal) t.said);
+      wins = r.wins ∙ w.wins;
+      more = w.more ++ (r.others ++ seen_last ∷ []);
+      reads = r.read ∙ ap (λ (es : List word.Entry). (es ++ r.others) ++ seen_last ∷ []) w.reads ∙ grouped (before.reads ++ w.more) r.others (seen_last ∷ []) ∙ grouped before.reads w.more (r.others ++ seen_last ∷ []);
+      open_ = λ x h. keeps x (w.open_ x h);
+    }
+
+-- the last turn
+pub turn_last : (op : OpName) (outcome : Outcome) (before mid after : PassView) → Waits op before mid → TookTurn (λ z h t. CollectedBy (collected.Ended outcome) op mid.number h t) mid after → ReadsFor (collected.Ended outcome) op mid after → WaitedFor outcome op before after
+turn_last op outcome before mid after w t r =
+    record { last = mid; waits = w; turn = subst (λ (n : ℕ). TookTurn (λ z h x. CollectedBy (collected.Ended outcome) op n h x) mid after) w.same.0 t; read = r }

@@ -1,0 +1,6 @@
+use Rattle.sp_history.specs.declared.entry.Act.TheVariants as acts
+use Rattle.sp_socket.proofs.Keeping.{begun_open}
+use Rattle.sp_socket.proofs.socket.Socket.begin_recv.Goals as goal
+
+pub returns-clause-open_ : goal.returns-clause-open_
+returns-clause-open_ g c = begun_open _ c.act.result c.args.c acts.Recv c.args.deadline c.args.pass.now c.act.new.pass c.act.ensures.turn (λ z h t b. b.0) c.act.ensures.pass.same.0

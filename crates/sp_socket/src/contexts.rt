@@ -1,0 +1,74 @@
+//! The calls of contexts and topics, each one turn of its caller.
+ghost use Rattle.sp_core.specs.Contexts.{OpenedBy, ShutBy, SubscribedBy, UnsubscribedBy};
+ghost use Rattle.sp_socket.specs.Passes.{IsOf};
+ghost use Rattle.sp_socket.specs.Open.{KeepsPass};
+ghost use Rattle.sp_socket.specs.Turns.{TookTurn};
+
+use crate::acts::{CloseCtx, OpenCtx, Subscribe, Unsubscribe};
+use crate::pass::Pass;
+use crate::socket::Socket;
+use sp_base::Ctx;
+use sp_core::{CtxError, TopicError};
+use sp_msg::Wire;
+use sp_proto::Proto;
+use std::sync::Wait;
+
+impl<P: Proto, W: Wire> Socket<P, W> {
+    /// Opens a context (nng_ctx_open(3)); answers its number, one more than the contexts that were opened before.
+    /// Refused by the first cause of `CtxError` that stands.
+    pub fn open_ctx<R: Wait>(&self, rt: &R, pass: &mut Pass<P, W>) -> Result<Ctx, CtxError>
+        requires own { IsOf self.now pass.old }
+        ensures pass { KeepsPass pass.old pass.new }
+        ensures turn { TookTurn (λ z h t. OpenedBy result z h t) pass.old pass.new }
+    {
+        self.act::<OpenCtx, R>(rt, pass, OpenCtx)
+    }
+
+    /// Shuts the context (nng_ctx_close(3)): what is pending on it ends, Closed unless a caller has ended it, and what is
+    /// kept for it is dropped. Refused where the socket is closed, or no such context is open that can be shut; the
+    /// socket's own can't. Takes no memory.
+    pub fn close_ctx<R: Wait>(
+        &self,
+        rt: &R,
+        pass: &mut Pass<P, W>,
+        c: Ctx,
+    ) -> Result<(), CtxError>
+        requires own { IsOf self.now pass.old }
+        ensures pass { KeepsPass pass.old pass.new }
+        ensures turn { TookTurn (λ z h t. ShutBy result z h t c) pass.old pass.new }
+    {
+        self.act::<CloseCtx, R>(rt, pass, CloseCtx { c })
+    }
+
+    /// Puts a topic on for the context (NNG_OPT_SUB_SUBSCRIBE of nng_sub(7)), of at most 1,024 bytes; one that is there
+    /// stays. Refused by the first cause of `TopicError` that stands.
+    pub fn subscribe<R: Wait>(
+        &self,
+        rt: &R,
+        pass: &mut Pass<P, W>,
+        c: Ctx,
+        topic: &[u8],
+    ) -> Result<(), TopicError>
+        requires own { IsOf self.now pass.old }
+        ensures pass { KeepsPass pass.old pass.new }
+        ensures turn { TookTurn (λ z h t. SubscribedBy result z h t c topic.now) pass.old pass.new }
+    {
+        self.act::<Subscribe<'_>, R>(rt, pass, Subscribe { c, topic })
+    }
+
+    /// Takes a topic off for the context (NNG_OPT_SUB_UNSUBSCRIBE of nng_sub(7)). What is kept for it and no topic
+    /// matches any more is dropped. Refused by the first cause of `TopicError` that stands. Takes no memory.
+    pub fn unsubscribe<R: Wait>(
+        &self,
+        rt: &R,
+        pass: &mut Pass<P, W>,
+        c: Ctx,
+        topic: &[u8],
+    ) -> Result<(), TopicError>
+        requires own { IsOf self.now pass.old }
+        ensures pass { KeepsPass pass.old pass.new }
+        ensures turn { TookTurn (λ z h t. UnsubscribedBy result z h t c topic.now) pass.old pass.new }
+    {
+        self.act::<Unsubscribe<'_>, R>(rt, pass, Unsubscribe { c, topic })
+    }
+}

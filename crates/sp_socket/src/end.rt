@@ -1,0 +1,74 @@
+//! How a socket ends.
+ghost use Rattle.std.specs.Prelude.{◌≡◌, [], length, List};
+ghost use Rattle.aio_word.specs.Views.{Each};
+ghost use Rattle.turn_lock.specs.declared.turn.Turn.{Turn};
+ghost use Rattle.sp_history.specs.declared.entry.Entry.{Entry};
+ghost use Rattle.sp_history.specs.Past.{past_of};
+ghost use Rattle.sp_core.specs.declared.label.CoreLabel.{CoreLabel};
+ghost use Rattle.sp_core.specs.Standing.{StandsFor};
+ghost use Rattle.sp_core.specs.Parts.{HasWires};
+ghost use Rattle.sp_socket.specs.Turns.{label_of};
+ghost use Rattle.sp_socket.specs.Finishing.{HasSeenClose, IsRecord, Joins};
+
+use crate::hands::Hands;
+use crate::list::SocketPasses;
+use crate::record::{Record, Told};
+use crate::socket::Socket;
+use turn_lock::Stack;
+use sp_core::{Core, WireList};
+use sp_msg::Wire;
+use sp_proto::Proto;
+use std::sync::Wait;
+use turn_lock::TurnPass;
+
+// The history that a pass has seen.
+pub struct Seen;
+
+impl<P: Proto, W: Wire> Told<TurnPass<Core<P, W>>> for Seen {
+    ghost told = { λ p. p.seen };
+}
+
+/// What is left of a socket.
+pub struct Finished<W> {
+    /// The wires that were not taken, as the core left them.
+    pub wires: WireList<W>,
+    /// The history of all turns.
+    pub record_: Record,
+}
+
+impl<P: Proto, W: Wire> Socket<P, W> {
+    /// Ends a closed socket, with all its passes. Takes no memory.
+    pub fn finish<R: Wait>(self, rt: &R, passes: SocketPasses<P, W>) -> Finished<W>
+        requires own { passes.lock ≡ self.lock }
+        requires all { length passes.items ≡ passes.callers }
+        requires callers { passes.callers ≡ self.words.callers }
+        requires closed { HasSeenClose self passes.items }
+        ensures { (label : CoreLabel) × IsRecord label result.record_.turns passes.items × HasWires W.shown result.wires label.setting (past_of result.record_.turns) }
+    {
+        let Socket { lock, words: _ } = self;
+        let SocketPasses { turns, mut hands } = passes;
+        let (mut core, pass) = lock.end(rt, turns);
+        join_all(&mut core, &mut hands);
+        hands.destroy_empty();
+        Finished {
+            wires: core.into_wires(),
+            record_: Record::of::<TurnPass<Core<P, W>>, Seen>(&pass),
+        }
+    }
+}
+
+// The core takes in what the seats have won and read, the last seat first.
+fn join_all<P: Proto, W: Wire>(core: &mut Core<P, W>, hands: &mut Stack<Hands>)
+    requires stands { (h : List (Turn Entry)) × StandsFor P.ties P.room W.shown core.old h }
+    requires own { Each (λ x. x.seat.words ≡ (label_of P.kind core.old).words) hands.old }
+    ensures stands { (h : List (Turn Entry)) → StandsFor P.ties P.room W.shown core.old h → StandsFor P.ties P.room W.shown core.new h }
+    ensures label { label_of P.kind core.new ≡ label_of P.kind core.old }
+    ensures joined { Joins core.old core.new hands.old }
+    ensures taken { hands.new ≡ [] }
+{
+    let Some((Hands { seat, names: _ }, _)) = hands.pop() else {
+        return;
+    };
+    core.join(seat);
+    join_all(core, hands);
+}

@@ -1,0 +1,33 @@
+//! The calls without a turn: a caller ends an operation, whoever began it, or looks how it stands. They wait for nobody.
+ghost use Rattle.aio_word.specs.declared.phase.Phase.TheVariants as phase;
+ghost use Rattle.sp_socket.specs.Passes.{IsOf};
+ghost use Rattle.sp_socket.specs.Open.{TakesNoTurn};
+ghost use Rattle.sp_socket.specs.Expiring.{RacedAs, PolledAs, hand};
+
+use crate::pass::Pass;
+use crate::socket::Socket;
+use aio_word::{Polled, Raced};
+use sp_base::OpName;
+use sp_msg::Wire;
+use sp_proto::Proto;
+
+impl<P: Proto, W: Wire> Socket<P, W> {
+    /// Cancels the operation (nng_aio_cancel(3)), unless it has ended. One exchange on its word, and no turn: it waits
+    /// for nobody, and takes no memory. What the operation would have got stays for the next one.
+    pub fn cancel(&self, pass: &mut Pass<P, W>, op: OpName) -> Raced
+        requires own { IsOf self.now pass.old }
+        ensures still { TakesNoTurn pass.old pass.new }
+        ensures raced { RacedAs phase.Cancelled result pass.old.number self.now.words.slots op (hand pass.old) (hand pass.new) }
+    {
+        self.words.cancel(&mut pass.hands.seat, op)
+    }
+
+    /// How the operation stands. One look at its word, and no turn: it waits for nobody, and takes no memory.
+    pub fn poll(&self, pass: &mut Pass<P, W>, op: OpName) -> Polled
+        requires own { IsOf self.now pass.old }
+        ensures still { TakesNoTurn pass.old pass.new }
+        ensures polled { PolledAs result pass.old.number self.now.words.slots op (hand pass.old) (hand pass.new) }
+    {
+        self.words.poll(&mut pass.hands.seat, op)
+    }
+}

@@ -1,0 +1,44 @@
+//! A socket that several callers share: a core behind a turn lock, and for each caller a pass.
+//!
+//! A pass is a caller's right to take turns, its seat at the words of the operations, and room for the names that fall
+//! due. Each call with a pass enters the lock, does one call of the core for the pass's number, and leaves: so it is one
+//! turn of that caller. What the call did and answers is said over the history that the pass has seen then. No call
+//! holds the lock while it waits for another caller's answer; what ends an operation from outside the lock is one
+//! exchange on its word.
+//!
+//! Who owns what: the lock owns the core; a pass owns its seat, alone. `open` takes all room for operations, deadlines
+//! and names. `finish` takes the passes back, joins their seats, and hands out the wires that were not taken and the
+//! record of the whole history.
+#![tactic(auto)]
+
+mod act;
+mod acts;
+mod begin;
+mod calls;
+mod config;
+mod contexts;
+mod end;
+mod ending;
+mod expiring;
+mod hands;
+mod list;
+mod pass;
+mod record;
+mod shared;
+mod socket;
+mod wait;
+
+pub use begin::open;
+pub use config::{Config, OpenError, Ticked};
+pub use end::Finished;
+pub use list::SocketPasses;
+pub use pass::Pass;
+pub use record::Record;
+pub use socket::Socket;
+pub use aio_word::{Polled, Raced};
+pub use sp_core::{
+    AttachError, BeginError, Collected, CtxError, Gone, NowError, Op, Outcome, Served, TopicError,
+    WireList,
+};
+pub use sp_history::entry::{Cause, Miss, Totals, Why};
+pub use sp_history::setting::Options;

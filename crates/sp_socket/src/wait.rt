@@ -1,0 +1,35 @@
+//! Waiting for an operation.
+ghost use Rattle.sp_core.specs.declared.collect.Collected.TheVariants as collected;
+ghost use Rattle.sp_socket.specs.Passes.{IsOf, IsSamePass};
+ghost use Rattle.sp_socket.specs.Open.{IsOpenFor, KeepsOthers};
+ghost use Rattle.sp_socket.specs.Waiting.{WaitedFor};
+
+use crate::pass::Pass;
+use crate::socket::Socket;
+use sp_core::{Collected, Op, Outcome};
+use sp_msg::Wire;
+use sp_proto::Proto;
+use std::sync::Wait;
+use std::thread;
+
+impl<P: Proto, W: Wire> Socket<P, W> {
+    /// Waits until the caller's operation has ended (nng_aio_wait(3)), and collects it: what it came to, as it stands in
+    /// the history. Takes turns, one or more, and gives its processor up between them. Takes no memory.
+    pub fn wait<R: Wait>(&self, rt: &R, pass: &mut Pass<P, W>, op: Op) -> Outcome
+        requires own { IsOf self.now pass.old }
+        requires op { IsOpenFor pass.old op }
+        ensures same { IsSamePass pass.old pass.new }
+        ensures open_ { KeepsOthers (collected.Ended result) op pass.old pass.new }
+        ensures waited { WaitedFor result op pass.old pass.new }
+    {
+        let mut op = op;
+        for _ in rt.forever() {
+            match self.collect(rt, pass, op) {
+                Collected::Ended(outcome) => return outcome,
+                Collected::NotYet(back) => op = back,
+            }
+            thread::yield_now();
+        }
+        unreachable!()
+    }
+}
