@@ -1,6 +1,6 @@
 -- Waiting turn by turn.
-use Rattle.std.proofs.Common.{◌≡◌, ◌≢◌, refl, ap, sym, ◌∙◌, subst, List, [], ◌∷◌, ◌++◌, ℕ, ◌+◌, ◌≤◌, Bool, true, false, cond, arith, Some}
-use Rattle.std.specs.Prelude.{◌==◌, filter, is_some}
+use Rattle.std.proofs.Common.{◌≡◌, ◌≢◌, refl, ap, sym, ◌∙◌, subst, List, [], ◌∷◌, ◌++◌, ℕ, ◌+◌, ◌≤◌, Bool, true, false, cond, arith, Some, inl, inr, ◌<◌}
+use Rattle.std.specs.Prelude.{◌==◌, ◌⊎◌, filter, is_some}
 use Rattle.turn_lock.specs.declared.turn.Turn.{Turn}
 use Rattle.turn_lock.specs.History.{turns_of, OthersAfter}
 use Rattle.sp_base.specs.declared.OpName.{OpName}
@@ -21,9 +21,12 @@ use Rattle.sp_core.specs.declared.ops.Outcome.{Outcome}
 use Rattle.sp_core.specs.declared.collect.Collected.TheVariants as collected
 use Rattle.sp_core.specs.Collecting.{CollectedBy}
 use Rattle.sp_socket.specs.Passes.{PassView, SocketName, IsOf, IsSamePass}
-use Rattle.sp_socket.specs.Open.{KeepsOpen}
+use Rattle.sp_socket.specs.Open.{KeepsOpen, TakesNoTurn}
+use Rattle.sp_socket.specs.Expiring.{Hand, PolledAs, hand}
+use Rattle.aio_word.specs.declared.answers.Polled.{Polled}
+use Rattle.aio_word.specs.declared.answers.Polled.TheVariants as polled
 use Rattle.sp_socket.specs.Turns.{TookTurn, ReadsFor}
-use Rattle.sp_socket.specs.Waiting.{NotEnded, Waits, WaitedFor}
+use Rattle.sp_socket.specs.Waiting.{NotEnded, Waits, WaitedFor, HasLookedOn}
 use Rattle.sp_socket.proofs.Acting.{own_more}
 
 -- the pass is still of the socket
@@ -114,6 +117,46 @@ turn_more op o before mid after w same t r keeps =
       more = w.more ++ (r.others ++ seen_last ∷ []);
       reads = r.read ∙ ap (λ (es : List word.Entry). (es ++ r.others) ++ seen_last ∷ []) w.reads ∙ grouped (before.reads ++ w.more) r.others (seen_last ∷ []) ∙ grouped before.reads w.more (r.others ++ seen_last ∷ []);
       open_ = λ x h. keeps x (w.open_ x h);
+    }
+
+-- more looks
+pub looked_more : (op : OpName) (before mid after : PassView) → Waits op before mid → HasLookedOn mid after → Waits op before after
+looked_more op before mid after w l =
+    record {
+      same = same_twice before mid after w.same l.still.same;
+      between = w.between;
+      own = w.own;
+      seen = l.still.seen ∙ w.seen;
+      mine = l.still.mine ∙ w.mine;
+      are_own = w.are_own;
+      unended = w.unended;
+      wins = l.wins ∙ w.wins;
+      more = w.more ++ l.more;
+      reads = l.reads ∙ ap (λ (es : List word.Entry). es ++ l.more) w.reads ∙ grouped before.reads w.more l.more;
+      open_ = λ x h. l.still.open_ x (w.open_ x h);
+    }
+
+-- looking, one by one
+pub no_look : (p : PassView) → HasLookedOn p p
+no_look p = record { still = record { same = (refl, refl, refl); seen = refl; mine = refl; open_ = λ o h. h }; wins = refl; more = []; reads = plus_none p.reads }
+
+look_grows : (r : Polled) (k slots : ℕ) (op : OpName) (a b : Hand) → PolledAs r k slots op a b → (b.0 ≡ a.0) × ((more : List word.Entry) × (b.1 ≡ a.1 ++ more))
+look_grows polled.Pending k slots op a b h = (h.0, (of_op op Pending 0 ∷ [], h.1))
+look_grows (polled.Ended p by) k slots op a b h = (h.1, (of_op op p by ∷ [], h.2))
+look_grows polled.Stale k slots op a b h = (h.0, found h.1)
+  where
+    found : (((slots ≤ op.slot) × (b.1 ≡ a.1)) ⊎ ((op.slot < slots) × ((e : word.Entry) × (e.slot ≡ op.slot) × ((e.generation ≢ op.generation) ⊎ (op.generation ≡ 0)) × (b.1 ≡ a.1 ++ e ∷ [])))) → (more : List word.Entry) × (b.1 ≡ a.1 ++ more)
+    found (inl x) = ([], x.1 ∙ plus_none a.1)
+    found (inr x) = (x.1.0 ∷ [], x.1.3)
+
+pub look_more : (r : Polled) (k slots : ℕ) (op : OpName) (before mid after : PassView) → HasLookedOn before mid → TakesNoTurn mid after → PolledAs r k slots op (hand mid) (hand after) → HasLookedOn before after
+look_more r k slots op before mid after l t p =
+    let g = look_grows r k slots op (hand mid) (hand after) p in
+    record {
+      still = record { same = same_twice before mid after l.still.same t.same; seen = t.seen ∙ l.still.seen; mine = t.mine ∙ l.still.mine; open_ = λ x h. t.open_ x (l.still.open_ x h) };
+      wins = g.0 ∙ l.wins;
+      more = l.more ++ g.1.0;
+      reads = g.1.1 ∙ ap (λ (es : List word.Entry). es ++ g.1.0) l.reads ∙ grouped before.reads l.more g.1.0;
     }
 
 -- the last turn

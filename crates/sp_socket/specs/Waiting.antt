@@ -16,7 +16,7 @@ use Rattle.sp_core.specs.declared.ops.Outcome.{Outcome}
 use Rattle.sp_core.specs.declared.collect.Collected.TheVariants as collected
 use Rattle.sp_core.specs.Collecting.{CollectedBy}
 use Rattle.sp_socket.specs.Passes.{PassView, IsSamePass}
-use Rattle.sp_socket.specs.Open.{IsOpenFor, KeepsOpen}
+use Rattle.sp_socket.specs.Open.{KeepsOpen, TakesNoTurn}
 use Rattle.sp_socket.specs.Turns.{TookTurn, ReadsFor}
 
 -- the operation doesn't end in these entries
@@ -24,6 +24,13 @@ abbrev pub NotEnded : OpName → List Entry → Type 0
 NotEnded op [] = ⊤
 NotEnded op (End other ending ∷ es) = (same_op other op ≡ false) × NotEnded op es
 NotEnded op (_ ∷ es) = NotEnded op es
+
+-- the pass took no turn and won nothing, and has read more
+pub record HasLookedOn (before after : PassView) : Type 0 where
+  pub still : TakesNoTurn before after
+  pub wins : after.wins ≡ before.wins
+  pub more : List word.Entry
+  pub reads : after.reads ≡ before.reads ++ more
 
 -- The pass has seen more turns, of others and of its own, and the operation ended in none of its own
 pub record Waits (op : OpName) (before now : PassView) : Type 0 where

@@ -4,7 +4,7 @@ use Rattle.sp_core.specs.Collecting.{CollectedBy}
 use Rattle.sp_socket.specs.Turns.{TookTurn, ReadsFor}
 use Rattle.sp_base.specs.declared.OpName.{OpName}
 use Rattle.sp_socket.specs.Open.{IsOpenFor}
-use Rattle.sp_socket.proofs.Waits.{still_of, same_twice, no_turn, turn_more, turn_last}
+use Rattle.sp_socket.proofs.Waits.{still_of, same_twice, no_turn, turn_more, looked_more, turn_last}
 use Rattle.sp_socket.proofs.socket.Socket.wait.Goals as goal
 
 pub loop-init : goal.loop-init
@@ -41,8 +41,8 @@ loop-preserved g c =
     let back = c.in-NotYet.back in
     let is = c.loop.invariant.op in
     record {
-      waits = turn_more c.args.op back c.args.pass.now mid after c.loop.invariant.waits e.same
+      waits = looked_more c.args.op c.args.pass.now after c.look_on.new.pass (turn_more c.args.op back c.args.pass.now mid after c.loop.invariant.waits e.same
           (subst (λ (o : OpName). TookTurn (λ z h t. CollectedBy (collected.NotYet back) o mid.number h t) mid after) is e.turn)
-          (subst (λ (o : OpName). ReadsFor (collected.NotYet back) o mid after) is e.read) e.open_;
+          (subst (λ (o : OpName). ReadsFor (collected.NotYet back) o mid after) is e.read) e.open_) c.look_on.ensures;
       op = e.turn.said.0 ∙ is;
     }
