@@ -242,9 +242,7 @@ fn giving(alloc: Global, frames: u32) -> Result<MemWire, NoMemory>
 }
 
 // A socket of four callers.
-fn opened(
-    alloc: Global,
-) -> Result<(Socket<Pull, MemWire>, SocketPasses<Pull, MemWire>), NoMemory>
+fn opened(alloc: Global) -> Result<(Socket<Pull, MemWire>, SocketPasses<Pull, MemWire>), NoMemory>
     ensures { IfOk result (λ made. IsListOf made.0 made.1 × (length made.1.items ≡ 4) × (made.0.words.callers ≡ 4)) }
 {
     let machine = Pull::new(alloc, Options::usual(Role::Pull, 0), false)?;
