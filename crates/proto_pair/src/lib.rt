@@ -5,14 +5,14 @@
 //! room, in the order of the begins; its body alone goes out.
 #![tactic(auto)]
 
-ghost use Rattle.std.specs.Prelude.{◌≡◌, ◌≢◌, ◌≤◌, ℕ, List, [], IfOk, OnOk, OnErr, Err, IsTrue};
-ghost use Rattle.sp_history.specs.declared.entry.Entry.TheVariants.{Frame, Up};
+ghost use Rattle.std.specs.Prelude.{◌≡◌, ◌≢◌, ◌+◌, ◌<◌, ◌≤◌, ℕ, List, [], Option, IfOk, IfErr, OnOk, OnErr, Err, IsTrue};
+ghost use Rattle.sp_history.specs.declared.entry.Entry.TheVariants.{Begin, Frame, Up};
 ghost use Rattle.sp_history.specs.declared.entry.WireName.{WireName};
 ghost use Rattle.sp_history.specs.declared.parts.Begun.{Begun};
 ghost use Rattle.sp_history.specs.Moments.{Moment, Lawful, past, also};
 ghost use Rattle.sp_history.specs.Past.{up};
 ghost use Rattle.sp_history.specs.Setting.{is_pair};
-ghost use Rattle.sp_proto.specs.Kinds.{Starts};
+ghost use Rattle.sp_proto.specs.Kinds.{Starts, entry_act};
 ghost use Rattle.sp_proto.specs.Machines.{Frames, NoFlood, Takes};
 ghost use Rattle.proto_pending.specs.Waits.{Holds};
 ghost use Rattle.proto_pair.specs.Pairs.{Ties, pair_kind, places_left, marked, receiver_of, send_offer};
@@ -192,7 +192,16 @@ impl Proto for Pair {
         Ok(())
     }
 
-    fn begin(&mut self, op: OpName, c: Ctx, act: Act) -> Result<(), Message> {
+    /// It has the place of the operation, so it never lacks memory for one.
+    fn begin(&mut self, op: OpName, c: Ctx, act: Act) -> Result<(), Message>
+        requires { 0 < places_left self.old }
+        ensures begun { OnOk result ((t : Moment) (deadline : Option ℕ) → NoFlood t → Takes (Ties self.old) (Ties self.new) t (Begin op t.caller c (entry_act act) deadline)) }
+        ensures handed_back { IfErr result (λ m. act ≡ Act.Send m) }
+        ensures same { OnErr result ((t : Moment) → Ties self.old t → Ties self.new t) }
+        ensures room { places_left self.old ≤ places_left self.new + 1 }
+        ensures room_kept { OnErr result (places_left self.old ≤ places_left self.new) }
+        ensures fits { OnErr result ⊥ }
+    {
         self.pending.push(op, c, act);
         Ok(())
     }
