@@ -239,13 +239,10 @@ impl Proto for Bus {
         !leaves_out(self.left_out, p)
     }
 
-    fn flood(&mut self, op: OpName, p: PipeId) -> Message {
+    fn flood(&mut self, op: OpName, p: PipeId) -> Option<Message> {
         let _ = op;
         let _ = p;
-        match self.copies.pop() {
-            None => unreachable!(),
-            Some(copy) => copy,
-        }
+        self.copies.pop()
     }
 
     fn again(&mut self, c: Ctx, p: PipeId) -> Option<Message> {

@@ -36,6 +36,10 @@ fn a_bus_sends_to_all(rt: HostRuntime) -> Result<(), Fail> {
     );
     assert!(rt; bus.offer() == Offer::Flood { op: FIRST });
     assert!(rt; bus.goes_to(FIRST, PipeId(1)) && bus.goes_to(FIRST, PipeId(2)));
+    match bus.flood(FIRST, PipeId(2)) {
+        None => assert!(rt; false),
+        Some(out) => assert!(rt; out.header().is_empty() && out.body() == b"m".as_slice()),
+    }
     bus.full(PipeId(1));
     assert!(rt; bus.won(FIRST, None).is_none());
     assert!(rt; bus.offer() == Offer::Idle);

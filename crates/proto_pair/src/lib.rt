@@ -228,10 +228,10 @@ impl Proto for Pair {
         false
     }
 
-    fn flood(&mut self, op: OpName, p: PipeId) -> Message {
+    fn flood(&mut self, op: OpName, p: PipeId) -> Option<Message> {
         let _ = op;
         let _ = p;
-        unreachable!()
+        None
     }
 
     fn again(&mut self, c: Ctx, p: PipeId) -> Option<Message> {
