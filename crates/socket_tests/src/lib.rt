@@ -9,5 +9,5 @@ mod one;
 mod tests;
 
 pub use callers::{Caller, finish, give_back, next, opened};
-pub use held::HeldWire;
+pub use held::{Flag, HeldWire, serve_held};
 pub use one::receive_one;

@@ -7,7 +7,7 @@ ghost use Rattle.sp_core.specs.Wires.{IsUnused};
 ghost use Rattle.socket_tests.specs.Calls.{IsListOf, Calls};
 
 use crate::callers::{Caller, finish, give_back, next, opened};
-use crate::held::{HeldWire, sees};
+use crate::held::{Flag, HeldWire, serve_held};
 use crate::one::receive_one;
 use aio_word::Phase;
 use proto_pipeline::{Pull, Push};
@@ -158,10 +158,7 @@ fn a_cancelled_receive_leaves_the_frame_for_the_next(rt: HostRuntime) {
     assert!(rt; is_received(first.collect(&rt, &socket), b"x"));
     assert!(rt; is_gone(first.collect(&rt, &socket), Cause::Cancelled, 2));
     give_back(&rt, &socket, &mut list, second);
-    assert_eq!(rt;
-        give_back(&rt, &socket, &mut list, first),
-        totals(2, 1, 1, 1)
-    );
+    assert_eq!(rt; give_back(&rt, &socket, &mut list, first), totals(2, 1, 1, 1));
     assert_eq!(rt; finish(&rt, alloc, socket, list).len(), 1);
 }
 
@@ -193,15 +190,9 @@ fn a_receive_times_out_at_its_deadline(rt: HostRuntime) {
     let mut first = next(&rt, alloc, &socket, &mut list);
     let a = begun(&rt, first.begin_recv(&rt, &socket, Ctx(0), Some(Tick(100))));
     assert_eq!(rt; first.poll(&socket, a), Polled::Pending);
-    assert_eq!(rt;
-        second.tick(&rt, &socket, Tick(99)),
-        Ticked { won: 0, lost: 0 }
-    );
+    assert_eq!(rt; second.tick(&rt, &socket, Tick(99)), Ticked { won: 0, lost: 0 });
     assert!(rt; first.collect(&rt, &socket).is_none());
-    assert_eq!(rt;
-        second.tick(&rt, &socket, Tick(100)),
-        Ticked { won: 1, lost: 0 }
-    );
+    assert_eq!(rt; second.tick(&rt, &socket, Tick(100)), Ticked { won: 1, lost: 0 });
     let expired = Raced::Ended {
         phase: Phase::Expired,
         by: 2,
@@ -209,10 +200,7 @@ fn a_receive_times_out_at_its_deadline(rt: HostRuntime) {
     assert_eq!(rt; first.cancel(&socket, a), expired);
     assert!(rt; is_gone(first.collect(&rt, &socket), Cause::TimedOut, 2));
     give_back(&rt, &socket, &mut list, first);
-    assert_eq!(rt;
-        give_back(&rt, &socket, &mut list, second),
-        totals(1, 0, 1, 0)
-    );
+    assert_eq!(rt; give_back(&rt, &socket, &mut list, second), totals(1, 0, 1, 0));
     assert_eq!(rt; finish(&rt, alloc, socket, list).len(), 0);
 }
 
@@ -225,10 +213,7 @@ fn a_tick_loses_what_was_cancelled(rt: HostRuntime) {
     let a = begun(&rt, first.begin_recv(&rt, &socket, Ctx(0), Some(Tick(7))));
     begun(&rt, first.begin_recv(&rt, &socket, Ctx(0), Some(Tick(7))));
     assert_eq!(rt; first.cancel(&socket, a), Raced::Won);
-    assert_eq!(rt;
-        first.tick(&rt, &socket, Tick(7)),
-        Ticked { won: 1, lost: 1 }
-    );
+    assert_eq!(rt; first.tick(&rt, &socket, Tick(7)), Ticked { won: 1, lost: 1 });
     assert!(rt; is_gone(first.collect(&rt, &socket), Cause::TimedOut, 1));
     assert!(rt; is_gone(first.collect(&rt, &socket), Cause::Cancelled, 1));
     give_back(&rt, &socket, &mut list, first);
@@ -242,19 +227,13 @@ fn close_ends_what_is_pending_once(rt: HostRuntime) {
     let mut second = next(&rt, alloc, &socket, &mut list);
     let mut first = next(&rt, alloc, &socket, &mut list);
     assert!(rt; first.attach(&rt, &socket, counting(&rt, alloc, 0)).is_ok());
-    for _ in 0..3 {
-        begun(&rt, first.begin_recv(&rt, &socket, Ctx(0), None));
-    }
+    begin_many(&rt, alloc, &socket, &mut first, 3);
     assert_eq!(rt; second.close(&rt, &socket), totals(3, 0, 3, 0));
     assert_eq!(rt; code(first.begin_recv(&rt, &socket, Ctx(0), None)), 7);
-    for _ in 0..3 {
-        assert!(rt; is_gone(first.collect(&rt, &socket), Cause::Closed, 0));
-    }
-    assert!(rt;
-        second
-            .attach(&rt, &socket, counting(&rt, alloc, 0))
-            .is_err()
-    );
+    assert!(rt; is_gone(first.collect(&rt, &socket), Cause::Closed, 0));
+    assert!(rt; is_gone(first.collect(&rt, &socket), Cause::Closed, 0));
+    assert!(rt; is_gone(first.collect(&rt, &socket), Cause::Closed, 0));
+    assert!(rt; second.attach(&rt, &socket, counting(&rt, alloc, 0)).is_err());
     assert_eq!(rt; first.close(&rt, &socket), totals(3, 0, 3, 0));
     assert!(rt; second.take_ended(&rt, &socket).is_some());
     give_back(&rt, &socket, &mut list, first);
@@ -324,10 +303,7 @@ fn slots_and_callers_have_bounds(rt: HostRuntime) {
     let last = next(&rt, alloc, &socket, &mut list);
     assert_eq!(rt; last.pass.number(), 64);
     assert!(rt; !list.is_full());
-    assert_eq!(rt;
-        give_back(&rt, &socket, &mut list, last),
-        totals(0, 0, 0, 0)
-    );
+    assert_eq!(rt; give_back(&rt, &socket, &mut list, last), totals(0, 0, 0, 0));
     assert!(rt; list.is_full());
     finish(&rt, alloc, socket, list);
 }
@@ -396,14 +372,8 @@ fn two_threads_begin_serve_collect_and_close(rt: HostRuntime) {
     let mut first = next(&rt, alloc, &socket, &mut list);
     assert!(rt; first.attach(&rt, &socket, counting(&rt, alloc, 32)).is_ok());
     receive_in_two(&rt, &socket, &mut first, &mut second, 16);
-    assert_eq!(rt;
-        give_back(&rt, &socket, &mut list, first),
-        totals(32, 32, 0, 32)
-    );
-    assert_eq!(rt;
-        give_back(&rt, &socket, &mut list, second),
-        totals(32, 32, 0, 32)
-    );
+    assert_eq!(rt; give_back(&rt, &socket, &mut list, first), totals(32, 32, 0, 32));
+    assert_eq!(rt; give_back(&rt, &socket, &mut list, second), totals(32, 32, 0, 32));
     assert_eq!(rt; finish(&rt, alloc, socket, list).len(), 1);
 }
 
@@ -442,32 +412,13 @@ fn four_threads_race_for_the_lock(rt: HostRuntime) {
     let mut third = next(&rt, alloc, &socket, &mut list);
     let mut second = next(&rt, alloc, &socket, &mut list);
     let mut first = next(&rt, alloc, &socket, &mut list);
-    assert!(rt;
-        first
-            .attach(&rt, &socket, counting(&rt, alloc, 100))
-            .is_ok()
-    );
-    assert!(rt;
-        second
-            .attach(&rt, &socket, counting(&rt, alloc, 100))
-            .is_ok()
-    );
-    receive_in_four(
-        &rt,
-        &socket,
-        &mut first,
-        &mut second,
-        &mut third,
-        &mut fourth,
-        50,
-    );
+    assert!(rt; first.attach(&rt, &socket, counting(&rt, alloc, 100)).is_ok());
+    assert!(rt; second.attach(&rt, &socket, counting(&rt, alloc, 100)).is_ok());
+    receive_in_four(&rt, &socket, &mut first, &mut second, &mut third, &mut fourth, 50);
     give_back(&rt, &socket, &mut list, first);
     give_back(&rt, &socket, &mut list, second);
     give_back(&rt, &socket, &mut list, third);
-    assert_eq!(rt;
-        give_back(&rt, &socket, &mut list, fourth),
-        totals(200, 200, 0, 200)
-    );
+    assert_eq!(rt; give_back(&rt, &socket, &mut list, fourth), totals(200, 200, 0, 200));
     assert_eq!(rt; finish(&rt, alloc, socket, list).len(), 2);
 }
 
@@ -608,9 +559,7 @@ fn many_receives_are_raced(rt: HostRuntime) {
     let (cancelled, expired) = race(&rt, &socket, &mut second, &mut third, &mut fourth, &names);
     let rest = cancel_all(&socket, &mut first, &names);
     let received = received_of(&rt, &socket, &mut first, 64);
-    let ended = received
-        .saturating_add(cancelled)
-        .saturating_add(expired as u64);
+    let ended = received.saturating_add(cancelled).saturating_add(expired as u64);
     assert_eq!(rt; ended.saturating_add(rest), 64);
     give_back(&rt, &socket, &mut list, second);
     give_back(&rt, &socket, &mut list, third);
@@ -625,84 +574,15 @@ fn many_receives_are_raced(rt: HostRuntime) {
 
 // ---- A turn that stops
 
-// Once the mark is seen, cancels the operation, and then sets the flag. Whether the cancel has ended it.
-fn cancel_when_marked<'f>(
-    socket: &Socket<Pull, HeldWire<'f>>,
-    caller: &mut Caller<Pull, HeldWire<'f>>,
-    op: OpName,
-    mark: &AtomicU64,
-    flag: &AtomicU64,
-) -> bool
-    requires { Calls socket.now caller.old.pass caller.old.ops.items }
-    ensures { Calls socket.now caller.new.pass caller.new.ops.items }
-{
-    if !sees(mark) {
-        return false;
-    }
-    let answer = caller.cancel(socket, op);
-    flag.store(1, Ordering::SeqCst);
-    answer == Raced::Won
-}
-
-// Begins one receive.
-fn begin_one<'f, R: Wait + Abort>(
-    rt: &R,
-    socket: &Socket<Pull, HeldWire<'f>>,
-    caller: &mut Caller<Pull, HeldWire<'f>>,
-)
-    requires { Calls socket.now caller.old.pass caller.old.ops.items }
-    ensures { Calls socket.now caller.new.pass caller.new.ops.items }
-{
-    begun(rt, caller.begin_recv(rt, socket, Ctx(0), None));
-}
-
-// One caller cancels once the mark is seen, and another begins a receive, each in a thread of its own.
-fn cancel_and_begin<'f, R: Wait + Abort + Threads + Sync>(
-    rt: &R,
-    socket: &Socket<Pull, HeldWire<'f>>,
-    second: &mut Caller<Pull, HeldWire<'f>>,
-    third: &mut Caller<Pull, HeldWire<'f>>,
-    op: OpName,
-    mark: &AtomicU64,
-    flag: &AtomicU64,
-) -> bool
-    requires second { Calls socket.now second.old.pass second.old.ops.items }
-    requires third { Calls socket.now third.old.pass third.old.ops.items }
-    ensures second { Calls socket.now second.new.pass second.new.ops.items }
-    ensures third { Calls socket.now third.new.pass third.new.ops.items }
-{
-    let (won, _) = join_mut(
-        rt,
-        &mut || cancel_when_marked(socket, second, op, mark, flag),
-        &mut || begin_one(rt, socket, third),
-    );
-    won
-}
-
-// The same, while a third caller serves.
-fn serve_held<'f, R: Wait + Abort + Threads + Sync>(
-    rt: &R,
-    socket: &Socket<Pull, HeldWire<'f>>,
-    first: &mut Caller<Pull, HeldWire<'f>>,
-    second: &mut Caller<Pull, HeldWire<'f>>,
-    third: &mut Caller<Pull, HeldWire<'f>>,
-    op: OpName,
-    mark: &AtomicU64,
-    flag: &AtomicU64,
-) -> bool
-    requires first { Calls socket.now first.old.pass first.old.ops.items }
-    requires second { Calls socket.now second.old.pass second.old.ops.items }
-    requires third { Calls socket.now third.old.pass third.old.ops.items }
-    ensures first { Calls socket.now first.new.pass first.new.ops.items }
-    ensures second { Calls socket.now second.new.pass second.new.ops.items }
-    ensures third { Calls socket.now third.new.pass third.new.ops.items }
-{
-    let (_, won) = join_mut(
-        rt,
-        &mut || first.serve(rt, socket),
-        &mut || cancel_and_begin(rt, socket, second, third, op, mark, flag),
-    );
-    won
+// Two values of one flag.
+fn two_flags(rt: &impl Abort, alloc: Global) -> (Flag, Flag) {
+    let Ok(first) = Flag::new(alloc) else {
+        panic!(rt; "no memory for a flag")
+    };
+    let Ok(second) = first.share() else {
+        panic!(rt; "no memory for a flag")
+    };
+    (first, second)
 }
 
 // A thread is stopped within its turn, by its wire. Another's cancel is answered meanwhile, and a third that wants a turn
@@ -710,13 +590,13 @@ fn serve_held<'f, R: Wait + Abort + Threads + Sync>(
 #[test]
 fn a_cancel_is_answered_within_a_held_turn(rt: HostRuntime) {
     let alloc = rt.alloc();
-    let mark = AtomicU64::new(0);
-    let flag = AtomicU64::new(0);
+    let (mark, marks) = two_flags(&rt, alloc);
+    let (flag, flags) = two_flags(&rt, alloc);
     let (socket, mut list) = opened(&rt, alloc, pull(&rt, alloc), 4, 3);
     let mut third = next(&rt, alloc, &socket, &mut list);
     let mut second = next(&rt, alloc, &socket, &mut list);
     let mut first = next(&rt, alloc, &socket, &mut list);
-    let held = HeldWire::new(giving_x(&rt, alloc, 1), &mark, &flag);
+    let held = HeldWire::new(giving_x(&rt, alloc, 1), marks, flags);
     assert!(rt; first.attach(&rt, &socket, held).is_ok());
     let a = begun(&rt, first.begin_recv(&rt, &socket, Ctx(0), None));
     let won = serve_held(
@@ -726,19 +606,16 @@ fn a_cancel_is_answered_within_a_held_turn(rt: HostRuntime) {
         &mut second,
         &mut third,
         a,
-        &mark,
-        &flag,
+        mark.word(),
+        flag.word(),
     );
-    assert_eq!(rt; mark.load(Ordering::SeqCst), 1);
+    assert_eq!(rt; mark.word().load(Ordering::SeqCst), 1);
     assert!(rt; won);
     assert!(rt; first.serve(&rt, &socket).moved);
     assert!(rt; is_gone(first.collect(&rt, &socket), Cause::Cancelled, 2));
     assert!(rt; is_received(third.collect(&rt, &socket), b"x"));
     give_back(&rt, &socket, &mut list, first);
     give_back(&rt, &socket, &mut list, second);
-    assert_eq!(rt;
-        give_back(&rt, &socket, &mut list, third),
-        totals(2, 1, 1, 1)
-    );
+    assert_eq!(rt; give_back(&rt, &socket, &mut list, third), totals(2, 1, 1, 1));
     finish(&rt, alloc, socket, list);
 }
