@@ -168,6 +168,11 @@ abbrev pub is_given : Bool → List Kept → List Live → ℕ → Bool
 is_given true ks xs c = not (is_nil ks)
 is_given false ks xs c = list_any (keeps_reply c) xs
 
+-- a message can be given to a receive of some context
+abbrev pub is_any_given : Bool → List Kept → List Live → Bool
+is_any_given true ks xs = not (is_nil ks)
+is_any_given false ks xs = list_any (λ (x : Live). is_some x.reply) xs
+
 -- its pipe is down, or it is too long ago
 abbrev pub is_late : ℕ → ℕ → List Port → LastOut → Bool
 is_late resend t ps o = not (list_any (is_pipe o.pipe) ps) || nat_le (o.when + resend) t

@@ -13,7 +13,7 @@ ghost use Rattle.proto_reqrep.specs.declared.req.Kept.{Kept as KeptType};
 ghost use Rattle.proto_reqrep.specs.declared.req.Live.{Live as LiveType};
 ghost use Rattle.proto_reqrep.specs.declared.req.Asking.{Asking as AskingType};
 ghost use Rattle.proto_reqrep.specs.declared.req.Seat.{Seat as SeatType};
-ghost use Rattle.proto_reqrep.specs.Reqs.{Ties, req_kind, is_live_on, is_asked, without_first, without_live, orphaned, waits_for, with_reply, with_found, sent_at, keeps_reply, is_sending, is_due, dry_at, dried, wetted, number_after, free_number, reply_in, Asks, KeepsRaw, is_given, is_late, out_offer, ask_state, is_receiving_on};
+ghost use Rattle.proto_reqrep.specs.Reqs.{Ties, req_kind, is_live_on, is_asked, without_first, without_live, orphaned, waits_for, with_reply, with_found, sent_at, keeps_reply, is_sending, is_due, dry_at, dried, wetted, number_after, free_number, reply_in, Asks, KeepsRaw, is_given, is_any_given, is_late, out_offer, ask_state, is_receiving_on};
 
 use crate::ports::{Port, clear, forget, free_port, is_up, mark};
 use crate::trail::first_word;
@@ -231,6 +231,13 @@ fn has_reply(live: &[Live], c: Ctx) -> bool
     ensures { result ≡ list_any (keeps_reply c) live.now }
 {
     live.iter().any(|x| x.ctx.0 == c.0 && x.reply.is_some())
+}
+
+// A reply is kept.
+fn has_any_reply(live: &[Live]) -> bool
+    ensures { result ≡ list_any (λ (x : LiveType). is_some x.reply) live.now }
+{
+    live.iter().any(|x| x.reply.is_some())
 }
 
 // Takes the live request of the context out.
@@ -487,9 +494,22 @@ impl Request {
     fn give_place(&self) -> Option<usize>
         ensures { result ≡ position (λ (w : AskingType). not (is_sending w) && is_given self.now.raw self.now.kept.items self.now.live.items w.ctx) self.now.waiting.items }
     {
+        if !self.has_any() {
+            return None;
+        }
         self.waiting
             .iter()
             .position(|w| w.message.is_none() && self.gives(w.ctx))
+    }
+
+    // A message can be given to a receive of some context.
+    fn has_any(&self) -> bool
+        ensures { result ≡ is_any_given self.now.raw self.now.kept.items self.now.live.items }
+    {
+        if self.raw {
+            return !self.kept.is_empty();
+        }
+        has_any_reply(&self.live)
     }
 
     // The live request may go out again.
