@@ -737,6 +737,7 @@ fn what_is_kept_is_received_at_once(rt: HostRuntime) {
         play.try_recv(&rt, Ctx(0)),
         NowError::Begin(BeginError::Closed),
     );
+    is_gone(&rt, play.collect(&rt), Cause::Closed, 0);
     assert_eq!(rt; SpError::from(NowError::Again), SpError::Again);
     play.finish(&rt, alloc);
 }

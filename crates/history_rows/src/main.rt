@@ -73,12 +73,14 @@ fn another(rt: &impl Print, title: &str, found: &str, tally: Tally) -> Result<Ta
 
 /// Judges the row, if there is one.
 fn end_row<R: Print + AllocGlobal>(rt: &R, row: Option<Row>, tally: Tally) -> Result<Tally> {
-    let Some(Row {
-        title,
-        said,
-        setting,
-        turns,
-    }) = row
+    let Some(
+        Row {
+            title,
+            said,
+            setting,
+            turns,
+        },
+    ) = row
     else {
         return Ok(tally);
     };

@@ -10,3 +10,15 @@ pub mod Trailing
 pub mod Framed
 pub mod Checked
 pub mod Roles
+pub mod Orphaned
+pub mod Living
+pub mod Outgoing
+pub mod Owning
+pub mod Requested
+pub mod Working
+pub mod Standing
+pub mod Reaching
+pub mod Coming
+pub mod Knowing
+pub mod Winning
+pub mod Offering

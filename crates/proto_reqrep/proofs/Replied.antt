@@ -175,7 +175,7 @@ fresh_ties m n t k h e f w g same =
 or_left : (a b : Bool) → a ≡ true → (a || b) ≡ true
 or_left a b h = rw h refl
 
-has_first : (cs ds : List ℕ) (c : ℕ) → has cs c ≡ true → has (cs ++ ds) c ≡ true
+pub has_first : (cs ds : List ℕ) (c : ℕ) → has cs c ≡ true → has (cs ++ ds) c ≡ true
 has_first [] ds c h = absurd cc
 has_first (x ∷ cs) ds c h = go (x == c) h (has_first cs ds c)
   where
@@ -204,7 +204,7 @@ opened_ties m n t c h e p f w same =
       routed = rw w h.routed;
     }
 
-has_still : (cs : List ℕ) (c d : ℕ) → has cs d ≡ true → (d == c) ≡ false → has (without cs c) d ≡ true
+pub has_still : (cs : List ℕ) (c d : ℕ) → has cs d ≡ true → (d == c) ≡ false → has (without cs c) d ≡ true
 has_still [] c d h k = absurd cc
 has_still (x ∷ cs) c d h k = go (x == c) refl (x == d) refl h (has_still cs c d)
   where

@@ -508,10 +508,10 @@ impl Proto for Reply {
         false
     }
 
-    fn flood(&mut self, op: OpName, p: PipeId) -> Message {
+    fn flood(&mut self, op: OpName, p: PipeId) -> Option<Message> {
         let _ = op;
         let _ = p;
-        unreachable!()
+        None
     }
 
     fn again(&mut self, c: Ctx, p: PipeId) -> Option<Message> {

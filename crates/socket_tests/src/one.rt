@@ -22,7 +22,14 @@ pub fn receive_one<W: Wire + Drop, R: Wait + Abort>(
     let Ok(machine) = Pull::new(alloc, Options::usual(Role::Pull, 0), false) else {
         panic!(rt; "no memory for a pull")
     };
-    let Ok((socket, mut passes)) = open(alloc, machine, Config { slots: 1, callers: 1 }) else {
+    let Ok((socket, mut passes)) = open(
+        alloc,
+        machine,
+        Config {
+            slots: 1,
+            callers: 1,
+        },
+    ) else {
         panic!(rt; "no memory for a socket")
     };
     let Some(mut pass) = passes.pop() else {

@@ -150,6 +150,20 @@ impl LaneWire {
         }
     }
 
+    /// Whether it may be pulled, asked for room and flushed.
+    pub fn is_open(&self) -> bool
+        ensures { result ≡ self.now.wire.is_open }
+    {
+        self.marks.is_open
+    }
+
+    /// Whether room for one message was found and isn't used yet.
+    pub fn is_ready(&self) -> bool
+        ensures { result ≡ self.now.wire.is_ready }
+    {
+        self.marks.is_ready
+    }
+
     /// Both halves, as they are; a message in hand is dropped.
     pub fn into_halves(self) -> (LaneIn, LaneOut)
         ensures out { result.0 ≡ self.out }

@@ -58,15 +58,16 @@ module _ (says : Setting → List (Turn Entry) → Turn Entry → Type 0) (befor
 
   -- what the turn has begun is open, and wasn't
   pub opens : (op : OpName) (c : ℕ) (act : Act) (d : Option ℕ) → HasBegin op before.number c act d t.turn → OpensFor before after op
-  opens op c act d b =
-      (for_pass op (open_begun t.label.setting t.past t.turn b.early b.late op before.number c act d legal_turn b.entries (none_settling op b.late b.late_settles)),
-       λ was. closed_before t.label.setting t.past t.turn op before.number c act d legal_turn b before.number (was_open op was))
+  opens op c act d b = (
+    for_pass op (open_begun t.label.setting t.past t.turn b.early b.late op before.number c act d legal_turn b.entries (none_settling op b.late b.late_settles)),
+    λ was. closed_before t.label.setting t.past t.turn op before.number c act d legal_turn b before.number (was_open op was),
+  )
 
 -- the same, of what the lock and the core said of the turn
 pub kept : (says : Setting → List (Turn Entry) → Turn Entry → Type 0) (t0 t1 t2 : TurnsOf) (h k : Hands) (x : Turn Entry) (label : CoreLabel) (before : PassView) → before ≡ pass_of t0 h → Went says t0 t1 t2 h k x label → t2.number ≡ before.number → LeavesOpen t1.seen x → KeepsOpen before (pass_of t2 k)
 kept says t0 t1 t2 h k x label before is w same n =
     subst (λ (b : PassView). KeepsOpen b (pass_of t2 k)) (sym is)
-      (keeps says (pass_of t0 h) (pass_of t2 k) (took_here says t0 t1 t2 h k x label w) (same ∙ ap (λ (b : PassView). b.number) is) n)
+    (keeps says (pass_of t0 h) (pass_of t2 k) (took_here says t0 t1 t2 h k x label w) (same ∙ ap (λ (b : PassView). b.number) is) n)
 
 -- the same by what the core answered
 pub begun_open : (says : Setting → List (Turn Entry) → Turn Entry → Type 0) (r : Result OpName BeginError) (c : ℕ) (act : Act) (d : Option ℕ) (before after : PassView) → TookTurn says before after → ((z : Setting) (h : List (Turn Entry)) (t : Turn Entry) → says z h t → BeganBy r z h t before.number c act d) → after.number ≡ before.number → IfOk r (OpensFor before after)

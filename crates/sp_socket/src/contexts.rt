@@ -27,12 +27,7 @@ impl<P: Proto, W: Wire> Socket<P, W> {
     /// Shuts the context (nng_ctx_close(3)): what is pending on it ends, Closed unless a caller has ended it, and what is
     /// kept for it is dropped. Refused where the socket is closed, or no such context is open that can be shut; the
     /// socket's own can't. Takes no memory.
-    pub fn close_ctx<R: Wait>(
-        &self,
-        rt: &R,
-        pass: &mut Pass<P, W>,
-        c: Ctx,
-    ) -> Result<(), CtxError>
+    pub fn close_ctx<R: Wait>(&self, rt: &R, pass: &mut Pass<P, W>, c: Ctx) -> Result<(), CtxError>
         requires own { IsOf self.now pass.old }
         ensures pass { KeepsPass pass.old pass.new }
         ensures turn { TookTurn (λ z h t. ShutBy result z h t c) pass.old pass.new }

@@ -14,12 +14,11 @@ use crate::hands::Hands;
 use crate::list::SocketPasses;
 use crate::record::{Record, Told};
 use crate::socket::Socket;
-use turn_lock::Stack;
 use sp_core::{Core, WireList};
 use sp_msg::Wire;
 use sp_proto::Proto;
 use std::sync::Wait;
-use turn_lock::TurnPass;
+use turn_lock::{Stack, TurnPass};
 
 // The history that a pass has seen.
 pub struct Seen;

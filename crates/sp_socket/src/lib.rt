@@ -28,6 +28,7 @@ mod shared;
 mod socket;
 mod wait;
 
+pub use aio_word::{Polled, Raced};
 pub use begin::open;
 pub use config::{Config, OpenError, Ticked};
 pub use end::Finished;
@@ -35,7 +36,6 @@ pub use list::SocketPasses;
 pub use pass::Pass;
 pub use record::Record;
 pub use socket::Socket;
-pub use aio_word::{Polled, Raced};
 pub use sp_core::{
     AttachError, BeginError, Collected, CtxError, Gone, NowError, Op, Outcome, Served, TopicError,
     WireList,

@@ -30,8 +30,8 @@ returns-in-Ended-clause-waited g c =
     let after = c.collect.new.pass in
     let outcome = c.in-Ended.outcome in
     turn_last c.args.op outcome c.args.pass.now mid after c.loop.invariant.waits
-      (subst (λ (o : OpName). TookTurn (λ z h t. CollectedBy (collected.Ended outcome) o mid.number h t) mid after) c.loop.invariant.op e.turn)
-      (subst (λ (o : OpName). ReadsFor (collected.Ended outcome) o mid after) c.loop.invariant.op e.read)
+    (subst (λ (o : OpName). TookTurn (λ z h t. CollectedBy (collected.Ended outcome) o mid.number h t) mid after) c.loop.invariant.op e.turn)
+    (subst (λ (o : OpName). ReadsFor (collected.Ended outcome) o mid after) c.loop.invariant.op e.read)
 
 pub loop-preserved : goal.loop-preserved
 loop-preserved g c =

@@ -1,0 +1,80 @@
+-- What a bus stands for.
+use Rattle.std.specs.Prelude.{◌≡◌, ◌≤◌, ℕ, Bool, true, false, ⊤, List, [], ◌∷◌, length, map, filter, Option, None}
+use Rattle.std.specs.VecDeque.{deque_capacity}
+use Rattle.sp_base.specs.declared.OpName.{OpName}
+use Rattle.sp_base.specs.declared.role.Role.TheVariants as role
+use Rattle.sp_msg.specs.Views.{MessageView}
+use Rattle.sp_history.specs.declared.entry.Act.{Act}
+use Rattle.sp_history.specs.declared.entry.Act.TheVariants.{Recv, Send}
+use Rattle.sp_history.specs.declared.entry.Entry.{Entry}
+use Rattle.sp_history.specs.declared.entry.Message.{Message}
+use Rattle.sp_history.specs.declared.parts.Begun.{Begun}
+use Rattle.sp_history.specs.declared.parts.Item.{Item}
+use Rattle.sp_history.specs.declared.setting.Setting.{Setting}
+use Rattle.sp_history.specs.declared.setting.Options.{Options}
+use Rattle.sp_history.specs.Lists.{first_word, word}
+use Rattle.sp_history.specs.Kept.{pool}
+use Rattle.sp_history.specs.Past.{pend, ctxs, up}
+use Rattle.sp_history.specs.Moments.{Moment, Lawful, past}
+use Rattle.sp_proto.specs.Kinds.{Kind, kind_of, text_of}
+use Rattle.proto_floods.specs.Copies.{HasCopies}
+use Rattle.proto_pending.specs.Waits.{Holds, is_receive, is_send, count, room, first_name}
+use Rattle.proto_bus.specs.declared.Bus.{Bus}
+
+abbrev pub bus_kind : Bool → Options → Kind
+bus_kind raw options = record { role = role.Bus; raw = raw; options = options }
+
+abbrev pub message_in : Item → Message
+message_in i = i.message
+
+-- how many operations are left to be offered at most
+abbrev pub offers_left : Bus → ℕ
+offers_left m = count m.pending
+
+-- how many operations more can begin
+abbrev pub places_left : Bus → ℕ
+places_left m = room m.pending
+
+-- the receive that gets the oldest of these messages
+abbrev pub receiver_of : List MessageView → List Begun → Option OpName
+receiver_of [] ss = None
+receiver_of (m ∷ ms) ss = first_name (filter is_receive ss)
+
+-- the pipe that the header of a raw send leaves out
+abbrev pub left_out_of : Bool → List ℕ → Option ℕ
+left_out_of true header = first_word header
+left_out_of false header = None
+
+-- the header that a frame of the pipe is given
+abbrev pub header_of : Bool → ℕ → List ℕ
+header_of true p = word p
+header_of false p = []
+
+-- these are so many messages without a header and with this body
+abbrev pub AreCopies : List ℕ → List MessageView → Type 0
+AreCopies body [] = ⊤
+AreCopies body (x ∷ xs) = (x ≡ record { header = []; body = body }) × AreCopies body xs
+
+-- the copies are those of the send, and this pipe is left out
+abbrev pub IsFlood : Bool → Option ℕ → List MessageView → Act → Type 0
+IsFlood raw out copies Recv = ⊤
+IsFlood raw out copies (Send m) = (out ≡ left_out_of raw m.header) × AreCopies m.body copies
+
+-- where one of these sends is pending, it is the only one, and these are its copies
+abbrev pub Floods : Setting → List Entry → Option ℕ → List MessageView → List Begun → Type 0
+Floods z past out copies [] = ⊤
+Floods z past out copies (s ∷ ss) = HasCopies z past (length copies) × IsFlood z.raw out copies s.act × (ss ≡ [])
+
+-- The bus is of this kind, knows how many pipes are up at most, keeps these items, for which it has places, and has these
+-- operations pending
+pub record Shows (m : Bus) (k : Kind) (us : List ℕ) (is : List Item) (ss : List Begun) (cs : List ℕ) : Type 0 where
+  pub kind : k ≡ bus_kind m.raw m.options
+  pub pipes : length us ≤ m.pipes
+  pub items : map text_of m.kept.items ≡ map message_in is
+  pub places : m.options.queue ≤ deque_capacity m.kept
+  pub pending : Holds m.pending ss
+  pub contexts : cs ≡ 0 ∷ []
+
+abbrev pub Ties : Bus → Moment → Type 0
+Ties m t =
+    Shows m (kind_of t.z) (up (past t)) (pool t.z (past t) 0) (pend (past t)) (ctxs (past t)) × (Lawful t → Floods t.z (past t) m.left_out m.copies.items (filter is_send (pend (past t))))

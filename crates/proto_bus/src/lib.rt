@@ -1,0 +1,297 @@
+//! The machine of bus (nng_bus(7)), cooked and raw.
+//!
+//! A send goes to every pipe that is up and has room, in the turn of its begin. It takes a copy for each of them then, so
+//! that going out takes no memory. Raw, a header of 4 bytes or more leaves out the pipe that its first word names, so that
+//! a message which is sent as it was received doesn't go back. Frames are kept, at most `queue` in all, whose places are
+//! taken when the bus is made; a further one is discarded. Raw, the header of what came is the id of its pipe.
+#![tactic(auto)]
+
+ghost use Rattle.std.specs.Prelude.{◌≡◌, ◌≤◌, ◌+◌, ◌∷◌, ◌++◌, ℕ, List, [], IfOk, true, find, filter, length, is_some, Some, None, if◌then◌else◌, nat_lt};
+ghost use Rattle.std.specs.Option.{option_map};
+ghost use Rattle.sp_base.specs.declared.OpName.{OpName};
+ghost use Rattle.sp_history.specs.declared.entry.Entry.TheVariants.{Frame};
+ghost use Rattle.sp_history.specs.declared.parts.Begun.{Begun};
+ghost use Rattle.sp_history.specs.Lists.{is_number};
+ghost use Rattle.sp_history.specs.Moments.{Moment, Lawful, also};
+ghost use Rattle.sp_history.specs.Past.{is_of};
+ghost use Rattle.sp_proto.specs.Kinds.{Starts};
+ghost use Rattle.sp_proto.specs.Machines.{Frames};
+ghost use Rattle.proto_pending.specs.Waits.{Holds};
+ghost use Rattle.proto_bus.specs.Buses.{Ties, bus_kind, places_left, receiver_of, left_out_of, header_of, AreCopies};
+
+#[cfg(test)]
+mod tests;
+
+use proto_pending::Pending;
+use sp_base::{Ctx, NoMemory, OpName, PipeId, Role, Tick};
+use sp_history::setting::Options;
+use sp_msg::Message;
+use sp_proto::{Act, CheckError, Offer, Proto, UpFault, Verb, Verdict};
+use std::alloc::Global;
+use std::collections::VecDeque;
+
+/// A bus: it sends and receives.
+#[derive(Drop)]
+pub struct Bus {
+    alloc: Global,
+    raw: bool,
+    options: Options,
+    /// How many pipes are up.
+    pipes: usize,
+    /// The oldest first, with places for `queue`.
+    kept: VecDeque<Message>,
+    pending: Pending,
+    /// Of the send that is pending, one for each pipe that gets it.
+    copies: Vec<Message>,
+    /// The pipe that doesn't.
+    left_out: Option<PipeId>,
+}
+
+// The pipe that a header leaves out.
+fn left_out_by(raw: bool, b: &[u8]) -> Option<PipeId>
+    ensures { result ≡ left_out_of raw b.now }
+{
+    if !raw || b.len() < 4 {
+        return None;
+    }
+    Some(PipeId(u32::from_be_bytes([b[0], b[1], b[2], b[3]])))
+}
+
+// Whether this is the pipe that is left out.
+fn leaves_out(left_out: Option<PipeId>, p: PipeId) -> bool
+    ensures { result ≡ is_number left_out p }
+{
+    match left_out {
+        None => false,
+        Some(other) => other.0 == p.0,
+    }
+}
+
+// So many copies of the message, without its header.
+fn copies_of(alloc: Global, m: &Message, most: usize) -> Result<Vec<Message>, NoMemory>
+    ensures copies { IfOk result (λ v. AreCopies m.now.body v.items) }
+    ensures all { IfOk result (λ v. length v.items ≡ most) }
+{
+    let mut copies = Vec::with_capacity(alloc, most)?;
+    for _ in 0..most {
+        let mut copy = m.copy()?;
+        copy.header_clear();
+        copies.push(copy)?;
+    }
+    Ok(copies)
+}
+
+// As it is kept: raw, with the id of its pipe.
+fn received(raw: bool, p: PipeId, m: Message) -> Message
+    requires { m.header ≡ [] }
+    ensures { result ≡ record m { header = header_of raw p } }
+{
+    let mut whole = m;
+    if raw && whole.header_append_u32(p.0).is_err() {
+        unreachable!()
+    }
+    whole
+}
+
+impl Bus {
+    /// A bus to which nothing has happened. Takes the places of `queue` messages.
+    pub fn new(alloc: Global, options: Options, raw: bool) -> Result<Bus, NoMemory>
+        ensures { IfOk result (λ m. Starts Ties m (bus_kind raw options)) }
+    {
+        let kept = VecDeque::with_capacity(alloc, options.queue as usize)?;
+        Ok(Bus {
+            alloc,
+            raw,
+            options,
+            pipes: 0,
+            kept,
+            pending: Pending::new(alloc),
+            copies: Vec::new(alloc),
+            left_out: None,
+        })
+    }
+
+    // The receive that gets the oldest message.
+    fn receiver(&self) -> Option<OpName>
+        ensures { (ss : List Begun) → Holds self.now.pending ss → result ≡ receiver_of self.now.kept.items ss }
+    {
+        if self.kept.is_empty() {
+            return None;
+        }
+        self.pending.first_receive()
+    }
+}
+
+impl Proto for Bus {
+    ghost use Rattle.std.specs.Prelude.{vec_len};
+    ghost use Rattle.proto_bus.specs.Buses.{Ties, bus_kind, offers_left, places_left};
+    ghost use Rattle.proto_bus.specs.BusLaws as laws;
+
+    ghost kind = { λ m. bus_kind m.raw m.options };
+
+    ghost ties = { Ties };
+
+    ghost room = { places_left };
+
+    ghost left = { offers_left };
+
+    ghost copies = { λ m op. vec_len m.copies };
+
+    ghost kinds = { laws.kinds };
+
+    ghost silent = { laws.silent };
+
+    ghost anew = { laws.anew };
+
+    fn role(&self) -> Role {
+        Role::Bus
+    }
+
+    fn raw(&self) -> bool {
+        self.raw
+    }
+
+    fn reserve(&mut self, slots: u32) -> Result<(), NoMemory> {
+        self.pending.reserve(slots)
+    }
+
+    fn up(&mut self, p: PipeId) -> Result<(), UpFault> {
+        let _ = p;
+        self.pipes = self.pipes.saturating_add(1);
+        Ok(())
+    }
+
+    fn down(&mut self, p: PipeId) {
+        let _ = p;
+        self.pipes = self.pipes.saturating_sub(1);
+    }
+
+    fn wants(&self, p: PipeId) -> bool {
+        let _ = p;
+        true
+    }
+
+    /// It has the places of all that it keeps, so it never lacks memory for a frame.
+    fn frame(&mut self, p: PipeId, m: Message) -> Verdict
+        requires { m.header ≡ [] }
+        ensures kept { (t : Moment) → Lawful (also t (Frame p m.body)) → Ties self.old t → Frames (Ties self.new) result t p m.body }
+        ensures room { places_left self.old ≤ places_left self.new }
+        ensures fine { (t : Moment) → Lawful (also t (Frame p m.body)) → Ties self.old t → result ≡ Verdict.Fine }
+    {
+        if self.kept.len() >= self.options.queue as usize {
+            return Verdict::Fine;
+        }
+        if self.kept.push_back(received(self.raw, p, m)).is_err() {
+            return Verdict::NoMemory;
+        }
+        Verdict::Fine
+    }
+
+    fn keeps(&self, c: Ctx) -> bool {
+        let _ = c;
+        !self.kept.is_empty()
+    }
+
+    fn check(&self, c: Ctx, verb: Verb) -> Result<(), CheckError> {
+        let _ = verb;
+        if c.0 != 0 {
+            return Err(CheckError::NotSupported);
+        }
+        Ok(())
+    }
+
+    fn begin(&mut self, op: OpName, c: Ctx, act: Act) -> Result<(), Message> {
+        match act {
+            Act::Recv => {
+                self.pending.push(op, c, Act::Recv);
+                Ok(())
+            }
+            Act::Send(m) => match copies_of(self.alloc, &m, self.pipes) {
+                Err(_) => Err(m),
+                Ok(copies) => {
+                    self.copies = copies;
+                    self.left_out = left_out_by(self.raw, m.header());
+                    self.pending.push(op, c, Act::Send(m));
+                    Ok(())
+                }
+            },
+        }
+    }
+
+    fn fresh(&mut self) {}
+
+    fn offer(&mut self) -> Offer {
+        match self.pending.first_send() {
+            Some(op) => Offer::Flood { op },
+            None => match self.receiver() {
+                Some(op) => Offer::Give { op },
+                None => Offer::Idle,
+            },
+        }
+    }
+
+    fn full(&mut self, p: PipeId) {
+        let _ = p;
+    }
+
+    fn goes_to(&self, op: OpName, p: PipeId) -> bool {
+        let _ = op;
+        !leaves_out(self.left_out, p)
+    }
+
+    fn flood(&mut self, op: OpName, p: PipeId) -> Option<Message> {
+        let _ = op;
+        let _ = p;
+        self.copies.pop()
+    }
+
+    fn again(&mut self, c: Ctx, p: PipeId) -> Option<Message> {
+        let _ = c;
+        let _ = p;
+        None
+    }
+
+    fn won(&mut self, op: OpName, out: Option<PipeId>) -> Option<Message> {
+        let _ = out;
+        let sent = self.pending.end(op);
+        if sent.is_some() {
+            self.copies.clear();
+            return None;
+        }
+        self.kept.pop_front()
+    }
+
+    fn lost(&mut self, op: OpName) -> Option<Message> {
+        match self.pending.end(op) {
+            Some(message) => {
+                self.copies.clear();
+                Some(message)
+            }
+            None => None,
+        }
+    }
+
+    fn clock(&mut self, now: Tick) {
+        let _ = now;
+    }
+
+    fn open_ctx(&mut self, c: Ctx) -> Result<(), NoMemory> {
+        let _ = c;
+        Err(NoMemory)
+    }
+
+    fn close_ctx(&mut self, c: Ctx) {
+        let _ = c;
+    }
+
+    fn topic(&mut self, c: Ctx, t: &[u8], on: bool) -> Result<bool, NoMemory> {
+        let _ = c;
+        let _ = t;
+        let _ = on;
+        Ok(false)
+    }
+
+    fn close(&mut self) {
+        self.kept.clear();
+    }
+}

@@ -1,0 +1,75 @@
+-- What a pair stands for.
+use Rattle.std.specs.Prelude.{◌≡◌, ◌≤◌, ◌<◌, ◌+◌, ℕ, Bool, true, false, if◌then◌else◌, List, [], ◌∷◌, map, filter, option_to_list, Option, Some, None}
+use Rattle.std.specs.Option.{option_map}
+use Rattle.sp_base.specs.declared.OpName.{OpName}
+use Rattle.sp_base.specs.declared.role.Role.TheVariants as role
+use Rattle.sp_msg.specs.Views.{MessageView}
+use Rattle.sp_history.specs.declared.entry.Message.{Message}
+use Rattle.sp_history.specs.declared.parts.Begun.{Begun}
+use Rattle.sp_history.specs.declared.parts.Item.{Item}
+use Rattle.sp_history.specs.declared.setting.Options.{Options}
+use Rattle.sp_history.specs.Lists.{has}
+use Rattle.sp_history.specs.Kept.{pool}
+use Rattle.sp_history.specs.Past.{pend, ctxs, up, ups}
+use Rattle.sp_history.specs.Settled.{has_full}
+use Rattle.sp_history.specs.Moments.{Moment, past}
+use Rattle.sp_proto.specs.Kinds.{Kind, kind_of, text_of}
+use Rattle.sp_proto.specs.declared.Offer.{Offer}
+use Rattle.sp_proto.specs.declared.Offer.TheVariants as offer
+use Rattle.proto_pending.specs.Waits.{Holds, is_receive, is_send, count, room, first_name}
+use Rattle.proto_pair.specs.declared.Pair.{Pair}
+use Rattle.proto_pair.specs.declared.Port.{Port}
+
+abbrev pub pair_kind : Bool → Options → Kind
+pair_kind raw options = record { role = role.Pair0; raw = raw; options = options }
+
+-- a pipe that is up, where these pipes are full
+abbrev pub port_of : (ℕ → Bool) → ℕ → Port
+port_of full p = record { pipe = p; is_full = full p }
+
+abbrev pub marked : Bool → Option Port → Option Port
+marked is_full port = option_map (λ (x : Port). let y : Port = record { pipe = x.pipe; is_full = is_full } in y) port
+
+abbrev pub message_in : Item → Message
+message_in i = i.message
+
+-- the pipe may be offered to a send
+abbrev pub free : Option Port → ℕ
+free None = 0
+free (Some x) = if x.is_full then 0 else 1
+
+-- how many sends and receives, and pipes for them, are left to be offered at most
+abbrev pub offers_left : Pair → ℕ
+offers_left m = free m.port + count m.pending
+
+-- how many operations more can begin
+abbrev pub places_left : Pair → ℕ
+places_left m = room m.pending
+
+-- the receive that gets what is kept
+abbrev pub receiver_of : Option MessageView → List Begun → Option OpName
+receiver_of None ss = None
+receiver_of (Some m) ss = first_name (filter is_receive ss)
+
+abbrev pub to_pipe : ℕ → Option OpName → Offer
+to_pipe p None = offer.Idle
+to_pipe p (Some op) = offer.Send op p
+
+-- the first send, where the pipe may have room
+abbrev pub send_offer : Option Port → List Begun → Offer
+send_offer None ss = offer.Idle
+send_offer (Some x) ss = if x.is_full then offer.Idle else to_pipe x.pipe (first_name (filter is_send ss))
+
+-- The pair is of this kind, knows the pipe that is up, if one is, and whether it is full, keeps these items, and has these
+-- operations pending. No pipe has a number above that of the last one that came up, so the next one is not full yet
+pub record Shows (m : Pair) (k : Kind) (us : List ℕ) (last : ℕ) (full : ℕ → Bool) (is : List Item) (ss : List Begun) (cs : List ℕ) : Type 0 where
+  pub kind : k ≡ pair_kind m.raw m.options
+  pub port : option_to_list m.port ≡ map (port_of full) us
+  pub known : (q : ℕ) → has us q ≡ true → q ≤ last
+  pub unmet : (q : ℕ) → last < q → full q ≡ false
+  pub items : map text_of (option_to_list m.kept) ≡ map message_in is
+  pub pending : Holds m.pending ss
+  pub contexts : cs ≡ 0 ∷ []
+
+abbrev pub Ties : Pair → Moment → Type 0
+Ties m t = Shows m (kind_of t.z) (up (past t)) (ups (past t)) (λ q. has_full t.turn q) (pool t.z (past t) 0) (pend (past t)) (ctxs (past t))

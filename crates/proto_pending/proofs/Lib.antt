@@ -1,0 +1,4 @@
+pub mod Places
+pub mod Splits
+pub mod Waiters
+pub mod Firsts

@@ -1,0 +1,530 @@
+-- What a req offers.
+use Rattle.std.proofs.Common.{◌≡◌, ◌≢◌, refl, ap, sym, ◌∙◌, subst, List, [], ◌∷◌, ◌++◌, ℕ, ◌+◌, ◌<◌, ◌≤◌, Bool, true, false, cond, arith, Option, Some, None, map, length, inl, inr}
+use Rattle.std.specs.Prelude.{find, filter, not, is_some, nat_lt, IsTrue, ◌⊎◌, ◌&&◌, ◌||◌, ◌==◌}
+use Rattle.std.specs.List.{list_any, list_all, position, position_or_len}
+use Rattle.std.specs.Option.{option_map}
+use Rattle.std.proofs.lemmas.Bool.Decides.{nat_tests}
+use Rattle.sp_base.specs.declared.OpName.{OpName}
+use Rattle.sp_base.specs.declared.role.Role.{Role}
+use Rattle.sp_base.specs.declared.role.Role.TheVariants as role
+use Rattle.sp_msg.specs.Views.{MessageView, wire_text}
+use Rattle.sp_history.specs.declared.entry.Entry.{Entry}
+use Rattle.sp_history.specs.declared.entry.Act.{Act}
+use Rattle.sp_history.specs.declared.entry.Act.TheVariants.{Recv, Send}
+use Rattle.sp_history.specs.declared.entry.Cause.TheVariants as causes
+use Rattle.sp_history.specs.declared.entry.Message.{Message}
+use Rattle.sp_history.specs.declared.parts.Begun.{Begun}
+use Rattle.sp_history.specs.declared.parts.Item.{Item}
+use Rattle.sp_history.specs.declared.parts.Origin.{Origin}
+use Rattle.sp_history.specs.declared.parts.Request.{Request}
+use Rattle.sp_history.specs.declared.parts.Requests.{Requests}
+use Rattle.sp_history.specs.declared.setting.Setting.{Setting}
+use Rattle.sp_history.specs.Lists.{has, head_of, is_nil, same_op}
+use Rattle.sp_history.specs.Setting.{is_reply, floods, has_requests, resends}
+use Rattle.sp_history.specs.Past.{is_of, pend, pending, up, ctxs}
+use Rattle.sp_history.specs.Kept.{kept, route, replies_of}
+use Rattle.sp_history.specs.Requests.{requests, is_orphan, wire_of, live_on, request_of as asked_of, how_ended, no_requests}
+use Rattle.sp_history.specs.Sends.{may_go, targets, targets_of, bytes_of, bytes_of_act, bytes_for, begun_before, is_first_for, is_due_again}
+use Rattle.sp_history.specs.Settled.{has_full, is_dry, receive_settled, send_settled, request_settled}
+use Rattle.sp_history.specs.Legal.{Calm, is_recv, is_recv_on}
+use Rattle.sp_history.specs.Once.{AreApart, AreDistinct, occurs}
+use Rattle.sp_history.specs.Moments.{Moment, Lawful, past}
+use Rattle.sp_history.proofs.OnceHolds.{same_op-refl, same_op-eq, occurs-find}
+use Rattle.sp_proto.specs.Kinds.{text_of}
+use Rattle.sp_proto.specs.Machines.{CanGive, CanSend, CanFinish, CanAgain, IsIdle, Offers}
+use Rattle.sp_proto.specs.declared.Offer.{Offer}
+use Rattle.sp_proto.specs.declared.Offer.TheVariants as offers
+use Rattle.proto_reqrep.specs.Ports.{port_of, is_free}
+use Rattle.proto_reqrep.specs.declared.ports.Port.{Port}
+use Rattle.proto_reqrep.specs.declared.req.Request.{Request as Machine}
+use Rattle.proto_reqrep.specs.declared.req.Live.{Live}
+use Rattle.proto_reqrep.specs.declared.req.Asking.{Asking}
+use Rattle.proto_reqrep.specs.declared.req.Kept.{Kept}
+use Rattle.proto_reqrep.specs.Reqs.{Ties, begun_of, act_of, is_sending, is_live_on, live_ctx, request_of, is_due, is_late_in, out_offer, is_given, is_any_given, keeps_reply, dry_at, HasLive, IsOf}
+use Rattle.proto_reqrep.proofs.Orphaned.{orphan_found, all_finished}
+use Rattle.proto_reqrep.proofs.Living.{equal_of, turned, same_number}
+use Rattle.proto_reqrep.proofs.Owning.{owned_at}
+use Rattle.proto_reqrep.proofs.Standing.{is_req_role, is_raw, asks, flag, live_is, kept_is}
+use Rattle.proto_reqrep.proofs.Coming.{given_is, not_both}
+use Rattle.proto_reqrep.proofs.Winning.{due_is}
+
+some_inj : {A : Type 0} (x y : A) → Some x ≡ Some y → x ≡ y
+some_inj x y q = cc
+
+both : (a b : Bool) → a ≡ true → b ≡ true → (a && b) ≡ true
+both a b h k = rw (h, k) refl
+
+pub found_true : {A : Type 0} (P : A → Bool) (xs : List A) (x : A) → find P xs ≡ Some x → P x ≡ true
+found_true P [] x h = absurd cc
+found_true P (y ∷ xs) x h = go (P y) refl h (found_true P xs x)
+  where
+    go : (b : Bool) → P y ≡ b → cond b (Some y) (find P xs) ≡ Some x → (find P xs ≡ Some x → P x ≡ true) → P x ≡ true
+    go true e h again = ap P (sym (some_inj y x h)) ∙ e
+    go false e h again = again h
+
+pub none_any : {A : Type 0} (P : A → Bool) (xs : List A) → find P xs ≡ None → list_any P xs ≡ false
+none_any P [] h = refl
+none_any P (x ∷ xs) h = go (P x) h (none_any P xs)
+  where
+    go : (b : Bool) → cond b (Some x) (find P xs) ≡ None → (find P xs ≡ None → list_any P xs ≡ false) → (b || list_any P xs) ≡ false
+    go true h again = absurd cc
+    go false h again = again h
+
+none_at : {A : Type 0} (P Q : A → Bool) (xs : List A) (x : A) → list_any P xs ≡ false → find Q xs ≡ Some x → P x ≡ false
+none_at P Q [] x h f = absurd cc
+none_at P Q (y ∷ xs) x h f = go (P y) refl h (Q y) f (none_at P Q xs x)
+  where
+    go : (b : Bool) → P y ≡ b → (b || list_any P xs) ≡ false → (c : Bool) → cond c (Some y) (find Q xs) ≡ Some x → (list_any P xs ≡ false → find Q xs ≡ Some x → P x ≡ false) → P x ≡ false
+    go true e h c f again = absurd cc
+    go false e h true f again = ap P (sym (some_inj y x f)) ∙ e
+    go false e h false f again = again h f
+
+-- where no name stands twice, it is the operation of its name
+find_own : (P : Asking → Bool) (ws : List Asking) (w : Asking) → find P ws ≡ Some w → AreApart (map begun_of ws) → find (is_of w.op) (map begun_of ws) ≡ Some (begun_of w)
+find_own P [] w h a = absurd cc
+find_own P (x ∷ ws) w h a = go (P x) h (λ q. find_own P ws w q (rest_apart a))
+  where
+    rest_apart : AreApart (map begun_of (x ∷ ws)) → AreApart (map begun_of ws)
+    rest_apart a op = step (same_op x.op op) (a op)
+      where
+        step : (b : Bool) → cond b (occurs (map begun_of ws) op + 1) (occurs (map begun_of ws) op) ≤ 1 → occurs (map begun_of ws) op ≤ 1
+        step true k = omega (arith, k)
+        step false k = k
+
+    twice : (b : Bool) → cond b (occurs (map begun_of ws) w.op + 1) (occurs (map begun_of ws) w.op) ≤ 1 → 1 ≤ occurs (map begun_of ws) w.op → find (is_of w.op) (map begun_of ws) ≡ Some (begun_of w)
+        → cond b (Some (begun_of x)) (find (is_of w.op) (map begun_of ws)) ≡ Some (begun_of w)
+    twice true k l again = absurd (omega (arith, k, l))
+    twice false k l again = again
+
+    go : (b : Bool) → cond b (Some x) (find P ws) ≡ Some w → (find P ws ≡ Some w → find (is_of w.op) (map begun_of ws) ≡ Some (begun_of w)) → cond (same_op x.op w.op) (Some (begun_of x)) (find (is_of w.op) (map begun_of ws)) ≡ Some (begun_of w)
+    go true q more =
+        let is : x ≡ w = some_inj x w q in
+        subst (λ (v : Asking). cond (same_op v.op w.op) (Some (begun_of v)) (find (is_of w.op) (map begun_of ws)) ≡ Some (begun_of w)) (sym is) (ap (λ b. cond b (Some (begun_of w)) (find (is_of w.op) (map begun_of ws))) (same_op-refl w.op))
+    go false q more =
+        let again = more q in
+        twice (same_op x.op w.op) (a w.op) (occurs-find (map begun_of ws) w.op (begun_of w) again) again
+
+own_pending : (m : Machine) (t : Moment) (P : Asking → Bool) (w : Asking) → Ties m t → find P m.waiting.items ≡ Some w → pending (past t) w.op ≡ Some (begun_of w)
+own_pending m t P w h f = ap (find (is_of w.op)) (sym h.3.pending) ∙ find_own P m.waiting.items w f (subst (λ (l : List Begun). AreApart l) (sym h.3.pending) h.3.apart)
+
+-- ---- Finish
+
+pub can_finish : (m : Machine) (t : Moment) (w : Asking) → Ties m t → find (λ (v : Asking). v.is_orphan) m.waiting.items ≡ Some w → CanFinish t w.op (begun_of w) causes.Superseded
+can_finish m t w h f =
+    let it : is_orphan (requests t.z (past t)) w.op ≡ true = flag m t (λ (v : Asking). v.is_orphan) w h f ∙ found_true (λ (v : Asking). v.is_orphan) m.waiting.items w f in
+    record { pending = own_pending m t (λ (v : Asking). v.is_orphan) w h f; is_finish = inl refl; may = (refl, orphan_found (requests t.z (past t)).orphans w.op it h.3.causes) }
+
+-- ---- Give
+
+-- a receive that can be given a message
+abbrev pub gets : Machine → Asking → Bool
+gets m w = not (is_sending w) && is_given m.raw m.kept.items m.live.items w.ctx
+
+first_of : (a b : Bool) → (a && b) ≡ true → a ≡ true
+first_of true b h = refl
+first_of false b h = absurd cc
+
+second_of : (a b : Bool) → (a && b) ≡ true → b ≡ true
+second_of true b h = h
+second_of false b h = absurd cc
+
+recv_is : (o : Option MessageView) → is_recv (act_of o) ≡ not (is_some o)
+recv_is None = refl
+recv_is (Some x) = refl
+
+first_on : (m : Machine) (ws : List Asking) (w : Asking) → find (gets m) ws ≡ Some w → is_given m.raw m.kept.items m.live.items w.ctx ≡ true → is_sending w ≡ false → option_map (λ (s : Begun). s.op) (find (is_recv_on w.ctx) (map begun_of ws)) ≡ Some w.op
+first_on m [] w h g s = absurd cc
+first_on m (v ∷ ws) w h g s = go (gets m v) refl h (λ q. first_on m ws w q g s)
+  where
+    go : (b : Bool) → gets m v ≡ b → cond b (Some v) (find (gets m) ws) ≡ Some w → (find (gets m) ws ≡ Some w → option_map (λ (s : Begun). s.op) (find (is_recv_on w.ctx) (map begun_of ws)) ≡ Some w.op)
+        → option_map (λ (s : Begun). s.op) (cond (is_recv_on w.ctx (begun_of v)) (Some (begun_of v)) (find (is_recv_on w.ctx) (map begun_of ws))) ≡ Some w.op
+    go true e h again =
+        let is : v ≡ w = some_inj v w h in
+        let on : is_recv_on w.ctx (begun_of w) ≡ true = both _ _ (recv_is w.message ∙ ap not s) (same_number w.ctx) in
+        subst (λ (x : Asking). option_map (λ (s : Begun). s.op) (cond (is_recv_on w.ctx (begun_of x)) (Some (begun_of x)) (find (is_recv_on w.ctx) (map begun_of ws))) ≡ Some w.op) (sym is) (rw on refl)
+    go false e h again = step (is_recv_on w.ctx (begun_of v)) refl (again h)
+      where
+        step : (b : Bool) → is_recv_on w.ctx (begun_of v) ≡ b → option_map (λ (s : Begun). s.op) (find (is_recv_on w.ctx) (map begun_of ws)) ≡ Some w.op → option_map (λ (s : Begun). s.op) (cond b (Some (begun_of v)) (find (is_recv_on w.ctx) (map begun_of ws))) ≡ Some w.op
+        step false k more = more
+        step true k more =
+            let receive : not (is_sending v) ≡ true = sym (recv_is v.message) ∙ first_of _ _ k in
+            let on : v.ctx ≡ w.ctx = equal_of v.ctx w.ctx (second_of (is_recv (act_of v.message)) (v.ctx == w.ctx) k) in
+            let given : is_given m.raw m.kept.items m.live.items v.ctx ≡ true = ap (is_given m.raw m.kept.items m.live.items) on ∙ g in
+            let bad : true ≡ false = sym (both _ _ receive given) ∙ e in absurd cc
+
+pub can_give : (m : Machine) (t : Moment) (w : Asking) → Ties m t → list_any (λ (v : Asking). v.is_orphan) m.waiting.items ≡ false → find (gets m) m.waiting.items ≡ Some w → (x : Message) × CanGive t w.op (begun_of w) x
+can_give m t w h o f = go (kept t.z (past t) w.ctx) refl
+  where
+    it : gets m w ≡ true
+    it = found_true (gets m) m.waiting.items w f
+
+    given : is_given m.raw m.kept.items m.live.items w.ctx ≡ true
+    given = second_of (not (is_sending w)) (is_given m.raw m.kept.items m.live.items w.ctx) it
+
+    receive : is_sending w ≡ false
+    receive = flip (is_sending w) (first_of (not (is_sending w)) (is_given m.raw m.kept.items m.live.items w.ctx) it)
+      where
+        flip : (b : Bool) → not b ≡ true → b ≡ false
+        flip true q = absurd cc
+        flip false q = refl
+
+    alive : (i : Item) (is : List Item) → kept t.z (past t) w.ctx ≡ i ∷ is → IsTrue (has_requests t.z) → is_some (asked_of t.z (past t) (begun_of w)) ≡ true
+    alive i is e q = step m.raw refl
+      where
+        own : is_orphan (requests t.z (past t)) w.op ≡ false
+        own = flag m t (gets m) w h f ∙ none_at (λ (v : Asking). v.is_orphan) (gets m) m.waiting.items w o f
+
+        cooked : m.raw ≡ true → true ≡ false
+        cooked r = sym q ∙ raw_none t.z (is_req_role m t h) (is_raw m t h ∙ r)
+          where
+            raw_none : (z : Setting) → z.role ≡ role.Req → z.raw ≡ true → has_requests z ≡ false
+            raw_none z i j = rw (i, j) refl
+
+        live : (b : Option Live) → find (is_live_on w.ctx) m.live.items ≡ b → m.raw ≡ false → is_some (live_on t.z (past t) w.ctx) ≡ true
+        live (Some x) k r = ap is_some (live_is m t w.ctx h ∙ ap (option_map request_of) k)
+        live None k r =
+            let bad : i ∷ is ≡ [] = sym e ∙ kept_is m t w.ctx h r ∙ ap (λ (b : Option Live). replies_of (option_map request_of b)) k in absurd cc
+
+        step : (b : Bool) → m.raw ≡ b → is_some (asked_of t.z (past t) (begun_of w)) ≡ true
+        step true r = let bad : true ≡ false = cooked r in absurd cc
+        step false r = ap (λ b. is_some (cond {A = Option Request} b None (live_on t.z (past t) w.ctx))) own ∙ live (find (is_live_on w.ctx) m.live.items) refl r
+
+    go : (is : List Item) → kept t.z (past t) w.ctx ≡ is → (x : Message) × CanGive t w.op (begun_of w) x
+    go [] e = let bad : true ≡ false = sym given ∙ given_is m t w.ctx h ∙ ap (λ (l : List Item). not (is_nil l)) e in absurd cc
+    go (i ∷ is) e = (
+      i.message,
+      record {
+        pending = own_pending m t (gets m) w h f;
+        may =
+            record {
+              is_receive = recv_is w.message ∙ ap not receive;
+              first_pending = ap (λ (ss : List Begun). option_map (λ (s : Begun). s.op) (find (is_recv_on w.ctx) ss)) (sym h.3.pending) ∙ first_on m m.waiting.items w f given receive;
+              oldest = ap (λ (l : List Item). option_map (λ (i : Item). i.message) (head_of l)) e;
+              live = λ q. alive i is e q;
+            };
+      },
+    )
+
+-- ---- Idle
+
+receives_settled : (m : Machine) (t : Moment) → Ties m t → (ws : List Asking) → find (gets m) ws ≡ None → list_all (receive_settled t.z (past t)) (map begun_of ws) ≡ true
+receives_settled m t h [] f = refl
+receives_settled m t h (w ∷ ws) f = go (is_sending w) refl (is_given m.raw m.kept.items m.live.items w.ctx) refl f (receives_settled m t h ws)
+  where
+    go : (s : Bool) → is_sending w ≡ s → (g : Bool) → is_given m.raw m.kept.items m.live.items w.ctx ≡ g → cond (not s && g) (Some w) (find (gets m) ws) ≡ None → (find (gets m) ws ≡ None → list_all (receive_settled t.z (past t)) (map begun_of ws) ≡ true)
+        → (receive_settled t.z (past t) (begun_of w) && list_all (receive_settled t.z (past t)) (map begun_of ws)) ≡ true
+    go true e g k f again = both _ _ (rw (recv_is w.message, e) refl) (again f)
+    go false e true k f again = absurd cc
+    go false e false k f again =
+        let none : is_nil (kept t.z (past t) w.ctx) ≡ true = flip (is_nil (kept t.z (past t) w.ctx)) (sym (given_is m t w.ctx h) ∙ k) in
+        both _ _ (rw none (either (is_recv (act_of w.message)))) (again f)
+      where
+        flip : (b : Bool) → not b ≡ false → b ≡ true
+        flip true q = refl
+        flip false q = absurd cc
+
+        either : (b : Bool) → (not b || true) ≡ true
+        either true = refl
+        either false = refl
+
+all_but : (full : ℕ → Bool) (P : ℕ → Bool) (us : List ℕ) → list_all full us ≡ true → list_all full (filter P us) ≡ true
+all_but full P [] h = refl
+all_but full P (u ∷ us) h = go (full u) refl (P u) h (all_but full P us)
+  where
+    go : (a : Bool) → full u ≡ a → (b : Bool) → (a && list_all full us) ≡ true → (list_all full us ≡ true → list_all full (filter P us) ≡ true) → list_all full (cond b (u ∷ filter P us) (filter P us)) ≡ true
+    go true e true h again = rw e (again h)
+    go true e false h again = again h
+    go false e b h again = absurd cc
+
+-- a send is settled where all pipes are full, and any receive
+sends_settled : (m : Machine) (t : Moment) (full : ℕ → Bool) → Ties m t → (ws : List Asking) → (list_all full (up (past t)) ≡ true) ⊎ (find is_sending ws ≡ None) → list_all (send_settled t.z (past t) full) (map begun_of ws) ≡ true
+sends_settled m t full h [] f = refl
+sends_settled m t full h (w ∷ ws) (inl f) = both _ _ (go w.message refl) (sends_settled m t full h ws (inl f))
+  where
+    reply : is_reply t.z.role ≡ false
+    reply = rw (is_req_role m t h) refl
+
+    go : (x : Option MessageView) → w.message ≡ x → send_settled t.z (past t) full (begun_of w) ≡ true
+    go None e = ap (λ (x : Option MessageView). is_recv (act_of x) || list_all full (targets t.z (past t) (begun_of w)) && not (is_reply t.z.role && is_nil (targets t.z (past t) (begun_of w)))) e
+    go (Some x) e =
+        ap (λ (y : Option MessageView). is_recv (act_of y) || list_all full (targets_of t.z (past t) w.op (act_of y)) && not (is_reply t.z.role && is_nil (targets_of t.z (past t) w.op (act_of y)))) e
+        ∙ both _ _ (all_but full (may_go t.z.role t.z.raw (route t.z (past t) w.op) x.header) (up (past t)) f) (ap (λ b. not (b && is_nil (targets_of t.z (past t) w.op (Send (text_of x))))) reply)
+sends_settled m t full h (w ∷ ws) (inr f) = go w.message refl f (λ q. sends_settled m t full h ws (inr q))
+  where
+    go : (x : Option MessageView) → w.message ≡ x → cond (is_some x) (Some w) (find is_sending ws) ≡ None → (find is_sending ws ≡ None → list_all (send_settled t.z (past t) full) (map begun_of ws) ≡ true) → list_all (send_settled t.z (past t) full) (map begun_of (w ∷ ws)) ≡ true
+    go None e k again = both _ _ (ap (λ (x : Option MessageView). is_recv (act_of x) || list_all full (targets t.z (past t) (begun_of w)) && not (is_reply t.z.role && is_nil (targets t.z (past t) (begun_of w)))) e) (again k)
+    go (Some x) e k again = absurd cc
+
+-- a request is settled where all pipes are full, or it is not due, or its context is dry
+again_settled : (m : Machine) (t : Moment) (full : ℕ → Bool) (h : Ties m t) (xs : List Live) → ((c : ℕ) → has (map live_ctx xs) c ≡ true → has (ctxs (past t)) c ≡ true)
+    → (list_all full (up (past t)) ≡ true) ⊎ (find (is_due m.options.resend m.tick m.ports.items m.seats.items) xs ≡ None) → list_all (request_settled t.z (past t) full) (map request_of xs) ≡ true
+again_settled m t full h [] o f = refl
+again_settled m t full h (x ∷ xs) o (inl f) = both _ _ (rw f (middle (not (is_due_again t.z (past t) (request_of x))) (is_dry (past t) x.ctx))) (again_settled m t full h xs (λ c k. o c (more (x.ctx == c) k)) (inl f))
+  where
+    more : (b : Bool) {y : Bool} → y ≡ true → (b || y) ≡ true
+    more true k = refl
+    more false k = k
+
+    middle : (a b : Bool) → (a || true || b) ≡ true
+    middle true b = refl
+    middle false b = refl
+again_settled m t full h (x ∷ xs) o (inr f) = go (is_due m.options.resend m.tick m.ports.items m.seats.items x) refl f (λ q. again_settled m t full h xs (λ c k. o c (more (x.ctx == c) k)) (inr q))
+  where
+    more : (b : Bool) {y : Bool} → y ≡ true → (b || y) ≡ true
+    more true k = refl
+    more false k = k
+
+    last : (a b : Bool) → (a || b || true) ≡ true
+    last true b = refl
+    last false true = refl
+    last false false = refl
+
+    one : is_due m.options.resend m.tick m.ports.items m.seats.items x ≡ false → (d : Bool) → dry_at x.ctx m.seats.items ≡ d → request_settled t.z (past t) full (request_of x) ≡ true
+    one e true k =
+        let open_ : has (ctxs (past t)) x.ctx ≡ true = o x.ctx (ap (λ b. b || has (map live_ctx xs) x.ctx) (same_number x.ctx)) in
+        let dry : is_dry (past t) x.ctx ≡ true = sym (h.4.dryness x.ctx open_) ∙ k in
+        rw dry (last (not (is_due_again t.z (past t) (request_of x))) (list_all full (up (past t))))
+    one e false k =
+        let due : is_due_again t.z (past t) (request_of x) ≡ false = sym (due_is m t h x k) ∙ e in
+        rw due refl
+
+    go : (b : Bool) → is_due m.options.resend m.tick m.ports.items m.seats.items x ≡ b → cond b (Some x) (find (is_due m.options.resend m.tick m.ports.items m.seats.items) xs) ≡ None
+        → (find (is_due m.options.resend m.tick m.ports.items m.seats.items) xs ≡ None → list_all (request_settled t.z (past t) full) (map request_of xs) ≡ true) → list_all (request_settled t.z (past t) full) (map request_of (x ∷ xs)) ≡ true
+    go true e k again = absurd cc
+    go false e k again = both _ _ (one e (dry_at x.ctx m.seats.items) refl) (again k)
+
+all_full : (full : ℕ → Bool) (us : List ℕ) → find is_free (map (port_of full) us) ≡ None → list_all full us ≡ true
+all_full full [] f = refl
+all_full full (u ∷ us) f = go (full u) refl f (all_full full us)
+  where
+    go : (b : Bool) → full u ≡ b → cond (not b) (Some (port_of full u)) (find is_free (map (port_of full) us)) ≡ None → (find is_free (map (port_of full) us) ≡ None → list_all full us ≡ true) → (b && list_all full us) ≡ true
+    go true e f again = again f
+    go false e f again = absurd cc
+
+idle : (m : Machine) (t : Moment) → Ties m t → find (λ (v : Asking). v.is_orphan) m.waiting.items ≡ None → find (gets m) m.waiting.items ≡ None
+    → (list_all (λ q. has_full t.turn q) (up (past t)) ≡ true) ⊎ (find is_sending m.waiting.items ≡ None) → (list_all (λ q. has_full t.turn q) (up (past t)) ≡ true) ⊎ (find (is_due m.options.resend m.tick m.ports.items m.seats.items) m.live.items ≡ None) → IsIdle t
+idle m t h o g s d =
+    record {
+      settled =
+          record {
+            receives = rw (← h.3.pending) (receives_settled m t h m.waiting.items g);
+            sends = rw (← h.3.pending) (sends_settled m t (λ q. has_full t.turn q) h m.waiting.items s);
+            again = λ q. rw (← h.3.live) (again_settled m t (λ q. has_full t.turn q) h m.live.items h.4.homes d);
+            finished = all_finished m.waiting.items (requests t.z (past t)) h.3.orphans (none_any (λ (v : Asking). v.is_orphan) m.waiting.items o);
+          };
+      no_flood = λ q. let k : false ≡ true = rw (is_req_role m t h) at q in absurd cc;
+    }
+
+pub idle_full : (m : Machine) (t : Moment) → Ties m t → find (λ (v : Asking). v.is_orphan) m.waiting.items ≡ None → find (gets m) m.waiting.items ≡ None → find is_free m.ports.items ≡ None → IsIdle t
+idle_full m t h o g f = let full = all_full (λ q. has_full t.turn q) (up (past t)) (ap (find is_free) (sym h.1.ports) ∙ f) in idle m t h o g (inl full) (inl full)
+
+-- ---- Send and Again
+
+free_is : (full : ℕ → Bool) (us : List ℕ) (x : Port) → find is_free (map (port_of full) us) ≡ Some x → (has us x.pipe ≡ true) × (full x.pipe ≡ false)
+free_is full [] x f = absurd cc
+free_is full (u ∷ us) x f = go (full u) refl f (free_is full us x)
+  where
+    or_right : (a b : Bool) → b ≡ true → (a || b) ≡ true
+    or_right true b h = refl
+    or_right false b h = h
+
+    go : (b : Bool) → full u ≡ b → cond (not b) (Some (port_of full u)) (find is_free (map (port_of full) us)) ≡ Some x → (find is_free (map (port_of full) us) ≡ Some x → (has us x.pipe ≡ true) × (full x.pipe ≡ false)) → (((u == x.pipe) || has us x.pipe) ≡ true) × (full x.pipe ≡ false)
+    go true e f again = let k = again f in (or_right (u == x.pipe) _ k.0, k.1)
+    go false e f again =
+        let is : u ≡ x.pipe = ap (λ (y : Port). y.pipe) (some_inj (port_of full u) x f) in
+        (ap (λ b. b || has us x.pipe) (subst (λ n. (u == n) ≡ true) is (same_number u)), subst (λ n. full n ≡ false) is e)
+
+no_earlier : (z : Setting) (before : List Entry) (p : ℕ) (ws : List Asking) (w : Asking) → find is_sending ws ≡ Some w → list_any (λ other. has (targets z before other) p) (begun_before w.op (map begun_of ws)) ≡ false
+no_earlier z before p [] w f = absurd cc
+no_earlier z before p (v ∷ ws) w f = go v.message refl f (no_earlier z before p ws w)
+  where
+    skip : (b : Bool) → has (targets z before (begun_of v)) p ≡ false → list_any (λ other. has (targets z before other) p) (begun_before w.op (map begun_of ws)) ≡ false
+        → list_any (λ other. has (targets z before other) p) (cond b [] (begun_of v ∷ begun_before w.op (map begun_of ws))) ≡ false
+    skip true e i = refl
+    skip false e i = rw e i
+
+    go : (x : Option MessageView) → v.message ≡ x → cond (is_some x) (Some v) (find is_sending ws) ≡ Some w → (find is_sending ws ≡ Some w → list_any (λ other. has (targets z before other) p) (begun_before w.op (map begun_of ws)) ≡ false)
+        → list_any (λ other. has (targets z before other) p) (begun_before w.op (map begun_of (v ∷ ws))) ≡ false
+    go None e f again = skip (same_op v.op w.op) (ap (λ (x : Option MessageView). has (targets_of z before v.op (act_of x)) p) e) (again f)
+    go (Some x) e f again =
+        let is : v ≡ w = some_inj v w f in
+        subst (λ (x : Asking). list_any (λ other. has (targets z before other) p) (cond (same_op v.op x.op) [] (begun_of v ∷ begun_before x.op (map begun_of ws))) ≡ false) is
+        (ap (λ b. list_any (λ other. has (targets z before other) p) (cond b [] (begun_of v ∷ begun_before v.op (map begun_of ws)))) (same_op-refl v.op))
+
+all_of : (P : ℕ → Bool) (us : List ℕ) (p : ℕ) → ((u : ℕ) → P u ≡ true) → has us p ≡ true → has (filter P us) p ≡ true
+all_of P [] p k h = h
+all_of P (u ∷ us) p k h = rw (k u) (go (u == p) h (all_of P us p k))
+  where
+    go : (b : Bool) → (b || has us p) ≡ true → (has us p ≡ true → has (filter P us) p ≡ true) → (b || has (filter P us) p) ≡ true
+    go true h again = refl
+    go false h again = again h
+
+pub can_send : (m : Machine) (t : Moment) (w : Asking) (p : ℕ) → Ties m t → list_any (λ (v : Asking). v.is_orphan) m.waiting.items ≡ false → find is_sending m.waiting.items ≡ Some w → has (up (past t)) p ≡ true → has_full t.turn p ≡ false → (b : List ℕ) × CanSend t w.op p (begun_of w) b
+can_send m t w p h o f u n = go w.message refl
+  where
+    bytes : (x : MessageView) → w.message ≡ Some x → (v : Bool) → m.raw ≡ v → (b : List ℕ) × (bytes_of t.z (past t) (begun_of w) ≡ Some b)
+    bytes x e v r = (
+      its v r,
+      ap (λ (y : Option MessageView). bytes_of_act t.z (past t) (begun_of w) (act_of y)) e ∙ ap (λ (y : Role). bytes_for y t.z.raw (route t.z (past t) w.op) (asked_of t.z (past t) (begun_of w)) (text_of x)) (is_req_role m t h)
+          ∙ ap (λ q. bytes_for role.Req q (route t.z (past t) w.op) (asked_of t.z (past t) (begun_of w)) (text_of x)) (is_raw m t h ∙ r) ∙ end_ v r,
+    )
+      where
+        live : m.raw ≡ false → HasLive m.live.items w
+        live q = owned_at m.live.items is_sending m.waiting.items w (h.3.owned q) f (none_at (λ (v : Asking). v.is_orphan) is_sending m.waiting.items w o f)
+
+        its : (v : Bool) → m.raw ≡ v → List ℕ
+        its true q = wire_text x
+        its false q = wire_of (request_of (live q).0)
+
+        end_ : (v : Bool) (q : m.raw ≡ v) → bytes_for role.Req v (route t.z (past t) w.op) (asked_of t.z (past t) (begun_of w)) (text_of x) ≡ Some (its v q)
+        end_ true q = refl
+        end_ false q =
+            let own : is_orphan (requests t.z (past t)) w.op ≡ false = flag m t is_sending w h f ∙ none_at (λ (v : Asking). v.is_orphan) is_sending m.waiting.items w o f in
+            ap (λ b. option_map wire_of (cond {A = Option Request} b None (live_on t.z (past t) w.ctx))) own ∙ ap (option_map wire_of) (live_is m t w.ctx h ∙ ap (option_map request_of) (live q).1)
+
+    everywhere : (x : MessageView) (y : Role) → y ≡ role.Req → (q : ℕ) → may_go y t.z.raw (route t.z (past t) w.op) x.header q ≡ true
+    everywhere x y e q = rw e refl
+
+    go : (x : Option MessageView) → w.message ≡ x → (b : List ℕ) × CanSend t w.op p (begun_of w) b
+    go None e = let bad : false ≡ true = sym (ap is_some e) ∙ found_true is_sending m.waiting.items w f in absurd cc
+    go (Some x) e =
+        let k = bytes x e m.raw refl in (
+          k.0,
+          record {
+            pending = own_pending m t is_sending w h f;
+            is_up = u;
+            target = ap (λ (y : Option MessageView). has (targets_of t.z (past t) w.op (act_of y)) p) e ∙ all_of (may_go t.z.role t.z.raw (route t.z (past t) w.op) x.header) (up (past t)) p (everywhere x t.z.role (is_req_role m t h)) u;
+            bytes = k.1;
+            first = ap not (ap (λ (ss : List Begun). list_any (λ other. has (targets t.z (past t) other) p) (begun_before w.op ss)) (sym h.3.pending) ∙ no_earlier t.z (past t) p m.waiting.items w f);
+            not_full = n;
+            one_target = rw (is_req_role m t h) refl;
+          },
+        )
+
+-- the request that is found is that of its context
+found_alone : (P : Live → Bool) (xs : List Live) (x : Live) → AreDistinct (map live_ctx xs) → find P xs ≡ Some x → find (is_live_on x.ctx) xs ≡ Some x
+found_alone P [] x d f = absurd cc
+found_alone P (y ∷ xs) x d f = go (P y) f (found_alone P xs x d.1)
+  where
+    there : (vs : List Live) → find P vs ≡ Some x → has (map live_ctx vs) x.ctx ≡ true
+    there [] k = absurd cc
+    there (v ∷ vs) k = step (P v) k (there vs)
+      where
+        or_right : (a b : Bool) → b ≡ true → (a || b) ≡ true
+        or_right true b h = refl
+        or_right false b h = h
+
+        step : (b : Bool) → cond b (Some v) (find P vs) ≡ Some x → (find P vs ≡ Some x → has (map live_ctx vs) x.ctx ≡ true) → ((v.ctx == x.ctx) || has (map live_ctx vs) x.ctx) ≡ true
+        step true k again = ap (λ b. b || has (map live_ctx vs) x.ctx) (subst (λ (z : Live). (v.ctx == z.ctx) ≡ true) (some_inj v x k) (same_number v.ctx))
+        step false k again = or_right (v.ctx == x.ctx) _ (again k)
+
+    go : (b : Bool) → cond b (Some y) (find P xs) ≡ Some x → (find P xs ≡ Some x → find (is_live_on x.ctx) xs ≡ Some x) → cond (y.ctx == x.ctx) (Some y) (find (is_live_on x.ctx) xs) ≡ Some x
+    go true k again =
+        let is : y ≡ x = some_inj y x k in
+        ap (λ b. cond b (Some y) (find (is_live_on x.ctx) xs)) (subst (λ (z : Live). (y.ctx == z.ctx) ≡ true) is (same_number y.ctx)) ∙ k
+    go false k again = step (y.ctx == x.ctx) refl (again k)
+      where
+        step : (b : Bool) → (y.ctx == x.ctx) ≡ b → find (is_live_on x.ctx) xs ≡ Some x → cond b (Some y) (find (is_live_on x.ctx) xs) ≡ Some x
+        step true e more =
+            let away : has (map live_ctx xs) x.ctx ≡ false = subst (λ n. has (map live_ctx xs) n ≡ false) (equal_of y.ctx x.ctx e) d.0 in
+            let bad : true ≡ false = sym (there xs k) ∙ away in absurd cc
+        step false e more = more
+
+pub can_again : (m : Machine) (t : Moment) (x : Live) (p : ℕ) → Ties m t → find (is_due m.options.resend m.tick m.ports.items m.seats.items) m.live.items ≡ Some x → has (up (past t)) p ≡ true → has_full t.turn p ≡ false → CanAgain t x.ctx p (request_of x)
+can_again m t x p h f u n =
+    let due = is_due m.options.resend m.tick m.ports.items m.seats.items in
+    let alone = found_alone due m.live.items x h.3.places f in
+    let it : due x ≡ true = found_true due m.live.items x f in
+    let open_ : has (ctxs (past t)) x.ctx ≡ true = h.4.homes x.ctx (there m.live.items alone) in
+    let wet : dry_at x.ctx m.seats.items ≡ false = not_dry _ _ _ it in
+    record {
+      sends_again = cooked m.raw refl alone;
+      ctx_open = open_;
+      live = live_is m t x.ctx h ∙ ap (option_map request_of) alone;
+      due = sym (due_is m t h x wet) ∙ it;
+      not_dry = sym (h.4.dryness x.ctx open_) ∙ wet;
+      is_up = u;
+      not_full = n;
+    }
+  where
+    not_dry : (a b d : Bool) → (not a && (b && not d)) ≡ true → d ≡ false
+    not_dry a b false k = refl
+    not_dry true b true k = absurd cc
+    not_dry false true true k = absurd cc
+    not_dry false false true k = absurd cc
+
+    there : (vs : List Live) → find (is_live_on x.ctx) vs ≡ Some x → has (map live_ctx vs) x.ctx ≡ true
+    there [] k = absurd cc
+    there (v ∷ vs) k = step (v.ctx == x.ctx) k (there vs)
+      where
+        step : (b : Bool) → cond b (Some v) (find (is_live_on x.ctx) vs) ≡ Some x → (find (is_live_on x.ctx) vs ≡ Some x → has (map live_ctx vs) x.ctx ≡ true) → (b || has (map live_ctx vs) x.ctx) ≡ true
+        step true k again = refl
+        step false k again = again k
+
+    cooked : (b : Bool) → m.raw ≡ b → find (is_live_on x.ctx) m.live.items ≡ Some x → resends t.z ≡ true
+    cooked false r k = rw (is_req_role m t h, is_raw m t h ∙ r) refl
+    cooked true r k =
+        let none : requests t.z (past t) ≡ no_requests = raw_none t.z (is_req_role m t h) (is_raw m t h ∙ r) in
+        let empty : map request_of m.live.items ≡ [] = h.3.live ∙ ap (λ (q : Requests). q.live) none in
+        absurd (nothing m.live.items empty k)
+      where
+        raw_none : (z : Setting) → z.role ≡ role.Req → z.raw ≡ true → requests z (past t) ≡ no_requests
+        raw_none z i j = rw (i, j) refl
+
+        nothing : (vs : List Live) → map request_of vs ≡ [] → find (is_live_on x.ctx) vs ≡ Some x → ⊥
+        nothing [] e k = absurd cc
+        nothing (v ∷ vs) e k = absurd cc
+
+pub out_right : (m : Machine) (t : Moment) (q : Port) (y : Offer) → Ties m t → find (λ (v : Asking). v.is_orphan) m.waiting.items ≡ None → find (gets m) m.waiting.items ≡ None → find is_free m.ports.items ≡ Some q
+    → y ≡ out_offer q.pipe (find is_sending m.waiting.items) (find (is_due m.options.resend m.tick m.ports.items m.seats.items) m.live.items) → Offers y t
+out_right m t q y h o g f e = subst (λ (z : Offer). Offers z t) (sym e) (go (find is_sending m.waiting.items) refl (find (is_due m.options.resend m.tick m.ports.items m.seats.items) m.live.items) refl)
+  where
+    free : (has (up (past t)) q.pipe ≡ true) × (has_full t.turn q.pipe ≡ false)
+    free = free_is (λ p. has_full t.turn p) (up (past t)) q (ap (find is_free) (sym h.1.ports) ∙ f)
+
+    go : (a : Option Asking) → find is_sending m.waiting.items ≡ a → (b : Option Live) → find (is_due m.options.resend m.tick m.ports.items m.seats.items) m.live.items ≡ b → Offers (out_offer q.pipe a b) t
+    go (Some w) k b l = let z = can_send m t w q.pipe h (none_any (λ (v : Asking). v.is_orphan) m.waiting.items o) k free.0 free.1 in (begun_of w, z.0, z.1)
+    go None k None l = idle m t h o g (inr k) (inr l)
+    go None k (Some x) l = (request_of x, can_again m t x q.pipe h l free.0 free.1)
+
+pub no_port : (o : Option Port) → None ≡ option_map (λ (x : Port). x.pipe) o → o ≡ None
+no_port None e = refl
+no_port (Some x) e = absurd cc
+
+pub some_port : (o : Option Port) (p : ℕ) → Some p ≡ option_map (λ (x : Port). x.pipe) o → (q : Port) × (o ≡ Some q) × (q.pipe ≡ p)
+some_port None p e = absurd cc
+some_port (Some x) p e = (x, refl, sym (some_inj p x.pipe e))
+
+-- ---- Where nothing is kept
+
+nowhere : {A : Type 0} (P : A → Bool) (xs : List A) → list_any P xs ≡ false → position_or_len P xs ≡ length xs
+nowhere P [] h = refl
+nowhere P (x ∷ xs) h = go (P x) refl h (nowhere P xs)
+  where
+    go : (b : Bool) → P x ≡ b → (b || list_any P xs) ≡ false → (list_any P xs ≡ false → position_or_len P xs ≡ length xs) → position_or_len P (x ∷ xs) ≡ length (x ∷ xs)
+    go true e h again = absurd cc
+    go false e h again = let k = again h in rw e (omega (arith, k))
+
+nothing_gets : (raw : Bool) (ks : List Kept) (xs : List Live) → is_any_given raw ks xs ≡ false → (c : ℕ) → is_given raw ks xs c ≡ false
+nothing_gets true ks xs h c = h
+nothing_gets false ks [] h c = refl
+nothing_gets false ks (x ∷ xs) h c = go (is_some x.reply) (x.ctx == c) h (λ k. nothing_gets false ks xs k c)
+  where
+    go : (a b : Bool) → (a || list_any (λ (x : Live). is_some x.reply) xs) ≡ false → (list_any (λ (x : Live). is_some x.reply) xs ≡ false → list_any (keeps_reply c) xs ≡ false) → (b && a || list_any (keeps_reply c) xs) ≡ false
+    go true b h again = absurd cc
+    go false true h again = again h
+    go false false h again = again h
+
+pub none_gets : (m : Machine) (ws : List Asking) → is_any_given m.raw m.kept.items m.live.items ≡ false → None ≡ position (gets m) ws
+none_gets m ws h = sym (go (position_or_len (gets m) ws) (length ws) (nowhere (gets m) ws (none ws)))
+  where
+    go : (n l : ℕ) → n ≡ l → cond (nat_lt n l) (Some n) None ≡ None
+    go n l e = grind (arith, nat_tests)
+
+    none : (ws : List Asking) → list_any (gets m) ws ≡ false
+    none [] = refl
+    none (w ∷ ws) = rw (nothing_gets m.raw m.kept.items m.live.items h w.ctx, none ws) (never (not (is_sending w)))
+      where
+        never : (b : Bool) → (b && false || false) ≡ false
+        never true = refl
+        never false = refl

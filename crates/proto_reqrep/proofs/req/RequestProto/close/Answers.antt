@@ -1,0 +1,13 @@
+use Rattle.std.proofs.Common.{rules, refl, ◌≡◌, [], subst, sym, List, ap, map}
+use Rattle.proto_reqrep.specs.declared.req.Live.{Live}
+use Rattle.proto_reqrep.specs.Reqs.{Asked, Opened, item_of}
+use Rattle.proto_reqrep.proofs.Coming.{closed_asked, closed_opened, asked_live, opened_live}
+use Rattle.proto_reqrep.proofs.req.RequestProto.close.Goals as goal
+
+pub returns-clause-closed : goal.returns-clause-closed
+returns-clause-closed c =
+    λ t totals l h.
+    let was = c.args.self.now in
+    let none : c.clear.new.self.items ≡ [] = search rules in
+    let bare : c.clear-2.new.self.items ≡ [] = search rules in
+    (h.0, h.1, λ r. ap (map item_of) bare, asked_live none (closed_asked was t totals l h), opened_live none (closed_opened was t h))

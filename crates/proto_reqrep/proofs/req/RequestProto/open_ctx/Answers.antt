@@ -1,0 +1,13 @@
+use Rattle.std.proofs.Common.{rules, ◌≡◌, ◌++◌, ◌∷◌, [], false, subst, sym, List}
+use Rattle.proto_reqrep.specs.declared.req.Seat.{Seat}
+use Rattle.proto_reqrep.specs.Reqs.{Opened}
+use Rattle.proto_reqrep.proofs.Reaching.{opened_more}
+use Rattle.proto_reqrep.proofs.Coming.{opened_seats}
+use Rattle.proto_reqrep.proofs.req.RequestProto.open_ctx.Goals as goal
+
+pub returns-in-Ok-clause-opened : goal.returns-in-Ok-clause-opened
+returns-in-Ok-clause-opened c =
+    λ t l h.
+    let was = c.args.self.now in
+    let items : c.push.new.self.items ≡ was.seats.items ++ record { ctx = c.args.c; is_dry = false } ∷ [] = search rules in
+    (h.0, h.1, h.2, h.3, opened_seats items (opened_more was t c.args.c l h))

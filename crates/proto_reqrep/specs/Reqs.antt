@@ -1,0 +1,313 @@
+-- What a req stands for.
+use Rattle.std.specs.Prelude.{◌≡◌, ◌≢◌, ◌≤◌, ◌<◌, ◌+◌, ◌*◌, ◌^◌, ◌%◌, ◌==◌, ◌&&◌, ◌||◌, ℕ, zero, suc, Bool, true, false, not, ⊤, nat_le, if◌then◌else◌, List, [], ◌∷◌, ◌++◌, length, map, find, take, drop, Option, Some, None, is_some}
+use Rattle.std.specs.List.{list_any, list_all}
+use Rattle.std.specs.Option.{option_map}
+use Rattle.sp_base.specs.declared.OpName.{OpName}
+use Rattle.sp_base.specs.declared.role.Role.TheVariants as role
+use Rattle.sp_msg.specs.Views.{MessageView}
+use Rattle.sp_history.specs.declared.entry.Act.{Act}
+use Rattle.sp_history.specs.declared.entry.Act.TheVariants.{Recv, Send}
+use Rattle.sp_history.specs.declared.parts.Begun.{Begun}
+use Rattle.sp_history.specs.declared.parts.Item.{Item}
+use Rattle.sp_history.specs.declared.parts.Orphan.{Orphan}
+use Rattle.sp_history.specs.declared.parts.Request.{Request}
+use Rattle.sp_history.specs.declared.parts.Requests.{Requests}
+use Rattle.sp_history.specs.declared.parts.LastOut.{LastOut}
+use Rattle.sp_history.specs.declared.setting.Options.{Options}
+use Rattle.sp_history.specs.Lists.{has, same_op, is_nil, first_word}
+use Rattle.sp_history.specs.Past.{pend, ctxs, up, ups, now}
+use Rattle.sp_history.specs.Kept.{pool}
+use Rattle.sp_history.specs.Requests.{requests, is_orphan, next_number}
+use Rattle.sp_history.specs.Legal.{was_superseded}
+use Rattle.sp_history.specs.Once.{AreApart, AreDistinct}
+use Rattle.sp_history.specs.Settled.{has_full, is_dry}
+use Rattle.sp_history.specs.Moments.{Moment, past}
+use Rattle.sp_proto.specs.Kinds.{Kind, kind_of, text_of}
+use Rattle.sp_proto.specs.declared.Offer.{Offer}
+use Rattle.sp_proto.specs.declared.Offer.TheVariants as offers
+use Rattle.sp_proto.specs.declared.Verb.{Verb}
+use Rattle.sp_proto.specs.declared.Verb.TheVariants as verbs
+use Rattle.sp_proto.specs.declared.Verdict.{Verdict}
+use Rattle.sp_proto.specs.declared.Verdict.TheVariants as verdict
+use Rattle.proto_reqrep.specs.Ports.{port_of, is_pipe, free_count}
+use Rattle.proto_reqrep.specs.declared.ports.Port.{Port}
+use Rattle.proto_reqrep.specs.declared.req.Request.{Request as Machine}
+use Rattle.proto_reqrep.specs.declared.req.Live.{Live}
+use Rattle.proto_reqrep.specs.declared.req.Kept.{Kept}
+use Rattle.proto_reqrep.specs.declared.req.Asking.{Asking}
+use Rattle.proto_reqrep.specs.declared.req.Seat.{Seat}
+
+abbrev pub req_kind : Bool → Options → Kind
+req_kind raw options = record { role = role.Req; raw = raw; options = options }
+
+-- ---- Contexts
+
+abbrev pub seat_ctx : Seat → ℕ
+seat_ctx s = s.ctx
+
+-- a copy for the context found no memory
+abbrev pub dry_at : ℕ → List Seat → Bool
+dry_at c xs = list_any (λ (s : Seat). (s.ctx == c) && s.is_dry) xs
+
+abbrev pub dried : ℕ → Seat → Seat
+dried c s = record { ctx = s.ctx; is_dry = s.is_dry || (s.ctx == c) }
+
+abbrev pub wetted : Seat → Seat
+wetted s = record { ctx = s.ctx; is_dry = false }
+
+-- ---- Operations
+
+abbrev pub act_of : Option MessageView → Act
+act_of None = Recv
+act_of (Some m) = Send (text_of m)
+
+abbrev pub begun_of : Asking → Begun
+begun_of w = record { op = w.op; ctx = w.ctx; act = act_of w.message }
+
+abbrev pub is_asked : OpName → Asking → Bool
+is_asked op w = same_op w.op op
+
+abbrev pub is_sending : Asking → Bool
+is_sending w = is_some w.message
+
+-- a receive on the context
+abbrev pub is_receiving_on : ℕ → Asking → Bool
+is_receiving_on c w = not (is_sending w) && (w.ctx == c)
+
+-- without the first that passes the test
+abbrev pub without_found : {A : Type 0} → (A → Bool) → List A → List A
+without_found P [] = []
+without_found P (x ∷ xs) = if P x then xs else x ∷ without_found P xs
+
+-- with the first changed that passes the test
+abbrev pub with_found : {A : Type 0} → (A → Bool) → (A → A) → List A → List A
+with_found P f [] = []
+with_found P f (x ∷ xs) = if P x then f x ∷ xs else x ∷ with_found P f xs
+
+-- without the operation of this name
+abbrev pub without_first : OpName → List Asking → List Asking
+without_first op ws = without_found (is_asked op) ws
+
+-- its request has ended, if it is of this context
+abbrev pub orphaned : ℕ → Asking → Asking
+orphaned c w = record { op = w.op; ctx = w.ctx; message = w.message; is_orphan = w.is_orphan || (c == w.ctx) }
+
+-- it has this name, and its request has ended
+abbrev pub is_left : OpName → Asking → Bool
+is_left op w = w.is_orphan && same_op w.op op
+
+-- ---- Live requests
+
+abbrev pub item_of : Kept → Item
+item_of k = record { pipe = k.pipe; words = []; message = text_of k.message }
+
+abbrev pub items_of : Option Kept → List Item
+items_of None = []
+items_of (Some k) = item_of k ∷ []
+
+abbrev pub request_of : Live → Request
+request_of x = record { ctx = x.ctx; id = x.id; body = x.copy.body; birth = x.birth; last_out = x.last_out; replies = items_of x.reply }
+
+abbrev pub live_ctx : Live → ℕ
+live_ctx x = x.ctx
+
+abbrev pub live_id : Live → ℕ
+live_id x = x.id
+
+abbrev pub is_live_on : ℕ → Live → Bool
+is_live_on c x = x.ctx == c
+
+abbrev pub without_live : ℕ → List Live → List Live
+without_live c xs = without_found (is_live_on c) xs
+
+abbrev pub keeps_reply : ℕ → Live → Bool
+keeps_reply c x = (x.ctx == c) && is_some x.reply
+
+abbrev pub message_in : Option Kept → Option MessageView
+message_in None = None
+message_in (Some k) = Some k.message
+
+abbrev pub reply_in : Option Live → Option MessageView
+reply_in None = None
+reply_in (Some x) = message_in x.reply
+
+-- a reply with this id is kept for it
+abbrev pub waits_for : ℕ → Live → Bool
+waits_for id x = (x.id == id) && is_some x.last_out && not (is_some x.reply)
+
+abbrev pub with_kept : Kept → Live → Live
+with_kept k x = record { ctx = x.ctx; id = x.id; copy = x.copy; birth = x.birth; last_out = x.last_out; reply = Some k }
+
+-- the first that waits for it keeps the reply
+abbrev pub with_reply : ℕ → Kept → List Live → List Live
+with_reply id k xs = with_found (waits_for id) (with_kept k) xs
+
+-- it went out so
+abbrev pub sent_at : LastOut → Live → Live
+sent_at o x = record { ctx = x.ctx; id = x.id; copy = x.copy; birth = x.birth; last_out = Some o; reply = x.reply }
+
+abbrev pub out_on : ℕ → LastOut → Live → Option LastOut
+out_on c o x = if x.ctx == c then Some o else x.last_out
+
+abbrev pub with_out_on : ℕ → LastOut → Live → Live
+with_out_on c o x = record { ctx = x.ctx; id = x.id; copy = x.copy; birth = x.birth; last_out = out_on c o x; reply = x.reply }
+
+-- ---- Ids
+
+abbrev pub number_after : ℕ → ℕ
+number_after id = (id % 2 ^ 31 + 1) % 2 ^ 31 + 2 ^ 31
+
+abbrev pub free_number : ℕ → List Live → ℕ → ℕ
+free_number zero xs id = id
+free_number (suc tries) xs id = if list_any (λ (x : Live). x.id == id) xs then free_number tries xs (number_after id) else id
+
+-- ---- What can be done
+
+-- a message can be given to a receive of the context
+abbrev pub is_given : Bool → List Kept → List Live → ℕ → Bool
+is_given true ks xs c = not (is_nil ks)
+is_given false ks xs c = list_any (keeps_reply c) xs
+
+-- a message can be given to a receive of some context
+abbrev pub is_any_given : Bool → List Kept → List Live → Bool
+is_any_given true ks xs = not (is_nil ks)
+is_any_given false ks xs = list_any (λ (x : Live). is_some x.reply) xs
+
+-- its pipe is down, or it is too long ago
+abbrev pub is_late : ℕ → ℕ → List Port → LastOut → Bool
+is_late resend t ps o = not (list_any (is_pipe o.pipe) ps) || nat_le (o.when + resend) t
+
+abbrev pub is_late_in : ℕ → ℕ → List Port → Option LastOut → Bool
+is_late_in resend t ps None = false
+is_late_in resend t ps (Some o) = is_late resend t ps o
+
+-- the live request may go out again
+abbrev pub is_due : ℕ → ℕ → List Port → List Seat → Live → Bool
+is_due resend t ps ss x = not (is_some x.reply) && (is_late_in resend t ps x.last_out && not (dry_at x.ctx ss))
+
+abbrev pub out_offer : ℕ → Option Asking → Option Live → Offer
+out_offer p (Some w) x = offers.Send w.op p
+out_offer p None None = offers.Idle
+out_offer p None (Some x) = offers.Again x.ctx p
+
+-- the state has no place for it: a receive wants a live request, and no other receive
+abbrev pub ask_state : List Asking → List Live → ℕ → Verb → Bool
+ask_state ws xs c verbs.Recv = not (list_any (is_live_on c) xs) || list_any (is_receiving_on c) ws
+ask_state ws xs c verbs.Send = false
+
+abbrev pub due_count : (Live → Bool) → List Live → ℕ
+due_count due [] = 0
+due_count due (x ∷ xs) = if due x then due_count due xs + 1 else due_count due xs
+
+-- each pipe that is free may take one more of all requests, when it goes down
+abbrev pub work_left : Machine → ℕ
+work_left m =
+    free_count m.ports.items * (length m.live.items + 1) + due_count (is_due m.options.resend m.tick m.ports.items m.seats.items) m.live.items + length m.waiting.items
+
+-- ---- What calls do
+
+-- the id of a new request
+abbrev pub new_id : ℕ → Option ℕ → List Live → ℕ
+new_id dice last xs = free_number (length xs) xs (next_number dice last)
+
+abbrev pub IsNew : Machine → ℕ → List ℕ → Live → Type 0
+IsNew m c body x =
+    (x.ctx ≡ c) × (x.id ≡ new_id m.options.dice m.last_id (without_live c m.live.items)) × (x.copy.header ≡ []) × (x.copy.body ≡ body) × (x.birth ≡ m.tick)
+    × (x.last_out ≡ None) × (x.reply ≡ None) × (x.id < 2 ^ 32)
+
+-- a new request of the context takes the place of the live one
+abbrev pub Asks : ℕ → List ℕ → Machine → Machine → Type 0
+Asks c body m n =
+    (x : Live) × IsNew m c body x × (length (without_live c m.live.items) < 2 ^ 31) × (n.live.items ≡ without_live c m.live.items ++ x ∷ [])
+    × (n.waiting.items ≡ map (orphaned c) m.waiting.items) × (n.last_id ≡ Some x.id)
+    × (n.raw ≡ m.raw) × (n.options ≡ m.options) × (n.tick ≡ m.tick) × (n.ports ≡ m.ports) × (n.kept ≡ m.kept) × (n.seats ≡ m.seats)
+
+abbrev pub raw_item : ℕ → List ℕ → Item
+raw_item p b = record { pipe = p; words = []; message = record { header = take 4 b; body = drop 4 b } }
+
+-- a raw frame is kept
+abbrev pub KeepsRaw : Verdict → ℕ → List ℕ → List Kept → List Kept → Type 0
+KeepsRaw verdict.Fine p b old new = (first_word b ≢ None) × (map item_of new ≡ map item_of old ++ raw_item p b ∷ [])
+KeepsRaw verdict.Malformed p b old new = (first_word b ≡ None) × (new ≡ old)
+KeepsRaw verdict.NoMemory p b old new = (first_word b ≢ None) × (new ≡ old)
+KeepsRaw (verdict.Dry c) p b old new = ⊥
+
+-- ---- What it stands for
+
+-- each live request: what goes out again has no header, its id is one of 32 bits, and it keeps no reply before it went out
+abbrev pub AreSound : List Live → Type 0
+AreSound [] = ⊤
+AreSound (x ∷ xs) = (x.copy.header ≡ []) × (x.id < 2 ^ 32) × (x.last_out ≡ None → x.reply ≡ None) × AreSound xs
+
+-- the operation, whose request is live: a send is what that one was begun with, and it did not go out yet
+abbrev pub IsOf : Live → Option MessageView → Type 0
+IsOf x None = ⊤
+IsOf x (Some m) = (x.copy.body ≡ m.body) × (x.last_out ≡ None)
+
+abbrev pub HasLive : List Live → Asking → Type 0
+HasLive xs w = (x : Live) × (find (is_live_on w.ctx) xs ≡ Some x) × IsOf x w.message
+
+-- each operation whose request didn't end has a live one
+abbrev pub HaveLive : List Live → List Asking → Type 0
+HaveLive xs [] = ⊤
+HaveLive xs (w ∷ ws) = (w.is_orphan ≡ false → HasLive xs w) × HaveLive xs ws
+
+-- a send on the context
+abbrev pub is_sending_on : ℕ → Asking → Bool
+is_sending_on c w = is_sending w && (w.ctx == c)
+
+-- behind no receive another one of its context is pending, and behind no operation of a live request another send
+abbrev pub AreSingle : List Asking → Type 0
+AreSingle [] = ⊤
+AreSingle (w ∷ ws) =
+    (is_sending w ≡ false → list_any (is_receiving_on w.ctx) ws ≡ false) × (w.is_orphan ≡ false → list_any (is_sending_on w.ctx) ws ≡ false) × AreSingle ws
+
+-- its request was replaced or given up
+abbrev pub is_superseded : Orphan → Bool
+is_superseded o = was_superseded (Some o.how)
+
+-- what it is set to, and the time
+pub record SetTo (raw : Bool) (options : Options) (tick : ℕ) (k : Kind) (t : ℕ) : Type 0 where
+  pub kind : k ≡ req_kind raw options
+  -- an Out is never due again at once
+  pub resend : 1 ≤ options.resend
+  pub moment : tick ≡ t
+
+-- the pipes that are up, and which of them are full, none above the last one that came up
+pub record Knows (ps : List Port) (us : List ℕ) (last : ℕ) (full : ℕ → Bool) : Type 0 where
+  pub ports : ps ≡ map (port_of full) us
+  pub known : (q : ℕ) → has us q ≡ true → q ≤ last
+  pub unmet : (q : ℕ) → last < q → full q ≡ false
+
+-- the live requests, all of other ids and contexts; the pending operations, the oldest first, and which of them have no
+-- request any more
+pub record Asked (raw : Bool) (xs : List Live) (id : Option ℕ) (ws : List Asking) (ss : List Begun) (rs : Requests) : Type 0 where
+  pub live : map request_of xs ≡ rs.live
+  pub last_id : id ≡ rs.last_id
+  pub ids : AreDistinct (map live_id xs)
+  pub places : AreDistinct (map live_ctx xs)
+  pub sound : AreSound xs
+  pub pending : map begun_of ws ≡ ss
+  pub apart : AreApart ss
+  pub orphans : (op : OpName) → is_orphan rs op ≡ list_any (is_left op) ws
+  pub causes : list_all is_superseded rs.orphans ≡ true
+  pub single : raw ≡ false → AreSingle ws
+  pub owned : raw ≡ false → HaveLive xs ws
+
+-- the open contexts, those of the live requests among them, and which are dry
+pub record Opened (xs : List Live) (seats : List Seat) (cs : List ℕ) (dry : ℕ → Bool) : Type 0 where
+  pub homes : (c : ℕ) → has (map live_ctx xs) c ≡ true → has cs c ≡ true
+  pub contexts : map seat_ctx seats ≡ cs
+  pub dryness : (c : ℕ) → has cs c ≡ true → dry_at c seats ≡ dry c
+
+-- raw, what it keeps
+abbrev pub Keeps : Bool → List Kept → List Item → Type 0
+Keeps raw ks is = raw ≡ true → map item_of ks ≡ is
+
+abbrev pub Ties : Machine → Moment → Type 0
+Ties m t =
+    SetTo m.raw m.options m.tick (kind_of t.z) (now (past t))
+    × Knows m.ports.items (up (past t)) (ups (past t)) (λ q. has_full t.turn q)
+    × Keeps m.raw m.kept.items (pool t.z (past t) 0)
+    × Asked m.raw m.live.items m.last_id m.waiting.items (pend (past t)) (requests t.z (past t))
+    × Opened m.live.items m.seats.items (ctxs (past t)) (λ c. is_dry (past t) c)

@@ -1,0 +1,812 @@
+//! The machine of req.
+ghost use Rattle.std.specs.Prelude.{◌≡◌, ◌≤◌, ◌<◌, ◌+◌, ◌^◌, ◌%◌, ◌==◌, ◌++◌, ◌&&◌, ℕ, [], ◌∷◌, None, Some, IfOk, OnOk, OnErr, false, true, not, map, filter, find, drop, length, option_to_list, is_some};
+ghost use Rattle.std.specs.Vec.{vec_len, vec_capacity};
+ghost use Rattle.std.specs.VecDeque.{deque_len, deque_capacity};
+ghost use Rattle.std.specs.Option.{option_map};
+ghost use Rattle.std.specs.List.{position, list_any};
+ghost use Rattle.sp_history.specs.Options.{Fits};
+ghost use Rattle.sp_history.specs.Lists.{word, head_of};
+ghost use Rattle.sp_history.specs.Requests.{next_number};
+ghost use Rattle.sp_msg.specs.Views.{wire_text};
+ghost use Rattle.sp_proto.specs.Kinds.{Starts};
+ghost use Rattle.proto_reqrep.specs.declared.req.Kept.{Kept as KeptType};
+ghost use Rattle.proto_reqrep.specs.declared.req.Live.{Live as LiveType};
+ghost use Rattle.proto_reqrep.specs.declared.req.Asking.{Asking as AskingType};
+ghost use Rattle.proto_reqrep.specs.declared.req.Seat.{Seat as SeatType};
+ghost use Rattle.proto_reqrep.specs.Reqs.{Ties, req_kind, is_live_on, is_asked, without_first, without_live, orphaned, waits_for, with_reply, with_found, sent_at, keeps_reply, is_sending, is_due, dry_at, dried, wetted, number_after, free_number, reply_in, Asks, KeepsRaw, is_given, is_any_given, is_late, out_offer, ask_state, is_receiving_on};
+
+use crate::ports::{Port, clear, forget, free_port, is_up, mark};
+use crate::trail::first_word;
+use sp_base::{Ctx, NoMemory, OpName, PipeId, Role, Tick};
+use sp_history::entry::Cause;
+use sp_history::parts::LastOut;
+use sp_history::setting::Options;
+use sp_msg::Message;
+use sp_proto::{Act, CheckError, Offer, Proto, UpFault, Verb, Verdict};
+use std::alloc::Global;
+use std::collections::VecDeque;
+
+/// So many requests can be live.
+const MOST_LIVE: usize = 2_147_483_647;
+
+/// A message that is kept, and the pipe that it came from.
+#[derive(Drop)]
+struct Kept {
+    pipe: PipeId,
+    message: Message,
+}
+
+/// A live request.
+#[derive(Drop)]
+struct Live {
+    ctx: Ctx,
+    id: u32,
+    /// What goes out behind the id, with an empty header.
+    copy: Message,
+    birth: Tick,
+    last_out: Option<LastOut>,
+    reply: Option<Kept>,
+}
+
+/// An operation that waits: a send has its message, as it was begun.
+#[derive(Drop)]
+struct Asking {
+    op: OpName,
+    ctx: Ctx,
+    message: Option<Message>,
+    /// Its request has ended.
+    is_orphan: bool,
+}
+
+/// An open context.
+#[derive(Clone, Copy)]
+struct Seat {
+    ctx: Ctx,
+    /// A copy of a request of it found no memory since the last tick.
+    is_dry: bool,
+}
+
+/// A req (nng_req(7)), cooked or raw.
+#[derive(Drop)]
+pub struct Request {
+    raw: bool,
+    options: Options,
+    tick: Tick,
+    last_id: Option<u32>,
+    /// In the order in which they came up.
+    ports: Vec<Port>,
+    /// Raw: the oldest first, at most one of each pipe.
+    kept: VecDeque<Kept>,
+    /// Cooked: at most one of each context, in the order of their begins.
+    live: Vec<Live>,
+    /// In the order of their begins.
+    waiting: Vec<Asking>,
+    /// In the order in which they were opened.
+    seats: Vec<Seat>,
+}
+
+// ---- Contexts
+
+// The first seat.
+fn first_seats(alloc: Global) -> Result<Vec<Seat>, NoMemory>
+    ensures { IfOk result (λ v. v.items ≡ record { ctx = 0; is_dry = false } ∷ []) }
+{
+    let mut seats = Vec::new(alloc);
+    match seats.push(Seat {
+        ctx: Ctx(0),
+        is_dry: false,
+    }) {
+        Ok(()) => Ok(seats),
+        Err(_) => Err(NoMemory),
+    }
+}
+
+// The context is open.
+fn is_open(seats: &[Seat], c: Ctx) -> bool
+    ensures { result ≡ list_any (λ (s : SeatType). s.ctx == c) seats.now }
+{
+    seats.iter().any(|s| s.ctx.0 == c.0)
+}
+
+// A copy for the context found no memory.
+fn is_dry(seats: &[Seat], c: Ctx) -> bool
+    ensures { result ≡ dry_at c seats.now }
+{
+    seats.iter().any(|s| s.ctx.0 == c.0 && s.is_dry)
+}
+
+// Dry, if it is that of this context.
+fn dried(seat: Seat, c: Ctx) -> Seat
+    ensures { result ≡ dried c seat }
+{
+    Seat {
+        ctx: seat.ctx,
+        is_dry: seat.is_dry || seat.ctx.0 == c.0,
+    }
+}
+
+// A copy for the context finds no memory.
+fn dry(seats: &mut [Seat], c: Ctx)
+    ensures { seats.new ≡ map (dried c) seats.old }
+{
+    for seat in seats.iter_mut() {
+        *seat = dried(*seat, c);
+    }
+}
+
+// Each may be tried again.
+fn wet(seats: &mut [Seat])
+    ensures { seats.new ≡ map wetted seats.old }
+{
+    for seat in seats.iter_mut() {
+        seat.is_dry = false;
+    }
+}
+
+// ---- Operations
+
+// Where the operation stands.
+fn place_of(waiting: &[Asking], op: OpName) -> Option<usize>
+    ensures { result ≡ position (is_asked op) waiting.now }
+{
+    waiting.iter().position(|w| w.op.slot == op.slot && w.op.generation == op.generation)
+}
+
+// Takes the operation out.
+fn take(waiting: &mut Vec<Asking>, op: OpName) -> Option<Asking>
+    ensures found { result ≡ find (is_asked op) waiting.old.items }
+    ensures rest { waiting.new.items ≡ without_first op waiting.old.items }
+    ensures len { vec_len waiting.new + length (option_to_list result) ≡ vec_len waiting.old }
+    ensures capacity { vec_capacity waiting.new ≡ vec_capacity waiting.old }
+{
+    match place_of(waiting, op) {
+        None => None,
+        Some(i) => Some(waiting.remove(i)),
+    }
+}
+
+// The operation waits, the last of all.
+fn wait(waiting: &mut Vec<Asking>, op: OpName, c: Ctx, message: Option<Message>)
+    requires { vec_len waiting.old < vec_capacity waiting.old }
+    ensures items { waiting.new.items ≡ waiting.old.items ++ record { op = op; ctx = c; message = message; is_orphan = false } ∷ [] }
+    ensures len { vec_len waiting.new ≡ vec_len waiting.old + 1 }
+    ensures capacity { vec_capacity waiting.new ≡ vec_capacity waiting.old }
+{
+    waiting.push_reserved(Asking {
+        op,
+        ctx: c,
+        message,
+        is_orphan: false,
+    });
+}
+
+// Its request has ended, when that of the context ends.
+fn has_ended(w: &Asking, c: Ctx) -> bool
+    ensures { result ≡ (orphaned c w.now).is_orphan }
+{
+    w.is_orphan || c.0 == w.ctx.0
+}
+
+// The request of the context ends, and leaves its operations behind.
+fn leave_behind(waiting: &mut [Asking], c: Ctx)
+    ensures { waiting.new ≡ map (orphaned c) waiting.old }
+{
+    for w in waiting.iter_mut() {
+        w.is_orphan = has_ended(w, c);
+    }
+}
+
+// Where the first operation stands whose request has ended.
+fn orphan_place(waiting: &[Asking]) -> Option<usize>
+    ensures { result ≡ position (λ (w : AskingType). w.is_orphan) waiting.now }
+{
+    waiting.iter().position(|w| w.is_orphan)
+}
+
+// Where the first send stands.
+fn send_place(waiting: &[Asking]) -> Option<usize>
+    ensures { result ≡ position is_sending waiting.now }
+{
+    waiting.iter().position(|w| w.message.is_some())
+}
+
+// ---- Live requests
+
+// Where the live request of the context stands.
+fn live_place(live: &[Live], c: Ctx) -> Option<usize>
+    ensures { result ≡ position (is_live_on c) live.now }
+{
+    live.iter().position(|x| x.ctx.0 == c.0)
+}
+
+// The context has a live request.
+fn has_live(live: &[Live], c: Ctx) -> bool
+    ensures { result ≡ list_any (is_live_on c) live.now }
+{
+    live.iter().any(|x| x.ctx.0 == c.0)
+}
+
+// A reply is kept for the context.
+fn has_reply(live: &[Live], c: Ctx) -> bool
+    ensures { result ≡ list_any (keeps_reply c) live.now }
+{
+    live.iter().any(|x| x.ctx.0 == c.0 && x.reply.is_some())
+}
+
+// A reply is kept.
+fn has_any_reply(live: &[Live]) -> bool
+    ensures { result ≡ list_any (λ (x : LiveType). is_some x.reply) live.now }
+{
+    live.iter().any(|x| x.reply.is_some())
+}
+
+// Takes the live request of the context out.
+fn take_live(live: &mut Vec<Live>, c: Ctx) -> Option<Live>
+    ensures found { result ≡ find (is_live_on c) live.old.items }
+    ensures rest { live.new.items ≡ without_live c live.old.items }
+    ensures len { vec_len live.new ≤ vec_len live.old }
+    ensures capacity { vec_capacity live.new ≡ vec_capacity live.old }
+{
+    match live_place(live, c) {
+        None => None,
+        Some(i) => Some(live.remove(i)),
+    }
+}
+
+// Takes the reply that is kept for the context, whose request it answers.
+fn answered(live: &mut Vec<Live>, c: Ctx) -> Option<Message>
+    ensures reply { result ≡ reply_in (find (is_live_on c) live.old.items) }
+    ensures rest { live.new.items ≡ without_live c live.old.items }
+{
+    match take_live(live, c) {
+        None => None,
+        Some(x) => {
+            let Live { reply, .. } = x;
+            reply.map(|k| k.message)
+        }
+    }
+}
+
+// Where the live request stands that has this id and waits for a reply.
+fn waiting_place(live: &[Live], id: u32) -> Option<usize>
+    ensures { result ≡ position (waits_for id) live.now }
+{
+    live.iter().position(|x| x.id == id && x.last_out.is_some() && x.reply.is_none())
+}
+
+// Keeps the reply for the request that has this id and waits for one, if there is one.
+fn keep_reply(live: &mut [Live], id: u32, kept: Kept)
+    ensures { live.new ≡ with_reply id kept live.old }
+{
+    match waiting_place(live, id) {
+        None => {}
+        Some(i) => live[i].reply = Some(kept),
+    }
+}
+
+// The request of the context goes out.
+fn note_out(live: &mut [Live], c: Ctx, out: LastOut)
+    ensures { live.new ≡ with_found (is_live_on c) (sent_at out) live.old }
+{
+    match live_place(live, c) {
+        None => {}
+        Some(i) => live[i].last_out = Some(out),
+    }
+}
+
+// The id in place of the header.
+fn led(message: Message, id: u32) -> Message
+    ensures { wire_text result ≡ word id ++ message.body }
+{
+    let mut out = message;
+    out.header_clear();
+    let _ = out.header_append_u32(id);
+    out
+}
+
+// The message of a send with the id of its request, which goes out.
+fn asked(live: &mut [Live], c: Ctx, message: Message, out: LastOut) -> Message
+    ensures live { live.new ≡ with_found (is_live_on c) (sent_at out) live.old }
+    ensures message { (x : LiveType) → find (is_live_on c) live.old ≡ Some x → wire_text result ≡ word x.id ++ message.body }
+{
+    match live_place(live, c) {
+        None => {
+            note_out(live, c, out);
+            message
+        }
+        Some(i) => {
+            let id = live[i].id;
+            note_out(live, c, out);
+            led(message, id)
+        }
+    }
+}
+
+// ---- Ids
+
+// The number after it, with the top bit set.
+fn number_after(id: u32) -> u32
+    ensures { result ≡ number_after id }
+{
+    (id % 2_147_483_648 + 1) % 2_147_483_648 + 2_147_483_648
+}
+
+// A live request has this id.
+fn is_taken(live: &[Live], id: u32) -> bool
+    ensures { result ≡ list_any (λ (x : LiveType). x.id == id) live.now }
+{
+    live.iter().any(|x| x.id == id)
+}
+
+// The first number from this one on that no live request has.
+fn free_number(live: &[Live], tries: usize, id: u32) -> u32
+    ensures { result ≡ free_number tries live.now id }
+{
+    if tries == 0 {
+        return id;
+    }
+    if !is_taken(live, id) {
+        return id;
+    }
+    free_number(live, tries - 1, number_after(id))
+}
+
+// The id of the next request.
+fn next_id(live: &[Live], dice: u32, last: Option<u32>) -> u32
+    ensures { result ≡ free_number (length live.now) live.now (next_number dice last) }
+{
+    match last {
+        None => free_number(live, live.len(), dice % 2_147_483_648 + 2_147_483_648),
+        Some(id) => free_number(live, live.len(), number_after(id)),
+    }
+}
+
+// ---- Raw messages
+
+// Takes the oldest.
+fn oldest(kept: &mut VecDeque<Kept>) -> Option<Message>
+    ensures first { result ≡ option_map (λ (k : KeptType). k.message) (head_of kept.old.items) }
+    ensures rest { kept.new.items ≡ drop 1 kept.old.items }
+{
+    match kept.pop_front() {
+        None => None,
+        Some(k) => Some(k.message),
+    }
+}
+
+impl Request {
+    /// A req to which nothing has happened.
+    pub fn new(alloc: Global, options: Options, raw: bool) -> Result<Request, NoMemory>
+        requires { Fits options }
+        ensures { IfOk result (λ m. Starts Ties m (req_kind raw options)) }
+    {
+        match first_seats(alloc) {
+            Err(e) => Err(e),
+            Ok(seats) => Ok(Request {
+                raw,
+                options,
+                tick: Tick(0),
+                last_id: None,
+                ports: Vec::new(alloc),
+                kept: VecDeque::new(alloc),
+                live: Vec::new(alloc),
+                waiting: Vec::new(alloc),
+                seats,
+            }),
+        }
+    }
+
+    // A new request of the context takes the place of the one that is live.
+    fn ask(&mut self, c: Ctx, m: &Message) -> Result<(), NoMemory>
+        ensures asked { OnOk result (Asks c m.now.body self.old self.new) }
+        ensures same { OnErr result ((self.new.live.items ≡ self.old.live.items) × (self.new ≡ record self.old { live = self.new.live })) }
+        ensures room { (vec_len self.new.waiting ≡ vec_len self.old.waiting) × (vec_capacity self.new.waiting ≡ vec_capacity self.old.waiting) }
+    {
+        if self.live.len() >= MOST_LIVE {
+            return Err(NoMemory);
+        }
+        let mut copy = match m.copy() {
+            Err(e) => return Err(e),
+            Ok(copy) => copy,
+        };
+        copy.header_clear();
+        if self.live.reserve(1).is_err() {
+            return Err(NoMemory);
+        }
+        let _ = take_live(&mut self.live, c);
+        leave_behind(&mut self.waiting, c);
+        let id = next_id(&self.live, self.options.dice, self.last_id);
+        self.last_id = Some(id);
+        self.live.push_reserved(Live {
+            ctx: c,
+            id,
+            copy,
+            birth: self.tick,
+            last_out: None,
+            reply: None,
+        });
+        Ok(())
+    }
+
+    // Raw, its first word goes to the header.
+    fn keep_raw(&mut self, p: PipeId, m: Message) -> Verdict
+        requires { m.header ≡ [] }
+        ensures { (self.new ≡ record self.old { kept = self.new.kept }) × KeepsRaw result p m.body self.old.kept.items self.new.kept.items }
+    {
+        let mut message = m;
+        match message.trim_u32() {
+            Err(_) => Verdict::Malformed,
+            Ok(word) => {
+                let _ = message.header_append_u32(word);
+                match self.kept.push_back(Kept { pipe: p, message }) {
+                    Ok(()) => Verdict::Fine,
+                    Err(_) => Verdict::NoMemory,
+                }
+            }
+        }
+    }
+
+    // The message that a receive of the context gets.
+    fn give(&mut self, c: Ctx) -> Option<Message>
+        ensures same { self.new ≡ record self.old { live = self.new.live; kept = self.new.kept } }
+        ensures raw { self.old.raw ≡ true → (result ≡ option_map (λ (k : KeptType). k.message) (head_of self.old.kept.items)) × (self.new.kept.items ≡ drop 1 self.old.kept.items) × (self.new.live ≡ self.old.live) }
+        ensures cooked { self.old.raw ≡ false → (result ≡ reply_in (find (is_live_on c) self.old.live.items)) × (self.new.live.items ≡ without_live c self.old.live.items) × (self.new.kept ≡ self.old.kept) }
+    {
+        if self.raw {
+            return oldest(&mut self.kept);
+        }
+        answered(&mut self.live, c)
+    }
+
+    // What goes out for a send of the context.
+    fn send(&mut self, c: Ctx, m: Message, out: Option<PipeId>) -> Message
+        ensures same { self.new ≡ record self.old { live = self.new.live } }
+        ensures raw { self.old.raw ≡ true → (result ≡ m) × (self.new.live ≡ self.old.live) }
+        ensures cooked { self.old.raw ≡ false → (p : ℕ) → out ≡ Some p → self.new.live.items ≡ with_found (is_live_on c) (sent_at (record { pipe = p; when = self.old.tick })) self.old.live.items }
+        ensures message { self.old.raw ≡ false → (p : ℕ) → out ≡ Some p → (x : LiveType) → find (is_live_on c) self.old.live.items ≡ Some x → wire_text result ≡ word x.id ++ m.body }
+    {
+        if self.raw {
+            return m;
+        }
+        match out {
+            None => m,
+            Some(pipe) => {
+                let out = LastOut {
+                    pipe,
+                    when: self.tick,
+                };
+                asked(&mut self.live, c, m, out)
+            }
+        }
+    }
+
+    // A message can be given to a receive of the context.
+    fn gives(&self, c: Ctx) -> bool
+        ensures { result ≡ is_given self.now.raw self.now.kept.items self.now.live.items c }
+    {
+        if self.raw {
+            return !self.kept.is_empty();
+        }
+        has_reply(&self.live, c)
+    }
+
+    // Where the first receive stands that can be given a message.
+    fn give_place(&self) -> Option<usize>
+        ensures { result ≡ position (λ (w : AskingType). not (is_sending w) && is_given self.now.raw self.now.kept.items self.now.live.items w.ctx) self.now.waiting.items }
+    {
+        if !self.has_any() {
+            return None;
+        }
+        self.waiting
+            .iter()
+            .position(|w| w.message.is_none() && self.gives(w.ctx))
+    }
+
+    // A message can be given to a receive of some context.
+    fn has_any(&self) -> bool
+        ensures { result ≡ is_any_given self.now.raw self.now.kept.items self.now.live.items }
+    {
+        if self.raw {
+            return !self.kept.is_empty();
+        }
+        has_any_reply(&self.live)
+    }
+
+    // The live request may go out again.
+    fn is_due(&self, x: &Live) -> bool
+        ensures { result ≡ is_due self.now.options.resend self.now.tick self.now.ports.items self.now.seats.items x.now }
+    {
+        if x.reply.is_some() {
+            return false;
+        }
+        match x.last_out {
+            None => false,
+            Some(out) => self.is_late(out) && !is_dry(&self.seats, x.ctx),
+        }
+    }
+
+    // Its pipe is down, or it is too long ago.
+    fn is_late(&self, out: LastOut) -> bool
+        ensures { result ≡ is_late self.now.options.resend self.now.tick self.now.ports.items out }
+    {
+        !is_up(&self.ports, out.pipe)
+            || (out.when.0 <= self.tick.0 && self.tick.0 - out.when.0 >= self.options.resend)
+    }
+
+    // Where the first live request stands that may go out again.
+    fn due_place(&self) -> Option<usize>
+        ensures { result ≡ position (is_due self.now.options.resend self.now.tick self.now.ports.items self.now.seats.items) self.now.live.items }
+    {
+        self.live.iter().position(|x| self.is_due(x))
+    }
+
+    // What can go out on this pipe: the first send, or a request that is due again.
+    fn next_out(&self, pipe: PipeId) -> Offer
+        ensures { result ≡ out_offer pipe (find is_sending self.now.waiting.items) (find (is_due self.now.options.resend self.now.tick self.now.ports.items self.now.seats.items) self.now.live.items) }
+    {
+        match send_place(&self.waiting) {
+            Some(i) => Offer::Send {
+                op: self.waiting[i].op,
+                pipe,
+            },
+            None => match self.due_place() {
+                None => Offer::Idle,
+                Some(i) => Offer::Again {
+                    ctx: self.live[i].ctx,
+                    pipe,
+                },
+            },
+        }
+    }
+
+    // A receive of the context is pending.
+    fn is_receiving(&self, c: Ctx) -> bool
+        ensures { result ≡ list_any (is_receiving_on c) self.now.waiting.items }
+    {
+        self.waiting
+            .iter()
+            .any(|w| w.message.is_none() && w.ctx.0 == c.0)
+    }
+
+    // The state of the context has no place for it: a receive wants a live request, and no other receive.
+    fn has_state(&self, c: Ctx, verb: Verb) -> bool
+        ensures { result ≡ ask_state self.now.waiting.items self.now.live.items c verb }
+    {
+        match verb {
+            Verb::Recv => !has_live(&self.live, c) || self.is_receiving(c),
+            Verb::Send => false,
+        }
+    }
+
+    // A message of the pipe is kept.
+    fn keeps_of(&self, p: PipeId) -> bool
+        ensures { result ≡ list_any (λ (k : KeptType). k.pipe == p) self.now.kept.items }
+    {
+        self.kept.iter().any(|k| k.pipe.0 == p.0)
+    }
+}
+
+impl Proto for Request {
+    ghost use Rattle.std.specs.Prelude.{◌-◌, ◌+◌};
+    ghost use Rattle.std.specs.Vec.{vec_len, vec_capacity};
+    ghost use Rattle.proto_reqrep.specs.Reqs.{Ties, req_kind, work_left};
+    ghost use Rattle.proto_reqrep.specs.ReqLaws as laws;
+
+    ghost kind = { λ m. req_kind m.raw m.options };
+
+    ghost ties = { Ties };
+
+    ghost room = { λ m. vec_capacity m.waiting - vec_len m.waiting };
+
+    ghost left = { work_left };
+
+    ghost copies = { λ m op. 0 };
+
+    ghost kinds = { laws.kinds };
+
+    ghost silent = { laws.silent };
+
+    ghost anew = { laws.anew };
+
+    fn role(&self) -> Role {
+        Role::Req
+    }
+
+    fn raw(&self) -> bool {
+        self.raw
+    }
+
+    fn reserve(&mut self, slots: u32) -> Result<(), NoMemory> {
+        match self.waiting.reserve(slots as usize) {
+            Ok(()) => Ok(()),
+            Err(_) => Err(NoMemory),
+        }
+    }
+
+    fn up(&mut self, p: PipeId) -> Result<(), UpFault> {
+        match self.ports.push(Port {
+            pipe: p,
+            is_full: false,
+        }) {
+            Ok(()) => Ok(()),
+            Err(_) => Err(UpFault::NoMemory),
+        }
+    }
+
+    fn down(&mut self, p: PipeId) {
+        forget(&mut self.ports, p);
+    }
+
+    fn wants(&self, p: PipeId) -> bool {
+        !self.raw || !self.keeps_of(p)
+    }
+
+    fn frame(&mut self, p: PipeId, m: Message) -> Verdict {
+        if self.raw {
+            return self.keep_raw(p, m);
+        }
+        match first_word(m.body()) {
+            None => Verdict::Malformed,
+            Some(id) => {
+                let mut message = m;
+                let _ = message.trim(4);
+                keep_reply(&mut self.live, id, Kept { pipe: p, message });
+                Verdict::Fine
+            }
+        }
+    }
+
+    fn keeps(&self, c: Ctx) -> bool {
+        self.gives(c)
+    }
+
+    fn check(&self, c: Ctx, verb: Verb) -> Result<(), CheckError> {
+        if self.raw && c.0 != 0 {
+            return Err(CheckError::NotSupported);
+        }
+        if !is_open(&self.seats, c) {
+            return Err(CheckError::NoEntry);
+        }
+        if !self.raw && self.has_state(c, verb) {
+            return Err(CheckError::State);
+        }
+        Ok(())
+    }
+
+    fn begin(&mut self, op: OpName, c: Ctx, act: Act) -> Result<(), Message> {
+        match act {
+            Act::Recv => {
+                wait(&mut self.waiting, op, c, None);
+                Ok(())
+            }
+            Act::Send(m) => {
+                if self.raw {
+                    wait(&mut self.waiting, op, c, Some(m));
+                    return Ok(());
+                }
+                match self.ask(c, &m) {
+                    Err(_) => Err(m),
+                    Ok(()) => {
+                        wait(&mut self.waiting, op, c, Some(m));
+                        Ok(())
+                    }
+                }
+            }
+        }
+    }
+
+    fn fresh(&mut self) {
+        clear(&mut self.ports);
+    }
+
+    fn offer(&mut self) -> Offer {
+        if let Some(i) = orphan_place(&self.waiting) {
+            return Offer::Finish {
+                op: self.waiting[i].op,
+                cause: Cause::Superseded,
+            };
+        }
+        if let Some(i) = self.give_place() {
+            return Offer::Give {
+                op: self.waiting[i].op,
+            };
+        }
+        match free_port(&self.ports) {
+            None => Offer::Idle,
+            Some(pipe) => self.next_out(pipe),
+        }
+    }
+
+    fn full(&mut self, p: PipeId) {
+        mark(&mut self.ports, p);
+    }
+
+    fn goes_to(&self, op: OpName, p: PipeId) -> bool {
+        let _ = op;
+        let _ = p;
+        false
+    }
+
+    fn flood(&mut self, op: OpName, p: PipeId) -> Option<Message> {
+        let _ = op;
+        let _ = p;
+        None
+    }
+
+    fn again(&mut self, c: Ctx, p: PipeId) -> Option<Message> {
+        match live_place(&self.live, c) {
+            None => None,
+            Some(i) => match self.live[i].copy.copy() {
+                Err(_) => {
+                    dry(&mut self.seats, c);
+                    None
+                }
+                Ok(copy) => {
+                    let out = LastOut {
+                        pipe: p,
+                        when: self.tick,
+                    };
+                    Some(asked(&mut self.live, c, copy, out))
+                }
+            },
+        }
+    }
+
+    fn won(&mut self, op: OpName, out: Option<PipeId>) -> Option<Message> {
+        match take(&mut self.waiting, op) {
+            None => None,
+            Some(w) => {
+                let ctx = w.ctx;
+                match w.message {
+                    None => self.give(ctx),
+                    Some(m) => Some(self.send(ctx, m, out)),
+                }
+            }
+        }
+    }
+
+    fn lost(&mut self, op: OpName) -> Option<Message> {
+        match take(&mut self.waiting, op) {
+            None => None,
+            Some(w) => {
+                if !self.raw && !w.is_orphan {
+                    let _ = take_live(&mut self.live, w.ctx);
+                    leave_behind(&mut self.waiting, w.ctx);
+                }
+                w.message
+            }
+        }
+    }
+
+    fn clock(&mut self, now: Tick) {
+        self.tick = now;
+        wet(&mut self.seats);
+    }
+
+    fn open_ctx(&mut self, c: Ctx) -> Result<(), NoMemory> {
+        match self.seats.push(Seat {
+            ctx: c,
+            is_dry: false,
+        }) {
+            Ok(()) => Ok(()),
+            Err(_) => Err(NoMemory),
+        }
+    }
+
+    fn close_ctx(&mut self, c: Ctx) {
+        let _ = take_live(&mut self.live, c);
+        self.seats.retain(|s| s.ctx.0 != c.0);
+    }
+
+    fn topic(&mut self, c: Ctx, t: &[u8], on: bool) -> Result<bool, NoMemory> {
+        let _ = c;
+        let _ = t;
+        let _ = on;
+        Ok(false)
+    }
+
+    fn close(&mut self) {
+        self.live.clear();
+        self.kept.clear();
+    }
+}
