@@ -156,7 +156,10 @@ fn a_cancelled_receive_leaves_the_frame_for_the_next(rt: HostRuntime) {
     assert!(rt; is_received(first.collect(&rt, &socket), b"x"));
     assert!(rt; is_gone(first.collect(&rt, &socket), Cause::Cancelled, 2));
     give_back(&rt, &socket, &mut list, second);
-    assert_eq!(rt; give_back(&rt, &socket, &mut list, first), totals(2, 1, 1, 1));
+    assert_eq!(rt;
+        give_back(&rt, &socket, &mut list, first),
+        totals(2, 1, 1, 1)
+    );
     assert_eq!(rt; finish(&rt, alloc, socket, list).len(), 1);
 }
 
@@ -188,9 +191,15 @@ fn a_receive_times_out_at_its_deadline(rt: HostRuntime) {
     let mut first = next(&rt, alloc, &socket, &mut list);
     let a = begun(&rt, first.begin_recv(&rt, &socket, Ctx(0), Some(Tick(100))));
     assert_eq!(rt; first.poll(&socket, a), Polled::Pending);
-    assert_eq!(rt; second.tick(&rt, &socket, Tick(99)), Ticked { won: 0, lost: 0 });
+    assert_eq!(rt;
+        second.tick(&rt, &socket, Tick(99)),
+        Ticked { won: 0, lost: 0 }
+    );
     assert!(rt; first.collect(&rt, &socket).is_none());
-    assert_eq!(rt; second.tick(&rt, &socket, Tick(100)), Ticked { won: 1, lost: 0 });
+    assert_eq!(rt;
+        second.tick(&rt, &socket, Tick(100)),
+        Ticked { won: 1, lost: 0 }
+    );
     let expired = Raced::Ended {
         phase: Phase::Expired,
         by: 2,
@@ -198,7 +207,10 @@ fn a_receive_times_out_at_its_deadline(rt: HostRuntime) {
     assert_eq!(rt; first.cancel(&socket, a), expired);
     assert!(rt; is_gone(first.collect(&rt, &socket), Cause::TimedOut, 2));
     give_back(&rt, &socket, &mut list, first);
-    assert_eq!(rt; give_back(&rt, &socket, &mut list, second), totals(1, 0, 1, 0));
+    assert_eq!(rt;
+        give_back(&rt, &socket, &mut list, second),
+        totals(1, 0, 1, 0)
+    );
     assert_eq!(rt; finish(&rt, alloc, socket, list).len(), 0);
 }
 
@@ -211,7 +223,10 @@ fn a_tick_loses_what_was_cancelled(rt: HostRuntime) {
     let a = begun(&rt, first.begin_recv(&rt, &socket, Ctx(0), Some(Tick(7))));
     begun(&rt, first.begin_recv(&rt, &socket, Ctx(0), Some(Tick(7))));
     assert_eq!(rt; first.cancel(&socket, a), Raced::Won);
-    assert_eq!(rt; first.tick(&rt, &socket, Tick(7)), Ticked { won: 1, lost: 1 });
+    assert_eq!(rt;
+        first.tick(&rt, &socket, Tick(7)),
+        Ticked { won: 1, lost: 1 }
+    );
     assert!(rt; is_gone(first.collect(&rt, &socket), Cause::TimedOut, 1));
     assert!(rt; is_gone(first.collect(&rt, &socket), Cause::Cancelled, 1));
     give_back(&rt, &socket, &mut list, first);
@@ -231,7 +246,11 @@ fn close_ends_what_is_pending_once(rt: HostRuntime) {
     assert!(rt; is_gone(first.collect(&rt, &socket), Cause::Closed, 0));
     assert!(rt; is_gone(first.collect(&rt, &socket), Cause::Closed, 0));
     assert!(rt; is_gone(first.collect(&rt, &socket), Cause::Closed, 0));
-    assert!(rt; second.attach(&rt, &socket, counting(&rt, alloc, 0)).is_err());
+    assert!(rt;
+        second
+            .attach(&rt, &socket, counting(&rt, alloc, 0))
+            .is_err()
+    );
     assert_eq!(rt; first.close(&rt, &socket), totals(3, 0, 3, 0));
     assert!(rt; second.take_ended(&rt, &socket).is_some());
     give_back(&rt, &socket, &mut list, first);
@@ -301,7 +320,10 @@ fn slots_and_callers_have_bounds(rt: HostRuntime) {
     let last = next(&rt, alloc, &socket, &mut list);
     assert_eq!(rt; last.pass.number(), 64);
     assert!(rt; !list.is_full());
-    assert_eq!(rt; give_back(&rt, &socket, &mut list, last), totals(0, 0, 0, 0));
+    assert_eq!(rt;
+        give_back(&rt, &socket, &mut list, last),
+        totals(0, 0, 0, 0)
+    );
     assert!(rt; list.is_full());
     finish(&rt, alloc, socket, list);
 }
@@ -370,8 +392,14 @@ fn two_threads_begin_serve_collect_and_close(rt: HostRuntime) {
     let mut first = next(&rt, alloc, &socket, &mut list);
     assert!(rt; first.attach(&rt, &socket, counting(&rt, alloc, 32)).is_ok());
     receive_in_two(&rt, &socket, &mut first, &mut second, 16);
-    assert_eq!(rt; give_back(&rt, &socket, &mut list, first), totals(32, 32, 0, 32));
-    assert_eq!(rt; give_back(&rt, &socket, &mut list, second), totals(32, 32, 0, 32));
+    assert_eq!(rt;
+        give_back(&rt, &socket, &mut list, first),
+        totals(32, 32, 0, 32)
+    );
+    assert_eq!(rt;
+        give_back(&rt, &socket, &mut list, second),
+        totals(32, 32, 0, 32)
+    );
     assert_eq!(rt; finish(&rt, alloc, socket, list).len(), 1);
 }
 
@@ -410,13 +438,32 @@ fn four_threads_race_for_the_lock(rt: HostRuntime) {
     let mut third = next(&rt, alloc, &socket, &mut list);
     let mut second = next(&rt, alloc, &socket, &mut list);
     let mut first = next(&rt, alloc, &socket, &mut list);
-    assert!(rt; first.attach(&rt, &socket, counting(&rt, alloc, 100)).is_ok());
-    assert!(rt; second.attach(&rt, &socket, counting(&rt, alloc, 100)).is_ok());
-    receive_in_four(&rt, &socket, &mut first, &mut second, &mut third, &mut fourth, 50);
+    assert!(rt;
+        first
+            .attach(&rt, &socket, counting(&rt, alloc, 100))
+            .is_ok()
+    );
+    assert!(rt;
+        second
+            .attach(&rt, &socket, counting(&rt, alloc, 100))
+            .is_ok()
+    );
+    receive_in_four(
+        &rt,
+        &socket,
+        &mut first,
+        &mut second,
+        &mut third,
+        &mut fourth,
+        50,
+    );
     give_back(&rt, &socket, &mut list, first);
     give_back(&rt, &socket, &mut list, second);
     give_back(&rt, &socket, &mut list, third);
-    assert_eq!(rt; give_back(&rt, &socket, &mut list, fourth), totals(200, 200, 0, 200));
+    assert_eq!(rt;
+        give_back(&rt, &socket, &mut list, fourth),
+        totals(200, 200, 0, 200)
+    );
     assert_eq!(rt; finish(&rt, alloc, socket, list).len(), 2);
 }
 
@@ -557,7 +604,9 @@ fn many_receives_are_raced(rt: HostRuntime) {
     let (cancelled, expired) = race(&rt, &socket, &mut second, &mut third, &mut fourth, &names);
     let rest = cancel_all(&socket, &mut first, &names);
     let received = received_of(&rt, &socket, &mut first, 64);
-    let ended = received.saturating_add(cancelled).saturating_add(expired as u64);
+    let ended = received
+        .saturating_add(cancelled)
+        .saturating_add(expired as u64);
     assert_eq!(rt; ended.saturating_add(rest), 64);
     give_back(&rt, &socket, &mut list, second);
     give_back(&rt, &socket, &mut list, third);
