@@ -143,16 +143,124 @@ def ours_to_theirs():
     run = start("--push", "--dial", address(port), "--data", "hello", "--count", "1")
     out, _ = pull.communicate(timeout=60)
     run.communicate(timeout=60)
+    return out.strip() == b"hello" and run.returncode == 0, f"{out!r}, status {run.returncode}"
+
+
+def slow_peer():
+    """A peer that reads slowly gets all that was pushed."""
+    port = free_port()
+    body = "x" * 60000
+    run = start("--push", "--listen", address(port), "--data", body, "--count", "50")
+    peer = connect(port)
+    peer.sendall(greeting(PULL))
+    wanted = len(greeting(PUSH)) + 50 * (8 + len(body))
+    parts, came = [], 0
+    while came < wanted:
+        time.sleep(0.002)
+        piece = peer.recv(50000)
+        if not piece:
+            break
+        parts.append(piece)
+        came += len(piece)
+    run.communicate(timeout=60)
+    peer.close()
+    right = b"".join(parts) == greeting(PUSH) + frame(body.encode()) * 50
+    return right and run.returncode == 0, f"{came} of {wanted} bytes, status {run.returncode}"
+
+
+def peer_that_comes_back():
+    """A peer that is dialed dies within its greeting and again within a message, and comes back."""
+    port = free_port()
+    with socket.socket() as listener:
+        listener.setsockopt(socket.SOL_SOCKET, socket.SO_REUSEADDR, 1)
+        listener.bind(("127.0.0.1", port))
+        listener.listen(8)
+        run = start("--pull", "--dial", address(port), "--ascii", "--count", "1")
+        for text in (b"\0SP", greeting(PUSH) + (9).to_bytes(8, "big") + b"abc"):
+            peer, _ = listener.accept()
+            peer.sendall(text)
+            peer.close()
+        peer, _ = listener.accept()
+        peer.sendall(greeting(PUSH) + frame(b"again"))
+        out, _ = run.communicate(timeout=60)
+        peer.close()
+    return out == b"again\n" and run.returncode == 0, f"{out!r}, status {run.returncode}"
+
+
+def four_of_theirs():
+    """Four of Debian's nngcat push at once."""
+    port = free_port()
+    run = start("--pull", "--listen", address(port), "--ascii", "--count", "4")
+    connect(port).close()
+    peers = [subprocess.Popen([THEIRS, "--push", "--dial", address(port), "--data", f"hello{n}"]) for n in range(4)]
+    out, _ = run.communicate(timeout=60)
+    for peer in peers:
+        peer.wait(timeout=60)
+    lines = sorted(out.splitlines())
+    return lines == [b"hello%d" % n for n in range(4)] and run.returncode == 0, f"{out!r}, status {run.returncode}"
+
+
+def theirs_is_dialed():
+    """Our pull dials Debian's push."""
+    port = free_port()
+    push = subprocess.Popen([THEIRS, "--push", "--listen", address(port), "--data", "hello"])
+    run = start("--pull", "--dial", address(port), "--ascii", "--count", "1")
+    out, _ = run.communicate(timeout=60)
+    push.wait(timeout=60)
     return out == b"hello\n" and run.returncode == 0, f"{out!r}, status {run.returncode}"
+
+
+def replies_to_theirs():
+    """Debian's requester gets our reply."""
+    port = free_port()
+    run = start("--rep", "--listen", address(port), "--ascii", "--data", "pong", "--count", "1")
+    connect(port).close()
+    asked = subprocess.run([THEIRS, "--req", "--dial", address(port), "--data", "ping", "--ascii", "--count", "1"],
+                           stdout=subprocess.PIPE, timeout=60)
+    out, _ = run.communicate(timeout=60)
+    right = out == b"ping\n" and asked.stdout.strip() == b"pong"
+    return right and run.returncode == 0, f"{out!r}, {asked.stdout!r}, status {run.returncode}"
+
+
+def answers_theirs():
+    """Debian's surveyor gets our answer."""
+    port = free_port()
+    run = start("--respondent", "--listen", address(port), "--ascii", "--data", "here", "--count", "1")
+    connect(port).close()
+    asked = subprocess.run([THEIRS, "--surveyor", "--dial", address(port), "--data", "who", "--ascii", "--count", "1",
+                            "--recv-timeout", "1"], stdout=subprocess.PIPE, timeout=60)
+    out, _ = run.communicate(timeout=60)
+    right = out == b"who\n" and asked.stdout.strip() == b"here"
+    return right and run.returncode == 0, f"{out!r}, {asked.stdout!r}, status {run.returncode}"
+
+
+def pairs_with_theirs():
+    """A pair of Debian's and ours, in both directions."""
+    port = free_port()
+    run = start("--pair", "--listen", address(port), "--ascii", "--count", "1")
+    connect(port).close()
+    sender = subprocess.Popen([THEIRS, "--pair0", "--dial", address(port), "--data", "hello"])
+    out, _ = run.communicate(timeout=60)
+    sender.kill()
+    sender.wait()
+    other = free_port()
+    theirs = subprocess.Popen([THEIRS, "--pair0", "--listen", address(other), "--ascii", "--count", "1"],
+                              stdout=subprocess.PIPE)
+    back = start("--pair", "--dial", address(other), "--data", "hi", "--count", "1")
+    came, _ = theirs.communicate(timeout=60)
+    back.communicate(timeout=60)
+    right = out == b"hello\n" and came.strip() == b"hi"
+    return right and run.returncode == 0 and back.returncode == 0, f"{out!r}, {came!r}"
 
 
 def main():
     if not os.access(OURS, os.X_OK):
         print("skipped: crates/nngcat/out/nngcat isn't built")
         return 0
-    checks = [broken_peers, slow_reader, many_links, many_messages]
+    checks = [broken_peers, slow_reader, slow_peer, peer_that_comes_back, many_links, many_messages]
     if THEIRS:
-        checks += [theirs_to_ours, ours_to_theirs]
+        checks += [theirs_to_ours, ours_to_theirs, four_of_theirs, theirs_is_dialed, replies_to_theirs, answers_theirs,
+                   pairs_with_theirs]
     else:
         print("skipped: no nngcat of nng is installed")
     wanted = sys.argv[1:]

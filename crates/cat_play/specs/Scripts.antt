@@ -16,6 +16,7 @@ use Rattle.sp_history.specs.declared.setting.Setting.{Setting}
 use Rattle.sp_history.specs.Lists.{same_op}
 use Rattle.sp_history.specs.Past.{now, is_closed}
 use Rattle.sp_history.specs.Legal.{is_state}
+use Rattle.sp_history.specs.Found.{act_of, end_of}
 use Rattle.cat_play.specs.Plans.{Play}
 use Rattle.cat_text.specs.Printing.{print}
 
@@ -44,18 +45,6 @@ under_way [] = None
 under_way (Begin op k c act d ∷ past) = Some op
 under_way (Took op k ∷ past) = None
 under_way (_ ∷ past) = under_way past
-
--- what the operation was begun to do
-abbrev pub act_of : List Entry → OpName → Option Act
-act_of [] op = None
-act_of (Begin other k c act d ∷ past) op = if same_op other op then Some act else act_of past op
-act_of (_ ∷ past) op = act_of past op
-
--- how the operation ended
-abbrev pub end_of : List Entry → OpName → Option Ending
-end_of [] op = None
-end_of (End other ending ∷ past) op = if same_op other op then Some ending else end_of past op
-end_of (_ ∷ past) op = end_of past op
 
 -- how the operation ended that was collected last
 abbrev pub last_result : List Entry → Option Ending

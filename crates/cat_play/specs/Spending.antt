@@ -16,6 +16,7 @@ use Rattle.sp_history.specs.Past.{past_of, frames}
 use Rattle.sp_history.specs.Swept.{is_quiet, frame_count}
 use Rattle.cat_text.specs.declared.plan.End.{End}
 use Rattle.cat_text.specs.declared.plan.End.TheVariants as ends
+use Rattle.sp_history.specs.Found.{ticks, before_last_tick}
 use Rattle.cat_play.specs.Plans.{Play}
 use Rattle.cat_play.specs.Scripts.{over}
 use Rattle.cat_play.specs.Recording.{greeting, place_of, IsBack, HoldsAll}
@@ -25,18 +26,6 @@ abbrev pub CanRise : ℕ → Type 0
 CanRise n = n < 2 ^ 64 - 1
 
 -- ---- Ticks
-
--- the ticks, in order
-abbrev pub ticks : List Entry → List ℕ
-ticks [] = []
-ticks (Tick t due ∷ past) = ticks past ++ t ∷ []
-ticks (_ ∷ past) = ticks past
-
--- what stands before the last tick
-abbrev pub before_last_tick : List Entry → List Entry
-before_last_tick [] = []
-before_last_tick (Tick t due ∷ past) = past
-before_last_tick (_ ∷ past) = before_last_tick past
 
 -- how many ticks came where this held
 abbrev pub ticks_where : (List Entry → Bool) → List Entry → ℕ
@@ -109,15 +98,6 @@ pub record AreTries (past : List Entry) (tries : List ℕ) : Type 0 where
   pub thinned : IsThinned tries (ticks (before_last_tick past))
   pub apart : AreApart tries
   pub longest : (others : List ℕ) → IsThinned others (ticks (before_last_tick past)) → AreApart others → length others ≤ length tries
-
--- each is at least as great as those before it
-abbrev pub IsLeast : ℕ → List ℕ → Type 0
-IsLeast x [] = ⊤
-IsLeast x (y ∷ ys) = (x ≤ y) × IsLeast x ys
-
-abbrev pub AreOrdered : List ℕ → Type 0
-AreOrdered [] = ⊤
-AreOrdered (x ∷ xs) = IsLeast x xs × AreOrdered xs
 
 -- the first tick from this number on, and then each that is at least 100 above the one before: a longest list, of ticks
 -- that are in order

@@ -18,11 +18,12 @@ ghost use Rattle.cat_play.specs.declared.ends.Status.{Status};
 ghost use Rattle.cat_text.specs.declared.plan.CatPlan.{CatPlan};
 ghost use Rattle.cat_play.specs.Running.{World, EndedFor, UnopenedFor, IsSpared, ComesToEnd};
 ghost use Rattle.cat_play.specs.Plans.{Play};
+ghost use Rattle.sp_history.specs.Found.{AreOrdered, ticks, before_last_tick};
 ghost use Rattle.cat_play.specs.Playing.{PlaysSoFar, Plays, past_under, is_left, is_send, waits_for_pipe, is_tick, was_swept};
 ghost use Rattle.cat_play.specs.Rules.{broken};
-ghost use Rattle.cat_play.specs.Scripts.{open_part, has_ticked, under_way, last_result, counted, texts, over, end_of};
-ghost use Rattle.cat_play.specs.Spending.{AreOrdered, AreTries, spaced_from, ticks, before_last_tick};
-ghost use Rattle.cat_play.specs.Steps.{until_close, moves_play, moves_surveys, GoesOn, MayPlay, HasOne};
+ghost use Rattle.cat_play.specs.Scripts.{open_part, has_ticked, under_way, last_result, counted, texts, over};
+ghost use Rattle.cat_play.specs.Spending.{AreTries, spaced_from};
+ghost use Rattle.cat_play.specs.Steps.{until_close, moves_play, GoesOn, MayPlay, HasOne};
 
 /// A play goes on with a turn that does, and the turns after the close add nothing to what is read of it.
 pub fn a_turn_goes_on()
@@ -53,21 +54,6 @@ pub fn turns_that_go_on()
 pub fn a_play_closes()
     ensures closing { (z : Setting) (play : Play) (h : List (Turn Entry)) (t : Turn Entry) (entries : List Entry) (totals : Totals) → t.entries ≡ entries ++ Close totals ∷ [] → none_of moves_play entries ≡ true → GoesOn z play h t }
     ensures closed { (z : Setting) (play : Play) (h : List (Turn Entry)) (t : Turn Entry) → is_closed (past_of h) ≡ true → PlaysSoFar z play h → list_any is_tick t.entries ≡ false → list_any is_send t.entries ≡ false → PlaysSoFar z play (h ++ t ∷ []) }
-{}
-
-/// Of a cooked surveyor: whether a survey is live on a context changes with the begin of a send, a tick, a context that is
-/// shut and the close alone; and where none is live, none is until a send is begun.
-pub fn a_survey_stays()
-    ensures gone { (z : Setting) → has_requests z ≡ true → is_req z.role ≡ false → (c : ℕ) (entries past : List Entry) → none_of is_send entries ≡ true → is_some (live_on z past c) ≡ false → is_some (live_on z (onto entries past) c) ≡ false }
-    ensures stays { (z : Setting) → has_requests z ≡ true → is_req z.role ≡ false → (c : ℕ) (entries past : List Entry) → none_of moves_surveys entries ≡ true → is_some (live_on z (onto entries past) c) ≡ is_some (live_on z past c) }
-{}
-
-/// An end that stands in a history is found there, where the operation ends once; and the ticks of a history whose entries
-/// were allowed are in order.
-pub fn what_stands_is_found()
-    ensures ends { (past : List Entry) (op : OpName) (ending : Ending) → Contains past (End op ending) → end_count past op ≤ 1 → end_of past op ≡ Some ending }
-    ensures ticks { (z : Setting) (past : List Entry) → AreAllowed z past → AreOrdered (ticks past) }
-    ensures earlier { (z : Setting) (past : List Entry) → AreAllowed z past → AreOrdered (ticks (before_last_tick past)) }
 {}
 
 /// A record breaks no rule exactly where it is a play.

@@ -1,6 +1,8 @@
+//! A pull prints what its peers push.
 use crate::TURNS;
 use crate::play::{
-    HELLO_80, HELLO_81, SIX, between, followed, link_of, one, play, taking, trickle,
+    ALL, HELLO_80, HELLO_81, PULL, between, followed, incoming, link_of, one, over_one, play,
+    taking, trickle,
 };
 use cat_run::Status;
 use sp_fakes::LinkStep;
@@ -16,6 +18,7 @@ fn prints_one_message_that_came_over_one_link(rt: HostRuntime) -> Result<(), Fai
         false,
     )?;
     assert_eq!(rt; came.status, Status::Done);
+    assert!(rt; came.has_record);
     assert_eq!(rt; came.printed.as_slice(), b"hello\n".as_slice());
     assert_eq!(rt; came.written.as_slice(), HELLO_81);
     Ok(())
@@ -31,14 +34,7 @@ fn an_empty_message_prints_an_empty_line(rt: HostRuntime) -> Result<(), Fail> {
 
 #[test]
 fn bytes_that_come_one_at_a_time_print_the_same(rt: HostRuntime) -> Result<(), Fail> {
-    let came = one(
-        &rt,
-        &[
-            b"\x00", b"S", b"P", b"\x00", b"\x00", b"\x50", b"\x00", b"\x00", b"\x00", b"\x00",
-            b"\x00", b"\x00", b"\x00", b"\x00", b"\x00", b"\x05", b"h", b"e", b"l", b"l", b"o",
-        ],
-        false,
-    )?;
+    let came = over_one(&rt, PULL, trickle(rt.alloc(), &[HELLO_80, HELLO_FRAME])?)?;
     assert_eq!(rt; came.status, Status::Done);
     assert_eq!(rt; came.printed.as_slice(), b"hello\n".as_slice());
     assert_eq!(rt; came.written.as_slice(), HELLO_81);
@@ -47,13 +43,9 @@ fn bytes_that_come_one_at_a_time_print_the_same(rt: HostRuntime) -> Result<(), F
 
 #[test]
 fn a_link_that_stops_in_its_greeting_holds_nobody_up(rt: HostRuntime) -> Result<(), Fail> {
-    let alloc = rt.alloc();
-    let mut links = Vec::new(alloc);
-    links.push(link_of(alloc, &[b"\x00SQ"], false, 1_000_000)?)?;
-    links.push(link_of(alloc, &[HELLO_80, HELLO_FRAME], false, 1_000_000)?)?;
-    let came = play(&rt, SIX, links, Vec::new(alloc), Vec::new(alloc), TURNS)?;
+    let came = followed(&rt, link_of(rt.alloc(), &[b"\x00SQ"], false, ALL)?)?;
     assert_eq!(rt; came.status, Status::Done);
-    assert_eq!(rt; came.printed.as_slice(), b"hello\n".as_slice());
+    assert_eq!(rt; came.printed.as_slice(), b"later\n".as_slice());
     assert_eq!(rt; came.written.as_slice(), HELLO_81);
     assert_eq!(rt; came.second.as_slice(), HELLO_81);
     assert_eq!(rt; came.opened, 2);
@@ -135,25 +127,21 @@ fn a_link_may_take_little_at_a_time(rt: HostRuntime) -> Result<(), Fail> {
 
 #[test]
 fn a_link_that_pauses_is_read_on(rt: HostRuntime) -> Result<(), Fail> {
-    let alloc = rt.alloc();
-    let mut links = Vec::new(alloc);
-    links.push(between(alloc, HELLO_80, LinkStep::NotYet, HELLO_FRAME)?)?;
-    let came = play(&rt, SIX, links, Vec::new(alloc), Vec::new(alloc), TURNS)?;
+    let link = between(rt.alloc(), HELLO_80, LinkStep::NotYet, HELLO_FRAME)?;
+    let came = over_one(&rt, PULL, link)?;
     assert_eq!(rt; came.status, Status::Done);
     assert_eq!(rt; came.printed.as_slice(), b"hello\n".as_slice());
     assert_eq!(rt; came.written.as_slice(), HELLO_81);
-    assert_eq!(rt; came.left, TURNS - 2);
     Ok(())
 }
 
 #[test]
 fn a_link_that_ended_is_followed_by_the_next(rt: HostRuntime) -> Result<(), Fail> {
-    let came = followed(&rt, link_of(rt.alloc(), &[HELLO_80], true, 1_000_000)?)?;
+    let came = followed(&rt, link_of(rt.alloc(), &[HELLO_80], true, ALL)?)?;
     assert_eq!(rt; came.status, Status::Done);
     assert_eq!(rt; came.printed.as_slice(), b"later\n".as_slice());
     assert_eq!(rt; came.written.as_slice(), HELLO_81);
     assert_eq!(rt; came.second.as_slice(), HELLO_81);
-    assert_eq!(rt; came.left, TURNS - 2);
     Ok(())
 }
 
@@ -163,68 +151,58 @@ fn a_link_that_failed_is_followed_by_the_next(rt: HostRuntime) -> Result<(), Fai
     let came = followed(&rt, first)?;
     assert_eq!(rt; came.status, Status::Done);
     assert_eq!(rt; came.printed.as_slice(), b"later\n".as_slice());
-    assert_eq!(rt; came.written.as_slice(), HELLO_81);
     assert_eq!(rt; came.second.as_slice(), HELLO_81);
-    assert_eq!(rt; came.left, TURNS - 2);
     Ok(())
 }
 
 #[test]
 fn a_link_with_an_oversize_is_followed_by_the_next(rt: HostRuntime) -> Result<(), Fail> {
     let above = b"\x00\x00\x00\x00\x00\x10\x00\x01";
-    let first = link_of(rt.alloc(), &[HELLO_80, above, b"x"], false, 1_000_000)?;
+    let first = link_of(rt.alloc(), &[HELLO_80, above, b"x"], false, ALL)?;
     let came = followed(&rt, first)?;
     assert_eq!(rt; came.status, Status::Done);
     assert_eq!(rt; came.printed.as_slice(), b"later\n".as_slice());
-    assert_eq!(rt; came.written.as_slice(), HELLO_81);
     assert_eq!(rt; came.second.as_slice(), HELLO_81);
-    assert_eq!(rt; came.left, TURNS - 2);
     Ok(())
 }
 
 #[test]
-fn a_link_that_comes_while_one_is_held_is_given_back_unread(rt: HostRuntime) -> Result<(), Fail> {
-    let first = between(rt.alloc(), HELLO_80, LinkStep::NotYet, HELLO_FRAME)?;
-    let came = followed(&rt, first)?;
-    assert_eq!(rt; came.status, Status::Done);
-    assert_eq!(rt; came.printed.as_slice(), b"hello\n".as_slice());
-    assert_eq!(rt; came.written.as_slice(), HELLO_81);
-    assert_eq!(rt; came.opened, 2);
-    assert_eq!(rt; came.second.len(), 0);
-    assert_eq!(rt; came.left, TURNS - 2);
-    Ok(())
-}
-
-// A greeting, a size and a body are so many bytes, and each is a read.
-#[test]
-fn a_round_has_64_reads(rt: HostRuntime) -> Result<(), Fail> {
-    const FORTY_EIGHT: &[u8] = b"a body of forty-eight bytes, all of them visible";
+fn two_links_are_served_at_once(rt: HostRuntime) -> Result<(), Fail> {
     let alloc = rt.alloc();
     let mut links = Vec::new(alloc);
-    links.push(trickle(
+    links.push(between(alloc, HELLO_80, LinkStep::NotYet, HELLO_FRAME)?)?;
+    links.push(link_of(
         alloc,
-        &[HELLO_80, b"\x00\x00\x00\x00\x00\x00\x00\x30", FORTY_EIGHT],
+        &[HELLO_80, b"\x00\x00\x00\x00\x00\x00\x00\x05later"],
+        false,
+        ALL,
     )?)?;
-    let came = play(&rt, SIX, links, Vec::new(alloc), Vec::new(alloc), TURNS)?;
+    const TWO: &[&str] = &[
+        "--pull",
+        "--listen",
+        "tcp://127.0.0.1:5555",
+        "--ascii",
+        "--count",
+        "2",
+    ];
+    let came = play(&rt, TWO, incoming(alloc, links)?)?;
     assert_eq!(rt; came.status, Status::Done);
-    assert_eq!(rt; came.printed.len(), 49);
-    assert_eq!(rt; came.left, TURNS - 1);
+    assert_eq!(rt; came.printed.as_slice(), b"hello\nlater\n".as_slice());
+    assert_eq!(rt; came.written.as_slice(), HELLO_81);
+    assert_eq!(rt; came.second.as_slice(), HELLO_81);
+    Ok(())
+}
+
+#[test]
+fn a_greeting_that_never_comes_is_given_up(rt: HostRuntime) -> Result<(), Fail> {
+    let alloc = rt.alloc();
     let mut links = Vec::new(alloc);
-    links.push(trickle(
-        alloc,
-        &[
-            HELLO_80,
-            b"\x00\x00\x00\x00\x00\x00\x00\x31",
-            FORTY_EIGHT,
-            b"!",
-        ],
-    )?)?;
-    let came = play(&rt, SIX, links, Vec::new(alloc), Vec::new(alloc), TURNS)?;
-    assert_eq!(rt; came.status, Status::Done);
-    assert_eq!(rt;
-        came.printed.as_slice(),
-        b"a body of forty-eight bytes, all of them visible!\n".as_slice()
-    );
-    assert_eq!(rt; came.left, TURNS - 2);
+    links.push(link_of(alloc, &[b"\x00SP"], false, ALL)?)?;
+    let mut outside = incoming(alloc, links)?;
+    outside.step = 100;
+    let came = play(&rt, PULL, outside)?;
+    assert_eq!(rt; came.status, Status::Over);
+    assert_eq!(rt; came.opened, 1);
+    assert_eq!(rt; came.written.as_slice(), HELLO_81);
     Ok(())
 }

@@ -19,6 +19,8 @@ mod play;
 mod real;
 #[cfg(test)]
 mod refusals;
+#[cfg(test)]
+mod roles;
 
 /// How many turns the pace of a test has, a millisecond apart.
 pub const TURNS: u64 = 200;

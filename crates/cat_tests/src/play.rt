@@ -1,13 +1,14 @@
 //! What the tests run, and what they compare.
-ghost use Rattle.std.specs.Prelude.{◌≡◌, ◌≤◌, ◌+◌, IfOk};
+ghost use Rattle.std.specs.Prelude.{◌≡◌, IfOk};
 ghost use Rattle.sp_base.specs.declared.addr.Scheme.TheVariants as schemes;
 ghost use Rattle.sp_fakes.specs.MemLinks.{link_view, unread_at};
 
 use crate::TURNS;
 use cat_run::{Status, run};
-use sp_base::{Bytes, NoMemory};
+use sp_base::{Addr, Bytes, Host, NoMemory};
 use sp_fakes::{LinkStep, MemFiles, MemLink, MemNet, MemPace, MemSink};
 use std::alloc::Global;
+use std::sync::Wait;
 
 /// The greeting of a push socket.
 pub const HELLO_80: &[u8] = b"\x00SP\x00\x00\x50\x00\x00";
@@ -15,8 +16,8 @@ pub const HELLO_80: &[u8] = b"\x00SP\x00\x00\x50\x00\x00";
 /// The greeting of a pull socket.
 pub const HELLO_81: &[u8] = b"\x00SP\x00\x00\x51\x00\x00";
 
-/// The six words, for one message.
-pub const SIX: &[&str] = &[
+/// A pull that prints one message.
+pub const PULL: &[&str] = &[
     "--pull",
     "--listen",
     "tcp://127.0.0.1:5555",
@@ -25,7 +26,10 @@ pub const SIX: &[&str] = &[
     "1",
 ];
 
-/// A link that gives these pieces, and then nothing for ever, or the end.
+/// Takes all that is written at once.
+pub const ALL: usize = 1_000_000;
+
+/// A link that gives these pieces, and then nothing for ever, or the end; it takes so many bytes at a write.
 pub fn link_of(
     alloc: Global,
     pieces: &[&[u8]],
@@ -54,7 +58,7 @@ pub fn trickle(alloc: Global, texts: &[&[u8]]) -> Result<MemLink, NoMemory>
             script.push(LinkStep::Bytes(Bytes::from_slice(alloc, &[*byte])?))?;
         }
     }
-    Ok(MemLink::new(alloc, script, 1_000_000, Vec::new(alloc)))
+    Ok(MemLink::new(alloc, script, ALL, Vec::new(alloc)))
 }
 
 /// A link that gives a piece, then this step, then another piece.
@@ -70,7 +74,7 @@ pub fn between(
     script.push(LinkStep::Bytes(Bytes::from_slice(alloc, piece)?))?;
     script.push(step)?;
     script.push(LinkStep::Bytes(Bytes::from_slice(alloc, more)?))?;
-    Ok(MemLink::new(alloc, script, 1_000_000, Vec::new(alloc)))
+    Ok(MemLink::new(alloc, script, ALL, Vec::new(alloc)))
 }
 
 /// The words of a list.
@@ -82,11 +86,56 @@ pub fn words(alloc: Global, texts: &[&str]) -> Result<Vec<String>, NoMemory> {
     Ok(list)
 }
 
-/// What a run came to: its status, what was printed, what was written on the first link and on the second, how many
-/// links were handed out, and how many turns are left.
+/// What is outside of a run: the links that come at its listens and those that its dials get, one list for each; which
+/// calls of the net and of the sink fail; how many turns the pace has, and how many milliseconds apart.
+#[derive(Drop)]
+pub struct Outside {
+    pub incoming: Vec<Vec<MemLink>>,
+    pub outgoing: Vec<(Addr, Vec<MemLink>)>,
+    pub net_fails: Vec<u64>,
+    pub sink_fails: Vec<u64>,
+    pub turns: u64,
+    pub step: u64,
+}
+
+/// These links come at the first listen; nothing fails.
+pub fn incoming(alloc: Global, links: Vec<MemLink>) -> Result<Outside, NoMemory> {
+    let mut incoming = Vec::new(alloc);
+    incoming.push(links)?;
+    Ok(Outside {
+        incoming,
+        outgoing: Vec::new(alloc),
+        net_fails: Vec::new(alloc),
+        sink_fails: Vec::new(alloc),
+        turns: TURNS,
+        step: 1,
+    })
+}
+
+/// Dials to port 5555 of this machine get these links; nothing fails.
+pub fn outgoing(alloc: Global, links: Vec<MemLink>) -> Result<Outside, NoMemory> {
+    let addr = Addr::Tcp {
+        host: Host::V4(127, 0, 0, 1),
+        port: 5555,
+    };
+    let mut outgoing = Vec::new(alloc);
+    outgoing.push((addr, links))?;
+    Ok(Outside {
+        incoming: Vec::new(alloc),
+        outgoing,
+        net_fails: Vec::new(alloc),
+        sink_fails: Vec::new(alloc),
+        turns: TURNS,
+        step: 1,
+    })
+}
+
+/// What a run came to: its status, whether it has a record, what was printed, what was written on the first link and on
+/// the second, how many links were handed out, and how many turns are left.
 #[derive(Drop)]
 pub struct Came {
     pub status: Status,
+    pub has_record: bool,
     pub printed: Vec<u8>,
     pub written: Vec<u8>,
     pub second: Vec<u8>,
@@ -102,31 +151,37 @@ fn written_on(alloc: Global, net: &MemNet, place: u32) -> Result<Vec<u8>, NoMemo
     }
 }
 
-/// Runs the words over these links; the calls with these numbers fail.
-pub fn play<R: AllocGlobal>(
+/// Runs the words. The file `letter` holds `dear all`.
+pub fn play<R: AllocGlobal + Wait>(
     rt: &R,
     texts: &[&str],
-    links: Vec<MemLink>,
-    net_fails: Vec<u64>,
-    sink_fails: Vec<u64>,
-    turns: u64,
-) -> Result<Came, NoMemory>
-    ensures spent { IfOk result (λ came. came.opened + came.left ≤ turns) }
-    ensures over { IfOk result (λ came. came.status ≡ Status.Over → came.left ≡ 0) }
-{
+    outside: Outside,
+) -> Result<Came, NoMemory> {
     let alloc = rt.alloc();
     let list = words(alloc, texts)?;
-    let mut incoming = Vec::new(alloc);
-    incoming.push(links)?;
-    let mut net = MemNet::new(alloc, incoming, Vec::new(alloc), net_fails)?;
-    let mut files = MemFiles::new(alloc, Vec::new(alloc), Vec::new(alloc));
-    let mut pace = MemPace::new(turns, 1);
+    let mut pairs = Vec::new(alloc);
+    pairs.push((
+        String::from_str(alloc, "letter")?,
+        Bytes::from_slice(alloc, b"dear all")?,
+    ))?;
+    let mut files = MemFiles::new(alloc, pairs, Vec::new(alloc));
+    let Outside {
+        incoming,
+        outgoing,
+        net_fails,
+        sink_fails,
+        turns,
+        step,
+    } = outside;
+    let mut net = MemNet::new(alloc, incoming, outgoing, net_fails)?;
+    let mut pace = MemPace::new(turns, step);
     let mut out = MemSink::new(alloc, sink_fails);
     let end = run(rt, &list, &mut net, &mut files, &mut pace, &mut out, 0);
     let written = written_on(alloc, &net, 0)?;
     let second = written_on(alloc, &net, 1)?;
     Ok(Came {
         status: end.status,
+        has_record: end.record_.is_some(),
         printed: Vec::from_slice(alloc, out.text())?,
         written,
         second,
@@ -135,35 +190,35 @@ pub fn play<R: AllocGlobal>(
     })
 }
 
-/// The six words over one link that takes any length.
-pub fn one<R: AllocGlobal>(rt: &R, pieces: &[&[u8]], ends: bool) -> Result<Came, NoMemory>
-    ensures spent { IfOk result (λ came. came.opened + came.left ≤ TURNS) }
-    ensures over { IfOk result (λ came. came.status ≡ Status.Over → came.left ≡ 0) }
-{
-    taking(rt, pieces, ends, 1_000_000)
+/// A pull of one message over one link that takes any length.
+pub fn one<R: AllocGlobal + Wait>(rt: &R, pieces: &[&[u8]], ends: bool) -> Result<Came, NoMemory> {
+    taking(rt, pieces, ends, ALL)
 }
 
-/// The six words over one link that takes so many bytes at a write.
-pub fn taking<R: AllocGlobal>(
+/// A pull of one message over one link that takes so many bytes at a write.
+pub fn taking<R: AllocGlobal + Wait>(
     rt: &R,
     pieces: &[&[u8]],
     ends: bool,
     take: usize,
-) -> Result<Came, NoMemory>
-    ensures spent { IfOk result (λ came. came.opened + came.left ≤ TURNS) }
-    ensures over { IfOk result (λ came. came.status ≡ Status.Over → came.left ≡ 0) }
-{
-    let alloc = rt.alloc();
-    let mut links = Vec::new(alloc);
-    links.push(link_of(alloc, pieces, ends, take)?)?;
-    play(rt, SIX, links, Vec::new(alloc), Vec::new(alloc), TURNS)
+) -> Result<Came, NoMemory> {
+    over_one(rt, PULL, link_of(rt.alloc(), pieces, ends, take)?)
 }
 
-/// The six words over two links, the second of which gives a good greeting and the message `later`.
-pub fn followed<R: AllocGlobal>(rt: &R, first: MemLink) -> Result<Came, NoMemory>
-    ensures spent { IfOk result (λ came. came.opened + came.left ≤ TURNS) }
-    ensures over { IfOk result (λ came. came.status ≡ Status.Over → came.left ≡ 0) }
-{
+/// These words over one link that comes.
+pub fn over_one<R: AllocGlobal + Wait>(
+    rt: &R,
+    texts: &[&str],
+    link: MemLink,
+) -> Result<Came, NoMemory> {
+    let alloc = rt.alloc();
+    let mut links = Vec::new(alloc);
+    links.push(link)?;
+    play(rt, texts, incoming(alloc, links)?)
+}
+
+/// A pull of one message over two links, the second of which gives a good greeting and the message `later`.
+pub fn followed<R: AllocGlobal + Wait>(rt: &R, first: MemLink) -> Result<Came, NoMemory> {
     let alloc = rt.alloc();
     let mut links = Vec::new(alloc);
     links.push(first)?;
@@ -171,23 +226,13 @@ pub fn followed<R: AllocGlobal>(rt: &R, first: MemLink) -> Result<Came, NoMemory
         alloc,
         &[HELLO_80, b"\x00\x00\x00\x00\x00\x00\x00\x05later"],
         false,
-        1_000_000,
+        ALL,
     )?)?;
-    play(rt, SIX, links, Vec::new(alloc), Vec::new(alloc), TURNS)
+    play(rt, PULL, incoming(alloc, links)?)
 }
 
 /// The words over no link.
-pub fn unlinked<R: AllocGlobal>(rt: &R, texts: &[&str]) -> Result<Came, NoMemory>
-    ensures spent { IfOk result (λ came. came.opened + came.left ≤ TURNS) }
-    ensures over { IfOk result (λ came. came.status ≡ Status.Over → came.left ≡ 0) }
-{
+pub fn unlinked<R: AllocGlobal + Wait>(rt: &R, texts: &[&str]) -> Result<Came, NoMemory> {
     let alloc = rt.alloc();
-    play(
-        rt,
-        texts,
-        Vec::new(alloc),
-        Vec::new(alloc),
-        Vec::new(alloc),
-        TURNS,
-    )
+    play(rt, texts, incoming(alloc, Vec::new(alloc))?)
 }

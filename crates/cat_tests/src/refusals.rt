@@ -1,37 +1,34 @@
 ghost use Rattle.sp_fakes.specs.Nets.{net_view};
 
 use crate::TURNS;
-use crate::play::{HELLO_80, SIX, link_of, play, unlinked, words};
-use cat_run::{Status, complaint, run};
+use crate::play::{ALL, HELLO_80, Outside, PULL, incoming, link_of, play, unlinked, words};
+use cat_run::{Status, complaint, exit_code, run};
 use sp_base::{Addr, Bytes, Host, Link, Linked, Listened, Net, NoMemory};
 use sp_fakes::{MemFiles, MemNet, MemPace, MemSink, NetLink};
 use std::alloc::Global;
 use std::test::Fail;
 
 #[test]
-fn words_outside_the_six_are_refused_at_their_place(rt: HostRuntime) -> Result<(), Fail> {
+fn words_without_a_plan_are_refused_at_their_place(rt: HostRuntime) -> Result<(), Fail> {
     const A: &str = "tcp://127.0.0.1:5555";
     let wrong: &[(&[&str], u32)] = &[
         (&[], 0),
         (&["--help"], 0),
         (&["--pull"], 1),
-        (&["--pull", "--dial", A], 1),
         (&["--pull", "--listen", "tcp://256.0.0.1:1"], 2),
-        (&["--pull", "--listen", A, "--count", "1"], 3),
-        (&["--pull", "--listen", A, "--ascii", "--count", "0"], 5),
-        (&["--pull", "--listen", A, "--ascii", "--count", "01"], 5),
-        (
-            &["--pull", "--listen", A, "--ascii", "--count", "4294967296"],
-            5,
-        ),
-        (
-            &["--pull", "--listen", A, "--ascii", "--count", "1", "x"],
-            6,
-        ),
+        (&["--pull", "--listen", A, "--count", "01"], 4),
+        (&["--pull", "--listen", A, "--data", "x"], 3),
+        (&["--push", "--listen", A], 3),
+        (&["--push", "--listen", A, "--data"], 4),
+        // A plan of a role without a machine, and a drill.
+        (&["--pub", "--listen", A, "--data", "x"], 0),
+        (&["--drill", "5"], 0),
+        (&["--pull", "--listen", "inproc://a"], 0),
     ];
     for (texts, at) in wrong {
         let came = unlinked(&rt, texts)?;
         assert_eq!(rt; came.status, Status::Usage { at: *at });
+        assert!(rt; !came.has_record);
         assert_eq!(rt; came.left, TURNS);
     }
     Ok(())
@@ -40,48 +37,44 @@ fn words_outside_the_six_are_refused_at_their_place(rt: HostRuntime) -> Result<(
 #[test]
 fn a_failing_listen_ends_the_run(rt: HostRuntime) -> Result<(), Fail> {
     let alloc = rt.alloc();
-    let came = play(
-        &rt,
-        SIX,
-        Vec::new(alloc),
-        vec![in alloc; 0]?,
-        Vec::new(alloc),
-        TURNS,
-    )?;
+    let mut outside = incoming(alloc, Vec::new(alloc))?;
+    outside.net_fails.push(0)?;
+    let came = play(&rt, PULL, outside)?;
     assert_eq!(rt; came.status, Status::NetFault);
-    assert_eq!(rt; came.status.code(), 4);
+    assert_eq!(rt; exit_code(came.status), 4);
+    assert!(rt; came.has_record);
     assert_eq!(rt; came.left, TURNS);
     assert_eq!(rt; came.opened, 0);
     Ok(())
 }
 
-#[test]
-fn a_failing_output_ends_the_run(rt: HostRuntime) -> Result<(), Fail> {
-    let alloc = rt.alloc();
+// A link that gives `hello`.
+fn hello(alloc: Global) -> Result<Outside, NoMemory> {
     let mut links = Vec::new(alloc);
     links.push(link_of(
         alloc,
         &[HELLO_80, b"\x00\x00\x00\x00\x00\x00\x00\x05hello"],
         false,
-        1_000_000,
+        ALL,
     )?)?;
-    let came = play(&rt, SIX, links, Vec::new(alloc), vec![in alloc; 0]?, TURNS)?;
+    incoming(alloc, links)
+}
+
+#[test]
+fn a_failing_output_ends_the_run(rt: HostRuntime) -> Result<(), Fail> {
+    let mut outside = hello(rt.alloc())?;
+    outside.sink_fails.push(0)?;
+    let came = play(&rt, PULL, outside)?;
     assert_eq!(rt; came.status, Status::OutFault);
-    assert_eq!(rt; came.status.code(), 5);
+    assert_eq!(rt; exit_code(came.status), 5);
     Ok(())
 }
 
 #[test]
 fn one_message_is_one_put(rt: HostRuntime) -> Result<(), Fail> {
-    let alloc = rt.alloc();
-    let mut links = Vec::new(alloc);
-    links.push(link_of(
-        alloc,
-        &[HELLO_80, b"\x00\x00\x00\x00\x00\x00\x00\x05hello"],
-        false,
-        1_000_000,
-    )?)?;
-    let came = play(&rt, SIX, links, Vec::new(alloc), vec![in alloc; 1]?, TURNS)?;
+    let mut outside = hello(rt.alloc())?;
+    outside.sink_fails.push(1)?;
+    let came = play(&rt, PULL, outside)?;
     assert_eq!(rt; came.status, Status::Done);
     assert_eq!(rt; came.printed.as_slice(), b"hello\n".as_slice());
     Ok(())
@@ -89,12 +82,12 @@ fn one_message_is_one_put(rt: HostRuntime) -> Result<(), Fail> {
 
 #[test]
 fn a_pace_of_nothing_is_over(rt: HostRuntime) -> Result<(), Fail> {
-    let alloc = rt.alloc();
-    let mut links = Vec::new(alloc);
-    links.push(link_of(alloc, &[HELLO_80], false, 1_000_000)?)?;
-    let came = play(&rt, SIX, links, Vec::new(alloc), Vec::new(alloc), 0)?;
+    let mut outside = hello(rt.alloc())?;
+    outside.turns = 0;
+    let came = play(&rt, PULL, outside)?;
     assert_eq!(rt; came.status, Status::Over);
-    assert_eq!(rt; came.status.code(), 3);
+    assert_eq!(rt; exit_code(came.status), 3);
+    assert!(rt; came.has_record);
     assert_eq!(rt; came.opened, 0);
     Ok(())
 }
@@ -163,7 +156,7 @@ impl Net for Heard {
 #[test]
 fn it_listens_at_the_address_of_the_words(rt: HostRuntime) -> Result<(), Fail> {
     let alloc = rt.alloc();
-    let list = words(alloc, SIX)?;
+    let list = words(alloc, PULL)?;
     let mut net = Heard {
         net: MemNet::new(alloc, Vec::new(alloc), Vec::new(alloc), Vec::new(alloc))?,
         host: Host::Any,

@@ -2,27 +2,52 @@
 
 /// The answer to `--help` alone.
 pub const HELP: &str = "\
-Usage: nngcat --pull --listen ADDRESS --ascii --count N
+Usage: nngcat ROLE ENDPOINT.. [OPTION]..
 
-Listens at ADDRESS as a pull, and prints the first N messages that its peers push, one peer
-after the other, each on a line. A byte that is not visible is printed as a dot.
+Sends or receives messages over a scalability protocol, and prints what it receives.
+A value is the next word, or stands behind =, as in --count=3. Options come in any order.
 
-  --pull            the role; others are not there yet
-  --listen ADDRESS  tcp://HOST:PORT; HOST is *, localhost or four numbers with dots between,
-                    PORT is 0 to 65535
-  --ascii           the format; others are not there yet
-  --count N         end after N messages, 1 to 4,294,967,295
+Roles (exactly one):
+  --push    sends to one peer each          --pull        receives from all peers
+  --pair    one peer, both ways             --rep         prints requests, replies with data
+                                            --respondent  prints surveys, answers with data
+  Not there yet: --pub, --sub, --req, --surveyor, --bus.
 
-The words stand in this order. Alone:
+Endpoints (1 to 64 in all):
+  --listen ADDRESS        accept connections at ADDRESS
+  --dial ADDRESS          connect to ADDRESS, again 100 milliseconds after it fails or ends
+  ADDRESS is tcp://HOST:PORT. HOST is *, localhost or four numbers with dots between; * is for
+  --listen alone. PORT is 0 to 65535, and not 0 for --dial.
 
-  --help, --version  print this text, or the version
+Data (one of the two; push needs it, pull takes none):
+  --data TEXT             send TEXT
+  --file NAME             send what the file NAME holds; - is standard input
 
-Status: 0 done, 1 wrong words, 3 stopped, 4 network fault, 5 output fault, 6 file fault,
-7 out of memory. The reason stands on standard error.
+How it is printed (one format at most; without one nothing is printed):
+  --raw                   the bytes as they are
+  --ascii                 a line each; a byte that is not visible is a dot
+  --quoted                a line each, in quotes, with escapes as in C
+  --hex                   a line each, in quotes, each byte as \\x and two digits
+  --msgpack               each as binary data of MessagePack
+
+How often and how long:
+  --count N               end after N messages, 0 to 4,294,967,295; 0 is no bound. Default: 1 for
+                          what sends first and has no --interval, else no bound
+  --interval SECONDS      send again each so many seconds, 0 to 86,400. Default: at once
+  --recv-timeout SECONDS  end with status 0 where nothing comes for so long. Default: never
+  --send-timeout SECONDS  end with status 2 where nothing can be sent for so long. Default: never
+
+Alone:
+  --help, --version       print this text, or the version
+
+Status: 0 done, 1 wrong words, 2 send timed out, 3 stopped, 4 network fault, 5 output fault,
+6 file fault, 7 out of memory. The reason stands on standard error.
 
 Examples:
-  nngcat --pull --listen tcp://127.0.0.1:5555 --ascii --count 1
-  nngcat --pull --listen tcp://*:5555 --ascii --count 1000
+  nngcat --pull --listen tcp://127.0.0.1:5555 --ascii
+  nngcat --push --dial tcp://127.0.0.1:5555 --data hello
+  nngcat --pair --dial tcp://127.0.0.1:5556 --quoted --count 10
+  nngcat --rep --listen tcp://*:5557 --ascii --data pong --recv-timeout 60
 ";
 
 /// The answer to `--version` alone.

@@ -1,17 +1,17 @@
 -- An immediate receive collects only what it has begun itself.
-use Rattle.std.proofs.Common.{◌≡◌, refl, ap, sym, ◌∙◌, subst, List, [], ◌∷◌, ◌++◌, ℕ, zero, suc, ◌+◌, ◌≤◌, Bool, true, false, cond, arith, Some}
-use Rattle.std.specs.Prelude.{Option, None, Result, Ok, Err, not, ◌&&◌}
+use Rattle.std.proofs.Common.{◌≡◌, refl, sym, ◌∙◌, subst, List, [], ◌∷◌, ◌++◌, ℕ, zero, suc, ◌+◌, ◌≤◌, Bool, true, false, cond, arith, Some}
+use Rattle.std.specs.Prelude.{None, Result, Ok, Err, not, ◌&&◌}
 use Rattle.std.proofs.lemmas.List.Folds.{list_all-append}
 use Rattle.turn_lock.specs.declared.turn.Turn.{Turn}
 use Rattle.sp_base.specs.declared.OpName.{OpName}
 use Rattle.sp_msg.specs.Views.{MessageView}
 use Rattle.sp_history.specs.declared.entry.Entry.{Entry}
-use Rattle.sp_history.specs.declared.entry.Entry.TheVariants.{Begin, Took}
+use Rattle.sp_history.specs.declared.entry.Entry.TheVariants.{Begin}
 use Rattle.sp_history.specs.declared.setting.Setting.{Setting}
 use Rattle.sp_history.specs.Changes.{none_of}
 use Rattle.sp_history.specs.Found.{IsOpenOf, collects}
 use Rattle.sp_history.specs.Lists.{same_op}
-use Rattle.sp_history.specs.Past.{caller_of, onto, past_of}
+use Rattle.sp_history.specs.Past.{onto, past_of}
 use Rattle.sp_history.specs.Once.{begin_count}
 use Rattle.sp_history.specs.Legal.{Legal}
 use Rattle.sp_history.proofs.Appending.{past_of-append}

@@ -1,8 +1,9 @@
 -- Waiting turn by turn.
-use Rattle.std.proofs.Common.{◌≡◌, ◌≢◌, refl, ap, sym, ◌∙◌, subst, List, [], ◌∷◌, ◌++◌, ℕ, ◌+◌, ◌≤◌, Bool, true, false, cond, arith, Some, inl, inr, ◌<◌}
-use Rattle.std.specs.Prelude.{◌==◌, ◌⊎◌, filter, is_some}
+use Rattle.std.proofs.Common.{◌≡◌, refl, ap, sym, ◌∙◌, subst, List, [], ◌∷◌, ◌++◌, ℕ, ◌+◌, ◌≤◌, Bool, true, false, cond, arith, inl, inr, ◌<◌}
+use Rattle.std.specs.Prelude.{◌==◌, ◌⊎◌, is_some}
+use Rattle.std.proofs.lemmas.Bool.Decides.{nat_tests}
 use Rattle.turn_lock.specs.declared.turn.Turn.{Turn}
-use Rattle.turn_lock.specs.History.{turns_of, OthersAfter}
+use Rattle.turn_lock.specs.History.{turns_of}
 use Rattle.sp_base.specs.declared.OpName.{OpName}
 use Rattle.aio_word.specs.declared.rule.Entry as word
 use Rattle.aio_word.specs.declared.phase.Phase.TheVariants.{Pending}
@@ -22,11 +23,11 @@ use Rattle.sp_core.specs.declared.collect.Collected.TheVariants as collected
 use Rattle.sp_core.specs.Collecting.{CollectedBy}
 use Rattle.sp_socket.specs.Passes.{PassView, SocketName, IsOf, IsSamePass}
 use Rattle.sp_socket.specs.Open.{KeepsOpen, TakesNoTurn}
-use Rattle.sp_socket.specs.Expiring.{Hand, PolledAs, hand}
+use Rattle.sp_socket.specs.Expiring.{Hand, IsOfAnother, PolledAs, hand}
 use Rattle.aio_word.specs.declared.answers.Polled.{Polled}
 use Rattle.aio_word.specs.declared.answers.Polled.TheVariants as polled
 use Rattle.sp_socket.specs.Turns.{TookTurn, ReadsFor}
-use Rattle.sp_socket.specs.Waiting.{NotEnded, Waits, WaitedFor, HasLookedOn}
+use Rattle.sp_socket.specs.Waiting.{NotEnded, AreCollectings, Waits, WaitedFor, HasLookedOn}
 use Rattle.sp_socket.proofs.Acting.{own_more}
 
 -- the pass is still of the socket
@@ -90,11 +91,27 @@ unended z op o k h t l c =
     let none : end_count (past_of (h ++ t ∷ [])) op ≡ 0 = ((pending_means z (h ++ t ∷ []) op l).0 pends).1 in
     none_ends op t.entries (past_of h) (subst (λ (p : List Entry). end_count p op ≡ 0) (past_of-append h t) none)
 
+-- ---- Turns that collect
+
+-- others' turns are free
+of_others : (op : OpName) (k : ℕ) (h ts : List (Turn Entry)) → turns_of k ts ≡ [] → AreCollectings op k h ts
+of_others op k h [] n = tt
+of_others op k h (t ∷ ts) n = go (t.number == k) refl n (of_others op k (h ++ t ∷ []) ts)
+  where
+    go : (b : Bool) → (t.number == k) ≡ b → cond b (t ∷ turns_of k ts) (turns_of k ts) ≡ [] → (turns_of k ts ≡ [] → AreCollectings op k (h ++ t ∷ []) ts) → AreCollectings op k h (t ∷ ts)
+    go true e m rest = absurd (cc)
+    go false e m rest = ((λ same. absurd (grind (arith, nat_tests, e, same))), rest m)
+
+collect_both : (op : OpName) (k : ℕ) (h xs ys : List (Turn Entry)) → AreCollectings op k h xs → AreCollectings op k (h ++ xs) ys → AreCollectings op k h (xs ++ ys)
+collect_both op k h [] ys a b = subst (λ (past : List (Turn Entry)). AreCollectings op k past ys) (sym (plus_none h)) b
+collect_both op k h (x ∷ xs) ys a b =
+    (a.0, collect_both op k (h ++ x ∷ []) xs ys a.1 (subst (λ (past : List (Turn Entry)). AreCollectings op k past ys) (sym (grouped h (x ∷ []) xs)) b))
+
 -- ---- Waiting
 
 -- before the first turn
 pub no_turn : (op : OpName) (p : PassView) → Waits op p p
-no_turn op p = record { same = (refl, refl, refl); between = []; own = []; seen = plus_none p.seen; mine = plus_none p.mine; are_own = refl; unended = tt; wins = refl; more = []; reads = plus_none p.reads; open_ = λ o h. h }
+no_turn op p = record { same = (refl, refl, refl); between = []; own = []; seen = plus_none p.seen; mine = plus_none p.mine; are_own = refl; collect = tt; unended = tt; wins = refl; more = []; reads = plus_none p.reads; open_ = λ o h. h }
 
 -- one turn more
 pub turn_more : (op o : OpName) (before mid after : PassView) → Waits op before mid → IsSamePass mid after → TookTurn (λ z h t. CollectedBy (collected.NotYet o) op mid.number h t) mid after → ReadsFor (collected.NotYet o) op mid after → KeepsOpen mid after → Waits op before after
@@ -104,6 +121,8 @@ turn_more op o before mid after w same t r keeps =
     let last = t.turn in
     let seen_last : word.Entry = of_op op Pending 0 in
     let number : last.number ≡ n = t.number ∙ w.same.0 in
+    let past : t.past ≡ (before.seen ++ w.between) ++ others.0 = others.1 ∙ ap (λ (h : List (Turn Entry)). h ++ others.0) w.seen in
+    let asked : CollectedBy (collected.NotYet op) op n ((before.seen ++ w.between) ++ others.0) last = subst (λ (h : List (Turn Entry)). CollectedBy (collected.NotYet op) op n h last) past (refl, t.said.1, t.said.2) in
     let none : turns_of n others.0 ≡ [] = ap (λ (m : ℕ). turns_of m others.0) (sym w.same.0) ∙ others.2 in
     record {
       same = same_twice before mid after w.same same;
@@ -112,6 +131,7 @@ turn_more op o before mid after w same t r keeps =
       seen = t.seen ∙ ap (λ (h : List (Turn Entry)). h ++ last ∷ []) (others.1 ∙ ap (λ (h : List (Turn Entry)). h ++ others.0) w.seen) ∙ grouped (before.seen ++ w.between) others.0 (last ∷ []) ∙ grouped before.seen w.between (others.0 ++ last ∷ []);
       mine = t.mine ∙ ap (λ (h : List (Turn Entry)). h ++ last ∷ []) w.mine ∙ grouped before.mine w.own (last ∷ []);
       are_own = turns_both n w.between (others.0 ++ last ∷ []) ∙ ap (λ (ts : List (Turn Entry)). ts ++ turns_of n (others.0 ++ last ∷ [])) w.are_own ∙ ap (λ (ts : List (Turn Entry)). w.own ++ ts) (own_more n others.0 last number ∙ ap (λ (ts : List (Turn Entry)). ts ++ last ∷ []) none);
+      collect = collect_both op n before.seen w.between (others.0 ++ last ∷ []) w.collect (collect_both op n (before.seen ++ w.between) others.0 (last ∷ []) (of_others op n (before.seen ++ w.between) others.0 none) ((λ u. asked), tt));
       unended = each_more (λ (x : Turn Entry). NotEnded op x.entries) w.own last w.unended (unended t.label.setting op o mid.number t.past last (subst (Legal t.label.setting) t.seen t.legal) t.said);
       wins = r.wins ∙ w.wins;
       more = w.more ++ (r.others ++ seen_last ∷ []);
@@ -129,6 +149,7 @@ looked_more op before mid after w l =
       seen = l.still.seen ∙ w.seen;
       mine = l.still.mine ∙ w.mine;
       are_own = w.are_own;
+      collect = w.collect;
       unended = w.unended;
       wins = l.wins ∙ w.wins;
       more = w.more ++ l.more;
@@ -145,9 +166,9 @@ look_grows polled.Pending k slots op a b h = (h.0, (of_op op Pending 0 ∷ [], h
 look_grows (polled.Ended p by) k slots op a b h = (h.1, (of_op op p by ∷ [], h.2))
 look_grows polled.Stale k slots op a b h = (h.0, found h.1)
   where
-    found : (((slots ≤ op.slot) × (b.1 ≡ a.1)) ⊎ ((op.slot < slots) × ((e : word.Entry) × (e.slot ≡ op.slot) × ((e.generation ≢ op.generation) ⊎ (op.generation ≡ 0)) × (b.1 ≡ a.1 ++ e ∷ [])))) → (more : List word.Entry) × (b.1 ≡ a.1 ++ more)
+    found : (((slots ≤ op.slot) × (b.1 ≡ a.1)) ⊎ ((op.slot < slots) × ((e : word.Entry) × IsOfAnother op e × (b.1 ≡ a.1 ++ e ∷ [])))) → (more : List word.Entry) × (b.1 ≡ a.1 ++ more)
     found (inl x) = ([], x.1 ∙ plus_none a.1)
-    found (inr x) = (x.1.0 ∷ [], x.1.3)
+    found (inr x) = (x.1.0 ∷ [], x.1.2)
 
 pub look_more : (r : Polled) (k slots : ℕ) (op : OpName) (before mid after : PassView) → HasLookedOn before mid → TakesNoTurn mid after → PolledAs r k slots op (hand mid) (hand after) → HasLookedOn before after
 look_more r k slots op before mid after l t p =

@@ -1,16 +1,12 @@
 -- What waiting for an operation does to a pass.
-use Rattle.std.specs.Prelude.{◌≡◌, ⊤, false, List, [], ◌∷◌, ◌++◌, Some, true}
+use Rattle.std.specs.Prelude.{◌≡◌, ℕ, ⊤, false, List, [], ◌∷◌, ◌++◌}
 use Rattle.turn_lock.specs.declared.turn.Turn.{Turn}
 use Rattle.turn_lock.specs.History.{turns_of}
 use Rattle.sp_base.specs.declared.OpName.{OpName}
-use Rattle.aio_word.specs.declared.phase.Phase.{Phase}
 use Rattle.aio_word.specs.declared.rule.Entry as word
-use Rattle.aio_word.specs.Word.{is_decided}
-use Rattle.aio_word.specs.Answers.{of_op}
 use Rattle.aio_word.specs.Views.{Each}
 use Rattle.sp_history.specs.declared.entry.Entry.{Entry}
 use Rattle.sp_history.specs.declared.entry.Entry.TheVariants.{End}
-use Rattle.sp_history.specs.declared.setting.Setting.{Setting}
 use Rattle.sp_history.specs.Lists.{same_op}
 use Rattle.sp_core.specs.declared.ops.Outcome.{Outcome}
 use Rattle.sp_core.specs.declared.collect.Collected.TheVariants as collected
@@ -32,7 +28,13 @@ pub record HasLookedOn (before after : PassView) : Type 0 where
   pub more : List word.Entry
   pub reads : after.reads ≡ before.reads ++ more
 
--- The pass has seen more turns, of others and of its own, and the operation ended in none of its own
+-- behind this history each turn of the caller k collected, and found the operation pending
+abbrev pub AreCollectings : OpName → ℕ → List (Turn Entry) → List (Turn Entry) → Type 0
+AreCollectings op k h [] = ⊤
+AreCollectings op k h (t ∷ ts) = (t.number ≡ k → CollectedBy (collected.NotYet op) op k h t) × AreCollectings op k (h ++ t ∷ []) ts
+
+-- The pass has seen more turns, of others and of its own; each of its own is a collecting, and the operation ended in none
+-- of them
 pub record Waits (op : OpName) (before now : PassView) : Type 0 where
   pub same : IsSamePass before now
   pub between : List (Turn Entry)
@@ -40,6 +42,7 @@ pub record Waits (op : OpName) (before now : PassView) : Type 0 where
   pub seen : now.seen ≡ before.seen ++ between
   pub mine : now.mine ≡ before.mine ++ own
   pub are_own : turns_of before.number between ≡ own
+  pub collect : AreCollectings op before.number before.seen between
   pub unended : Each (λ t. NotEnded op t.entries) own
   pub wins : now.wins ≡ before.wins
   pub more : List word.Entry

@@ -3,12 +3,9 @@ ghost use Rattle.std.specs.Prelude.{◌≡◌, [], length, List};
 ghost use Rattle.aio_word.specs.Views.{Each};
 ghost use Rattle.turn_lock.specs.declared.turn.Turn.{Turn};
 ghost use Rattle.sp_history.specs.declared.entry.Entry.{Entry};
-ghost use Rattle.sp_history.specs.Past.{past_of};
-ghost use Rattle.sp_core.specs.declared.label.CoreLabel.{CoreLabel};
 ghost use Rattle.sp_core.specs.Standing.{StandsFor};
-ghost use Rattle.sp_core.specs.Parts.{HasWires};
 ghost use Rattle.sp_socket.specs.Turns.{label_of};
-ghost use Rattle.sp_socket.specs.Finishing.{HasSeenClose, IsRecord, Joins};
+ghost use Rattle.sp_socket.specs.Finishing.{HasSeenClose, IsFinished, Joins};
 
 use crate::hands::Hands;
 use crate::list::SocketPasses;
@@ -42,7 +39,7 @@ impl<P: Proto, W: Wire> Socket<P, W> {
         requires all { length passes.items ≡ passes.callers }
         requires callers { passes.callers ≡ self.words.callers }
         requires closed { HasSeenClose self passes.items }
-        ensures { (label : CoreLabel) × IsRecord label result.record_.turns passes.items × HasWires W.shown result.wires label.setting (past_of result.record_.turns) }
+        ensures { IsFinished W.shown result.wires result.record_.turns passes.items }
     {
         let Socket { lock, words: _ } = self;
         let SocketPasses { turns, mut hands } = passes;

@@ -1,8 +1,9 @@
 //! The calls without a turn: a caller ends an operation, whoever began it, or looks how it stands. They wait for nobody.
+ghost use Rattle.std.specs.Prelude.{◌<◌};
 ghost use Rattle.aio_word.specs.declared.phase.Phase.TheVariants as phase;
 ghost use Rattle.sp_socket.specs.Passes.{IsOf};
 ghost use Rattle.sp_socket.specs.Open.{TakesNoTurn};
-ghost use Rattle.sp_socket.specs.Expiring.{RacedAs, PolledAs, hand};
+ghost use Rattle.sp_socket.specs.Expiring.{RacedAs, PolledAs, IsKnownPass, hand};
 
 use crate::pass::Pass;
 use crate::socket::Socket;
@@ -18,6 +19,7 @@ impl<P: Proto, W: Wire> Socket<P, W> {
         requires own { IsOf self.now pass.old }
         ensures still { TakesNoTurn pass.old pass.new }
         ensures raced { RacedAs phase.Cancelled result pass.old.number self.now.words.slots op (hand pass.old) (hand pass.new) }
+        ensures rule { op.slot < self.now.words.slots → IsKnownPass self.now.words.slots pass.new }
     {
         self.words.cancel(&mut pass.hands.seat, op)
     }
@@ -27,6 +29,7 @@ impl<P: Proto, W: Wire> Socket<P, W> {
         requires own { IsOf self.now pass.old }
         ensures still { TakesNoTurn pass.old pass.new }
         ensures polled { PolledAs result pass.old.number self.now.words.slots op (hand pass.old) (hand pass.new) }
+        ensures rule { op.slot < self.now.words.slots → IsKnownPass self.now.words.slots pass.new }
     {
         self.words.poll(&mut pass.hands.seat, op)
     }

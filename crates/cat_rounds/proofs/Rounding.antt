@@ -1,0 +1,235 @@
+-- What parts of a round do, one after the other.
+use Rattle.std.proofs.Common.{◌≡◌, refl, ap, sym, ◌∙◌, subst, List, [], ◌∷◌, ◌++◌, ℕ, ◌≤◌, Bool, true, false, arith, length, Option, Some, None}
+use Rattle.std.specs.Prelude.{IsTrue, ◌&&◌, ◌||◌, not, is_some}
+use Rattle.std.specs.List.{list_any}
+use Rattle.turn_lock.specs.declared.turn.Turn.{Turn}
+use Rattle.sp_base.specs.Views.{SinkView}
+use Rattle.sp_base.specs.declared.OpName.{OpName}
+use Rattle.sp_history.specs.declared.entry.Entry.{Entry}
+use Rattle.sp_history.specs.declared.entry.Entry.TheVariants.{Up, Met, NoUp, Taken, Tick, Begin, Took, Topic, Ctx, Close, Stall}
+use Rattle.sp_history.specs.declared.setting.Setting.{Setting}
+use Rattle.sp_history.specs.Changes.{none_of}
+use Rattle.sp_history.specs.Past.{onto, past_of, up}
+use Rattle.sp_history.proofs.Appending.{past_of-append}
+use Rattle.sp_single.specs.Singles.{SingleView}
+use Rattle.cat_play.specs.Scripts.{has_ticked, under_way, over, has_reached, counted, timed_out}
+use Rattle.cat_play.specs.Playing.{each, alternates, is_tick, may_rest}
+use Rattle.sp_history.specs.Swept.{IsSwept, AreFlushed}
+use Rattle.sp_core.specs.declared.serve.Served.{Served}
+use Rattle.sp_core.specs.Serving.{IsServing, AreServing, IsServeTurn, ServedBy, stalls_in}
+use Rattle.sp_single.specs.Singles.{TookOne}
+use Rattle.sp_spec.specs.Outside.{grown}
+use Rattle.cat_play.specs.Scripts.{texts, joined}
+use Rattle.cat_play.specs.Steps.{moves_ends, moves_play}
+use Rattle.cat_rounds.specs.declared.player.Over.{Over}
+use Rattle.cat_rounds.specs.declared.player.Over.TheVariants as overs
+use Rattle.cat_rounds.specs.declared.player.Player.{Player}
+use Rattle.cat_rounds.specs.Lasting.{play_of, is_plain_role, PlayStands, IsUnderWay, IsOver, HasPrinted, HasServed, MayTick}
+use Rattle.cat_rounds.specs.Going.{AreCleared}
+use Rattle.cat_rounds.specs.Stepping.{Stands, GoesOnBy, SameScript}
+use Rattle.cat_rounds.proofs.Silent.{keeps_all, adds_then, swept_stays}
+use Rattle.cat_rounds.proofs.Ordered.{goes_on_while_busy, free_pends_none}
+use Rattle.cat_rounds.proofs.Cleared.{is_stall, all_cleared}
+use Rattle.cat_play.proofs.Stepping.{open_is}
+use Rattle.sp_history.proofs.Appending.{LegalFrom-front}
+use Rattle.sp_history.specs.Legal.{Legal, sending}
+use Rattle.sp_history.specs.Found.{is_begin}
+use Rattle.sp_history.specs.Setting.{is_asker}
+use Rattle.sp_history.specs.Requests.{requests}
+use Rattle.sp_history.specs.Past.{pend}
+use Rattle.sp_base.specs.declared.role.Role.{Role}
+use Rattle.sp_base.specs.declared.role.Role.TheVariants as roles
+use Rattle.cat_rounds.proofs.Standing.{a_serve_serves}
+use Rattle.cat_rounds.proofs.Begins.{at_new, goes_on_by, silent_stands, silent_texts}
+
+-- ---- Turns without a tick leave the pipes served
+
+ends_tick : (e : Entry) → moves_ends e ≡ false → is_tick e ≡ false
+ends_tick (Tick t due) h = cc
+ends_tick _ h = refl
+
+ticked_step : (e : Entry) (past : List Entry) → moves_ends e ≡ false → has_ticked (e ∷ past) ≡ has_ticked past
+ticked_step (Tick t due) past h = cc
+ticked_step _ past h = refl
+
+none_step : (f : Entry → Bool) (e : Entry) (es : List Entry) → none_of f (e ∷ es) ≡ true → (f e ≡ false) × (none_of f es ≡ true)
+none_step f e es h = go (f e) (none_of f es) h
+  where
+    go : (a b : Bool) → (not a && b) ≡ true → (a ≡ false) × (b ≡ true)
+    go true b h = cc
+    go false b h = (refl, h)
+
+ticked_stays : (entries past : List Entry) → none_of moves_ends entries ≡ true → has_ticked (onto entries past) ≡ has_ticked past
+ticked_stays [] past h = refl
+ticked_stays (e ∷ es) past h =
+    let s = none_step moves_ends e es h in
+    ticked_stays es (e ∷ past) s.1 ∙ ticked_step e past s.0
+
+no_tick : (es : List Entry) → none_of moves_ends es ≡ true → list_any is_tick es ≡ false
+no_tick [] h = refl
+no_tick (e ∷ es) h =
+    let s = none_step moves_ends e es h in
+    rw (ends_tick e s.0) (no_tick es s.1)
+
+served_turn : (z : Setting) (h : List (Turn Entry)) (t : Turn Entry) → none_of moves_ends t.entries ≡ true → HasServed z h → HasServed z (h ++ t ∷ [])
+served_turn z h t none was ticked =
+    swept_stays z h t (no_tick t.entries none) (was (sym (ap has_ticked (past_of-append h t) ∙ ticked_stays t.entries (past_of h) none) ∙ ticked))
+
+pub served_on : (s s' : SingleView) → GoesOnBy s s' → HasServed s.setting s.seen → HasServed s'.setting s'.seen
+served_on s s' g was =
+    subst (λ (z : Setting). HasServed z s'.seen) (sym g.setting) (keeps_all moves_ends (λ h. HasServed s.setting h) (served_turn s.setting) s.seen s'.seen g.links was)
+
+-- ---- One part after the other
+
+pub goes_then : (a b c : SingleView) → GoesOnBy a b → GoesOnBy b c → GoesOnBy a c
+goes_then a b c g h = record { setting = h.setting ∙ g.setting; links = adds_then moves_ends a.seen b.seen c.seen g.links h.links }
+
+-- a part of a round that went well
+pub record Along (s s' : SingleView) (p p' : Player) (out out' : SinkView) (t : ℕ) : Type 0 where
+  pub stands : Stands s' p' t
+  pub goes_on : GoesOnBy s s'
+  pub script : SameScript p p'
+  pub printed : (before : Option (List ℕ)) → HasPrinted before out.text s.seen p → HasPrinted before out'.text s'.seen p'
+  pub later : out.faults ≤ out'.faults
+
+pub along_then : (a b c : SingleView) (p q r : Player) (x y w : SinkView) (t : ℕ) → Along a b p q x y t → Along b c q r y w t → Along a c p r x w t
+along_then a b c p q r x y w t f g =
+    record {
+      stands = g.stands;
+      goes_on = goes_then a b c f.goes_on g.goes_on;
+      script = g.script ∙ f.script;
+      printed = λ before h. g.printed before (f.printed before h);
+      later = omega (arith, f.later, g.later);
+    }
+
+-- ---- An ended play has nothing under way
+
+is_over_so : (o : Over) (z : Setting) (p : Player) (past : List Entry) → (o ≡ overs.Open → ⊥) → IsOver o z (play_of p.script) past → over z (play_of p.script) past ≡ true
+is_over_so overs.Open z p past n i = absurd (n refl)
+is_over_so overs.Finished z p past n i = go (has_reached p.script.count (counted z (play_of p.script) past)) (timed_out true past) (timed_out false past) i
+  where
+    go : (a b c : Bool) → IsTrue (a || b) → (a || b || c) ≡ true
+    go true b c h = refl
+    go false true c h = refl
+    go false false c h = cc
+is_over_so overs.SendTimedOut z p past n i = go (has_reached p.script.count (counted z (play_of p.script) past)) (timed_out true past) (timed_out false past) i
+  where
+    go : (a b c : Bool) → IsTrue c → (a || b || c) ≡ true
+    go true b c h = refl
+    go false true c h = refl
+    go false false c h = h
+
+pub free_at_end : (z : Setting) (h : List (Turn Entry)) (p : Player) → PlayStands z h p → (p.over ≡ overs.Open → ⊥) → p.op ≡ None
+free_at_end z h p s n = go p.op refl
+  where
+    go : (o : Option OpName) → p.op ≡ o → o ≡ None
+    go None e = refl
+    go (Some op) e =
+        let hand = subst (λ (o : Option OpName). IsUnderWay o h) e s.hand in
+        let off = goes_on_while_busy z (play_of p.script) op (past_of h) s.is_open s.so_far.verbs hand.0 in
+        let on = is_over_so p.over z p (past_of h) n s.over in
+        cc
+
+-- ---- A turn that serves the pipes
+
+serving_play : (e : Entry) → IsServing e → moves_play e ≡ false
+serving_play (Begin op k c act d) s = absurd s
+serving_play (Took op k) s = absurd s
+serving_play (Tick t due) s = absurd s
+serving_play (Topic c t switch) s = absurd s
+serving_play (Ctx c gate) s = absurd s
+serving_play (Close totals) s = absurd s
+serving_play _ s = refl
+
+serving_ends : (e : Entry) → IsServing e → moves_ends e ≡ false
+serving_ends (Up p place name) s = absurd s
+serving_ends (Met place) s = absurd s
+serving_ends (NoUp place miss) s = absurd s
+serving_ends (Taken p) s = absurd s
+serving_ends (Tick t due) s = absurd s
+serving_ends _ s = refl
+
+pub serving_silent : (es : List Entry) → AreServing es → none_of moves_play es ≡ true
+serving_silent [] s = refl
+serving_silent (e ∷ es) s = rw (serving_play e s.0) (serving_silent es s.1)
+
+pub serving_linkless : (es : List Entry) → AreServing es → none_of moves_ends es ≡ true
+serving_linkless [] s = refl
+serving_linkless (e ∷ es) s = rw (serving_ends e s.0) (serving_linkless es s.1)
+
+-- what a turn that serves says
+abbrev pub ServesSo : Served → Setting → List (Turn Entry) → Turn Entry → Type 0
+ServesSo r z h t =
+    IsSwept z (past_of h) t × AreFlushed (past_of h) t × IsServeTurn t × ServedBy r t × (r.up ≡ length (up (past_of (h ++ t ∷ []))))
+
+pub serve_along : (r : Served) (s s' : SingleView) (p : Player) (out : SinkView) (t : ℕ) → TookOne (ServesSo r) s s' → Stands s p t → Along s s' p p out out t × HasServed s'.setting s'.seen
+serve_along r s s' p out t took stands =
+    let kinds = took.said.2.kinds in
+    let silent = serving_silent took.turn.entries kinds in
+    let linkless = serving_linkless took.turn.entries kinds in (
+      record {
+        stands = silent_stands s s' took p t silent stands;
+        goes_on = goes_on_by s s' took linkless;
+        script = refl;
+        printed = λ before h. h ∙ ap (λ (ts : List (List ℕ)). grown before (joined ts)) (sym (silent_texts s s' took (play_of p.script) silent stands.play.is_open));
+        later = omega arith;
+      },
+      at_new s s' took (λ z h. HasServed z h) (a_serve_serves s.setting s.seen took.turn (no_tick took.turn.entries linkless) took.said.0),
+    )
+
+-- ---- The play is over
+
+or_last : (a b c : Bool) → c ≡ true → (a || b || c) ≡ true
+or_last true b c h = refl
+or_last false true c h = refl
+or_last false false c h = h
+
+-- nothing is under way, so the next tick may come
+pub may_tick_at_end : (z : Setting) (h : List (Turn Entry)) (p : Player) → PlayStands z h p → HasServed z h → p.op ≡ None → (p.over ≡ overs.Open → ⊥) → MayTick z h p
+may_tick_at_end z h p s served free n =
+    let o = is_over_so p.over z p (past_of h) n s.over in
+    record {
+      served = served;
+      collected = s.idle free;
+      busy = or_last (not (has_ticked (past_of h))) (is_some (under_way (past_of h))) (may_rest z (play_of p.script) (past_of h)) (rests o);
+    }
+  where
+    rests : over z (play_of p.script) (past_of h) ≡ true → may_rest z (play_of p.script) (past_of h) ≡ true
+    rests o = rw o refl
+
+no_stalls : (es : List Entry) → stalls_in es ≡ 0 → none_of is_stall es ≡ true
+no_stalls [] h = refl
+no_stalls (Stall p ∷ es) h = absurd (omega (arith, h))
+no_stalls (e ∷ es) h = no_stalls es h
+
+serving_begin : (e : Entry) → IsServing e → is_begin e ≡ false
+serving_begin (Begin op k c act d) s = absurd s
+serving_begin _ s = refl
+
+no_begins : (es : List Entry) → AreServing es → none_of is_begin es ≡ true
+no_begins [] s = refl
+no_begins (e ∷ es) s = rw (serving_begin e s.0) (no_begins es s.1)
+
+asks_nobody : (role : Role) → IsTrue (is_plain_role role) → is_asker role ≡ false
+asks_nobody roles.Req h = cc
+asks_nobody roles.Surveyor h = cc
+asks_nobody _ h = refl
+
+no_live : (z : Setting) (past : List Entry) → IsTrue (is_plain_role z.role) → (requests z past).live ≡ []
+no_live z past h = rw (asks_nobody z.role h) refl
+
+-- after a serve that left nothing to be written, where the play is over, all is written
+pub through : (r : Served) (s s' : SingleView) (p : Player) (t : ℕ) → TookOne (ServesSo r) s s' → Stands s p t → p.op ≡ None → r.waiting ≡ 0 → AreCleared (past_of s'.seen)
+through r s s' p t took stands free none =
+    let z = s.setting in
+    let all = subst (λ (h : List (Turn Entry)). Legal z h) took.seen (subst (λ (y : Setting). Legal y s'.seen) took.setting took.legal) in
+    let legal = (LegalFrom-front z [] s.seen took.turn all).1 in
+    let kinds = took.said.2.kinds in
+    let under = subst (λ (o : Option OpName). IsUnderWay o s.seen) free stands.play.hand in
+    let orders = subst (λ (past : List Entry). IsTrue (each alternates past)) (open_is (past_of s.seen) stands.play.is_open) stands.play.so_far.alternate in
+    let pends : sending (pend (past_of s.seen)) ≡ [] = ap sending (free_pends_none z s.seen stands.sound.legal orders under) in
+    let plain = subst (λ (role : Role). IsTrue (is_plain_role role)) (sym stands.play.role) stands.play.plain in
+    subst (λ (h : List (Turn Entry)). AreCleared (past_of h)) (sym took.seen) (all_cleared z s.seen took.turn legal took.said.1 (no_stalls took.turn.entries (sym took.said.3.1 ∙ none)) (no_begins took.turn.entries kinds) pends (no_live z (past_of s.seen) plain))
+
+pub serve_texts : (r : Served) (s s' : SingleView) (p : Player) (t : ℕ) → TookOne (ServesSo r) s s' → Stands s p t → texts (play_of p.script) (past_of s'.seen) ≡ texts (play_of p.script) (past_of s.seen)
+serve_texts r s s' p t took stands = silent_texts s s' took (play_of p.script) (serving_silent took.turn.entries took.said.2.kinds) stands.play.is_open

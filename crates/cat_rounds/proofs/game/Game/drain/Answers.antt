@@ -1,0 +1,68 @@
+use Rattle.std.proofs.Common.{rules, ◌≡◌, None}
+use Rattle.sp_base.specs.Views.{SinkView}
+use Rattle.cat_rounds.proofs.Rounding.{serve_along, serve_texts, may_tick_at_end, through}
+use Rattle.cat_rounds.proofs.game.Game.drain.Goals as goal
+
+abbrev quiet : SinkView
+quiet = record { text = None; faults = 0 }
+
+pub returns-then-served-gt0-clause-stands : goal.returns-then-served-gt0-clause-stands
+returns-then-served-gt0-clause-stands g c = λ now st.
+    (serve_along c.serve-served.result c.args.self.now.single c.serve-served.new.self c.args.self.now.player quiet now c.serve-served.ensures.turn st).0.stands
+
+pub returns-then-served-gt0-clause-goes_on : goal.returns-then-served-gt0-clause-goes_on
+returns-then-served-gt0-clause-goes_on g c =
+    (serve_along c.serve-served.result c.args.self.now.single c.serve-served.new.self c.args.self.now.player quiet c.requires.stands.0 c.serve-served.ensures.turn c.requires.stands.1).0.goes_on
+
+pub returns-then-served-gt0-clause-texts : goal.returns-then-served-gt0-clause-texts
+returns-then-served-gt0-clause-texts g c =
+    serve_texts c.serve-served.result c.args.self.now.single c.serve-served.new.self c.args.self.now.player c.requires.stands.0 c.serve-served.ensures.turn c.requires.stands.1
+
+pub returns-in-SendTimedOut-clause-stands : goal.returns-in-SendTimedOut-clause-stands
+returns-in-SendTimedOut-clause-stands g c = λ now st.
+    (serve_along c.serve-served.result c.args.self.now.single c.serve-served.new.self c.args.self.now.player quiet now c.serve-served.ensures.turn st).0.stands
+
+pub returns-in-SendTimedOut-clause-goes_on : goal.returns-in-SendTimedOut-clause-goes_on
+returns-in-SendTimedOut-clause-goes_on g c =
+    (serve_along c.serve-served.result c.args.self.now.single c.serve-served.new.self c.args.self.now.player quiet c.requires.stands.0 c.serve-served.ensures.turn c.requires.stands.1).0.goes_on
+
+pub returns-in-SendTimedOut-clause-texts : goal.returns-in-SendTimedOut-clause-texts
+returns-in-SendTimedOut-clause-texts g c =
+    serve_texts c.serve-served.result c.args.self.now.single c.serve-served.new.self c.args.self.now.player c.requires.stands.0 c.serve-served.ensures.turn c.requires.stands.1
+
+pub returns-in-Finished-clause-stands : goal.returns-in-Finished-clause-stands
+returns-in-Finished-clause-stands g c = λ now st.
+    (serve_along c.serve-served.result c.args.self.now.single c.serve-served.new.self c.args.self.now.player quiet now c.serve-served.ensures.turn st).0.stands
+
+pub returns-in-Finished-clause-goes_on : goal.returns-in-Finished-clause-goes_on
+returns-in-Finished-clause-goes_on g c =
+    (serve_along c.serve-served.result c.args.self.now.single c.serve-served.new.self c.args.self.now.player quiet c.requires.stands.0 c.serve-served.ensures.turn c.requires.stands.1).0.goes_on
+
+pub returns-in-Finished-clause-texts : goal.returns-in-Finished-clause-texts
+returns-in-Finished-clause-texts g c =
+    serve_texts c.serve-served.result c.args.self.now.single c.serve-served.new.self c.args.self.now.player c.requires.stands.0 c.serve-served.ensures.turn c.requires.stands.1
+
+pub returns-then-served-gt0-clause-went : goal.returns-then-served-gt0-clause-went
+returns-then-served-gt0-clause-went g c =
+    let a = serve_along c.serve-served.result c.args.self.now.single c.serve-served.new.self c.args.self.now.player quiet c.requires.stands.0 c.serve-served.ensures.turn c.requires.stands.1 in
+    may_tick_at_end c.serve-served.new.self.setting c.serve-served.new.self.seen c.args.self.now.player a.0.stands.play a.1 c.requires.free c.requires.over
+
+pub returns-in-SendTimedOut-clause-went : goal.returns-in-SendTimedOut-clause-went
+returns-in-SendTimedOut-clause-went g c =
+    let none : c.serve-served.result.waiting ≡ 0 = search rules in (
+      record {
+        free = c.requires.free;
+        cleared = through c.serve-served.result c.args.self.now.single c.serve-served.new.self c.args.self.now.player c.requires.stands.0 c.serve-served.ensures.turn c.requires.stands.1 c.requires.free none;
+      },
+      c.in-SendTimedOut.is,
+    )
+
+pub returns-in-Finished-clause-went : goal.returns-in-Finished-clause-went
+returns-in-Finished-clause-went g c =
+    let none : c.serve-served.result.waiting ≡ 0 = search rules in (
+      record {
+        free = c.requires.free;
+        cleared = through c.serve-served.result c.args.self.now.single c.serve-served.new.self c.args.self.now.player c.requires.stands.0 c.serve-served.ensures.turn c.requires.stands.1 c.requires.free none;
+      },
+      c.in-Finished.is,
+    )

@@ -1,0 +1,18 @@
+use Rattle.std.proofs.Common.{◌≡◌, ◌≤◌, ◌+◌, take, false, length}
+use Rattle.sp_base.specs.Views.{NetView}
+use Rattle.cat_play.specs.Spending.{listens_of, dials_of}
+use Rattle.cat_rounds.specs.Going.{RunStands}
+use Rattle.cat_rounds.proofs.game.Game.follow.Given as goal
+
+abbrev pub invariant-loop-end : goal.invariant-loop-end
+invariant-loop-end g l = record {
+  some : (start : NetView) × RunStands g.L.Link.seen start l.self.single l.self.ends l.self.player (g.N.Net.seen l.net) false;
+  stands : (start : NetView) → RunStands g.L.Link.seen start l.fn.self.single l.fn.self.ends l.fn.self.player (g.N.Net.seen l.fn.net) false → RunStands g.L.Link.seen start l.self.single l.self.ends l.self.player (g.N.Net.seen l.net) false;
+  single : l.self.single ≡ l.fn.self.single;
+  player : l.self.player ≡ l.fn.self.player;
+  listens : length l.self.ends.listeners ≡ listens_of (take l.end-index l.ends);
+  dials : length l.self.ends.dialers ≡ dials_of (take l.end-index l.ends);
+  count : length l.self.ends.listeners + length l.self.ends.dialers ≤ l.end-index;
+  opened : (g.N.Net.seen l.net).opened ≡ (g.N.Net.seen l.fn.net).opened;
+  faults : (g.N.Net.seen l.fn.net).faults ≤ (g.N.Net.seen l.net).faults;
+}

@@ -1,0 +1,39 @@
+use Rattle.std.proofs.Common.{◌∙◌, refl, arith}
+use Rattle.sp_history.specs.Past.{past_of}
+use Rattle.cat_rounds.proofs.Counted.{no_ticks, never, same_ends, same_then}
+use Rattle.cat_rounds.proofs.game.Game.go_round.Goals as goal
+
+pub rounds-init : goal.rounds-init
+rounds-init g c =
+    let none = no_ticks (past_of c.args.self.now.single.seen) c.requires.unticked in
+    let zero = never (past_of c.args.self.now.single.seen) c.requires.unticked in
+    record {
+      some = c.requires.stands;
+      stands = λ start run. run;
+      may_tick = c.requires.may_tick;
+      printed = λ before h. h;
+      later = omega arith;
+      same = (same_ends c.args.self.now.ends, refl, refl);
+      left_ = omega (arith, none);
+      count = omega (arith, none);
+      now_is = omega (arith, zero);
+      silent = refl;
+    }
+
+pub rounds-preserved : goal.rounds-preserved
+rounds-preserved g c =
+    let i = c.rounds.invariant in
+    let r = c.in-Goes.ensures in
+    let paced = c.in-At.ensures in
+    record {
+      some = (i.some.0, r.stands i.some.0 i.some.1);
+      stands = λ start run. r.stands start (i.stands start run);
+      may_tick = r.went;
+      printed = λ before h. r.printed before (i.printed before h);
+      later = omega (arith, i.later, r.sinks.later);
+      same = (same_then c.args.self.now.ends c.rounds.self.ends c.round.new.self.ends i.same.0 r.same.0, r.same.1 ∙ i.same.1, r.same.2 ∙ i.same.2);
+      left_ = omega (arith, i.left_, paced.0, r.ticked.ticks_are);
+      count = omega (arith, i.count, r.ticked.ticks_are);
+      now_is = omega (arith, r.ticked.now_is, paced.2);
+      silent = paced.3 ∙ i.silent;
+    }

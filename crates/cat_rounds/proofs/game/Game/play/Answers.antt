@@ -1,0 +1,11 @@
+use Rattle.std.proofs.Common.{rules, ◌≡◌}
+use Rattle.cat_rounds.specs.declared.player.Over.TheVariants as overs
+use Rattle.cat_rounds.proofs.Rounding.{free_at_end}
+use Rattle.cat_rounds.proofs.game.Game.play.Goals as goal
+
+pub returns-then-ne-clause-went : goal.returns-then-ne-clause-went
+returns-then-ne-clause-went g c =
+    let i = c.sweeps.invariant in
+    let p = c.sweeps.self.player in
+    let n : p.over ≡ overs.Open → ⊥ = search rules in
+    (free_at_end c.sweeps.self.single.setting c.sweeps.self.single.seen p i.along.stands.play n, n)

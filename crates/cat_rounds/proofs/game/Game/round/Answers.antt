@@ -1,0 +1,243 @@
+use Rattle.std.proofs.Common.{sym, ◌∙◌, ap, subst}
+use Rattle.sp_spec.specs.Outside.{grown}
+use Rattle.cat_play.specs.Scripts.{joined}
+use Rattle.std.proofs.Common.{false}
+use Rattle.sp_ends.specs.Turning.{IsDry}
+use Rattle.cat_rounds.specs.Lasting.{HasPrinted}
+use Rattle.cat_rounds.proofs.Opening.{opens, quiet_stands, quiet_texts, quiet_ticks, on_ticks, run_on, round_stands, round_prints, cut_nowhere}
+use Rattle.cat_rounds.proofs.game.Game.round.Goals as goal
+
+pub turn-turn-requires-clause-ticked : goal.turn-turn-requires-clause-ticked
+turn-turn-requires-clause-ticked g c =
+    let run = c.requires.stands in
+    (run.0, (opens g.L.Link.seen run.0 (g.N.Net.seen c.args.net.now) c.args.self.now.single c.tick.new.self c.args.self.now.ends c.args.self.now.player c.args.now c.tick.ensures.turn c.tick.ensures.open_ run.1 c.requires.may_tick c.requires.later).links)
+
+pub turn-turn-requires-clause-now : goal.turn-turn-requires-clause-now
+turn-turn-requires-clause-now g c =
+    let run = c.requires.stands in
+    (opens g.L.Link.seen run.0 (g.N.Net.seen c.args.net.now) c.args.self.now.single c.tick.new.self c.args.self.now.ends c.args.self.now.player c.args.now c.tick.ensures.turn c.tick.ensures.open_ run.1 c.requires.may_tick c.requires.later).stands.now_is
+
+pub turn-turn-requires-clause-dry : goal.turn-turn-requires-clause-dry
+turn-turn-requires-clause-dry g c =
+    let run = c.requires.stands in
+    (opens g.L.Link.seen run.0 (g.N.Net.seen c.args.net.now) c.args.self.now.single c.tick.new.self c.args.self.now.ends c.args.self.now.player c.args.now c.tick.ensures.turn c.tick.ensures.open_ run.1 c.requires.may_tick c.requires.later).dry
+
+pub play-requires : goal.play-requires
+play-requires g c =
+    let run = c.requires.stands in
+    let o = opens g.L.Link.seen run.0 (g.N.Net.seen c.args.net.now) c.args.self.now.single c.tick.new.self c.args.self.now.ends c.args.self.now.player c.args.now c.tick.ensures.turn c.tick.ensures.open_ run.1 c.requires.may_tick c.requires.later in
+    record { stands = quiet_stands c.tick.new.self c.turn-turn.new.single c.args.self.now.player c.args.now c.turn-turn.ensures.quietly c.turn-turn.ensures.sound o.stands }
+
+pub returns-then-turn-clause-stands : goal.returns-then-turn-clause-stands
+returns-then-turn-clause-stands g c = λ start run.
+    let o = opens g.L.Link.seen start (g.N.Net.seen c.args.net.now) c.args.self.now.single c.tick.new.self c.args.self.now.ends c.args.self.now.player c.args.now c.tick.ensures.turn c.tick.ensures.open_ run c.requires.may_tick c.requires.later in
+    let s1 = c.tick.new.self in
+    let s2 = c.turn-turn.new.single in
+    let p = c.args.self.now.player in
+    let t = c.turn-turn.ensures in
+    let st = quiet_stands s1 s2 p c.args.now t.quietly t.sound o.stands in
+    (c.turn-turn.result.is_dry, record { sound = t.sound; play = st.play; ends_stand = t.stands start o.links; dry = t.dry })
+
+pub returns-then-turn-clause-ticked : goal.returns-then-turn-clause-ticked
+returns-then-turn-clause-ticked g c =
+    let run = c.requires.stands in
+    let o = opens g.L.Link.seen run.0 (g.N.Net.seen c.args.net.now) c.args.self.now.single c.tick.new.self c.args.self.now.ends c.args.self.now.player c.args.now c.tick.ensures.turn c.tick.ensures.open_ run.1 c.requires.may_tick c.requires.later in
+    let s1 = c.tick.new.self in
+    let s2 = c.turn-turn.new.single in
+    let p = c.args.self.now.player in
+    let t = c.turn-turn.ensures in
+    let st = quiet_stands s1 s2 p c.args.now t.quietly t.sound o.stands in
+    record { now_is = sym st.now_is; ticks_are = quiet_ticks s1 s2 t.quietly ∙ o.ticks_are }
+
+pub returns-then-turn-clause-printed : goal.returns-then-turn-clause-printed
+returns-then-turn-clause-printed g c = λ before h.
+    let run = c.requires.stands in
+    let o = opens g.L.Link.seen run.0 (g.N.Net.seen c.args.net.now) c.args.self.now.single c.tick.new.self c.args.self.now.ends c.args.self.now.player c.args.now c.tick.ensures.turn c.tick.ensures.open_ run.1 c.requires.may_tick c.requires.later in
+    let s1 = c.tick.new.self in
+    let s2 = c.turn-turn.new.single in
+    let p = c.args.self.now.player in
+    let t = c.turn-turn.ensures in
+    let st = quiet_stands s1 s2 p c.args.now t.quietly t.sound o.stands in
+    cut_nowhere before (g.S.Sink.seen c.args.out.now).text s2.seen p (h ∙ ap (λ ts. grown before (joined ts)) (sym (quiet_texts s1 s2 p c.args.now t.quietly o.stands ∙ o.texts_are)))
+
+pub returns-then-moved-clause-stands : goal.returns-then-moved-clause-stands
+returns-then-moved-clause-stands g c = λ start run.
+    let o = opens g.L.Link.seen start (g.N.Net.seen c.args.net.now) c.args.self.now.single c.tick.new.self c.args.self.now.ends c.args.self.now.player c.args.now c.tick.ensures.turn c.tick.ensures.open_ run c.requires.may_tick c.requires.later in
+    let s1 = c.tick.new.self in
+    let s2 = c.turn-turn.new.single in
+    let p = c.args.self.now.player in
+    let t = c.turn-turn.ensures in
+    let st = quiet_stands s1 s2 p c.args.now t.quietly t.sound o.stands in
+    let y = c.play.ensures in
+    let dry : IsDry false s2 = t.dry ∙ c.if-turn.false in
+    run_on g.L.Link.seen start (g.N.Net.seen c.turn-turn.new.net) s2 c.play.new.self.single c.turn-turn.new.self c.play.new.self.ends c.play.new.self.player c.args.now y.goes_on y.same.1 y.stands dry (t.stands start o.links)
+
+pub returns-then-moved-clause-ticked : goal.returns-then-moved-clause-ticked
+returns-then-moved-clause-ticked g c =
+    let run = c.requires.stands in
+    let o = opens g.L.Link.seen run.0 (g.N.Net.seen c.args.net.now) c.args.self.now.single c.tick.new.self c.args.self.now.ends c.args.self.now.player c.args.now c.tick.ensures.turn c.tick.ensures.open_ run.1 c.requires.may_tick c.requires.later in
+    let s1 = c.tick.new.self in
+    let s2 = c.turn-turn.new.single in
+    let p = c.args.self.now.player in
+    let t = c.turn-turn.ensures in
+    let st = quiet_stands s1 s2 p c.args.now t.quietly t.sound o.stands in
+    let y = c.play.ensures in
+    record { now_is = sym y.stands.now_is; ticks_are = on_ticks s2 c.play.new.self.single y.goes_on ∙ (quiet_ticks s1 s2 t.quietly ∙ o.ticks_are) }
+
+pub returns-then-moved-clause-printed : goal.returns-then-moved-clause-printed
+returns-then-moved-clause-printed g c = λ before h.
+    let run = c.requires.stands in
+    let o = opens g.L.Link.seen run.0 (g.N.Net.seen c.args.net.now) c.args.self.now.single c.tick.new.self c.args.self.now.ends c.args.self.now.player c.args.now c.tick.ensures.turn c.tick.ensures.open_ run.1 c.requires.may_tick c.requires.later in
+    let s1 = c.tick.new.self in
+    let s2 = c.turn-turn.new.single in
+    let p = c.args.self.now.player in
+    let t = c.turn-turn.ensures in
+    let st = quiet_stands s1 s2 p c.args.now t.quietly t.sound o.stands in
+    c.in-Rests.ensures.printed before (h ∙ ap (λ ts. grown before (joined ts)) (sym (quiet_texts s1 s2 p c.args.now t.quietly o.stands ∙ o.texts_are)))
+
+pub returns-else-moved-clause-stands : goal.returns-else-moved-clause-stands
+returns-else-moved-clause-stands g c = λ start run.
+    let o = opens g.L.Link.seen start (g.N.Net.seen c.args.net.now) c.args.self.now.single c.tick.new.self c.args.self.now.ends c.args.self.now.player c.args.now c.tick.ensures.turn c.tick.ensures.open_ run c.requires.may_tick c.requires.later in
+    let s1 = c.tick.new.self in
+    let s2 = c.turn-turn.new.single in
+    let p = c.args.self.now.player in
+    let t = c.turn-turn.ensures in
+    let st = quiet_stands s1 s2 p c.args.now t.quietly t.sound o.stands in
+    let y = c.play.ensures in
+    let dry : IsDry false s2 = t.dry ∙ c.if-turn.false in
+    run_on g.L.Link.seen start (g.N.Net.seen c.turn-turn.new.net) s2 c.play.new.self.single c.turn-turn.new.self c.play.new.self.ends c.play.new.self.player c.args.now y.goes_on y.same.1 y.stands dry (t.stands start o.links)
+
+pub returns-else-moved-clause-ticked : goal.returns-else-moved-clause-ticked
+returns-else-moved-clause-ticked g c =
+    let run = c.requires.stands in
+    let o = opens g.L.Link.seen run.0 (g.N.Net.seen c.args.net.now) c.args.self.now.single c.tick.new.self c.args.self.now.ends c.args.self.now.player c.args.now c.tick.ensures.turn c.tick.ensures.open_ run.1 c.requires.may_tick c.requires.later in
+    let s1 = c.tick.new.self in
+    let s2 = c.turn-turn.new.single in
+    let p = c.args.self.now.player in
+    let t = c.turn-turn.ensures in
+    let st = quiet_stands s1 s2 p c.args.now t.quietly t.sound o.stands in
+    let y = c.play.ensures in
+    record { now_is = sym y.stands.now_is; ticks_are = on_ticks s2 c.play.new.self.single y.goes_on ∙ (quiet_ticks s1 s2 t.quietly ∙ o.ticks_are) }
+
+pub returns-else-moved-clause-printed : goal.returns-else-moved-clause-printed
+returns-else-moved-clause-printed g c = λ before h.
+    let run = c.requires.stands in
+    let o = opens g.L.Link.seen run.0 (g.N.Net.seen c.args.net.now) c.args.self.now.single c.tick.new.self c.args.self.now.ends c.args.self.now.player c.args.now c.tick.ensures.turn c.tick.ensures.open_ run.1 c.requires.may_tick c.requires.later in
+    let s1 = c.tick.new.self in
+    let s2 = c.turn-turn.new.single in
+    let p = c.args.self.now.player in
+    let t = c.turn-turn.ensures in
+    let st = quiet_stands s1 s2 p c.args.now t.quietly t.sound o.stands in
+    c.in-Rests.ensures.printed before (h ∙ ap (λ ts. grown before (joined ts)) (sym (quiet_texts s1 s2 p c.args.now t.quietly o.stands ∙ o.texts_are)))
+
+pub returns-in-OutFault-clause-stands : goal.returns-in-OutFault-clause-stands
+returns-in-OutFault-clause-stands g c = λ start run.
+    let o = opens g.L.Link.seen start (g.N.Net.seen c.args.net.now) c.args.self.now.single c.tick.new.self c.args.self.now.ends c.args.self.now.player c.args.now c.tick.ensures.turn c.tick.ensures.open_ run c.requires.may_tick c.requires.later in
+    let s1 = c.tick.new.self in
+    let s2 = c.turn-turn.new.single in
+    let p = c.args.self.now.player in
+    let t = c.turn-turn.ensures in
+    let st = quiet_stands s1 s2 p c.args.now t.quietly t.sound o.stands in
+    let y = c.play.ensures in
+    let dry : IsDry false s2 = t.dry ∙ c.if-turn.false in
+    run_on g.L.Link.seen start (g.N.Net.seen c.turn-turn.new.net) s2 c.play.new.self.single c.turn-turn.new.self c.play.new.self.ends c.play.new.self.player c.args.now y.goes_on y.same.1 y.stands dry (t.stands start o.links)
+
+pub returns-in-OutFault-clause-ticked : goal.returns-in-OutFault-clause-ticked
+returns-in-OutFault-clause-ticked g c =
+    let run = c.requires.stands in
+    let o = opens g.L.Link.seen run.0 (g.N.Net.seen c.args.net.now) c.args.self.now.single c.tick.new.self c.args.self.now.ends c.args.self.now.player c.args.now c.tick.ensures.turn c.tick.ensures.open_ run.1 c.requires.may_tick c.requires.later in
+    let s1 = c.tick.new.self in
+    let s2 = c.turn-turn.new.single in
+    let p = c.args.self.now.player in
+    let t = c.turn-turn.ensures in
+    let st = quiet_stands s1 s2 p c.args.now t.quietly t.sound o.stands in
+    let y = c.play.ensures in
+    record { now_is = sym y.stands.now_is; ticks_are = on_ticks s2 c.play.new.self.single y.goes_on ∙ (quiet_ticks s1 s2 t.quietly ∙ o.ticks_are) }
+
+pub returns-in-OutFault-clause-printed : goal.returns-in-OutFault-clause-printed
+returns-in-OutFault-clause-printed g c = λ before h.
+    let run = c.requires.stands in
+    let o = opens g.L.Link.seen run.0 (g.N.Net.seen c.args.net.now) c.args.self.now.single c.tick.new.self c.args.self.now.ends c.args.self.now.player c.args.now c.tick.ensures.turn c.tick.ensures.open_ run.1 c.requires.may_tick c.requires.later in
+    let s1 = c.tick.new.self in
+    let s2 = c.turn-turn.new.single in
+    let p = c.args.self.now.player in
+    let t = c.turn-turn.ensures in
+    let st = quiet_stands s1 s2 p c.args.now t.quietly t.sound o.stands in
+    c.in-OutFault.ensures.printed before (h ∙ ap (λ ts. grown before (joined ts)) (sym (quiet_texts s1 s2 p c.args.now t.quietly o.stands ∙ o.texts_are)))
+
+pub returns-in-NoMemory-clause-stands : goal.returns-in-NoMemory-clause-stands
+returns-in-NoMemory-clause-stands g c = λ start run.
+    let o = opens g.L.Link.seen start (g.N.Net.seen c.args.net.now) c.args.self.now.single c.tick.new.self c.args.self.now.ends c.args.self.now.player c.args.now c.tick.ensures.turn c.tick.ensures.open_ run c.requires.may_tick c.requires.later in
+    let s1 = c.tick.new.self in
+    let s2 = c.turn-turn.new.single in
+    let p = c.args.self.now.player in
+    let t = c.turn-turn.ensures in
+    let st = quiet_stands s1 s2 p c.args.now t.quietly t.sound o.stands in
+    let y = c.play.ensures in
+    let dry : IsDry false s2 = t.dry ∙ c.if-turn.false in
+    (false, run_on g.L.Link.seen start (g.N.Net.seen c.turn-turn.new.net) s2 c.play.new.self.single c.turn-turn.new.self c.play.new.self.ends c.play.new.self.player c.args.now y.goes_on y.same.1 y.stands dry (t.stands start o.links))
+
+pub returns-in-NoMemory-clause-ticked : goal.returns-in-NoMemory-clause-ticked
+returns-in-NoMemory-clause-ticked g c =
+    let run = c.requires.stands in
+    let o = opens g.L.Link.seen run.0 (g.N.Net.seen c.args.net.now) c.args.self.now.single c.tick.new.self c.args.self.now.ends c.args.self.now.player c.args.now c.tick.ensures.turn c.tick.ensures.open_ run.1 c.requires.may_tick c.requires.later in
+    let s1 = c.tick.new.self in
+    let s2 = c.turn-turn.new.single in
+    let p = c.args.self.now.player in
+    let t = c.turn-turn.ensures in
+    let st = quiet_stands s1 s2 p c.args.now t.quietly t.sound o.stands in
+    let y = c.play.ensures in
+    record { now_is = sym y.stands.now_is; ticks_are = on_ticks s2 c.play.new.self.single y.goes_on ∙ (quiet_ticks s1 s2 t.quietly ∙ o.ticks_are) }
+
+pub returns-in-NoMemory-clause-printed : goal.returns-in-NoMemory-clause-printed
+returns-in-NoMemory-clause-printed g c = λ before h.
+    let run = c.requires.stands in
+    let o = opens g.L.Link.seen run.0 (g.N.Net.seen c.args.net.now) c.args.self.now.single c.tick.new.self c.args.self.now.ends c.args.self.now.player c.args.now c.tick.ensures.turn c.tick.ensures.open_ run.1 c.requires.may_tick c.requires.later in
+    let s1 = c.tick.new.self in
+    let s2 = c.turn-turn.new.single in
+    let p = c.args.self.now.player in
+    let t = c.turn-turn.ensures in
+    let st = quiet_stands s1 s2 p c.args.now t.quietly t.sound o.stands in
+    c.in-NoMemory.ensures.printed before (h ∙ ap (λ ts. grown before (joined ts)) (sym (quiet_texts s1 s2 p c.args.now t.quietly o.stands ∙ o.texts_are)))
+
+pub returns-in-Over-clause-stands : goal.returns-in-Over-clause-stands
+returns-in-Over-clause-stands g c = λ start run.
+    let o = opens g.L.Link.seen start (g.N.Net.seen c.args.net.now) c.args.self.now.single c.tick.new.self c.args.self.now.ends c.args.self.now.player c.args.now c.tick.ensures.turn c.tick.ensures.open_ run c.requires.may_tick c.requires.later in
+    let s1 = c.tick.new.self in
+    let s2 = c.turn-turn.new.single in
+    let p = c.args.self.now.player in
+    let t = c.turn-turn.ensures in
+    let st = quiet_stands s1 s2 p c.args.now t.quietly t.sound o.stands in
+    let y = c.play.ensures in
+    let dry : IsDry false s2 = t.dry ∙ c.if-turn.false in
+    let s3 = c.play.new.self.single in
+    let d = c.drain.ensures in
+    let mid = run_on g.L.Link.seen start (g.N.Net.seen c.turn-turn.new.net) s2 s3 c.turn-turn.new.self c.play.new.self.ends c.play.new.self.player c.args.now y.goes_on y.same.1 y.stands dry (t.stands start o.links) in
+    round_stands g.L.Link.seen start (g.N.Net.seen c.turn-turn.new.net) c.drain.result c.drain.new.self.single c.drain.new.self.ends c.drain.new.self.player d.fault.1 (run_on g.L.Link.seen start (g.N.Net.seen c.turn-turn.new.net) s3 c.drain.new.self.single c.play.new.self.ends c.drain.new.self.ends c.drain.new.self.player c.args.now d.goes_on d.same.1 (d.stands c.args.now y.stands) mid.dry mid.ends_stand)
+
+pub returns-in-Over-clause-ticked : goal.returns-in-Over-clause-ticked
+returns-in-Over-clause-ticked g c =
+    let run = c.requires.stands in
+    let o = opens g.L.Link.seen run.0 (g.N.Net.seen c.args.net.now) c.args.self.now.single c.tick.new.self c.args.self.now.ends c.args.self.now.player c.args.now c.tick.ensures.turn c.tick.ensures.open_ run.1 c.requires.may_tick c.requires.later in
+    let s1 = c.tick.new.self in
+    let s2 = c.turn-turn.new.single in
+    let p = c.args.self.now.player in
+    let t = c.turn-turn.ensures in
+    let st = quiet_stands s1 s2 p c.args.now t.quietly t.sound o.stands in
+    let y = c.play.ensures in
+    let s3 = c.play.new.self.single in
+    let d = c.drain.ensures in
+    record { now_is = sym (d.stands c.args.now y.stands).now_is; ticks_are = on_ticks s3 c.drain.new.self.single d.goes_on ∙ (on_ticks s2 s3 y.goes_on ∙ (quiet_ticks s1 s2 t.quietly ∙ o.ticks_are)) }
+
+pub returns-in-Over-clause-printed : goal.returns-in-Over-clause-printed
+returns-in-Over-clause-printed g c = λ before h.
+    let run = c.requires.stands in
+    let o = opens g.L.Link.seen run.0 (g.N.Net.seen c.args.net.now) c.args.self.now.single c.tick.new.self c.args.self.now.ends c.args.self.now.player c.args.now c.tick.ensures.turn c.tick.ensures.open_ run.1 c.requires.may_tick c.requires.later in
+    let s1 = c.tick.new.self in
+    let s2 = c.turn-turn.new.single in
+    let p = c.args.self.now.player in
+    let t = c.turn-turn.ensures in
+    let st = quiet_stands s1 s2 p c.args.now t.quietly t.sound o.stands in
+    let d = c.drain.ensures in
+    let f = c.in-Over.ensures.printed before (h ∙ ap (λ ts. grown before (joined ts)) (sym (quiet_texts s1 s2 p c.args.now t.quietly o.stands ∙ o.texts_are))) in
+    round_prints c.drain.result before (g.S.Sink.seen c.play.new.out).text c.drain.new.self.single.seen c.drain.new.self.player d.fault.0 d.fault.1 (subst (λ q. HasPrinted before (g.S.Sink.seen c.play.new.out).text c.drain.new.self.single.seen q) (sym d.same.0) (f ∙ ap (λ ts. grown before (joined ts)) (sym d.texts)))

@@ -1,0 +1,18 @@
+use Rattle.cat_rounds.proofs.Rounding.{along_then, served_on}
+use Rattle.cat_rounds.proofs.game.Game.steps.Goals as goal
+
+pub returns-in-Rests-clause-went : goal.returns-in-Rests-clause-went
+returns-in-Rests-clause-went g c =
+    let e = c.in-Rests.ensures in
+    (served_on c.steps.self.single c.step.new.single e.goes_on c.steps.invariant.served, e.rested)
+
+pub steps-preserved : goal.steps-preserved
+steps-preserved g c =
+    let e = c.in-Begun.ensures in
+    let i = c.steps.invariant in
+    record {
+      along = along_then c.args.self.now.single c.steps.self.single c.step.new.single c.args.self.now.player c.steps.self.player c.step.new.self (g.S.Sink.seen c.args.out.now) (g.S.Sink.seen c.steps.out) (g.S.Sink.seen c.step.new.out) c.args.now i.along (record { stands = e.stands; goes_on = e.goes_on; script = e.script; printed = e.printed; later = e.sinks.later });
+      served = served_on c.steps.self.single c.step.new.single e.goes_on i.served;
+      played = λ _. e.rested;
+      ends = i.ends;
+    }

@@ -1,0 +1,60 @@
+use Rattle.cat_rounds.proofs.Rounding.{serve_along, goes_then}
+use Rattle.cat_rounds.proofs.game.Game.sweep.Goals as goal
+
+pub steps-requires-clause-stands : goal.steps-requires-clause-stands
+steps-requires-clause-stands g c =
+    (serve_along c.serve-served.result c.args.self.now.single c.serve-served.new.self c.args.self.now.player (g.S.Sink.seen c.args.out.now) c.args.now c.serve-served.ensures.turn c.requires.stands).0.stands
+
+pub steps-requires-clause-served : goal.steps-requires-clause-served
+steps-requires-clause-served g c =
+    (serve_along c.serve-served.result c.args.self.now.single c.serve-served.new.self c.args.self.now.player (g.S.Sink.seen c.args.out.now) c.args.now c.serve-served.ensures.turn c.requires.stands).1
+
+pub returns-then-went-clause-goes_on : goal.returns-then-went-clause-goes_on
+returns-then-went-clause-goes_on g c =
+    let first = (serve_along c.serve-served.result c.args.self.now.single c.serve-served.new.self c.args.self.now.player (g.S.Sink.seen c.args.out.now) c.args.now c.serve-served.ensures.turn c.requires.stands).0 in
+    goes_then c.args.self.now.single c.serve-served.new.self c.steps.new.self.single first.goes_on c.steps.ensures.goes_on
+
+pub returns-then-went-clause-printed : goal.returns-then-went-clause-printed
+returns-then-went-clause-printed g c =
+    let first = (serve_along c.serve-served.result c.args.self.now.single c.serve-served.new.self c.args.self.now.player (g.S.Sink.seen c.args.out.now) c.args.now c.serve-served.ensures.turn c.requires.stands).0 in
+    λ before h. c.in-Rests.ensures.printed before (first.printed before h)
+
+pub returns-else-went-clause-goes_on : goal.returns-else-went-clause-goes_on
+returns-else-went-clause-goes_on g c =
+    let first = (serve_along c.serve-served.result c.args.self.now.single c.serve-served.new.self c.args.self.now.player (g.S.Sink.seen c.args.out.now) c.args.now c.serve-served.ensures.turn c.requires.stands).0 in
+    goes_then c.args.self.now.single c.serve-served.new.self c.steps.new.self.single first.goes_on c.steps.ensures.goes_on
+
+pub returns-else-went-clause-printed : goal.returns-else-went-clause-printed
+returns-else-went-clause-printed g c =
+    let first = (serve_along c.serve-served.result c.args.self.now.single c.serve-served.new.self c.args.self.now.player (g.S.Sink.seen c.args.out.now) c.args.now c.serve-served.ensures.turn c.requires.stands).0 in
+    λ before h. c.in-Rests.ensures.printed before (first.printed before h)
+
+pub returns-in-Over-clause-goes_on : goal.returns-in-Over-clause-goes_on
+returns-in-Over-clause-goes_on g c =
+    let first = (serve_along c.serve-served.result c.args.self.now.single c.serve-served.new.self c.args.self.now.player (g.S.Sink.seen c.args.out.now) c.args.now c.serve-served.ensures.turn c.requires.stands).0 in
+    goes_then c.args.self.now.single c.serve-served.new.self c.steps.new.self.single first.goes_on c.steps.ensures.goes_on
+
+pub returns-in-Over-clause-printed : goal.returns-in-Over-clause-printed
+returns-in-Over-clause-printed g c =
+    let first = (serve_along c.serve-served.result c.args.self.now.single c.serve-served.new.self c.args.self.now.player (g.S.Sink.seen c.args.out.now) c.args.now c.serve-served.ensures.turn c.requires.stands).0 in
+    λ before h. c.in-Over.ensures.printed before (first.printed before h)
+
+pub returns-in-OutFault-clause-goes_on : goal.returns-in-OutFault-clause-goes_on
+returns-in-OutFault-clause-goes_on g c =
+    let first = (serve_along c.serve-served.result c.args.self.now.single c.serve-served.new.self c.args.self.now.player (g.S.Sink.seen c.args.out.now) c.args.now c.serve-served.ensures.turn c.requires.stands).0 in
+    goes_then c.args.self.now.single c.serve-served.new.self c.steps.new.self.single first.goes_on c.steps.ensures.goes_on
+
+pub returns-in-OutFault-clause-printed : goal.returns-in-OutFault-clause-printed
+returns-in-OutFault-clause-printed g c =
+    let first = (serve_along c.serve-served.result c.args.self.now.single c.serve-served.new.self c.args.self.now.player (g.S.Sink.seen c.args.out.now) c.args.now c.serve-served.ensures.turn c.requires.stands).0 in
+    λ before h. c.in-OutFault.ensures.printed before (first.printed before h)
+
+pub returns-in-NoMemory-clause-goes_on : goal.returns-in-NoMemory-clause-goes_on
+returns-in-NoMemory-clause-goes_on g c =
+    let first = (serve_along c.serve-served.result c.args.self.now.single c.serve-served.new.self c.args.self.now.player (g.S.Sink.seen c.args.out.now) c.args.now c.serve-served.ensures.turn c.requires.stands).0 in
+    goes_then c.args.self.now.single c.serve-served.new.self c.steps.new.self.single first.goes_on c.steps.ensures.goes_on
+
+pub returns-in-NoMemory-clause-printed : goal.returns-in-NoMemory-clause-printed
+returns-in-NoMemory-clause-printed g c =
+    let first = (serve_along c.serve-served.result c.args.self.now.single c.serve-served.new.self c.args.self.now.player (g.S.Sink.seen c.args.out.now) c.args.now c.serve-served.ensures.turn c.requires.stands).0 in
+    λ before h. c.in-NoMemory.ensures.printed before (first.printed before h)

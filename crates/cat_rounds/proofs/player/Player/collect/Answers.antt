@@ -1,0 +1,74 @@
+use Rattle.std.proofs.Common.{◌≡◌, ap, sym, ◌∙◌, subst, ℕ, Some}
+use Rattle.cat_play.specs.Scripts.{joined}
+use Rattle.sp_spec.specs.Outside.{grown}
+use Rattle.cat_rounds.specs.Lasting.{play_of}
+use Rattle.cat_rounds.specs.Stepping.{Stands, NotedAs, PutsFor}
+use Rattle.cat_rounds.proofs.Settling.{settling_silent, settling_linkless}
+use Rattle.cat_rounds.proofs.Begins.{silent_stands, silent_texts, goes_on_by}
+use Rattle.cat_rounds.proofs.Collects.{IsCollected, is_collected, busy_is_due, noted_stands, noted_prints, noted_script, stays_busy, not_left, pending_now}
+use Rattle.cat_rounds.proofs.player.Player.collect.Given
+use Rattle.cat_rounds.proofs.player.Player.collect.Goals as goal
+
+pub note-requires-clause-due : goal.note-requires-clause-due
+note-requires-clause-due g c =
+    busy_is_due c.args.single.now c.args.self.now c.requires.stands.0 c.in-Some.op c.requires.stands.1 (sym c.in-Some.ensures.value)
+
+-- ---- Where it has not ended
+
+stands_still : (g : Given.Over) → (c : goal.After-hold g) → (t : ℕ) → Stands c.args.single.now c.args.self.now t → Stands c.collect.new.self c.args.self.now t
+stands_still g c t was =
+    let took = c.in-NotYet.ensures.turn in
+    silent_stands c.args.single.now c.collect.new.self took c.args.self.now t (settling_silent took.turn.entries took.said.1) was
+
+held_again : (g : Given.Over) → (c : goal.After-hold g) → c.hold.new.place ≡ c.args.self.now.op
+held_again g c =
+    c.hold.ensures ∙ (ap (λ o. Some o) c.in-NotYet.ensures.turn.said.0 ∙ c.in-Some.ensures.value)
+
+pub returns-in-NotYet-clause-stands : goal.returns-in-NotYet-clause-stands
+returns-in-NotYet-clause-stands g c = λ t was. subst (λ o. Stands c.collect.new.self (record c.args.self.now { op = o }) t) (sym (held_again g c)) (stands_still g c t was)
+
+pub returns-in-NotYet-clause-goes_on : goal.returns-in-NotYet-clause-goes_on
+returns-in-NotYet-clause-goes_on g c =
+    let took = c.in-NotYet.ensures.turn in
+    goes_on_by c.args.single.now c.collect.new.self took (settling_linkless took.turn.entries took.said.1)
+
+pub returns-in-NotYet-clause-left : goal.returns-in-NotYet-clause-left
+returns-in-NotYet-clause-left g c =
+    let took = c.in-NotYet.ensures.turn in
+    not_left c.collect.new.self c.args.self.now c.requires.stands.0 c.in-Some.op took.said.2.0 (stands_still g c c.requires.stands.0 c.requires.stands.1) (sym c.in-Some.ensures.value) (pending_now c.args.single.now c.collect.new.self took c.in-Some.op took.said.2.0 took.said.2.1)
+
+pub returns-in-NotYet-clause-busy : goal.returns-in-NotYet-clause-busy
+returns-in-NotYet-clause-busy g c = λ e. stays_busy c.collect.new.self c.args.self.now c.requires.stands.0 c.in-Some.op (stands_still g c c.requires.stands.0 c.requires.stands.1) (sym c.in-Some.ensures.value)
+
+pub returns-in-NotYet-clause-printed : goal.returns-in-NotYet-clause-printed
+returns-in-NotYet-clause-printed g c = λ before had.
+    (let took = c.in-NotYet.ensures.turn in
+    had ∙ ap (λ ts. grown before (joined ts)) (sym (silent_texts c.args.single.now c.collect.new.self took (play_of c.args.self.now.script) (settling_silent took.turn.entries took.said.1) c.requires.stands.1.play.is_open)))
+
+-- ---- Where it has
+
+collected : (g : Given.Over) → (c : goal.After-note g) → (t : ℕ) → Stands c.args.single.now c.args.self.now t → IsCollected c.args.single.now c.collect.new.self c.args.self.now c.in-Some.op c.in-Ended.ensures.turn.said.1.0.act c.in-Ended.ensures.turn.said.1.1
+collected g c t was =
+    let took = c.in-Ended.ensures.turn in
+    is_collected c.args.single.now c.collect.new.self took c.args.self.now t c.in-Some.op took.said.1.0 took.said.1.1 took.said.0 took.said.1.2 was (sym c.in-Some.ensures.value)
+
+pub returns-in-Ended-clause-stands : goal.returns-in-Ended-clause-stands
+returns-in-Ended-clause-stands g c = λ t was.
+    (let said = c.in-Ended.ensures.turn.said in
+    let coll = collected g c t was in
+    record {
+      play = noted_stands c.args.single.now c.collect.new.self c.args.self.now c.note.new.self t c.in-Some.op said.1.0 said.1.1 c.take.new.self coll was (sym c.in-Some.ensures.value) c.take.ensures.after (subst (λ o. NotedAs o (record c.args.self.now { op = c.take.new.self }) c.note.new.self) said.1.3 c.note.ensures.noted);
+      sound = coll.sound;
+      now_is = was.now_is ∙ sym coll.leaves.now_is;
+    })
+
+pub returns-in-Ended-clause-goes_on : goal.returns-in-Ended-clause-goes_on
+returns-in-Ended-clause-goes_on g c = (collected g c c.requires.stands.0 c.requires.stands.1).goes_on
+
+pub returns-in-Ended-clause-left : goal.returns-in-Ended-clause-left
+returns-in-Ended-clause-left g c = (collected g c c.requires.stands.0 c.requires.stands.1).leaves.left_
+
+pub returns-in-Ended-clause-printed : goal.returns-in-Ended-clause-printed
+returns-in-Ended-clause-printed g c = λ before had.
+    (let said = c.in-Ended.ensures.turn.said in
+    noted_prints c.note.result c.args.single.now c.collect.new.self c.args.self.now c.note.new.self c.in-Some.op said.1.0 said.1.1 before (g.S.Sink.seen c.args.out.now).text (g.S.Sink.seen c.note.new.out).text (collected g c c.requires.stands.0 c.requires.stands.1) (noted_script c.in-Ended.outcome (record c.args.self.now { op = c.take.new.self }) c.note.new.self c.note.ensures.noted) (subst (λ o. PutsFor o c.note.result c.note.new.self (g.S.Sink.seen c.args.out.now).text (g.S.Sink.seen c.note.new.out).text) said.1.3 c.note.ensures.printed) had)

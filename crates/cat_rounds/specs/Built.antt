@@ -1,0 +1,114 @@
+-- Which plans can be played, and how a run of one begins and ends.
+use Rattle.std.specs.Prelude.{◌≡◌, ◌≤◌, [], ◌⊎◌, ◌||◌, not, ℕ, ⊤, true, false, Bool, IsTrue, List, length, Result, Option, Some, None}
+use Rattle.std.specs.List.{AllByRecursion}
+use Rattle.turn_lock.specs.declared.turn.Turn.{Turn}
+use Rattle.sp_spec.specs.Outside.{Rose}
+use Rattle.sp_base.specs.Addresses.{scheme_of, is_dialable}
+use Rattle.sp_base.specs.Views.{LinkView, NetView, PaceView, SinkView}
+use Rattle.sp_base.specs.declared.addr.Scheme.TheVariants as schemes
+use Rattle.sp_history.specs.declared.entry.Entry.{Entry}
+use Rattle.sp_history.specs.Past.{past_of, is_closed}
+use Rattle.sp_history.specs.Legal.{Legal}
+use Rattle.sp_history.specs.Settled.{Settled}
+use Rattle.sp_single.specs.Singles.{SingleView}
+use Rattle.sp_ends.specs.Standing.{EndsView}
+use Rattle.sp_ends.specs.Adding.{ListensAlso, DialsAlso}
+use Rattle.sp_ends.specs.Leaving.{LinksLeft, ClosedCleared}
+use Rattle.sp_ends.specs.Standing.{SameCounts}
+use Rattle.cat_text.specs.Drafts.{needs_data}
+use Rattle.cat_text.specs.declared.plan.CatPlan.{CatPlan}
+use Rattle.cat_text.specs.declared.plan.Data.{Data}
+use Rattle.cat_text.specs.declared.plan.Data.TheVariants as datas
+use Rattle.cat_text.specs.declared.plan.End.{End}
+use Rattle.cat_text.specs.declared.plan.End.TheVariants as ends
+use Rattle.cat_play.specs.declared.ends.Status.{Status}
+use Rattle.cat_play.specs.declared.ends.Status.TheVariants as status
+use Rattle.cat_play.specs.Playing.{each, Plays}
+use Rattle.cat_play.specs.Recording.{times_out_rightly}
+use Rattle.cat_play.specs.Scripts.{texts, counted, timed_out}
+use Rattle.cat_play.specs.Spending.{listens_of, dials_of}
+use Rattle.cat_play.specs.Steps.{AddsNone, moves_ends}
+use Rattle.sp_ends.specs.declared.ends.EndError.{EndError}
+use Rattle.cat_rounds.specs.declared.player.Player.{Player}
+use Rattle.cat_rounds.specs.Lasting.{play_of, is_plain_role}
+use Rattle.cat_rounds.specs.Stepping.{Sinks}
+use Rattle.cat_rounds.specs.Going.{AreCleared, WentOrOver, PacedTo}
+
+-- ---- Plans
+
+-- an end over TCP
+abbrev pub IsBuiltEnd : End → Type 0
+IsBuiltEnd (ends.Listen addr) = scheme_of addr ≡ schemes.Tcp
+IsBuiltEnd (ends.Dial addr) = (scheme_of addr ≡ schemes.Tcp) × (is_dialable addr ≡ true)
+
+pub record AreBuilt (es : List End) : Type 0 where
+  pub each_one : AllByRecursion IsBuiltEnd es
+  pub few : length es ≤ 64
+
+-- there are data
+abbrev pub has_data : Data → Bool
+has_data datas.None = false
+has_data _ = true
+
+-- data that isn't a file's
+abbrev pub IsBuiltData : Data → Type 0
+IsBuiltData (datas.File name) = ⊥
+IsBuiltData _ = ⊤
+
+-- a plan that can be played: over TCP, of a role whose next call depends on nothing but what was collected last, without
+-- topics, and with data that stand in its words
+pub record IsBuilt (plan : CatPlan) : Type 0 where
+  pub plain : IsTrue (is_plain_role plan.role)
+  pub ends_built : AreBuilt plan.ends
+  pub data_built : IsBuiltData plan.data_
+  pub no_topics : plan.topics ≡ []
+  -- what is sent has a body
+  pub carries : IsTrue (not (needs_data plan.role) || has_data plan.data_)
+
+-- what sends carry
+abbrev pub IsBody : Data → Option (List ℕ) → Type 0
+IsBody datas.None body = body ≡ None
+IsBody (datas.Text text) body = body ≡ Some text
+IsBody (datas.File name) body = body ≡ None
+
+-- ---- The beginning
+
+-- one end more
+abbrev pub AddsEnd : {L : Type 0} → Result (Unit {0}) EndError → End → EndsView L → EndsView L → NetView → NetView → Type 0
+AddsEnd result (ends.Listen addr) old new net net' = ListensAlso result old new net net'
+AddsEnd result (ends.Dial addr) old new net net' = DialsAlso result old new × (net' ≡ net)
+
+-- why it ended so: the net failed to listen before the first round, or the rounds ended so
+abbrev pub EndsFor : Status → SingleView → Player → NetView → NetView → PaceView → PaceView → SinkView → SinkView → Type 0
+EndsFor status.NetFault s p net net' pace pace' out out' =
+    Rose net.faults net'.faults × (net'.opened ≡ net.opened) × (pace'.left ≡ pace.left)
+EndsFor result s p net net' pace pace' out out' = WentOrOver result s p out out' pace'
+
+-- the plan was followed until it ended so, with all its ends, or before the first turn of the socket
+pub record Follows {L : Type 0} (result : Status) (es : List End) (s : SingleView) (e : EndsView L) (p : Player) (net net' : NetView) (pace pace' : PaceView) (out out' : SinkView) : Type 0 where
+  pub why : EndsFor result s p net net' pace pace' out out'
+  pub paced : PacedTo result pace pace' (past_of s.seen)
+  pub asked : (s.seen ≡ []) ⊎ (length e.listeners ≡ listens_of es) × (length e.dialers ≡ dials_of es)
+  pub sinks : Sinks (result ≡ status.OutFault) out out'
+
+-- ---- The end
+
+-- a closed, finished run: its record is the history and turns that move no link and no tick; it is a play, of which the
+-- same counts, is printed and timed out; its links are left
+pub record FinishesTo {L : Type 0} (seen : L → LinkView) (start : NetView) (s : SingleView) (e : EndsView L) (p : Player) (net net' : NetView) (record_ : List (Turn Entry)) : Type 0 where
+  pub links : AddsNone moves_ends s.seen record_
+  pub legal : Legal s.setting record_
+  pub settled : Settled s.setting record_
+  pub texts_are : texts (play_of p.script) (past_of record_) ≡ texts (play_of p.script) (past_of s.seen)
+  pub counts_are : counted s.setting (play_of p.script) (past_of record_) ≡ counted s.setting (play_of p.script) (past_of s.seen)
+  pub timed : (receives : Bool) → timed_out receives (past_of record_) ≡ timed_out receives (past_of s.seen)
+  pub closed : IsTrue (is_closed (past_of record_))
+  pub plays : Plays s.setting (play_of p.script) record_
+  pub due : IsTrue (each times_out_rightly (past_of record_))
+  pub cleared : AreCleared (past_of s.seen) → ClosedCleared (past_of record_)
+  pub left_ : LinksLeft s.setting start record_ net'
+  pub counts : SameCounts net net'
+
+abbrev pub FinishesAs : {L : Type 0} → (L → LinkView) → NetView → SingleView → EndsView L → Player → NetView → NetView → Option (List (Turn Entry)) → Type 0
+FinishesAs seen start s e p net net' None = ⊥
+FinishesAs seen start s e p net net' (Some record_) = FinishesTo seen start s e p net net' record_

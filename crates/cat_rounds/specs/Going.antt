@@ -1,0 +1,116 @@
+-- What stands of a run between two rounds, and what it comes to.
+use Rattle.std.specs.Prelude.{◌≡◌, ◌<◌, ◌+◌, ◌^◌, ℕ, ⊤, true, false, Bool, List, length, Option, None}
+use Rattle.turn_lock.specs.declared.turn.Turn.{Turn}
+use Rattle.sp_base.specs.Views.{LinkView, NetView, PaceView, SinkView}
+use Rattle.sp_history.specs.declared.entry.Entry.{Entry}
+use Rattle.sp_history.specs.Past.{past_of, up, now, is_cleared}
+use Rattle.sp_history.specs.Lists.{has}
+use Rattle.sp_single.specs.Singles.{SingleView}
+use Rattle.sp_ends.specs.Standing.{EndsView, EndsStand}
+use Rattle.sp_ends.specs.Turning.{IsSound, IsDry}
+use Rattle.cat_play.specs.declared.ends.Status.{Status}
+use Rattle.cat_play.specs.declared.ends.Status.TheVariants as status
+use Rattle.cat_play.specs.Running.{has_dry_miss}
+use Rattle.sp_history.specs.Found.{ticks}
+use Rattle.cat_rounds.specs.declared.player.Over.TheVariants as overs
+use Rattle.cat_rounds.specs.declared.player.Player.{Player}
+use Rattle.cat_rounds.specs.declared.rounds.Round.{Round}
+use Rattle.cat_rounds.specs.declared.rounds.Round.TheVariants as rounds
+use Rattle.cat_rounds.specs.declared.rounds.Going.{Going}
+use Rattle.cat_rounds.specs.declared.rounds.Going.TheVariants as goings
+use Rattle.cat_rounds.specs.Lasting.{PlayStands, HasPrinted, MayTick, HasPlayed, HasServed}
+use Rattle.cat_rounds.specs.Stepping.{HasPrintedCut}
+
+-- the parts of a run that is open, between two calls of a round behind the turn of the ends
+pub record RunStands {L : Type 0} (seen : L → LinkView) (start : NetView) (s : SingleView) (ends : EndsView L) (p : Player) (net : NetView) (is_dry : Bool) : Type 0 where
+  pub sound : IsSound s
+  pub play : PlayStands s.setting s.seen p
+  pub ends_stand : EndsStand seen s.setting start s.seen net ends
+  pub dry : IsDry is_dry s
+
+-- each pipe that is up has all written that was put on it
+abbrev pub AreCleared : List Entry → Type 0
+AreCleared past = (p : ℕ) → has (up past) p ≡ true → is_cleared past p ≡ true
+
+-- nothing is under way, the play came to its end, and all is written
+pub record IsThrough (s : SingleView) (p : Player) : Type 0 where
+  pub free : p.op ≡ None
+  pub cleared : AreCleared (past_of s.seen)
+
+-- ---- Parts of a round
+
+-- what a part of a round left
+abbrev pub GoesTo : Going → SingleView → Player → Type 0
+GoesTo (goings.Rests moved) s p = HasServed s.setting s.seen × HasPlayed s.setting s.seen p
+GoesTo goings.Over s p = (p.op ≡ None) × (p.over ≡ overs.Open → ⊥)
+GoesTo goings.OutFault s p = ⊤
+GoesTo goings.NoMemory s p = ⊤
+
+abbrev pub PrintsGoing : Going → Option (List ℕ) → Option (List ℕ) → List (Turn Entry) → Player → Type 0
+PrintsGoing (goings.Rests moved) before now h p = HasPrinted before now h p
+PrintsGoing goings.Over before now h p = HasPrinted before now h p
+PrintsGoing goings.OutFault before now h p = HasPrintedCut before now h p
+PrintsGoing goings.NoMemory before now h p = HasPrintedCut before now h p
+
+-- ---- Rounds
+
+-- what a round left
+abbrev pub RoundGoesTo : Round → SingleView → Player → Type 0
+RoundGoesTo (rounds.Goes moved) s p = MayTick s.setting s.seen p
+RoundGoesTo (rounds.Ends status.Done) s p = IsThrough s p × (p.over ≡ overs.Finished)
+RoundGoesTo (rounds.Ends status.SendTimedOut) s p = IsThrough s p × (p.over ≡ overs.SendTimedOut)
+RoundGoesTo (rounds.Ends status.OutFault) s p = ⊤
+RoundGoesTo (rounds.Ends status.NoMemory) s p = ⊤
+RoundGoesTo (rounds.Ends _) s p = ⊥
+
+abbrev pub PrintsRound : Round → Option (List ℕ) → Option (List ℕ) → List (Turn Entry) → Player → Type 0
+PrintsRound (rounds.Ends status.OutFault) before now h p = HasPrintedCut before now h p
+PrintsRound (rounds.Ends status.NoMemory) before now h p = HasPrintedCut before now h p
+PrintsRound _ before now h p = HasPrinted before now h p
+
+-- a link was missed for want of memory at most where the round ends so
+abbrev pub RoundStands : {L : Type 0} → (L → LinkView) → NetView → Round → SingleView → EndsView L → Player → NetView → Type 0
+RoundStands seen start (rounds.Ends status.NoMemory) s ends p net = (is_dry : Bool) × RunStands seen start s ends p net is_dry
+RoundStands seen start _ s ends p net = RunStands seen start s ends p net false
+
+-- the last tick of the history
+abbrev pub past_now : SingleView → ℕ
+past_now s = now (past_of s.seen)
+
+-- the round ticked once, at this moment
+pub record TicksOnce (t : ℕ) (old new : SingleView) : Type 0 where
+  pub now_is : past_now new ≡ t
+  pub ticks_are : length (ticks (past_of new.seen)) ≡ length (ticks (past_of old.seen)) + 1
+
+-- ---- All rounds
+
+-- a link was missed for want of memory
+abbrev pub is_dry_at : SingleView → Bool
+is_dry_at s = has_dry_miss (past_of s.seen)
+
+-- at most where the run ends so
+abbrev pub IsDryAt : Status → SingleView → Type 0
+IsDryAt status.NoMemory s = ⊤
+IsDryAt _ s = is_dry_at s ≡ false
+
+-- why the rounds ended so
+abbrev pub WentOrOver : Status → SingleView → Player → SinkView → SinkView → PaceView → Type 0
+WentOrOver status.Over s p out out' pace = (pace.left ≡ 0) × (pace.is_over ≡ true)
+WentOrOver status.Done s p out out' pace = IsThrough s p × (p.over ≡ overs.Finished)
+WentOrOver status.SendTimedOut s p out out' pace = IsThrough s p × (p.over ≡ overs.SendTimedOut)
+WentOrOver status.OutFault s p out out' pace = ⊤
+WentOrOver status.NoMemory s p out out' pace = ⊤
+WentOrOver _ s p out out' pace = ⊥
+
+-- what the pace gave and said
+pub record PacedTo (s : Status) (old new : PaceView) (past : List Entry) : Type 0 where
+  pub left : old.left ≡ new.left + length (ticks past)
+  pub few : length (ticks past) < 2 ^ 64
+  pub over : s ≡ status.Over → new.is_over ≡ true
+  pub not_over : ¬ (s ≡ status.Over) → new.is_over ≡ old.is_over
+
+-- what stands in the sink when the rounds ended so
+abbrev pub PrintsTo : Status → Option (List ℕ) → Option (List ℕ) → List (Turn Entry) → Player → Type 0
+PrintsTo status.OutFault before now h p = HasPrintedCut before now h p
+PrintsTo status.NoMemory before now h p = HasPrintedCut before now h p
+PrintsTo _ before now h p = HasPrinted before now h p

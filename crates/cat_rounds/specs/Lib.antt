@@ -1,0 +1,4 @@
+pub mod Lasting
+pub mod Stepping
+pub mod Going
+pub mod Built

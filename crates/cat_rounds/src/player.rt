@@ -1,0 +1,446 @@
+//! The play of one socket: one operation after the other.
+ghost use Rattle.std.specs.Prelude.{◌≡◌, ◌↔◌, ◌<◌, ◌+◌, ℕ, List, Option, None, Some, [], IsTrue, IfOk, IfSome, is_some, true, false};
+ghost use Rattle.std.specs.Option.{option_map};
+ghost use Rattle.sp_history.specs.Past.{past_of, is_closed};
+ghost use Rattle.sp_socket.specs.Turns.{AllEnded};
+ghost use Rattle.cat_play.specs.Scripts.{texts, under_way, is_receive_next};
+ghost use Rattle.cat_play.specs.Playing.{after_seconds, is_within, is_left, waits_for_interval};
+ghost use Rattle.sp_ends.specs.Turning.{IsSound};
+ghost use Rattle.cat_rounds.specs.Lasting.{play_of, is_plain_role, HasPrinted, IsUnderWay, IsNewPlayer};
+ghost use Rattle.cat_rounds.specs.Stepping.{Stands, GoesOnBy, SameScript, PrintedAfter, PrintedThen, Sinks, Puts, PutsPiece, PutsFor, NotedAs, Rested, counts_one, counts_for_last, over_for, step_for, CollectsLast};
+
+use crate::next::{Last, counts, receives_next};
+use cat_text::{Format, push_text};
+use sp_base::{Bytes, Ctx, NoMemory, Role, Sink, Sunk, Tick};
+use sp_msg::{Message, Wire};
+use sp_proto::Proto;
+use sp_single::Single;
+use sp_socket::{BeginError, Cause, Collected, Op, Outcome};
+use std::alloc::Global;
+use std::mem;
+use std::sync::Wait;
+
+/// The context on which everything is played.
+const CTX: Ctx = Ctx(0);
+
+/// What the play is to be: the plan without its ends.
+#[derive(Drop)]
+pub struct Script {
+    pub role: Role,
+    /// What each send carries.
+    pub body: Option<Bytes>,
+    /// How many items are counted until it is over; none is never.
+    pub count: Option<u32>,
+    /// In seconds, as the other times.
+    pub interval: Option<u32>,
+    pub recv_timeout: Option<u32>,
+    pub send_timeout: Option<u32>,
+    pub format: Format,
+}
+
+/// How a play ended.
+#[derive(Clone, Copy, Debug, PartialEq, Eq)]
+pub enum Over {
+    /// It goes on.
+    Open,
+    /// The count is reached, or a receive timed out.
+    Finished,
+    SendTimedOut,
+}
+
+/// What a step came to.
+#[derive(Clone, Copy, Debug, PartialEq, Eq)]
+pub enum Step {
+    /// The next operation is under way.
+    Begun,
+    /// An operation is under way, or nothing can begin.
+    Rests,
+    OutFault,
+    NoMemory,
+}
+
+/// What collecting came to.
+pub enum Collecting {
+    /// No operation is under way now.
+    Free,
+    /// It hasn't ended.
+    NotYet,
+    OutFault,
+    NoMemory,
+}
+
+/// A play that is under way.
+pub struct Player {
+    alloc: Global,
+    pub script: Script,
+    /// The operation that is under way.
+    op: Option<Op>,
+    /// How many items more count before it is over; none is never.
+    due: Option<u32>,
+    last: Last,
+    /// The tick at which the last send was begun.
+    last_send: Option<Tick>,
+    pub over: Over,
+    /// Where the texts are put together.
+    text: Vec<u8>,
+}
+
+// The operation is under way, where none was.
+fn hold(place: &mut Option<Op>, op: Op)
+    requires { place.old ≡ None }
+    ensures { place.new ≡ Some op }
+{
+    match mem::replace(place, Some(op)) {
+        None => (),
+        Some(_other) => unreachable!(),
+    }
+}
+
+// What a step came to whose begin was refused.
+fn step_for(error: BeginError) -> Step
+    ensures { result ≡ step_for error }
+{
+    match error {
+        BeginError::NoMemory => Step::NoMemory,
+        BeginError::Closed => Step::Rests,
+        BeginError::NotSupported => Step::Rests,
+        BeginError::NoEntry => Step::Rests,
+        BeginError::State => Step::Rests,
+        BeginError::Busy => Step::Rests,
+    }
+}
+
+// So many seconds after a tick.
+fn after(now: Tick, seconds: Option<u32>) -> Option<Tick>
+    ensures { result ≡ option_map (after_seconds now) seconds }
+{
+    match seconds {
+        None => None,
+        Some(seconds) => Some(Tick(now.0.saturating_add(1_000 * seconds as u64))),
+    }
+}
+
+impl Player {
+    /// A play that hasn't begun, of so many items.
+    pub fn new(alloc: Global, script: Script) -> Player
+        ensures { IsNewPlayer script result }
+    {
+        let count = script.count;
+        let over = if count == Some(0) {
+            Over::Finished
+        } else {
+            Over::Open
+        };
+        Player {
+            alloc,
+            script,
+            op: None,
+            due: count,
+            last: Last::Nothing,
+            last_send: None,
+            over,
+            text: Vec::new(alloc),
+        }
+    }
+
+    /// Collects what has ended, prints it, and begins what is next, if it may.
+    pub fn step<R: Wait, P: Proto, W: Wire, S: Sink>(
+        &mut self,
+        rt: &R,
+        single: &mut Single<P, W>,
+        out: &mut S,
+        now: Tick,
+    ) -> Step
+        requires stands { Stands single.old self.old now }
+        ensures stands { Stands single.new self.new now }
+        ensures script { SameScript self.old self.new }
+        ensures goes_on { GoesOnBy single.old single.new }
+        ensures rested { Rested result single.new self.new }
+        ensures printed { (before : Option (List ℕ)) → HasPrinted before (S.seen out.old).text single.old.seen self.old → PrintedAfter result before (S.seen out.new).text single.new.seen self.new }
+        ensures sinks { Sinks (result ≡ Step.OutFault) (S.seen out.old) (S.seen out.new) }
+    {
+        match self.collect(rt, single, out) {
+            Collecting::Free => self.begin(rt, single, now),
+            Collecting::NotYet => Step::Rests,
+            Collecting::OutFault => Step::OutFault,
+            Collecting::NoMemory => Step::NoMemory,
+        }
+    }
+
+    // Collects the operation that is under way, if it has ended.
+    fn collect<R: Wait, P: Proto, W: Wire, S: Sink>(
+        &mut self,
+        rt: &R,
+        single: &mut Single<P, W>,
+        out: &mut S,
+    ) -> Collecting
+        requires stands { (now : ℕ) × Stands single.old self.old now }
+        ensures stands { (now : ℕ) → Stands single.old self.old now → Stands single.new self.new now }
+        ensures script { SameScript self.old self.new }
+        ensures goes_on { GoesOnBy single.old single.new }
+        ensures free { result ≡ Collecting.Free → self.new.op ≡ None }
+        ensures left { is_left (past_of single.new.seen) ≡ false }
+        ensures busy { result ≡ Collecting.NotYet → is_some (under_way (past_of single.new.seen)) ≡ true }
+        ensures printed { (before : Option (List ℕ)) → HasPrinted before (S.seen out.old).text single.old.seen self.old → PrintedThen result before (S.seen out.new).text single.new.seen self.new }
+        ensures sinks { Sinks (result ≡ Collecting.OutFault) (S.seen out.old) (S.seen out.new) }
+    {
+        let Some(op) = self.op.take() else {
+            return Collecting::Free;
+        };
+        match single.collect(rt, op) {
+            Collected::NotYet(op) => {
+                hold(&mut self.op, op);
+                Collecting::NotYet
+            }
+            Collected::Ended(outcome) => self.note(outcome, out),
+        }
+    }
+
+    // Takes note of how an operation ended.
+    fn note<S: Sink>(&mut self, outcome: Outcome, out: &mut S) -> Collecting
+        requires plain { IsTrue (is_plain_role self.old.script.role) }
+        requires due { self.old.due ≡ Some 0 → ⊥ }
+        ensures noted { NotedAs outcome self.old self.new }
+        ensures printed { PutsFor outcome result self.new (S.seen out.old).text (S.seen out.new).text }
+        ensures sinks { Sinks (result ≡ Collecting.OutFault) (S.seen out.old) (S.seen out.new) }
+    {
+        match outcome {
+            Outcome::Received(m) => {
+                self.count(Last::Received);
+                self.print(&m, out)
+            }
+            Outcome::Sent => {
+                self.count(Last::Sent);
+                Collecting::Free
+            }
+            Outcome::Gone { cause, by: _, back } => {
+                self.last = Last::Gone;
+                if cause == Cause::TimedOut {
+                    self.timed_out(back.is_none());
+                }
+                Collecting::Free
+            }
+        }
+    }
+
+    // The operation that was collected came to this.
+    fn count(&mut self, last: Last)
+        requires plain { IsTrue (is_plain_role self.old.script.role) }
+        requires due { counts_for_last self.old.script last ≡ true → self.old.due ≡ Some 0 → ⊥ }
+        ensures { self.new ≡ counts_one (counts_for_last self.old.script last) last self.old }
+    {
+        self.last = last;
+        if counts(self.script.role, self.script.body.is_some(), last) {
+            self.one_less();
+        }
+    }
+
+    // One item more counts.
+    fn one_less(&mut self)
+        requires { self.old.due ≡ Some 0 → ⊥ }
+        ensures { self.new ≡ counts_one true self.old.last self.old }
+    {
+        match self.due {
+            None => (),
+            Some(n) => {
+                self.due = Some(n - 1);
+                if n == 1 {
+                    self.over = Over::Finished;
+                }
+            }
+        }
+    }
+
+    // An operation ended with its deadline, a receive or a send.
+    fn timed_out(&mut self, receives: bool)
+        ensures { self.new ≡ record self.old { over = over_for receives } }
+    {
+        self.over = if receives {
+            Over::Finished
+        } else {
+            Over::SendTimedOut
+        };
+    }
+
+    // Prints the message.
+    fn print<S: Sink>(&mut self, m: &Message, out: &mut S) -> Collecting
+        ensures same { self.new ≡ record self.old { text = self.new.text } }
+        ensures puts { Puts result self.old m.now (S.seen out.old).text (S.seen out.new).text }
+        ensures sinks { Sinks (result ≡ Collecting.OutFault) (S.seen out.old) (S.seen out.new) }
+    {
+        match self.script.format {
+            Format::None => Collecting::Free,
+            Format::Raw => put(out, m.body()),
+            format => {
+                self.text.clear();
+                match push_text(&mut self.text, format, m.body()) {
+                    Err(NoMemory) => Collecting::NoMemory,
+                    Ok(()) => put(out, &self.text),
+                }
+            }
+        }
+    }
+
+    // Begins what is next, where nothing is under way.
+    fn begin<R: Wait, P: Proto, W: Wire>(
+        &mut self,
+        rt: &R,
+        single: &mut Single<P, W>,
+        now: Tick,
+    ) -> Step
+        requires stands { Stands single.old self.old now }
+        requires free { self.old.op ≡ None }
+        requires left { is_left (past_of single.old.seen) ≡ false }
+        ensures stands { Stands single.new self.new now }
+        ensures script { SameScript self.old self.new }
+        ensures goes_on { GoesOnBy single.old single.new }
+        ensures rested { Rested result single.new self.new }
+        ensures texts { texts (play_of self.old.script) (past_of single.new.seen) ≡ texts (play_of self.old.script) (past_of single.old.seen) }
+        ensures fault { result ≡ Step.OutFault → ⊥ }
+    {
+        if self.over != Over::Open {
+            return Step::Rests;
+        }
+        if receives_next(self.script.role, self.script.body.is_some(), self.last) {
+            self.begin_recv(rt, single, now)
+        } else if self.is_within_interval(now) {
+            Step::Rests
+        } else {
+            self.begin_send(rt, single, now)
+        }
+    }
+
+    fn begin_recv<R: Wait, P: Proto, W: Wire>(
+        &mut self,
+        rt: &R,
+        single: &mut Single<P, W>,
+        now: Tick,
+    ) -> Step
+        requires stands { Stands single.old self.old now }
+        requires free { self.old.op ≡ None }
+        requires left { is_left (past_of single.old.seen) ≡ false }
+        requires open_ { self.old.over ≡ Over.Open }
+        requires next { is_receive_next single.old.setting (play_of self.old.script) (past_of single.old.seen) ≡ true }
+        ensures stands { Stands single.new self.new now }
+        ensures script { SameScript self.old self.new }
+        ensures goes_on { GoesOnBy single.old single.new }
+        ensures rested { Rested result single.new self.new }
+        ensures texts { texts (play_of self.old.script) (past_of single.new.seen) ≡ texts (play_of self.old.script) (past_of single.old.seen) }
+        ensures fault { result ≡ Step.OutFault → ⊥ }
+    {
+        match single.begin_recv(rt, CTX, after(now, self.script.recv_timeout)) {
+            Err(_) => Step::Rests,
+            Ok(op) => {
+                hold(&mut self.op, op);
+                Step::Begun
+            }
+        }
+    }
+
+    // Whether the interval since the last send isn't over.
+    fn is_within_interval(&self, now: Tick) -> bool
+        ensures { result ≡ is_within self.now.script.interval self.now.last_send now }
+    {
+        is_held_back(self.script.interval, self.last_send, now)
+    }
+
+    fn begin_send<R: Wait, P: Proto, W: Wire>(
+        &mut self,
+        rt: &R,
+        single: &mut Single<P, W>,
+        now: Tick,
+    ) -> Step
+        requires stands { Stands single.old self.old now }
+        requires free { self.old.op ≡ None }
+        requires left { is_left (past_of single.old.seen) ≡ false }
+        requires open_ { self.old.over ≡ Over.Open }
+        requires next { is_receive_next single.old.setting (play_of self.old.script) (past_of single.old.seen) ≡ false }
+        requires spaced { waits_for_interval (play_of self.old.script) (past_of single.old.seen) ≡ false }
+        ensures stands { Stands single.new self.new now }
+        ensures script { SameScript self.old self.new }
+        ensures goes_on { GoesOnBy single.old single.new }
+        ensures rested { Rested result single.new self.new }
+        ensures texts { texts (play_of self.old.script) (past_of single.new.seen) ≡ texts (play_of self.old.script) (past_of single.old.seen) }
+        ensures fault { result ≡ Step.OutFault → ⊥ }
+    {
+        let Ok(m) = self.message() else {
+            return Step::NoMemory;
+        };
+        match single.begin_send(rt, CTX, m, after(now, self.script.send_timeout)) {
+            Err((error, _)) => step_for(error),
+            Ok(op) => {
+                hold(&mut self.op, op);
+                self.last_send = Some(now);
+                Step::Begun
+            }
+        }
+    }
+
+    // A message with the data.
+    fn message(&self) -> Result<Message, NoMemory>
+        ensures { IfOk result (λ m. (m.header ≡ []) × IfSome self.now.script.body (λ body. m.body ≡ body)) }
+    {
+        match &self.script.body {
+            None => Message::from_body(self.alloc, &[]),
+            Some(body) => Message::from_body(self.alloc, body.as_slice()),
+        }
+    }
+
+    /// Collects what the close has ended.
+    pub fn finish<R: Wait, P: Proto, W: Wire>(self, rt: &R, single: &mut Single<P, W>)
+        requires op { IsUnderWay self.op single.old.seen }
+        requires closed { is_closed (past_of single.old.seen) ≡ true }
+        requires ended { AllEnded single.old.seen }
+        requires sound { IsSound single.old }
+        ensures finished { CollectsLast single.old single.new }
+    {
+        let Player {
+            alloc: _,
+            script: _,
+            op,
+            due: _,
+            last: _,
+            last_send: _,
+            over: _,
+            text: _,
+        } = self;
+        let Some(op) = op else {
+            return;
+        };
+        match single.collect(rt, op) {
+            Collected::Ended(_) => (),
+            Collected::NotYet(_op) => unreachable!(),
+        }
+    }
+}
+
+// Whether the interval since then isn't over.
+fn is_held_back(interval: Option<u32>, since: Option<Tick>, now: Tick) -> bool
+    ensures { result ≡ is_within interval since now }
+{
+    match (interval, since) {
+        (Some(seconds), Some(since)) => is_before(now, since, 1_000 * seconds as u64),
+        _ => false,
+    }
+}
+
+// Whether so many milliseconds haven't gone by since then.
+fn is_before(now: Tick, since: Tick, pause: u64) -> bool
+    ensures { IsTrue result ↔ (now < since + pause) }
+{
+    match since.0.checked_add(pause) {
+        None => true,
+        Some(end) => now.0 < end,
+    }
+}
+
+// Puts a piece out.
+fn put<S: Sink>(out: &mut S, piece: &[u8]) -> Collecting
+    ensures puts { PutsPiece result piece.now (S.seen out.old).text (S.seen out.new).text }
+    ensures sinks { Sinks (result ≡ Collecting.OutFault) (S.seen out.old) (S.seen out.new) }
+{
+    match out.put(piece) {
+        Sunk::Done => Collecting::Free,
+        Sunk::Failed => Collecting::OutFault,
+    }
+}

@@ -1,0 +1,199 @@
+//! The rounds of a run.
+ghost use Rattle.std.specs.Prelude.{◌≡◌, ◌≢◌, ◌≤◌, ℕ, List, Option, None, true, false};
+ghost use Rattle.sp_base.specs.Views.{NetView};
+ghost use Rattle.sp_history.specs.Past.{past_of};
+ghost use Rattle.sp_ends.specs.Turning.{SameEnds};
+ghost use Rattle.cat_play.specs.Scripts.{has_ticked, texts};
+ghost use Rattle.cat_rounds.specs.Lasting.{play_of, HasPrinted, HasServed, MayTick};
+ghost use Rattle.cat_rounds.specs.Stepping.{Stands, GoesOnBy, SameScript, Sinks};
+ghost use Rattle.cat_rounds.specs.Going.{RunStands, RoundStands, GoesTo, RoundGoesTo, WentOrOver, PacedTo, TicksOnce, PrintsTo, PrintsGoing, PrintsRound, IsDryAt, is_dry_at, past_now};
+
+use crate::game::Game;
+use crate::player::{Over, Step};
+use cat_play::ends::Status;
+use sp_base::{Link, Net, Pace, Paced, Sink, Tick};
+use sp_proto::Proto;
+use std::sync::Wait;
+
+/// How often the pipes are served in a round at most, while messages move.
+const SWEEPS: u32 = 64;
+
+/// How many steps of the play follow one another without a serve at most.
+const STEPS: u32 = 64;
+
+/// What a round came to.
+#[derive(Clone, Copy, Debug, PartialEq, Eq)]
+pub enum Round {
+    /// The run goes on; whether anything moved.
+    Goes(bool),
+    /// The run is over.
+    Ends(Status),
+}
+
+/// What a part of a round came to.
+#[derive(Clone, Copy, Debug, PartialEq, Eq)]
+pub enum Going {
+    /// The play rests; whether anything moved before.
+    Rests(bool),
+    /// It is over.
+    Over,
+    OutFault,
+    NoMemory,
+}
+
+impl<P: Proto, L: Link> Game<P, L> {
+    /// Goes round until the play is over and all is written, the pace is over, or something fails.
+    pub fn go_round<R: Wait, N: Net<L = L>, Pa: Pace, S: Sink>(
+        &mut self,
+        rt: &R,
+        net: &mut N,
+        pace: &mut Pa,
+        out: &mut S,
+    ) -> Status
+        requires stands { (start : NetView) × RunStands L.seen start self.old.single self.old.ends self.old.player (N.seen net.old) false }
+        requires may_tick { MayTick self.old.single.setting self.old.single.seen self.old.player }
+        requires unticked { has_ticked (past_of self.old.single.seen) ≡ false }
+        ensures stands { (start : NetView) → RunStands L.seen start self.old.single self.old.ends self.old.player (N.seen net.old) false → RunStands L.seen start self.new.single self.new.ends self.new.player (N.seen net.new) (is_dry_at self.new.single) }
+        ensures dry { IsDryAt result self.new.single }
+        ensures went { WentOrOver result self.new.single self.new.player (S.seen out.old) (S.seen out.new) (Pa.seen pace.new) }
+        ensures pace { PacedTo result (Pa.seen pace.old) (Pa.seen pace.new) (past_of self.new.single.seen) }
+        ensures printed { (before : Option (List ℕ)) → HasPrinted before (S.seen out.old).text self.old.single.seen self.old.player → PrintsTo result before (S.seen out.new).text self.new.single.seen self.new.player }
+        ensures sinks { Sinks (result ≡ Status.OutFault) (S.seen out.old) (S.seen out.new) }
+        ensures same { SameEnds self.old.ends self.new.ends × SameScript self.old.player self.new.player × (self.new.single.setting ≡ self.old.single.setting) }
+    {
+        let mut moved = true;
+        'rounds: for _ in 0..u64::MAX {
+            match pace.turn(moved) {
+                Paced::Over => return Status::Over,
+                Paced::At(now) => match self.round(rt, net, out, now) {
+                    Round::Ends(status) => return status,
+                    Round::Goes(went) => moved = went,
+                },
+            }
+        }
+        // More rounds than can be counted.
+        Status::NoMemory
+    }
+
+    // One round.
+    fn round<R: Wait, N: Net<L = L>, S: Sink>(
+        &mut self,
+        rt: &R,
+        net: &mut N,
+        out: &mut S,
+        now: Tick,
+    ) -> Round
+        requires stands { (start : NetView) × RunStands L.seen start self.old.single self.old.ends self.old.player (N.seen net.old) false }
+        requires may_tick { MayTick self.old.single.setting self.old.single.seen self.old.player }
+        requires later { past_now self.old.single ≤ now }
+        ensures stands { (start : NetView) → RunStands L.seen start self.old.single self.old.ends self.old.player (N.seen net.old) false → RoundStands L.seen start result self.new.single self.new.ends self.new.player (N.seen net.new) }
+        ensures ticked { TicksOnce now self.old.single self.new.single }
+        ensures went { RoundGoesTo result self.new.single self.new.player }
+        ensures printed { (before : Option (List ℕ)) → HasPrinted before (S.seen out.old).text self.old.single.seen self.old.player → PrintsRound result before (S.seen out.new).text self.new.single.seen self.new.player }
+        ensures sinks { Sinks (result ≡ Round.Ends Status.OutFault) (S.seen out.old) (S.seen out.new) }
+        ensures same { SameEnds self.old.ends self.new.ends × SameScript self.old.player self.new.player × (self.new.single.setting ≡ self.old.single.setting) }
+    {
+        self.single.tick(rt, now);
+        let turn = self.ends.turn(rt, net, &mut self.single, now);
+        if turn.is_dry {
+            return Round::Ends(Status::NoMemory);
+        }
+        match self.play(rt, out, now) {
+            Going::Rests(moved) => Round::Goes(moved || turn.moved),
+            Going::Over => self.drain(rt),
+            Going::OutFault => Round::Ends(Status::OutFault),
+            Going::NoMemory => Round::Ends(Status::NoMemory),
+        }
+    }
+
+    // Serves the pipes and goes on with the play, while messages move.
+    fn play<R: Wait, S: Sink>(&mut self, rt: &R, out: &mut S, now: Tick) -> Going
+        requires stands { Stands self.old.single self.old.player now }
+        ensures stands { Stands self.new.single self.new.player now }
+        ensures goes_on { GoesOnBy self.old.single self.new.single }
+        ensures went { GoesTo result self.new.single self.new.player }
+        ensures printed { (before : Option (List ℕ)) → HasPrinted before (S.seen out.old).text self.old.single.seen self.old.player → PrintsGoing result before (S.seen out.new).text self.new.single.seen self.new.player }
+        ensures sinks { Sinks (result ≡ Going.OutFault) (S.seen out.old) (S.seen out.new) }
+        ensures same { SameScript self.old.player self.new.player × (self.new.ends ≡ self.old.ends) }
+    {
+        let mut moved = false;
+        'sweeps: for _ in 0..SWEEPS {
+            if self.player.over != Over::Open {
+                return Going::Over;
+            }
+            match self.sweep(rt, out, now) {
+                Going::Rests(false) => return Going::Rests(moved),
+                Going::Rests(true) => moved = true,
+                Going::Over => return Going::Over,
+                Going::OutFault => return Going::OutFault,
+                Going::NoMemory => return Going::NoMemory,
+            }
+        }
+        Going::Rests(moved)
+    }
+
+    // Serves the pipes once, and goes on with the play.
+    fn sweep<R: Wait, S: Sink>(&mut self, rt: &R, out: &mut S, now: Tick) -> Going
+        requires stands { Stands self.old.single self.old.player now }
+        ensures stands { Stands self.new.single self.new.player now }
+        ensures goes_on { GoesOnBy self.old.single self.new.single }
+        ensures went { GoesTo result self.new.single self.new.player }
+        ensures printed { (before : Option (List ℕ)) → HasPrinted before (S.seen out.old).text self.old.single.seen self.old.player → PrintsGoing result before (S.seen out.new).text self.new.single.seen self.new.player }
+        ensures sinks { Sinks (result ≡ Going.OutFault) (S.seen out.old) (S.seen out.new) }
+        ensures same { SameScript self.old.player self.new.player × (self.new.ends ≡ self.old.ends) }
+    {
+        let served = self.single.serve(rt);
+        match self.steps(rt, out, now) {
+            Going::Rests(went) => Going::Rests(went || served.moved),
+            Going::Over => Going::Over,
+            Going::OutFault => Going::OutFault,
+            Going::NoMemory => Going::NoMemory,
+        }
+    }
+
+    // Goes on with the play until it rests.
+    fn steps<R: Wait, S: Sink>(&mut self, rt: &R, out: &mut S, now: Tick) -> Going
+        requires stands { Stands self.old.single self.old.player now }
+        requires served { HasServed self.old.single.setting self.old.single.seen }
+        ensures stands { Stands self.new.single self.new.player now }
+        ensures goes_on { GoesOnBy self.old.single self.new.single }
+        ensures went { GoesTo result self.new.single self.new.player }
+        ensures printed { (before : Option (List ℕ)) → HasPrinted before (S.seen out.old).text self.old.single.seen self.old.player → PrintsGoing result before (S.seen out.new).text self.new.single.seen self.new.player }
+        ensures sinks { Sinks (result ≡ Going.OutFault) (S.seen out.old) (S.seen out.new) }
+        ensures same { SameScript self.old.player self.new.player × (self.new.ends ≡ self.old.ends) }
+    {
+        let mut moved = false;
+        'steps: for _ in 0..STEPS {
+            match self.player.step(rt, &mut self.single, out, now) {
+                Step::Begun => moved = true,
+                Step::Rests => return Going::Rests(moved),
+                Step::OutFault => return Going::OutFault,
+                Step::NoMemory => return Going::NoMemory,
+            }
+        }
+        Going::Rests(moved)
+    }
+
+    // The play is over: the run ends as soon as no pipe has something left to write.
+    fn drain<R: Wait>(&mut self, rt: &R) -> Round
+        requires stands { (now : ℕ) × Stands self.old.single self.old.player now }
+        requires over { self.old.player.over ≢ Over.Open }
+        requires free { self.old.player.op ≡ None }
+        ensures stands { (now : ℕ) → Stands self.old.single self.old.player now → Stands self.new.single self.new.player now }
+        ensures goes_on { GoesOnBy self.old.single self.new.single }
+        ensures went { RoundGoesTo result self.new.single self.new.player }
+        ensures texts { texts (play_of self.old.player.script) (past_of self.new.single.seen) ≡ texts (play_of self.old.player.script) (past_of self.old.single.seen) }
+        ensures same { (self.new.player ≡ self.old.player) × (self.new.ends ≡ self.old.ends) }
+        ensures fault { (result ≡ Round.Ends Status.OutFault → ⊥) × (result ≡ Round.Ends Status.NoMemory → ⊥) }
+    {
+        let served = self.single.serve(rt);
+        if served.waiting > 0 {
+            return Round::Goes(served.moved);
+        }
+        match self.player.over {
+            Over::SendTimedOut => Round::Ends(Status::SendTimedOut),
+            Over::Finished => Round::Ends(Status::Done),
+            Over::Open => unreachable!(),
+        }
+    }
+}

@@ -1,0 +1,182 @@
+//! A run from its beginning to its end.
+ghost use Rattle.std.specs.Prelude.{◌≡◌, ℕ, List, [], Option, None, false};
+ghost use Rattle.std.specs.Option.{option_map};
+ghost use Rattle.sp_base.specs.Views.{FilesView, NetView};
+ghost use Rattle.sp_proto.specs.Kinds.{Kind, Starts, setting_of};
+ghost use Rattle.cat_play.specs.Openings.{greetings};
+ghost use Rattle.cat_play.specs.Running.{world, run_setting, RunsPlan};
+ghost use Rattle.cat_rounds.specs.Lasting.{HasPrinted};
+ghost use Rattle.cat_rounds.specs.Stepping.{SameScript};
+ghost use Rattle.cat_rounds.specs.Going.{RunStands, PrintsTo, IsDryAt, is_dry_at};
+ghost use Rattle.cat_rounds.specs.Built.{IsBuilt, AreBuilt, IsBuiltEnd, IsBody, Follows, AddsEnd, FinishesAs};
+
+use crate::game::Game;
+use crate::player::{Player, Script};
+use cat_play::ends::Status;
+use cat_text::{CatPlan, Data, End};
+use sp_base::{Addr, Bytes, Link, Net, Pace, Sink};
+use sp_ends::{EndError, Ends};
+use sp_proto::Proto;
+use sp_single::{Single, SingleEnd};
+use sp_socket::Record;
+use std::alloc::Global;
+use std::sync::Wait;
+
+/// How many operations the socket of a run has at once.
+const SLOTS: u32 = 16;
+
+/// What a run answers.
+#[derive(Drop)]
+pub struct CatEnd {
+    /// Why it ended.
+    pub status: Status,
+    /// The history of its socket; none where no socket was opened.
+    pub record_: Option<Record>,
+}
+
+// No socket was opened.
+fn unopened(status: Status) -> CatEnd
+    ensures { (result.status ≡ status) × (result.record_ ≡ None) }
+{
+    CatEnd {
+        status,
+        record_: None,
+    }
+}
+
+/// Plays the plan on a socket over this machine, which is one of the plan's role and as good as new: opens the socket,
+/// listens and dials in the order of the plan, goes round, closes, and gives every link back. Whatever it answers, the
+/// history of the socket says all that was done.
+pub fn play<R: Wait, N: Net, Pa: Pace, S: Sink, P: Proto + Drop>(
+    alloc: Global,
+    rt: &R,
+    machine: P,
+    plan: CatPlan,
+    net: &mut N,
+    pace: &mut Pa,
+    out: &mut S,
+) -> CatEnd
+    requires starts { (k : Kind) × Starts P.ties machine k }
+    requires setting { (dice : ℕ) × (setting_of (P.kind machine) 16 1 ≡ run_setting plan.role dice) }
+    requires built { IsBuilt plan }
+    ensures { (files : FilesView) (dice : ℕ) → setting_of (P.kind machine) 16 1 ≡ run_setting plan.role dice →
+        RunsPlan (greetings plan.role) result.status plan dice (option_map (λ r. r.turns) result.record_) (world (N.seen net.old) files (Pa.seen pace.old) (S.seen out.old)) (world (N.seen net.new) files (Pa.seen pace.new) (S.seen out.new)) }
+{
+    let CatPlan {
+        role,
+        ends,
+        data_,
+        topics: _,
+        count,
+        interval,
+        recv_timeout,
+        send_timeout,
+        format,
+    } = plan;
+    let script = Script {
+        role,
+        body: body_of(data_),
+        count,
+        interval,
+        recv_timeout,
+        send_timeout,
+        format,
+    };
+    let Ok(links) = Ends::new(alloc, role) else {
+        return unopened(Status::NoMemory);
+    };
+    let Ok(single) = Single::open(alloc, machine, SLOTS) else {
+        links.destroy_empty();
+        return unopened(Status::NoMemory);
+    };
+    let mut game = Game {
+        single,
+        ends: links,
+        player: Player::new(alloc, script),
+    };
+    let status = game.follow(rt, ends.as_slice(), net, pace, out);
+    game.finish(rt, net, status)
+}
+
+// The data of the plan, where it isn't a file's.
+fn body_of(data_: Data) -> Option<Bytes>
+    ensures { IsBody data_ result }
+{
+    match data_ {
+        Data::None => None,
+        Data::Text(text) => Some(text),
+        Data::File(_) => None,
+    }
+}
+
+impl<P: Proto, L: Link> Game<P, L> {
+    // Listens and dials as planned, and goes round.
+    fn follow<R: Wait, N: Net<L = L>, Pa: Pace, S: Sink>(
+        &mut self,
+        rt: &R,
+        ends: &[End],
+        net: &mut N,
+        pace: &mut Pa,
+        out: &mut S,
+    ) -> Status
+        requires stands { (start : NetView) × RunStands L.seen start self.old.single self.old.ends self.old.player (N.seen net.old) false }
+        requires fresh { self.old.single.seen ≡ [] }
+        requires no_ends { (self.old.ends.listeners ≡ []) × (self.old.ends.dialers ≡ []) }
+        requires built { AreBuilt ends.now }
+        ensures stands { (start : NetView) → RunStands L.seen start self.old.single self.old.ends self.old.player (N.seen net.old) false → RunStands L.seen start self.new.single self.new.ends self.new.player (N.seen net.new) (is_dry_at self.new.single) }
+        ensures dry { IsDryAt result self.new.single }
+        ensures followed { Follows result ends.now self.new.single self.new.ends self.new.player (N.seen net.old) (N.seen net.new) (Pa.seen pace.old) (Pa.seen pace.new) (S.seen out.old) (S.seen out.new) }
+        ensures printed { (before : Option (List ℕ)) → HasPrinted before (S.seen out.old).text self.old.single.seen self.old.player → PrintsTo result before (S.seen out.new).text self.new.single.seen self.new.player }
+        ensures same { SameScript self.old.player self.new.player × (self.new.single.setting ≡ self.old.single.setting) }
+    {
+        for end in ends {
+            match self.add(net, end) {
+                Ok(()) => (),
+                Err(EndError::Fault) => return Status::NetFault,
+                Err(EndError::NoMemory) => return Status::NoMemory,
+            }
+        }
+        self.go_round(rt, net, pace, out)
+    }
+
+    // One end of the plan.
+    fn add<N: Net<L = L>>(&mut self, net: &mut N, end: &End) -> Result<(), EndError>
+        requires built { IsBuiltEnd end.now }
+        ensures added { AddsEnd result end.now self.old.ends self.new.ends (N.seen net.old) (N.seen net.new) }
+        ensures same { self.new ≡ record self.old { ends = self.new.ends } }
+    {
+        match end {
+            End::Listen(addr) => self.ends.listen(net, addr),
+            End::Dial(Addr::Tcp { host, port }) => self.ends.dial(*host, *port),
+            End::Dial(
+                Addr::Ws {
+                    host: _,
+                    port: _,
+                    path: _,
+                },
+            ) => unreachable!(),
+            End::Dial(Addr::Inproc { name: _ }) => unreachable!(),
+        }
+    }
+
+    // Closes the socket, and gives everything back.
+    fn finish<R: Wait, N: Net<L = L>>(self, rt: &R, net: &mut N, status: Status) -> CatEnd
+        requires stands { (start : NetView) × RunStands L.seen start self.single self.ends self.player (N.seen net.old) (is_dry_at self.single) }
+        ensures status { result.status ≡ status }
+        ensures finished { (start : NetView) → RunStands L.seen start self.single self.ends self.player (N.seen net.old) (is_dry_at self.single) → FinishesAs L.seen start self.single self.ends self.player (N.seen net.old) (N.seen net.new) (option_map (λ r. r.turns) result.record_) }
+    {
+        let Game {
+            mut single,
+            ends,
+            player,
+        } = self;
+        let _ = single.close(rt);
+        player.finish(rt, &mut single);
+        let SingleEnd { wires, record_ } = single.finish(rt);
+        ends.give_all_back(net, wires);
+        CatEnd {
+            status,
+            record_: Some(record_),
+        }
+    }
+}

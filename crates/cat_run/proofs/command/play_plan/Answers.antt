@@ -1,0 +1,25 @@
+use Rattle.std.specs.Prelude.{false}
+use Rattle.std.proofs.Common.{refl}
+use Rattle.sp_base.specs.declared.role.Role.TheVariants as roles
+use Rattle.sp_proto.specs.Kinds.{Starts}
+use Rattle.proto_pipeline.specs.Pulls.{Ties as PullTies, pull_kind}
+use Rattle.proto_pipeline.specs.Pushes.{Ties as PushTies, push_kind}
+use Rattle.proto_pair.specs.Pairs.{Ties as PairTies, pair_kind}
+use Rattle.proto_reqrep.specs.Reps.{Ties as ReplyTies, reply_kind}
+use Rattle.cat_run.proofs.Machines.{as_usual}
+use Rattle.cat_run.proofs.command.play_plan.Goals as goal
+
+pub play_over-requires-clause-starts : goal.play_over-requires-clause-starts
+play_over-requires-clause-starts g c = as_usual (Starts PullTies) c.new.result (pull_kind false) c.usual-options.result c.args.plan.role roles.Pull c.args.dice c.usual-options.ensures c.in-Pull.is refl c.new.ensures
+
+pub play_over-requires-in-Push-clause-starts : goal.play_over-requires-in-Push-clause-starts
+play_over-requires-in-Push-clause-starts g c = as_usual (Starts PushTies) c.new-in-Push.result (push_kind false) c.usual-options.result c.args.plan.role roles.Push c.args.dice c.usual-options.ensures c.in-Push.is refl c.new-in-Push.ensures
+
+pub play_over-requires-in-Pair0-clause-starts : goal.play_over-requires-in-Pair0-clause-starts
+play_over-requires-in-Pair0-clause-starts g c = as_usual (Starts PairTies) c.new-in-Pair0.result (pair_kind false) c.usual-options.result c.args.plan.role roles.Pair0 c.args.dice c.usual-options.ensures c.in-Pair0.is refl c.new-in-Pair0.ensures
+
+pub play_over-requires-in-Rep-clause-starts : goal.play_over-requires-in-Rep-clause-starts
+play_over-requires-in-Rep-clause-starts g c = as_usual (Starts ReplyTies) c.new-in-Rep.result (reply_kind roles.Rep false) c.usual-options.result c.args.plan.role roles.Rep c.args.dice c.usual-options.ensures c.in-Rep.is refl c.new-in-Rep.ensures
+
+pub play_over-requires-in-Respondent-clause-starts : goal.play_over-requires-in-Respondent-clause-starts
+play_over-requires-in-Respondent-clause-starts g c = as_usual (Starts ReplyTies) c.new-in-Respondent.result (reply_kind roles.Respondent false) c.usual-options.result c.args.plan.role roles.Respondent c.args.dice c.usual-options.ensures c.in-Respondent.is refl c.new-in-Respondent.ensures

@@ -1,0 +1,12 @@
+//! Tests of sockets over machines and wires in memory, with one caller and with several. A caller keeps its pass and what
+//! it has begun and did not collect, so that a test says only what it does.
+#![tactic(auto)]
+
+#[cfg(test)]
+mod callers;
+#[cfg(test)]
+mod one;
+#[cfg(test)]
+mod parts;
+#[cfg(test)]
+mod tests;

@@ -1,0 +1,290 @@
+-- What stands on the links of a run when all were given back.
+use Rattle.std.proofs.Common.{◌≡◌, ◌≤◌, ◌<◌, ℕ, Bool, true, false, List, [], ◌∷◌, length, take, Option, Some, None, refl, sym, ap, subst, ◌∙◌, inl, inr, arith, append-nil, length-append, eq-eqb}
+use Rattle.std.specs.Prelude.{⊤, ◌==◌, ◌^◌, ◌⊎◌, ◌||◌, IsTrue, is_some}
+use Rattle.std.specs.List.{AllByRecursion}
+use Rattle.std.specs.FinMap.{FinMap, get}
+use Rattle.std.specs.Ordering.{nat_cmp}
+use Rattle.std.proofs.lemmas.List.{take_all}
+use Rattle.turn_lock.specs.declared.turn.Turn.{Turn}
+use Rattle.sp_spec.specs.Outside.{Told, IsFront}
+use Rattle.sp_spec.specs.SpTcp.{hello, text}
+use Rattle.sp_base.specs.Roles.{role_number}
+use Rattle.sp_base.specs.Views.{LinkView, NetView}
+use Rattle.sp_tcp.specs.Views.{TcpView}
+use Rattle.sp_history.specs.declared.entry.Entry.{Entry}
+use Rattle.sp_history.specs.declared.entry.Entry.TheVariants.{NoUp}
+use Rattle.sp_history.specs.declared.setting.Setting.{Setting}
+use Rattle.sp_history.specs.Found.{ticks}
+use Rattle.sp_history.specs.Legal.{Legal}
+use Rattle.sp_history.specs.Lists.{has}
+use Rattle.sp_history.specs.Past.{past_of, is_closed, up, untaken, outs}
+use Rattle.sp_history.proofs.OnceHolds.{closed_pipes}
+use Rattle.sp_core.specs.declared.lines.Fallen.{Fallen}
+use Rattle.sp_core.specs.Lines.{fallen_ids}
+use Rattle.sp_core.specs.Parts.{HasWires}
+use Rattle.sp_core.specs.Wires.{IsDownWire}
+use Rattle.cat_play.specs.Openings.{greetings, peer_number, IsComplete}
+use Rattle.cat_play.specs.Playing.{each}
+use Rattle.cat_play.specs.Recording.{Records, place_of, greeting, Each, HasCause, IsBack, IsUndone, times_out_rightly}
+use Rattle.cat_play.specs.Running.{max_body, KeepsOthers, AreWhole}
+use Rattle.cat_play.specs.Spending.{IsAsked, greeting_ticks}
+use Rattle.sp_ends.specs.declared.newcomer.Newcomer.{Newcomer}
+use Rattle.sp_ends.specs.Newcomers.{HasTried, IsUnderWay}
+use Rattle.sp_ends.specs.Standing.{EndsView, places, in_order, WasGreeted, LinksKept, EndsStand, HasCarried, IsShut, IsCarried, IsSomewhere, SameCounts}
+use Rattle.sp_ends.specs.Leaving.{LinksLeft, ClosedCleared, shown_wire, with_links, with_wires, shut_link, ShutsFramed, AreHandedOut}
+use Rattle.sp_ends.proofs.Places.{passed, inside, met_inside}
+use Rattle.sp_ends.proofs.LeavingWires.{named_at, LeftBy, carried_by}
+use Rattle.sp_ends.proofs.LeavingAll.{from_all, OneOf, NoneOf, look_wires, at_id, both_of, mapped_all, shut_of, OneCame, NoneCame, look_links, one_pipe, pipe_inside, was_missed, missed_rests, named_place}
+use Rattle.sp_ends.proofs.Newcoming.{hello_long}
+
+-- ---- A link that was left in progress
+
+told_every : (P : List ℕ → Type 0) (a : Option (List ℕ)) → ((s : List ℕ) → P s) → Told a P
+told_every P None f = tt
+told_every P (Some s) f = f s
+
+told_map : (P Q : List ℕ → Type 0) (a : Option (List ℕ)) → ((s : List ℕ) → P s → Q s) → Told a P → Told a Q
+told_map P Q None f t = tt
+told_map P Q (Some s) f t = f s t
+
+module _ {L : Type 0} (seen : L → LinkView) (z : Setting) (past : List Entry) (n : Newcomer L) (was : WasGreeted seen z past n) where
+  abbrev way : IsUnderWay seen z.role n
+  way = was.progressing.under_way
+
+  unmet : ¬ IsComplete (greetings z.role) tt (shut_of seen (λ _. ⊤) n)
+  unmet complete =
+      let came = complete.0 in
+      let fed : came ≡ n.greeting.fed = subst (λ (o : Option (List ℕ)). Told o (λ s. s ≡ n.greeting.fed)) complete.2 way.texts.came in
+      let front = complete.4 in
+      omega (arith, ap length fed, ap length front.1, length-append (hello (peer_number z.role)) front.0, hello_long (peer_number z.role), way.heard, way.few)
+
+  wrote : (w : List ℕ) → w ≡ take n.said (hello (role_number z.role)) → HasTried seen n → (owed : List ℕ) → owed ≡ hello (role_number z.role) → IsFront owed w ⊎ (1 ≤ (seen n.link).stalls)
+  wrote w is (inl all) owed e = inl ([], is ∙ ap (λ (k : ℕ). take k (hello (role_number z.role))) all ∙ take_all 8 (hello (role_number z.role)) (omega (arith, hello_long (role_number z.role))) ∙ sym e ∙ sym (append-nil owed))
+  wrote w is (inr stalled) owed e = inr stalled
+
+  undone : (h : List (Turn Entry)) → IsUndone (greetings z.role) z h (shut_of seen (λ _. ⊤) n)
+  undone h = (tt, was.progressing.scheme, (unmet, told_every _ (seen n.link).came (λ s. told_map _ _ (seen n.link).written (λ w is. wrote w is was.tried) way.texts.written)))
+
+-- ---- Where each link is
+
+-- the link of a wire, shut, is what is left of its pipe
+pub record WireLeft (z : Setting) (h : List (Turn Entry)) (x : Fallen TcpView) : Type 0 where
+  pub came_up : place_of (past_of h) x.id ≡ Some x.wire.link.place
+  pub left_ : LeftBy z h x.id x.wire.link.place (shut_link x.wire)
+
+wire_left : (z : Setting) (start : NetView) (h : List (Turn Entry)) (net : NetView) → LinksKept z start h net → (x : Fallen TcpView) → IsDownWire z (past_of h) x.id x.why (shown_wire x.wire) × ShutsFramed x.wire → WireLeft z h x
+wire_left z start h net kept x both =
+    let down = both.0 in
+    let shuts = both.1 in
+    let at = named_place (past_of h) x.id _ down.agrees.name_is in
+    let n = named_at z start.opened net.opened (past_of h) x.id at.0 kept.in_place kept.few kept.named at.1 in
+    let l = carried_by z h x.id at.0 n x.why x.wire.wire down shuts.shut shuts.after shuts.framed in
+    let place_is : x.wire.link.place ≡ at.0 = sym (ap (λ (v : LinkView). v.place) shuts.over) ∙ l.place_is in
+    record {
+      came_up = at.1 ∙ ap (λ (m : ℕ). Some m) (sym place_is);
+      left_ = subst (λ (m : ℕ). LeftBy z h x.id m (shut_link x.wire)) (sym place_is) (subst (λ (v : LinkView). LeftBy z h x.id at.0 v) shuts.over l);
+    }
+
+is_true_false : (b : Bool) → b ≡ true → b ≡ false → ⊥
+is_true_false b t f = let no : true ≡ false = sym t ∙ f in cc
+
+in_greeting : {L : Type 0} (seen : L → LinkView) (ns : List (Newcomer L)) (past : List Entry) → places seen (in_order 0 ns) ≡ greeting past → places seen ns ≡ greeting past
+in_greeting seen ns past e = ap (places seen) (sym (append-nil ns)) ∙ e
+
+module _ {L : Type 0} (seen : L → LinkView) (z : Setting) (start : NetView) (h : List (Turn Entry)) (net : NetView) (ends : EndsView L) (ws : List (Fallen TcpView)) (legal : Legal z h) (closed : is_closed (past_of h) ≡ true) (stands : EndsStand seen z start h net ends) (wires : HasWires shown_wire ws z (past_of h)) (framed : AllByRecursion (λ x. ShutsFramed x.wire) ws) where
+  abbrev past : List Entry
+  past = past_of h
+
+  abbrev kept : LinksKept z start h net
+  kept = stands.links.kept
+
+  abbrev between : FinMap nat_cmp LinkView
+  between = with_links seen net.back ends.newcomers
+
+  abbrev back : FinMap nat_cmp LinkView
+  back = with_wires between ws
+
+  came : places seen ends.newcomers ≡ greeting past
+  came = in_greeting seen ends.newcomers past stands.links.progressing.all
+
+  greeted : AllByRecursion (WasGreeted seen z past) ends.newcomers
+  greeted = stands.links.progressing.rest
+
+  all_left : AllByRecursion (WireLeft z h) ws
+  all_left = mapped_all _ (WireLeft z h) (wire_left z start h net kept) ws (both_of _ _ ws (from_all _ ws wires.wires) framed)
+
+  taken : (x : Fallen TcpView) → has (fallen_ids ws) x.id ≡ true → has (untaken past) x.id ≡ true
+  taken x e = ap (λ (xs : List ℕ). has xs x.id) (sym wires.pipes) ∙ e
+
+  abbrev Came : ℕ → Type 0
+  Came place = OneCame seen (WasGreeted seen z past) net.back ends.newcomers place × (get back place ≡ get between place)
+
+  abbrev Wired : ℕ → Type 0
+  Wired place = OneOf (WireLeft z h) between ws place
+
+  pub record Rested (place : ℕ) : Type 0 where
+    pub found : get back place ≡ get net.back place
+    pub unwired : NoneOf between ws place
+    pub unmet : has (greeting past) place ≡ false
+
+  where_is : (place : ℕ) → Came place ⊎ Wired place ⊎ Rested place
+  where_is place = go (look_wires (WireLeft z h) between ws place all_left) (look_links seen (WasGreeted seen z past) net.back ends.newcomers place greeted)
+    where
+      go : OneOf (WireLeft z h) between ws place ⊎ NoneOf between ws place → OneCame seen (WasGreeted seen z past) net.back ends.newcomers place ⊎ NoneCame seen (WasGreeted seen z past) net.back ends.newcomers place → Came place ⊎ Wired place ⊎ Rested place
+      go (inl one) l = inr (inl one)
+      go (inr nobody) (inl one) = inl (one, nobody.found)
+      go (inr nobody) (inr none) = inr (inr (record { found = nobody.found ∙ none.found; unwired = nobody; unmet = ap (λ (xs : List ℕ). has xs place) (sym came) ∙ none.none }))
+
+  met_now : (place : ℕ) → Came place → has (greeting past) place ≡ true
+  met_now place c = ap (λ (xs : List ℕ). has xs place) (sym came) ∙ c.0.there
+
+  wired_up : (place : ℕ) (x : Wired place) → place_of past x.x.id ≡ Some place
+  wired_up place x = x.fact.came_up ∙ ap (λ (m : ℕ). Some m) x.place_is
+
+  wired_left : (place : ℕ) (x : Wired place) → LeftBy z h x.x.id place (shut_link x.x.wire)
+  wired_left place x = subst (λ (m : ℕ). LeftBy z h x.x.id m (shut_link x.x.wire)) x.place_is x.fact.left_
+
+  none_up : (p : ℕ) → IsTrue (has (up past) p) → ⊥
+  none_up p e = is_true_false (has (up past) p) e (ap (λ (xs : List ℕ). has xs p) (closed_pipes z h legal closed))
+
+  not_wired : (p place : ℕ) → Rested place → place_of past p ≡ Some place → IsTrue (has (untaken past) p) → ⊥
+  not_wired p place r e on = go (at_id _ ws p (ap (λ (xs : List ℕ). has xs p) wires.pipes ∙ on) (both_of _ _ ws all_left r.unwired.none))
+    where
+      go : (x : Fallen TcpView) × (x.id ≡ p) × (WireLeft z h x × ¬ (x.wire.link.place ≡ place)) → ⊥
+      go (x, same, (left, other)) =
+          let a : place_of past p ≡ Some x.wire.link.place = ap (place_of past) (sym same) ∙ left.came_up in
+          let b : Some x.wire.link.place ≡ Some place = sym a ∙ e in
+          other cc
+
+  -- ---- Pipes
+
+  carried_at : (p place : ℕ) → place_of past p ≡ Some place → IsBack back place (HasCarried z h p)
+  carried_at p place e = go (where_is place) (kept.carried p place e)
+    where
+      off : has (greeting past) place ≡ false
+      off = passed start.opened net.opened past p place kept.in_place kept.few e
+
+      go : Came place ⊎ Wired place ⊎ Rested place → IsCarried z h net p place → IsBack back place (HasCarried z h p)
+      go (inl c) k = absurd (is_true_false _ (met_now place c) off)
+      go (inr (inl x)) k =
+          let same : x.x.id ≡ p = one_pipe start.opened net.opened kept.few past x.x.id p place kept.in_place kept.over_links (wired_up place x) e in
+          (shut_link x.x.wire, x.found, subst (λ (q : ℕ). HasCarried z h q (shut_link x.x.wire)) same (wired_left place x).carried)
+      go (inr (inr r)) (inl on) = absurd (none_up p on)
+      go (inr (inr r)) (inr (inl on)) = absurd (not_wired p place r e on)
+      go (inr (inr r)) (inr (inr b)) = (b.0, r.found ∙ b.1, b.2.2)
+
+  -- ---- All links
+
+  abbrev IsRight : ℕ → LinkView → Type 0
+  IsRight place link = IsShut place link × (length (ticks past) < 2 ^ 64 → IsAsked past place link)
+
+  right_at : (place : ℕ) → start.opened ≤ place → place < net.opened → IsBack back place (IsRight place)
+  right_at place low high = go (where_is place) (kept.somewhere place low high)
+    where
+      pipe : Rested place → (p : ℕ) → place_of past p ≡ Some place → IsCarried z h net p place → IsBack back place (IsRight place)
+      pipe r p e (inl on) = absurd (none_up p on)
+      pipe r p e (inr (inl on)) = absurd (not_wired p place r e on)
+      pipe r p e (inr (inr b)) = (b.0, r.found ∙ b.1, (b.2.0, b.2.1))
+
+      go : Came place ⊎ Wired place ⊎ Rested place → IsSomewhere net past place → IsBack back place (IsRight place)
+      go (inl c) s =
+          let n = c.0.n in
+          (shut_of seen (WasGreeted seen z past) n, c.1 ∙ c.0.found, ((c.0.place_is, refl), λ few i st. let a = c.0.fact.progressing.asked i st in let same = ap (greeting_ticks past) c.0.place_is in omega (arith, a, same)))
+      go (inr (inl x)) s = let l = wired_left place x in (shut_link x.x.wire, x.found, ((l.place_is, refl), l.asked))
+      go (inr (inr r)) (inl on) = absurd (is_true_false _ on r.unmet)
+      go (inr (inr r)) (inr (inl p)) = pipe r p.0 p.1 (kept.carried p.0 place p.1)
+      go (inr (inr r)) (inr (inr b)) = (b.0, r.found ∙ b.1, (b.2.0, λ few. b.2.1))
+
+  undone_at : (place : ℕ) → has (greeting past) place ≡ true → IsBack back place (IsUndone (greetings z.role) z h)
+  undone_at place on = go (where_is place)
+    where
+      go : Came place ⊎ Wired place ⊎ Rested place → IsBack back place (IsUndone (greetings z.role) z h)
+      go (inl c) = (shut_of seen (WasGreeted seen z past) c.0.n, c.1 ∙ c.0.found, undone seen z past c.0.n c.0.fact h)
+      go (inr (inl x)) = absurd (is_true_false _ on (passed start.opened net.opened past x.x.id place kept.in_place kept.few (wired_up place x)))
+      go (inr (inr r)) = absurd (is_true_false _ on r.unmet)
+
+  missed_at : (place : ℕ) → was_missed start.opened net.opened kept.few past place ≡ true → get back place ≡ get net.back place
+  missed_at place m = go (where_is place) (missed_rests start.opened net.opened kept.few past place kept.in_place kept.over_links m)
+    where
+      go : Came place ⊎ Wired place ⊎ Rested place → (has (greeting past) place ≡ false) × ((p : ℕ) → place_of past p ≡ Some place → ⊥) → get back place ≡ get net.back place
+      go (inl c) r = absurd (is_true_false _ (met_now place c) r.0)
+      go (inr (inl x)) r = absurd (r.1 x.x.id (wired_up place x))
+      go (inr (inr s)) r = s.found
+
+  others : KeepsOthers start (record net { back = back })
+  others place out = go (where_is place)
+    where
+      outside : (start.opened ≤ place) × (place < net.opened) → (place < start.opened) ⊎ (net.opened ≤ place) → ⊥
+      outside within (inl lt) = absurd (omega (arith, within.0, lt))
+      outside within (inr le) = absurd (omega (arith, within.1, le))
+
+      go : Came place ⊎ Wired place ⊎ Rested place → get back place ≡ get start.back place
+      go (inl c) = absurd (outside (inside start.opened net.opened past place kept.in_place (met_now place c)) out)
+      go (inr (inl x)) = absurd (outside (pipe_inside start.opened net.opened kept.few past x.x.id place kept.in_place kept.over_links (wired_up place x)) out)
+      go (inr (inr r)) = r.found ∙ kept.others place out
+
+  missed_still : (part : List Entry) → ((place : ℕ) → was_missed start.opened net.opened kept.few part place ≡ true → get back place ≡ get net.back place) → Each (HasCause (greetings z.role) z h net.back) part → Each (HasCause (greetings z.role) z h back) part
+  missed_still [] same all = tt
+  missed_still (NoUp place miss ∷ part) same all =
+      let b = all.0 in
+      let first : was_missed start.opened net.opened kept.few (NoUp place miss ∷ part) place ≡ true = rw (eq-eqb place place refl) refl in
+      ((b.0, same place first ∙ b.1, b.2), missed_still part (λ other m. same other (or_more (place == other) m)) all.1)
+    where
+      or_more : (t : Bool) {b : Bool} → b ≡ true → (t || b) ≡ true
+      or_more true e = refl
+      or_more false e = e
+  missed_still (e ∷ part) same all = (tt, missed_still part same all.1)
+
+  records : IsTrue (each times_out_rightly past) → Records (greetings z.role) z max_body start.opened net.opened back h
+  records due = record {
+    places = kept.in_place;
+    few = kept.few;
+    met = kept.met;
+    given_back = λ place a b. let r = right_at place a b in (r.0, r.1, r.2.0);
+    missed = missed_still past missed_at kept.missed;
+    left_ = undone_at;
+    came_up = λ p place e lt. let c = carried_at p place e in (c.0, c.1, ((tt, c.2.scheme, c.2.opened), record { texts = λ tcp. c.2.carries; fell = λ tcp. c.2.fell }));
+    due = due;
+  }
+
+  whole : ClosedCleared past → AreWhole z (record net { back = back }) past
+  whole cleared p place link down e lt there tcp =
+      let c = carried_at p place e in
+      let all : Some c.0 ≡ Some link = sym c.1 ∙ there in
+      let same : c.0 ≡ link = some_link c.0 link all in
+      subst (λ (l : LinkView). Told l.written (λ written. written ≡ text (role_number z.role) (outs past p))) same (c.2.whole (cleared p down))
+    where
+      some_link : (a b : LinkView) → Some a ≡ Some b → a ≡ b
+      some_link a b q = cc
+
+  all_back : LinksLeft z start h (record net { back = back })
+  all_back = record {
+    records = records;
+    others = others;
+    asked = λ few place a b. let r = right_at place a b in (r.0, r.1, r.2.1 few);
+    read = λ p place e lt. let c = carried_at p place e in (c.0, c.1, c.2.read);
+    whole = whole;
+  }
+
+  same_net : (a : NetView) → SameCounts net a → a.back ≡ back → record net { back = back } ≡ a
+  same_net a counts b = made net.listens a.listens net.opened a.opened back a.back net.faults a.faults net.idles a.idles (sym counts.listens) (sym counts.opened) (sym b) (sym counts.faults) (sym counts.idles)
+    where
+      made : (l l' : _) (o o' : ℕ) (k k' : FinMap nat_cmp LinkView) (f f' i i' : ℕ) → l ≡ l' → o ≡ o' → k ≡ k' → f ≡ f' → i ≡ i'
+          → ◌≡◌ {A = NetView} (record { listens = l; opened = o; back = k; faults = f; idles = i }) (record { listens = l'; opened = o'; back = k'; faults = f'; idles = i' })
+      made l l' o o' k k' f f' i i' a b c d e = cc
+
+  pub links_left : (net' : NetView) → SameCounts net net' → net'.back ≡ back → LinksLeft z start h net'
+  links_left net' counts b = subst (LinksLeft z start h) (same_net net' counts b) all_back
+
+-- ---- Before they are given back
+
+pub newcomers_below : {L : Type 0} (seen : L → LinkView) (z : Setting) (start : NetView) (h : List (Turn Entry)) (net : NetView) (ends : EndsView L) → EndsStand seen z start h net ends → AllByRecursion (λ n. (seen n.link).place < net.opened) ends.newcomers
+newcomers_below seen z start h net ends stands =
+    let kept = stands.links.kept in
+    mapped_all (WasGreeted seen z (past_of h)) (λ n. (seen n.link).place < net.opened) (λ n was. (met_inside start.opened net.opened (past_of h) (seen n.link).place kept.in_place (ap is_some was.progressing.met)).1) ends.newcomers stands.links.progressing.rest
+
+pub wires_below : {L : Type 0} (seen : L → LinkView) (z : Setting) (start : NetView) (h : List (Turn Entry)) (net : NetView) (ends : EndsView L) (ws : List (Fallen TcpView)) → EndsStand seen z start h net ends → HasWires shown_wire ws z (past_of h) → AreHandedOut net.opened ws
+wires_below seen z start h net ends ws stands wires =
+    let kept = stands.links.kept in
+    mapped_all _ (λ x. ShutsFramed x.wire → x.wire.link.place < net.opened)
+    (λ x down shuts. (pipe_inside start.opened net.opened kept.few (past_of h) x.id x.wire.link.place kept.in_place kept.over_links (wire_left z start h net kept x (down, shuts)).came_up).1) ws (from_all _ ws wires.wires)

@@ -1,0 +1,67 @@
+-- Addresses are dialed one by one.
+use Rattle.std.proofs.Common.{◌≡◌, ◌≤◌, ◌<◌, ◌+◌, ◌∷◌, ℕ, zero, suc, List, [], length, Option, Some, None, refl, sym, ap, subst, ◌∙◌, arith, min, set, slice_get, get_or}
+use Rattle.std.specs.Prelude.{◌^◌, ◌-◌}
+use Rattle.sp_base.specs.Views.{LinkView, NetView}
+use Rattle.sp_single.specs.Singles.{SingleView}
+use Rattle.sp_ends.specs.declared.dialer.Dialer.{Dialer}
+use Rattle.sp_ends.specs.Moments.{moment}
+use Rattle.sp_ends.specs.Standing.{EndsView, LinksStand, tries_of}
+use Rattle.sp_ends.specs.Turning.{InTurn, IsSameDialer, AreSameDialers, HasDialed, DialsOne}
+use Rattle.sp_ends.proofs.Serving.{same_dialers, dialers_both, dialer_both}
+use Rattle.sp_ends.proofs.NewcomingAsks.{at_index, same_tries}
+
+-- ---- One dial
+
+-- the same but for its dialers
+pub turned_as : {L : Type 0} (seen : L → LinkView) (start : NetView) (ends ends' : EndsView L) (net : NetView) (s : SingleView) (t k : ℕ) → ends'.role ≡ ends.role → ends'.newcomers ≡ ends.newcomers → InTurn seen start ends net s t k → InTurn seen start ends' net s t k
+turned_as seen start ends ends' net s t k r n i = record {
+  role = r ∙ i.role;
+  links = subst (λ ns. LinksStand seen s.setting start s.seen net ns k) (sym n) i.links;
+  now_is = i.now_is;
+  ticked = i.ticked;
+  few = omega (arith, i.few, ap length n);
+  sound = i.sound;
+}
+
+dials_set : (t : ℕ) (same : Type 0) (i : ℕ) (ds : List Dialer) (d x : Dialer) → slice_get ds i ≡ Some d → HasDialed t same d x → DialsOne i t same ds (set ds i x)
+dials_set t same i [] d x e h = cc
+dials_set t same zero (y ∷ ds) d x e h = let is : y ≡ d = cc in (subst (λ (q : Dialer). HasDialed t same q x) (sym is) h, same_dialers ds)
+dials_set t same (suc i) (y ∷ ds) d x e h = (record { addr = refl; tries = refl; free = λ _. refl }, dials_set t same i ds d x e h)
+
+-- the dialer at this place of the list has tried
+pub dialed_at : (t : ℕ) (same : Type 0) (i : ℕ) (xs ds : List Dialer) (old new : Dialer) (place : Option ℕ) → xs ≡ ds → i < length ds → old ≡ get_or xs i old
+    → (new.addr ≡ old.addr) × (new.next ≡ moment (t + 100)) × (new.place ≡ place) × (new.tries ≡ min (old.tries + 1) (2 ^ 64 - 1)) → (same → place ≡ None) → DialsOne i t same ds (set xs i new)
+dialed_at t same i xs ds old new place e lt at d none =
+    subst (λ ys. DialsOne i t same ds (set ys i new)) (sym e) (dials_set t same i ds old new (at_index xs ds i old e lt at) (record { addr = d.0; tries = d.3; next = λ m. (d.1, d.2 ∙ none m) }))
+
+dial_then : (t : ℕ) (same same' : Type 0) (d e f : Dialer) → (same' → same) → HasDialed t same d e → IsSameDialer e f → HasDialed t same' d f
+dial_then t same same' d e f m h s = record {
+  addr = s.addr ∙ h.addr;
+  tries = s.tries ∙ h.tries;
+  next = λ x. let n = h.next (m x) in let is = s.free n.1 in (ap (λ (q : Dialer). q.next) is ∙ n.0, ap (λ (q : Dialer). q.place) is ∙ n.1);
+}
+
+-- and others have lost their links then
+pub dials_then : (i t : ℕ) (same same' : Type 0) (ds es fs : List Dialer) → (same' → same) → DialsOne i t same ds es → AreSameDialers es fs → DialsOne i t same' ds fs
+dials_then i t same same' [] [] [] m d s = tt
+dials_then i t same same' [] [] (f ∷ fs) m d s = absurd s
+dials_then i t same same' [] (e ∷ es) fs m d s = absurd d
+dials_then zero t same same' (x ∷ ds) [] fs m d s = absurd d
+dials_then (suc i) t same same' (x ∷ ds) [] fs m d s = absurd d
+dials_then i t same same' (x ∷ ds) (e ∷ es) [] m d s = absurd s
+dials_then zero t same same' (x ∷ ds) (e ∷ es) (f ∷ fs) m d s = (dial_then t same same' x e f m d.0 s.0, dialers_both ds es fs d.1 s.1)
+dials_then (suc i) t same same' (x ∷ ds) (e ∷ es) (f ∷ fs) m d s = (dialer_both x e f d.0 s.0, dials_then i t same same' ds es fs m d.1 s.1)
+
+one_more : (a b x e m : ℕ) → b ≡ a → e ≡ min (x + 1) m → b + e ≤ (a + x) + 1
+one_more a b x e m p q = omega arith
+
+same_sum : (a b x e : ℕ) → b ≤ a + 1 → e ≡ x → b + e ≤ (a + x) + 1
+same_sum a b x e p q = omega arith
+
+pub dials_tries : (i t : ℕ) (same : Type 0) (ds es : List Dialer) → DialsOne i t same ds es → tries_of es ≤ tries_of ds + 1
+dials_tries i t same [] [] d = omega arith
+dials_tries i t same [] (e ∷ es) d = absurd d
+dials_tries zero t same (x ∷ ds) [] d = absurd d
+dials_tries (suc i) t same (x ∷ ds) [] d = absurd d
+dials_tries zero t same (x ∷ ds) (e ∷ es) d = one_more (tries_of ds) (tries_of es) x.tries e.tries (2 ^ 64 - 1) (same_tries ds es d.1) d.0.tries
+dials_tries (suc i) t same (x ∷ ds) (e ∷ es) d = same_sum (tries_of ds) (tries_of es) x.tries e.tries (dials_tries i t same ds es d.1) (ap (λ (k : ℕ). k) d.0.tries)

@@ -1,0 +1,52 @@
+use Rattle.std.proofs.Common.{◌≡◌, Some, subst, ap, slice_get, refl, arith}
+use Rattle.std.specs.FinMap.{get}
+use Rattle.sp_base.specs.Steps.{IsHandedOut}
+use Rattle.sp_base.specs.declared.addr.Scheme.TheVariants as schemes
+use Rattle.sp_ends.specs.Standing.{EndsView}
+use Rattle.sp_ends.proofs.NewcomingAsks.{at_index}
+use Rattle.sp_ends.proofs.Serving.{same_dialers}
+use Rattle.sp_ends.proofs.NewcomingTurn.{untouched}
+use Rattle.sp_ends.proofs.Freeing.{frees_none, frees_both}
+use Rattle.sp_ends.proofs.ends.Ends.accept_one.Goals as goal
+
+pub welcome-requires-clause-fresh : goal.welcome-requires-clause-fresh
+welcome-requires-clause-fresh g c =
+    let net = g.N.Net.seen c.args.net.now in
+    let at : slice_get c.args.self.now.listeners c.args.i ≡ Some c.index.result.now = at_index c.self.inside.listeners.items c.args.self.now.listeners c.args.i c.index.result.now (ap (λ (e : EndsView g.row.L.Denot). e.listeners) c.self.view_is) c.requires.inside c.index.ensures in
+    let tcp : get net.listens c.index.result.now ≡ Some schemes.Tcp = c.requires.listens c.index.result.now at in
+    let i = c.requires.in_turn in
+    (i.0, net, i.1, subst (λ (s : _). IsHandedOut (g.L.Link.seen c.in-Got.link) s net (g.N.Net.seen c.accept.new.self)) tcp c.in-Got.ensures.shows)
+
+pub returns-in-NotYet-clause-in_turn : goal.returns-in-NotYet-clause-in_turn
+returns-in-NotYet-clause-in_turn g c start i = untouched g.L.Link.seen start c.args.self.now (g.N.Net.seen c.args.net.now) (g.N.Net.seen c.accept.new.self) c.args.single.now c.args.now 0 c.in-NotYet.ensures.shows.0 i
+
+pub returns-in-NotYet-clause-dialers : goal.returns-in-NotYet-clause-dialers
+returns-in-NotYet-clause-dialers g c = same_dialers c.args.self.now.dialers
+
+pub returns-in-Failed-clause-in_turn : goal.returns-in-Failed-clause-in_turn
+returns-in-Failed-clause-in_turn g c start i = untouched g.L.Link.seen start c.args.self.now (g.N.Net.seen c.args.net.now) (g.N.Net.seen c.accept.new.self) c.args.single.now c.args.now 0 c.in-Failed.ensures.shows.0 i
+
+pub returns-in-Failed-clause-dialers : goal.returns-in-Failed-clause-dialers
+returns-in-Failed-clause-dialers g c = same_dialers c.args.self.now.dialers
+
+pub returns-in-Got-clause-in_turn : goal.returns-in-Got-clause-in_turn
+returns-in-Got-clause-in_turn g c start i =
+    let net = g.N.Net.seen c.args.net.now in
+    let at : slice_get c.args.self.now.listeners c.args.i ≡ Some c.index.result.now = at_index c.self.inside.listeners.items c.args.self.now.listeners c.args.i c.index.result.now (ap (λ (e : EndsView g.row.L.Denot). e.listeners) c.self.view_is) c.requires.inside c.index.ensures in
+    let tcp : get net.listens c.index.result.now ≡ Some schemes.Tcp = c.requires.listens c.index.result.now at in
+    c.welcome.ensures.in_turn start net i (subst (λ (s : _). IsHandedOut (g.L.Link.seen c.in-Got.link) s net (g.N.Net.seen c.accept.new.self)) tcp c.in-Got.ensures.shows)
+
+pub returns-in-NotYet-clause-frees : goal.returns-in-NotYet-clause-frees
+returns-in-NotYet-clause-frees g c =
+    let u = c.in-NotYet.ensures.shows.0 in
+    frees_none c.args.now (g.N.Net.seen c.args.net.now) (g.N.Net.seen c.accept.new.self) c.args.self.now.dialers c.args.self.now.dialers (let o = u.opened in omega (arith, o)) u.back refl
+
+pub returns-in-Failed-clause-frees : goal.returns-in-Failed-clause-frees
+returns-in-Failed-clause-frees g c =
+    let u = c.in-Failed.ensures.shows.0 in
+    frees_none c.args.now (g.N.Net.seen c.args.net.now) (g.N.Net.seen c.accept.new.self) c.args.self.now.dialers c.args.self.now.dialers (let o = u.opened in omega (arith, o)) u.back refl
+
+pub returns-in-Got-clause-frees : goal.returns-in-Got-clause-frees
+returns-in-Got-clause-frees g c =
+    let h = c.in-Got.ensures.shows in
+    frees_both c.args.now (g.N.Net.seen c.args.net.now) (g.N.Net.seen c.accept.new.self) (g.N.Net.seen c.welcome.new.net) c.args.self.now.dialers c.args.self.now.dialers c.welcome.new.self.dialers (frees_none c.args.now (g.N.Net.seen c.args.net.now) (g.N.Net.seen c.accept.new.self) c.args.self.now.dialers c.args.self.now.dialers (let o = h.opened in omega (arith, o)) h.back refl) c.welcome.ensures.frees

@@ -1,0 +1,97 @@
+use Rattle.std.proofs.Common.{◌≡◌, ◌∙◌, Some, None, subst, sym, ap, refl, arith, slice_get}
+use Rattle.std.proofs.lemmas.Option.{slice_get_within}
+use Rattle.sp_base.specs.Addresses.{scheme_of}
+use Rattle.sp_base.specs.Steps.{IsHandedOut}
+use Rattle.sp_base.specs.declared.addr.Scheme.TheVariants as schemes
+use Rattle.sp_ends.specs.declared.dialer.Dialer.{Dialer}
+use Rattle.sp_ends.specs.Standing.{EndsView}
+use Rattle.sp_ends.proofs.NewcomingAsks.{at_index}
+use Rattle.sp_ends.proofs.NewcomingTurn.{untouched}
+use Rattle.sp_ends.proofs.NewcomingDials.{turned_as, dialed_at, dials_then}
+use Rattle.sp_ends.proofs.Freeing.{redials_none, redials_got}
+use Rattle.sp_ends.proofs.ends.Ends.dial_one.Goals as goal
+
+pub welcome-requires-clause-fresh : goal.welcome-requires-clause-fresh
+welcome-requires-clause-fresh g c =
+    let net = g.N.Net.seen c.args.net.now in
+    let r = c.requires.dialable in
+    let e = ap (λ (v : EndsView g.row.L.Denot). v.dialers) c.self.view_is in
+    let lt = slice_get_within c.args.self.now.dialers c.args.i r.0 r.1 in
+    let at : slice_get c.args.self.now.dialers c.args.i ≡ Some c.index.result.now = at_index c.self.inside.dialers.items c.args.self.now.dialers c.args.i c.index.result.now e lt c.index.ensures in
+    let both : Some c.index.result.now ≡ Some r.0 = sym at ∙ r.1 in
+    let is : c.index.result.now ≡ r.0 = cc in
+    let tcp : scheme_of c.index.result.now.addr ≡ schemes.Tcp = ap (λ (d : Dialer). scheme_of d.addr) is ∙ r.3 in
+    let i = c.requires.in_turn in (
+      i.0,
+      net,
+      turned_as g.L.Link.seen i.0 c.args.self.now _ net c.args.single.now c.args.now 0 (ap (λ (v : EndsView g.row.L.Denot). v.role) c.self.view_is) (ap (λ (v : EndsView g.row.L.Denot). v.newcomers) c.self.view_is) i.1,
+      subst (λ (s : _). IsHandedOut (g.L.Link.seen c.in-Got.link) (Some s) net (g.N.Net.seen c.dial.new.self)) tcp c.in-Got.ensures.shows,
+    )
+
+pub returns-in-NotYet-clause-in_turn : goal.returns-in-NotYet-clause-in_turn
+returns-in-NotYet-clause-in_turn g c start i =
+    let net = g.N.Net.seen c.args.net.now in
+    let net' = g.N.Net.seen c.dial.new.self in
+    turned_as g.L.Link.seen start c.args.self.now _ net' c.args.single.now c.args.now 0 (ap (λ (v : EndsView g.row.L.Denot). v.role) c.self.view_is) (ap (λ (v : EndsView g.row.L.Denot). v.newcomers) c.self.view_is)
+    (untouched g.L.Link.seen start c.args.self.now net net' c.args.single.now c.args.now 0 c.in-NotYet.ensures.shows.0 i)
+
+pub returns-in-NotYet-clause-dialed : goal.returns-in-NotYet-clause-dialed
+returns-in-NotYet-clause-dialed g c =
+    let r = c.requires.dialable in
+    dialed_at c.args.now _ c.args.i c.self.inside.dialers.items c.args.self.now.dialers c.index_mut.result.now c.dialed.new.self None (ap (λ (v : EndsView g.row.L.Denot). v.dialers) c.self.view_is) (slice_get_within c.args.self.now.dialers c.args.i r.0 r.1) c.index_mut.ensures.value c.dialed.ensures (λ m. refl)
+
+pub returns-in-Failed-clause-in_turn : goal.returns-in-Failed-clause-in_turn
+returns-in-Failed-clause-in_turn g c start i =
+    let net = g.N.Net.seen c.args.net.now in
+    let net' = g.N.Net.seen c.dial.new.self in
+    turned_as g.L.Link.seen start c.args.self.now _ net' c.args.single.now c.args.now 0 (ap (λ (v : EndsView g.row.L.Denot). v.role) c.self.view_is) (ap (λ (v : EndsView g.row.L.Denot). v.newcomers) c.self.view_is)
+    (untouched g.L.Link.seen start c.args.self.now net net' c.args.single.now c.args.now 0 c.in-Failed.ensures.shows.0 i)
+
+pub returns-in-Failed-clause-dialed : goal.returns-in-Failed-clause-dialed
+returns-in-Failed-clause-dialed g c =
+    let r = c.requires.dialable in
+    dialed_at c.args.now _ c.args.i c.self.inside.dialers.items c.args.self.now.dialers c.index_mut-in-Failed.result.now c.dialed-in-Failed.new.self None (ap (λ (v : EndsView g.row.L.Denot). v.dialers) c.self.view_is) (slice_get_within c.args.self.now.dialers c.args.i r.0 r.1) c.index_mut-in-Failed.ensures.value c.dialed-in-Failed.ensures (λ m. refl)
+
+pub returns-in-Got-clause-in_turn : goal.returns-in-Got-clause-in_turn
+returns-in-Got-clause-in_turn g c start i =
+    let net = g.N.Net.seen c.args.net.now in
+    let r = c.requires.dialable in
+    let e = ap (λ (v : EndsView g.row.L.Denot). v.dialers) c.self.view_is in
+    let lt = slice_get_within c.args.self.now.dialers c.args.i r.0 r.1 in
+    let at : slice_get c.args.self.now.dialers c.args.i ≡ Some c.index.result.now = at_index c.self.inside.dialers.items c.args.self.now.dialers c.args.i c.index.result.now e lt c.index.ensures in
+    let both : Some c.index.result.now ≡ Some r.0 = sym at ∙ r.1 in
+    let is : c.index.result.now ≡ r.0 = cc in
+    let tcp : scheme_of c.index.result.now.addr ≡ schemes.Tcp = ap (λ (d : Dialer). scheme_of d.addr) is ∙ r.3 in
+    c.welcome.ensures.in_turn start net (turned_as g.L.Link.seen start c.args.self.now _ net c.args.single.now c.args.now 0 (ap (λ (v : EndsView g.row.L.Denot). v.role) c.self.view_is) (ap (λ (v : EndsView g.row.L.Denot). v.newcomers) c.self.view_is) i)
+    (subst (λ (s : _). IsHandedOut (g.L.Link.seen c.in-Got.link) (Some s) net (g.N.Net.seen c.dial.new.self)) tcp c.in-Got.ensures.shows)
+
+pub returns-in-Got-clause-dialed : goal.returns-in-Got-clause-dialed
+returns-in-Got-clause-dialed g c =
+    let net = g.N.Net.seen c.args.net.now in
+    let net' = g.N.Net.seen c.dial.new.self in
+    let last = g.N.Net.seen c.welcome.new.net in
+    let r = c.requires.dialable in
+    let handed = c.in-Got.ensures.shows in
+    let s = c.welcome.ensures.serves in
+    dials_then c.args.i c.args.now (net'.opened ≡ net.opened) (last.opened ≡ net.opened) c.args.self.now.dialers _ c.welcome.new.self.dialers (λ m. sym s.counts.opened ∙ m)
+    (dialed_at c.args.now (net'.opened ≡ net.opened) c.args.i c.self.inside.dialers.items c.args.self.now.dialers c.index_mut-in-Got.result.now c.dialed-in-Got.new.self (Some c.place.result) (ap (λ (v : EndsView g.row.L.Denot). v.dialers) c.self.view_is) (slice_get_within c.args.self.now.dialers c.args.i r.0 r.1) c.index_mut-in-Got.ensures.value c.dialed-in-Got.ensures
+    (λ m. absurd (omega (arith, m, handed.opened))))
+    s.dialers
+
+pub returns-in-NotYet-clause-redials : goal.returns-in-NotYet-clause-redials
+returns-in-NotYet-clause-redials g c =
+    let r = c.requires.dialable in
+    let d = c.dialed.ensures in
+    redials_none c.args.i c.args.now (g.N.Net.seen c.args.net.now) (g.N.Net.seen c.dial.new.self) c.self.inside.dialers.items c.args.self.now.dialers c.dialed.new.self c.in-NotYet.ensures.shows.0 (ap (λ (v : EndsView g.row.L.Denot). v.dialers) c.self.view_is) (slice_get_within c.args.self.now.dialers c.args.i r.0 r.1) (d.2, d.1)
+
+pub returns-in-Failed-clause-redials : goal.returns-in-Failed-clause-redials
+returns-in-Failed-clause-redials g c =
+    let r = c.requires.dialable in
+    let d = c.dialed-in-Failed.ensures in
+    redials_none c.args.i c.args.now (g.N.Net.seen c.args.net.now) (g.N.Net.seen c.dial.new.self) c.self.inside.dialers.items c.args.self.now.dialers c.dialed-in-Failed.new.self c.in-Failed.ensures.shows.0 (ap (λ (v : EndsView g.row.L.Denot). v.dialers) c.self.view_is) (slice_get_within c.args.self.now.dialers c.args.i r.0 r.1) (d.2, d.1)
+
+pub returns-in-Got-clause-redials : goal.returns-in-Got-clause-redials
+returns-in-Got-clause-redials g c =
+    let r = c.requires.dialable in
+    let d = c.dialed-in-Got.ensures in
+    redials_got c.args.i c.args.now (g.N.Net.seen c.args.net.now) (g.N.Net.seen c.dial.new.self) (g.N.Net.seen c.welcome.new.net) (g.L.Link.seen c.in-Got.link) _ c.self.inside.dialers.items c.args.self.now.dialers c.welcome.new.self.dialers c.dialed-in-Got.new.self c.in-Got.ensures.shows (ap (λ (v : EndsView g.row.L.Denot). v.dialers) c.self.view_is) (slice_get_within c.args.self.now.dialers c.args.i r.0 r.1) (d.2 ∙ ap Some c.place.ensures) c.welcome.ensures.frees

@@ -1,0 +1,109 @@
+-- What becomes of dialers whose links come back, and of those that are dialed.
+use Rattle.std.specs.Prelude.{◌≡◌, ◌≤◌, ◌<◌, ◌+◌, ◌⊎◌, ℕ, zero, suc, ⊤, List, [], ◌∷◌, Some, None}
+use Rattle.std.specs.List.{AllByRecursion}
+use Rattle.std.specs.FinMap.{get}
+use Rattle.sp_base.specs.Views.{LinkView, NetView}
+use Rattle.sp_base.specs.Steps.{AfterGiveBack}
+use Rattle.sp_ends.specs.Moments.{moment, IsDueAt}
+use Rattle.sp_ends.specs.declared.dialer.Dialer.{Dialer}
+use Rattle.sp_ends.specs.declared.turn.Fate.{Fate}
+use Rattle.sp_ends.specs.declared.turn.Fate.TheVariants as fates
+
+-- the dialer has no link, and may dial after the pause
+abbrev pub IsFree : ℕ → Dialer → Type 0
+IsFree now d = (d.place ≡ None) × (d.next ≡ moment (now + 100))
+
+-- the dialer whose link has this place is free; any other is the same
+pub record IsFreed (now place : ℕ) (old new : Dialer) : Type 0 where
+  pub lost : old.place ≡ Some place → IsFree now new
+  pub others : (old.place ≡ Some place → ⊥) → new ≡ old
+
+-- one by one
+abbrev pub AreFreed : ℕ → ℕ → List Dialer → List Dialer → Type 0
+AreFreed now place [] [] = ⊤
+AreFreed now place (d ∷ ds) (e ∷ es) = IsFreed now place d e × AreFreed now place ds es
+AreFreed now place _ _ = ⊥
+
+-- ---- Links that come back
+
+-- the link with this place is back
+pub record GivesOneBack (place : ℕ) (old new : NetView) : Type 0 where
+  pub link : LinkView
+  pub is_place : link.place ≡ place
+  pub inside : place < old.opened
+  pub back : AfterGiveBack link old new
+
+-- a link is back where it was missed
+abbrev pub FateBack : {L : Type 0} → Fate L → ℕ → NetView → NetView → Type 0
+FateBack (fates.Stays n) place old new = new.back ≡ old.back
+FateBack fates.Up place old new = new.back ≡ old.back
+FateBack (fates.Missed miss) place old new = GivesOneBack place old new
+
+-- its link isn't back, where it was not
+abbrev pub KeepsLink : NetView → NetView → Dialer → Type 0
+KeepsLink old new d = (place : ℕ) → d.place ≡ Some place → get old.back place ≡ None → get new.back place ≡ None
+
+-- its link is back, and it is free
+abbrev pub WasFreed : ℕ → NetView → Dialer → Dialer → Type 0
+WasFreed now new d e = (place : ℕ) × (d.place ≡ Some place) × (get new.back place ≡ None → ⊥) × IsFree now e
+
+-- the dialer is the same, unless its link came back
+abbrev pub FreesOne : ℕ → NetView → NetView → Dialer → Dialer → Type 0
+FreesOne now old new d e = ((e ≡ d) × KeepsLink old new d) ⊎ WasFreed now new d e
+
+-- one by one
+abbrev pub FreesAll : ℕ → NetView → NetView → List Dialer → List Dialer → Type 0
+FreesAll now old new [] [] = ⊤
+FreesAll now old new (d ∷ ds) (e ∷ es) = FreesOne now old new d e × FreesAll now old new ds es
+FreesAll now old new _ _ = ⊥
+
+-- a net that got links back, and handed out others
+pub record GotBack (old new : NetView) : Type 0 where
+  pub opened : old.opened ≤ new.opened
+  pub stays : (place : ℕ) → get new.back place ≡ None → get old.back place ≡ None
+  pub others : (place : ℕ) → new.opened ≤ place → get new.back place ≡ get old.back place
+
+-- links came back, and their dialers are free
+pub record Frees (now : ℕ) (old new : NetView) (ds es : List Dialer) : Type 0 where
+  pub net : GotBack old new
+  pub dialers : FreesAll now old new ds es
+
+-- ---- Dialing
+
+-- it has the link that it got, or is free
+abbrev pub HasRedialed : ℕ → NetView → NetView → Dialer → Type 0
+HasRedialed now old new e =
+    IsFree now e ⊎ ((place : ℕ) × (e.place ≡ Some place) × (old.opened ≤ place) × (place < new.opened) × (get old.back place ≡ None → get new.back place ≡ None))
+
+-- it has tried, and the others are the same, unless their links came back
+abbrev pub RedialsOne : ℕ → ℕ → NetView → NetView → List Dialer → List Dialer → Type 0
+RedialsOne i now old new [] [] = ⊤
+RedialsOne zero now old new (d ∷ ds) (e ∷ es) = HasRedialed now old new e × FreesAll now old new ds es
+RedialsOne (suc i) now old new (d ∷ ds) (e ∷ es) = FreesOne now old new d e × RedialsOne i now old new ds es
+RedialsOne _ now old new _ _ = ⊥
+
+pub record Redials (i now : ℕ) (old new : NetView) (ds es : List Dialer) : Type 0 where
+  pub net : GotBack old new
+  pub dialers : RedialsOne i now old new ds es
+
+-- it has no link, and may dial
+abbrev pub IsDue : ℕ → Dialer → Type 0
+IsDue now d = (d.place ≡ None) × IsDueAt d.next now
+
+-- it is the same, unless its link came back; or it was due, and was dialed
+abbrev pub TurnsOne : ℕ → NetView → NetView → Dialer → Dialer → Type 0
+TurnsOne now old new d e = FreesOne now old new d e ⊎ (IsDue now d × HasRedialed now old new e)
+
+abbrev pub TurnsAll : ℕ → NetView → NetView → List Dialer → List Dialer → Type 0
+TurnsAll now old new [] [] = ⊤
+TurnsAll now old new (d ∷ ds) (e ∷ es) = TurnsOne now old new d e × TurnsAll now old new ds es
+TurnsAll now old new _ _ = ⊥
+
+-- all dialers after a turn of the ends
+pub record Turns (now : ℕ) (old new : NetView) (ds es : List Dialer) : Type 0 where
+  pub net : GotBack old new
+  pub dialers : TurnsAll now old new ds es
+
+-- none is due
+abbrev pub AreWaiting : ℕ → List Dialer → Type 0
+AreWaiting now ds = AllByRecursion (λ d. IsDue now d → ⊥) ds

@@ -1,0 +1,8 @@
+pub mod Moments
+pub mod Newcomers
+pub mod Dialing
+pub mod Standing
+pub mod Adding
+pub mod Turning
+pub mod Freeing
+pub mod Leaving

@@ -1,0 +1,178 @@
+-- What a turn of the ends does, and its parts.
+use Rattle.std.specs.Prelude.{◌≡◌, ◌≤◌, ◌<◌, ◌+◌, ◌-◌, ◌^◌, min, ◌++◌, ◌∷◌, [], ℕ, zero, suc, ⊤, true, false, Bool, List, length, None}
+use Rattle.turn_lock.specs.declared.turn.Turn.{Turn}
+use Rattle.sp_base.specs.Views.{LinkView, NetView}
+use Rattle.sp_history.specs.declared.entry.Miss.{Miss}
+use Rattle.sp_history.specs.declared.entry.Miss.TheVariants as misses
+use Rattle.sp_history.specs.declared.entry.Entry.{Entry}
+use Rattle.sp_history.specs.declared.setting.Setting.{Setting}
+use Rattle.sp_history.specs.Past.{past_of, now, untaken}
+use Rattle.sp_history.specs.Lists.{has}
+use Rattle.sp_history.specs.Legal.{Legal}
+use Rattle.sp_history.specs.Settled.{Settled}
+use Rattle.sp_single.specs.Singles.{SingleView}
+use Rattle.cat_play.specs.Running.{has_dry_miss}
+use Rattle.cat_play.specs.Spending.{CanRise, has_room}
+use Rattle.sp_history.specs.Found.{before_last_tick, ticks}
+use Rattle.cat_play.specs.Steps.{AddsNone, moves_play}
+use Rattle.sp_ends.specs.declared.newcomer.Newcomer.{Newcomer}
+use Rattle.sp_ends.specs.declared.dialer.Dialer.{Dialer}
+use Rattle.sp_msg.specs.Wires.{AfterShut}
+use Rattle.sp_tcp.specs.Views.{TcpView}
+use Rattle.sp_tcp.specs.TcpWires.{Framed}
+use Rattle.sp_ends.specs.declared.newcomer.Progress.{Progress}
+use Rattle.sp_ends.specs.declared.newcomer.Progress.TheVariants as progress
+use Rattle.sp_ends.specs.declared.turn.Decision.{Decision}
+use Rattle.sp_ends.specs.declared.turn.Decision.TheVariants as decisions
+use Rattle.sp_core.specs.declared.pipes.AttachError.{AttachError}
+use Rattle.sp_core.specs.declared.pipes.AttachError.TheVariants as refused
+use Rattle.sp_ends.specs.Moments.{moment}
+use Rattle.sp_ends.specs.declared.turn.Fate.{Fate}
+use Rattle.sp_ends.specs.declared.turn.Fate.TheVariants as fates
+use Rattle.sp_ends.specs.Standing.{EndsView, LinksStand, NetStands, SameCounts, sum_of}
+
+-- since the last tick nobody was greeted, accepted or dialed yet
+pub record EndsTicked {L : Type 0} (seen : L → LinkView) (z : Setting) (start : NetView) (h : List (Turn Entry)) (net : NetView) (ends : EndsView L) : Type 0 where
+  pub role : ends.role ≡ z.role
+  pub links : LinksStand seen z start h net ends.newcomers (length ends.newcomers)
+  pub asked : NetStands start (before_last_tick (past_of h)) (before_last_tick (past_of h)) net ends.listeners ends.dialers
+  pub ticked : 0 < length (ticks (past_of h))
+  pub few : length ends.newcomers ≤ 256
+  -- where there was room at the tick, not more are to be greeted
+  pub room : has_room (before_last_tick (past_of h)) ≡ true → length ends.newcomers ≤ 192
+
+-- the turns of a run that is open: no rule of plays speaks of them
+pub record Quietly (old new : SingleView) : Type 0 where
+  pub setting : new.setting ≡ old.setting
+  pub silent : AddsNone moves_play old.seen new.seen
+
+-- its history is legal and settled
+pub record IsSound (s : SingleView) : Type 0 where
+  pub legal : Legal s.setting s.seen
+  pub settled : Settled s.setting s.seen
+
+-- each pipe that was down and not taken is taken
+abbrev pub AllTaken : SingleView → SingleView → Type 0
+AllTaken old new = (p : ℕ) → has (untaken (past_of old.seen)) p ≡ true → has (untaken (past_of new.seen)) p ≡ false
+
+-- whether a link was missed for want of memory so far
+abbrev pub IsDry : Bool → SingleView → Type 0
+IsDry is_dry s = has_dry_miss (past_of s.seen) ≡ is_dry
+
+-- the moment is that of the history
+abbrev pub IsNow : ℕ → SingleView → Type 0
+IsNow t s = t ≡ now (past_of s.seen)
+
+-- the same ends, but for their links and what dialers know of theirs
+pub record SameEnds {L : Type 0} (old new : EndsView L) : Type 0 where
+  pub role : new.role ≡ old.role
+  pub listeners : new.listeners ≡ old.listeners
+  pub dials : length new.dialers ≡ length old.dialers
+
+-- the dialer is the same, but for the link that it has lost
+pub record IsSameDialer (old new : Dialer) : Type 0 where
+  pub addr : new.addr ≡ old.addr
+  pub tries : new.tries ≡ old.tries
+  pub free : old.place ≡ None → new ≡ old
+
+-- one by one
+abbrev pub AreSameDialers : List Dialer → List Dialer → Type 0
+AreSameDialers [] [] = ⊤
+AreSameDialers (d ∷ ds) (e ∷ es) = IsSameDialer d e × AreSameDialers ds es
+AreSameDialers _ _ = ⊥
+
+-- within a turn of the ends, where so many links are still to be greeted
+pub record InTurn {L : Type 0} (seen : L → LinkView) (start : NetView) (ends : EndsView L) (net : NetView) (s : SingleView) (now : ℕ) (k : ℕ) : Type 0 where
+  pub role : ends.role ≡ s.setting.role
+  pub links : LinksStand seen s.setting start s.seen net ends.newcomers k
+  pub now_is : IsNow now s
+  pub ticked : 0 < length (ticks (past_of s.seen))
+  pub few : length ends.newcomers ≤ 256
+  pub sound : IsSound s
+
+-- the same with this link before the newcomers
+pub record InTurnWith {L : Type 0} (seen : L → LinkView) (start : NetView) (n : Newcomer L) (ends : EndsView L) (net : NetView) (s : SingleView) (now : ℕ) (k : ℕ) : Type 0 where
+  pub role : ends.role ≡ s.setting.role
+  pub links : LinksStand seen s.setting start s.seen net (n ∷ ends.newcomers) (suc k)
+  pub now_is : IsNow now s
+  pub ticked : 0 < length (ticks (past_of s.seen))
+  pub sound : IsSound s
+
+-- a part of the turn that asks the net for no link
+pub record Serves {L : Type 0} (old new : EndsView L) (net net' : NetView) (s s' : SingleView) : Type 0 where
+  pub ends : SameEnds old new
+  pub dialers : AreSameDialers old.dialers new.dialers
+  pub counts : SameCounts net net'
+  pub quietly : Quietly s s'
+
+abbrev pub is_dry_for : Miss → Bool
+is_dry_for misses.NoMemory = true
+is_dry_for _ = false
+
+abbrev pub is_dry_fate : {L : Type 0} → Fate L → Bool
+is_dry_fate (fates.Stays n) = false
+is_dry_fate fates.Up = false
+is_dry_fate (fates.Missed miss) = is_dry_for miss
+
+-- what became of a link that was the first of those that are still to be greeted
+abbrev pub FateStands : {L : Type 0} → (L → LinkView) → Fate L → Setting → NetView → List (Turn Entry) → NetView → List (Newcomer L) → ℕ → Type 0
+FateStands seen (fates.Stays n) z start h net ns k = LinksStand seen z start h net (ns ++ n ∷ []) k
+FateStands seen fates.Up z start h net ns k = LinksStand seen z start h net ns k
+FateStands seen (fates.Missed miss) z start h net ns k = LinksStand seen z start h net ns k
+
+-- the same ends, but for the dialers that have lost their link
+pub record SameButPlaces {L : Type 0} (old new : EndsView L) : Type 0 where
+  pub ends : new ≡ record old { dialers = new.dialers }
+  pub dialers : AreSameDialers old.dialers new.dialers
+
+-- ---- Asking the net
+
+-- the net was asked once for a link
+pub record AsksNet (old new : NetView) : Type 0 where
+  pub listens : new.listens ≡ old.listens
+  pub opened : old.opened ≤ new.opened
+  pub idles : old.idles ≤ new.idles
+  pub faults : old.faults ≤ new.faults
+  pub rose : CanRise new.idles → CanRise new.faults → sum_of old + 1 ≤ sum_of new
+
+-- the dialer has tried once more; where no link was handed out it is free
+pub record HasDialed (now : ℕ) (same : Type 0) (old new : Dialer) : Type 0 where
+  pub addr : new.addr ≡ old.addr
+  pub tries : new.tries ≡ min (old.tries + 1) (2 ^ 64 - 1)
+  pub next : same → (new.next ≡ moment (now + 100)) × (new.place ≡ None)
+
+-- the dialer at this place has, and the others are the same but for the links that they have lost
+abbrev pub DialsOne : ℕ → ℕ → Type 0 → List Dialer → List Dialer → Type 0
+DialsOne i now same [] [] = ⊤
+DialsOne zero now same (d ∷ ds) (e ∷ es) = HasDialed now same d e × AreSameDialers ds es
+DialsOne (suc i) now same (d ∷ ds) (e ∷ es) = IsSameDialer d e × DialsOne i now same ds es
+DialsOne _ now same _ _ = ⊥
+
+abbrev pub DialsAt : ℕ → ℕ → NetView → NetView → List Dialer → List Dialer → Type 0
+DialsAt i now old new ds es = DialsOne i now (new.opened ≡ old.opened) ds es
+
+-- ---- Giving back
+
+-- the link of a wire, shut: what the wire shows of it stands, but that it is shut; and the wire is framed
+pub record IsLeftOf {L : Type 0} (seen : L → LinkView) (wire : TcpView) (link : L) : Type 0 where
+  pub link_is : seen link ≡ record wire.link { is_open = false }
+  pub shut : TcpView
+  pub after : AfterShut wire.wire shut.wire
+  pub over : shut.link ≡ seen link
+  pub framed : Framed shut
+
+-- what is to be done with a link whose greetings came so far, met and asked at these ticks
+abbrev pub DecidedFor : Decision → Progress → ℕ → ℕ → Type 0
+DecidedFor decisions.Stays p met now = p ≡ progress.Waits
+DecidedFor decisions.Attach p met now = p ≡ progress.Greeted
+DecidedFor (decisions.Miss misses.Bad) p met now = p ≡ progress.Bad
+DecidedFor (decisions.Miss misses.Ended) p met now = p ≡ progress.Ended
+DecidedFor (decisions.Miss misses.Failed) p met now = p ≡ progress.Failed
+DecidedFor (decisions.Miss misses.Late) p met now = (p ≡ progress.Waits) × (met + 10000 ≤ now)
+DecidedFor (decisions.Miss misses.Refused) p met now = ⊥
+DecidedFor (decisions.Miss misses.NoMemory) p met now = ⊥
+
+-- refused for want of memory, or for another cause
+abbrev pub MissesFor : AttachError → Miss → Type 0
+MissesFor refused.NoMemory miss = miss ≡ misses.NoMemory
+MissesFor _ miss = miss ≡ misses.Refused

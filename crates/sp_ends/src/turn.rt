@@ -1,0 +1,506 @@
+//! What one turn of the ends does.
+ghost use Rattle.std.specs.Prelude.{◌≡◌, ◌≤◌, ◌<◌, ◌+◌, ◌||◌, ◌∷◌, ◌++◌, [], ℕ, suc, true, false, List, length, slice_get, Some};
+ghost use Rattle.sp_base.specs.Addresses.{is_dialable, scheme_of};
+ghost use Rattle.sp_base.specs.Steps.{AfterShut, AfterGiveBack, IsHandedOut};
+ghost use Rattle.sp_base.specs.Views.{NetView};
+ghost use Rattle.sp_base.specs.declared.addr.Scheme.TheVariants as schemes;
+ghost use Rattle.sp_history.specs.Past.{past_of, untaken};
+ghost use Rattle.sp_history.specs.Found.{before_last_tick, ticks};
+ghost use Rattle.cat_play.specs.Running.{has_dry_miss};
+ghost use Rattle.cat_play.specs.Spending.{has_room};
+ghost use Rattle.sp_ends.specs.declared.dialer.Dialer.{Dialer as DialerType};
+ghost use Rattle.sp_ends.specs.declared.newcomer.Newcomer.{Newcomer as NewcomerType};
+ghost use Rattle.sp_ends.specs.Newcomers.{IsGreeted};
+ghost use Rattle.sp_ends.specs.Standing.{LinksStand, HandStands, IsCauseOf, NetStands, EndsStand, SameCounts, IsListener};
+ghost use Rattle.sp_ends.specs.Freeing.{GivesOneBack, FateBack, Frees, Redials, Turns, AreWaiting};
+ghost use Rattle.sp_ends.specs.Turning.{EndsTicked, Quietly, AllTaken, IsDry, is_dry_for, is_dry_fate, FateStands, IsNow, IsSound, SameEnds, AreSameDialers, Serves, InTurn, InTurnWith, AsksNet, DialsAt, IsLeftOf, DecidedFor, MissesFor};
+
+use crate::ends::{Ends, MOST_NEWCOMERS};
+use crate::newcomer::{Newcomer, Progress};
+use sp_base::{Link, Linked, Net, NoMemory, Tick};
+use sp_history::entry::Miss;
+use sp_msg::Wire;
+use sp_proto::Proto;
+use sp_single::Single;
+use sp_socket::{AttachError, Gone};
+use sp_tcp::TcpWire;
+use std::alloc::Global;
+use std::sync::Wait;
+
+/// The most bytes of a body that is taken.
+pub const MAX_BODY: u32 = 1_048_576;
+
+/// How many milliseconds the greetings of a link may take.
+const GREETING_TIME: u64 = 10_000;
+
+/// What a turn of the ends came to.
+#[derive(Clone, Copy, Debug, PartialEq, Eq)]
+pub struct EndsTurn {
+    /// Whether a link came, went, or was greeted.
+    pub moved: bool,
+    /// Whether a link was given back for want of memory.
+    pub is_dry: bool,
+}
+
+/// What became of a newcomer.
+pub enum Fate<L: Link> {
+    Stays(Newcomer<L>),
+    /// It is a pipe now.
+    Up,
+    /// It is back.
+    Missed(Miss),
+}
+
+/// What is to be done with a newcomer.
+pub enum Decision {
+    Stays,
+    Attach,
+    Miss(Miss),
+}
+
+impl EndsTurn {
+    // Nothing so far.
+    fn new() -> EndsTurn
+        ensures { result.is_dry ≡ false }
+    {
+        EndsTurn {
+            moved: false,
+            is_dry: false,
+        }
+    }
+
+    // A link was given back for this cause.
+    fn missed(&mut self, miss: Miss)
+        ensures { self.new.is_dry ≡ (is_dry_for miss || self.old.is_dry) }
+    {
+        self.moved = true;
+        self.is_dry = miss == Miss::NoMemory || self.is_dry;
+    }
+}
+
+impl<L: Link> Ends<L> {
+    /// One turn of the ends, at this tick, which is that of the history: gives the links back whose pipes are down, goes
+    /// on with the greetings, and asks each listener and each dialer that is free for a link. Where memory is wanting
+    /// for a link this is given back and the turn says so; the other links have their turn all the same.
+    pub fn turn<R: Wait, N: Net<L = L>, P: Proto>(
+        &mut self,
+        rt: &R,
+        net: &mut N,
+        single: &mut Single<P, TcpWire<L>>,
+        now: Tick,
+    ) -> EndsTurn
+        requires ticked { (start : NetView) × EndsTicked L.seen single.old.setting start single.old.seen (N.seen net.old) self.old }
+        requires sound { IsSound single.old }
+        requires now { IsNow now single.old }
+        requires dry { IsDry false single.old }
+        ensures stands { (start : NetView) → EndsTicked L.seen single.old.setting start single.old.seen (N.seen net.old) self.old → EndsStand L.seen single.new.setting start single.new.seen (N.seen net.new) self.new }
+        ensures sound { IsSound single.new }
+        ensures quietly { Quietly single.old single.new }
+        ensures dry { IsDry result.is_dry single.new }
+        ensures same { SameEnds self.old self.new }
+        ensures turns { Turns now (N.seen net.old) (N.seen net.new) self.old.dialers self.new.dialers }
+        ensures waits { length self.new.newcomers < 256 → AreWaiting now self.new.dialers }
+        ensures taken { AllTaken single.old single.new }
+    {
+        let mut turn = EndsTurn::new();
+        self.take_all_ended(rt, net, single, now, &mut turn);
+        self.greet_all(rt, net, single, now, &mut turn);
+        self.accept_all(rt, net, single, now, &mut turn);
+        self.dial_all(rt, net, single, now, &mut turn);
+        turn
+    }
+
+    // Gives the links back whose pipes are down.
+    fn take_all_ended<R: Wait, N: Net<L = L>, P: Proto>(
+        &mut self,
+        rt: &R,
+        net: &mut N,
+        single: &mut Single<P, TcpWire<L>>,
+        now: Tick,
+        turn: &mut EndsTurn,
+    )
+        requires in_turn { (start : NetView) × InTurn L.seen start self.old (N.seen net.old) single.old now (length self.old.newcomers) }
+        requires dry { IsDry turn.old.is_dry single.old }
+        ensures in_turn { (start : NetView) → InTurn L.seen start self.old (N.seen net.old) single.old now (length self.old.newcomers) → InTurn L.seen start self.new (N.seen net.new) single.new now (length self.new.newcomers) }
+        ensures few { length self.new.newcomers ≤ length self.old.newcomers }
+        ensures serves { Serves self.old self.new (N.seen net.old) (N.seen net.new) single.old single.new }
+        ensures frees { Frees now (N.seen net.old) (N.seen net.new) self.old.dialers self.new.dialers }
+        ensures dry { IsDry turn.new.is_dry single.new }
+        ensures taken { AllTaken single.old single.new }
+    {
+        'takes: for _ in rt.forever() {
+            if !self.take_ended(rt, net, single, now) {
+                return;
+            }
+            turn.moved = true;
+        }
+        unreachable!()
+    }
+
+    // Gives one link back whose pipe is down, if there is one.
+    fn take_ended<R: Wait, N: Net<L = L>, P: Proto>(
+        &mut self,
+        rt: &R,
+        net: &mut N,
+        single: &mut Single<P, TcpWire<L>>,
+        now: Tick,
+    ) -> bool
+        requires in_turn { (start : NetView) × InTurn L.seen start self.old (N.seen net.old) single.old now (length self.old.newcomers) }
+        ensures in_turn { (start : NetView) → InTurn L.seen start self.old (N.seen net.old) single.old now (length self.old.newcomers) → InTurn L.seen start self.new (N.seen net.new) single.new now (length self.new.newcomers) }
+        ensures few { length self.new.newcomers ≤ length self.old.newcomers }
+        ensures serves { Serves self.old self.new (N.seen net.old) (N.seen net.new) single.old single.new }
+        ensures frees { Frees now (N.seen net.old) (N.seen net.new) self.old.dialers self.new.dialers }
+        ensures dry { has_dry_miss (past_of single.new.seen) ≡ has_dry_miss (past_of single.old.seen) }
+        ensures none { result ≡ false → untaken (past_of single.old.seen) ≡ [] }
+    {
+        let Some(
+            Gone {
+                pipe: _,
+                why: _,
+                wire,
+            },
+        ) = single.take_ended(rt)
+        else {
+            return false;
+        };
+        let link = leave_wire(wire);
+        let place = link.place();
+        net.give_back(link);
+        self.lost(now, place);
+        true
+    }
+
+    // Goes on with all greetings that are under way.
+    fn greet_all<R: Wait, N: Net<L = L>, P: Proto>(
+        &mut self,
+        rt: &R,
+        net: &mut N,
+        single: &mut Single<P, TcpWire<L>>,
+        now: Tick,
+        turn: &mut EndsTurn,
+    )
+        requires in_turn { (start : NetView) × InTurn L.seen start self.old (N.seen net.old) single.old now (length self.old.newcomers) }
+        requires dry { IsDry turn.old.is_dry single.old }
+        ensures in_turn { (start : NetView) → InTurn L.seen start self.old (N.seen net.old) single.old now (length self.old.newcomers) → InTurn L.seen start self.new (N.seen net.new) single.new now 0 }
+        ensures few { length self.new.newcomers ≤ length self.old.newcomers }
+        ensures serves { Serves self.old self.new (N.seen net.old) (N.seen net.new) single.old single.new }
+        ensures frees { Frees now (N.seen net.old) (N.seen net.new) self.old.dialers self.new.dialers }
+        ensures dry { IsDry turn.new.is_dry single.new }
+    {
+        'greets: for _ in 0..self.newcomers.len() {
+            let Some(newcomer) = self.newcomers.pop_front() else {
+                unreachable!()
+            };
+            self.greet(rt, net, single, newcomer, now, turn);
+        }
+    }
+
+    // Goes on with the greetings of one link, which goes behind the newcomers unless it is done with.
+    fn greet<R: Wait, N: Net<L = L>, P: Proto>(
+        &mut self,
+        rt: &R,
+        net: &mut N,
+        single: &mut Single<P, TcpWire<L>>,
+        newcomer: Newcomer<L>,
+        now: Tick,
+        turn: &mut EndsTurn,
+    )
+        requires in_turn { (start : NetView) × (k : ℕ) × InTurnWith L.seen start newcomer self.old (N.seen net.old) single.old now k }
+        requires room { length self.old.newcomers < 256 }
+        requires dry { IsDry turn.old.is_dry single.old }
+        ensures in_turn { (start : NetView) (k : ℕ) → InTurnWith L.seen start newcomer self.old (N.seen net.old) single.old now k → InTurn L.seen start self.new (N.seen net.new) single.new now k }
+        ensures few { length self.new.newcomers ≤ length self.old.newcomers + 1 }
+        ensures serves { Serves self.old self.new (N.seen net.old) (N.seen net.new) single.old single.new }
+        ensures frees { Frees now (N.seen net.old) (N.seen net.new) self.old.dialers self.new.dialers }
+        ensures dry { IsDry turn.new.is_dry single.new }
+    {
+        let place = newcomer.link.place();
+        match greet_one(self.alloc, rt, net, single, newcomer, now) {
+            Fate::Stays(newcomer) => self.newcomers.push_back_reserved(newcomer),
+            Fate::Up => turn.moved = true,
+            Fate::Missed(miss) => {
+                turn.missed(miss);
+                self.lost(now, place);
+            }
+        }
+    }
+
+    // Asks each listener for one link.
+    fn accept_all<R: Wait, N: Net<L = L>, P: Proto>(
+        &mut self,
+        rt: &R,
+        net: &mut N,
+        single: &mut Single<P, TcpWire<L>>,
+        now: Tick,
+        turn: &mut EndsTurn,
+    )
+        requires in_turn { (start : NetView) × InTurn L.seen start self.old (N.seen net.old) single.old now 0 }
+        requires asked { (start : NetView) × NetStands start (before_last_tick (past_of single.old.seen)) (before_last_tick (past_of single.old.seen)) (N.seen net.old) self.old.listeners self.old.dialers }
+        requires room { has_room (before_last_tick (past_of single.old.seen)) ≡ true → length self.old.newcomers ≤ 192 }
+        requires dry { IsDry turn.old.is_dry single.old }
+        ensures in_turn { (start : NetView) → InTurn L.seen start self.old (N.seen net.old) single.old now 0 → InTurn L.seen start self.new (N.seen net.new) single.new now 0 }
+        ensures asked { (start : NetView) → InTurn L.seen start self.old (N.seen net.old) single.old now 0 → NetStands start (before_last_tick (past_of single.old.seen)) (before_last_tick (past_of single.old.seen)) (N.seen net.old) self.old.listeners self.old.dialers → NetStands start (past_of single.new.seen) (before_last_tick (past_of single.new.seen)) (N.seen net.new) self.new.listeners self.new.dialers }
+        ensures quietly { Quietly single.old single.new }
+        ensures same { SameEnds self.old self.new }
+        ensures dry { IsDry turn.new.is_dry single.new }
+        ensures few { length self.new.newcomers ≤ length self.old.newcomers + length self.old.listeners }
+        ensures frees { Frees now (N.seen net.old) (N.seen net.new) self.old.dialers self.new.dialers }
+    {
+        'accepts: for i in 0..self.listeners.len() {
+            if self.newcomers.len() >= MOST_NEWCOMERS {
+                return;
+            }
+            self.accept_one(rt, net, single, i, now, turn);
+        }
+    }
+
+    // Asks the listener at this place of the list for one link.
+    fn accept_one<R: Wait, N: Net<L = L>, P: Proto>(
+        &mut self,
+        rt: &R,
+        net: &mut N,
+        single: &mut Single<P, TcpWire<L>>,
+        i: usize,
+        now: Tick,
+        turn: &mut EndsTurn,
+    )
+        requires in_turn { (start : NetView) × InTurn L.seen start self.old (N.seen net.old) single.old now 0 }
+        requires inside { i < length self.old.listeners }
+        requires listens { (at : ℕ) → slice_get self.old.listeners i ≡ Some at → IsListener (N.seen net.old) at }
+        requires room { length self.old.newcomers < 256 }
+        requires dry { IsDry turn.old.is_dry single.old }
+        ensures in_turn { (start : NetView) → InTurn L.seen start self.old (N.seen net.old) single.old now 0 → InTurn L.seen start self.new (N.seen net.new) single.new now 0 }
+        ensures few { length self.new.newcomers ≤ length self.old.newcomers + 1 }
+        ensures asks { AsksNet (N.seen net.old) (N.seen net.new) }
+        ensures dialers { AreSameDialers self.old.dialers self.new.dialers }
+        ensures frees { Frees now (N.seen net.old) (N.seen net.new) self.old.dialers self.new.dialers }
+        ensures quietly { Quietly single.old single.new }
+        ensures same { SameEnds self.old self.new }
+        ensures dry { IsDry turn.new.is_dry single.new }
+    {
+        match net.accept(self.listeners[i]) {
+            Linked::NotYet => (),
+            Linked::Failed => (),
+            Linked::Got(link) => self.welcome(rt, net, single, link, now, turn),
+        }
+    }
+
+    // Dials each address that is due.
+    fn dial_all<R: Wait, N: Net<L = L>, P: Proto>(
+        &mut self,
+        rt: &R,
+        net: &mut N,
+        single: &mut Single<P, TcpWire<L>>,
+        now: Tick,
+        turn: &mut EndsTurn,
+    )
+        requires in_turn { (start : NetView) × InTurn L.seen start self.old (N.seen net.old) single.old now 0 }
+        requires asked { (start : NetView) × InTurn L.seen start self.old (N.seen net.old) single.old now 0 × NetStands start (past_of single.old.seen) (before_last_tick (past_of single.old.seen)) (N.seen net.old) self.old.listeners self.old.dialers }
+        requires few { ticks (before_last_tick (past_of single.old.seen)) ≡ [] → length self.old.newcomers ≤ length self.old.listeners }
+        requires dry { IsDry turn.old.is_dry single.old }
+        ensures in_turn { (start : NetView) → InTurn L.seen start self.old (N.seen net.old) single.old now 0 → InTurn L.seen start self.new (N.seen net.new) single.new now 0 }
+        ensures asked { (start : NetView) → InTurn L.seen start self.old (N.seen net.old) single.old now 0 → NetStands start (past_of single.old.seen) (before_last_tick (past_of single.old.seen)) (N.seen net.old) self.old.listeners self.old.dialers → NetStands start (past_of single.new.seen) (past_of single.new.seen) (N.seen net.new) self.new.listeners self.new.dialers }
+        ensures quietly { Quietly single.old single.new }
+        ensures same { SameEnds self.old self.new }
+        ensures dry { IsDry turn.new.is_dry single.new }
+        ensures turns { Turns now (N.seen net.old) (N.seen net.new) self.old.dialers self.new.dialers }
+        ensures waits { length self.new.newcomers < 256 → AreWaiting now self.new.dialers }
+    {
+        'dials: for i in 0..self.dialers.len() {
+            if self.newcomers.len() >= MOST_NEWCOMERS {
+                return;
+            }
+            if !self.dialers[i].is_due(now) {
+                continue;
+            }
+            self.dial_one(rt, net, single, i, now, turn);
+        }
+    }
+
+    // Dials the address at this place of the list.
+    fn dial_one<R: Wait, N: Net<L = L>, P: Proto>(
+        &mut self,
+        rt: &R,
+        net: &mut N,
+        single: &mut Single<P, TcpWire<L>>,
+        i: usize,
+        now: Tick,
+        turn: &mut EndsTurn,
+    )
+        requires in_turn { (start : NetView) × InTurn L.seen start self.old (N.seen net.old) single.old now 0 }
+        requires dialable { (d : DialerType) × (slice_get self.old.dialers i ≡ Some d) × (is_dialable d.addr ≡ true) × (scheme_of d.addr ≡ schemes.Tcp) }
+        requires room { length self.old.newcomers < 256 }
+        requires dry { IsDry turn.old.is_dry single.old }
+        ensures in_turn { (start : NetView) → InTurn L.seen start self.old (N.seen net.old) single.old now 0 → InTurn L.seen start self.new (N.seen net.new) single.new now 0 }
+        ensures few { length self.new.newcomers ≤ length self.old.newcomers + 1 }
+        ensures asks { AsksNet (N.seen net.old) (N.seen net.new) }
+        ensures dialed { DialsAt i now (N.seen net.old) (N.seen net.new) self.old.dialers self.new.dialers }
+        ensures redials { Redials i now (N.seen net.old) (N.seen net.new) self.old.dialers self.new.dialers }
+        ensures quietly { Quietly single.old single.new }
+        ensures same { SameEnds self.old self.new }
+        ensures dry { IsDry turn.new.is_dry single.new }
+    {
+        match net.dial(&self.dialers[i].addr) {
+            Linked::NotYet => self.dialers[i].dialed(now, None),
+            Linked::Failed => self.dialers[i].dialed(now, None),
+            Linked::Got(link) => {
+                self.dialers[i].dialed(now, Some(link.place()));
+                self.welcome(rt, net, single, link, now, turn);
+            }
+        }
+    }
+
+    // A link that was handed out just now is met, and greeted.
+    fn welcome<R: Wait, N: Net<L = L>, P: Proto>(
+        &mut self,
+        rt: &R,
+        net: &mut N,
+        single: &mut Single<P, TcpWire<L>>,
+        link: L,
+        now: Tick,
+        turn: &mut EndsTurn,
+    )
+        requires fresh { (start : NetView) × (before : NetView) × InTurn L.seen start self.old before single.old now 0 × IsHandedOut (L.seen link) (Some schemes.Tcp) before (N.seen net.old) }
+        requires room { length self.old.newcomers < 256 }
+        requires dry { IsDry turn.old.is_dry single.old }
+        ensures in_turn { (start : NetView) (before : NetView) → InTurn L.seen start self.old before single.old now 0 → IsHandedOut (L.seen link) (Some schemes.Tcp) before (N.seen net.old) → InTurn L.seen start self.new (N.seen net.new) single.new now 0 }
+        ensures few { length self.new.newcomers ≤ length self.old.newcomers + 1 }
+        ensures serves { Serves self.old self.new (N.seen net.old) (N.seen net.new) single.old single.new }
+        ensures frees { Frees now (N.seen net.old) (N.seen net.new) self.old.dialers self.new.dialers }
+        ensures dry { IsDry turn.new.is_dry single.new }
+    {
+        single.met(rt, link.place());
+        turn.moved = true;
+        let newcomer = Newcomer::new(link, self.role, now);
+        self.greet(rt, net, single, newcomer, now, turn);
+    }
+}
+
+// Shuts a wire that a pipe had, and the link under it.
+pub(crate) fn leave_wire<L: Link>(mut wire: TcpWire<L>) -> L
+    ensures { IsLeftOf L.seen wire result }
+{
+    wire.shut();
+    wire.into_link()
+}
+
+// Goes on with the greetings of a link.
+fn greet_one<R: Wait, N: Net, P: Proto>(
+    alloc: Global,
+    rt: &R,
+    net: &mut N,
+    single: &mut Single<P, TcpWire<N::L>>,
+    newcomer: Newcomer<N::L>,
+    now: Tick,
+) -> Fate<N::L>
+    requires stands { (start : NetView) × (ns : List (NewcomerType N.L)) × (k : ℕ) × LinksStand N.L.seen single.old.setting start single.old.seen (N.seen net.old) (newcomer ∷ ns) (suc k) }
+    requires now { IsNow now single.old }
+    requires sound { IsSound single.old }
+    ensures stands { (start : NetView) (ns : List (NewcomerType N.L)) (k : ℕ) → LinksStand N.L.seen single.old.setting start single.old.seen (N.seen net.old) (newcomer ∷ ns) (suc k) → FateStands N.L.seen result single.new.setting start single.new.seen (N.seen net.new) ns k }
+    ensures sound { IsSound single.new }
+    ensures quietly { Quietly single.old single.new }
+    ensures counts { SameCounts (N.seen net.old) (N.seen net.new) }
+    ensures dry { has_dry_miss (past_of single.new.seen) ≡ (is_dry_fate result || has_dry_miss (past_of single.old.seen)) }
+    ensures back { FateBack result (N.L.seen newcomer.link).place (N.seen net.old) (N.seen net.new) }
+{
+    let mut newcomer = newcomer;
+    let progress = newcomer.greet();
+    match decide(progress, newcomer.met, now) {
+        Decision::Stays => Fate::Stays(newcomer),
+        Decision::Attach => attach(alloc, rt, net, single, newcomer.into_link()),
+        Decision::Miss(why) => miss(rt, net, single, newcomer.into_link(), why),
+    }
+}
+
+// What is to be done with a link, met at this tick.
+fn decide(progress: Progress, met: Tick, now: Tick) -> Decision
+    ensures { DecidedFor result progress met now }
+{
+    match progress {
+        Progress::Greeted => Decision::Attach,
+        Progress::Bad => Decision::Miss(Miss::Bad),
+        Progress::Ended => Decision::Miss(Miss::Ended),
+        Progress::Failed => Decision::Miss(Miss::Failed),
+        Progress::Waits => {
+            if now.0.saturating_sub(met.0) >= GREETING_TIME {
+                Decision::Miss(Miss::Late)
+            } else {
+                Decision::Stays
+            }
+        }
+    }
+}
+
+// A link that is greeted becomes a pipe.
+fn attach<R: Wait, N: Net, P: Proto>(
+    alloc: Global,
+    rt: &R,
+    net: &mut N,
+    single: &mut Single<P, TcpWire<N::L>>,
+    link: N::L,
+) -> Fate<N::L>
+    requires greeted { IsGreeted single.old.setting.role (N.L.seen link) }
+    requires stands { (start : NetView) × (ns : List (NewcomerType N.L)) × (k : ℕ) × HandStands N.L.seen single.old.setting start single.old.seen (N.seen net.old) ns k (N.L.seen link) }
+    requires sound { IsSound single.old }
+    ensures stands { (start : NetView) (ns : List (NewcomerType N.L)) (k : ℕ) → HandStands N.L.seen single.old.setting start single.old.seen (N.seen net.old) ns k (N.L.seen link) → FateStands N.L.seen result single.new.setting start single.new.seen (N.seen net.new) ns k }
+    ensures sound { IsSound single.new }
+    ensures quietly { Quietly single.old single.new }
+    ensures counts { SameCounts (N.seen net.old) (N.seen net.new) }
+    ensures dry { has_dry_miss (past_of single.new.seen) ≡ (is_dry_fate result || has_dry_miss (past_of single.old.seen)) }
+    ensures back { FateBack result (N.L.seen link).place (N.seen net.old) (N.seen net.new) }
+{
+    let place = link.place();
+    match TcpWire::new(alloc, link, &[], MAX_BODY) {
+        Err((NoMemory, link)) => miss(rt, net, single, link, Miss::NoMemory),
+        Ok(wire) => match single.attach(rt, wire, place) {
+            Ok(_) => Fate::Up,
+            Err((why, wire)) => miss(rt, net, single, wire.into_link(), miss_for(why)),
+        },
+    }
+}
+
+// Why a link is missed that was refused so.
+fn miss_for(why: AttachError) -> Miss
+    ensures { MissesFor why result }
+{
+    match why {
+        AttachError::Closed => Miss::Refused,
+        AttachError::Refused => Miss::Refused,
+        AttachError::Many => Miss::Refused,
+        AttachError::NoMemory => Miss::NoMemory,
+    }
+}
+
+// A link that doesn't become a pipe is shut and given back, for this cause.
+fn miss<R: Wait, N: Net, P: Proto>(
+    rt: &R,
+    net: &mut N,
+    single: &mut Single<P, TcpWire<N::L>>,
+    link: N::L,
+    why: Miss,
+) -> Fate<N::L>
+    requires stands { (start : NetView) × (ns : List (NewcomerType N.L)) × (k : ℕ) × HandStands N.L.seen single.old.setting start single.old.seen (N.seen net.old) ns k (N.L.seen link) }
+    requires cause { IsCauseOf single.old.setting single.old.seen why (N.L.seen link) }
+    requires sound { IsSound single.old }
+    ensures stands { (start : NetView) (ns : List (NewcomerType N.L)) (k : ℕ) → HandStands N.L.seen single.old.setting start single.old.seen (N.seen net.old) ns k (N.L.seen link) → LinksStand N.L.seen single.new.setting start single.new.seen (N.seen net.new) ns k }
+    ensures fate { result ≡ Fate.Missed why }
+    ensures sound { IsSound single.new }
+    ensures quietly { Quietly single.old single.new }
+    ensures counts { SameCounts (N.seen net.old) (N.seen net.new) }
+    ensures dry { has_dry_miss (past_of single.new.seen) ≡ (is_dry_fate result || has_dry_miss (past_of single.old.seen)) }
+    ensures back { GivesOneBack (N.L.seen link).place (N.seen net.old) (N.seen net.new) }
+{
+    let place = link.place();
+    leave(net, link);
+    single.missed(rt, place, why);
+    Fate::Missed(why)
+}
+
+// A link that is done with.
+pub(crate) fn leave<N: Net>(net: &mut N, mut link: N::L)
+    requires { (N.L.seen link).place < (N.seen net.old).opened }
+    ensures { AfterGiveBack (record (N.L.seen link) { is_open = false }) (N.seen net.old) (N.seen net.new) }
+{
+    link.shut();
+    net.give_back(link);
+}

@@ -1,0 +1,4 @@
+pub mod Alone
+pub mod Expiring
+pub mod Cancelled
+pub mod Ending

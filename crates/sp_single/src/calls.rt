@@ -1,0 +1,124 @@
+//! The calls, each one turn.
+ghost use Rattle.std.specs.Prelude.{◌≡◌, ◌≢◌, ◌++◌, ◌∷◌, [], length, Err, IfErr, IfOk, true};
+ghost use Rattle.sp_proto.specs.Kinds.{text_of};
+ghost use Rattle.sp_history.specs.declared.entry.Act.TheVariants as acts;
+ghost use Rattle.sp_history.specs.declared.entry.Entry.TheVariants as entries;
+ghost use Rattle.sp_history.specs.Past.{past_of, up, is_closed};
+ghost use Rattle.sp_history.specs.Swept.{IsSwept, AreFlushed};
+ghost use Rattle.sp_core.specs.declared.ops.BeginError.TheVariants as error;
+ghost use Rattle.sp_core.specs.Standing.{BeganBy, began, HasFirst};
+ghost use Rattle.sp_core.specs.Collecting.{CollectedBy, DueBy, IsOpen};
+ghost use Rattle.sp_core.specs.Closing.{ClosedBy};
+ghost use Rattle.sp_core.specs.Wires.{numbers_of, IsUnused};
+ghost use Rattle.sp_core.specs.Attaching.{AttachedBy, attached, TookWire};
+ghost use Rattle.sp_core.specs.Serving.{IsServeTurn, ServedBy};
+ghost use Rattle.sp_socket.specs.Turns.{AllEnded};
+ghost use Rattle.sp_single.specs.Singles.{TookOne, Ticks, KeepsOpen, StaysOpen, StaysPending};
+
+use crate::single::Single;
+use sp_base::{Ctx, PipeId, Tick};
+use sp_history::entry::{Miss, Totals};
+use sp_msg::{Message, Wire};
+use sp_proto::Proto;
+use sp_socket::{AttachError, BeginError, Collected, Gone, Op, Served};
+use std::sync::Wait;
+
+impl<P: Proto, W: Wire> Single<P, W> {
+    /// Begins a receive, with a deadline or none. Never refused for want of memory.
+    pub fn begin_recv<R: Wait>(
+        &mut self,
+        rt: &R,
+        c: Ctx,
+        deadline: Option<Tick>,
+    ) -> Result<Op, BeginError>
+        ensures turn { TookOne (λ z h t. BeganBy result z h t 1 c acts.Recv deadline × (result ≢ Err error.NoMemory)) self.old self.new }
+        ensures opens { IfOk result (λ op. IsOpen 1 op self.new.seen) }
+        ensures open_ { KeepsOpen self.old self.new }
+    {
+        self.socket.begin_recv(rt, &mut self.pass, c, deadline)
+    }
+
+    /// Begins a send, with a deadline or none. Where it is refused the message comes back as it was.
+    pub fn begin_send<R: Wait>(
+        &mut self,
+        rt: &R,
+        c: Ctx,
+        m: Message,
+        deadline: Option<Tick>,
+    ) -> Result<Op, (BeginError, Message)>
+        ensures turn { TookOne (λ z h t. BeganBy (began result) z h t 1 c (acts.Send (text_of m)) deadline × IfErr result (λ e. e.1 ≡ m)) self.old self.new }
+        ensures opens { IfOk result (λ op. IsOpen 1 op self.new.seen) }
+        ensures open_ { KeepsOpen self.old self.new }
+    {
+        self.socket.begin_send(rt, &mut self.pass, c, m, deadline)
+    }
+
+    /// The moment is `now`, in milliseconds (one before the last tick counts as that): what is due is named, and ends.
+    pub fn tick<R: Wait>(&mut self, rt: &R, now: Tick)
+        ensures open_ { KeepsOpen self.old self.new }
+        ensures turn { TookOne (λ z h t. Ticks h t now) self.old self.new }
+    {
+        let _ = self.socket.tick(rt, &mut self.pass, now);
+    }
+
+    /// Collects an operation that has ended; else it comes back.
+    pub fn collect<R: Wait>(&mut self, rt: &R, op: Op) -> Collected
+        requires { IsOpen 1 op self.old.seen }
+        ensures open_ { StaysOpen result op self.new }
+        ensures pending { StaysPending result op self.new }
+        ensures turn { TookOne (λ z h t. CollectedBy result op 1 h t) self.old self.new }
+    {
+        self.socket.collect(rt, &mut self.pass, op)
+    }
+
+    /// The wire, which was not used yet, becomes a pipe over the link with this place.
+    pub fn attach<R: Wait>(&mut self, rt: &R, w: W, place: u32) -> Result<PipeId, (AttachError, W)>
+        requires { IsUnused (W.shown w) }
+        ensures open_ { KeepsOpen self.old self.new }
+        ensures turn { TookOne (λ z h t. AttachedBy (attached result) z h t place (numbers_of (W.shown w).name) × IfErr result (λ e. e.1 ≡ w)) self.old self.new }
+    {
+        self.socket.attach(rt, &mut self.pass, w, place)
+    }
+
+    /// The net handed out the link with this place.
+    pub fn met<R: Wait>(&mut self, rt: &R, place: u32)
+        ensures open_ { KeepsOpen self.old self.new }
+        ensures turn { TookOne (λ z h t. HasFirst (entries.Met place) t) self.old self.new }
+    {
+        self.socket.met(rt, &mut self.pass, place)
+    }
+
+    /// The link with this place was given back without having become a pipe.
+    pub fn missed<R: Wait>(&mut self, rt: &R, place: u32, miss: Miss)
+        ensures open_ { KeepsOpen self.old self.new }
+        ensures turn { TookOne (λ z h t. HasFirst (entries.NoUp place miss) t) self.old self.new }
+    {
+        self.socket.missed(rt, &mut self.pass, place, miss)
+    }
+
+    /// Serves the pipes.
+    pub fn serve<R: Wait>(&mut self, rt: &R) -> Served
+        ensures open_ { KeepsOpen self.old self.new }
+        ensures turn { TookOne (λ z h t. IsSwept z (past_of h) t × AreFlushed (past_of h) t × IsServeTurn t × ServedBy result t × (result.up ≡ length (up (past_of (h ++ t ∷ []))))) self.old self.new }
+    {
+        self.socket.serve(rt, &mut self.pass)
+    }
+
+    /// Takes the wire of the pipe that went down first of those that were not taken; none where there is none.
+    pub fn take_ended<R: Wait>(&mut self, rt: &R) -> Option<Gone<W>>
+        ensures open_ { KeepsOpen self.old self.new }
+        ensures turn { TookOne (λ z h t. TookWire W.shown result z h t) self.old self.new }
+    {
+        self.socket.take_ended(rt, &mut self.pass)
+    }
+
+    /// Closes it: every operation ends, and each pipe is flushed once and goes down.
+    pub fn close<R: Wait>(&mut self, rt: &R) -> Totals
+        ensures open_ { KeepsOpen self.old self.new }
+        ensures turn { TookOne (λ z h t. ClosedBy result z.callers h t) self.old self.new }
+        ensures ended { AllEnded self.new.seen }
+        ensures closed { is_closed (past_of self.new.seen) ≡ true }
+    {
+        self.socket.close(rt, &mut self.pass)
+    }
+}
