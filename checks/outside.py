@@ -215,8 +215,8 @@ def replies_to_theirs():
     port = free_port()
     run = start("--rep", "--listen", address(port), "--ascii", "--data", "pong", "--count", "1")
     connect(port).close()
-    asked = subprocess.run([THEIRS, "--req", "--dial", address(port), "--data", "ping", "--ascii", "--count", "1"],
-                           stdout=subprocess.PIPE, timeout=60)
+    asked = subprocess.run([THEIRS, "--req", "--dial", address(port), "--data", "ping", "--ascii", "--count", "1",
+                            "--recv-timeout", "5"], stdout=subprocess.PIPE, timeout=60)
     out, _ = run.communicate(timeout=60)
     right = out == b"ping\n" and asked.stdout.strip() == b"pong"
     return right and run.returncode == 0, f"{out!r}, {asked.stdout!r}, status {run.returncode}"

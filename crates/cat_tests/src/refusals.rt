@@ -18,6 +18,7 @@ fn words_without_a_plan_are_refused_at_their_place(rt: HostRuntime) -> Result<()
         (&["--pull", "--listen", "tcp://256.0.0.1:1"], 2),
         (&["--pull", "--listen", A, "--count", "01"], 4),
         (&["--pull", "--listen", A, "--data", "x"], 3),
+        (&["--pull", "--listen", A, "--count", "1", "y"], 5),
         (&["--push", "--listen", A], 3),
         (&["--push", "--listen", A, "--data"], 4),
         // A plan of a role without a machine, and a drill.

@@ -9,6 +9,8 @@ use std::test::Fail;
 
 const A: &str = "tcp://127.0.0.1:5555";
 
+const LATER: &[u8] = b"\x00\x00\x00\x00\x00\x00\x00\x05later";
+
 const TWICE_HI: &[u8] =
     b"\x00SP\x00\x00\x50\x00\x00\x00\x00\x00\x00\x00\x00\x00\x02hi\x00\x00\x00\x00\x00\x00\x00\x02hi";
 
@@ -68,10 +70,51 @@ fn a_dialed_link_that_is_lost_is_dialed_again(rt: HostRuntime) -> Result<(), Fai
     Ok(())
 }
 
+// The first link brings nothing, and another would be there for a second dial.
+#[test]
+fn an_address_is_not_dialed_while_its_link_stands(rt: HostRuntime) -> Result<(), Fail> {
+    let alloc = rt.alloc();
+    let mut links = Vec::new(alloc);
+    links.push(link_of(alloc, &[HELLO_80], false, ALL)?)?;
+    links.push(link_of(alloc, &[HELLO_80], false, ALL)?)?;
+    let mut outside = outgoing(alloc, links)?;
+    outside.step = 100;
+    let came = play(&rt, &["--pull", "--dial", A], outside)?;
+    assert_eq!(rt; came.status, Status::Over);
+    assert_eq!(rt; came.opened, 1);
+    Ok(())
+}
+
+#[test]
+fn each_listener_is_asked(rt: HostRuntime) -> Result<(), Fail> {
+    let alloc = rt.alloc();
+    let mut first = Vec::new(alloc);
+    first.push(link_of(alloc, &[HELLO_80], false, ALL)?)?;
+    let mut second = Vec::new(alloc);
+    second.push(link_of(alloc, &[HELLO_80, LATER], false, ALL)?)?;
+    let mut outside = incoming(alloc, first)?;
+    outside.incoming.push(second)?;
+    const BOTH: &[&str] = &[
+        "--pull",
+        "--listen",
+        A,
+        "--listen",
+        "tcp://127.0.0.1:5556",
+        "--ascii",
+        "--count",
+        "1",
+    ];
+    let came = play(&rt, BOTH, outside)?;
+    assert_eq!(rt; came.status, Status::Done);
+    assert_eq!(rt; came.opened, 2);
+    assert_eq!(rt; came.printed.as_slice(), b"later\n".as_slice());
+    Ok(())
+}
+
 #[test]
 fn bodies_are_printed_in_each_format(rt: HostRuntime) -> Result<(), Fail> {
     let formats: &[(&str, &[u8])] = &[
-        ("--ascii", b"a.\n"),
+        ("--ascii", b"a\"\n"),
         ("--raw", b"a\""),
         ("--quoted", b"\"a\\\"\"\n"),
         ("--hex", b"\"\\x61\\x22\"\n"),
@@ -87,9 +130,7 @@ fn bodies_are_printed_in_each_format(rt: HostRuntime) -> Result<(), Fail> {
         )?;
         let came = over_one(&rt, words, link)?;
         assert_eq!(rt; came.status, Status::Done);
-        if *format != "--ascii" {
-            assert_eq!(rt; came.printed.as_slice(), *printed);
-        }
+        assert_eq!(rt; came.printed.as_slice(), *printed);
     }
     Ok(())
 }

@@ -35,7 +35,8 @@ How often and how long:
                           what sends first and has no --interval, else no bound
   --interval SECONDS      send again each so many seconds, 0 to 86,400. Default: at once
   --recv-timeout SECONDS  end with status 0 where nothing comes for so long. Default: never
-  --send-timeout SECONDS  end with status 2 where nothing can be sent for so long. Default: never
+  --send-timeout SECONDS  end with status 2 where nothing can be sent for so long, once what was sent
+                          before is written. Default: never
 
 Alone:
   --help, --version       print this text, or the version
