@@ -1,22 +1,12 @@
-//! Tests of nngcat's top call over the outside in memory, with exact bytes, and of the real outside on this machine.
+//! Tests of nngcat's top call over the outside in memory, with exact bytes.
 #![tactic(auto)]
 
-#[cfg(test)]
-mod adapters;
-#[cfg(test)]
-mod addresses;
 #[cfg(test)]
 mod first_path;
 #[cfg(test)]
 mod nets;
 #[cfg(test)]
-mod numbers;
-#[cfg(test)]
-mod plain;
-#[cfg(test)]
 mod play;
-#[cfg(test)]
-mod real;
 #[cfg(test)]
 mod refusals;
 #[cfg(test)]

@@ -1,0 +1,7 @@
+//! Tests of the real outside on this machine: its net, its pace, its output and its files, byte for byte.
+#![tactic(auto)]
+
+#[cfg(test)]
+mod adapters;
+#[cfg(test)]
+mod real;
