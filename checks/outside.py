@@ -253,6 +253,29 @@ def pairs_with_theirs():
     return right and run.returncode == 0 and back.returncode == 0, f"{out!r}, {came!r}"
 
 
+def printed(program, form, bodies):
+    port = free_port()
+    run = subprocess.Popen([program, "--pull", "--listen", address(port), form, "--count", str(len(bodies))],
+                           stdout=subprocess.PIPE)
+    peer = connect(port)
+    peer.sendall(greeting(PUSH) + b"".join(frame(body) for body in bodies))
+    out, _ = run.communicate(timeout=60)
+    peer.close()
+    return out
+
+
+def formats_of_theirs():
+    """Each format prints the same bytes as Debian's, but for the line feed behind each line of --ascii."""
+    every = bytes(range(256))
+    wrong = []
+    for form in ("--raw", "--quoted", "--hex", "--msgpack", "--ascii"):
+        for body in (b"", b"a", every, b"x" * 255, b"x" * 256, b"x" * 65535, b"x" * 65536):
+            ours, theirs = printed(OURS, form, [body]), printed(THEIRS, form, [body])
+            if ours != theirs + (b"\n" if form == "--ascii" else b""):
+                wrong.append((form, len(body)))
+    return not wrong, f"35 bodies, other: {wrong}"
+
+
 def main():
     if not os.access(OURS, os.X_OK):
         print("skipped: crates/nngcat/out/nngcat isn't built")
@@ -260,7 +283,7 @@ def main():
     checks = [broken_peers, slow_reader, slow_peer, peer_that_comes_back, many_links, many_messages]
     if THEIRS:
         checks += [theirs_to_ours, ours_to_theirs, four_of_theirs, theirs_is_dialed, replies_to_theirs, answers_theirs,
-                   pairs_with_theirs]
+                   pairs_with_theirs, formats_of_theirs]
     else:
         print("skipped: no nngcat of nng is installed")
     wanted = sys.argv[1:]
