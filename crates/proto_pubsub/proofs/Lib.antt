@@ -1,0 +1,5 @@
+pub mod Knowing
+pub mod Published
+pub mod Seating
+pub mod Subscribed
+pub mod Taking

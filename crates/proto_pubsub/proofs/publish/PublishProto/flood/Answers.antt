@@ -1,0 +1,17 @@
+use Rattle.std.proofs.Common.{◌≡◌, ◌∙◌, ◌++◌, refl, ap, Option, Some, None}
+use Rattle.std.specs.Prelude.{IfSome, option_to_list}
+use Rattle.sp_msg.specs.Views.{MessageView}
+use Rattle.sp_history.specs.declared.entry.Entry.TheVariants.{Out}
+use Rattle.proto_pubsub.specs.PubLaws.{lawful_before}
+use Rattle.proto_pubsub.proofs.Published.{flood_ties}
+use Rattle.proto_pubsub.proofs.publish.PublishProto.flood.Goals as goal
+
+of_some : (r : Option MessageView) (P : MessageView → Type 0) → ((m : MessageView) → r ≡ Some m → P m) → IfSome r P
+of_some None P h = tt
+of_some (Some m) P h = h m refl
+
+pub returns-clause-flooded : goal.returns-clause-flooded
+returns-clause-flooded c =
+    of_some c.pop.result _ (λ m e t s b l h k to.
+    let was = c.args.self.now in
+    flood_ties was (record was { copies = c.pop.new.self }) t c.args.op c.args.p s b m (lawful_before t (Out c.args.p b) l) h k (c.pop.ensures.items ∙ ap (λ (o : Option MessageView). c.pop.new.self.items ++ option_to_list o) e) refl)

@@ -1,0 +1,12 @@
+use Rattle.std.proofs.Common.{sym, ap, ◌∙◌, ◌≡◌, Some, find}
+use Rattle.proto_pubsub.specs.declared.subscribe.Waiting.{Waiting}
+use Rattle.proto_pubsub.specs.Subs.{is_ready}
+use Rattle.proto_pubsub.proofs.Seating.{found_at, not_found}
+use Rattle.proto_pubsub.proofs.Subscribed.{can_give_at, idle_at}
+use Rattle.proto_pubsub.proofs.subscribe.SubscribeProto.offer.Goals as goal
+
+pub returns-in-None-clause-offered : goal.returns-in-None-clause-offered
+returns-in-None-clause-offered c = λ t l q h. idle_at c.args.self.now t c.deref.result.now l h c.deref.ensures.value c.in-None.ensures
+
+pub returns-in-Some-clause-offered : goal.returns-in-Some-clause-offered
+returns-in-Some-clause-offered c = λ t l q h. can_give_at c.args.self.now t c.deref.result.now c.in-Some.i c.index.result.now l h c.deref.ensures.value c.in-Some.ensures c.index.ensures

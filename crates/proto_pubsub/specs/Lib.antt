@@ -1,0 +1,5 @@
+pub mod Pubs
+pub mod PubLaws
+pub mod Seats
+pub mod Subs
+pub mod SubLaws

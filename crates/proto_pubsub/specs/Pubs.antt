@@ -1,0 +1,56 @@
+-- What a pub stands for.
+use Rattle.std.specs.Prelude.{◌≡◌, ◌≤◌, ℕ, Bool, ⊤, List, [], ◌∷◌, length, filter}
+use Rattle.sp_base.specs.declared.role.Role.TheVariants as role
+use Rattle.sp_msg.specs.Views.{MessageView}
+use Rattle.sp_history.specs.declared.entry.Act.{Act}
+use Rattle.sp_history.specs.declared.entry.Act.TheVariants.{Recv, Send}
+use Rattle.sp_history.specs.declared.entry.Entry.{Entry}
+use Rattle.sp_history.specs.declared.parts.Begun.{Begun}
+use Rattle.sp_history.specs.declared.parts.Item.{Item}
+use Rattle.sp_history.specs.declared.setting.Setting.{Setting}
+use Rattle.sp_history.specs.declared.setting.Options.{Options}
+use Rattle.sp_history.specs.Kept.{pool}
+use Rattle.sp_history.specs.Past.{pend, ctxs, up}
+use Rattle.sp_history.specs.Moments.{Moment, Lawful, past}
+use Rattle.sp_proto.specs.Kinds.{Kind, kind_of}
+use Rattle.proto_floods.specs.Copies.{HasCopies}
+use Rattle.proto_pending.specs.Waits.{Holds, is_send, count, room}
+use Rattle.proto_pubsub.specs.declared.publish.Publish.{Publish}
+
+abbrev pub pub_kind : Bool → Options → Kind
+pub_kind raw options = record { role = role.Pub; raw = raw; options = options }
+
+-- how many operations are left to be offered at most
+abbrev pub offers_left : Publish → ℕ
+offers_left m = count m.pending
+
+-- how many operations more can begin
+abbrev pub places_left : Publish → ℕ
+places_left m = room m.pending
+
+-- these are so many messages without a header and with this body
+abbrev pub AreCopies : List ℕ → List MessageView → Type 0
+AreCopies body [] = ⊤
+AreCopies body (x ∷ xs) = (x ≡ record { header = []; body = body }) × AreCopies body xs
+
+-- the copies are those of the send
+abbrev pub IsFlood : List MessageView → Act → Type 0
+IsFlood copies Recv = ⊤
+IsFlood copies (Send m) = AreCopies m.body copies
+
+-- where one of these sends is pending, it is the only one, and these are its copies
+abbrev pub Floods : Setting → List Entry → List MessageView → List Begun → Type 0
+Floods z past copies [] = ⊤
+Floods z past copies (s ∷ ss) = HasCopies z past (length copies) × IsFlood copies s.act × (ss ≡ [])
+
+-- The pub is of this kind, knows how many pipes are up at most, and has these operations pending; nothing is kept
+pub record Shows (m : Publish) (k : Kind) (us : List ℕ) (is : List Item) (ss : List Begun) (cs : List ℕ) : Type 0 where
+  pub kind : k ≡ pub_kind m.raw m.options
+  pub pipes : length us ≤ m.pipes
+  pub items : is ≡ []
+  pub pending : Holds m.pending ss
+  pub contexts : cs ≡ 0 ∷ []
+
+abbrev pub Ties : Publish → Moment → Type 0
+Ties m t =
+    Shows m (kind_of t.z) (up (past t)) (pool t.z (past t) 0) (pend (past t)) (ctxs (past t)) × (Lawful t → Floods t.z (past t) m.copies.items (filter is_send (pend (past t))))

@@ -1,0 +1,91 @@
+-- A context of a sub, and what becomes of it.
+use Rattle.std.specs.Prelude.{◌≡◌, ℕ, ◌==◌, ◌||◌, Bool, true, false, not, nat_lt, if◌then◌else◌, List, [], ◌∷◌, ◌++◌, length, map, drop, filter, Option, Some, None, Result, Ok, Err}
+use Rattle.sp_msg.specs.Views.{MessageView}
+use Rattle.sp_history.specs.declared.setting.Options.{Options}
+use Rattle.sp_history.specs.Lists.{same_bytes, head_of}
+use Rattle.sp_history.specs.Kept.{is_wanted_by}
+use Rattle.sp_history.specs.Legal.{has_topic}
+
+-- a context, its topics, and what is kept for it, the oldest first
+pub record SeatView : Type 0 where
+  pub ctx : ℕ
+  pub topics : List (List ℕ)
+  pub kept : List MessageView
+
+-- the new one is last; a full queue discards it, or the oldest
+abbrev pub added : Bool → ℕ → MessageView → List MessageView → List MessageView
+added prefer_new most m ms = if nat_lt (length ms) most then ms ++ m ∷ [] else if prefer_new then drop 1 ms ++ m ∷ [] else ms
+
+-- the context keeps the frame, where a topic matches it, or raw
+abbrev pub kept_in : Bool → Options → MessageView → SeatView → SeatView
+kept_in raw options m x =
+    if raw || is_wanted_by x.topics m.body then record { ctx = x.ctx; topics = x.topics; kept = added options.prefer_new options.queue m x.kept } else x
+
+-- a new one
+abbrev pub fresh_seat : ℕ → SeatView
+fresh_seat c = record { ctx = c; topics = []; kept = [] }
+
+-- the oldest message is gone
+abbrev pub given_from : SeatView → SeatView
+given_from x = record { ctx = x.ctx; topics = x.topics; kept = drop 1 x.kept }
+
+-- nothing is kept
+abbrev pub emptied : SeatView → SeatView
+emptied x = record { ctx = x.ctx; topics = x.topics; kept = [] }
+
+-- one topic more
+abbrev pub with_topic : List ℕ → SeatView → SeatView
+with_topic t x = record { ctx = x.ctx; topics = x.topics ++ t ∷ []; kept = x.kept }
+
+abbrev pub topics_without : List ℕ → List (List ℕ) → List (List ℕ)
+topics_without t ts = filter (λ u. not (same_bytes u t)) ts
+
+-- one topic less, and only what the others match
+abbrev pub without_topic : List ℕ → SeatView → SeatView
+without_topic t x =
+    record { ctx = x.ctx; topics = topics_without t x.topics; kept = filter (λ m. is_wanted_by (topics_without t x.topics) m.body) x.kept }
+
+-- one is put on, or taken off
+abbrev pub switched : Bool → List ℕ → SeatView → SeatView
+switched true t x = with_topic t x
+switched false t x = without_topic t x
+
+-- the context has this number
+abbrev pub is_home : ℕ → SeatView → Bool
+is_home c x = x.ctx == c
+
+-- its oldest message
+abbrev pub first_in : Option SeatView → Option MessageView
+first_in None = None
+first_in (Some x) = head_of x.kept
+
+-- the first that passes the test is changed
+abbrev pub with_found : (SeatView → Bool) → (SeatView → SeatView) → List SeatView → List SeatView
+with_found P f [] = []
+with_found P f (x ∷ xs) = if P x then f x ∷ xs else x ∷ with_found P f xs
+
+-- whether that changes something; want of memory changes nothing
+abbrev pub Switches : {E : Type 0} → Result Bool E → SeatView → SeatView → List ℕ → Bool → Type 0
+Switches (Ok true) old new t on = (has_topic old.topics t ≡ not on) × (new ≡ switched on t old)
+Switches (Ok false) old new t on = (has_topic old.topics t ≡ on) × (new ≡ old)
+Switches (Err e) old new t on = (on ≡ true) × (new ≡ old)
+
+-- the same of one among several
+abbrev pub SwitchesOne : {E : Type 0} → Result Bool E → SeatView → ℕ → List SeatView → List SeatView → List ℕ → Bool → Type 0
+SwitchesOne (Ok true) x c old new t on =
+    (has_topic x.topics t ≡ not on) × (new ≡ with_found (is_home c) (switched on t) old)
+SwitchesOne (Ok false) x c old new t on = (has_topic x.topics t ≡ on) × (new ≡ old)
+SwitchesOne (Err e) x c old new t on = (on ≡ true) × (new ≡ old)
+
+abbrev pub SwitchesIn : {E : Type 0} → Result Bool E → Option SeatView → ℕ → List SeatView → List SeatView → List ℕ → Bool → Type 0
+SwitchesIn r None c old new t on = (new ≡ old) × (r ≡ Ok false)
+SwitchesIn r (Some x) c old new t on = SwitchesOne r x c old new t on
+
+-- the frame was kept up to this context, for which there was no memory
+pub record StopsAt (f : SeatView → SeatView) (c : ℕ) (old new : List SeatView) : Type 0 where
+  pub done : List SeatView
+  pub at : SeatView
+  pub rest : List SeatView
+  pub before : old ≡ done ++ at ∷ rest
+  pub here : at.ctx ≡ c
+  pub after : new ≡ map f done ++ at ∷ rest

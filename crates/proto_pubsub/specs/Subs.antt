@@ -1,0 +1,63 @@
+-- What a sub stands for.
+use Rattle.std.specs.Prelude.{◌≡◌, ◌≤◌, ℕ, ◌==◌, ◌||◌, Bool, true, false, not, nat_lt, if◌then◌else◌, List, [], ◌∷◌, ◌++◌, length, map, drop, find, filter, Option, Some, None}
+use Rattle.sp_base.specs.declared.OpName.{OpName}
+use Rattle.sp_base.specs.declared.role.Role.TheVariants as role
+use Rattle.sp_msg.specs.Views.{MessageView}
+use Rattle.sp_history.specs.declared.entry.Act.TheVariants.{Recv}
+use Rattle.sp_history.specs.declared.parts.Begun.{Begun}
+use Rattle.sp_history.specs.declared.parts.Item.{Item}
+use Rattle.sp_history.specs.declared.setting.Options.{Options}
+use Rattle.sp_history.specs.Lists.{is_nil, same_op, same_bytes}
+use Rattle.sp_history.specs.Kept.{pool, pool_of, is_wanted_by}
+use Rattle.sp_history.specs.Past.{pend, ctxs, topics}
+use Rattle.sp_history.specs.Legal.{has_topic}
+use Rattle.sp_history.specs.Moments.{Moment, past}
+use Rattle.sp_proto.specs.Kinds.{Kind, kind_of}
+use Rattle.proto_pubsub.specs.Seats.{SeatView, is_home}
+use Rattle.proto_pubsub.specs.declared.subscribe.Subscribe.{Subscribe}
+use Rattle.proto_pubsub.specs.declared.subscribe.Waiting.{Waiting}
+
+abbrev pub sub_kind : Bool → Options → Kind
+sub_kind raw options = record { role = role.Sub; raw = raw; options = options }
+
+-- a message that is kept, as it is given
+abbrev pub view_of : Item → MessageView
+view_of i = record { header = i.message.header; body = i.message.body }
+
+-- a context, with what is kept for it and its topics
+abbrev pub seat_at : (ℕ → List Item) → (ℕ → List (List ℕ)) → ℕ → SeatView
+seat_at is ts c = record { ctx = c; topics = ts c; kept = map view_of (is c) }
+
+abbrev pub begun_of : Waiting → Begun
+begun_of w = record { op = w.op; ctx = w.ctx; act = Recv }
+
+abbrev pub is_for : OpName → Waiting → Bool
+is_for op w = same_op w.op op
+
+-- without the first of this name
+abbrev pub without_first : OpName → List Waiting → List Waiting
+without_first op [] = []
+without_first op (w ∷ ws) = if is_for op w then ws else w ∷ without_first op ws
+
+-- something is kept
+abbrev pub is_kept : Option SeatView → Bool
+is_kept None = false
+is_kept (Some x) = not (is_nil x.kept)
+
+-- something is kept for the context
+abbrev pub keeps_at : List SeatView → ℕ → Bool
+keeps_at xs c = is_kept (find (is_home c) xs)
+
+-- something is kept for the receive
+abbrev pub is_ready : List SeatView → Waiting → Bool
+is_ready xs w = keeps_at xs w.ctx
+
+-- The sub is of this kind, has these contexts with what is kept for each and with its topics, and these receives wait
+pub record Shows (m : Subscribe) (k : Kind) (is : ℕ → List Item) (ts : ℕ → List (List ℕ)) (cs : List ℕ) (ss : List Begun) : Type 0 where
+  pub kind : k ≡ sub_kind m.raw m.options
+  pub seats : m.seats.items ≡ map (seat_at is ts) cs
+  pub pending : map begun_of m.waiting.items ≡ ss
+
+abbrev pub Ties : Subscribe → Moment → Type 0
+Ties m t =
+    Shows m (kind_of t.z) (λ c. pool t.z (past t) c) (λ c. topics (past t) c) (ctxs (past t)) (pend (past t))

@@ -1,0 +1,222 @@
+//! The machine of pub (nng_pub(7)), cooked and raw.
+//!
+//! A send goes to every pipe that is up and has room, in the turn of its begin. It takes a copy for each of them then, so
+//! that going out takes no memory. A pub receives nothing: a frame is no message of its protocol, whatever its bytes.
+ghost use Rattle.std.specs.Prelude.{◌≡◌, ◌≤◌, ℕ, [], IfOk, length};
+ghost use Rattle.sp_history.specs.declared.entry.Entry.TheVariants.{Frame};
+ghost use Rattle.sp_history.specs.Moments.{Moment, Lawful, also};
+ghost use Rattle.sp_proto.specs.Kinds.{Starts};
+ghost use Rattle.sp_proto.specs.Machines.{Frames};
+ghost use Rattle.proto_pubsub.specs.Pubs.{Ties, pub_kind, places_left, AreCopies};
+
+use proto_pending::Pending;
+use sp_base::{Ctx, NoMemory, OpName, PipeId, Role, Tick};
+use sp_history::setting::Options;
+use sp_msg::Message;
+use sp_proto::{Act, CheckError, Offer, Proto, UpFault, Verb, Verdict};
+use std::alloc::Global;
+
+/// A pub: it sends.
+#[derive(Drop)]
+pub struct Publish {
+    alloc: Global,
+    raw: bool,
+    options: Options,
+    /// How many pipes are up.
+    pipes: usize,
+    pending: Pending,
+    /// Of the send that is pending, one for each pipe that gets it.
+    copies: Vec<Message>,
+}
+
+// So many copies of the message, without its header.
+fn copies_of(alloc: Global, m: &Message, most: usize) -> Result<Vec<Message>, NoMemory>
+    ensures copies { IfOk result (λ v. AreCopies m.now.body v.items) }
+    ensures all { IfOk result (λ v. length v.items ≡ most) }
+{
+    let mut copies = Vec::with_capacity(alloc, most)?;
+    for _ in 0..most {
+        let mut copy = m.copy()?;
+        copy.header_clear();
+        copies.push(copy)?;
+    }
+    Ok(copies)
+}
+
+impl Publish {
+    /// A pub to which nothing has happened.
+    pub fn new(alloc: Global, options: Options, raw: bool) -> Result<Publish, NoMemory>
+        ensures { IfOk result (λ m. Starts Ties m (pub_kind raw options)) }
+    {
+        Ok(Publish {
+            alloc,
+            raw,
+            options,
+            pipes: 0,
+            pending: Pending::new(alloc),
+            copies: Vec::new(alloc),
+        })
+    }
+}
+
+impl Proto for Publish {
+    ghost use Rattle.std.specs.Prelude.{vec_len};
+    ghost use Rattle.proto_pubsub.specs.Pubs.{Ties, pub_kind, offers_left, places_left};
+    ghost use Rattle.proto_pubsub.specs.PubLaws as laws;
+
+    ghost kind = { λ m. pub_kind m.raw m.options };
+
+    ghost ties = { Ties };
+
+    ghost room = { places_left };
+
+    ghost left = { offers_left };
+
+    ghost copies = { λ m op. vec_len m.copies };
+
+    ghost kinds = { laws.kinds };
+
+    ghost silent = { laws.silent };
+
+    ghost anew = { laws.anew };
+
+    fn role(&self) -> Role {
+        Role::Pub
+    }
+
+    fn raw(&self) -> bool {
+        self.raw
+    }
+
+    fn reserve(&mut self, slots: u32) -> Result<(), NoMemory> {
+        self.pending.reserve(slots)
+    }
+
+    fn up(&mut self, p: PipeId) -> Result<(), UpFault> {
+        let _ = p;
+        self.pipes = self.pipes.saturating_add(1);
+        Ok(())
+    }
+
+    fn down(&mut self, p: PipeId) {
+        let _ = p;
+        self.pipes = self.pipes.saturating_sub(1);
+    }
+
+    fn wants(&self, p: PipeId) -> bool {
+        let _ = p;
+        true
+    }
+
+    /// It closes its pipe.
+    fn frame(&mut self, p: PipeId, m: Message) -> Verdict
+        requires { m.header ≡ [] }
+        ensures kept { (t : Moment) → Lawful (also t (Frame p m.body)) → Ties self.old t → Frames (Ties self.new) result t p m.body }
+        ensures room { places_left self.old ≤ places_left self.new }
+        ensures malformed { result ≡ Verdict.Malformed }
+    {
+        let _ = p;
+        drop(m);
+        Verdict::Malformed
+    }
+
+    fn keeps(&self, c: Ctx) -> bool {
+        let _ = c;
+        false
+    }
+
+    fn check(&self, c: Ctx, verb: Verb) -> Result<(), CheckError> {
+        if verb == Verb::Recv || c.0 != 0 {
+            return Err(CheckError::NotSupported);
+        }
+        Ok(())
+    }
+
+    fn begin(&mut self, op: OpName, c: Ctx, act: Act) -> Result<(), Message> {
+        match act {
+            Act::Recv => {
+                self.pending.push(op, c, Act::Recv);
+                Ok(())
+            }
+            Act::Send(m) => match copies_of(self.alloc, &m, self.pipes) {
+                Err(_) => Err(m),
+                Ok(copies) => {
+                    self.copies = copies;
+                    self.pending.push(op, c, Act::Send(m));
+                    Ok(())
+                }
+            },
+        }
+    }
+
+    fn fresh(&mut self) {}
+
+    fn offer(&mut self) -> Offer {
+        match self.pending.first_send() {
+            Some(op) => Offer::Flood { op },
+            None => Offer::Idle,
+        }
+    }
+
+    fn full(&mut self, p: PipeId) {
+        let _ = p;
+    }
+
+    fn goes_to(&self, op: OpName, p: PipeId) -> bool {
+        let _ = op;
+        let _ = p;
+        true
+    }
+
+    fn flood(&mut self, op: OpName, p: PipeId) -> Option<Message> {
+        let _ = op;
+        let _ = p;
+        self.copies.pop()
+    }
+
+    fn again(&mut self, c: Ctx, p: PipeId) -> Option<Message> {
+        let _ = c;
+        let _ = p;
+        None
+    }
+
+    fn won(&mut self, op: OpName, out: Option<PipeId>) -> Option<Message> {
+        let _ = out;
+        let sent = self.pending.end(op);
+        drop(sent);
+        self.copies.clear();
+        None
+    }
+
+    fn lost(&mut self, op: OpName) -> Option<Message> {
+        match self.pending.end(op) {
+            Some(message) => {
+                self.copies.clear();
+                Some(message)
+            }
+            None => None,
+        }
+    }
+
+    fn clock(&mut self, now: Tick) {
+        let _ = now;
+    }
+
+    fn open_ctx(&mut self, c: Ctx) -> Result<(), NoMemory> {
+        let _ = c;
+        Err(NoMemory)
+    }
+
+    fn close_ctx(&mut self, c: Ctx) {
+        let _ = c;
+    }
+
+    fn topic(&mut self, c: Ctx, t: &[u8], on: bool) -> Result<bool, NoMemory> {
+        let _ = c;
+        let _ = t;
+        let _ = on;
+        Ok(false)
+    }
+
+    fn close(&mut self) {}
+}

@@ -1,0 +1,194 @@
+//! The open contexts of a sub.
+ghost use Rattle.std.specs.Prelude.{◌≡◌, ◌==◌, ◌++◌, ◌∷◌, [], true, false, not, map, filter, drop, IfOk, OnOk, OnErr, if◌then◌else◌};
+ghost use Rattle.sp_history.specs.Lists.{is_nil, head_of, matches, same_bytes};
+ghost use Rattle.sp_history.specs.Kept.{is_wanted_by};
+ghost use Rattle.sp_history.specs.Legal.{has_topic};
+ghost use Rattle.proto_pubsub.specs.Seats.{kept_in, fresh_seat, given_from, emptied, with_topic, topics_without, without_topic, Switches};
+
+use sp_base::{Bytes, Ctx, NoMemory};
+use sp_history::setting::Options;
+use sp_msg::Message;
+use std::alloc::Global;
+use std::collections::VecDeque;
+use std::marker::Model;
+
+/// An open context.
+#[derive(Drop)]
+pub struct Seat {
+    ctx: Ctx,
+    /// In the order in which they were put on.
+    topics: Vec<Bytes>,
+    /// The oldest first.
+    kept: VecDeque<Message>,
+}
+
+impl Model for Seat {
+    ghost use Rattle.proto_pubsub.specs.Seats.{SeatView};
+
+    ghost Value = { SeatView };
+
+    ghost view = { λ x. record { ctx = x.ctx; topics = x.topics.items; kept = x.kept.items } };
+}
+
+// The topic is a beginning of the body.
+fn matches(body: &[u8], topic: &[u8]) -> bool
+    ensures { result ≡ matches body.now topic.now }
+{
+    body.starts_with(topic)
+}
+
+// One of the topics is a beginning of the body.
+fn is_wanted(topics: &[Bytes], body: &[u8]) -> bool
+    ensures { result ≡ is_wanted_by topics.now body.now }
+{
+    topics.iter().any(|t| matches(body, t.as_slice()))
+}
+
+// The same bytes.
+fn is_same(a: &[u8], b: &[u8]) -> bool
+    ensures { result ≡ same_bytes a.now b.now }
+{
+    a == b
+}
+
+// Puts the message last, where the queue is full in place of the oldest. Where that takes memory and there is none, all is
+// as before.
+fn put(kept: &mut VecDeque<Message>, m: Message, is_full: bool) -> bool
+    ensures put { result ≡ true → kept.new.items ≡ (if is_full then drop 1 kept.old.items else kept.old.items) ++ m ∷ [] }
+    ensures same { result ≡ false → kept.new.items ≡ kept.old.items }
+{
+    if is_full {
+        match kept.pop_front() {
+            None => {}
+            Some(oldest) => {
+                drop(oldest);
+                kept.push_back_reserved(m);
+                return true;
+            }
+        }
+    }
+    kept.push_back(m).is_ok()
+}
+
+// Without this topic.
+fn drop_topic(topics: &mut Vec<Bytes>, t: &[u8])
+    ensures { topics.new.items ≡ topics_without t.now topics.old.items }
+{
+    topics.retain(|u| !is_same(u.as_slice(), t));
+}
+
+// Without what no topic matches.
+fn drop_unwanted(kept: &mut VecDeque<Message>, topics: &[Bytes])
+    ensures { kept.new.items ≡ filter (λ m. is_wanted_by topics.now m.body) kept.old.items }
+{
+    kept.retain(|m| is_wanted(topics, m.body()));
+}
+
+impl Seat {
+    /// A context with no topic, for which nothing is kept. Takes the places of `queue` messages.
+    pub fn new(alloc: Global, ctx: Ctx, options: Options) -> Result<Seat, NoMemory>
+        ensures { IfOk result (λ x. x ≡ fresh_seat ctx) }
+    {
+        let kept = VecDeque::with_capacity(alloc, options.queue as usize)?;
+        Ok(Seat {
+            ctx,
+            topics: Vec::new(alloc),
+            kept,
+        })
+    }
+
+    /// Its number.
+    pub fn ctx(&self) -> Ctx
+        ensures { result ≡ self.now.ctx }
+    {
+        self.ctx
+    }
+
+    /// It has this number.
+    pub fn is_of(&self, c: Ctx) -> bool
+        ensures { result ≡ (self.now.ctx == c) }
+    {
+        self.ctx.0 == c.0
+    }
+
+    /// Nothing is kept.
+    pub fn is_empty(&self) -> bool
+        ensures { result ≡ is_nil self.now.kept }
+    {
+        self.kept.is_empty()
+    }
+
+    // The topic is on.
+    fn has(&self, t: &[u8]) -> bool
+        ensures { result ≡ has_topic self.now.topics t.now }
+    {
+        self.topics.iter().any(|u| is_same(u.as_slice(), t))
+    }
+
+    /// Keeps a copy of the frame, where a topic matches it, or raw. Answers false where that found no memory; then all is as
+    /// before.
+    pub fn keep(&mut self, raw: bool, options: Options, m: &Message) -> bool
+        ensures kept { result ≡ true → self.new ≡ kept_in raw options m.now self.old }
+        ensures same { result ≡ false → self.new ≡ self.old }
+    {
+        if !raw && !is_wanted(&self.topics, m.body()) {
+            return true;
+        }
+        let is_full = self.kept.len() >= options.queue as usize;
+        if is_full && !options.prefer_new {
+            return true;
+        }
+        match m.copy() {
+            Err(_) => false,
+            Ok(copy) => put(&mut self.kept, copy, is_full),
+        }
+    }
+
+    /// The oldest message, which is kept no longer.
+    pub fn give(&mut self) -> Option<Message>
+        ensures given { result ≡ head_of self.old.kept }
+        ensures rest { self.new ≡ given_from self.old }
+    {
+        self.kept.pop_front()
+    }
+
+    /// Nothing is kept any more.
+    pub fn clear(&mut self)
+        ensures { self.new ≡ emptied self.old }
+    {
+        self.kept.clear();
+    }
+
+    // Puts a topic on. Where there is no memory, all is as before.
+    fn put_on(&mut self, alloc: Global, t: &[u8]) -> Result<bool, NoMemory>
+        ensures changed { IfOk result (λ changed. changed ≡ true) }
+        ensures on { OnOk result (self.new ≡ with_topic t.now self.old) }
+        ensures same { OnErr result (self.new ≡ self.old) }
+    {
+        let topic = Bytes::from_slice(alloc, t)?;
+        self.topics.push(topic)?;
+        Ok(true)
+    }
+
+    // Takes a topic off, and drops what no other matches.
+    fn take_off(&mut self, t: &[u8])
+        ensures { self.new ≡ without_topic t.now self.old }
+    {
+        drop_topic(&mut self.topics, t);
+        drop_unwanted(&mut self.kept, &self.topics);
+    }
+
+    /// Puts a topic on, or takes it off. Answers whether that changed something.
+    pub fn switch(&mut self, alloc: Global, t: &[u8], on: bool) -> Result<bool, NoMemory>
+        ensures { Switches result self.old self.new t.now on }
+    {
+        if self.has(t) == on {
+            return Ok(false);
+        }
+        if on {
+            return self.put_on(alloc, t);
+        }
+        self.take_off(t);
+        Ok(true)
+    }
+}

@@ -1,0 +1,322 @@
+//! The machine of sub (nng_sub(7)), cooked and raw.
+//!
+//! Each open context has topics, and a queue of at most `queue` messages, whose places are taken when it is opened. A frame
+//! is kept for each context of which a topic is a beginning of it, the empty topic of each; raw, for the one context that
+//! there is. A full queue discards its oldest message or the new one, as `prefer_new` says. The copy is made before
+//! anything is discarded; the first that finds no memory is told, and contexts of greater numbers go without as well.
+ghost use Rattle.std.specs.Prelude.{◌≡◌, ◌-◌, ◌+◌, ◌≤◌, ◌==◌, ◌≢◌, ℕ, [], ◌∷◌, true, Some, None, IfOk, map, filter, find, length, not, option_to_list};
+ghost use Rattle.std.specs.VecDeque.{deque_len, deque_capacity};
+ghost use Rattle.std.specs.Option.{option_map};
+ghost use Rattle.std.specs.List.{position, list_any};
+ghost use Rattle.sp_history.specs.declared.entry.Entry.TheVariants.{Frame};
+ghost use Rattle.sp_history.specs.Lists.{is_nil};
+ghost use Rattle.sp_history.specs.Moments.{Moment, Lawful, also};
+ghost use Rattle.sp_proto.specs.Kinds.{Starts};
+ghost use Rattle.sp_proto.specs.Machines.{Frames};
+ghost use Rattle.proto_pubsub.specs.Seats.{kept_in, emptied, fresh_seat, given_from, is_home, first_in, with_found, SwitchesIn, StopsAt};
+ghost use Rattle.proto_pubsub.specs.Subs.{Ties, sub_kind, is_for, is_ready, keeps_at, without_first};
+
+use crate::seats::Seat;
+use sp_base::{Ctx, NoMemory, OpName, PipeId, Role, Tick};
+use sp_history::setting::Options;
+use sp_msg::Message;
+use sp_proto::{Act, CheckError, Offer, Proto, UpFault, Verb, Verdict};
+use std::alloc::Global;
+use std::collections::VecDeque;
+
+/// A receive that waits.
+#[derive(Clone, Copy)]
+struct Waiting {
+    op: OpName,
+    ctx: Ctx,
+}
+
+/// A sub: it receives.
+#[derive(Drop)]
+pub struct Subscribe {
+    alloc: Global,
+    raw: bool,
+    options: Options,
+    /// In the order in which they were opened.
+    seats: Vec<Seat>,
+    /// In the order of their begins.
+    waiting: VecDeque<Waiting>,
+}
+
+// Where the context stands.
+fn home(seats: &[Seat], c: Ctx) -> Option<usize>
+    ensures { result ≡ position (is_home c) seats.now }
+{
+    seats.iter().position(|x| x.is_of(c))
+}
+
+// The context is open.
+fn is_open(seats: &[Seat], c: Ctx) -> bool
+    ensures { result ≡ list_any (is_home c) seats.now }
+{
+    seats.iter().any(|x| x.is_of(c))
+}
+
+// Something is kept for the context.
+fn keeps_for(seats: &[Seat], c: Ctx) -> bool
+    ensures { result ≡ keeps_at seats.now c }
+{
+    match home(seats, c) {
+        None => false,
+        Some(i) => !seats[i].is_empty(),
+    }
+}
+
+// Where the first receive stands for which something is kept.
+fn ready_place(seats: &[Seat], waiting: &VecDeque<Waiting>) -> Option<usize>
+    ensures { result ≡ position (is_ready seats.now) waiting.now.items }
+{
+    waiting.iter().position(|w| keeps_for(seats, w.ctx))
+}
+
+// Where the operation stands.
+fn place_of(waiting: &VecDeque<Waiting>, op: OpName) -> Option<usize>
+    ensures { result ≡ position (is_for op) waiting.now.items }
+{
+    waiting.iter().position(|w| w.op.slot == op.slot && w.op.generation == op.generation)
+}
+
+// Takes the operation out.
+fn take(waiting: &mut VecDeque<Waiting>, op: OpName) -> Option<Waiting>
+    ensures found { result ≡ find (is_for op) waiting.old.items }
+    ensures rest { waiting.new.items ≡ without_first op waiting.old.items }
+    ensures len { deque_len waiting.new + length (option_to_list result) ≡ deque_len waiting.old }
+    ensures capacity { deque_capacity waiting.new ≡ deque_capacity waiting.old }
+{
+    match place_of(waiting, op) {
+        None => None,
+        Some(i) => match waiting.remove(i) {
+            Some(w) => Some(w),
+            None => None,
+        },
+    }
+}
+
+// Keeps the frame in each context that takes it. Answers the first for which there was no memory, with which it stops.
+fn spread(seats: &mut [Seat], raw: bool, options: Options, m: &Message) -> Option<Ctx>
+    ensures whole { result ≡ None → seats.new ≡ map (kept_in raw options m.now) seats.old }
+    ensures stops { (c : ℕ) → result ≡ Some c → StopsAt (kept_in raw options m.now) c seats.old seats.new }
+{
+    for seat in seats.iter_mut() {
+        if !seat.keep(raw, options, m) {
+            return Some(seat.ctx());
+        }
+    }
+    None
+}
+
+// The oldest message of the context, which is kept no longer.
+fn give(seats: &mut [Seat], c: Ctx) -> Option<Message>
+    ensures given { result ≡ first_in (find (is_home c) seats.old) }
+    ensures rest { seats.new ≡ with_found (is_home c) given_from seats.old }
+{
+    match home(seats, c) {
+        None => None,
+        Some(i) => seats[i].give(),
+    }
+}
+
+// Puts a topic of the context on, or takes it off. Answers whether that changed something.
+fn switch(seats: &mut [Seat], alloc: Global, c: Ctx, t: &[u8], on: bool) -> Result<bool, NoMemory>
+    ensures { SwitchesIn result (find (is_home c) seats.old) c seats.old seats.new t.now on }
+{
+    match home(seats, c) {
+        None => Ok(false),
+        Some(i) => seats[i].switch(alloc, t, on),
+    }
+}
+
+// Nothing is kept any more.
+fn clear(seats: &mut [Seat])
+    ensures { seats.new ≡ map emptied seats.old }
+{
+    for seat in seats.iter_mut() {
+        seat.clear();
+    }
+}
+
+// The first context.
+fn first_seats(alloc: Global, options: Options) -> Result<Vec<Seat>, NoMemory>
+    ensures { IfOk result (λ v. v.items ≡ fresh_seat 0 ∷ []) }
+{
+    let seat = Seat::new(alloc, Ctx(0), options)?;
+    let mut seats = Vec::new(alloc);
+    seats.push(seat)?;
+    Ok(seats)
+}
+
+impl Subscribe {
+    /// A sub to which nothing has happened. Takes the places of `queue` messages.
+    pub fn new(alloc: Global, options: Options, raw: bool) -> Result<Subscribe, NoMemory>
+        ensures { IfOk result (λ m. Starts Ties m (sub_kind raw options)) }
+    {
+        let seats = first_seats(alloc, options)?;
+        Ok(Subscribe {
+            alloc,
+            raw,
+            options,
+            seats,
+            waiting: VecDeque::new(alloc),
+        })
+    }
+}
+
+impl Proto for Subscribe {
+    ghost use Rattle.std.specs.Prelude.{◌-◌};
+    ghost use Rattle.std.specs.VecDeque.{deque_len, deque_capacity};
+    ghost use Rattle.proto_pubsub.specs.Subs.{Ties, sub_kind};
+    ghost use Rattle.proto_pubsub.specs.SubLaws as laws;
+
+    ghost kind = { λ m. sub_kind m.raw m.options };
+
+    ghost ties = { Ties };
+
+    ghost room = { λ m. deque_capacity m.waiting - deque_len m.waiting };
+
+    ghost left = { λ m. deque_len m.waiting };
+
+    ghost copies = { λ m op. 0 };
+
+    ghost kinds = { laws.kinds };
+
+    ghost silent = { laws.silent };
+
+    ghost anew = { laws.anew };
+
+    fn role(&self) -> Role {
+        Role::Sub
+    }
+
+    fn raw(&self) -> bool {
+        self.raw
+    }
+
+    fn reserve(&mut self, slots: u32) -> Result<(), NoMemory> {
+        match self.waiting.reserve(slots as usize) {
+            Ok(()) => Ok(()),
+            Err(_) => Err(NoMemory),
+        }
+    }
+
+    fn up(&mut self, p: PipeId) -> Result<(), UpFault> {
+        let _ = p;
+        Ok(())
+    }
+
+    fn down(&mut self, p: PipeId) {
+        let _ = p;
+    }
+
+    fn wants(&self, p: PipeId) -> bool {
+        let _ = p;
+        true
+    }
+
+    fn frame(&mut self, p: PipeId, m: Message) -> Verdict {
+        let _ = p;
+        match spread(&mut self.seats, self.raw, self.options, &m) {
+            None => Verdict::Fine,
+            Some(c) => Verdict::Dry(c),
+        }
+    }
+
+    fn keeps(&self, c: Ctx) -> bool {
+        keeps_for(&self.seats, c)
+    }
+
+    fn check(&self, c: Ctx, verb: Verb) -> Result<(), CheckError> {
+        if verb == Verb::Send {
+            return Err(CheckError::NotSupported);
+        }
+        if self.raw && c.0 != 0 {
+            return Err(CheckError::NotSupported);
+        }
+        if !is_open(&self.seats, c) {
+            return Err(CheckError::NoEntry);
+        }
+        Ok(())
+    }
+
+    fn begin(&mut self, op: OpName, c: Ctx, act: Act) -> Result<(), Message> {
+        match act {
+            Act::Send(m) => Err(m),
+            Act::Recv => {
+                self.waiting.push_back_reserved(Waiting { op, ctx: c });
+                Ok(())
+            }
+        }
+    }
+
+    fn fresh(&mut self) {}
+
+    fn offer(&mut self) -> Offer {
+        match ready_place(&self.seats, &self.waiting) {
+            None => Offer::Idle,
+            Some(i) => Offer::Give {
+                op: self.waiting[i].op,
+            },
+        }
+    }
+
+    fn full(&mut self, p: PipeId) {
+        let _ = p;
+    }
+
+    fn goes_to(&self, op: OpName, p: PipeId) -> bool {
+        let _ = op;
+        let _ = p;
+        false
+    }
+
+    fn flood(&mut self, op: OpName, p: PipeId) -> Option<Message> {
+        let _ = op;
+        let _ = p;
+        None
+    }
+
+    fn again(&mut self, c: Ctx, p: PipeId) -> Option<Message> {
+        let _ = c;
+        let _ = p;
+        None
+    }
+
+    fn won(&mut self, op: OpName, out: Option<PipeId>) -> Option<Message> {
+        let _ = out;
+        match take(&mut self.waiting, op) {
+            None => None,
+            Some(w) => give(&mut self.seats, w.ctx),
+        }
+    }
+
+    fn lost(&mut self, op: OpName) -> Option<Message> {
+        let _ = take(&mut self.waiting, op);
+        None
+    }
+
+    fn clock(&mut self, now: Tick) {
+        let _ = now;
+    }
+
+    fn open_ctx(&mut self, c: Ctx) -> Result<(), NoMemory> {
+        let seat = Seat::new(self.alloc, c, self.options)?;
+        self.seats.push(seat)?;
+        Ok(())
+    }
+
+    fn close_ctx(&mut self, c: Ctx) {
+        self.seats.retain(|x| !x.is_of(c));
+    }
+
+    fn topic(&mut self, c: Ctx, t: &[u8], on: bool) -> Result<bool, NoMemory> {
+        switch(&mut self.seats, self.alloc, c, t, on)
+    }
+
+    fn close(&mut self) {
+        clear(&mut self.seats);
+    }
+}
