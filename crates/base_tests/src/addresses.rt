@@ -1,5 +1,6 @@
 use sp_base::{Addr, AddrError, Host};
 use std::alloc::Global;
+use std::test::Fail;
 
 // The host and the port of an address of TCP.
 fn endpoint_of(alloc: Global, text: &str) -> Result<(Host, u16), AddrError> {
@@ -32,7 +33,6 @@ fn addresses_are_read(rt: HostRuntime) {
         ("inproc://a b", 10),
         ("inproc://\u{7f}", 9),
         ("inproc", 6),
-        ("ws://127.0.0.1:80/", 0),
         ("tcp://256.0.0.1:1", 8),
         ("tcp://127.0.0.1", 15),
         ("tcp://1.2.3.4:65536", 18),
@@ -44,6 +44,15 @@ fn addresses_are_read(rt: HostRuntime) {
         ("tcp://local:1", 11),
         ("tcp://1.2.3.4:1 ", 15),
         ("tcp:/1.2.3.4:1", 5),
+        ("ws://1.2.3.4:80/a b", 17),
+        ("ws://1.2.3.4:80?", 15),
+        ("ws://1.2.3.4:80/a?", 17),
+        ("ws://", 5),
+        ("wss://a", 2),
+        ("WS://1.2.3.4:80", 0),
+        ("ws://1.2.3.4", 12),
+        ("ws://1.2.3.4:65536/", 17),
+        ("ws://1.2.3.4:080", 14),
     ];
     for (text, at) in refused {
         assert_eq!(rt;
@@ -73,4 +82,60 @@ fn names_within_the_process_are_read(rt: HostRuntime) {
         endpoint_of(rt.alloc(), LONGEST),
         Err(AddrError::Fault { at: 137 })
     );
+}
+
+// Whether the address is one of WebSocket with this host, this port and this path.
+fn web_is(alloc: Global, text: &str, host: Host, port: u16, path: &[u8]) -> bool {
+    match Addr::read(alloc, text) {
+        Ok(
+            Addr::Ws {
+                host: its_host,
+                port: its_port,
+                path: its_path,
+            },
+        ) => its_host == host && its_port == port && its_path.as_slice() == path,
+        _ => false,
+    }
+}
+
+#[test]
+fn addresses_of_websocket_are_read(rt: HostRuntime) -> Result<(), Fail> {
+    const LOCAL: Host = Host::V4(127, 0, 0, 1);
+    const FOUR: Host = Host::V4(1, 2, 3, 4);
+    let read: &[(&str, Host, u16, &[u8])] = &[
+        ("ws://localhost:80/a", LOCAL, 80, b"/a"),
+        ("ws://1.2.3.4:80", FOUR, 80, b"/"),
+        ("ws://1.2.3.4:80/", FOUR, 80, b"/"),
+        ("ws://*:0/", Host::Any, 0, b"/"),
+        ("ws://1.2.3.4:0//aZ09-._~/", FOUR, 0, b"//aZ09-._~/"),
+    ];
+    for (text, host, port, path) in read {
+        assert!(rt; web_is(rt.alloc(), text, *host, *port, path));
+    }
+    Ok(())
+}
+
+#[test]
+fn a_path_has_at_most_128_bytes(rt: HostRuntime) -> Result<(), Fail> {
+    let mut text = String::from_str(rt.alloc(), "ws://1.2.3.4:80/")?;
+    for _ in 0..127u32 {
+        text.push_str("a")?;
+    }
+    let path = text.as_bytes().to_vec(rt.alloc())?;
+    assert!(rt; path.len() == 143);
+    assert!(rt;
+        web_is(
+            rt.alloc(),
+            text.as_str(),
+            Host::V4(1, 2, 3, 4),
+            80,
+            &path[15..]
+        )
+    );
+    text.push_str("a")?;
+    assert_eq!(rt;
+        endpoint_of(rt.alloc(), text.as_str()),
+        Err(AddrError::Fault { at: 143 })
+    );
+    Ok(())
 }

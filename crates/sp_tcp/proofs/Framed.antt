@@ -21,7 +21,7 @@ shows_in t s lt r e =
       front = subst (λ x. IsFront r.bodies (shows role t.max x)) (sym is) (shows-front role t.max r.bodies t.unread lt r.fit);
     }
 
-cut_short : (sent : ℕ) (w : List (List ℕ)) → SentWithin sent w → CutShort (take sent (frames w)) w
+cut_short : (sent : ℕ) (w : List (List ℕ)) → SentWithin [] sent w → CutShort (take sent (frames w)) w
 cut_short sent [] e = ap (take sent) (sym frames-nil) ∙ ap (λ (n : ℕ). take n []) e
 cut_short sent (x ∷ rest) lt =
     let is : take sent (frames (x ∷ rest)) ≡ take sent (frame x) = ap (take sent) (frames-cons x rest) ∙ take-append-le sent (frame x) (frames rest) (omega (arith, lt, length-frame x)) in (
@@ -29,7 +29,7 @@ cut_short sent (x ∷ rest) lt =
       omega (arith, ap length is, length-take sent (frame x), length-frame x, lt),
     )
 
-written_in : (t : TcpState) (s : List ℕ) → SentWithin t.sent t.waiting → (r : WritesAs t.waiting t.sent s) → t.link.written ≡ Some s → WrittenIn (tcp_view t) s
+written_in : (t : TcpState) (s : List ℕ) → SentWithin [] t.sent t.waiting → (r : WritesAs t.waiting t.sent s) → t.link.written ≡ Some s → WrittenIn (tcp_view t) s
 written_in t s within r e = record {
   whole = r.bodies;
   waiting = t.waiting;

@@ -1,5 +1,5 @@
 -- What ties the texts of a wire to those of its link.
-use Rattle.std.proofs.Common.{◌≡◌, ◌<◌, ◌-◌, ◌^◌, ◌++◌, ℕ, false, List, [], ◌∷◌, length, take, Option, Some, None, refl, sym, ap, subst, ◌∙◌, inl, inr, append-nil, append_assoc, arith, lit<}
+use Rattle.std.proofs.Common.{◌≡◌, ◌≤◌, ◌<◌, ◌-◌, ◌^◌, ◌++◌, ℕ, false, List, [], ◌∷◌, length, take, Option, Some, None, refl, sym, ap, subst, ◌∙◌, inl, inr, append-nil, append_assoc, arith, lit<}
 use Rattle.std.proofs.lemmas.List.{length-append, length-take, take_at, take-append-le, append_cancel_left}
 use Rattle.std.proofs.lemmas.Nat.{from_be_bytes-to_be_bytes_2}
 use Rattle.sp_spec.specs.SpTcp.{hello, frames, text, shows, Fit, begins, IsOversize}
@@ -10,6 +10,7 @@ use Rattle.sp_tcp.specs.Readings.{IsPart, IsTooLong}
 use Rattle.sp_tcp.specs.Outlets.{SentWithin}
 use Rattle.sp_tcp.specs.TcpWires.{number_in, told_number, greatest, taken_in, put_in, ReadsAs, WritesAs}
 use Rattle.sp_tcp.proofs.Writes.{sent_le}
+use Rattle.sp_tcp.proofs.Marks.{plain_frames}
 
 pub number_text : (role : ℕ) (bodies : List (List ℕ)) (rest : List ℕ) → role < 2 ^ 16 → number_in (text role bodies ++ rest) ≡ role
 number_text role bodies rest lt = from_be_bytes-to_be_bytes_2 role lt
@@ -105,13 +106,16 @@ number_on max u piece (Some s) o2 f r =
 
 -- ---- writing
 
+sent_fits : (sent : ℕ) (w : List (List ℕ)) → SentWithin [] sent w → sent ≤ length (frames w)
+sent_fits sent w within = omega (arith, sent_le [] sent w within, ap length (plain_frames w))
+
 pub writes_number : (w : List (List ℕ)) (sent : ℕ) (s : List ℕ) → (r : WritesAs w sent s) → number_in s ≡ r.role
 writes_number w sent s r = ap number_in r.is ∙ number_text r.role r.bodies (take sent (frames w)) r.small
 
-pub length_sent : (w : List (List ℕ)) (sent : ℕ) → SentWithin sent w → length (take sent (frames w)) ≡ sent
-length_sent w sent within = omega (arith, length-take sent (frames w), sent_le sent w within)
+pub length_sent : (w : List (List ℕ)) (sent : ℕ) → SentWithin [] sent w → length (take sent (frames w)) ≡ sent
+length_sent w sent within = omega (arith, length-take sent (frames w), sent_fits sent w within)
 
-pub writes_taken : (w : List (List ℕ)) (sent : ℕ) (s : List ℕ) → SentWithin sent w → (r : WritesAs w sent s) → shows (number_in s) greatest (take (length s - sent) s) ≡ r.bodies
+pub writes_taken : (w : List (List ℕ)) (sent : ℕ) (s : List ℕ) → SentWithin [] sent w → (r : WritesAs w sent s) → shows (number_in s) greatest (take (length s - sent) s) ≡ r.bodies
 writes_taken w sent s within r =
     ap (λ (n : ℕ). shows n greatest (take (length s - sent) s)) (writes_number w sent s r)
     ∙ ap (shows r.role greatest) (take_before (text r.role r.bodies) (take sent (frames w)) s sent r.is (length_sent w sent within))
@@ -134,7 +138,7 @@ pub told_writes : (w w2 gone : List (List ℕ)) (sent sent2 : ℕ) (piece : List
 told_writes w w2 gone sent sent2 piece None o2 fit e f r = subst (λ x. Told x (WritesAs w2 sent2)) (sym f) tt
 told_writes w w2 gone sent sent2 piece (Some s) o2 fit e f r = subst (λ x. Told x (WritesAs w2 sent2)) (sym f) (writes_on w w2 gone sent sent2 piece s fit e r)
 
-pub put_on : (w w2 gone : List (List ℕ)) (sent sent2 : ℕ) (piece : List ℕ) (o o2 : Option (List ℕ)) → SentWithin sent w → SentWithin sent2 w2 → Fit greatest gone → w ≡ gone ++ w2 → take sent (frames w) ++ piece ≡ frames gone ++ take sent2 (frames w2) → o2 ≡ grown o piece → Told o (WritesAs w sent) → put_in w2 sent2 o2 ≡ put_in w sent o
+pub put_on : (w w2 gone : List (List ℕ)) (sent sent2 : ℕ) (piece : List ℕ) (o o2 : Option (List ℕ)) → SentWithin [] sent w → SentWithin [] sent2 w2 → Fit greatest gone → w ≡ gone ++ w2 → take sent (frames w) ++ piece ≡ frames gone ++ take sent2 (frames w2) → o2 ≡ grown o piece → Told o (WritesAs w sent) → put_in w2 sent2 o2 ≡ put_in w sent o
 unfolding writes_on
 put_on w w2 gone sent sent2 piece None o2 x y fit left e f r = ap (put_in w2 sent2) f
 put_on w w2 gone sent sent2 piece (Some s) o2 x y fit left e f r =
@@ -156,16 +160,16 @@ Fit-apart max (x ∷ xs) ys f = let more = Fit-apart max xs ys f.1 in ((f.0, mor
 
 -- ---- one more text
 
-pub writes_more : (w : List (List ℕ)) (t : List ℕ) (sent : ℕ) (s : List ℕ) → SentWithin sent w → WritesAs w sent s → WritesAs (w ++ t ∷ []) sent s
+pub writes_more : (w : List (List ℕ)) (t : List ℕ) (sent : ℕ) (s : List ℕ) → SentWithin [] sent w → WritesAs w sent s → WritesAs (w ++ t ∷ []) sent s
 writes_more w t sent s within r = record {
   role = r.role;
   bodies = r.bodies;
   small = r.small;
   fit = r.fit;
-  is = r.is ∙ ap (λ x. text r.role r.bodies ++ x) (sym (ap (take sent) (frames-append w (t ∷ [])) ∙ take-append-le sent (frames w) (frames (t ∷ [])) (sent_le sent w within)));
+  is = r.is ∙ ap (λ x. text r.role r.bodies ++ x) (sym (ap (take sent) (frames-append w (t ∷ [])) ∙ take-append-le sent (frames w) (frames (t ∷ [])) (sent_fits sent w within)));
 }
 
-pub told_more : (w : List (List ℕ)) (t : List ℕ) (sent : ℕ) (o : Option (List ℕ)) → SentWithin sent w → Told o (WritesAs w sent) → Told o (WritesAs (w ++ t ∷ []) sent)
+pub told_more : (w : List (List ℕ)) (t : List ℕ) (sent : ℕ) (o : Option (List ℕ)) → SentWithin [] sent w → Told o (WritesAs w sent) → Told o (WritesAs (w ++ t ∷ []) sent)
 told_more w t sent None within r = tt
 told_more w t sent (Some s) within r = writes_more w t sent s within r
 

@@ -1,5 +1,5 @@
 -- What the marks say stays true over each call.
-use Rattle.std.proofs.Common.{◌≡◌, ◌≤◌, ◌<◌, ◌⊎◌, ℕ, Bool, true, false, List, refl, ◌∙◌, arith}
+use Rattle.std.proofs.Common.{◌≡◌, ◌≤◌, ◌<◌, ◌⊎◌, ℕ, Bool, true, false, List, [], refl, ◌∙◌, arith}
 use Rattle.sp_spec.specs.Outside.{Rose}
 use Rattle.sp_base.specs.Views.{LinkView}
 use Rattle.sp_msg.specs.Marks.{one_more, marks_pulled, marks_roomed, marks_flushed, marks_shut}
@@ -14,6 +14,7 @@ use Rattle.sp_tcp.specs.Links.{ReadCounts, WriteCounts}
 use Rattle.sp_tcp.specs.Inlets.{PullAnswer}
 use Rattle.sp_tcp.specs.Outlets.{FlushAnswer}
 use Rattle.sp_tcp.specs.TcpWires.{MarksHold}
+use Rattle.sp_tcp.proofs.Marks.{plain_part, plain_bad}
 
 apart : (b : Bool) → b ≡ false → b ≡ true → ⊥
 apart b e f = cc
@@ -23,7 +24,7 @@ never e = cc
 
 -- ---- pulls
 
-pub pulled_marks : (result : WireIn) (max : ℕ) (l l2 : LinkView) (u u2 all : List ℕ) (k : WireMarks) → k.is_open ≡ true → MarksHold max l u k → ReadCounts l l2 → l2.is_open ≡ l.is_open → PullAnswer max result all u2 l l2 → MarksHold max l2 u2 (marks_pulled result k)
+pub pulled_marks : (result : WireIn) (max : ℕ) (l l2 : LinkView) (u u2 all : List ℕ) (k : WireMarks) → k.is_open ≡ true → MarksHold max l u k → ReadCounts l l2 → l2.is_open ≡ l.is_open → PullAnswer [] max result all u2 l l2 → MarksHold max l2 u2 (marks_pulled result k)
 pulled_marks (ins.Message m) max l l2 u u2 all k o h c same a = record {
   link_open = (λ e. same ∙ h.link_open e);
   going = h.going;
@@ -47,7 +48,7 @@ pulled_marks ins.NotYet max l l2 u u2 all k o h c same a = record {
 pulled_marks ins.Ended max l l2 u u2 all k o h c same a = record {
   link_open = (λ e. absurd (never e));
   going = (λ e. absurd (never e));
-  at_end = (λ e. (a.2, a.1));
+  at_end = (λ e. (a.2, plain_part max u2 a.1));
   too_long = (λ e. absurd (apart k.malformed (h.going o).1 e));
   faults = omega (arith, h.faults, c.faults);
   idles = omega (arith, h.idles, c.idles);
@@ -58,7 +59,7 @@ pulled_marks ins.Malformed max l l2 u u2 all k o h c same a = record {
   link_open = (λ e. absurd (never e));
   going = (λ e. absurd (never e));
   at_end = (λ e. absurd (apart k.ended (h.going o).0 e));
-  too_long = (λ e. a.1);
+  too_long = (λ e. plain_bad max u2 a.1);
   faults = omega (arith, h.faults, c.faults);
   idles = omega (arith, h.idles, c.idles);
   stalls = omega (arith, h.stalls, c.stalls);

@@ -7,14 +7,14 @@ use Rattle.sp_base.specs.Steps.{Came, Quiet}
 use Rattle.sp_msg.specs.declared.wire.WireIn.{WireIn}
 use Rattle.sp_tcp.specs.Links.{ReadCounts}
 use Rattle.sp_tcp.specs.Inlets.{PullAnswer, PulledFrom}
-use Rattle.sp_tcp.specs.Readings.{IsPart}
+use Rattle.sp_tcp.specs.Marked.{head_of, IsMarkedPart}
 
-pub record PullGoing (max : ℕ) (old now : List ℕ) (link link' : LinkView) : Type 0 where
+pub record PullGoing (mark : List ℕ) (max : ℕ) (old now : List ℕ) (link link' : LinkView) : Type 0 where
   pub piece : List ℕ
   pub unread : now ≡ old ++ piece
   pub came : Came piece link link'
   pub counts : ReadCounts link link'
-  pub start : ((now ≡ old) × (link' ≡ link)) ⊎ (IsPart max old × (link.ended ≡ false))
+  pub start : ((now ≡ old) × (link' ≡ link)) ⊎ (IsMarkedPart mark max old × (link.ended ≡ false))
 
 pub grown-nil : (o : Option (List ℕ)) → o ≡ grown o []
 grown-nil None = refl
@@ -52,47 +52,52 @@ came_more p q l m n a b = record {
 pub came_quiet : (p : List ℕ) (l m n : LinkView) → Came p l m → Quiet m n → Came p l n
 came_quiet p l m n a b = record { place = b.place ∙ a.place; scheme = b.scheme ∙ a.scheme; came = b.came ∙ a.came; written = b.written ∙ a.written; is_open = b.is_open ∙ a.is_open }
 
-pub going_start : (max : ℕ) (old : List ℕ) (l : LinkView) → PullGoing max old old l l
-going_start max old l = record { piece = []; unread = sym (append-nil old); came = came_none l; counts = counts_refl l; start = inl (refl, refl) }
+pub going_start : (mark : List ℕ) (max : ℕ) (old : List ℕ) (l : LinkView) → PullGoing mark max old old l l
+going_start mark max old l = record { piece = []; unread = sym (append-nil old); came = came_none l; counts = counts_refl l; start = inl (refl, refl) }
 
 -- the start was a part too
-pub began_part : (max : ℕ) (old now : List ℕ) (l m : LinkView) → PullGoing max old now l m → IsPart max now → IsPart max old
-began_part max old now l m going part = elim going.start [ inl e ↦ subst (IsPart max) e.0 part | inr p ↦ p.0 ]
+pub began_part : (mark : List ℕ) (max : ℕ) (old now : List ℕ) (l m : LinkView) → PullGoing mark max old now l m → IsMarkedPart mark max now → IsMarkedPart mark max old
+began_part mark max old now l m going part = elim going.start [ inl e ↦ subst (IsMarkedPart mark max) e.0 part | inr p ↦ p.0 ]
 
 -- the link had not ended at the start either
-pub began_open : (max : ℕ) (old now : List ℕ) (l m : LinkView) → PullGoing max old now l m → m.ended ≡ false → l.ended ≡ false
-began_open max old now l m going e = elim going.start [ inl s ↦ sym (ap (λ (v : LinkView). v.ended) s.1) ∙ e | inr p ↦ p.1 ]
+pub began_open : (mark : List ℕ) (max : ℕ) (old now : List ℕ) (l m : LinkView) → PullGoing mark max old now l m → m.ended ≡ false → l.ended ≡ false
+began_open mark max old now l m going e = elim going.start [ inl s ↦ sym (ap (λ (v : LinkView). v.ended) s.1) ∙ e | inr p ↦ p.1 ]
 
-pub going_more : (max : ℕ) (old now next piece : List ℕ) (l m n : LinkView) → PullGoing max old now l m → IsPart max now → next ≡ now ++ piece → Came piece m n → ReadCounts m n → m.ended ≡ false → PullGoing max old next l n
-going_more max old now next piece l m n going part e came counts unended = record {
+pub going_more : (mark : List ℕ) (max : ℕ) (old now next piece : List ℕ) (l m n : LinkView) → PullGoing mark max old now l m → IsMarkedPart mark max now → next ≡ now ++ piece → Came piece m n → ReadCounts m n → m.ended ≡ false → PullGoing mark max old next l n
+going_more mark max old now next piece l m n going part e came counts unended = record {
   piece = going.piece ++ piece;
   unread = e ∙ ap (λ t. t ++ piece) going.unread ∙ append_assoc old going.piece piece;
   came = came_more going.piece piece l m n going.came came;
   counts = counts_more l m n going.counts counts;
-  start = inr (began_part max old now l m going part, began_open max old now l m going unended);
+  start = inr (began_part mark max old now l m going part, began_open mark max old now l m going unended);
 }
 
-pub falls : (max : ℕ) (now next piece : List ℕ) → IsPart max now → next ≡ now ++ piece → 0 < length piece → 8 + max - length next < 8 + max - length now
-falls max now next piece part e some =
+pub falls : (mark : List ℕ) (max : ℕ) (now next piece : List ℕ) → IsMarkedPart mark max now → next ≡ now ++ piece → 0 < length piece → head_of mark + max - length next < head_of mark + max - length now
+falls mark max now next piece part e some =
     let long : length next ≡ length now + length piece = omega (arith, ap length e, length-append now piece) in
-    elim part [ inl a ↦ omega (arith, a) | inr b ↦ omega (arith, b) ]
+    elim part [
+      | inl a ↦ omega (arith, ap length a.1, length-append now a.0, long, a.2, some)
+      | inr b ↦ (
+          let whole : length now ≡ length mark + length b.0 = omega (arith, ap length b.1, length-append mark b.0) in
+          elim b.2 [ inl x ↦ omega (arith, whole, long, some, x) | inr x ↦ omega (arith, whole, long, some, x) ])
+    ]
 
 -- an answer without a further byte
-pub pulled_here : (max : ℕ) (result : WireIn) (old now next : List ℕ) (l m : LinkView) → PullGoing max old now l m → PullAnswer max result now next l m → PulledFrom max result old next l m
-pulled_here max result old now next l m going answer = record {
+pub pulled_here : (mark : List ℕ) (max : ℕ) (result : WireIn) (old now next : List ℕ) (l m : LinkView) → PullGoing mark max old now l m → PullAnswer mark max result now next l m → PulledFrom mark max result old next l m
+pulled_here mark max result old now next l m going answer = record {
   piece = going.piece;
   came = going.came;
   counts = going.counts;
-  answer = subst (λ t. PullAnswer max result t next l m) going.unread answer;
+  answer = subst (λ t. PullAnswer mark max result t next l m) going.unread answer;
   asked = (λ no. elim going.start [ inl e ↦ e.1 | inr p ↦ absurd (no p.0) ]);
 }
 
 -- an answer that a read gave
-pub pulled_read : (max : ℕ) (result : WireIn) (old now next : List ℕ) (l m n : LinkView) → PullGoing max old now l m → IsPart max now → Quiet m n → ReadCounts m n → PullAnswer max result now next l n → PulledFrom max result old next l n
-pulled_read max result old now next l m n going part quiet counts answer = record {
+pub pulled_read : (mark : List ℕ) (max : ℕ) (result : WireIn) (old now next : List ℕ) (l m n : LinkView) → PullGoing mark max old now l m → IsMarkedPart mark max now → Quiet m n → ReadCounts m n → PullAnswer mark max result now next l n → PulledFrom mark max result old next l n
+pulled_read mark max result old now next l m n going part quiet counts answer = record {
   piece = going.piece;
   came = came_quiet going.piece l m n going.came quiet;
   counts = counts_more l m n going.counts counts;
-  answer = subst (λ t. PullAnswer max result t next l n) going.unread answer;
-  asked = (λ no. absurd (no (began_part max old now l m going part)));
+  answer = subst (λ t. PullAnswer mark max result t next l n) going.unread answer;
+  asked = (λ no. absurd (no (began_part mark max old now l m going part)));
 }

@@ -1,8 +1,8 @@
 -- What stands at the front of a stream, in terms of all that the stream shows.
-use Rattle.std.proofs.Common.{◌≡◌, ◌≤◌, ◌<◌, ◌+◌, ◌^◌, ◌++◌, ◌⊎◌, ℕ, List, [], ◌∷◌, length, drop, false, refl, sym, ap, subst, ◌∙◌, append-nil, append_assoc, arith, inl, inr}
+use Rattle.std.proofs.Common.{◌≡◌, ◌≤◌, ◌<◌, ◌+◌, ◌^◌, ◌++◌, ℕ, List, [], ◌∷◌, length, drop, refl, sym, ap, subst, ◌∙◌, append-nil, append_assoc, arith, inl, inr}
 use Rattle.std.proofs.lemmas.List.{drop_at}
 use Rattle.sp_spec.specs.Outside.{IsFront}
-use Rattle.sp_spec.specs.SpTcp.{hello, frame, frames, text, shows, Fit, size_of, begins, IsOversize}
+use Rattle.sp_spec.specs.SpTcp.{hello, frame, frames, text, shows, Fit, size_of, IsOversize}
 use Rattle.sp_spec.proofs.Shows.{shows-front, shows-rest, begins-false, Fit-append, frames-append, frames-cons}
 use Rattle.sp_tcp.specs.declared.reader.Front.{Front}
 use Rattle.sp_tcp.specs.declared.reader.Front.TheVariants as f

@@ -1,8 +1,6 @@
 -- Writing, one piece after the other.
 use Rattle.std.proofs.Common.{◌≡◌, ◌≤◌, ◌<◌, ◌+◌, ◌-◌, ◌^◌, ◌++◌, ℕ, List, [], ◌∷◌, length, take, drop, refl, sym, ap, ◌∙◌, append-nil, append_assoc, arith, map}
 use Rattle.std.proofs.lemmas.List.{length-append, length-take, length-drop, take-append-drop, take-append-le}
-use Rattle.sp_spec.specs.SpTcp.{frame, frames}
-use Rattle.sp_spec.proofs.Shows.{frames-append, frames-cons, length-frame}
 use Rattle.sp_spec.specs.Outside.{grown}
 use Rattle.sp_base.specs.Views.{LinkView}
 use Rattle.sp_base.specs.Steps.{Went, AfterWrite}
@@ -11,10 +9,12 @@ use Rattle.sp_base.specs.declared.outside.LinkWrite.TheVariants as writes
 use Rattle.sp_msg.specs.Views.{MessageView, wire_text}
 use Rattle.sp_tcp.specs.Views.{OutletView}
 use Rattle.sp_tcp.specs.Links.{WriteCounts}
+use Rattle.sp_tcp.specs.Marked.{marked, marked_all, IsMark}
 use Rattle.sp_tcp.specs.Outlets.{SentWithin, IsLongRest, Passed, WroteFront, Wrote, WrotePiece}
 use Rattle.sp_tcp.proofs.Buffers.{take_apart}
 use Rattle.sp_tcp.proofs.Pulls.{grown-nil, grown-grown}
-use Rattle.sp_tcp.proofs.Gathers.{first_within, long_front, frames-nil}
+use Rattle.sp_tcp.proofs.Gathers.{first_within, long_front}
+use Rattle.sp_tcp.proofs.Marks.{marked-nil, marked-cons, marked-append, length-marked}
 
 pub went_none : (l : LinkView) → Went [] l l
 went_none l = record { place = refl; scheme = refl; came = refl; written = grown-nil l.written; is_open = refl }
@@ -39,48 +39,48 @@ wrote_counts_more l m n a b = record {
   ended = b.ended ∙ a.ended;
 }
 
-pub wrote_none : (o : OutletView) (l : LinkView) → Wrote o o l l
-wrote_none o l = record {
+pub wrote_none : (mark : List ℕ) (o : OutletView) (l : LinkView) → Wrote mark o o l l
+wrote_none mark o l = record {
   gone = [];
   piece = [];
   left = refl;
-  text = append-nil (take o.sent (frames o.waiting)) ∙ ap (λ t. t ++ take o.sent (frames o.waiting)) frames-nil;
+  text = append-nil (take o.sent (marked_all mark o.waiting)) ∙ ap (λ t. t ++ take o.sent (marked_all mark o.waiting)) (marked-nil mark);
   went = went_none l;
   counts = wrote_counts_refl l;
 }
 
-pub wrote_more : (o p q : OutletView) (l m n : LinkView) → Wrote o p l m → Wrote p q m n → Wrote o q l n
-wrote_more o p q l m n a b = record {
+pub wrote_more : (mark : List ℕ) (o p q : OutletView) (l m n : LinkView) → Wrote mark o p l m → Wrote mark p q m n → Wrote mark o q l n
+wrote_more mark o p q l m n a b = record {
   gone = a.gone ++ b.gone;
   piece = a.piece ++ b.piece;
   left = a.left ∙ ap (λ t. a.gone ++ t) b.left ∙ sym (append_assoc a.gone b.gone q.waiting);
-  text = sym (append_assoc (take o.sent (frames o.waiting)) a.piece b.piece)
+  text = sym (append_assoc (take o.sent (marked_all mark o.waiting)) a.piece b.piece)
       ∙ ap (λ t. t ++ b.piece) a.text
-      ∙ append_assoc (frames a.gone) (take p.sent (frames p.waiting)) b.piece
-      ∙ ap (λ t. frames a.gone ++ t) b.text
-      ∙ sym (append_assoc (frames a.gone) (frames b.gone) (take q.sent (frames q.waiting)))
-      ∙ ap (λ t. t ++ take q.sent (frames q.waiting)) (sym (frames-append a.gone b.gone));
+      ∙ append_assoc (marked_all mark a.gone) (take p.sent (marked_all mark p.waiting)) b.piece
+      ∙ ap (λ t. marked_all mark a.gone ++ t) b.text
+      ∙ sym (append_assoc (marked_all mark a.gone) (marked_all mark b.gone) (take q.sent (marked_all mark q.waiting)))
+      ∙ ap (λ t. t ++ take q.sent (marked_all mark q.waiting)) (sym (marked-append mark a.gone b.gone));
   went = went_more a.piece b.piece l m n a.went b.went;
   counts = wrote_counts_more l m n a.counts b.counts;
 }
 
-pub sent_le : (sent : ℕ) (w : List (List ℕ)) → SentWithin sent w → sent ≤ length (frames w)
-sent_le sent [] e = omega (arith, e)
-sent_le sent (t ∷ rest) lt = omega (arith, lt, ap length (frames-cons t rest), length-append (frame t) (frames rest), length-frame t)
+pub sent_le : (mark : List ℕ) (sent : ℕ) (w : List (List ℕ)) → SentWithin mark sent w → sent ≤ length (marked_all mark w)
+sent_le mark sent [] e = omega (arith, e)
+sent_le mark sent (t ∷ rest) lt = omega (arith, lt, ap length (marked-cons mark t rest), length-append (marked mark t) (marked_all mark rest), length-marked mark t)
 
 -- what is left to be written falls
-pub writes_fall : (o p : OutletView) (l m : LinkView) → SentWithin o.sent o.waiting → SentWithin p.sent p.waiting → (a : Wrote o p l m) → 0 < length a.piece → length (frames p.waiting) - p.sent < length (frames o.waiting) - o.sent
-writes_fall o p l m within within_p a some =
-    let all : length (frames o.waiting) ≡ length (frames a.gone) + length (frames p.waiting) = omega (arith, ap (λ t. length (frames t)) a.left, ap length (frames-append a.gone p.waiting), length-append (frames a.gone) (frames p.waiting)) in
-    let x = sent_le o.sent o.waiting within in
-    let y = sent_le p.sent p.waiting within_p in
-    let both : o.sent + length a.piece ≡ length (frames a.gone) + p.sent = omega (
+pub writes_fall : (mark : List ℕ) (o p : OutletView) (l m : LinkView) → SentWithin mark o.sent o.waiting → SentWithin mark p.sent p.waiting → (a : Wrote mark o p l m) → 0 < length a.piece → length (marked_all mark p.waiting) - p.sent < length (marked_all mark o.waiting) - o.sent
+writes_fall mark o p l m within within_p a some =
+    let all : length (marked_all mark o.waiting) ≡ length (marked_all mark a.gone) + length (marked_all mark p.waiting) = omega (arith, ap (λ t. length (marked_all mark t)) a.left, ap length (marked-append mark a.gone p.waiting), length-append (marked_all mark a.gone) (marked_all mark p.waiting)) in
+    let x = sent_le mark o.sent o.waiting within in
+    let y = sent_le mark p.sent p.waiting within_p in
+    let both : o.sent + length a.piece ≡ length (marked_all mark a.gone) + p.sent = omega (
       arith,
       ap length a.text,
-      length-append (take o.sent (frames o.waiting)) a.piece,
-      length-append (frames a.gone) (take p.sent (frames p.waiting)),
-      length-take o.sent (frames o.waiting),
-      length-take p.sent (frames p.waiting),
+      length-append (take o.sent (marked_all mark o.waiting)) a.piece,
+      length-append (marked_all mark a.gone) (take p.sent (marked_all mark p.waiting)),
+      length-take o.sent (marked_all mark o.waiting),
+      length-take p.sent (marked_all mark p.waiting),
       x,
       y,
     ) in
@@ -89,58 +89,58 @@ writes_fall o p l m within within_p a some =
 -- ---- one write
 
 -- the counts of one write
-wrote_counts : (o : OutletView) (l m : LinkView) (result : LinkWrite) → (w : WroteFront result o l m) → WriteCounts l m
-wrote_counts o l m result w = record { faults = w.wrote.faults; idles = w.wrote.idles; stalls = w.wrote.stalls; ended = w.wrote.ended }
+wrote_counts : (mark : List ℕ) (o : OutletView) (l m : LinkView) (result : LinkWrite) → (w : WroteFront mark result o l m) → WriteCounts l m
+wrote_counts mark o l m result w = record { faults = w.wrote.faults; idles = w.wrote.idles; stalls = w.wrote.stalls; ended = w.wrote.ended }
 
 -- no more is written than there is
-pub write_fits : (o : OutletView) (l m : LinkView) (n : ℕ) → (w : WroteFront (writes.Took n) o l m) → (o.sent + n ≤ length (frames o.waiting)) × (o.sent + n < 2 ^ 64)
-write_fits o l m n w =
-    let le = sent_le o.sent o.waiting w.within in
-    let long : length (frames o.waiting) - o.sent ≡ length w.piece + length w.front.0 = omega (arith, ap length w.front.1, length-drop o.sent (frames o.waiting), length-append w.piece w.front.0) in
+pub write_fits : (mark : List ℕ) (o : OutletView) (l m : LinkView) (n : ℕ) → (w : WroteFront mark (writes.Took n) o l m) → (o.sent + n ≤ length (marked_all mark o.waiting)) × (o.sent + n < 2 ^ 64)
+write_fits mark o l m n w =
+    let le = sent_le mark o.sent o.waiting w.within in
+    let long : length (marked_all mark o.waiting) - o.sent ≡ length w.piece + length w.front.0 = omega (arith, ap length w.front.1, length-drop o.sent (marked_all mark o.waiting), length-append w.piece w.front.0) in
     (omega (arith, long, le, w.wrote.shows.1), omega (arith, w.few, w.wrote.shows.1))
 
-pub took : (o : OutletView) (l m : LinkView) (n : ℕ) (new : List (List ℕ)) (left : ℕ) → WroteFront (writes.Took n) o l m → Passed (o.sent + n) o.waiting new left → SentWithin left new → WrotePiece (writes.Took n) o (record { waiting = new; sent = left }) l m
-took o l m n new left w p within =
-    let front : take n w.piece ≡ take n (drop o.sent (frames o.waiting)) = sym (ap (take n) w.front.1 ∙ take-append-le n w.piece w.front.0 w.wrote.shows.1) in
-    let wrote : Wrote o (record { waiting = new; sent = left }) l m = record {
+pub took : (mark : List ℕ) (o : OutletView) (l m : LinkView) (n : ℕ) (new : List (List ℕ)) (left : ℕ) → WroteFront mark (writes.Took n) o l m → Passed mark (o.sent + n) o.waiting new left → SentWithin mark left new → WrotePiece mark (writes.Took n) o (record { waiting = new; sent = left }) l m
+took mark o l m n new left w p within =
+    let front : take n w.piece ≡ take n (drop o.sent (marked_all mark o.waiting)) = sym (ap (take n) w.front.1 ∙ take-append-le n w.piece w.front.0 w.wrote.shows.1) in
+    let wrote : Wrote mark o (record { waiting = new; sent = left }) l m = record {
       gone = p.gone;
       piece = take n w.piece;
       left = p.is;
-      text = ap (λ t. take o.sent (frames o.waiting) ++ t) front ∙ sym (take_apart o.sent n (frames o.waiting)) ∙ p.text;
+      text = ap (λ t. take o.sent (marked_all mark o.waiting) ++ t) front ∙ sym (take_apart o.sent n (marked_all mark o.waiting)) ∙ p.text;
       went = w.wrote.shows.2;
-      counts = wrote_counts o l m (writes.Took n) w;
+      counts = wrote_counts mark o l m (writes.Took n) w;
     } in
     (within, (wrote, omega (arith, length-take n w.piece, w.wrote.shows.0, w.wrote.shows.1)))
 
-pub took_nothing : (o p : OutletView) (l m : LinkView) → p ≡ o → WroteFront writes.NotYet o l m → WrotePiece writes.NotYet o p l m
-took_nothing o p l m e w = (e, w.wrote.shows.0, wrote_counts o l m writes.NotYet w, w.wrote.shows.1)
+pub took_nothing : (mark : List ℕ) (o p : OutletView) (l m : LinkView) → p ≡ o → WroteFront mark writes.NotYet o l m → WrotePiece mark writes.NotYet o p l m
+took_nothing mark o p l m e w = (e, w.wrote.shows.0, wrote_counts mark o l m writes.NotYet w, w.wrote.shows.1)
 
-pub took_failed : (o p : OutletView) (l m : LinkView) → p ≡ o → WroteFront writes.Failed o l m → WrotePiece writes.Failed o p l m
-took_failed o p l m e w = (e, w.wrote.shows.0, wrote_counts o l m writes.Failed w, w.wrote.shows.1)
+pub took_failed : (mark : List ℕ) (o p : OutletView) (l m : LinkView) → p ≡ o → WroteFront mark writes.Failed o l m → WrotePiece mark writes.Failed o p l m
+took_failed mark o p l m e w = (e, w.wrote.shows.0, wrote_counts mark o l m writes.Failed w, w.wrote.shows.1)
 
 -- ---- what one write starts from
 
 abbrev pub outlet_of : List MessageView → ℕ → OutletView
 outlet_of items sent = record { waiting = map wire_text items; sent = sent }
 
-pub wrote_long : (items : List MessageView) (m : MessageView) (sent size : ℕ) (rest : List ℕ) (result : LinkWrite) (l l2 : LinkView) → items ≡ m ∷ drop 1 items → SentWithin sent (map wire_text items) → size ≡ length m.header + length m.body → size < 2 ^ 63 → IsLongRest m sent rest → 0 < length rest → AfterWrite result rest l l2 → WroteFront result (outlet_of items sent) l l2
-wrote_long items m sent size rest result l l2 first within e lt long some wrote = record {
+pub wrote_long : (mark : List ℕ) (items : List MessageView) (m : MessageView) (sent size : ℕ) (rest : List ℕ) (result : LinkWrite) (l l2 : LinkView) → items ≡ m ∷ drop 1 items → SentWithin mark sent (map wire_text items) → size ≡ length m.header + length m.body → size < 2 ^ 63 → IsMark mark → IsLongRest mark m sent rest → 0 < length rest → AfterWrite result rest l l2 → WroteFront mark result (outlet_of items sent) l l2
+wrote_long mark items m sent size rest result l l2 first within e lt is_mark long some wrote = record {
   piece = rest;
-  front = (frames (map wire_text (drop 1 items)), long_front items m sent rest first (first_within items m sent first within) (long some).0);
-  few = omega (arith, (long some).1, e, lt, length-append m.header m.body);
+  front = (marked_all mark (map wire_text (drop 1 items)), long_front mark items m sent rest first (first_within mark items m sent first within) (long some).0);
+  few = omega (arith, is_mark, (long some).1, e, lt, length-append m.header m.body);
   within = within;
   wrote = wrote;
 }
 
-pub wrote_gathered : (items : List MessageView) (m : MessageView) (sent size most : ℕ) (buf : List ℕ) (result : LinkWrite) (l l2 : LinkView) → items ≡ m ∷ drop 1 items → SentWithin sent (map wire_text items) → size ≡ length m.header + length m.body → size < 2 ^ 63 → most ≤ 65536 → buf ≡ take most (drop sent (frames (map wire_text items))) → AfterWrite result buf l l2 → WroteFront result (outlet_of items sent) l l2
-wrote_gathered items m sent size most buf result l l2 first within e lt few is wrote =
-    let rest : List ℕ = drop sent (frames (map wire_text items)) in
+pub wrote_gathered : (mark : List ℕ) (items : List MessageView) (m : MessageView) (sent size most : ℕ) (buf : List ℕ) (result : LinkWrite) (l l2 : LinkView) → items ≡ m ∷ drop 1 items → SentWithin mark sent (map wire_text items) → size ≡ length m.header + length m.body → size < 2 ^ 63 → IsMark mark → most ≤ 65536 → buf ≡ take most (drop sent (marked_all mark (map wire_text items))) → AfterWrite result buf l l2 → WroteFront mark result (outlet_of items sent) l l2
+wrote_gathered mark items m sent size most buf result l l2 first within e lt is_mark few is wrote =
+    let rest : List ℕ = drop sent (marked_all mark (map wire_text items)) in
     let whole : buf ++ drop most rest ≡ rest = ap (λ t. t ++ drop most rest) is ∙ take-append-drop most rest in
     let short : length buf ≤ most = omega (arith, ap length is, length-take most rest) in
     record {
       piece = buf;
       front = (drop most rest, sym whole);
-      few = omega (arith, short, few, first_within items m sent first within, e, lt, length-append m.header m.body);
+      few = omega (arith, is_mark, short, few, first_within mark items m sent first within, e, lt, length-append m.header m.body);
       within = within;
       wrote = wrote;
     }

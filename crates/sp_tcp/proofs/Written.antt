@@ -22,6 +22,7 @@ use Rattle.sp_tcp.specs.TcpWires.{greatest, told_number, taken_in, put_in, Reads
 use Rattle.sp_tcp.proofs.MarksKept.{RoomFacts, flushed_marks, roomed_marks, put_marks, shut_marks, ready_flushed, ready_roomed}
 use Rattle.sp_tcp.proofs.Framing.{Fit-apart, told_writes, own_on, put_on, told_more, put_more}
 use Rattle.sp_tcp.proofs.Framed.{framed}
+use Rattle.sp_tcp.proofs.Marks.{plain_text}
 
 -- the state with another link, another outlet and other marks
 abbrev pub with_write : TcpState → LinkView → OutletView → WireMarks → TcpState
@@ -32,19 +33,19 @@ outlet_in t = record { waiting = t.waiting; sent = t.sent }
 
 -- ---- what writing keeps
 
-fewer : (t : TcpState) (l : LinkView) (o : OutletView) → Wrote (outlet_in t) o t.link l → length o.waiting ≤ length t.waiting
+fewer : (t : TcpState) (l : LinkView) (o : OutletView) → Wrote [] (outlet_in t) o t.link l → length o.waiting ≤ length t.waiting
 fewer t l o w = omega (arith, ap length w.left, length-append w.gone o.waiting)
 
 -- fewer wait than before, so a wire that was ready still has room
-still_room : (t : TcpState) (l : LinkView) (o : OutletView) → Holds t → Wrote (outlet_in t) o t.link l → t.marks.is_ready ≡ true → length o.waiting < 16
+still_room : (t : TcpState) (l : LinkView) (o : OutletView) → Holds t → Wrote [] (outlet_in t) o t.link l → t.marks.is_ready ≡ true → length o.waiting < 16
 still_room t l o h w e = omega (arith, h.room e, fewer t l o w)
 
-write_holds : (t : TcpState) (l : LinkView) (o : OutletView) (k : WireMarks) → Holds t → Wrote (outlet_in t) o t.link l → SentWithin o.sent o.waiting → (k.is_ready ≡ true → length o.waiting < 16) → MarksHold t.max l t.unread k → Holds (with_write t l o k)
+write_holds : (t : TcpState) (l : LinkView) (o : OutletView) (k : WireMarks) → Holds t → Wrote [] (outlet_in t) o t.link l → SentWithin [] o.sent o.waiting → (k.is_ready ≡ true → length o.waiting < 16) → MarksHold t.max l t.unread k → Holds (with_write t l o k)
 write_holds t l o k h w within room marks =
     let parts = Fit-apart greatest w.gone o.waiting (subst (Fit greatest) w.left h.fit) in
     record {
       reads = subst (λ x. Told x (ReadsAs t.max t.unread)) (sym w.went.came) h.reads;
-      writes = told_writes t.waiting o.waiting w.gone t.sent o.sent w.piece t.link.written l.written parts.0 w.text w.went.written h.writes;
+      writes = told_writes t.waiting o.waiting w.gone t.sent o.sent w.piece t.link.written l.written parts.0 (plain_text t.sent o.sent t.waiting o.waiting w.gone w.piece w.text) w.went.written h.writes;
       within = within;
       fit = parts.1;
       small = h.small;
@@ -59,7 +60,7 @@ record Kept (t : TcpState) (l : LinkView) (o : OutletView) : Type 0 where
   came : taken_in t.max t.unread l.came ≡ taken_in t.max t.unread t.link.came
   outs : put_in o.waiting o.sent l.written ≡ put_in t.waiting t.sent t.link.written
 
-kept : (t : TcpState) (l : LinkView) (o : OutletView) → Holds t → Wrote (outlet_in t) o t.link l → SentWithin o.sent o.waiting → Kept t l o
+kept : (t : TcpState) (l : LinkView) (o : OutletView) → Holds t → Wrote [] (outlet_in t) o t.link l → SentWithin [] o.sent o.waiting → Kept t l o
 kept t l o h w within =
     let parts = Fit-apart greatest w.gone o.waiting (subst (Fit greatest) w.left h.fit) in
     let place : l.place ≡ t.link.place = w.went.place in
@@ -69,10 +70,10 @@ kept t l o h w within =
     record {
       name = (λ i. OverLink (place i) t.max (scheme_number (scheme i)) t.spent (own i) (told_number (came i)));
       came = ap (taken_in t.max t.unread) came;
-      outs = put_on t.waiting o.waiting w.gone t.sent o.sent w.piece t.link.written l.written h.within within parts.0 w.left w.text w.went.written h.writes;
+      outs = put_on t.waiting o.waiting w.gone t.sent o.sent w.piece t.link.written l.written h.within within parts.0 w.left (plain_text t.sent o.sent t.waiting o.waiting w.gone w.piece w.text) w.went.written h.writes;
     }
 
-tcp_wrote : (t : TcpState) (l : LinkView) (o : OutletView) (k : WireMarks) → Wrote (outlet_in t) o t.link l → TcpWrote (tcp_view t) (tcp_view (with_write t l o k))
+tcp_wrote : (t : TcpState) (l : LinkView) (o : OutletView) (k : WireMarks) → Wrote [] (outlet_in t) o t.link l → TcpWrote (tcp_view t) (tcp_view (with_write t l o k))
 tcp_wrote t l o k w = record { piece = w.piece; went = w.went; counts = w.counts; max = refl }
 
 -- ---- room
@@ -103,7 +104,7 @@ pub record Roomed (room : Room) (t t2 : TcpState) : Type 0 where
   pub tcp : TcpWrote (tcp_view t) (tcp_view t2)
   pub is_framed : Framed (tcp_view t2)
 
-pub roomed : (flush : WireFlush) (room : Room) (t : TcpState) (o : OutletView) (l : LinkView) → Holds t → FlushedFrom flush (outlet_in t) o t.link l → RoomAfter flush (length o.waiting) room → Roomed room t (with_write t l o (marks_roomed room t.marks))
+pub roomed : (flush : WireFlush) (room : Room) (t : TcpState) (o : OutletView) (l : LinkView) → Holds t → FlushedFrom [] flush (outlet_in t) o t.link l → RoomAfter flush (length o.waiting) room → Roomed room t (with_write t l o (marks_roomed room t.marks))
 roomed flush room t o l h p r =
     let w = p.wrote in
     let k : WireMarks = marks_roomed room t.marks in
@@ -142,7 +143,7 @@ pub record Flushed (result : WireFlush) (t t2 : TcpState) : Type 0 where
   pub tcp : TcpWrote (tcp_view t) (tcp_view t2)
   pub is_framed : Framed (tcp_view t2)
 
-pub flushed : (result : WireFlush) (t : TcpState) (o : OutletView) (l : LinkView) → Holds t → FlushedFrom result (outlet_in t) o t.link l → Flushed result t (with_write t l o (marks_flushed result t.marks))
+pub flushed : (result : WireFlush) (t : TcpState) (o : OutletView) (l : LinkView) → Holds t → FlushedFrom [] result (outlet_in t) o t.link l → Flushed result t (with_write t l o (marks_flushed result t.marks))
 flushed result t o l h p =
     let w = p.wrote in
     let k : WireMarks = marks_flushed result t.marks in
@@ -165,7 +166,7 @@ with_put t o = with_write t t.link o (marks_put t.marks)
 none_ready : false ≡ true → ⊥
 none_ready e = cc
 
-pub put_holds : (t : TcpState) (o : OutletView) (m : List ℕ) → Holds t → t.marks.is_ready ≡ true → o ≡ record { waiting = t.waiting ++ m ∷ []; sent = t.sent } → length m < 2 ^ 63 → SentWithin o.sent o.waiting → Holds (with_put t o)
+pub put_holds : (t : TcpState) (o : OutletView) (m : List ℕ) → Holds t → t.marks.is_ready ≡ true → o ≡ record { waiting = t.waiting ++ m ∷ []; sent = t.sent } → length m < 2 ^ 63 → SentWithin [] o.sent o.waiting → Holds (with_put t o)
 put_holds t o m h ready is lt within =
     let H : OutletView → Type 0 = λ x. Told t.link.written (WritesAs x.waiting x.sent) in
     let fits : length m ≤ greatest = omega arith in

@@ -1,6 +1,5 @@
 -- What reading and taking do to what came.
 use Rattle.std.specs.Prelude.{◌≡◌, ◌≤◌, ◌<◌, ◌++◌, ℕ, true, false, List, [], length, Result, Ok, Err}
-use Rattle.sp_spec.specs.SpTcp.{frame}
 use Rattle.sp_spec.specs.Outside.{Rose}
 use Rattle.sp_base.specs.Views.{LinkView}
 use Rattle.sp_base.specs.Steps.{Came, Quiet}
@@ -10,15 +9,15 @@ use Rattle.sp_base.specs.declared.outside.LinkRead.TheVariants as reads
 use Rattle.sp_msg.specs.declared.wire.WireIn.{WireIn}
 use Rattle.sp_msg.specs.declared.wire.WireIn.TheVariants as ins
 use Rattle.sp_tcp.specs.Links.{ReadCounts}
-use Rattle.sp_tcp.specs.Readings.{IsPart, IsTooLong}
+use Rattle.sp_tcp.specs.Marked.{marked, IsMarkedPart, IsMarkedBad}
 use Rattle.sp_tcp.specs.declared.inlet.Taken.{Taken}
 use Rattle.sp_tcp.specs.declared.inlet.Taken.TheVariants as t
 
-abbrev pub TakenAs : ℕ → Taken → List ℕ → List ℕ → Type 0
-TakenAs max (t.Message m) old new = (m.header ≡ []) × (length m.body ≤ max) × (old ≡ frame m.body ++ new)
-TakenAs max t.Part old new = IsPart max old × (new ≡ old)
-TakenAs max t.Oversize old new = IsTooLong max old × (new ≡ old)
-TakenAs max t.NoMemory old new = new ≡ old
+abbrev pub TakenAs : List ℕ → ℕ → Taken → List ℕ → List ℕ → Type 0
+TakenAs mark max (t.Message m) old new = (m.header ≡ []) × (length m.body ≤ max) × (old ≡ marked mark m.body ++ new)
+TakenAs mark max t.Part old new = IsMarkedPart mark max old × (new ≡ old)
+TakenAs mark max t.Oversize old new = IsMarkedBad mark max old × (new ≡ old)
+TakenAs mark max t.NoMemory old new = new ≡ old
 
 -- the bytes that were read stand behind the others
 abbrev pub ReadInto : Result LinkRead NoMemory → List ℕ → List ℕ → LinkView → LinkView → Type 0
@@ -29,20 +28,20 @@ ReadInto (Ok reads.Failed) old new link link' = (new ≡ old) × Quiet link link
 ReadInto (Err _) old new link link' = (new ≡ old) × (link' ≡ link)
 
 -- what a pull answers, by the bytes that are left
-abbrev pub PullAnswer : ℕ → WireIn → List ℕ → List ℕ → LinkView → LinkView → Type 0
-PullAnswer max (ins.Message m) all left link link' = (m.header ≡ []) × (length m.body ≤ max) × (all ≡ frame m.body ++ left)
-PullAnswer max ins.NotYet all left link link' = (left ≡ all) × IsPart max left × Rose link.idles link'.idles × (link.ended ≡ false)
-PullAnswer max ins.Ended all left link link' = (left ≡ all) × IsPart max left × (link'.ended ≡ true)
-PullAnswer max ins.Malformed all left link link' = (left ≡ all) × IsTooLong max left
-PullAnswer max ins.Failed all left link link' = (left ≡ all) × IsPart max left × Rose link.faults link'.faults × (link.ended ≡ false)
-PullAnswer max ins.Refused all left link link' = ⊥
-PullAnswer max ins.NoMemory all left link link' = left ≡ all
+abbrev pub PullAnswer : List ℕ → ℕ → WireIn → List ℕ → List ℕ → LinkView → LinkView → Type 0
+PullAnswer mark max (ins.Message m) all left link link' = (m.header ≡ []) × (length m.body ≤ max) × (all ≡ marked mark m.body ++ left)
+PullAnswer mark max ins.NotYet all left link link' = (left ≡ all) × IsMarkedPart mark max left × Rose link.idles link'.idles × (link.ended ≡ false)
+PullAnswer mark max ins.Ended all left link link' = (left ≡ all) × IsMarkedPart mark max left × (link'.ended ≡ true)
+PullAnswer mark max ins.Malformed all left link link' = (left ≡ all) × IsMarkedBad mark max left
+PullAnswer mark max ins.Failed all left link link' = (left ≡ all) × IsMarkedPart mark max left × Rose link.faults link'.faults × (link.ended ≡ false)
+PullAnswer mark max ins.Refused all left link link' = ⊥
+PullAnswer mark max ins.NoMemory all left link link' = left ≡ all
 
 -- some bytes came, and a message was taken or not; nothing is asked of the link where a message or a size that is not
 -- allowed stands at the front already
-pub record PulledFrom (max : ℕ) (result : WireIn) (old new : List ℕ) (link link' : LinkView) : Type 0 where
+pub record PulledFrom (mark : List ℕ) (max : ℕ) (result : WireIn) (old new : List ℕ) (link link' : LinkView) : Type 0 where
   pub piece : List ℕ
   pub came : Came piece link link'
   pub counts : ReadCounts link link'
-  pub answer : PullAnswer max result (old ++ piece) new link link'
-  pub asked : ¬ IsPart max old → link' ≡ link
+  pub answer : PullAnswer mark max result (old ++ piece) new link link'
+  pub asked : ¬ IsMarkedPart mark max old → link' ≡ link

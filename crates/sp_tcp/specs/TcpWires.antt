@@ -95,7 +95,7 @@ pub record MarksHold (max : ℕ) (link : LinkView) (unread : List ℕ) (k : Wire
 pub record Holds (t : TcpState) : Type 0 where
   pub reads : Told t.link.came (ReadsAs t.max t.unread)
   pub writes : Told t.link.written (WritesAs t.waiting t.sent)
-  pub within : SentWithin t.sent t.waiting
+  pub within : SentWithin [] t.sent t.waiting
   pub fit : Fit greatest t.waiting
   pub small : t.max < 2 ^ 64
   pub most : length t.waiting ≤ 16

@@ -59,7 +59,8 @@ fn greeting_of(number: u16) -> [u8; 8]
     [0, 83, 80, 0, high, low, 0, 0]
 }
 
-fn is_same(a: &[u8], b: &[u8]) -> bool
+// Whether the bytes are the same.
+pub(crate) fn is_same(a: &[u8], b: &[u8]) -> bool
     ensures { IsTrue result ↔ (a.now ≡ b.now) }
 {
     a == b

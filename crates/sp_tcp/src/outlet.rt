@@ -1,7 +1,8 @@
 //! What was put and is not wholly written.
 ghost use Rattle.std.specs.Prelude.{◌≡◌, ◌≤◌, ◌<◌, ◌+◌, ◌-◌, ◌^◌, ◌++◌, ◌∷◌, ℕ, List, [], true, take, drop, length, map, IfOk};
 ghost use Rattle.std.specs.VecDeque.{deque_capacity};
-ghost use Rattle.sp_spec.specs.SpTcp.{frame, frames};
+ghost use Rattle.sp_spec.specs.SpTcp.{frame};
+ghost use Rattle.sp_tcp.specs.Marked.{marked, marked_all, head_of, IsMark};
 ghost use Rattle.sp_msg.specs.Views.{wire_text};
 ghost use Rattle.sp_tcp.specs.Stages.{added, gathered};
 ghost use Rattle.sp_tcp.specs.Outlets.{SentWithin, IsLongRest, Passed, WroteFront, WrotePiece, FlushedFrom};
@@ -25,7 +26,7 @@ const STAGE_ROOM: usize = 16_384;
 pub struct Outlet {
     /// The oldest first; room for `MOST_WAITING` was taken when it was made.
     waiting: VecDeque<Message>,
-    /// How many bytes of the first frame are written; never all of them.
+    /// How many bytes of the first frame are written.
     sent: usize,
     /// Where small frames are put together.
     stage: Stage,
@@ -36,13 +37,12 @@ impl Model for Outlet {
     ghost use Rattle.std.specs.VecDeque.{deque_capacity};
     ghost use Rattle.sp_msg.specs.Views.{wire_text};
     ghost use Rattle.sp_tcp.specs.Views.{OutletView};
-    ghost use Rattle.sp_tcp.specs.Outlets.{SentWithin};
 
     ghost Value = { OutletView };
 
     ghost view = { λ o. record { waiting = map wire_text o.waiting.items; sent = o.sent } };
 
-    ghost invariant = { λ o. (16 ≤ deque_capacity o.waiting) × SentWithin o.sent (map wire_text o.waiting.items) × (0 < o.stage.most) × (o.stage.most ≤ 65536) };
+    ghost invariant = { λ o. (16 ≤ deque_capacity o.waiting) × (0 < o.stage.most) × (o.stage.most ≤ 65536) };
 }
 
 // Adds the next bytes of a frame, past so many; answers how many are to be passed behind it.
@@ -56,23 +56,33 @@ fn add_frame(stage: &mut Stage, m: &Message, skip: usize) -> usize
     stage.add(behind_header, m.body())
 }
 
+// Adds the next bytes of a frame with these bytes before its size.
+fn add_marked(stage: &mut Stage, mark: &[u8], m: &Message, skip: usize) -> usize
+    ensures bytes { stage.new ≡ added stage.old skip (marked mark.now (wire_text m.now)) }
+    ensures skip { result ≡ skip - length (marked mark.now (wire_text m.now)) }
+{
+    let behind_mark = stage.add(skip, mark);
+    add_frame(stage, m, behind_mark)
+}
+
 // Gathers the next bytes of the frames, past so many.
-fn gather(stage: &mut Stage, waiting: &VecDeque<Message>, sent: usize)
-    ensures { stage.new ≡ gathered stage.old sent (frames (map wire_text waiting.now.items)) }
+fn gather(stage: &mut Stage, mark: &[u8], waiting: &VecDeque<Message>, sent: usize)
+    ensures { stage.new ≡ gathered stage.old sent (marked_all mark.now (map wire_text waiting.now.items)) }
 {
     stage.clear();
     let mut skip = sent;
     'gathers: for i in 0..waiting.len() {
-        skip = add_frame(stage, &waiting[i], skip);
+        skip = add_marked(stage, mark, &waiting[i], skip);
     }
 }
 
 // What is left of a body, where all before it is written and it is longer than so much; else nothing.
-fn long_rest(m: &Message, sent: usize, most: usize) -> &[u8]
-    requires { sent < 8 + length (wire_text m.now) }
-    ensures { IsLongRest m.now sent result.now }
+fn long_rest<'a>(mark: &[u8], m: &'a Message, sent: usize, most: usize) -> &'a [u8]
+    requires few { IsMark mark.now }
+    requires within { sent < head_of mark.now + length (wire_text m.now) }
+    ensures { IsLongRest mark.now m.now sent result.now }
 {
-    let before = 8 + m.header().len();
+    let before = mark.len() + 8 + m.header().len();
     if sent < before {
         return &[];
     }
@@ -84,15 +94,16 @@ fn long_rest(m: &Message, sent: usize, most: usize) -> &[u8]
 }
 
 // Takes the frames away that are wholly written, where so many bytes are; answers how many are of the next one.
-fn pass_frames(waiting: &mut VecDeque<Message>, written: usize) -> usize
-    requires { written ≤ length (frames (map wire_text waiting.old.items)) }
-    ensures passed { Passed written (map wire_text waiting.old.items) (map wire_text waiting.new.items) result }
-    ensures within { SentWithin result (map wire_text waiting.new.items) }
+fn pass_frames(mark: &[u8], waiting: &mut VecDeque<Message>, written: usize) -> usize
+    requires few { IsMark mark.now }
+    requires fits { written ≤ length (marked_all mark.now (map wire_text waiting.old.items)) }
+    ensures passed { Passed mark.now written (map wire_text waiting.old.items) (map wire_text waiting.new.items) result }
+    ensures within { SentWithin mark.now result (map wire_text waiting.new.items) }
     ensures room { deque_capacity waiting.new ≡ deque_capacity waiting.old }
 {
     let mut left = written;
     'frames: while let Some(front) = waiting.front() {
-        let size = 8 + front.size();
+        let size = mark.len() + 8 + front.size();
         if left < size {
             return left;
         }
@@ -118,8 +129,7 @@ impl Outlet {
 
     /// How many messages are not wholly written.
     pub fn len(&self) -> usize
-        ensures count { result ≡ length self.now.waiting }
-        ensures within { SentWithin self.now.sent self.now.waiting }
+        ensures { result ≡ length self.now.waiting }
     {
         self.waiting.len()
     }
@@ -129,41 +139,44 @@ impl Outlet {
         requires { length self.old.waiting < 16 }
         ensures text { self.new ≡ record self.old { waiting = self.old.waiting ++ wire_text m ∷ [] } }
         ensures fit { length (wire_text m) < 2 ^ 63 }
-        ensures within { SentWithin self.new.sent self.new.waiting }
     {
         let _size = m.size();
         self.waiting.push_back_reserved(m);
     }
 
     // One write, from the front of what is not written.
-    fn write_front<L: Link>(&mut self, link: &mut L) -> LinkWrite
+    fn write_front<L: Link>(&mut self, mark: &[u8], link: &mut L) -> LinkWrite
         requires is_open { (L.seen link.old).is_open ≡ true }
         requires waiting { 0 < length self.old.waiting }
+        requires few { IsMark mark.now }
+        requires within { SentWithin mark.now self.old.sent self.old.waiting }
         ensures same { self.new ≡ self.old }
-        ensures wrote { WroteFront result self.old (L.seen link.old) (L.seen link.new) }
+        ensures wrote { WroteFront mark.now result self.old (L.seen link.old) (L.seen link.new) }
     {
         let Some(front) = self.waiting.front() else {
             unreachable!()
         };
         let _size = front.size();
-        let rest = long_rest(front, self.sent, self.stage.most());
+        let rest = long_rest(mark, front, self.sent, self.stage.most());
         if !rest.is_empty() {
             return link.write(rest);
         }
-        gather(&mut self.stage, &self.waiting, self.sent);
+        gather(&mut self.stage, mark, &self.waiting, self.sent);
         link.write(self.stage.as_slice())
     }
 
     // One write, after which the frames that are whole are gone.
-    fn write_once<L: Link>(&mut self, link: &mut L) -> LinkWrite
+    fn write_once<L: Link>(&mut self, mark: &[u8], link: &mut L) -> LinkWrite
         requires is_open { (L.seen link.old).is_open ≡ true }
         requires waiting { 0 < length self.old.waiting }
-        ensures { WrotePiece result self.old self.new (L.seen link.old) (L.seen link.new) }
+        requires few { IsMark mark.now }
+        requires within { SentWithin mark.now self.old.sent self.old.waiting }
+        ensures { WrotePiece mark.now result self.old self.new (L.seen link.old) (L.seen link.new) }
     {
-        match self.write_front(link) {
+        match self.write_front(mark, link) {
             LinkWrite::Took(n) => {
                 let written = self.sent + n;
-                self.sent = pass_frames(&mut self.waiting, written);
+                self.sent = pass_frames(mark, &mut self.waiting, written);
                 LinkWrite::Took(n)
             }
             LinkWrite::NotYet => LinkWrite::NotYet,
@@ -172,13 +185,15 @@ impl Outlet {
     }
 }
 
-/// Writes what the link takes.
-pub fn write_from<L: Link>(outlet: &mut Outlet, link: &mut L) -> WireFlush
-    requires { (L.seen link.old).is_open ≡ true }
-    ensures { FlushedFrom result outlet.old outlet.new (L.seen link.old) (L.seen link.new) }
+/// Writes what the link takes, with these bytes before each size.
+pub fn write_from<L: Link>(outlet: &mut Outlet, mark: &[u8], link: &mut L) -> WireFlush
+    requires is_open { (L.seen link.old).is_open ≡ true }
+    requires few { IsMark mark.now }
+    requires within { SentWithin mark.now outlet.old.sent outlet.old.waiting }
+    ensures { FlushedFrom mark.now result outlet.old outlet.new (L.seen link.old) (L.seen link.new) }
 {
     'writes: while outlet.len() > 0 {
-        match outlet.write_once(link) {
+        match outlet.write_once(mark, link) {
             LinkWrite::Took(_) => {}
             LinkWrite::NotYet => return WireFlush::NotYet,
             LinkWrite::Failed => return WireFlush::Failed,

@@ -135,7 +135,7 @@ impl<L: Link> Wire for TcpWire<L> {
         ensures tcp { TcpPulled result self.old self.new }
         ensures framed { Framed self.new }
     {
-        let answer = pull_from(&mut self.inlet, &mut self.link, self.max);
+        let answer = pull_from(&mut self.inlet, &mut self.link, &[], self.max);
         self.marks.pulled(&answer);
         answer
     }
@@ -147,7 +147,7 @@ impl<L: Link> Wire for TcpWire<L> {
         ensures tcp { TcpWrote self.old self.new }
         ensures framed { Framed self.new }
     {
-        let flushed = write_from(&mut self.outlet, &mut self.link);
+        let flushed = write_from(&mut self.outlet, &[], &mut self.link);
         let answer = room_after(flushed, self.outlet.len());
         self.marks.roomed(answer);
         answer
@@ -171,7 +171,7 @@ impl<L: Link> Wire for TcpWire<L> {
         ensures tcp { TcpWrote self.old self.new }
         ensures framed { Framed self.new }
     {
-        let answer = write_from(&mut self.outlet, &mut self.link);
+        let answer = write_from(&mut self.outlet, &[], &mut self.link);
         self.marks.flushed(answer);
         answer
     }

@@ -1,5 +1,5 @@
 use Rattle.std.proofs.Common.{arith}
-use Rattle.sp_base.proofs.Forms.{inproc_address_short, inproc_address_one, short_faults, more_faults, short_fits, one_fits}
+use Rattle.sp_base.proofs.Forms.{inproc_address_short, inproc_address_one, short_faults, more_faults, short_fits}
 use Rattle.sp_base.proofs.addr.Addr.read_inproc.Goals as goal
 
 pub fault_before-requires-in-Err-clause-near : goal.fault_before-requires-in-Err-clause-near

@@ -6,8 +6,8 @@ use Rattle.sp_msg.specs.Wires.{may_flush}
 use Rattle.sp_tcp.proofs.Written.{Flushed, flushed}
 use Rattle.sp_tcp.proofs.wire.TcpWireWire.flush.Goals as goal
 
-pub write_from-answer-requires : goal.write_from-answer-requires
-write_from-answer-requires g c = c.self.invariant.marks.link_open (ap (λ (v : TcpView). may_flush v.wire) c.self.view_is ∙ c.requires)
+pub write_from-answer-requires-clause-is_open : goal.write_from-answer-requires-clause-is_open
+write_from-answer-requires-clause-is_open g c = c.self.invariant.marks.link_open (ap (λ (v : TcpView). may_flush v.wire) c.self.view_is ∙ c.requires)
 
 pub invariant_of-self : goal.invariant_of-self
 invariant_of-self g c =
@@ -30,3 +30,6 @@ returns g c =
     let p = flushed c.write_from-answer.result t o l c.self.invariant c.write_from-answer.ensures in
     let q = subst (λ (k : WireMarks). Flushed c.write_from-answer.result t (tcp_state l w.inlet o w.max w.spent.ticks k)) (sym c.flushed.ensures) p in
     rw (← c.self.view_is) (record { after = q.after; cause = q.cause; tcp = q.tcp; framed = q.is_framed })
+
+pub write_from-answer-requires-clause-within : goal.write_from-answer-requires-clause-within
+write_from-answer-requires-clause-within g c = c.self.invariant.within

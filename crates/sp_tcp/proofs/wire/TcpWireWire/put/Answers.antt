@@ -1,6 +1,8 @@
-use Rattle.std.proofs.Common.{◌≡◌, true, refl, sym, ap, subst, ◌∙◌}
+use Rattle.std.proofs.Common.{◌≡◌, [], true, refl, sym, ap, subst, ◌∙◌}
 use Rattle.sp_msg.specs.declared.marks.WireMarks.{WireMarks}
-use Rattle.sp_tcp.specs.Views.{TcpView}
+use Rattle.sp_tcp.specs.Views.{TcpView, OutletView}
+use Rattle.sp_tcp.specs.Outlets.{SentWithin}
+use Rattle.sp_tcp.proofs.Marks.{within_more}
 use Rattle.sp_tcp.specs.TcpWires.{TcpState, tcp_state}
 use Rattle.sp_msg.specs.Views.{wire_text}
 use Rattle.sp_tcp.proofs.Framed.{framed}
@@ -14,7 +16,7 @@ invariant_of-self g c =
     let t : TcpState = tcp_state (seen w.link) w.inlet w.outlet w.max w.spent.ticks w.marks in
     let o = c.put-2.new.self in
     let ready : w.marks.is_ready ≡ true = ap (λ (v : TcpView). v.wire.is_ready) c.self.view_is ∙ c.requires.is_ready in
-    let h = put_holds t o (wire_text c.args.m) c.self.invariant ready c.put-2.ensures.text c.put-2.ensures.fit c.put-2.ensures.within in
+    let h = put_holds t o (wire_text c.args.m) c.self.invariant ready c.put-2.ensures.text c.put-2.ensures.fit (subst (λ (x : OutletView). SentWithin [] x.sent x.waiting) (sym c.put-2.ensures.text) (within_more [] (wire_text c.args.m) t.sent t.waiting c.self.invariant.within)) in
     let q = subst (λ (k : WireMarks). PutTo c.args.m t (tcp_state (seen w.link) w.inlet o w.max w.spent.ticks k)) (sym c.put.ensures) (record { holds = h; after = put_shows t o c.args.m c.put-2.ensures.text; is_framed = framed (with_put t o) h }) in
     q.holds
 
@@ -25,6 +27,6 @@ returns g c =
     let t : TcpState = tcp_state (seen w.link) w.inlet w.outlet w.max w.spent.ticks w.marks in
     let o = c.put-2.new.self in
     let ready : w.marks.is_ready ≡ true = ap (λ (v : TcpView). v.wire.is_ready) c.self.view_is ∙ c.requires.is_ready in
-    let h = put_holds t o (wire_text c.args.m) c.self.invariant ready c.put-2.ensures.text c.put-2.ensures.fit c.put-2.ensures.within in
+    let h = put_holds t o (wire_text c.args.m) c.self.invariant ready c.put-2.ensures.text c.put-2.ensures.fit (subst (λ (x : OutletView). SentWithin [] x.sent x.waiting) (sym c.put-2.ensures.text) (within_more [] (wire_text c.args.m) t.sent t.waiting c.self.invariant.within)) in
     let q = subst (λ (k : WireMarks). PutTo c.args.m t (tcp_state (seen w.link) w.inlet o w.max w.spent.ticks k)) (sym c.put.ensures) (record { holds = h; after = put_shows t o c.args.m c.put-2.ensures.text; is_framed = framed (with_put t o) h }) in
     rw (← c.self.view_is) (record { after = q.after; link = refl; framed = q.is_framed })

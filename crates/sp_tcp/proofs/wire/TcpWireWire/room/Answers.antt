@@ -14,7 +14,7 @@ invariant_of-self g c =
     let l = seen c.write_from-flushed.new.link in
     let o = c.write_from-flushed.new.outlet in
     let room = c.room_after-answer.result in
-    let after : RoomAfter c.write_from-flushed.result (length o.waiting) room = subst (λ (n : ℕ). RoomAfter c.write_from-flushed.result n room) c.len.ensures.count c.room_after-answer.ensures in
+    let after : RoomAfter c.write_from-flushed.result (length o.waiting) room = subst (λ (n : ℕ). RoomAfter c.write_from-flushed.result n room) c.len.ensures c.room_after-answer.ensures in
     let p = roomed c.write_from-flushed.result room t o l c.self.invariant c.write_from-flushed.ensures after in
     let q = subst (λ (k : WireMarks). Roomed room t (tcp_state l w.inlet o w.max w.spent.ticks k)) (sym c.roomed.ensures) p in
     q.holds
@@ -27,7 +27,10 @@ returns g c =
     let l = seen c.write_from-flushed.new.link in
     let o = c.write_from-flushed.new.outlet in
     let room = c.room_after-answer.result in
-    let after : RoomAfter c.write_from-flushed.result (length o.waiting) room = subst (λ (n : ℕ). RoomAfter c.write_from-flushed.result n room) c.len.ensures.count c.room_after-answer.ensures in
+    let after : RoomAfter c.write_from-flushed.result (length o.waiting) room = subst (λ (n : ℕ). RoomAfter c.write_from-flushed.result n room) c.len.ensures c.room_after-answer.ensures in
     let p = roomed c.write_from-flushed.result room t o l c.self.invariant c.write_from-flushed.ensures after in
     let q = subst (λ (k : WireMarks). Roomed room t (tcp_state l w.inlet o w.max w.spent.ticks k)) (sym c.roomed.ensures) p in
     rw (← c.self.view_is) (record { after = q.after; cause = q.cause; tcp = q.tcp; framed = q.is_framed })
+
+pub write_from-flushed-requires-clause-within : goal.write_from-flushed-requires-clause-within
+write_from-flushed-requires-clause-within g c = c.self.invariant.within

@@ -1,0 +1,37 @@
+-- Frames with the bytes that stand before their sizes. SP over TCP has none there.
+use Rattle.std.specs.Prelude.{◌≡◌, ◌<◌, ◌≤◌, ◌+◌, ◌++◌, ◌⊎◌, ℕ, List, length}
+use Rattle.std.specs.List.{flat_map}
+use Rattle.sp_spec.specs.Outside.{IsFront}
+use Rattle.sp_spec.specs.SpTcp.{frame}
+use Rattle.sp_tcp.specs.Readings.{IsPart, IsTooLong}
+use Rattle.sp_tcp.specs.declared.reader.Front.{Front}
+use Rattle.sp_tcp.specs.declared.reader.Front.TheVariants as f
+
+-- these bytes, the size of a message in 64 bits, and that many bytes
+unfoldable pub marked : List ℕ → List ℕ → List ℕ
+marked mark body = mark ++ frame body
+
+unfoldable pub marked_all : List ℕ → List (List ℕ) → List ℕ
+marked_all mark bodies = flat_map (marked mark) bodies
+
+-- how many bytes stand before a body
+abbrev pub head_of : List ℕ → ℕ
+head_of mark = length mark + 8
+
+-- they are few
+abbrev pub IsMark : List ℕ → Type 0
+IsMark mark = length mark ≤ 8
+
+-- less than a whole message, and nothing that is not allowed
+abbrev pub IsMarkedPart : List ℕ → ℕ → List ℕ → Type 0
+IsMarkedPart mark max s = ((rest : List ℕ) × (s ++ rest ≡ mark) × (0 < length rest)) ⊎ ((rest : List ℕ) × (s ≡ mark ++ rest) × IsPart max rest)
+
+-- other bytes than the mark's, or a size above max behind them
+abbrev pub IsMarkedBad : List ℕ → ℕ → List ℕ → Type 0
+IsMarkedBad mark max s = (¬ IsFront s mark × ¬ IsFront mark s) ⊎ ((rest : List ℕ) × (s ≡ mark ++ rest) × IsTooLong max rest)
+
+-- what stands at the front
+abbrev pub MarkedFrontIs : List ℕ → ℕ → List ℕ → Front → Type 0
+MarkedFrontIs mark max s (f.Message body) = (length body.now ≤ max) × ((rest : List ℕ) × (s ≡ marked mark body.now ++ rest))
+MarkedFrontIs mark max s f.Part = IsMarkedPart mark max s
+MarkedFrontIs mark max s f.Oversize = IsMarkedBad mark max s
