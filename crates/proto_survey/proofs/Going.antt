@@ -1,0 +1,741 @@
+-- A surveyor stands for its history when messages go out and operations end; and what it offers and answers.
+use Rattle.std.proofs.Common.{◌≡◌, refl, ap, sym, ◌∙◌, subst, List, [], ◌∷◌, ◌++◌, ℕ, Bool, true, false, cond, arith, Option, Some, None, map, length, inl, inr}
+use Rattle.std.specs.Prelude.{find, filter, drop, not, nat_lt, is_some, MatchOption, ◌&&◌, ◌||◌, ◌==◌}
+use Rattle.std.specs.List.{list_any, list_all, position, position_or_len}
+use Rattle.std.proofs.lemmas.Bool.Decides.{nat_tests}
+use Rattle.std.specs.Option.{option_map}
+use Rattle.sp_base.specs.declared.OpName.{OpName}
+use Rattle.sp_base.specs.declared.role.Role.{Role}
+use Rattle.sp_base.specs.declared.role.Role.TheVariants as role
+use Rattle.sp_base.specs.Roles.{has_contexts as role_has_contexts}
+use Rattle.sp_msg.specs.Views.{MessageView}
+use Rattle.sp_history.specs.declared.setting.Setting.{Setting}
+use Rattle.sp_history.specs.declared.entry.Entry.{Entry}
+use Rattle.sp_history.specs.declared.entry.Entry.TheVariants.{Out, End}
+use Rattle.sp_history.specs.declared.entry.Act.{Act}
+use Rattle.sp_history.specs.declared.entry.Act.TheVariants.{Recv, Send}
+use Rattle.sp_history.specs.declared.entry.Cause.{Cause}
+use Rattle.sp_history.specs.declared.entry.Ending.{Ending}
+use Rattle.sp_history.specs.declared.entry.Ending.TheVariants.{Won, Gone}
+use Rattle.sp_history.specs.declared.entry.Outcome.TheVariants.{Received, Sent}
+use Rattle.sp_history.specs.declared.entry.Message.{Message}
+use Rattle.sp_history.specs.declared.parts.Begun.{Begun}
+use Rattle.sp_history.specs.declared.parts.Item.{Item}
+use Rattle.sp_history.specs.declared.parts.Origin.{Origin}
+use Rattle.sp_history.specs.declared.parts.Request.{Request}
+use Rattle.sp_history.specs.declared.parts.Requests.{Requests}
+use Rattle.sp_history.specs.declared.parts.How.TheVariants as how
+use Rattle.sp_history.specs.Setting.{has_contexts, has_requests}
+use Rattle.sp_history.specs.Lists.{has, head_of, is_nil, same_op, same_bytes}
+use Rattle.sp_history.specs.Past.{is_of, without_begun, pend, pending, up, ctxs, now}
+use Rattle.sp_history.specs.Kept.{pool, kept, pool_of, route, replies_of, is_on_pool, is_from, has_none_of, wanted}
+use Rattle.sp_history.specs.Requests.{requests, no_requests, asked, is_on, is_orphan, end_on, change_live, with_out, with_taken, without_orphan, after_end, of_live, live_on, request_of, wire_of}
+use Rattle.sp_history.specs.Sends.{may_go, targets, targets_of, bytes_of}
+use Rattle.sp_history.specs.Settled.{receive_settled, has_full}
+use Rattle.sp_history.specs.Legal.{is_recv, is_recv_on, is_part_of_send, is_state, state_for, does, sending, was_superseded, was_over, MayEndAs}
+use Rattle.sp_history.specs.Moments.{Moment, Lawful, past, also}
+use Rattle.sp_history.specs.Once.{AreApart}
+use Rattle.sp_history.proofs.Asking.{find_taken}
+use Rattle.sp_history.proofs.OnceHolds.{same_op-eq}
+use Rattle.sp_history.proofs.Requesting.{end_makes, out_makes}
+use Rattle.sp_proto.specs.Kinds.{text_of, verb_of}
+use Rattle.sp_proto.specs.Machines.{CanGive, CanFlood, CanFinish, IsIdle, message_of}
+use Rattle.sp_proto.specs.declared.Verb.{Verb}
+use Rattle.sp_proto.specs.declared.Verb.TheVariants as verbs
+use Rattle.proto_floods.specs.Copies.{HasCopies}
+use Rattle.proto_floods.proofs.Copying.{went_out, others}
+use Rattle.proto_pending.proofs.Splits.{find_passing, without_passing, other_stay}
+use Rattle.proto_pending.proofs.Firsts.{first_found, passes_first, no_sends}
+use Rattle.proto_reqrep.specs.Reqs.{with_found}
+use Rattle.proto_survey.specs.declared.survey.Survey.{Survey}
+use Rattle.proto_survey.specs.declared.survey.Kept.{Kept}
+use Rattle.proto_survey.specs.declared.waiting.Asking.{Asking}
+use Rattle.proto_survey.specs.declared.waiting.SurveyEnd.{SurveyEnd}
+use Rattle.proto_survey.specs.declared.waiting.SurveyEnd.TheVariants as ends
+use Rattle.proto_survey.specs.Lives.{SurveyView, view_of, survey_of, survey_ctx, survey_id, is_live_on, given_from, first_in, is_kept, keeps_at}
+use Rattle.proto_survey.specs.Askings.{act_of, begun_of, is_asked, is_sending, without_first, cause_is, how_of, how_in}
+use Rattle.proto_survey.specs.Surveys.{Ties, Asked, Floods, IsFlood, AreCopies, out_text, item_of, gets, is_given, is_any_given, survey_state}
+use Rattle.proto_survey.specs.SurveyLaws.{lawful_before}
+use Rattle.proto_survey.proofs.Living.{equal_of, same_number, alone, keys_kept, map_of, find_of, any_of}
+use Rattle.proto_survey.proofs.Leaving.{find_begun, begun_found, find_own, not_orphan, all_finished}
+use Rattle.proto_survey.proofs.Asks.{taken, relive}
+use Rattle.proto_survey.proofs.Moving.{is_survey, is_raw, raw_asked, itself_mapped}
+use Rattle.proto_survey.proofs.Sending.{surveys, surveys_nothing, no_req, it_floods, out_bytes, bytes_changed, wire_taken, other_orphan, no_sends_flood, floods_still}
+
+abbrev is_send : Begun → Bool
+is_send s = not (is_recv s.act)
+
+a_send : (a : Act) → is_recv a ≡ false → (x : Message) × (a ≡ Send x)
+a_send Recv h = absurd cc
+a_send (Send x) h = (x, refl)
+
+no_receive : (a : Bool) → a ≡ false → not a ≡ true
+no_receive a h = rw h refl
+
+no_send : (a : Bool) → a ≡ true → not a ≡ false
+no_send a h = rw h refl
+
+found_is : (op : OpName) (ss : List Begun) (s : Begun) → find (is_of op) ss ≡ Some s → is_of op s ≡ true
+found_is op [] s h = absurd cc
+found_is op (x ∷ ss) s h = go (is_of op x) refl h (found_is op ss s)
+  where
+    some_inj : Some x ≡ Some s → x ≡ s
+    some_inj q = cc
+
+    go : (b : Bool) → is_of op x ≡ b → cond b (Some x) (find (is_of op) ss) ≡ Some s → (find (is_of op) ss ≡ Some s → is_of op s ≡ true) → is_of op s ≡ true
+    go true e q again = sym (ap (is_of op) (some_inj q)) ∙ e
+    go false e q again = again q
+
+-- ---- The operation of a name
+
+pub the_op : (m : Survey) (t : Moment) (op : OpName) (s : Begun) → Ties m t → pending (past t) op ≡ Some s → (w : Asking) × (find (is_asked op) m.waiting.items ≡ Some w) × (begun_of w ≡ s)
+the_op m t op s h p = find_begun op m.waiting.items s (ap (find (is_of op)) h.4.pending ∙ p)
+
+pub none_taken : {A : Type 0} (m : Survey) (t : Moment) (op : OpName) (s : Begun) → Ties m t → pending (past t) op ≡ Some s → None ≡ find (is_asked op) m.waiting.items → A
+none_taken m t op s h p e = let v = the_op m t op s h p in let k : None ≡ Some v.0 = e ∙ v.1 in absurd cc
+
+pub is_begun : (m : Survey) (t : Moment) (op : OpName) (s : Begun) (w : Asking) → Ties m t → pending (past t) op ≡ Some s → Some w ≡ find (is_asked op) m.waiting.items → begun_of w ≡ s
+is_begun m t op s w h p e = let v = the_op m t op s h p in ap begun_of (some_inj v.0 (e ∙ v.1)) ∙ v.2
+  where
+    some_inj : (v : Asking) → Some w ≡ Some v → w ≡ v
+    some_inj v q = cc
+
+pub its_lost : (s : Begun) (w : Asking) → begun_of w ≡ s → option_map text_of w.message ≡ message_of s.act
+its_lost s w e = go w.message ∙ ap (λ (q : Begun). message_of q.act) e
+  where
+    go : (o : Option MessageView) → option_map text_of o ≡ message_of (act_of o)
+    go None = refl
+    go (Some x) = refl
+
+pub recv_is : (s : Begun) (w : Asking) → begun_of w ≡ s → w.message ≡ None → is_recv s.act ≡ true
+recv_is s w e g = sym (ap (λ (q : Begun). is_recv q.act) e) ∙ ap (λ (o : Option MessageView). is_recv (act_of o)) g
+
+pub send_is : (s : Begun) (w : Asking) → begun_of w ≡ s → is_some w.message ≡ true → is_recv s.act ≡ false
+send_is s w e g = sym (ap (λ (q : Begun). is_recv q.act) e) ∙ go w.message g
+  where
+    go : (o : Option MessageView) → is_some o ≡ true → is_recv (act_of o) ≡ false
+    go None q = absurd cc
+    go (Some x) q = refl
+
+pub none_in : (o : Option MessageView) → is_some o ≡ false → o ≡ None
+none_in None q = refl
+none_in (Some x) q = absurd cc
+
+-- ---- The send that goes to many pipes
+
+-- it is the only one that is pending, and its copies are there
+module _ (m : Survey) (t : Moment) (op : OpName) (s : Begun) (l : Lawful t) (h : Ties m t) (k : pending (past t) op ≡ Some s) (is : is_recv s.act ≡ false) where
+  the_flood : (sending (pend (past t)) ≡ s ∷ []) × HasCopies t.z (past t) (length m.copies.items) × IsFlood m.raw m.last_id m.copies.items (bytes_of t.z (past t) s)
+  the_flood = go (sending (pend (past t))) (h.5 l) (find_passing is_send (pend (past t)) op s k (no_receive (is_recv s.act) is))
+    where
+      some_inj : (x : Begun) → Some x ≡ Some s → x ≡ s
+      some_inj x q = cc
+
+      first : (b : Bool) (x : Begun) → cond b (Some x) None ≡ Some s → x ≡ s
+      first true x q = some_inj x q
+      first false x q = absurd cc
+
+      go : (xs : List Begun) → Floods t.z (past t) m.raw m.last_id m.copies.items xs → find (is_of op) xs ≡ Some s → (xs ≡ s ∷ []) × HasCopies t.z (past t) (length m.copies.items) × IsFlood m.raw m.last_id m.copies.items (bytes_of t.z (past t) s)
+      go [] f q = absurd cc
+      go (x ∷ xs) f q =
+          let same : x ≡ s = first (is_of op x) x (rw f.2 at q) in
+          (ap (λ (rest : List Begun). x ∷ rest) f.2 ∙ ap (λ (y : Begun). y ∷ []) same, f.0, subst (λ (y : Begun). IsFlood m.raw m.last_id m.copies.items (bytes_of t.z (past t) y)) same f.1)
+
+  -- when it has ended, no send is pending
+  none_left : sending (without_begun (pend (past t)) op) ≡ []
+  none_left = without_passing is_send (pend (past t)) op ∙ ap (λ (xs : List Begun). without_begun xs op) the_flood.0 ∙ gone (is_of op s) (found_is op (pend (past t)) s k)
+    where
+      gone : (b : Bool) → b ≡ true → cond (not b) (s ∷ []) [] ≡ []
+      gone b e = rw e refl
+
+-- ---- Where it goes
+
+has_filter : (f : ℕ → Bool) (us : List ℕ) (p : ℕ) → ((u : ℕ) → f u ≡ true) → has (filter f us) p ≡ has us p
+has_filter f [] p h = refl
+has_filter f (u ∷ us) p h = ap (λ b. has (cond b (u ∷ filter f us) (filter f us)) p) (h u) ∙ ap (λ b. (u == p) || b) (has_filter f us p h)
+
+may_go_is : (r : Role) (raw : Bool) (o : Option Origin) (header : List ℕ) (p : ℕ) → r ≡ role.Surveyor → may_go r raw o header p ≡ true
+may_go_is r raw o header p h = rw h refl
+
+pub goes : (m : Survey) (t : Moment) (op : OpName) (s : Begun) (b : List ℕ) (p : ℕ) → Ties m t → CanFlood t op s b → has (up (past t)) p ≡ true → true ≡ has (targets t.z (past t) s) p
+goes m t op s b p h c is_up =
+    let sent = a_send s.act c.is_send in
+    sym is_up ∙ sym (has_filter (may_go t.z.role t.z.raw (route t.z (past t) s.op) sent.0.header) (up (past t)) p (λ u. may_go_is t.z.role t.z.raw (route t.z (past t) s.op) sent.0.header u (is_survey m t h))) ∙ sym (ap (λ (a : Act). has (targets_of t.z (past t) s.op a) p) sent.1)
+
+-- ---- It goes out
+
+copies_init : (raw : Bool) (id : Option ℕ) (b : List ℕ) (xs : List MessageView) (x : MessageView) → AreCopies raw id b (xs ++ x ∷ []) → AreCopies raw id b xs × (out_text raw id x ≡ b)
+copies_init raw id b [] x h = (tt, h.0)
+copies_init raw id b (y ∷ xs) x h = let rest = copies_init raw id b xs x h.1 in ((h.0, rest.0), rest.1)
+
+module _ (m : Survey) (t : Moment) (p : ℕ) (b : List ℕ) (h : Ties m t) where
+  out_asked : Asked m.live.items m.last_id m.waiting.items (pend (past t)) (requests t.z (Out p b ∷ past t))
+  out_asked = go m.raw refl
+    where
+      f : Request → Request
+      f = with_out (now (past t)) p b
+
+      one_is : (r : Request) → survey_of r ≡ survey_of (f r)
+      one_is r = step (same_bytes b (wire_of r))
+        where
+          step : (y : Bool) → survey_of r ≡ survey_of (cond y (record r { last_out = Some (record { pipe = p; when = now (past t) }) }) r)
+          step true = refl
+          step false = refl
+
+      id_map : (xs : List SurveyView) → xs ≡ map (λ (y : SurveyView). y) xs
+      id_map [] = refl
+      id_map (x ∷ xs) = ap (λ (rest : List SurveyView). x ∷ rest) (id_map xs)
+
+      go : (v : Bool) → m.raw ≡ v → Asked m.live.items m.last_id m.waiting.items (pend (past t)) (requests t.z (Out p b ∷ past t))
+      go true r = raw_asked m t m.waiting.items (pend (past t)) (Out p b ∷ past t) r h h.4
+      go false r =
+          subst (λ (q : Requests). Asked m.live.items m.last_id m.waiting.items (pend (past t)) q) (sym (out_makes t.z (past t) p b (surveys t.z (is_survey m t h) (is_raw m t h ∙ r))))
+          (relive m.live.items m.last_id m.waiting.items (pend (past t)) (requests t.z (past t)) f m.live.items (h.4.live ∙ id_map (map survey_of (requests t.z (past t)).live) ∙ map_of (λ (y : SurveyView). y) f one_is (requests t.z (past t)).live) refl refl h.4)
+
+  pub flood_ties : (n : Survey) (op : OpName) (s : Begun) (copy : MessageView) → Lawful t → CanFlood t op s b → m.copies.items ≡ n.copies.items ++ copy ∷ [] → n ≡ record m { copies = n.copies } → (out_text m.raw m.last_id copy ≡ b) × Ties n (also t (Out p b))
+  flood_ties n op s copy l c items same =
+      let flood = the_flood m t op s l h c.pending c.is_send in
+      let parts : AreCopies m.raw m.last_id b m.copies.items = subst (λ (o : Option (List ℕ)). IsFlood m.raw m.last_id m.copies.items o) c.bytes flood.2 in
+      let last = copies_init m.raw m.last_id b n.copies.items copy (subst (AreCopies m.raw m.last_id b) items parts) in
+      let bytes : bytes_of t.z (Out p b ∷ past t) s ≡ Some b = sym (out_bytes t.z (past t) p b s (is_survey m t h)) ∙ c.bytes in (
+        last.1,
+        subst (λ (x : Survey). Ties x (also t (Out p b))) (sym same) (
+          h.0,
+          h.1,
+          h.2,
+          h.3,
+          out_asked,
+          λ again. subst (λ (ss : List Begun). Floods t.z (Out p b ∷ past t) m.raw m.last_id n.copies.items ss) (sym flood.0) (went_out t.z (past t) p b (length n.copies.items) (it_floods t.z (is_survey m t h)), subst (λ (o : Option (List ℕ)). IsFlood m.raw m.last_id n.copies.items o) (sym bytes) last.0, refl),
+        ),
+      )
+
+-- ---- Ends
+
+raw_end : (z : Setting) (before : List Entry) (op : OpName) (ending : Ending) → has_requests z ≡ false → without_orphan op (requests z before) ≡ requests z (End op ending ∷ before)
+raw_end z before op ending h = ap (λ q. without_orphan op (cond q (asked z before) no_requests)) h ∙ sym (ap (λ q. cond q (asked z (End op ending ∷ before)) no_requests) h)
+
+-- an end that changes no survey
+plain_end : (z : Setting) (before : List Entry) (op : OpName) (ending : Ending) → z.role ≡ role.Surveyor → ((o : Option Begun) (ss : List Begun) (rs : Requests) → after_end z ending o ss rs ≡ rs) → requests z (End op ending ∷ before) ≡ without_orphan op (requests z before)
+plain_end z before op ending h k = go z.raw refl
+  where
+    go : (v : Bool) → z.raw ≡ v → requests z (End op ending ∷ before) ≡ without_orphan op (requests z before)
+    go true r = sym (raw_end z before op ending (surveys_nothing z h r))
+    go false r = end_makes z before op ending (surveys z h r) ∙ ap (without_orphan op) (k (of_live (requests z before) (pending before op)) (without_begun (pend before) op) (requests z before))
+
+gone_same : (z : Setting) (cause : Cause) (by : ℕ) → z.role ≡ role.Surveyor → (o : Option Begun) (ss : List Begun) (rs : Requests) → after_end z (Gone cause by) o ss rs ≡ rs
+gone_same z cause by h None ss rs = refl
+gone_same z cause by h (Some s) ss rs = rw (no_req z h) refl
+
+sent_same : (z : Setting) (o : Option Begun) (ss : List Begun) (rs : Requests) → after_end z (Won Sent) o ss rs ≡ rs
+sent_same z None ss rs = refl
+sent_same z (Some s) ss rs = refl
+
+-- the send that is pending has another name than a receive that ends
+other_name : (ss : List Begun) (op : OpName) (s r : Begun) → AreApart ss → find (is_of op) ss ≡ Some s → is_recv s.act ≡ true → head_of (filter is_send ss) ≡ Some r → same_op op r.op ≡ false
+other_name ss op s r apart p is e = go (same_op op r.op) refl
+  where
+    some_inj : Some r ≡ Some s → r ≡ s
+    some_inj q = cc
+
+    go : (b : Bool) → same_op op r.op ≡ b → b ≡ false
+    go false f = refl
+    go true f =
+        let here : find (is_of op) ss ≡ Some r = subst (λ (o : OpName). find (is_of o) ss ≡ Some r) (sym (same_op-eq op r.op f)) (first_found is_send ss r apart e) in
+        let same : r ≡ s = some_inj (sym here ∙ p) in
+        let sends : not (is_recv r.act) ≡ true = passes_first is_send ss r e in
+        let no_ : not (is_recv r.act) ≡ false = ap (λ (x : Begun). not (is_recv x.act)) same ∙ no_send (is_recv s.act) is in
+        let bad : true ≡ false = sym sends ∙ no_ in absurd cc
+
+module _ (m : Survey) (t : Moment) (op : OpName) (s : Begun) (h : Ties m t) (p : pending (past t) op ≡ Some s) where
+  -- a receive that ends is nothing to a send
+  stays : (ending : Ending) → is_recv s.act ≡ true → Lawful (also t (End op ending)) → is_part_of_send t.z (End op ending) ≡ false
+      → ((r : Begun) → same_op op r.op ≡ false → bytes_of t.z (past t) r ≡ bytes_of t.z (End op ending ∷ past t) r) → Floods t.z (End op ending ∷ past t) m.raw m.last_id m.copies.items (sending (without_begun (pend (past t)) op))
+  stays ending is l part same =
+      subst (λ (ss : List Begun). Floods t.z (End op ending ∷ past t) m.raw m.last_id m.copies.items ss) (sym (other_stay is_send (pend (past t)) op s h.4.apart p (no_send (is_recv s.act) is)))
+      (floods_still t.z (past t) (End op ending ∷ past t) m.raw m.last_id m.copies.items (sending (pend (past t))) (λ k q. others t (End op ending) k l part refl q) (λ r e. same r (other_name (pend (past t)) op s r h.4.apart p is e)) (h.5 (lawful_before t (End op ending) l)))
+
+  plain_bytes : (ending : Ending) → ((o : Option Begun) (ss : List Begun) (rs : Requests) → after_end t.z ending o ss rs ≡ rs) → (r : Begun) → same_op op r.op ≡ false → bytes_of t.z (past t) r ≡ bytes_of t.z (End op ending ∷ past t) r
+  plain_bytes ending k r e =
+      let makes = plain_end t.z (past t) op ending (is_survey m t h) k in
+      bytes_changed t.z (past t) (End op ending ∷ past t) r (λ (q : Request). q) (is_survey m t h) (λ q. refl)
+      (λ f. (ap (λ (rs : Requests). is_orphan rs r.op) makes ∙ other_orphan op r.op e (requests t.z (past t)).orphans, ap (λ (rs : Requests). find (is_on r.ctx) rs.live) makes ∙ itself_mapped (live_on t.z (past t) r.ctx)))
+
+  plain_asked : (ending : Ending) → ((o : Option Begun) (ss : List Begun) (rs : Requests) → after_end t.z ending o ss rs ≡ rs) → Asked m.live.items m.last_id (without_first op m.waiting.items) (without_begun (pend (past t)) op) (requests t.z (End op ending ∷ past t))
+  plain_asked ending k =
+      subst (λ (rs : Requests). Asked m.live.items m.last_id (without_first op m.waiting.items) (without_begun (pend (past t)) op) rs) (sym (plain_end t.z (past t) op ending (is_survey m t h) k)) (taken m.live.items m.last_id m.waiting.items (pend (past t)) (requests t.z (past t)) op h.4)
+
+  -- a send is lost
+  pub lost_send : (n : Survey) (cause : Cause) (by : ℕ) → Lawful (also t (End op (Gone cause by))) → is_recv s.act ≡ false → n.waiting.items ≡ without_first op m.waiting.items → n ≡ record m { waiting = n.waiting; copies = n.copies } → Ties n (also t (End op (Gone cause by)))
+  lost_send n cause by l is items same =
+      subst (λ (x : Survey). Ties x (also t (End op (Gone cause by)))) (sym same) (
+        h.0,
+        h.1,
+        h.2,
+        h.3,
+        subst (λ (ws : List Asking). Asked m.live.items m.last_id ws (without_begun (pend (past t)) op) (requests t.z (End op (Gone cause by) ∷ past t))) (sym items) (plain_asked (Gone cause by) (gone_same t.z cause by (is_survey m t h))),
+        λ again. no_sends_flood t.z (End op (Gone cause by) ∷ past t) m.raw m.last_id n.copies.items (sending (without_begun (pend (past t)) op)) (none_left m t op s (lawful_before t (End op (Gone cause by)) l) h p is),
+      )
+
+  pub lost_receive : (n : Survey) (cause : Cause) (by : ℕ) → is_recv s.act ≡ true → n.waiting.items ≡ without_first op m.waiting.items → n ≡ record m { waiting = n.waiting } → Ties n (also t (End op (Gone cause by)))
+  lost_receive n cause by is items same =
+      subst (λ (x : Survey). Ties x (also t (End op (Gone cause by)))) (sym same) (
+        h.0,
+        h.1,
+        h.2,
+        h.3,
+        subst (λ (ws : List Asking). Asked m.live.items m.last_id ws (without_begun (pend (past t)) op) (requests t.z (End op (Gone cause by) ∷ past t))) (sym items) (plain_asked (Gone cause by) (gone_same t.z cause by (is_survey m t h))),
+        λ again. stays (Gone cause by) is again refl (plain_bytes (Gone cause by) (gone_same t.z cause by (is_survey m t h))),
+      )
+
+  -- what is won as sent is a send
+  pub won_send : Lawful (also t (End op (Won Sent))) → is_recv s.act ≡ false
+  won_send l = turn (is_recv s.act) (subst (λ (o : Option Begun). MatchOption o ⊥ (MayEndAs t.z (past t) (Won Sent))) p l.turn.0.itself).0
+    where
+      turn : (a : Bool) → not a ≡ true → a ≡ false
+      turn true q = absurd cc
+      turn false q = refl
+
+  -- a send went to its pipes
+  pub flooded_ties : (n : Survey) → Lawful (also t (End op (Won Sent))) → n.waiting.items ≡ without_first op m.waiting.items → n ≡ record m { waiting = n.waiting; copies = n.copies } → Ties n (also t (End op (Won Sent)))
+  flooded_ties n l items same =
+      subst (λ (x : Survey). Ties x (also t (End op (Won Sent)))) (sym same) (
+        h.0,
+        h.1,
+        h.2,
+        h.3,
+        subst (λ (ws : List Asking). Asked m.live.items m.last_id ws (without_begun (pend (past t)) op) (requests t.z (End op (Won Sent) ∷ past t))) (sym items) (plain_asked (Won Sent) (sent_same t.z)),
+        λ again. no_sends_flood t.z (End op (Won Sent) ∷ past t) m.raw m.last_id n.copies.items (sending (without_begun (pend (past t)) op)) (none_left m t op s (lawful_before t (End op (Won Sent)) l) h p (won_send l)),
+      )
+
+-- ---- What is kept
+
+kept_cooked : (z : Setting) (before : List Entry) (c : ℕ) → has_requests z ≡ true → kept z before c ≡ replies_of (live_on z before c)
+kept_cooked z before c h = ap (λ q. cond q (replies_of (live_on z before c)) (pool z before (pool_of z c))) h
+
+kept_raw : (z : Setting) (before : List Entry) (c : ℕ) → z.role ≡ role.Surveyor → z.raw ≡ true → kept z before c ≡ pool z before 0
+kept_raw z before c h r = rw (h, r) refl
+
+live_is : (m : Survey) (t : Moment) (c : ℕ) → Ties m t → find (is_live_on c) m.live.items ≡ option_map survey_of (live_on t.z (past t) c)
+live_is m t c h = ap (find (is_live_on c)) h.4.live ∙ find_of c (requests t.z (past t)).live
+
+pub given_is : (m : Survey) (t : Moment) (c : ℕ) → Ties m t → is_given m.raw m.kept.items m.live.items c ≡ not (is_nil (kept t.z (past t) c))
+given_is m t c h = go m.raw refl
+  where
+    raw_nil : (ks : List Kept) → not (is_nil ks) ≡ not (is_nil (map item_of ks))
+    raw_nil [] = refl
+    raw_nil (k ∷ ks) = refl
+
+    cooked_nil : (o : Option Request) → is_kept (option_map survey_of o) ≡ not (is_nil (replies_of o))
+    cooked_nil None = refl
+    cooked_nil (Some r) = step r.replies
+      where
+        step : (is : List Item) → not (is_nil (map view_of is)) ≡ not (is_nil is)
+        step [] = refl
+        step (i ∷ is) = refl
+
+    go : (v : Bool) → m.raw ≡ v → is_given v m.kept.items m.live.items c ≡ not (is_nil (kept t.z (past t) c))
+    go true r = raw_nil m.kept.items ∙ ap (λ (is : List Item). not (is_nil is)) (h.3 r ∙ sym (kept_raw t.z (past t) c (is_survey m t h) (is_raw m t h ∙ r)))
+    go false r = ap is_kept (live_is m t c h) ∙ cooked_nil (live_on t.z (past t) c) ∙ ap (λ (is : List Item). not (is_nil is)) (sym (kept_cooked t.z (past t) c (surveys t.z (is_survey m t h) (is_raw m t h ∙ r))))
+
+pub wants_all : (m : Survey) (t : Moment) (p : ℕ) (b : Bool) → Ties m t → (m.raw ≡ true → b ≡ not (list_any (λ (k : Kept). k.pipe == p) m.kept.items)) → (m.raw ≡ false → b ≡ true) → b ≡ wanted t.z (past t) p
+wants_all m t p b h f g = go m.raw refl
+  where
+    from_same : (ks : List Kept) → list_any (is_from p) (map item_of ks) ≡ list_any (λ (k : Kept). k.pipe == p) ks
+    from_same [] = refl
+    from_same (k ∷ ks) = ap (λ q. (k.pipe == p) || q) (from_same ks)
+
+    raw_is : (z : Setting) → z.role ≡ role.Surveyor → z.raw ≡ true → has_none_of p (kept z (past t) 0) ≡ wanted z (past t) p
+    raw_is z i j = rw (i, j) refl
+
+    cooked_is : (z : Setting) → z.role ≡ role.Surveyor → z.raw ≡ false → true ≡ wanted z (past t) p
+    cooked_is z i j = rw (i, j) refl
+
+    go : (v : Bool) → m.raw ≡ v → b ≡ wanted t.z (past t) p
+    go true r = f r ∙ ap not (sym (from_same m.kept.items)) ∙ ap (has_none_of p) (h.3 r ∙ sym (kept_raw t.z (past t) 0 (is_survey m t h) (is_raw m t h ∙ r))) ∙ raw_is t.z (is_survey m t h) (is_raw m t h ∙ r)
+    go false r = g r ∙ cooked_is t.z (is_survey m t h) (is_raw m t h ∙ r)
+
+-- ---- A receive is given a message
+
+module _ (m : Survey) (t : Moment) (op : OpName) (s : Begun) (text : Message) (h : Ties m t) (g : CanGive t op s text) where
+  abbrev pub given_past : List Entry
+  given_past = End op (Won (Received text)) ∷ past t
+
+  not_left : t.z.raw ≡ false → is_orphan (requests t.z (past t)) s.op ≡ false
+  not_left r = go (is_orphan (requests t.z (past t)) s.op) refl (g.may.live (surveys t.z (is_survey m t h) r))
+    where
+      go : (b : Bool) → is_orphan (requests t.z (past t)) s.op ≡ b → is_some (request_of t.z (past t) s) ≡ true → b ≡ false
+      go false e k = refl
+      go true e k = let bad : false ≡ true = sym (ap (λ q. is_some (cond {A = Option Request} q None (live_on t.z (past t) s.ctx))) e) ∙ k in absurd cc
+
+  given_makes : t.z.raw ≡ false → requests t.z given_past ≡ without_orphan op (change_live (with_taken s.ctx) (requests t.z (past t)))
+  given_makes r =
+      end_makes t.z (past t) op (Won (Received text)) (surveys t.z (is_survey m t h) r)
+      ∙ ap (λ (x : Option Begun). without_orphan op (after_end t.z (Won (Received text)) (of_live (requests t.z (past t)) x) (without_begun (pend (past t)) op) (requests t.z (past t)))) g.pending
+      ∙ ap (λ q. without_orphan op (after_end t.z (Won (Received text)) (cond q None (Some s)) (without_begun (pend (past t)) op) (requests t.z (past t)))) (not_left r)
+      ∙ ap (λ q. without_orphan op (cond q (end_on (s.ctx ∷ []) how.Answered (without_begun (pend (past t)) op) (requests t.z (past t))) (change_live (with_taken s.ctx) (requests t.z (past t))))) (no_req t.z (is_survey m t h))
+
+  given_bytes : (r : Begun) → same_op op r.op ≡ false → bytes_of t.z (past t) r ≡ bytes_of t.z given_past r
+  given_bytes r e =
+      bytes_changed t.z (past t) given_past r (with_taken s.ctx) (is_survey m t h) (wire_taken s.ctx)
+      (λ f. (ap (λ (rs : Requests). is_orphan rs r.op) (given_makes f) ∙ other_orphan op r.op e (requests t.z (past t)).orphans, ap (λ (rs : Requests). find (is_on r.ctx) rs.live) (given_makes f) ∙ find_taken r.ctx s.ctx (requests t.z (past t)).live))
+
+  given_floods : Lawful (also t (End op (Won (Received text)))) → Floods t.z given_past m.raw m.last_id m.copies.items (sending (without_begun (pend (past t)) op))
+  given_floods again = stays m t op s h g.pending (Won (Received text)) g.may.is_receive again refl given_bytes
+
+  pub given_raw : (n : Survey) → m.raw ≡ true → n.waiting.items ≡ without_first op m.waiting.items → n.kept.items ≡ drop 1 m.kept.items → n ≡ record m { waiting = n.waiting; kept = n.kept } → Ties n (also t (End op (Won (Received text))))
+  given_raw n r items rest same =
+      subst (λ (x : Survey). Ties x (also t (End op (Won (Received text))))) (sym same) (
+        h.0,
+        h.1,
+        h.2,
+        λ q. ap (map item_of) rest ∙ dropped m.kept.items ∙ ap (drop 1) (h.3 r) ∙ sym (ap (λ b. cond b (drop 1 (pool t.z (past t) 0)) (pool t.z (past t) 0)) (ap (is_on_pool t.z 0) g.pending ∙ on_pool t.z (is_survey m t h))),
+        subst (λ (ws : List Asking). Asked m.live.items m.last_id ws (without_begun (pend (past t)) op) (requests t.z given_past)) (sym items)
+            (subst (λ (rs : Requests). Asked m.live.items m.last_id (without_first op m.waiting.items) (without_begun (pend (past t)) op) rs) (raw_end t.z (past t) op (Won (Received text)) (surveys_nothing t.z (is_survey m t h) (is_raw m t h ∙ r))) (taken m.live.items m.last_id m.waiting.items (pend (past t)) (requests t.z (past t)) op h.4)),
+        given_floods,
+      )
+    where
+      dropped : (ks : List Kept) → map item_of (drop 1 ks) ≡ drop 1 (map item_of ks)
+      dropped [] = refl
+      dropped (k ∷ ks) = refl
+
+      on_pool : (z : Setting) → z.role ≡ role.Surveyor → is_on_pool z 0 (Some s) ≡ true
+      on_pool z i = rw i refl
+
+  pub oldest_raw : m.raw ≡ true → option_map text_of (option_map (λ (k : Kept). k.message) (head_of m.kept.items)) ≡ Some text
+  oldest_raw r =
+      firsts m.kept.items ∙ ap (λ (is : List Item). option_map (λ (i : Item). i.message) (head_of is)) (h.3 r ∙ sym (kept_raw t.z (past t) s.ctx (is_survey m t h) (is_raw m t h ∙ r))) ∙ g.may.oldest
+    where
+      firsts : (ks : List Kept) → option_map text_of (option_map (λ (k : Kept). k.message) (head_of ks)) ≡ option_map (λ (i : Item). i.message) (head_of (map item_of ks))
+      firsts [] = refl
+      firsts (k ∷ ks) = refl
+
+  pub given_cooked : (n : Survey) → m.raw ≡ false → n.waiting.items ≡ without_first op m.waiting.items → n.live.items ≡ with_found (is_live_on s.ctx) given_from m.live.items → n ≡ record m { waiting = n.waiting; live = n.live } → Ties n (also t (End op (Won (Received text))))
+  given_cooked n r items rest same =
+      let z_raw = is_raw m t h ∙ r in
+      let lives : n.live.items ≡ map survey_of (map (with_taken s.ctx) (requests t.z (past t)).live) =
+      rest ∙ alone survey_ctx s.ctx given_from m.live.items h.4.places ∙ ap (map one) h.4.live ∙ map_of one (with_taken s.ctx) one_is (requests t.z (past t)).live in
+      let changed =
+      relive m.live.items m.last_id m.waiting.items (pend (past t)) (requests t.z (past t)) (with_taken s.ctx) n.live.items lives
+      (ap (map survey_id) rest ∙ keys_kept survey_id (is_live_on s.ctx) given_from (λ y. refl) m.live.items) (ap (map survey_ctx) rest ∙ keys_kept survey_ctx (is_live_on s.ctx) given_from (λ y. refl) m.live.items) h.4 in
+      subst (λ (x : Survey). Ties x (also t (End op (Won (Received text))))) (sym same) (
+        h.0,
+        h.1,
+        h.2,
+        λ q. let bad : true ≡ false = sym q ∙ r in absurd cc,
+        subst (λ (ws : List Asking). Asked n.live.items m.last_id ws (without_begun (pend (past t)) op) (requests t.z given_past)) (sym items)
+            (subst (λ (rs : Requests). Asked n.live.items m.last_id (without_first op m.waiting.items) (without_begun (pend (past t)) op) rs) (sym (given_makes z_raw)) (taken n.live.items m.last_id m.waiting.items (pend (past t)) (change_live (with_taken s.ctx) (requests t.z (past t))) op changed)),
+        given_floods,
+      )
+    where
+      one : SurveyView → SurveyView
+      one y = cond (y.ctx == s.ctx) (given_from y) y
+
+      one_is : (q : Request) → one (survey_of q) ≡ survey_of (with_taken s.ctx q)
+      one_is q = go (q.ctx == s.ctx)
+        where
+          dropped : (is : List Item) → drop 1 (map view_of is) ≡ map view_of (drop 1 is)
+          dropped [] = refl
+          dropped (i ∷ is) = refl
+
+          go : (b : Bool) → cond b (given_from (survey_of q)) (survey_of q) ≡ survey_of (cond b (record q { replies = drop 1 q.replies }) q)
+          go true = ap (λ (ms : List MessageView). let y : SurveyView = record { ctx = q.ctx; id = q.id; birth = q.birth; replies = ms } in y) (dropped q.replies)
+          go false = refl
+
+  pub oldest_cooked : m.raw ≡ false → option_map text_of (first_in (find (is_live_on s.ctx) m.live.items)) ≡ Some text
+  oldest_cooked r =
+      ap (λ (o : Option SurveyView). option_map text_of (first_in o)) (live_is m t s.ctx h) ∙ firsts (live_on t.z (past t) s.ctx)
+      ∙ ap (λ (is : List Item). option_map (λ (i : Item). i.message) (head_of is)) (sym (kept_cooked t.z (past t) s.ctx (surveys t.z (is_survey m t h) (is_raw m t h ∙ r)))) ∙ g.may.oldest
+    where
+      heads : (is : List Item) → option_map text_of (head_of (map view_of is)) ≡ option_map (λ (i : Item). i.message) (head_of is)
+      heads [] = refl
+      heads (i ∷ is) = refl
+
+      firsts : (o : Option Request) → option_map text_of (first_in (option_map survey_of o)) ≡ option_map (λ (i : Item). i.message) (head_of (replies_of o))
+      firsts None = refl
+      firsts (Some q) = heads q.replies
+
+-- ---- Offers
+
+passes : (P : Asking → Bool) (ws : List Asking) (w : Asking) → find P ws ≡ Some w → P w ≡ true
+passes P [] w h = absurd cc
+passes P (x ∷ ws) w h = go (P x) refl h (passes P ws w)
+  where
+    some_inj : Some x ≡ Some w → x ≡ w
+    some_inj q = cc
+
+    go : (b : Bool) → P x ≡ b → cond b (Some x) (find P ws) ≡ Some w → (find P ws ≡ Some w → P w ≡ true) → P w ≡ true
+    go true e q again = sym (ap P (some_inj q)) ∙ e
+    go false e q again = again q
+
+none_passes : (P : Asking → Bool) (ws : List Asking) → find P ws ≡ None → list_any P ws ≡ false
+none_passes P [] h = refl
+none_passes P (x ∷ ws) h = go (P x) h (none_passes P ws)
+  where
+    go : (b : Bool) → cond b (Some x) (find P ws) ≡ None → (find P ws ≡ None → list_any P ws ≡ false) → (b || list_any P ws) ≡ false
+    go true q again = absurd cc
+    go false q again = again q
+
+never : (P Q : Asking → Bool) (ws : List Asking) (w : Asking) → find Q ws ≡ Some w → find P ws ≡ None → P w ≡ false
+never P Q [] w h k = absurd cc
+never P Q (x ∷ ws) w h k = go (Q x) (P x) refl h k (never P Q ws w)
+  where
+    some_inj : Some x ≡ Some w → x ≡ w
+    some_inj q = cc
+
+    go : (b a : Bool) → P x ≡ a → cond b (Some x) (find Q ws) ≡ Some w → cond a (Some x) (find P ws) ≡ None → (find Q ws ≡ Some w → find P ws ≡ None → P w ≡ false) → P w ≡ false
+    go b true e q r again = absurd cc
+    go true false e q r again = sym (ap P (some_inj q)) ∙ e
+    go false false e q r again = again q r
+
+pub its_pending : (m : Survey) (t : Moment) (P : Asking → Bool) (w : Asking) → Ties m t → find P m.waiting.items ≡ Some w → pending (past t) w.op ≡ Some (begun_of w)
+its_pending m t P w h f =
+    ap (find (is_of w.op)) (sym h.4.pending) ∙ begun_found w.op m.waiting.items w (find_own P m.waiting.items w f (subst (λ (l : List Begun). AreApart l) (sym h.4.pending) h.4.apart))
+
+its_how : (m : Survey) (t : Moment) (P : Asking → Bool) (w : Asking) → Ties m t → find P m.waiting.items ≡ Some w → option_map how_of w.ended ≡ how_in (requests t.z (past t)).orphans w.op
+its_how m t P w h f = h.4.ends w.op w (find_own P m.waiting.items w f (subst (λ (l : List Begun). AreApart l) (sym h.4.pending) h.4.apart))
+
+pub can_flood : (m : Survey) (t : Moment) (w : Asking) → Lawful t → Ties m t → find is_sending m.waiting.items ≡ Some w → (s : Begun) × (b : List ℕ) × CanFlood t w.op s b
+can_flood m t w l h f =
+    let is : is_recv (act_of w.message) ≡ false = send_is (begun_of w) w refl (passes is_sending m.waiting.items w f) in
+    let p = its_pending m t is_sending w h f in
+    let flood = the_flood m t w.op (begun_of w) l h p is in
+    let b = some_bytes (bytes_of t.z (past t) (begun_of w)) flood.2 in
+    (begun_of w, b.0, record { pending = p; is_send = is; bytes = b.1; floods_all = it_floods t.z (is_survey m t h) })
+  where
+    some_bytes : (o : Option (List ℕ)) → IsFlood m.raw m.last_id m.copies.items o → (b : List ℕ) × (o ≡ Some b)
+    some_bytes None k = absurd k
+    some_bytes (Some b) k = (b, refl)
+
+pub enough : (m : Survey) (t : Moment) (w : Asking) → Lawful t → Ties m t → find is_sending m.waiting.items ≡ Some w → HasCopies t.z (past t) (length m.copies.items)
+enough m t w l h f = (the_flood m t w.op (begun_of w) l h (its_pending m t is_sending w h f) (send_is (begun_of w) w refl (passes is_sending m.waiting.items w f))).1
+
+abbrev pub lone : Asking → Bool
+lone w = is_some w.ended
+
+not_sending : (o : Option MessageView) → is_some o ≡ false → is_recv (act_of o) ≡ true
+not_sending None q = refl
+not_sending (Some x) q = absurd cc
+
+pub can_finish : (m : Survey) (t : Moment) (w : Asking) (e : SurveyEnd) (cause : Cause) → Ties m t → find is_sending m.waiting.items ≡ None → find lone m.waiting.items ≡ Some w → w.ended ≡ Some e → cause ≡ cause_is e → (s : Begun) × CanFinish t w.op s cause
+can_finish m t w e cause h none f is q =
+    let p = its_pending m t lone w h f in
+    let recv : is_recv (act_of w.message) ≡ true = not_sending w.message (never is_sending lone m.waiting.items w f none) in
+    let ended : how_in (requests t.z (past t)).orphans w.op ≡ Some (how_of e) = sym (its_how m t lone w h f) ∙ ap (option_map how_of) is in
+    (begun_of w, subst (λ (k : Cause). CanFinish t w.op (begun_of w) k) (sym q) (go e p recv ended))
+  where
+    go : (e : SurveyEnd) → pending (past t) w.op ≡ Some (begun_of w) → is_recv (act_of w.message) ≡ true → how_in (requests t.z (past t)).orphans w.op ≡ Some (how_of e) → CanFinish t w.op (begun_of w) (cause_is e)
+    go ends.Replaced p recv k = record { pending = p; is_finish = inl refl; may = (refl, ap was_superseded k) }
+    go ends.Over p recv k = record { pending = p; is_finish = inr refl; may = (refl, recv, ap was_over k) }
+
+module _ (K : ℕ → Bool) where
+  first_here : (ws : List Asking) (w : Asking) → find (λ (x : Asking). not (is_sending x) && K x.ctx) ws ≡ Some w → K w.ctx ≡ true → find (is_recv_on w.ctx) (map begun_of ws) ≡ Some (begun_of w)
+  first_here [] w h k = absurd cc
+  first_here (x ∷ ws) w h k = go x.message refl (K x.ctx) refl h (λ q. first_here ws w q k)
+    where
+      some_inj : Some x ≡ Some w → x ≡ w
+      some_inj q = cc
+
+      away : K x.ctx ≡ false → (x.ctx == w.ctx) ≡ false
+      away e = step (x.ctx == w.ctx) refl
+        where
+          step : (b : Bool) → (x.ctx == w.ctx) ≡ b → b ≡ false
+          step false q = refl
+          step true q = let bad : true ≡ false = sym k ∙ ap K (sym (equal_of x.ctx w.ctx q)) ∙ e in absurd cc
+
+      go : (o : Option MessageView) → x.message ≡ o → (a : Bool) → K x.ctx ≡ a → cond (not (is_some o) && a) (Some x) (find (λ (x : Asking). not (is_sending x) && K x.ctx) ws) ≡ Some w
+          → (find (λ (x : Asking). not (is_sending x) && K x.ctx) ws ≡ Some w → find (is_recv_on w.ctx) (map begun_of ws) ≡ Some (begun_of w)) → cond (is_recv (act_of x.message) && (x.ctx == w.ctx)) (Some (begun_of x)) (find (is_recv_on w.ctx) (map begun_of ws)) ≡ Some (begun_of w)
+      go (Some y) e a f q again = ap (λ (o : Option MessageView). cond (is_recv (act_of o) && (x.ctx == w.ctx)) (Some (begun_of x)) (find (is_recv_on w.ctx) (map begun_of ws))) e ∙ again q
+      go None e false f q again = ap (λ b. cond (is_recv (act_of x.message) && b) (Some (begun_of x)) (find (is_recv_on w.ctx) (map begun_of ws))) (away f) ∙ none (is_recv (act_of x.message)) ∙ again q
+        where
+          none : (b : Bool) → cond (b && false) (Some (begun_of x)) (find (is_recv_on w.ctx) (map begun_of ws)) ≡ find (is_recv_on w.ctx) (map begun_of ws)
+          none true = refl
+          none false = refl
+      go None e true f q again =
+          let is : x ≡ w = some_inj q in
+          ap (λ (o : Option MessageView). cond (is_recv (act_of o) && (x.ctx == w.ctx)) (Some (begun_of x)) (find (is_recv_on w.ctx) (map begun_of ws))) e
+          ∙ ap (λ b. cond b (Some (begun_of x)) (find (is_recv_on w.ctx) (map begun_of ws))) (ap (λ (y : Asking). x.ctx == y.ctx) (sym is) ∙ same_number x.ctx) ∙ ap (λ (y : Asking). Some (begun_of y)) is
+
+parts : (a b : Bool) → (a && b) ≡ true → (a ≡ true) × (b ≡ true)
+parts true b h = (refl, h)
+parts false b h = absurd cc
+
+pub can_give : (m : Survey) (t : Moment) (w : Asking) → Ties m t → find lone m.waiting.items ≡ None → find (gets m) m.waiting.items ≡ Some w → (s : Begun) × (x : Message) × CanGive t w.op s x
+can_give m t w h none f = at (kept t.z (past t) w.ctx) refl (sym (given_is m t w.ctx h) ∙ both.1)
+  where
+    both : (not (is_sending w) ≡ true) × (is_given m.raw m.kept.items m.live.items w.ctx ≡ true)
+    both = parts (not (is_sending w)) (is_given m.raw m.kept.items m.live.items w.ctx) (passes (gets m) m.waiting.items w f)
+
+    recv : is_recv (act_of w.message) ≡ true
+    recv = not_sending w.message (turn (is_sending w) both.0)
+      where
+        turn : (b : Bool) → not b ≡ true → b ≡ false
+        turn true q = absurd cc
+        turn false q = refl
+
+    not_ended : (o : Option SurveyEnd) → w.ended ≡ o → is_some o ≡ false → how_in (requests t.z (past t)).orphans w.op ≡ None
+    not_ended None e q = sym (its_how m t (gets m) w h f) ∙ ap (option_map how_of) e
+    not_ended (Some x) e q = absurd cc
+
+    alive : (i : Item) (rest : List Item) → kept t.z (past t) w.ctx ≡ i ∷ rest → has_requests t.z ≡ true → is_some (request_of t.z (past t) (begun_of w)) ≡ true
+    alive i rest e q =
+        ap (λ b. is_some (cond {A = Option Request} b None (live_on t.z (past t) w.ctx))) (not_orphan (requests t.z (past t)).orphans w.op (not_ended w.ended refl (never lone (gets m) m.waiting.items w f none)))
+        ∙ step (live_on t.z (past t) w.ctx) (sym (kept_cooked t.z (past t) w.ctx q) ∙ e)
+      where
+        step : (o : Option Request) → replies_of o ≡ i ∷ rest → is_some o ≡ true
+        step None k = absurd cc
+        step (Some r) k = refl
+
+    at : (is : List Item) → kept t.z (past t) w.ctx ≡ is → not (is_nil (kept t.z (past t) w.ctx)) ≡ true → (s : Begun) × (x : Message) × CanGive t w.op s x
+    at [] e q = let bad : false ≡ true = sym (ap (λ (l : List Item). not (is_nil l)) e) ∙ q in absurd cc
+    at (i ∷ rest) e q = (
+      begun_of w,
+      i.message,
+      record {
+        pending = its_pending m t (gets m) w h f;
+        may =
+            record {
+              is_receive = recv;
+              first_pending = ap (λ (ss : List Begun). option_map (λ (first : Begun). first.op) (find (is_recv_on w.ctx) ss)) (sym h.4.pending) ∙ ap (option_map (λ (first : Begun). first.op)) (first_here (λ c. is_given m.raw m.kept.items m.live.items c) m.waiting.items w f both.1);
+              oldest = ap (λ (l : List Item). option_map (λ (i : Item). i.message) (head_of l)) e;
+              live = alive i rest e;
+            };
+      },
+    )
+
+pub idle : (m : Survey) (t : Moment) → Ties m t → find is_sending m.waiting.items ≡ None → find lone m.waiting.items ≡ None → find (gets m) m.waiting.items ≡ None → IsIdle t
+idle m t h sends ended given =
+    record {
+      settled =
+          record {
+            receives = subst (λ (ss : List Begun). list_all (receive_settled t.z (past t)) ss ≡ true) h.4.pending (received m.waiting.items given);
+            sends = no_sends t.z (past t) (has_full t.turn) (pend (past t)) (ap head_of (nothing_sent (pend (past t)) (subst (λ (ss : List Begun). list_any is_send ss ≡ false) h.4.pending (as_sends m.waiting.items (none_passes is_sending m.waiting.items sends)))));
+            again = λ q. let k : false ≡ true = rw (is_survey m t h) at q in absurd cc;
+            finished = all_finished t.z (past t) m.waiting.items h.4.pending h.4.ends (none_passes lone m.waiting.items ended);
+          };
+      no_flood = λ q. nothing_sent (pend (past t)) (subst (λ (ss : List Begun). list_any is_send ss ≡ false) h.4.pending (as_sends m.waiting.items (none_passes is_sending m.waiting.items sends)));
+    }
+  where
+    as_sends : (ws : List Asking) → list_any is_sending ws ≡ false → list_any is_send (map begun_of ws) ≡ false
+    as_sends [] q = refl
+    as_sends (w ∷ ws) q = go w.message q (as_sends ws)
+      where
+        go : (o : Option MessageView) → (is_some o || list_any is_sending ws) ≡ false → (list_any is_sending ws ≡ false → list_any is_send (map begun_of ws) ≡ false) → (not (is_recv (act_of o)) || list_any is_send (map begun_of ws)) ≡ false
+        go None k again = again k
+        go (Some x) k again = absurd cc
+
+    nothing_sent : (ss : List Begun) → list_any is_send ss ≡ false → filter is_send ss ≡ []
+    nothing_sent [] q = refl
+    nothing_sent (s ∷ ss) q = go (is_send s) q (nothing_sent ss)
+      where
+        go : (b : Bool) → (b || list_any is_send ss) ≡ false → (list_any is_send ss ≡ false → filter is_send ss ≡ []) → cond b (s ∷ filter is_send ss) (filter is_send ss) ≡ []
+        go true k again = absurd cc
+        go false k again = again k
+
+    received : (ws : List Asking) → find (gets m) ws ≡ None → list_all (receive_settled t.z (past t)) (map begun_of ws) ≡ true
+    received [] q = refl
+    received (w ∷ ws) q = go w.message refl (is_given m.raw m.kept.items m.live.items w.ctx) (given_is m t w.ctx h) q (received ws)
+      where
+        go : (o : Option MessageView) → w.message ≡ o → (b : Bool) → b ≡ not (is_nil (kept t.z (past t) w.ctx)) → cond (not (is_some o) && b) (Some w) (find (gets m) ws) ≡ None → (find (gets m) ws ≡ None → list_all (receive_settled t.z (past t)) (map begun_of ws) ≡ true)
+            → (receive_settled t.z (past t) (begun_of w) && list_all (receive_settled t.z (past t)) (map begun_of ws)) ≡ true
+        go (Some x) e b f k again = ap (λ (o : Option MessageView). (not (is_recv (act_of o)) || is_nil (kept t.z (past t) w.ctx)) && list_all (receive_settled t.z (past t)) (map begun_of ws)) e ∙ again k
+        go None e true f k again = absurd cc
+        go None e false f k again =
+            ap (λ (o : Option MessageView). (not (is_recv (act_of o)) || is_nil (kept t.z (past t) w.ctx)) && list_all (receive_settled t.z (past t)) (map begun_of ws)) e
+            ∙ ap (λ b. b && list_all (receive_settled t.z (past t)) (map begun_of ws)) (twice (is_nil (kept t.z (past t) w.ctx)) f) ∙ again k
+          where
+            twice : (b : Bool) → false ≡ not b → b ≡ true
+            twice true q = refl
+            twice false q = absurd cc
+
+-- ---- Checks
+
+pub does_is : (m : Survey) (t : Moment) (c : ℕ) (act : Act) (b : Bool) → Ties m t → ((c == 0) || not m.raw) ≡ b → (does t.z.role act && ((c == 0) || has_contexts t.z)) ≡ b
+does_is m t c act b h e =
+    ap (λ (r : Role). does r act && ((c == 0) || role_has_contexts r && not t.z.raw)) (is_survey m t h) ∙ ap (λ q. q && ((c == 0) || not t.z.raw)) (both act) ∙ ap (λ q. (c == 0) || not q) (is_raw m t h) ∙ e
+  where
+    both : (act : Act) → does role.Surveyor act ≡ true
+    both Recv = refl
+    both (Send x) = refl
+
+pub open_is : (m : Survey) (t : Moment) (c : ℕ) (cs : List ℕ) (b o : Bool) → Ties m t → cs ≡ m.homes.items → o ≡ has cs c → o ≡ b → has (ctxs (past t)) c ≡ b
+open_is m t c cs b o h e k f = ap (λ l. has l c) (sym h.2 ∙ sym e) ∙ sym k ∙ f
+
+recv_state : (m : Survey) (t : Moment) (c : ℕ) → Ties m t → is_state t.z (past t) c Recv ≡ (not (list_any (is_live_on c) m.live.items) && not m.raw)
+recv_state m t c h =
+    ap (λ (r : Role). state_for r t.z (past t) c Recv && not t.z.raw) (is_survey m t h) ∙ ap (λ b. not (is_some (live_on t.z (past t) c)) && not b) (is_raw m t h)
+    ∙ ap (λ b. not b && not m.raw) (same (live_on t.z (past t) c) ∙ ap (λ (o : Option SurveyView). is_some o) (sym (live_is m t c h)) ∙ sym (any_of c m.live.items))
+  where
+    same : (o : Option Request) → is_some o ≡ is_some (option_map survey_of o)
+    same None = refl
+    same (Some r) = refl
+
+pub state_is : (m : Survey) (t : Moment) (c : ℕ) (act : Act) (v : Verb) → Ties m t → verb_of act ≡ v → is_state t.z (past t) c act ≡ survey_state m.raw m.live.items c v
+state_is m t c act v h e = as_verb act ∙ ap (survey_state m.raw m.live.items c) e
+  where
+    none : (b : Bool) → (b && false) ≡ false
+    none true = refl
+    none false = refl
+
+    both : (b : Bool) → (b && true) ≡ b
+    both true = refl
+    both false = refl
+
+    as_recv : (r : Bool) → (not (list_any (is_live_on c) m.live.items) && not r) ≡ survey_state r m.live.items c verbs.Recv
+    as_recv true = none (not (list_any (is_live_on c) m.live.items))
+    as_recv false = both (not (list_any (is_live_on c) m.live.items))
+
+    as_send : (r : Bool) → false ≡ survey_state r m.live.items c verbs.Send
+    as_send true = refl
+    as_send false = refl
+
+    as_verb : (act : Act) → is_state t.z (past t) c act ≡ survey_state m.raw m.live.items c (verb_of act)
+    as_verb Recv = recv_state m t c h ∙ as_recv m.raw
+    as_verb (Send x) = ap (λ (r : Role). state_for r t.z (past t) c (Send x) && not t.z.raw) (is_survey m t h) ∙ as_send m.raw
+
+-- ---- What can't be
+
+pub not_received : {A : Type 0} (t : Moment) (op : OpName) (s : Begun) (text : Message) → CanGive t op s text → is_recv s.act ≡ false → A
+not_received t op s text g f = let bad : true ≡ false = sym g.may.is_receive ∙ f in absurd cc
+
+pub not_sent : {A : Type 0} (t : Moment) (op : OpName) (s : Begun) → Lawful (also t (End op (Won Sent))) → is_recv s.act ≡ false → is_recv s.act ≡ true → A
+not_sent t op s l f g = let bad : true ≡ false = sym g ∙ f in absurd cc
+
+pub lone_ended : {A : Type 0} (m : Survey) (w : Asking) → find lone m.waiting.items ≡ Some w → w.ended ≡ None → A
+lone_ended m w f n = let bad : false ≡ true = sym (ap (λ (o : Option SurveyEnd). is_some o) n) ∙ passes lone m.waiting.items w f in absurd cc
+
+-- ---- Where no message is kept
+
+none_kept_at : (c : ℕ) (xs : List SurveyView) → list_any (λ (x : SurveyView). not (is_nil x.replies)) xs ≡ false → keeps_at xs c ≡ false
+none_kept_at c [] h = refl
+none_kept_at c (x ∷ xs) h = go (x.ctx == c) (not (is_nil x.replies)) refl h (none_kept_at c xs)
+  where
+    go : (a b : Bool) → not (is_nil x.replies) ≡ b → (b || list_any (λ (x : SurveyView). not (is_nil x.replies)) xs) ≡ false → (list_any (λ (x : SurveyView). not (is_nil x.replies)) xs ≡ false → keeps_at xs c ≡ false) → is_kept (cond a (Some x) (find (is_live_on c) xs)) ≡ false
+    go a true e k again = absurd cc
+    go true false e k again = e
+    go false false e k again = again k
+
+nothing_gets : (raw : Bool) (ks : List Kept) (xs : List SurveyView) (c : ℕ) → is_any_given raw ks xs ≡ false → is_given raw ks xs c ≡ false
+nothing_gets true ks xs c h = h
+nothing_gets false ks xs c h = none_kept_at c xs h
+
+nowhere : {A : Type 0} (P : A → Bool) (xs : List A) → list_any P xs ≡ false → position_or_len P xs ≡ length xs
+nowhere P [] h = refl
+nowhere P (x ∷ xs) h = go (P x) refl h (nowhere P xs)
+  where
+    go : (b : Bool) → P x ≡ b → (b || list_any P xs) ≡ false → (list_any P xs ≡ false → position_or_len P xs ≡ length xs) → position_or_len P (x ∷ xs) ≡ length (x ∷ xs)
+    go true e h again = absurd cc
+    go false e h again = let k = again h in rw e (omega (arith, k))
+
+pub none_gets : (m : Survey) (ws : List Asking) → is_any_given m.raw m.kept.items m.live.items ≡ false → None ≡ position (gets m) ws
+none_gets m ws h = sym (go (position_or_len (gets m) ws) (length ws) (nowhere (gets m) ws (none ws)))
+  where
+    go : (n l : ℕ) → n ≡ l → cond (nat_lt n l) (Some n) None ≡ None
+    go n l e = grind (arith, nat_tests)
+
+    none : (ws : List Asking) → list_any (gets m) ws ≡ false
+    none [] = refl
+    none (w ∷ ws) = rw (nothing_gets m.raw m.kept.items m.live.items w.ctx h, none ws) (never_and (not (is_sending w)))
+      where
+        never_and : (b : Bool) → (b && false || false) ≡ false
+        never_and true = refl
+        never_and false = refl

@@ -1,0 +1,338 @@
+-- A surveyor stands for its history after the calls that tell of pipes, contexts, turns and time.
+use Rattle.std.proofs.Common.{◌≡◌, ◌≢◌, refl, ap, sym, ◌∙◌, subst, List, [], ◌∷◌, ◌++◌, ℕ, ◌+◌, ◌-◌, ◌≤◌, max, Bool, true, false, cond, arith, Option, Some, None, map, length}
+use Rattle.std.specs.Prelude.{filter, not, min, ◌^◌, IsTrue, ◌&&◌, ◌||◌, ◌==◌}
+use Rattle.std.specs.List.{list_any}
+use Rattle.std.specs.Option.{option_map}
+use Rattle.turn_lock.specs.declared.turn.Turn.{Turn}
+use Rattle.sp_base.specs.declared.OpName.{OpName}
+use Rattle.sp_base.specs.declared.role.Role.{Role}
+use Rattle.sp_base.specs.declared.role.Role.TheVariants as role
+use Rattle.sp_history.specs.declared.setting.Setting.{Setting}
+use Rattle.sp_history.specs.declared.setting.Options.{Options}
+use Rattle.sp_history.specs.declared.entry.Entry.{Entry}
+use Rattle.sp_history.specs.declared.entry.Entry.TheVariants.{Up, Down, Full, Ctx, Tick, Close}
+use Rattle.sp_history.specs.declared.entry.Gate.TheVariants.{Open, Shut}
+use Rattle.sp_history.specs.declared.entry.Totals.{Totals}
+use Rattle.sp_history.specs.declared.entry.Why.{Why}
+use Rattle.sp_history.specs.declared.entry.WireName.{WireName}
+use Rattle.sp_history.specs.declared.parts.Begun.{Begun}
+use Rattle.sp_history.specs.declared.parts.Item.{Item}
+use Rattle.sp_history.specs.declared.parts.Orphan.{Orphan}
+use Rattle.sp_history.specs.declared.parts.Request.{Request}
+use Rattle.sp_history.specs.declared.parts.Requests.{Requests}
+use Rattle.sp_history.specs.declared.parts.How.TheVariants as how
+use Rattle.sp_history.specs.Setting.{floods, is_reply}
+use Rattle.sp_history.specs.Lists.{has, without, head_of, same_op}
+use Rattle.sp_history.specs.Past.{pend, up, ups, now, onto, past_from}
+use Rattle.sp_history.specs.Kept.{pool, is_from}
+use Rattle.sp_history.specs.Requests.{requests, no_requests, asked, is_orphan, orphan_of, end_on, over_at, after_moment, live_on, is_over as is_over_at}
+use Rattle.sp_history.specs.Sends.{bytes_of}
+use Rattle.sp_history.specs.Legal.{is_recv, sending, LegalFrom}
+use Rattle.sp_history.specs.Moments.{Moment, Lawful, past, also, next}
+use Rattle.sp_history.proofs.Requesting.{shut_makes, tick_makes, close_makes, shut_elsewhere}
+use Rattle.sp_proto.specs.Kinds.{Kind}
+use Rattle.sp_proto.specs.Machines.{NoFlood}
+use Rattle.proto_floods.proofs.Copying.{found_full, went_down, others}
+use Rattle.proto_survey.specs.declared.survey.Survey.{Survey}
+use Rattle.proto_survey.specs.declared.waiting.Asking.{Asking}
+use Rattle.proto_survey.specs.declared.waiting.SurveyEnd.TheVariants as ends
+use Rattle.proto_survey.specs.Lives.{SurveyView, survey_of, is_over, over_on, without_over}
+use Rattle.proto_survey.specs.Askings.{left_by}
+use Rattle.proto_survey.specs.Surveys.{Ties, Asked, without_live, item_of}
+use Rattle.proto_survey.specs.SurveyLaws.{lawful_before}
+use Rattle.proto_survey.proofs.Living.{equal_of, same_number, without_is, over_is, none_over, none_on, filter_like}
+use Rattle.proto_survey.proofs.Leaving.{left_like, none_left_by}
+use Rattle.proto_survey.proofs.Asks.{none_bereft, left, shut}
+use Rattle.proto_survey.proofs.Sending.{surveys, surveys_nothing, no_req, it_floods, raw_same, bytes_changed, no_sends_flood, floods_still}
+
+pub is_survey : (m : Survey) (t : Moment) → Ties m t → t.z.role ≡ role.Surveyor
+is_survey m t h = ap (λ (k : Kind). k.role) h.0.kind
+
+pub is_raw : (m : Survey) (t : Moment) → Ties m t → t.z.raw ≡ m.raw
+is_raw m t h = ap (λ (k : Kind). k.raw) h.0.kind
+
+pub is_options : (m : Survey) (t : Moment) → Ties m t → t.z.options ≡ m.options
+is_options m t h = ap (λ (k : Kind). k.options) h.0.kind
+
+-- raw, no survey is live
+pub no_live : (m : Survey) (t : Moment) → Ties m t → m.raw ≡ true → m.live.items ≡ []
+no_live m t h r = h.4.live ∙ ap (λ q. map survey_of (cond q (asked t.z (past t)) no_requests).live) (surveys_nothing t.z (is_survey m t h) (is_raw m t h ∙ r))
+
+-- raw, the surveys and operations are tied to every past with these operations
+pub raw_asked : (m : Survey) (t : Moment) (ws : List Asking) (ss : List Begun) (b : List Entry) → m.raw ≡ true → Ties m t → Asked m.live.items m.last_id ws ss (requests t.z (past t)) → Asked m.live.items m.last_id ws ss (requests t.z b)
+raw_asked m t ws ss b r h a = subst (λ (rs : Requests). Asked m.live.items m.last_id ws ss rs) (raw_same t.z (past t) b (surveys_nothing t.z (is_survey m t h) (is_raw m t h ∙ r))) a
+
+-- ---- Pipes
+
+up_most : (before : List Entry) → length (up before) ≤ ups before
+up_most [] = omega arith
+up_most (Up p place name ∷ before) = omega (arith, up_most before, one_more (up before))
+  where
+    one_more : (us : List ℕ) → length (us ++ p ∷ []) ≡ length us + 1
+    one_more [] = refl
+    one_more (u ∷ us) = omega (arith, one_more us)
+up_most (Down p why ∷ before) = omega (arith, up_most before, no_longer (up before))
+  where
+    no_longer : (us : List ℕ) → length (without us p) ≤ length us
+    no_longer [] = omega arith
+    no_longer (u ∷ us) = go (u == p) (no_longer us)
+      where
+        go : (b : Bool) → length (without us p) ≤ length us → length (cond (not b) (u ∷ without us p) (without us p)) ≤ length (u ∷ us)
+        go true h = omega (arith, h)
+        go false h = omega (arith, h)
+up_most (_ ∷ before) = up_most before
+
+shorter : (us : List ℕ) (p : ℕ) → length (without us p) ≤ length us
+shorter [] p = omega arith
+shorter (u ∷ us) p = go (u == p) (shorter us p)
+  where
+    go : (b : Bool) → length (without us p) ≤ length us → length (cond (not b) (u ∷ without us p) (without us p)) ≤ length (u ∷ us)
+    go true h = omega (arith, h)
+    go false h = omega (arith, h)
+
+-- one that was up is no longer
+one_fewer : (us : List ℕ) (p : ℕ) → has us p ≡ true → length (without us p) + 1 ≤ length us
+one_fewer [] p h = absurd cc
+one_fewer (u ∷ us) p h = go (u == p) h (shorter us p) (one_fewer us p)
+  where
+    go : (b : Bool) → (b || has us p) ≡ true → length (without us p) ≤ length us → (has us p ≡ true → length (without us p) + 1 ≤ length us) → length (cond (not b) (u ∷ without us p) (without us p)) + 1 ≤ length (u ∷ us)
+    go true h most again = omega (arith, most)
+    go false h most again = omega (arith, again h)
+
+append_one : (us : List ℕ) (p : ℕ) → length (us ++ p ∷ []) ≡ length us + 1
+append_one [] p = refl
+append_one (u ∷ us) p = omega (arith, append_one us p)
+
+pool_down : (z : Setting) (before : List Entry) (p : ℕ) (why : Why) → z.role ≡ role.Surveyor → pool z before 0 ≡ pool z (Down p why ∷ before) 0
+pool_down z before p why h = go z.role (pool z before 0) h
+  where
+    go : (r : Role) (is : List Item) → r ≡ role.Surveyor → is ≡ cond (is_reply r) (filter (λ (i : Item). not (is_from p i)) is) is
+    go r is h = rw h refl
+
+pub up_ties : (m n : Survey) (t : Moment) (p place : ℕ) (name : WireName) → NoFlood t → Lawful (also t (Up p place name)) → Ties m t → n ≡ record m { pipes = min (m.pipes + 1) (2 ^ 64 - 1) } → Ties n (also t (Up p place name))
+up_ties m n t p place name calm l h same =
+    let next = l.turn.0.itself.0 in
+    let small = l.turn.0.itself.2 in
+    let known = h.1 in
+    subst (λ (x : Survey). Ties x (also t (Up p place name))) (sym same) (
+      h.0,
+      omega (arith, append_one (up (past t)) p, up_most (past t), next, small, known),
+      h.2,
+      h.3,
+      h.4,
+      λ again. no_sends_flood t.z (past (also t (Up p place name))) m.raw m.last_id m.copies.items (sending (pend (past t))) (calm (it_floods t.z (is_survey m t h))),
+    )
+
+pub down_ties : (m n : Survey) (t : Moment) (p : ℕ) (why : Why) → Lawful (also t (Down p why)) → Ties m t → n ≡ record m { pipes = m.pipes - 1 } → Ties n (also t (Down p why))
+down_ties m n t p why l h same =
+    let known = h.1 in
+    subst (λ (x : Survey). Ties x (also t (Down p why))) (sym same) (
+      h.0,
+      omega (arith, one_fewer (up (past t)) p l.turn.0.itself.0, known),
+      h.2,
+      λ r. h.3 r ∙ pool_down t.z (past t) p why (is_survey m t h),
+      h.4,
+      λ again. floods_still t.z (past t) (Down p why ∷ past t) m.raw m.last_id m.copies.items (sending (pend (past t))) (λ k q. went_down t.z (past t) p why k (it_floods t.z (is_survey m t h)) q) (λ s e. refl) (h.5 (lawful_before t (Down p why) l)),
+    )
+
+pub full_ties : (m : Survey) (t : Moment) (p : ℕ) → Ties m t → Ties m (also t (Full p))
+full_ties m t p h = (
+  h.0,
+  h.1,
+  h.2,
+  h.3,
+  h.4,
+  λ again. floods_still t.z (past t) (Full p ∷ past t) m.raw m.last_id m.copies.items (sending (pend (past t))) (λ k q. found_full t.z (past t) p k (it_floods t.z (is_survey m t h)) q) (λ s e. refl) (h.5 (lawful_before t (Full p) again)),
+)
+
+-- ---- A turn begins
+
+no_flood_left : (z : Setting) (before : List Entry) (history : List (Turn Entry)) → LegalFrom z before history → (IsTrue (floods z.role) → sending (pend before) ≡ []) → IsTrue (floods z.role) → sending (pend (past_from before history)) ≡ []
+no_flood_left z before [] l n = n
+no_flood_left z before (t ∷ history) l n = no_flood_left z (onto t.entries before) history l.1 l.0.whole.no_flood
+
+pub fresh_ties : (m : Survey) (t : Moment) (k : ℕ) → Lawful (next t k) → Ties m t → Ties m (next t k)
+fresh_ties m t k l h =
+    let none : sending (pend (past t)) ≡ [] = subst (λ (before : List Entry). sending (pend before) ≡ []) (sym l.before) (no_flood_left t.z [] l.history l.legal (λ f. refl) (it_floods t.z (is_survey m t h))) in
+    (h.0, h.1, h.2, h.3, h.4, λ again. no_sends_flood t.z (past t) m.raw m.last_id m.copies.items (sending (pend (past t))) none)
+
+-- ---- Contexts
+
+pub opened_ties : (m n : Survey) (t : Moment) (c : ℕ) → Ties m t → n ≡ record m { homes = n.homes } → n.homes.items ≡ m.homes.items ++ c ∷ [] → Ties n (also t (Ctx c Open))
+opened_ties m n t c h same items =
+    subst (λ (x : Survey). Ties x (also t (Ctx c Open))) (sym same) (
+      h.0,
+      h.1,
+      items ∙ ap (λ (cs : List ℕ). cs ++ c ∷ []) h.2,
+      h.3,
+      h.4,
+      λ again. floods_still t.z (past t) (Ctx c Open ∷ past t) m.raw m.last_id m.copies.items (sending (pend (past t))) (λ k q. others t (Ctx c Open) k again refl refl q) (λ s e. refl) (h.5 (lawful_before t (Ctx c Open) again)),
+    )
+
+not_on : (c : ℕ) (f : Begun → Bool) (ss : List Begun) (s : Begun) → list_any (λ (x : Begun). x.ctx == c) ss ≡ false → head_of (filter f ss) ≡ Some s → (s.ctx == c) ≡ false
+not_on c f [] s h k = absurd cc
+not_on c f (x ∷ ss) s h k = go (x.ctx == c) refl h (f x) k (not_on c f ss s)
+  where
+    some_inj : Some x ≡ Some s → x ≡ s
+    some_inj q = cc
+
+    go : (a : Bool) → (x.ctx == c) ≡ a → (a || list_any (λ (x : Begun). x.ctx == c) ss) ≡ false → (b : Bool) → head_of (cond b (x ∷ filter f ss) (filter f ss)) ≡ Some s → (list_any (λ (x : Begun). x.ctx == c) ss ≡ false → head_of (filter f ss) ≡ Some s → (s.ctx == c) ≡ false) → (s.ctx == c) ≡ false
+    go true e p b q again = absurd cc
+    go false e p true q again = subst (λ (y : Begun). (y.ctx == c) ≡ false) (some_inj q) e
+    go false e p false q again = again p q
+
+pub itself_mapped : (o : Option Request) → o ≡ option_map (λ (r : Request). r) o
+itself_mapped None = refl
+itself_mapped (Some r) = refl
+
+module _ (m : Survey) (t : Moment) (c : ℕ) (l : Lawful (also t (Ctx c Shut))) (h : Ties m t) where
+  abbrev pub shut_past : List Entry
+  shut_past = Ctx c Shut ∷ past t
+
+  none_there : list_any (λ (s : Begun). s.ctx == c) (pend (past t)) ≡ false
+  none_there = l.turn.0.itself.2
+
+  shut_bytes : (s : Begun) → head_of (sending (pend (past t))) ≡ Some s → bytes_of t.z (past t) s ≡ bytes_of t.z shut_past s
+  shut_bytes s e = bytes_changed t.z (past t) shut_past s (λ (r : Request). r) (is_survey m t h) (λ r. refl) (λ r. (orphan_same r, shut_elsewhere t.z (past t) c Shut s.ctx away ∙ itself_mapped (live_on t.z (past t) s.ctx)))
+    where
+      differ : (x y : ℕ) → (x == y) ≡ false → y ≢ x
+      differ x y f = λ q. let no : (x == y) ≡ true = subst (λ n. (x == n) ≡ true) (sym q) (same_number x) in let bad : true ≡ false = sym no ∙ f in cc
+
+      away : c ≢ s.ctx
+      away = differ s.ctx c (not_on c (λ (x : Begun). not (is_recv x.act)) (pend (past t)) s none_there e)
+
+      nothing_more : (os : List Orphan) → os ++ [] ≡ os
+      nothing_more [] = refl
+      nothing_more (o ∷ os) = ap (λ (rest : List Orphan). o ∷ rest) (nothing_more os)
+
+      orphan_same : t.z.raw ≡ false → is_orphan (requests t.z shut_past) s.op ≡ is_orphan (requests t.z (past t)) s.op
+      orphan_same r =
+          ap (λ (rs : Requests). is_orphan rs s.op) (shut_makes t.z (past t) c (surveys t.z (is_survey m t h) r))
+          ∙ ap (λ (ss : List Begun). list_any (λ (o : Orphan). same_op o.op s.op) ((requests t.z (past t)).orphans ++ map (orphan_of how.Shut) ss)) (none_bereft c (requests t.z (past t)) (pend (past t)) none_there)
+          ∙ ap (λ (os : List Orphan). list_any (λ (o : Orphan). same_op o.op s.op) os) (nothing_more (requests t.z (past t)).orphans)
+
+  shut_asked : (ys : List SurveyView) → ys ≡ without_live c m.live.items → Asked ys m.last_id m.waiting.items (pend (past t)) (requests t.z shut_past)
+  shut_asked ys e = go m.raw refl
+    where
+      go : (r : Bool) → m.raw ≡ r → Asked ys m.last_id m.waiting.items (pend (past t)) (requests t.z shut_past)
+      go true r =
+          let none = no_live m t h r in
+          subst (λ (xs : List SurveyView). Asked xs m.last_id m.waiting.items (pend (past t)) (requests t.z shut_past)) (none ∙ sym (e ∙ ap (without_live c) none)) (raw_asked m t m.waiting.items (pend (past t)) shut_past r h h.4)
+      go false r =
+          subst (λ (xs : List SurveyView). Asked xs m.last_id m.waiting.items (pend (past t)) (requests t.z shut_past)) (sym (e ∙ without_is c m.live.items h.4.places))
+          (subst (λ (rs : Requests). Asked (filter (λ (x : SurveyView). not (has (c ∷ []) x.ctx)) m.live.items) m.last_id m.waiting.items (pend (past t)) rs) (sym (shut_makes t.z (past t) c (surveys t.z (is_survey m t h) (is_raw m t h ∙ r)))) (shut m.live.items m.last_id m.waiting.items (pend (past t)) (requests t.z (past t)) c none_there h.4))
+
+  pub shut_ties : (n : Survey) → n ≡ record m { homes = n.homes; live = n.live } → n.homes.items ≡ filter (λ d. not (d == c)) m.homes.items → n.live.items ≡ without_live c m.live.items → Ties n (also t (Ctx c Shut))
+  shut_ties n same homes live =
+      subst (λ (x : Survey). Ties x (also t (Ctx c Shut))) (sym same) (
+        h.0,
+        h.1,
+        homes ∙ ap (filter (λ d. not (d == c))) h.2,
+        λ r. h.3 r ∙ sym (ap (λ b. cond b [] (pool t.z (past t) 0)) (other c l.turn.0.itself.0)),
+        shut_asked n.live.items live,
+        λ again. floods_still t.z (past t) shut_past m.raw m.last_id m.copies.items (sending (pend (past t))) (λ k q. others t (Ctx c Shut) k again refl refl q) shut_bytes (h.5 (lawful_before t (Ctx c Shut) again)),
+      )
+    where
+      other : (n : ℕ) → n ≢ 0 → (n == 0) ≡ false
+      other n k = go (n == 0) refl
+        where
+          go : (b : Bool) → (n == 0) ≡ b → b ≡ false
+          go true e = absurd (k (equal_of n 0 e))
+          go false e = refl
+
+-- ---- Time
+
+over_there : (z : Setting) (n c : ℕ) (rs : List Request) → has (map (λ (r : Request). r.ctx) (filter (is_over_at z n) rs)) c ≡ over_on z.options.survey n (map survey_of rs) c
+over_there z n c [] = refl
+over_there z n c (r ∷ rs) = go (is_over_at z n r) (r.ctx == c) (over_there z n c rs)
+  where
+    go : (b a : Bool) → has (map (λ (r : Request). r.ctx) (filter (is_over_at z n) rs)) c ≡ over_on z.options.survey n (map survey_of rs) c
+        → has (map (λ (r : Request). r.ctx) (cond b (r ∷ filter (is_over_at z n) rs) (filter (is_over_at z n) rs))) c ≡ ((r.ctx == c) && b || over_on z.options.survey n (map survey_of rs) c)
+    go true a k = one (r.ctx == c) k
+      where
+        one : (x : Bool) → has (map (λ (r : Request). r.ctx) (filter (is_over_at z n) rs)) c ≡ over_on z.options.survey n (map survey_of rs) c → (x || has (map (λ (r : Request). r.ctx) (filter (is_over_at z n) rs)) c) ≡ (x && true || over_on z.options.survey n (map survey_of rs) c)
+        one true k = refl
+        one false k = k
+    go false a k = k ∙ none (r.ctx == c)
+      where
+        none : (x : Bool) → over_on z.options.survey n (map survey_of rs) c ≡ (x && false || over_on z.options.survey n (map survey_of rs) c)
+        none true = refl
+        none false = refl
+
+later : (a b : ℕ) → a ≤ b → max a b ≡ b
+later a b h = omega (arith, h)
+
+module _ (m : Survey) (t : Moment) (n : ℕ) (due : List OpName) (h : Ties m t) where
+  abbrev pub tick_past : List Entry
+  tick_past = Tick n due ∷ past t
+
+  here : (c : ℕ) → over_on m.options.survey n m.live.items c ≡ has (over_at t.z n (requests t.z (past t))) c
+  here c = sym (over_there t.z n c (requests t.z (past t)).live ∙ ap (λ (o : Options). over_on o.survey n (map survey_of (requests t.z (past t)).live) c) (is_options m t h) ∙ ap (λ (xs : List SurveyView). over_on m.options.survey n xs c) (sym h.4.live))
+
+  ticked_asked : (xs : List SurveyView) (ws : List Asking) → xs ≡ without_over m.options.survey n m.live.items → ws ≡ map (left_by (over_on m.options.survey n m.live.items) ends.Over) m.waiting.items → Asked xs m.last_id ws (pend (past t)) (requests t.z tick_past)
+  unfolding after_moment
+  ticked_asked xs ws e f = go m.raw refl
+    where
+      cs : List ℕ
+      cs = over_at t.z n (requests t.z (past t))
+
+      go : (r : Bool) → m.raw ≡ r → Asked xs m.last_id ws (pend (past t)) (requests t.z tick_past)
+      go true r =
+          let none = no_live m t h r in
+          let same : m.live.items ≡ xs = none ∙ sym (e ∙ ap (without_over m.options.survey n) none) in
+          let ops : m.waiting.items ≡ ws = sym (f ∙ none_left_by (over_on m.options.survey n m.live.items) ends.Over (λ c. ap (λ (l : List SurveyView). over_on m.options.survey n l c) none) m.waiting.items) in
+          subst (λ (l : List Asking). Asked xs m.last_id l (pend (past t)) (requests t.z tick_past)) ops (subst (λ (l : List SurveyView). Asked l m.last_id m.waiting.items (pend (past t)) (requests t.z tick_past)) same (raw_asked m t m.waiting.items (pend (past t)) tick_past r h h.4))
+      go false r =
+          let makes : requests t.z tick_past ≡ end_on cs how.Over (pend (past t)) (requests t.z (past t)) =
+          tick_makes t.z (past t) n due (surveys t.z (is_survey m t h) (is_raw m t h ∙ r)) ∙ ap (λ q. cond q (requests t.z (past t)) (end_on cs how.Over (pend (past t)) (requests t.z (past t)))) (no_req t.z (is_survey m t h)) in
+          let lives : xs ≡ filter (λ (x : SurveyView). not (has cs x.ctx)) m.live.items =
+          e ∙ over_is (is_over m.options.survey n) m.live.items h.4.places ∙ filter_like (λ (x : SurveyView). not (over_on m.options.survey n m.live.items x.ctx)) (λ (x : SurveyView). not (has cs x.ctx)) (λ x. ap not (here x.ctx)) m.live.items in
+          let ops : ws ≡ map (left_by (has cs) ends.Over) m.waiting.items = f ∙ left_like (over_on m.options.survey n m.live.items) (has cs) ends.Over here m.waiting.items in
+          subst (λ (rs : Requests). Asked xs m.last_id ws (pend (past t)) rs) (sym makes)
+          (subst (λ (l : List Asking). Asked xs m.last_id l (pend (past t)) (end_on cs how.Over (pend (past t)) (requests t.z (past t)))) (sym ops) (subst (λ (l : List SurveyView). Asked l m.last_id (map (left_by (has cs) ends.Over) m.waiting.items) (pend (past t)) (end_on cs how.Over (pend (past t)) (requests t.z (past t)))) (sym lives) (left m.live.items m.last_id m.waiting.items (pend (past t)) (requests t.z (past t)) cs ends.Over h.4)))
+
+  pub ticked_ties : (x : Survey) → NoFlood t → Lawful (also t (Tick n due)) → x ≡ record m { tick = n; live = x.live; waiting = x.waiting } → x.live.items ≡ without_over m.options.survey n m.live.items → x.waiting.items ≡ map (left_by (over_on m.options.survey n m.live.items) ends.Over) m.waiting.items → Ties x (also t (Tick n due))
+  ticked_ties x calm l same live ops =
+      subst (λ (y : Survey). Ties y (also t (Tick n due))) (sym same) (
+        record { kind = h.0.kind; moment = sym (later (now (past t)) n l.turn.0.itself.0) },
+        h.1,
+        h.2,
+        h.3,
+        ticked_asked x.live.items x.waiting.items live ops,
+        λ again. no_sends_flood t.z tick_past m.raw m.last_id m.copies.items (sending (pend (past t))) (calm (it_floods t.z (is_survey m t h))),
+      )
+
+  -- none is over
+  pub quiet_ties : (x : Survey) → NoFlood t → Lawful (also t (Tick n due)) → x ≡ record m { tick = n } → list_any (is_over m.options.survey n) m.live.items ≡ false → Ties x (also t (Tick n due))
+  quiet_ties x calm l same none =
+      ticked_ties x calm l (same ∙ sym (ap (λ (y : Survey). record m { tick = n; live = y.live; waiting = y.waiting }) same)) (ap (λ (y : Survey). y.live.items) same ∙ sym (none_over (is_over m.options.survey n) m.live.items none))
+      (ap (λ (y : Survey). y.waiting.items) same ∙ sym (none_left_by (over_on m.options.survey n m.live.items) ends.Over (λ c. none_on (is_over m.options.survey n) m.live.items c none) m.waiting.items))
+
+-- ---- The close
+
+pub closed_ties : (m n : Survey) (t : Moment) (totals : Totals) → Lawful (also t (Close totals)) → Ties m t → n ≡ record m { live = n.live; kept = n.kept } → n.live.items ≡ [] → n.kept.items ≡ [] → Ties n (also t (Close totals))
+closed_ties m n t totals l h same live kept =
+    subst (λ (x : Survey). Ties x (also t (Close totals))) (sym same) (
+      h.0,
+      h.1,
+      h.2,
+      λ r. ap (map item_of) kept,
+      subst (λ (rs : Requests). Asked n.live.items m.last_id m.waiting.items (pend (past t)) rs) (sym (close_makes t.z (past t) totals)) (subst (λ (xs : List SurveyView). Asked xs m.last_id m.waiting.items (pend (past t)) (record (requests t.z (past t)) { live = [] })) (sym live)
+          (record {
+            live = refl;
+            last_id = h.4.last_id;
+            ids = tt;
+            places = tt;
+            pending = h.4.pending;
+            apart = h.4.apart;
+            ends = h.4.ends;
+          })),
+      λ again. no_sends_flood t.z (past (also t (Close totals))) m.raw m.last_id m.copies.items (sending (pend (past t))) (ap sending l.turn.0.itself.0),
+    )
+
+-- the live surveys were written with what they were
+pub same_live : (m n : Survey) (t : Moment) → n ≡ record m { live = n.live } → n.live.items ≡ m.live.items → Ties m t → Ties n t
+same_live m n t same items h = subst (λ (x : Survey). Ties x t) (sym same) (h.0, h.1, h.2, h.3, subst (λ (xs : List SurveyView). Asked xs m.last_id m.waiting.items (pend (past t)) (requests t.z (past t))) (sym items) h.4, h.5)
+
+pub same_kept : (m n : Survey) (t : Moment) → n ≡ record m { kept = n.kept } → n.kept.items ≡ m.kept.items → Ties m t → Ties n t
+same_kept m n t same items h = subst (λ (x : Survey). Ties x t) (sym same) (h.0, h.1, h.2, λ r. ap (map item_of) items ∙ h.3 r, h.4, h.5)

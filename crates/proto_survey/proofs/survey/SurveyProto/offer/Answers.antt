@@ -1,0 +1,64 @@
+use Rattle.std.proofs.Common.{◌≡◌, ◌∙◌, sym, ap, arith, Some, None, find, length}
+use Rattle.std.specs.List.{position}
+use Rattle.sp_history.specs.Moments.{past}
+use Rattle.proto_floods.proofs.Copying.{calm}
+use Rattle.proto_reqrep.proofs.Places.{found_at, not_found}
+use Rattle.proto_survey.specs.declared.waiting.Asking.{Asking}
+use Rattle.proto_survey.specs.Askings.{is_sending}
+use Rattle.proto_survey.specs.Surveys.{gets}
+use Rattle.proto_survey.proofs.Going.{lone, can_flood, enough, can_finish, can_give, idle, lone_ended}
+use Rattle.proto_survey.proofs.survey.SurveyProto.offer.Goals as goal
+
+pub returns-in-Some-clause-offered : goal.returns-in-Some-clause-offered
+returns-in-Some-clause-offered c =
+    λ t l q h.
+    let m = c.args.self.now in
+    let w = c.index.result.now in
+    let at : position is_sending m.waiting.items ≡ Some c.in-Some.i = ap (position is_sending) (sym c.deref.ensures.value) ∙ sym c.in-Some.ensures in
+    let f : find is_sending m.waiting.items ≡ Some w = found_at is_sending m.waiting.items c.in-Some.i w at ∙ ap (λ (v : Asking). Some v) (sym c.index.ensures) in
+    can_flood m t w l h f
+
+pub returns-in-Some-clause-copies : goal.returns-in-Some-clause-copies
+returns-in-Some-clause-copies c =
+    λ op e t l q h.
+    let m = c.args.self.now in
+    let w = c.index.result.now in
+    let at : position is_sending m.waiting.items ≡ Some c.in-Some.i = ap (position is_sending) (sym c.deref.ensures.value) ∙ sym c.in-Some.ensures in
+    let f : find is_sending m.waiting.items ≡ Some w = found_at is_sending m.waiting.items c.in-Some.i w at ∙ ap (λ (v : Asking). Some v) (sym c.index.ensures) in
+    omega (arith, calm t.z (past t) (length m.copies.items) q (enough m t w l h f), m.copies.ok.0)
+
+pub returns-in-None-clause-offered : goal.returns-in-None-clause-offered
+returns-in-None-clause-offered c =
+    λ t l q h.
+    let m = c.args.self.now in
+    let w = c.index-w.result.now in
+    let at : position lone m.waiting.items ≡ Some c.in-Some-ended_place.i = ap (position lone) (sym c.deref-2.ensures.value) ∙ sym c.in-Some-ended_place.ensures in
+    let f : find lone m.waiting.items ≡ Some w = found_at lone m.waiting.items c.in-Some-ended_place.i w at ∙ ap (λ (v : Asking). Some v) (sym c.index-w.ensures) in
+    lone_ended m w f c.in-None.is
+
+pub returns-in-Some-ended-clause-offered : goal.returns-in-Some-ended-clause-offered
+returns-in-Some-ended-clause-offered c =
+    λ t l q h.
+    let m = c.args.self.now in
+    let w = c.index-w.result.now in
+    let none : find is_sending m.waiting.items ≡ None = not_found is_sending m.waiting.items (ap (position is_sending) (sym c.deref.ensures.value) ∙ sym c.in_default.ensures) in
+    let at : position lone m.waiting.items ≡ Some c.in-Some-ended_place.i = ap (position lone) (sym c.deref-2.ensures.value) ∙ sym c.in-Some-ended_place.ensures in
+    let f : find lone m.waiting.items ≡ Some w = found_at lone m.waiting.items c.in-Some-ended_place.i w at ∙ ap (λ (v : Asking). Some v) (sym c.index-w.ensures) in
+    can_finish m t w c.in-Some-ended.end c.cause_of.result h none f c.in-Some-ended.is c.cause_of.ensures
+
+pub returns-in-None-give_place-clause-offered : goal.returns-in-None-give_place-clause-offered
+returns-in-None-give_place-clause-offered c =
+    λ t l q h.
+    let m = c.args.self.now in
+    let none : find is_sending m.waiting.items ≡ None = not_found is_sending m.waiting.items (ap (position is_sending) (sym c.deref.ensures.value) ∙ sym c.in_default.ensures) in
+    let left : find lone m.waiting.items ≡ None = not_found lone m.waiting.items (ap (position lone) (sym c.deref-2.ensures.value) ∙ sym c.in_default-ended_place.ensures) in
+    idle m t h none left (not_found (gets m) m.waiting.items (sym c.in-None-give_place.ensures))
+
+pub returns-in-Some-give_place-clause-offered : goal.returns-in-Some-give_place-clause-offered
+returns-in-Some-give_place-clause-offered c =
+    λ t l q h.
+    let m = c.args.self.now in
+    let w = c.index-in-Some-give_place.result.now in
+    let left : find lone m.waiting.items ≡ None = not_found lone m.waiting.items (ap (position lone) (sym c.deref-2.ensures.value) ∙ sym c.in_default-ended_place.ensures) in
+    let f : find (gets m) m.waiting.items ≡ Some w = found_at (gets m) m.waiting.items c.in-Some-give_place.i w (sym c.in-Some-give_place.ensures) ∙ ap (λ (v : Asking). Some v) (sym c.index-in-Some-give_place.ensures) in
+    can_give m t w h left f

@@ -1,0 +1,7 @@
+use Rattle.std.proofs.Common.{ℕ, ap}
+use Rattle.proto_survey.specs.declared.survey.Survey.{Survey}
+use Rattle.proto_survey.proofs.Moving.{up_ties}
+use Rattle.proto_survey.proofs.survey.SurveyProto.up.Goals as goal
+
+pub returns-clause-up : goal.returns-clause-up
+returns-clause-up c = λ t place name calm l h. let was = c.args.self.now in up_ties was (record was { pipes = c.saturating_add-self.result }) t c.args.p place name calm l h (ap (λ (n : ℕ). let x : Survey = record was { pipes = n } in x) c.saturating_add-self.ensures)

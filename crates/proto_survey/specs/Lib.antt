@@ -1,0 +1,4 @@
+pub mod Lives
+pub mod Askings
+pub mod Surveys
+pub mod SurveyLaws

@@ -1,0 +1,18 @@
+//! The machines of surveys, cooked and raw.
+//!
+//! `Survey` is a surveyor (nng_surveyor(7)). A send on a context begins a survey with an id of its own, which goes to every
+//! pipe that is up and has room, in the turn of its begin. Responses with its id are kept for it, `queue` at most, until
+//! it is over: at its time, when a newer one on its context replaces it, or when its context is shut. The receives that
+//! wait for it then are to be finished. Raw, the first word of a message is its header.
+//!
+//! `Respond` is a respondent (nng_respondent(7)), which is a rep in every rule.
+#![tactic(auto)]
+
+mod live;
+mod survey;
+#[cfg(test)]
+mod tests;
+mod waiting;
+
+pub use proto_reqrep::Respond;
+pub use survey::Survey;

@@ -1,0 +1,91 @@
+//! A survey that is live.
+ghost use Rattle.std.specs.Prelude.{◌≡◌, ◌==◌, ◌^◌, ◌<◌, true, false};
+ghost use Rattle.sp_history.specs.Lists.{is_nil, head_of};
+ghost use Rattle.proto_survey.specs.Lives.{fresh_survey, given_from, has_number, is_live_on, is_over, with_reply};
+
+use sp_base::{Ctx, Tick};
+use sp_msg::Message;
+use std::alloc::Global;
+use std::collections::VecDeque;
+use std::marker::Model;
+
+/// A survey that is live.
+#[derive(Drop)]
+pub struct Live {
+    ctx: Ctx,
+    /// The first word of what went out for it and of each response.
+    id: u32,
+    /// The moment of its begin.
+    birth: Tick,
+    /// The responses that are kept, the oldest first.
+    replies: VecDeque<Message>,
+}
+
+impl Model for Live {
+    ghost use Rattle.proto_survey.specs.Lives.{SurveyView};
+
+    ghost Value = { SurveyView };
+
+    ghost view = { λ x. record { ctx = x.ctx; id = x.id; birth = x.birth; replies = x.replies.items } };
+}
+
+impl Live {
+    /// A survey that begins at this moment.
+    pub fn new(alloc: Global, ctx: Ctx, id: u32, birth: Tick) -> Live
+        ensures { result ≡ fresh_survey ctx id birth }
+    {
+        Live {
+            ctx,
+            id,
+            birth,
+            replies: VecDeque::new(alloc),
+        }
+    }
+
+    /// It is of this context.
+    pub fn is_on(&self, c: Ctx) -> bool
+        ensures { result ≡ is_live_on c self.now }
+    {
+        self.ctx.0 == c.0
+    }
+
+    /// It has this id.
+    pub fn has_id(&self, id: u32) -> bool
+        ensures { result ≡ has_number id self.now }
+    {
+        self.id == id
+    }
+
+    /// So many milliseconds have gone since its begin.
+    pub fn is_over(&self, time: u64, now: Tick) -> bool
+        ensures { result ≡ is_over time now self.now }
+    {
+        self.birth.0 <= now.0 && now.0 - self.birth.0 >= time
+    }
+
+    /// No response is kept.
+    pub fn is_empty(&self) -> bool
+        ensures { result ≡ is_nil self.now.replies }
+    {
+        self.replies.is_empty()
+    }
+
+    /// Keeps the response, where fewer than so many are kept. Answers false where that found no memory; then all is as before.
+    pub fn keep(&mut self, most: u32, m: Message) -> bool
+        ensures kept { result ≡ true → self.new ≡ with_reply most m self.old }
+        ensures same { result ≡ false → self.new ≡ self.old }
+    {
+        if self.replies.len() >= most as usize {
+            return true;
+        }
+        self.replies.push_back(m).is_ok()
+    }
+
+    /// The oldest response, which is kept no longer.
+    pub fn give(&mut self) -> Option<Message>
+        ensures given { result ≡ head_of self.old.replies }
+        ensures rest { self.new ≡ given_from self.old }
+    {
+        self.replies.pop_front()
+    }
+}

@@ -1,0 +1,133 @@
+//! The operations of a surveyor that wait.
+ghost use Rattle.std.specs.Prelude.{◌≡◌, ◌<◌, ◌+◌, ◌++◌, ◌==◌, ◌∷◌, [], None, Some, map, find, length, option_to_list, is_some};
+ghost use Rattle.std.specs.List.{position};
+ghost use Rattle.std.specs.Vec.{vec_len, vec_capacity};
+ghost use Rattle.proto_survey.specs.declared.waiting.Asking.{Asking as AskingType};
+ghost use Rattle.proto_survey.specs.declared.waiting.SurveyEnd.TheVariants as ends;
+ghost use Rattle.proto_survey.specs.Lives.{over_on};
+ghost use Rattle.proto_survey.specs.Askings.{is_asked, is_sending, without_first, left_by, ended_by, cause_is};
+
+use crate::live::Live;
+use sp_base::{Ctx, OpName, Tick};
+use sp_history::entry::Cause;
+use sp_msg::Message;
+
+/// How a survey ended before the receives that wait for it.
+#[derive(Clone, Copy, PartialEq, Eq, Debug)]
+pub enum SurveyEnd {
+    /// A newer one began on its context.
+    Replaced,
+    /// Its time was over.
+    Over,
+}
+
+/// An operation that waits: a send has its message, as it was begun.
+#[derive(Drop)]
+pub struct Asking {
+    pub op: OpName,
+    pub ctx: Ctx,
+    pub message: Option<Message>,
+    /// Of a receive whose survey has ended.
+    pub ended: Option<SurveyEnd>,
+}
+
+// Where the operation stands.
+fn place_of(waiting: &[Asking], op: OpName) -> Option<usize>
+    ensures { result ≡ position (is_asked op) waiting.now }
+{
+    waiting.iter().position(|w| w.op.slot == op.slot && w.op.generation == op.generation)
+}
+
+/// Takes the operation out.
+pub fn take(waiting: &mut Vec<Asking>, op: OpName) -> Option<Asking>
+    ensures found { result ≡ find (is_asked op) waiting.old.items }
+    ensures rest { waiting.new.items ≡ without_first op waiting.old.items }
+    ensures len { vec_len waiting.new + length (option_to_list result) ≡ vec_len waiting.old }
+    ensures capacity { vec_capacity waiting.new ≡ vec_capacity waiting.old }
+{
+    match place_of(waiting, op) {
+        None => None,
+        Some(i) => Some(waiting.remove(i)),
+    }
+}
+
+/// The operation waits, the last of all.
+pub fn wait(waiting: &mut Vec<Asking>, op: OpName, c: Ctx, message: Option<Message>)
+    requires { vec_len waiting.old < vec_capacity waiting.old }
+    ensures items { waiting.new.items ≡ waiting.old.items ++ record { op = op; ctx = c; message = message; ended = None } ∷ [] }
+    ensures len { vec_len waiting.new ≡ vec_len waiting.old + 1 }
+    ensures capacity { vec_capacity waiting.new ≡ vec_capacity waiting.old }
+{
+    waiting.push_reserved(Asking {
+        op,
+        ctx: c,
+        message,
+        ended: None,
+    });
+}
+
+/// Where the first send stands.
+pub fn send_place(waiting: &[Asking]) -> Option<usize>
+    ensures { result ≡ position is_sending waiting.now }
+{
+    waiting.iter().position(|w| w.message.is_some())
+}
+
+/// Where the first operation stands whose survey has ended.
+pub fn ended_place(waiting: &[Asking]) -> Option<usize>
+    ensures { result ≡ position (λ (w : AskingType). is_some w.ended) waiting.now }
+{
+    waiting.iter().position(|w| w.ended.is_some())
+}
+
+// How its survey ended, where it may end now.
+fn ended_by(on: bool, end: SurveyEnd, was: Option<SurveyEnd>) -> Option<SurveyEnd>
+    ensures { result ≡ ended_by on end was }
+{
+    match was {
+        Some(first) => Some(first),
+        None => { if on { Some(end) } else { None } }
+    }
+}
+
+// The same context.
+fn is_same(a: Ctx, b: Ctx) -> bool
+    ensures { result ≡ (a == b) }
+{
+    a.0 == b.0
+}
+
+/// The survey of the context is replaced, and leaves its receives behind.
+pub fn leave_on(waiting: &mut [Asking], c: Ctx)
+    ensures { waiting.new ≡ map (left_by (λ d. d == c) ends.Replaced) waiting.old }
+{
+    for w in waiting.iter_mut() {
+        w.ended = ended_by(is_same(w.ctx, c), SurveyEnd::Replaced, w.ended);
+    }
+}
+
+// The survey of the context is over.
+fn is_over_on(live: &[Live], time: u64, now: Tick, c: Ctx) -> bool
+    ensures { result ≡ over_on time now live.now c }
+{
+    live.iter().any(|x| x.is_on(c) && x.is_over(time, now))
+}
+
+/// The surveys that are over leave their receives behind.
+pub fn leave_over(waiting: &mut [Asking], live: &[Live], time: u64, now: Tick)
+    ensures { waiting.new ≡ map (left_by (over_on time now live.now) ends.Over) waiting.old }
+{
+    for w in waiting.iter_mut() {
+        w.ended = ended_by(is_over_on(live, time, now, w.ctx), SurveyEnd::Over, w.ended);
+    }
+}
+
+/// The cause for which a receive of a survey that ended so is finished.
+pub fn cause_of(end: SurveyEnd) -> Cause
+    ensures { result ≡ cause_is end }
+{
+    match end {
+        SurveyEnd::Replaced => Cause::Superseded,
+        SurveyEnd::Over => Cause::SurveyOver,
+    }
+}

@@ -1,0 +1,13 @@
+-- The bytes of a stream in memory, and those that a socket wrote.
+use Rattle.std.proofs.Common.{◌≡◌, ◌≤◌, ◌+◌, ◌-◌, ◌++◌, ℕ, List, length, take, drop, sym, ap, ◌∙◌, arith}
+use Rattle.std.proofs.lemmas.List.{take_at, take-append-drop, drop-drop, length-take, length-drop}
+
+-- what a read takes stands before what is left
+pub read_front : (fed buf piece : List ℕ) (at n : ℕ) → n ≤ length fed - at → piece ≡ take (at + n - at) (drop at fed) → drop at fed ≡ take n (piece ++ drop n buf) ++ drop (at + n) fed
+read_front fed buf piece at n fits is =
+    let k : at + n - at ≡ n = omega arith in
+    let piece_is : piece ≡ take n (drop at fed) = is ∙ ap (λ (j : ℕ). take j (drop at fed)) k in
+    let long : length piece ≡ n = omega (arith, ap length piece_is, length-take n (drop at fed), length-drop at fed, fits) in
+    sym (ap (λ (x : List ℕ). x ++ drop (at + n) fed) (take_at piece (drop n buf) n long ∙ piece_is)
+    ∙ ap (λ (x : List ℕ). take n (drop at fed) ++ x) (sym (drop-drop n at fed))
+    ∙ take-append-drop n (drop at fed))

@@ -1,0 +1,330 @@
+-- What each call of the wire comes to.
+use Rattle.std.proofs.Common.{◌≡◌, ◌≤◌, ◌<◌, ◌+◌, ◌-◌, ◌++◌, ℕ, Bool, true, false, List, [], ◌∷◌, length, take, Some, None, refl, sym, ap, subst, ◌∙◌, inl, inr, append_assoc, arith}
+use Rattle.std.proofs.lemmas.List.{length-append, take_at}
+use Rattle.sp_base.specs.Views.{LinkView}
+use Rattle.sp_base.specs.Steps.{AfterShut as LinkShut}
+use Rattle.sp_base.specs.Wires.{scheme_number}
+use Rattle.sp_ws.specs.Links.{WriteCounts}
+use Rattle.sp_msg.specs.Views.{OverLink, MessageView, wire_text}
+use Rattle.sp_msg.specs.Marks.{fresh_marks, marks_pulled, marks_roomed, marks_flushed, marks_put, marks_shut}
+use Rattle.sp_msg.specs.Wires.{AfterPull, AfterRoom, AfterFlush, AfterPut, AfterShut, with_text, came_after, IsBare}
+use Rattle.sp_msg.specs.declared.marks.WireMarks.{WireMarks}
+use Rattle.sp_msg.specs.declared.wire.WireIn.{WireIn}
+use Rattle.sp_msg.specs.declared.wire.WireIn.TheVariants as ins
+use Rattle.sp_msg.specs.declared.wire.Room.{Room}
+use Rattle.sp_msg.specs.declared.wire.Room.TheVariants as rooms
+use Rattle.sp_msg.specs.declared.wire.WireFlush.{WireFlush}
+use Rattle.sp_msg.specs.declared.wire.WireFlush.TheVariants as flushes
+use Rattle.sp_msg.proofs.Shown.{WaitsAs, after_pull, after_room, after_flush, after_put}
+use Rattle.sp_ws.specs.Views.{FramesView, OutletView, count_of, fresh_frames}
+use Rattle.sp_ws.specs.Sides.{role_of}
+use Rattle.sp_ws.specs.declared.side.Side.{Side}
+use Rattle.sp_ws.specs.Outlets.{AreWithin, passed, FlushAnswer, FlushedFrom}
+use Rattle.sp_ws.specs.Pulls.{NoneCame, OneLost, PullAnswer, PulledFrom}
+use Rattle.sp_ws.specs.Wires.{came_in, wire_name, WsState, ws_state, wire_of, ws_view, MarksHold, Holds, Tied, PullCause, WsPulled, WsWrote, RoomAfter, RoomCause, FlushCause, IsNewWire}
+use Rattle.sp_ws.proofs.Outlets.{within_more, wrote_within, fewer}
+use Rattle.sp_ws.proofs.Marks.{RoomFacts, pulled_marks, ready_pulled, flushed_marks, ready_flushed, roomed_marks, ready_roomed, put_marks, shut_marks}
+
+pub tied : (t : WsState) → Holds t → Tied (ws_view t)
+tied t h = record {
+  spent = t.spent;
+  name = refl;
+  waited = h.waited;
+  outs = refl;
+  waits = refl;
+  within = h.within;
+  most = h.most;
+  came = (λ e. ap (λ (b : Bool). Some (came_in b t.frames.came)) (h.marks.going e).2);
+  faults = h.marks.faults;
+  idles = h.marks.idles;
+  stalls = h.marks.stalls;
+  refusals = h.marks.refusals;
+  link_open = h.marks.link_open;
+  ended = h.marks.at_end;
+  malformed = h.marks.malformed;
+}
+
+name_at : (t : WsState) (l : LinkView) → l.place ≡ t.link.place → l.scheme ≡ t.link.scheme → wire_name l t.max t.spent ≡ wire_name t.link t.max t.spent
+name_at t l place scheme = λ i. OverLink (place i) t.max (scheme_number (scheme i)) t.spent None None
+
+-- ---- pull
+
+abbrev pub pulled_state : WireIn → Bool → WsState → LinkView → FramesView → WsState
+pulled_state result lost t l f = ws_state l f t.outlet lost t.max t.spent (marks_pulled result t.marks)
+
+bare_of : (result : WireIn) (max : ℕ) (lost : Bool) (came : List (List ℕ)) (f : FramesView) (l l2 : LinkView) → PullAnswer max result lost came f l l2 → IsBare result
+bare_of (ins.Message m) max lost came f l l2 a = a.0
+bare_of ins.NotYet max lost came f l l2 a = tt
+bare_of ins.Ended max lost came f l l2 a = tt
+bare_of ins.Malformed max lost came f l l2 a = tt
+bare_of ins.Failed max lost came f l l2 a = tt
+bare_of ins.Refused max lost came f l l2 a = tt
+bare_of ins.NoMemory max lost came f l l2 a = tt
+
+none_is : (lost : Bool) (came : List (List ℕ)) (f : FramesView) → NoneCame came lost f → Some (came_in lost f.came) ≡ Some came
+none_is lost came f n = ap (λ (b : Bool). Some (came_in b f.came)) n.1 ∙ ap (λ (x : List (List ℕ)). Some x) n.0
+
+lost_is : (lost : Bool) (came : List (List ℕ)) (f : FramesView) (body : List ℕ) → OneLost came lost f body → Some (came_in lost f.came) ≡ Some came
+lost_is lost came f body n =
+    let k : length (came ++ body ∷ []) - 1 ≡ length came = omega (arith, length-append {A = List ℕ} came (body ∷ [])) in
+    ap (λ (b : Bool). Some (came_in b f.came)) n.1
+    ∙ ap (λ (x : List (List ℕ)). Some (take (length x - 1) x)) n.0
+    ∙ ap (λ (j : ℕ). Some (take j (came ++ body ∷ []))) k
+    ∙ ap (λ (x : List (List ℕ)). Some x) (take_at came (body ∷ []) (length came) refl)
+
+came_is : (result : WireIn) (max : ℕ) (lost : Bool) (came : List (List ℕ)) (f : FramesView) (l l2 : LinkView) → PullAnswer max result lost came f l l2 → Some (came_in lost f.came) ≡ came_after result (Some came)
+came_is (ins.Message m) max lost came f l l2 a = ap (λ (b : Bool). Some (came_in b f.came)) a.3 ∙ ap (λ (x : List (List ℕ)). Some x) a.2
+came_is ins.NotYet max lost came f l l2 a = none_is lost came f a.0
+came_is ins.Ended max lost came f l l2 a = none_is lost came f a.0
+came_is ins.Malformed max lost came f l l2 a = elim a [ inl x ↦ none_is lost came f x.0 | inr y ↦ lost_is lost came f y.0 y.1 ]
+came_is ins.Failed max lost came f l l2 a = none_is lost came f a.0
+came_is ins.Refused max lost came f l l2 a = absurd a
+came_is ins.NoMemory max lost came f l l2 a = elim a [ inl x ↦ none_is lost came f x | inr y ↦ lost_is lost came f y.0 y.1 ]
+
+pull_cause : (result : WireIn) (lost : Bool) (t : WsState) (l : LinkView) (f : FramesView) → PullAnswer t.max result lost t.frames.came f t.link l → PullCause result (ws_view t) (ws_view (pulled_state result lost t l f))
+pull_cause (ins.Message m) lost t l f a = (a.1, a.2)
+pull_cause ins.NotYet lost t l f a = (a.1, a.2)
+pull_cause ins.Ended lost t l f a = a.1
+pull_cause ins.Malformed lost t l f a = elim a [ inl x ↦ inl x.1 | inr y ↦ inr (t.frames.came, y.0, y.1.0, y.2) ]
+pull_cause ins.Failed lost t l f a = (a.1, a.2)
+pull_cause ins.Refused lost t l f a = a
+pull_cause ins.NoMemory lost t l f a = tt
+
+pub record Pulled (result : WireIn) (t t2 : WsState) : Type 0 where
+  pub holds : Holds t2
+  pub after : AfterPull result (wire_of t) (wire_of t2)
+  pub ws : WsPulled result (ws_view t) (ws_view t2)
+  pub is_tied : Tied (ws_view t2)
+
+pub pulled : (result : WireIn) (lost : Bool) (t : WsState) (l : LinkView) (f : FramesView) → Holds t → t.marks.is_open ≡ true → PulledFrom t.max result lost t.frames f t.link l → Pulled result t (pulled_state result lost t l f)
+pulled result lost t l f h o p =
+    let g = p.going in
+    let longer : length t.frames.waiting ≤ length f.waiting = omega (arith, ap length g.waiting, length-append t.frames.waiting g.replies) in
+    let few : t.frames.refusals ≤ f.refusals = omega (arith, g.refusals) in
+    let h2 : Holds (pulled_state result lost t l f) = record {
+      within = within_more (length t.frames.waiting) (length f.waiting) t.outlet.ends longer h.within;
+      most = h.most;
+      room = (λ e. h.room (sym (ready_pulled result t.marks) ∙ e));
+      waited = omega (arith, h.waited, g.counts.idles, g.counts.stalls);
+      marks = pulled_marks result t.max t.link l t.frames f t.lost lost t.frames.came t.marks o h.marks g.counts g.came.is_open few p.answer;
+    } in
+    let before : Some (came_in t.lost t.frames.came) ≡ Some t.frames.came = ap (λ (b : Bool). Some (came_in b t.frames.came)) (h.marks.going o).2 in
+    let came : Some (came_in lost f.came) ≡ came_after result (Some (came_in t.lost t.frames.came)) = came_is result t.max lost t.frames.came f t.link l p.answer ∙ ap (came_after result) (sym before) in
+    let outs : Some (f.sent ++ t.outlet.held) ≡ Some (t.frames.sent ++ t.outlet.held) = ap (λ (x : List (List ℕ)). Some (x ++ t.outlet.held)) g.sent in
+    record {
+      holds = h2;
+      after = after_pull result (wire_name t.link t.max t.spent) (wire_name l t.max t.spent) (Some (came_in t.lost t.frames.came)) (Some (came_in lost f.came)) (Some (t.frames.sent ++ t.outlet.held)) (Some (f.sent ++ t.outlet.held)) (count_of t.outlet) (count_of t.outlet) false t.marks (bare_of result t.max lost t.frames.came f t.link l p.answer) (name_at t l g.came.place g.came.scheme) came outs refl;
+      ws = record { cause = pull_cause result lost t l f p.answer; piece = g.piece; came = g.came; counts = g.counts; replies = g.replies; waiting = g.waiting; sent = g.sent; outlet = refl; max = refl };
+      is_tied = tied (pulled_state result lost t l f) h2;
+    }
+
+-- ---- writing
+
+abbrev pub with_write : WsState → LinkView → FramesView → OutletView → WireMarks → WsState
+with_write t l f o k = ws_state l f o t.lost t.max t.spent k
+
+-- what a flush keeps
+record Kept (t : WsState) (l : LinkView) (f : FramesView) (o : OutletView) : Type 0 where
+  few : count_of o ≤ count_of t.outlet
+  outs : Some (f.sent ++ o.held) ≡ Some (t.frames.sent ++ t.outlet.held)
+  came : f.came ≡ t.frames.came
+  within : AreWithin (length f.waiting) o.ends
+
+kept : (result : WireFlush) (t : WsState) (l : LinkView) (f : FramesView) (o : OutletView) → Holds t → FlushedFrom result t.outlet o t.frames f t.link l → Kept t l f o
+kept result t l f o h p =
+    let g = p.gave in
+    let w = p.wrote in
+    let sent : f.sent ≡ t.frames.sent ++ g.gone = ap (λ (v : FramesView). v.sent) w.frames ∙ g.sent in
+    record {
+      few = fewer t.outlet p.mid o t.frames p.framed f t.link l g w;
+      outs = ap (λ (x : List (List ℕ)). Some (x ++ o.held)) sent
+          ∙ ap (λ (x : List (List ℕ)). Some x) (append_assoc t.frames.sent g.gone o.held)
+          ∙ ap (λ (x : List (List ℕ)). Some (t.frames.sent ++ (g.gone ++ x))) w.held
+          ∙ ap (λ (x : List (List ℕ)). Some (t.frames.sent ++ x)) (sym g.held);
+      came = ap (λ (v : FramesView). v.came) w.frames ∙ g.came;
+      within = wrote_within p.mid o p.framed f t.link l w (g.within h.within);
+    }
+
+ws_wrote : (result : WireFlush) (t : WsState) (l : LinkView) (f : FramesView) (o : OutletView) (k : WireMarks) → FlushedFrom result t.outlet o t.frames f t.link l → WsWrote (ws_view t) (ws_view (with_write t l f o k))
+ws_wrote result t l f o k p =
+    let g = p.gave in
+    let w = p.wrote in
+    record {
+      gone = g.gone;
+      places = g.places;
+      bytes = g.bytes;
+      piece = w.piece;
+      held = g.held ∙ ap (λ (x : List (List ℕ)). g.gone ++ x) (sym w.held);
+      sent = ap (λ (v : FramesView). v.sent) w.frames ∙ g.sent;
+      frames = g.frames;
+      ends = w.ends ∙ ap (passed (length w.piece)) g.ends;
+      waiting = sym g.waiting ∙ w.waiting;
+      went = w.went;
+      counts = w.counts;
+      came = ap (λ (v : FramesView). v.came) w.frames ∙ g.came;
+      max = refl;
+    }
+
+write_holds : (t : WsState) (l : LinkView) (f : FramesView) (o : OutletView) (k : WireMarks) → Holds t → Kept t l f o → (k.is_ready ≡ true → count_of o < 16) → WriteCounts t.link l → MarksHold t.max l f t.lost k → Holds (with_write t l f o k)
+write_holds t l f o k h e room counts marks = record { within = e.within; most = omega (arith, h.most, e.few); room = room; waited = omega (arith, h.waited, counts.idles, counts.stalls); marks = marks }
+
+still_room : (t : WsState) (l : LinkView) (f : FramesView) (o : OutletView) → Holds t → Kept t l f o → t.marks.is_ready ≡ true → count_of o < 16
+still_room t l f o h e r = omega (arith, h.room r, e.few)
+
+came_kept : (t : WsState) (f : FramesView) → f.came ≡ t.frames.came → Some (came_in t.lost f.came) ≡ Some (came_in t.lost t.frames.came)
+came_kept t f e = ap (λ (x : List (List ℕ)). Some (came_in t.lost x)) e
+
+-- ---- room
+
+room_facts : (flush : WireFlush) (room : Room) (waits : ℕ) (f f2 : FramesView) (l l2 : LinkView) → FlushAnswer flush waits f f2 l l2 → RoomAfter flush waits room → RoomFacts room waits f f2 l l2
+room_facts flushes.Empty room waits f f2 l l2 a e = subst (λ r. RoomFacts r waits f f2 l l2) (sym e) (omega (arith, a.0), inl a.0, a.1)
+room_facts flushes.NotYet room waits f f2 l l2 a e = elim e [
+  | inl x ↦ subst (λ r. RoomFacts r waits f f2 l l2) (sym x.1) (x.0, inr a.1, a.2)
+  | inr x ↦ subst (λ r. RoomFacts r waits f f2 l l2) (sym x.1) (x.0, a.1, a.2)
+]
+room_facts flushes.Failed room waits f f2 l l2 a e = subst (λ r. RoomFacts r waits f f2 l l2) (sym e) (a.1, a.2)
+room_facts flushes.Refused room waits f f2 l l2 a e = subst (λ r. RoomFacts r waits f f2 l l2) (sym e) a.1
+room_facts flushes.NoMemory room waits f f2 l l2 a e = subst (λ r. RoomFacts r waits f f2 l l2) (sym e) a.1
+
+room_cause : (room : Room) (t : WsState) (l : LinkView) (f : FramesView) (o : OutletView) (k : WireMarks) → count_of o ≤ 16 → RoomFacts room (count_of o) t.frames f t.link l → RoomCause room (ws_view t) (ws_view (with_write t l f o k))
+room_cause rooms.Yes t l f o k le a = (a.0, a.1)
+room_cause rooms.Full t l f o k le a = (omega (arith, le, a.0), a.1)
+room_cause rooms.Failed t l f o k le a = a.0
+room_cause rooms.Refused t l f o k le a = a
+room_cause rooms.NoMemory t l f o k le a = tt
+
+pub record Roomed (room : Room) (t t2 : WsState) : Type 0 where
+  pub holds : Holds t2
+  pub after : AfterRoom room (wire_of t) (wire_of t2)
+  pub cause : RoomCause room (ws_view t) (ws_view t2)
+  pub ws : WsWrote (ws_view t) (ws_view t2)
+  pub is_tied : Tied (ws_view t2)
+
+pub roomed : (flush : WireFlush) (room : Room) (t : WsState) (l : LinkView) (f : FramesView) (o : OutletView) → Holds t → t.marks.is_open ≡ true → FlushedFrom flush t.outlet o t.frames f t.link l → RoomAfter flush (count_of o) room → Roomed room t (with_write t l f o (marks_roomed room t.marks))
+roomed flush room t l f o h open_is p r =
+    let k : WireMarks = marks_roomed room t.marks in
+    let e = kept flush t l f o h p in
+    let a = room_facts flush room (count_of o) t.frames f t.link l p.answer r in
+    let marks = roomed_marks room t.max t.link l t.frames f t.lost (count_of o) t.marks open_is h.marks p.wrote.counts p.wrote.went.is_open a in
+    let h2 : Holds (with_write t l f o k) = write_holds t l f o k h e (ready_roomed room t.frames f t.link l (count_of o) t.marks a (still_room t l f o h e)) p.wrote.counts marks in
+    record {
+      holds = h2;
+      after = after_room room (wire_name t.link t.max t.spent) (wire_name l t.max t.spent) (Some (came_in t.lost t.frames.came)) (Some (came_in t.lost f.came)) (Some (t.frames.sent ++ t.outlet.held)) (Some (f.sent ++ o.held)) (count_of t.outlet) (count_of o) false t.marks (name_at t l p.wrote.went.place p.wrote.went.scheme) (came_kept t f e.came) e.outs e.few;
+      cause = room_cause room t l f o k (omega (arith, h.most, e.few)) a;
+      ws = ws_wrote flush t l f o k p;
+      is_tied = tied (with_write t l f o k) h2;
+    }
+
+-- ---- flush
+
+waits_as : (result : WireFlush) (waits : ℕ) (f f2 : FramesView) (l l2 : LinkView) → FlushAnswer result waits f f2 l l2 → WaitsAs result waits
+waits_as flushes.Empty waits f f2 l l2 a = a.0
+waits_as flushes.NotYet waits f f2 l l2 a = a.0
+waits_as flushes.Failed waits f f2 l l2 a = a.0
+waits_as flushes.Refused waits f f2 l l2 a = a.0
+waits_as flushes.NoMemory waits f f2 l l2 a = a.0
+
+flush_cause : (result : WireFlush) (t : WsState) (l : LinkView) (f : FramesView) (o : OutletView) (k : WireMarks) → FlushAnswer result (count_of o) t.frames f t.link l → FlushCause result (ws_view t) (ws_view (with_write t l f o k))
+flush_cause flushes.Empty t l f o k a = tt
+flush_cause flushes.NotYet t l f o k a = a.1
+flush_cause flushes.Failed t l f o k a = a.1
+flush_cause flushes.Refused t l f o k a = a.1
+flush_cause flushes.NoMemory t l f o k a = tt
+
+pub record Flushed (result : WireFlush) (t t2 : WsState) : Type 0 where
+  pub holds : Holds t2
+  pub after : AfterFlush result (wire_of t) (wire_of t2)
+  pub cause : FlushCause result (ws_view t) (ws_view t2)
+  pub ws : WsWrote (ws_view t) (ws_view t2)
+  pub is_tied : Tied (ws_view t2)
+
+pub flushed : (result : WireFlush) (t : WsState) (l : LinkView) (f : FramesView) (o : OutletView) → Holds t → t.marks.is_open ≡ true → FlushedFrom result t.outlet o t.frames f t.link l → Flushed result t (with_write t l f o (marks_flushed result t.marks))
+flushed result t l f o h open_is p =
+    let k : WireMarks = marks_flushed result t.marks in
+    let e = kept result t l f o h p in
+    let marks = flushed_marks result t.max t.link l t.frames f t.lost (count_of o) t.marks open_is h.marks p.wrote.counts p.wrote.went.is_open p.answer in
+    let h2 : Holds (with_write t l f o k) = write_holds t l f o k h e (λ r. still_room t l f o h e (sym (ready_flushed result t.marks) ∙ r)) p.wrote.counts marks in
+    record {
+      holds = h2;
+      after = after_flush result (wire_name t.link t.max t.spent) (wire_name l t.max t.spent) (Some (came_in t.lost t.frames.came)) (Some (came_in t.lost f.came)) (Some (t.frames.sent ++ t.outlet.held)) (Some (f.sent ++ o.held)) (count_of t.outlet) (count_of o) false t.marks (name_at t l p.wrote.went.place p.wrote.went.scheme) (came_kept t f e.came) e.outs e.few (waits_as result (count_of o) t.frames f t.link l p.answer);
+      cause = flush_cause result t l f o k p.answer;
+      ws = ws_wrote result t l f o k p;
+      is_tied = tied (with_write t l f o k) h2;
+    }
+
+-- ---- put and shut
+
+none_ready : false ≡ true → ⊥
+none_ready e = cc
+
+abbrev pub with_put : WsState → OutletView → WsState
+with_put t o = with_write t t.link t.frames o (marks_put t.marks)
+
+pub record PutTo (m : MessageView) (t t2 : WsState) : Type 0 where
+  pub holds : Holds t2
+  pub after : AfterPut m (wire_of t) (wire_of t2)
+  pub held : t2.outlet.held ≡ t.outlet.held ++ wire_text m ∷ []
+  pub is_tied : Tied (ws_view t2)
+
+pub put_to : (t : WsState) (o : OutletView) (m : MessageView) → Holds t → t.marks.is_ready ≡ true → o ≡ record { held = t.outlet.held ++ wire_text m ∷ []; ends = t.outlet.ends } → PutTo m t (with_put t o)
+put_to t o m h ready is =
+    let count : count_of o ≡ count_of t.outlet + 1 = omega (arith, ap (λ (x : OutletView). count_of x) is, length-append {A = List ℕ} t.outlet.held (wire_text m ∷ [])) in
+    let held : o.held ≡ t.outlet.held ++ wire_text m ∷ [] = ap (λ (x : OutletView). x.held) is in
+    let outs : Some (t.frames.sent ++ o.held) ≡ with_text (Some (t.frames.sent ++ t.outlet.held)) (wire_text m) = ap (λ (x : List (List ℕ)). Some (t.frames.sent ++ x)) held ∙ ap (λ (x : List (List ℕ)). Some x) (sym (append_assoc t.frames.sent t.outlet.held (wire_text m ∷ []))) in
+    let h2 : Holds (with_put t o) = record {
+      within = subst (λ (x : OutletView). AreWithin (length t.frames.waiting) x.ends) (sym is) h.within;
+      most = omega (arith, count, h.room ready);
+      room = (λ e. absurd (none_ready e));
+      waited = h.waited;
+      marks = put_marks t.max t.link t.frames t.lost t.marks h.marks;
+    } in
+    record {
+      holds = h2;
+      after = after_put m (wire_name t.link t.max t.spent) (Some (came_in t.lost t.frames.came)) (Some (t.frames.sent ++ t.outlet.held)) (Some (t.frames.sent ++ o.held)) (count_of t.outlet) (count_of o) false t.marks outs (omega (arith, count)) (omega (arith, count));
+      held = held;
+      is_tied = tied (with_put t o) h2;
+    }
+
+abbrev pub with_shut : WsState → LinkView → WsState
+with_shut t l = with_write t l t.frames t.outlet (marks_shut t.marks)
+
+abbrev shut_link : LinkView → LinkView
+shut_link l = record l { is_open = false }
+
+pub record ShutTo (t t2 : WsState) : Type 0 where
+  pub holds : Holds t2
+  pub after : AfterShut (wire_of t) (wire_of t2)
+  pub is_tied : Tied (ws_view t2)
+
+shut_at : (t : WsState) → Holds t → ShutTo t (with_shut t (shut_link t.link))
+shut_at t h =
+    let h2 : Holds (with_shut t (shut_link t.link)) = record { within = h.within; most = h.most; room = (λ e. absurd (none_ready e)); waited = h.waited; marks = shut_marks t.max t.link t.frames t.lost t.marks h.marks } in
+    record { holds = h2; after = refl; is_tied = tied (with_shut t (shut_link t.link)) h2 }
+
+pub shut_to : (t : WsState) (l : LinkView) → Holds t → LinkShut t.link l → ShutTo t (with_shut t l)
+shut_to t l h s = subst (λ x. ShutTo t (with_shut t x)) (sym s) (shut_at t h)
+
+-- ---- a new wire
+
+none_over : (b : Bool) → b ≡ false → b ≡ true → ⊥
+none_over b e f = cc
+
+pub new_holds : (l : LinkView) (f : FramesView) (o : OutletView) (max : ℕ) (side : Side) (rest : List ℕ) → l.is_open ≡ true → f ≡ record (fresh_frames (role_of side)) { fed = rest } → o ≡ record { held = []; ends = [] } → Holds (ws_state l f o false max (l.idles + l.stalls) fresh_marks)
+new_holds l f o max side rest is_open fe oe =
+    let count : count_of o ≡ 0 = ap (λ (x : OutletView). count_of x) oe in
+    record {
+      within = subst (λ (x : OutletView). AreWithin (length f.waiting) x.ends) (sym oe) tt;
+      most = omega (arith, count);
+      room = (λ e. absurd (none_ready e));
+      waited = omega arith;
+      marks = record { link_open = (λ e. is_open); going = (λ e. (refl, refl, refl)); at_end = (λ e. absurd (none_ready e)); malformed = (λ e. absurd (none_ready e)); faults = omega arith; idles = omega arith; stalls = omega arith; refusals = omega arith };
+    }
+
+pub new_wire : (l : LinkView) (f : FramesView) (o : OutletView) (max : ℕ) (side : Side) (rest : List ℕ) → l.is_open ≡ true → f ≡ record (fresh_frames (role_of side)) { fed = rest } → o ≡ record { held = []; ends = [] } → IsNewWire side max rest l (ws_view (ws_state l f o false max (l.idles + l.stalls) fresh_marks))
+new_wire l f o max side rest is_open fe oe = record {
+  link_is = refl;
+  max_is = refl;
+  frames = fe;
+  wire = (λ i. wire_of (ws_state l (fe i) (oe i) false max (l.idles + l.stalls) fresh_marks));
+  tied = tied (ws_state l f o false max (l.idles + l.stalls) fresh_marks) (new_holds l f o max side rest is_open fe oe);
+}

@@ -1,0 +1,30 @@
+use Rattle.std.proofs.Common.{refl, ap, ◌∙◌, inl}
+use Rattle.sp_ws.specs.Views.{FramesView}
+use Rattle.sp_ws.specs.declared.frames.FrameIn.TheVariants as ins
+use Rattle.sp_ws.proofs.Pulls.{going_start, going_next, going_read, going_lost, pulled_body}
+use Rattle.sp_ws.proofs.inlet.pull_from.Goals as goal
+
+pub pulls-init : goal.pulls-init
+pulls-init g c = (going_start c.args.frames.now (g.L.Link.seen c.args.link.now), refl, refl)
+
+pub returns-in-Binary-clause-pulled : goal.returns-in-Binary-clause-pulled
+returns-in-Binary-clause-pulled g c =
+    pulled_body c.args.max c.taken.result.0 c.taken.result.1 c.in-Binary.body c.args.frames.now c.pulls.frames c.next.new.self _ _ c.pulls.invariant.0 c.pulls.invariant.1 c.in-Binary.ensures (rw c.as_slice.ensures at c.taken.ensures)
+
+pub returns-in-Err-clause-pulled : goal.returns-in-Err-clause-pulled
+returns-in-Err-clause-pulled g c =
+    let r = c.in-Err.ensures.read in
+    let going = going_next ins.Idle c.args.frames.now c.pulls.frames c.next.new.self _ _ c.pulls.invariant.0 c.in-Idle.ensures in
+    record {
+      going = going_lost r.1.0 c.args.frames.now c.next.new.self c.read_some.new.frames _ _ _ going r.1.1 r.0 r.2;
+      answer = inl (ap (λ (v : FramesView). v.came) r.0 ∙ c.in-Idle.ensures.came ∙ c.pulls.invariant.1, refl);
+    }
+
+pub pulls-preserved : goal.pulls-preserved
+pulls-preserved g c =
+    let r = rw c.in-Ok-Got.field-0-is at c.in-Ok-Got.ensures.read in
+    let going = going_next ins.Idle c.args.frames.now c.pulls.frames c.next.new.self _ _ c.pulls.invariant.0 c.in-Idle.ensures in (
+      going_read r.0.0 c.args.frames.now c.next.new.self c.read_some.new.frames _ _ _ going r.0.1 r.0.2 r.1,
+      ap (λ (v : FramesView). v.came) r.0.2 ∙ c.in-Idle.ensures.came ∙ c.pulls.invariant.1,
+      c.read_some.ensures.long ∙ c.pulls.invariant.2,
+    )

@@ -1,0 +1,84 @@
+-- What each call of frames answers, and what it does to what the frames show.
+use Rattle.std.specs.Prelude.{◌≡◌, ◌++◌, ℕ, List, [], ◌∷◌, Option, Result, Ok, Err}
+use Rattle.sp_base.specs.declared.error.NoMemory.{NoMemory}
+use Rattle.sp_msg.specs.Marks.{one_more}
+use Rattle.websocket.specs.declared.protocol.frame.coding.OpCode.TheVariants as codes
+use Rattle.websocket.specs.declared.protocol.frame.coding.Data.TheVariants as datas
+use Rattle.websocket.specs.Frame.{encode_frame}
+use Rattle.websocket.specs.Connection.{whole_header, IsMaskOf}
+use Rattle.websocket.specs.declared.protocol.config.Role.{Role}
+use Rattle.sp_ws.specs.Views.{FramesView}
+use Rattle.sp_ws.specs.declared.frames.FrameIn.{FrameIn}
+use Rattle.sp_ws.specs.declared.frames.FrameIn.TheVariants as ins
+use Rattle.sp_ws.specs.declared.frames.FrameOut.{FrameOut}
+use Rattle.sp_ws.specs.declared.frames.FrameOut.TheVariants as outs
+use Rattle.sp_ws.specs.declared.frames.Last.{Last}
+use Rattle.sp_ws.specs.declared.frames.Last.TheVariants as lasts
+
+abbrev pub AfterFeed : Result Unit NoMemory → List ℕ → FramesView → FramesView → Type 0
+AfterFeed (Ok _) b old new = new ≡ record old { fed = old.fed ++ b }
+AfterFeed (Err _) b old new = new ≡ old
+
+-- the bodies that came, after this answer
+abbrev pub came_with : FrameIn → List (List ℕ) → List (List ℕ)
+came_with (ins.Binary b) came = came ++ b ∷ []
+came_with ins.Text came = came
+came_with ins.Idle came = came
+came_with ins.Closed came = came
+came_with ins.Broken came = came
+came_with ins.NoMemory came = came
+
+abbrev pub last_of : FrameIn → Last
+last_of (ins.Binary b) = lasts.Binary
+last_of ins.Text = lasts.Text
+last_of ins.Idle = lasts.Idle
+last_of ins.Closed = lasts.Closed
+last_of ins.Broken = lasts.Broken
+last_of ins.NoMemory = lasts.NoMemory
+
+abbrev pub breaks_with : FrameIn → ℕ → ℕ
+breaks_with (ins.Binary b) n = n
+breaks_with ins.Text n = n
+breaks_with ins.Idle n = n
+breaks_with ins.Closed n = n
+breaks_with ins.Broken n = one_more n
+breaks_with ins.NoMemory n = n
+
+-- nothing that was fed is left
+abbrev pub AllRead : FrameIn → FramesView → Type 0
+AllRead (ins.Binary b) new = Unit {0}
+AllRead ins.Text new = Unit {0}
+AllRead ins.Idle new = (new.fed ≡ []) × (new.left ≡ 0)
+AllRead ins.Closed new = Unit {0}
+AllRead ins.Broken new = Unit {0}
+AllRead ins.NoMemory new = Unit {0}
+
+-- more may wait than before: what the rules of frames answer by themselves
+pub record AfterNext (answer : FrameIn) (old new : FramesView) : Type 0 where
+  pub replies : List ℕ
+  pub waiting : new.waiting ≡ old.waiting ++ replies
+  pub came : new.came ≡ came_with answer old.came
+  pub sent : new.sent ≡ old.sent
+  pub last : new.last ≡ last_of answer
+  pub refusals : new.refusals ≡ old.refusals
+  pub breaks : new.breaks ≡ breaks_with answer old.breaks
+  pub read : AllRead answer new
+  pub role : new.role ≡ old.role
+
+-- the bytes are one binary frame of this body, masked where a client sends it
+pub record IsFrame (role : Role) (bytes body : List ℕ) : Type 0 where
+  pub mask : Option (List ℕ)
+  pub masked : IsMaskOf role mask
+  pub is : bytes ≡ encode_frame (whole_header (codes.Data datas.Binary) mask) body
+
+-- it stands behind what waited
+pub record IsSent (body : List ℕ) (old new : FramesView) : Type 0 where
+  pub piece : List ℕ
+  pub frame : IsFrame old.role piece body
+  pub rest : new ≡ record old { waiting = old.waiting ++ piece; sent = old.sent ++ body ∷ [] }
+
+-- after a refusal, and after want of memory, nothing else is changed
+abbrev pub AfterSend : FrameOut → List ℕ → FramesView → FramesView → Type 0
+AfterSend outs.Done b old new = IsSent b old new
+AfterSend outs.Refused b old new = new ≡ record old { refusals = one_more old.refusals }
+AfterSend outs.NoMemory b old new = new ≡ old

@@ -1,0 +1,98 @@
+-- What sending and writing do to what waits.
+use Rattle.std.specs.Prelude.{◌≡◌, ◌≤◌, ◌<◌, ◌+◌, ◌-◌, ◌++◌, ℕ, cond, nat_lt, List, [], ◌∷◌, length}
+use Rattle.sp_spec.specs.Outside.{Rose}
+use Rattle.sp_base.specs.Views.{LinkView}
+use Rattle.sp_base.specs.Steps.{Went}
+use Rattle.sp_base.specs.declared.outside.LinkWrite.{LinkWrite}
+use Rattle.sp_base.specs.declared.outside.LinkWrite.TheVariants as writes
+use Rattle.sp_msg.specs.declared.wire.WireFlush.{WireFlush}
+use Rattle.sp_msg.specs.declared.wire.WireFlush.TheVariants as flushes
+use Rattle.sp_ws.specs.Views.{FramesView, OutletView, count_of}
+use Rattle.websocket.specs.declared.protocol.config.Role.{Role}
+use Rattle.sp_ws.specs.Frames.{IsFrame, AfterSend}
+use Rattle.sp_ws.specs.Links.{WriteCounts}
+use Rattle.sp_ws.specs.declared.frames.FrameOut.{FrameOut}
+use Rattle.sp_ws.specs.declared.frames.FrameOut.TheVariants as outs
+
+-- the places that are left after so many bytes went
+abbrev pub passed : ℕ → List ℕ → List ℕ
+passed n [] = []
+passed n (e ∷ es) = cond (nat_lt n e) ((e - n) ∷ passed n es) (passed n es)
+
+-- each place lies behind some of so many bytes
+abbrev pub AreWithin : ℕ → List ℕ → Type 0
+AreWithin long [] = Unit {0}
+AreWithin long (e ∷ es) = ((0 < e) × (e ≤ long)) × AreWithin long es
+
+-- the bytes are the frames of these bodies, one behind the other, which end at these places where the first begins at
+-- the place `at`
+abbrev pub AreFrames : Role → ℕ → List (List ℕ) → List ℕ → List ℕ → Type 0
+AreFrames role at [] [] s = s ≡ []
+AreFrames role at [] (p ∷ ps) s = ⊥
+AreFrames role at (body ∷ bodies) [] s = ⊥
+AreFrames role at (body ∷ bodies) (p ∷ ps) s = (frame : List ℕ) × (rest : List ℕ) × (s ≡ frame ++ rest) × IsFrame role frame body × (p ≡ at + length frame) × AreFrames role p bodies ps rest
+
+-- the oldest text in hand was given to the frames
+abbrev pub GaveFront : FrameOut → OutletView → OutletView → FramesView → FramesView → Type 0
+GaveFront outs.Done old new f f' = (body : List ℕ) × (old.held ≡ body ∷ new.held) × (new.ends ≡ old.ends ++ length f'.waiting ∷ []) × AfterSend outs.Done body f f'
+GaveFront outs.Refused old new f f' = (new ≡ old) × AfterSend outs.Refused [] f f'
+GaveFront outs.NoMemory old new f f' = (new ≡ old) × (f' ≡ f)
+
+-- the texts that are gone from the hand were sent, each once and in order
+pub record Gave (old new : OutletView) (f f' : FramesView) : Type 0 where
+  pub gone : List (List ℕ)
+  pub places : List ℕ
+  pub bytes : List ℕ
+  pub held : old.held ≡ gone ++ new.held
+  pub ends : new.ends ≡ old.ends ++ places
+  pub waiting : f'.waiting ≡ f.waiting ++ bytes
+  pub frames : AreFrames f.role (length f.waiting) gone places bytes
+  pub within : AreWithin (length f.waiting) old.ends → AreWithin (length f'.waiting) new.ends
+  pub sent : f'.sent ≡ f.sent ++ gone
+  pub came : f'.came ≡ f.came
+  pub last : f'.last ≡ f.last
+  pub role : f'.role ≡ f.role
+
+abbrev pub GaveAll : FrameOut → OutletView → FramesView → FramesView → Type 0
+GaveAll outs.Done new f f' = (new.held ≡ []) × (f'.refusals ≡ f.refusals)
+GaveAll outs.Refused new f f' = (0 < length new.held) × Rose f.refusals f'.refusals
+GaveAll outs.NoMemory new f f' = (0 < length new.held) × (f'.refusals ≡ f.refusals)
+
+-- what the link took is the front of what waited
+pub record Wrote (old new : OutletView) (f f' : FramesView) (link link' : LinkView) : Type 0 where
+  pub piece : List ℕ
+  pub waiting : f.waiting ≡ piece ++ f'.waiting
+  pub frames : f' ≡ record f { waiting = f'.waiting }
+  pub held : new.held ≡ old.held
+  pub ends : new.ends ≡ passed (length piece) old.ends
+  pub went : Went piece link link'
+  pub counts : WriteCounts link link'
+
+-- how one write ended
+abbrev pub WroteOnce : LinkWrite → OutletView → OutletView → FramesView → FramesView → LinkView → LinkView → Type 0
+WroteOnce (writes.Took n) old new f f' link link' = (wrote : Wrote old new f f' link link') × (0 < length wrote.piece)
+WroteOnce writes.NotYet old new f f' link link' = Wrote old new f f' link link' × Rose link.stalls link'.stalls
+WroteOnce writes.Failed old new f f' link link' = Wrote old new f f' link link' × Rose link.faults link'.faults
+
+-- how the writing ended
+abbrev pub WroteAll : WireFlush → FramesView → LinkView → LinkView → Type 0
+WroteAll flushes.Empty f' link link' = f'.waiting ≡ []
+WroteAll flushes.NotYet f' link link' = Rose link.stalls link'.stalls
+WroteAll flushes.Failed f' link link' = Rose link.faults link'.faults
+WroteAll flushes.Refused f' link link' = ⊥
+WroteAll flushes.NoMemory f' link link' = ⊥
+
+abbrev pub FlushAnswer : WireFlush → ℕ → FramesView → FramesView → LinkView → LinkView → Type 0
+FlushAnswer flushes.Empty waits f f' link link' = (waits ≡ 0) × (f'.refusals ≡ f.refusals)
+FlushAnswer flushes.NotYet waits f f' link link' = (0 < waits) × Rose link.stalls link'.stalls × (f'.refusals ≡ f.refusals)
+FlushAnswer flushes.Failed waits f f' link link' = (0 < waits) × Rose link.faults link'.faults × (f'.refusals ≡ f.refusals)
+FlushAnswer flushes.Refused waits f f' link link' = (0 < waits) × Rose f.refusals f'.refusals
+FlushAnswer flushes.NoMemory waits f f' link link' = (0 < waits) × (f'.refusals ≡ f.refusals)
+
+-- what was in hand was sent, and then what the link takes was written
+pub record FlushedFrom (result : WireFlush) (old new : OutletView) (f f' : FramesView) (link link' : LinkView) : Type 0 where
+  pub mid : OutletView
+  pub framed : FramesView
+  pub gave : Gave old mid f framed
+  pub wrote : Wrote mid new framed f' link link'
+  pub answer : FlushAnswer result (count_of new) f f' link link'

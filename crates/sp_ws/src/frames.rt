@@ -1,0 +1,76 @@
+//! What frames messages: the seam to the crate that does.
+ghost use Rattle.std.specs.Prelude.{◌≡◌, ◌≤◌, ◌++◌, length, drop};
+ghost use Rattle.sp_ws.specs.Views.{FramesView};
+ghost use Rattle.sp_ws.specs.Frames.{AfterFeed, AfterNext, AfterSend};
+
+use sp_base::{Bytes, NoMemory};
+
+/// What comes next of what was fed (RFC 6455 sections 5.4 to 5.6).
+#[derive(Debug, Drop)]
+pub enum FrameIn {
+    /// A binary message.
+    Binary(Bytes),
+    /// A text message.
+    Text,
+    /// All that was fed was read, and no whole message is left.
+    Idle,
+    /// The peer closed (RFC 6455 section 5.5.1).
+    Closed,
+    /// No message by the rules of frames (RFC 6455 sections 5.2 to 5.5), or one that is too long.
+    Broken,
+    /// Want of memory; a message may be lost.
+    NoMemory,
+}
+
+/// Whether a message was framed.
+#[derive(Clone, Copy, Debug, PartialEq, Eq)]
+pub enum FrameOut {
+    /// It waits for the link.
+    Done,
+    /// The buffer is full.
+    Refused,
+    /// Want of memory.
+    NoMemory,
+}
+
+/// The kind of the last answer of `next`.
+#[derive(Clone, Copy, Debug, PartialEq, Eq)]
+pub enum Last {
+    /// None yet.
+    Nothing,
+    Binary,
+    Text,
+    Idle,
+    Closed,
+    Broken,
+    NoMemory,
+}
+
+/// Messages of one peer in frames.
+pub trait Frames {
+    /// What was fed and not handed on, how much of what was handed on isn't read, what waits for the link, the bodies
+    /// that came and those that were sent, the last answer, and the counts of answers Refused and Broken.
+    ghost seen: { Self → FramesView };
+
+    /// Takes bytes that came. Refused for want of memory alone, and then nothing changes.
+    fn feed(&mut self, b: &[u8]) -> Result<(), NoMemory>
+        ensures { AfterFeed result b.now (seen self.old) (seen self.new) };
+
+    /// The next message; pings and pongs are passed over. What the rules of frames answer by themselves, as a pong (RFC
+    /// 6455 section 5.5.3), waits for the link then.
+    fn next(&mut self) -> FrameIn
+        ensures { AfterNext result (seen self.old) (seen self.new) };
+
+    /// Frames one binary message (RFC 6455 section 5.2); it waits for the link then.
+    fn send(&mut self, b: &[u8]) -> FrameOut
+        ensures { AfterSend result b.now (seen self.old) (seen self.new) };
+
+    /// What waits for the link.
+    fn waiting(&self) -> &[u8]
+        ensures { result.now ≡ (seen self.now).waiting };
+
+    /// The link took the first `n` bytes of what waits. Takes no memory.
+    fn taken(&mut self, n: usize)
+        requires { n ≤ length (seen self.old).waiting }
+        ensures { seen self.new ≡ record (seen self.old) { waiting = drop n (seen self.old).waiting } };
+}

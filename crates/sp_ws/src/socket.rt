@@ -1,0 +1,133 @@
+//! The one real implementation of `Frames`.
+ghost use Rattle.std.specs.Prelude.{◌≡◌, ◌≤◌, ◌++◌, ℕ, List, [], length, drop};
+ghost use Rattle.sp_ws.specs.Sides.{role_of};
+ghost use Rattle.sp_ws.specs.Views.{fresh_frames};
+ghost use Rattle.sp_ws.specs.Frames.{AfterFeed, AfterNext, AfterSend, last_of, came_with, breaks_with};
+
+use crate::frames::{FrameIn, FrameOut, Frames, Last};
+use crate::log::{Log, Piece};
+use crate::side::Side;
+use crate::stream::Stream;
+use sp_base::NoMemory;
+use std::alloc::Global;
+use std::marker::Model;
+
+/// A `tungstenite` socket over memory, and what waits for the link beside it.
+#[derive(Drop)]
+pub struct Socket {
+    stream: Stream,
+    /// The bodies that came and those that were sent. They take no memory.
+    came: Log,
+    sent: Log,
+    last: Last,
+    refusals: u64,
+    breaks: u64,
+}
+
+impl Model for Socket {
+    ghost use Rattle.sp_ws.specs.Streams.{frames_view};
+    ghost use Rattle.sp_ws.specs.Views.{FramesView};
+
+    ghost Value = { FramesView };
+
+    ghost view = { λ s. frames_view s.stream s.came.texts s.sent.texts s.last s.refusals s.breaks };
+}
+
+fn kind(answer: &FrameIn) -> Last
+    ensures { result ≡ last_of answer.now }
+{
+    match answer {
+        FrameIn::Binary(_) => Last::Binary,
+        FrameIn::Text => Last::Text,
+        FrameIn::Idle => Last::Idle,
+        FrameIn::Closed => Last::Closed,
+        FrameIn::Broken => Last::Broken,
+        FrameIn::NoMemory => Last::NoMemory,
+    }
+}
+
+// Notes the body that came with this answer.
+fn note(came: &mut Log, answer: &FrameIn)
+    ensures { came.new.texts ≡ came_with answer.now came.old.texts }
+{
+    if let FrameIn::Binary(body) = answer {
+        *came = came.and(&Piece {
+            bytes: body.as_slice(),
+        });
+    }
+}
+
+fn broke(breaks: u64, answer: &FrameIn) -> u64
+    ensures { result ≡ breaks_with answer.now breaks }
+{
+    match answer {
+        FrameIn::Broken => breaks.saturating_add(1),
+        _ => breaks,
+    }
+}
+
+impl Socket {
+    /// Nothing was fed and nothing waits. Messages and frames have at most `max` bytes.
+    pub fn new(alloc: Global, side: Side, max: u32) -> Socket
+        ensures { result ≡ fresh_frames (role_of side) }
+    {
+        Socket {
+            stream: Stream::new(alloc, side.role(), side.seed(), max),
+            came: Log::none(),
+            sent: Log::none(),
+            last: Last::Nothing,
+            refusals: 0,
+            breaks: 0,
+        }
+    }
+}
+
+impl Frames for Socket {
+    ghost seen = { λ s. s };
+
+    fn feed(&mut self, b: &[u8]) -> Result<(), NoMemory>
+        ensures { AfterFeed result b.now self.old self.new }
+    {
+        self.stream.fed.extend_from_slice(b)?;
+        Ok(())
+    }
+
+    fn next(&mut self) -> FrameIn
+        ensures { AfterNext result self.old self.new }
+    {
+        let answer = self.stream.next();
+        self.last = kind(&answer);
+        note(&mut self.came, &answer);
+        self.breaks = broke(self.breaks, &answer);
+        answer
+    }
+
+    fn send(&mut self, b: &[u8]) -> FrameOut
+        ensures { AfterSend result b.now self.old self.new }
+    {
+        match self.stream.send(b) {
+            FrameOut::Done => {
+                self.sent = self.sent.and(&Piece { bytes: b });
+                FrameOut::Done
+            }
+            FrameOut::Refused => {
+                self.refusals = self.refusals.saturating_add(1);
+                FrameOut::Refused
+            }
+            FrameOut::NoMemory => FrameOut::NoMemory,
+        }
+    }
+
+    fn waiting(&self) -> &[u8]
+        ensures { result.now ≡ self.now.waiting }
+    {
+        &self.stream.out
+    }
+
+    fn taken(&mut self, n: usize)
+        requires { n ≤ length self.old.waiting }
+        ensures { self.new ≡ record self.old { waiting = drop n self.old.waiting } }
+    {
+        self.stream.out.drain(..n);
+    }
+}
