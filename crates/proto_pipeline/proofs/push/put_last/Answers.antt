@@ -1,28 +1,22 @@
-use Rattle.std.proofs.Common.{◌≡◌, ◌<◌, ◌≤◌, ◌∙◌, arith, sym, ap, true, false, length, Some, ℕ, List}
-use Rattle.std.specs.Prelude.{◌==◌, vec_capacity, vec_len, Result, Ok, Err, OnErr}
-use Rattle.std.specs.Result.{is_err}
+use Rattle.std.proofs.Common.{◌≡◌, sym, ap, List, ◌∷◌, ◌++◌, [], ℕ, Some, true, false, ◌∙◌}
 use Rattle.std.specs.List.{list_any}
 use Rattle.proto_pipeline.specs.declared.push.Port.{Port}
-use Rattle.proto_pipeline.proofs.Ports.{fewer_left}
+use Rattle.proto_pipeline.specs.Pushes.{put_back, is_port}
+use Rattle.proto_pipeline.proofs.Marking.{one_forgot}
 use Rattle.proto_pipeline.proofs.push.put_last.Goals as goal
 
 same_pipe : (p q : ℕ) → Some p ≡ Some q → p ≡ q
 same_pipe p q e = cc
 
-failed : {A E : Type 0} (r : Result A E) (P : Type 0) → is_err r ≡ true → OnErr r P → P
-failed (Ok a) P e h = absurd cc
-failed (Err x) P e h = h
-
-pub returns-then-not-knows : goal.returns-then-not-knows
-returns-then-not-knows c = λ p o k.
+pub returns-in-None-port_at-clause-ports : goal.returns-in-None-port_at-clause-ports
+returns-in-None-port_at-clause-ports c = λ p o a k.
     let is : c.in-Some.p ≡ p = same_pipe c.in-Some.p p (sym c.in-Some.is ∙ o) in
-    let no : false ≡ true = sym c.if-not-knows.true ∙ c.knows.ensures ∙ ap (list_any (λ (x : Port). x.pipe == c.in-Some.p)) c.deref.ensures.value ∙ ap (λ (q : ℕ). list_any (λ (x : Port). x.pipe == q) c.args.ports.now.items) is ∙ k in
+    let no : false ≡ true = sym c.in-None-port_at.ensures ∙ ap (λ (q : ℕ). list_any (is_port q) c.args.ports.now.items) is ∙ k in
     absurd cc
 
-pub unreachable-requires : goal.unreachable-requires
-unreachable-requires c =
-    let p = c.in-Some.p in
-    let known : list_any (λ (x : Port). x.pipe == p) c.args.ports.now.items ≡ true = sym (ap (list_any (λ (x : Port). x.pipe == p)) c.deref.ensures.value) ∙ sym c.knows.ensures ∙ c.if-not-knows.false in
-    let less = fewer_left c.args.ports.now.items p known in
-    let full : vec_capacity c.forget.new.ports ≤ vec_len c.forget.new.ports = failed c.push.result _ (sym c.is_err.ensures.value ∙ c.if-is_err.true) c.push.ensures.full in
-    absurd (omega (arith, less, full, ap length c.forget.ensures.items, c.forget.new.ports.ok.0, c.args.ports.now.ok.0, c.args.ports.now.ok.1, c.forget.ensures.room))
+pub returns-in-Some-port_at-clause-ports : goal.returns-in-Some-port_at-clause-ports
+returns-in-Some-port_at-clause-ports c = λ p o a k.
+    let is : c.in-Some.p ≡ p = same_pipe c.in-Some.p p (sym c.in-Some.is ∙ o) in
+    let at = c.in-Some-port_at.ensures in
+    let d : Port = record { pipe = 0; is_full = true } in
+    c.move_last.ensures.ports ∙ ap (λ (xs : List Port). xs ++ record { pipe = c.in-Some.p; is_full = false } ∷ []) (one_forgot c.in-Some.p c.args.ports.now.items c.in-Some-port_at.i d a at.0 (at.1 d)) ∙ ap (λ (q : ℕ). put_back q c.args.ports.now.items) is

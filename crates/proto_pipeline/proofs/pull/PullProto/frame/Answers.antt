@@ -1,9 +1,8 @@
-use Rattle.std.proofs.Common.{◌≡◌, ◌∙◌, ◌≤◌, ◌<◌, refl, sym, arith, true, false, length, List, ◌∷◌, ◌++◌, [], rules}
-use Rattle.std.specs.Prelude.{Result, Ok, Err, OnErr, ℕ}
+use Rattle.std.proofs.Common.{◌≡◌, ◌∙◌, ◌≤◌, refl, sym, arith, true, ◌∷◌, ◌++◌, [], rules}
+use Rattle.std.specs.Prelude.{Result, Ok, Err, OnErr}
 use Rattle.std.specs.Result.{is_err}
 use Rattle.std.specs.VecDeque.{deque_len, deque_capacity}
 use Rattle.proto_pipeline.specs.declared.pull.Pull.{Pull}
-use Rattle.proto_pipeline.specs.declared.pull.Kept.{Kept}
 use Rattle.proto_pipeline.proofs.Pulled.{has_place, frame_ties, well_formed}
 use Rattle.proto_pipeline.proofs.pull.PullProto.frame.Goals as goal
 

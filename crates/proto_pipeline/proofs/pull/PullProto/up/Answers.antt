@@ -1,4 +1,4 @@
-use Rattle.std.proofs.Common.{◌≡◌, ◌∙◌, ◌≤◌, ◌+◌, ℕ, refl, sym, ap, arith, true, false, length, List, ◌∷◌, ◌++◌, [], rules}
+use Rattle.std.proofs.Common.{◌≡◌, ◌≤◌, ◌+◌, refl, arith, ◌∷◌, ◌++◌, [], rules}
 use Rattle.std.specs.VecDeque.{deque_len, deque_capacity}
 use Rattle.proto_pipeline.specs.declared.pull.Pull.{Pull}
 use Rattle.proto_pipeline.proofs.Pulled.{up_ties}
