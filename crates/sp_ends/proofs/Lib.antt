@@ -23,6 +23,8 @@ pub mod WholeTurn
 pub mod NewcomingTurn
 pub mod NewcomingMoments
 pub mod Freeing
+pub mod Knowing
+pub mod Young
 pub mod NewcomingAsks
 pub mod NewcomingDials
 pub mod NewcomingDue

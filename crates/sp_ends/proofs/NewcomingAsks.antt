@@ -15,7 +15,7 @@ use Rattle.sp_ends.specs.declared.dialer.Dialer.{Dialer}
 use Rattle.sp_ends.specs.Dialing.{IsDialed, IsTcpAddress}
 use Rattle.sp_ends.specs.Standing.{EndsView, NetStands, IsListener, sum_of, tries_of}
 use Rattle.sp_ends.specs.Freeing.{Frees}
-use Rattle.sp_ends.specs.Turning.{Quietly, IsDry, InTurn, SameEnds, IsSameDialer, AreSameDialers, AsksNet}
+use Rattle.sp_ends.specs.Turning.{Quietly, IsDry, InTurn, SameEnds, IsSameDialer, AreSameDialers, AsksNet, AreYoung}
 use Rattle.sp_ends.proofs.Serving.{same_dialers, dialers_both, dialers_long, ends_none, ends_both}
 use Rattle.sp_ends.proofs.Turns.{quiet_both, quiet_none, quiet_ticks, quiet_before, quiet_where}
 use Rattle.sp_ends.proofs.Freeing.{frees_none, frees_both}
@@ -82,6 +82,8 @@ pub record Asking {L : Type 0} (seen : L → LinkView) (i : ℕ) (old new : Ends
   pub few : length new.newcomers ≤ length old.newcomers + i
   pub listens : net'.listens ≡ net.listens
   pub opened : net.opened ≤ net'.opened
+  pub handed : net'.opened ≤ net.opened + i
+  pub young : AreYoung t 0 old.newcomers → AreYoung t 0 new.newcomers
   pub idles : net.idles ≤ net'.idles
   pub faults : net.faults ≤ net'.faults
   pub rose : CanRise net'.idles → CanRise net'.faults → sum_of net + i ≤ sum_of net'
@@ -98,6 +100,8 @@ module _ {L : Type 0} (seen : L → LinkView) where
     few = omega arith;
     listens = refl;
     opened = omega arith;
+    handed = omega arith;
+    young = λ a. a;
     idles = omega arith;
     faults = omega arith;
     rose = λ x y. omega arith;
@@ -105,8 +109,8 @@ module _ {L : Type 0} (seen : L → LinkView) where
 
   pub asking_next : (i : ℕ) (old mid new : EndsView L) (net net1 net2 : NetView) (a b c : SingleView) (t : ℕ) (d e : Bool) → Asking seen i old mid net net1 a b t d
       → ((start : NetView) → InTurn seen start mid net1 b t 0 → InTurn seen start new net2 c t 0) → length new.newcomers ≤ length mid.newcomers + 1 → AsksNet net1 net2 → AreSameDialers mid.dialers new.dialers → Frees t net1 net2 mid.dialers new.dialers → Quietly b c → SameEnds mid new → IsDry e c
-      → Asking seen (i + 1) old new net net2 a c t e
-  asking_next i old mid new net net1 net2 a b c t d e was in_turn few asks dialers frees quietly same dry = record {
+      → net2.opened ≤ net1.opened + 1 → (AreYoung t 0 mid.newcomers → AreYoung t 0 new.newcomers) → Asking seen (i + 1) old new net net2 a c t e
+  asking_next i old mid new net net1 net2 a b c t d e was in_turn few asks dialers frees quietly same dry handed young = record {
     in_turn = λ start x. in_turn start (was.in_turn start x);
     ends = ends_both old mid new was.ends same;
     dialers = dialers_both old.dialers mid.dialers new.dialers was.dialers dialers;
@@ -116,6 +120,8 @@ module _ {L : Type 0} (seen : L → LinkView) where
     few = omega (arith, few, was.few);
     listens = asks.listens ∙ was.listens;
     opened = omega (arith, asks.opened, was.opened);
+    handed = omega (arith, handed, was.handed);
+    young = λ a. young (was.young a);
     idles = omega (arith, asks.idles, was.idles);
     faults = omega (arith, asks.faults, was.faults);
     rose = λ x y.

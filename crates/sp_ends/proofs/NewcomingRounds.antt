@@ -18,14 +18,15 @@ use Rattle.sp_ends.specs.declared.newcomer.Newcomer.{Newcomer}
 use Rattle.sp_ends.specs.Moments.{moment}
 use Rattle.sp_ends.specs.Dialing.{IsDialed, IsTcpAddress, next_from}
 use Rattle.sp_ends.specs.Standing.{EndsView, NetStands, IsListener, places, in_order, sum_of, tries_of}
-use Rattle.sp_ends.specs.Freeing.{IsDue, GotBack, Redials}
-use Rattle.sp_ends.specs.Turning.{Quietly, IsDry, InTurn, SameEnds, AsksNet, DialsAt}
+use Rattle.sp_ends.specs.Freeing.{IsDue, GotBack, Redials, KnowsLinks}
+use Rattle.sp_ends.specs.Turning.{Quietly, IsDry, InTurn, SameEnds, AsksNet, DialsAt, AreYoung}
 use Rattle.sp_ends.proofs.Places.{inside}
 use Rattle.sp_ends.proofs.Serving.{same_dialers, dials_long, ends_none, ends_both}
 use Rattle.sp_ends.proofs.Turns.{quiet_both, quiet_none, quiet_ticks, quiet_where}
 use Rattle.sp_ends.proofs.NewcomingAsks.{at_index, ticks_last}
 use Rattle.sp_ends.proofs.NewcomingDials.{dials_tries}
 use Rattle.sp_ends.proofs.Freeing.{got_none, got_both, same_all, TurnedTo, turned_due, turned_not_due}
+use Rattle.sp_ends.proofs.Knowing.{knows_none, knows_next}
 use Rattle.sp_ends.proofs.NewcomingDue.{DialedTo, next_dialed, next_not_due, all_dialed, rest_not_tried, dialable_at}
 
 -- ---- All of them
@@ -57,6 +58,8 @@ pub record Dialing {L : Type 0} (seen : L → LinkView) (i : ℕ) (old new : End
   pub rose : CanRise net'.idles → CanRise net'.faults → sum_of net + tries_of new.dialers ≤ sum_of net' + tries_of old.dialers
   pub got : GotBack net net'
   pub turned : TurnedTo i t net net' old.dialers new.dialers
+  pub knows : KnowsLinks net.opened net' new.dialers
+  pub young : AreYoung t 0 old.newcomers → AreYoung t 0 new.newcomers
 
 module _ {L : Type 0} (seen : L → LinkView) where
   pub dialing_first : (ends : EndsView L) (net : NetView) (a : SingleView) (t : ℕ) (is_dry : Bool) → IsDry is_dry a → Dialing seen 0 ends ends net net a a t is_dry
@@ -75,6 +78,8 @@ module _ {L : Type 0} (seen : L → LinkView) where
     rose = λ x y. omega arith;
     got = got_none net net (omega arith) refl;
     turned = same_all t net net ends.dialers refl;
+    knows = knows_none net.opened net ends.dialers (omega arith);
+    young = λ a. a;
   }
 
   module _ (i : ℕ) (old mid : EndsView L) (net net1 : NetView) (a b : SingleView) (t : ℕ) (fits : t ≤ 2 ^ 64 - 1) (d : Bool) (was : Dialing seen i old mid net net1 a b t d) where
@@ -97,12 +102,14 @@ module _ {L : Type 0} (seen : L → LinkView) where
       rose = was.rose;
       got = was.got;
       turned = subst (λ (k : ℕ). TurnedTo k t net net1 old.dialers mid.dialers) (sym (add-one i)) (turned_not_due t net net1 i old.dialers mid.dialers was.turned no_due);
+      knows = was.knows;
+      young = was.young;
     }
 
     pub dialing_next : (new : EndsView L) (net2 : NetView) (c : SingleView) (e : Bool) → ((q : Dialer) → slice_get mid.dialers i ≡ Some q → IsDue t q)
         → ((start : NetView) → InTurn seen start mid net1 b t 0 → InTurn seen start new net2 c t 0) → length new.newcomers ≤ length mid.newcomers + 1 → AsksNet net1 net2 → DialsAt i t net1 net2 mid.dialers new.dialers → Redials i t net1 net2 mid.dialers new.dialers → Quietly b c → SameEnds mid new → IsDry e c
-        → Dialing seen (i + 1) old new net net2 a c t e
-    dialing_next new net2 c e due in_turn few asks dials redials quietly same dry = record {
+        → KnowsLinks net1.opened net2 new.dialers → (AreYoung t 0 mid.newcomers → AreYoung t 0 new.newcomers) → Dialing seen (i + 1) old new net net2 a c t e
+    dialing_next new net2 c e due in_turn few asks dials redials quietly same dry known young = record {
       in_turn = λ start x. in_turn start (was.in_turn start x);
       ends = ends_both old mid new was.ends same;
       quietly = quiet_both a b c was.quietly quietly;
@@ -122,6 +129,8 @@ module _ {L : Type 0} (seen : L → LinkView) where
           let tr = dials_tries i t (net2.opened ≡ net1.opened) mid.dialers new.dialers dials in omega (arith, before, after, tr);
       got = got_both net net1 net2 was.got redials.net;
       turned = subst (λ (k : ℕ). TurnedTo k t net net2 old.dialers new.dialers) (sym (add-one i)) (turned_due t net net1 net2 was.got redials.net i old.dialers mid.dialers new.dialers was.turned redials.dialers due);
+      knows = knows_next net.opened i t net1 net2 mid.dialers new.dialers was.knows redials.net redials.dialers due known;
+      young = λ x. young (was.young x);
     }
 
     pub dialable_here : (start : NetView) → InTurn seen start old net a t 0 → AllByRecursion (IsDialed (net.opened ≡ start.opened) (before_last_tick (past_of a.seen))) old.dialers → (e : Dialer) → slice_get mid.dialers i ≡ Some e → IsTcpAddress e.addr

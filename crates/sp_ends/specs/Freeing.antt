@@ -86,6 +86,19 @@ pub record Redials (i now : ℕ) (old new : NetView) (ds es : List Dialer) : Typ
   pub net : GotBack old new
   pub dialers : RedialsOne i now old new ds es
 
+-- some dialer has the link with this place
+abbrev pub HasLink : ℕ → List Dialer → Type 0
+HasLink place [] = ⊥
+HasLink place (d ∷ ds) = (d.place ≡ Some place) ⊎ HasLink place ds
+
+-- each link that was handed out from this place on is a dialer's, or is back
+abbrev pub KnowsLinks : ℕ → NetView → List Dialer → Type 0
+KnowsLinks first net ds = (place : ℕ) → first ≤ place → place < net.opened → HasLink place ds ⊎ (get net.back place ≡ None → ⊥)
+
+-- the listeners brought a link each at most; every other that was handed out is a dialer's, or is back
+abbrev pub KnowsDialed : ℕ → NetView → NetView → List Dialer → Type 0
+KnowsDialed listeners old new ds = (first : ℕ) × (first ≤ old.opened + listeners) × KnowsLinks first new ds
+
 -- it has no link, and may dial
 abbrev pub IsDue : ℕ → Dialer → Type 0
 IsDue now d = (d.place ≡ None) × IsDueAt d.next now

@@ -1,5 +1,6 @@
 -- What a turn of the ends does, and its parts.
-use Rattle.std.specs.Prelude.{◌≡◌, ◌≤◌, ◌<◌, ◌+◌, ◌-◌, ◌^◌, min, ◌++◌, ◌∷◌, [], ℕ, zero, suc, ⊤, true, false, Bool, List, length, None}
+use Rattle.std.specs.Prelude.{◌≡◌, ◌≤◌, ◌<◌, ◌+◌, ◌-◌, ◌^◌, min, ◌++◌, ◌∷◌, [], ℕ, zero, suc, ⊤, true, false, Bool, List, length, drop, None}
+use Rattle.std.specs.List.{AllByRecursion}
 use Rattle.turn_lock.specs.declared.turn.Turn.{Turn}
 use Rattle.sp_base.specs.Views.{LinkView, NetView}
 use Rattle.sp_history.specs.declared.entry.Miss.{Miss}
@@ -161,9 +162,29 @@ pub record IsLeftOf {L : Type 0} (seen : L → LinkView) (wire : TcpView) (link 
   pub over : shut.link ≡ seen link
   pub framed : Framed shut
 
+-- its greetings began less than 10,000 milliseconds ago
+abbrev pub IsYoung : {L : Type 0} → ℕ → Newcomer L → Type 0
+IsYoung now n = now < n.met + 10000
+
+-- the same of all, but for so many at the front
+abbrev pub AreYoung : {L : Type 0} → ℕ → ℕ → List (Newcomer L) → Type 0
+AreYoung now k ns = AllByRecursion (IsYoung now) (drop k ns)
+
+-- the same of a link that stays
+abbrev pub FateIsYoung : {L : Type 0} → ℕ → Fate L → Type 0
+FateIsYoung now (fates.Stays n) = IsYoung now n
+FateIsYoung now fates.Up = ⊤
+FateIsYoung now (fates.Missed miss) = ⊤
+
+-- it isn't in progress any more
+abbrev pub IsOut : {L : Type 0} → Fate L → Type 0
+IsOut (fates.Stays n) = ⊥
+IsOut fates.Up = ⊤
+IsOut (fates.Missed miss) = ⊤
+
 -- what is to be done with a link whose greetings came so far, met and asked at these ticks
 abbrev pub DecidedFor : Decision → Progress → ℕ → ℕ → Type 0
-DecidedFor decisions.Stays p met now = p ≡ progress.Waits
+DecidedFor decisions.Stays p met now = (p ≡ progress.Waits) × (now < met + 10000)
 DecidedFor decisions.Attach p met now = p ≡ progress.Greeted
 DecidedFor (decisions.Miss misses.Bad) p met now = p ≡ progress.Bad
 DecidedFor (decisions.Miss misses.Ended) p met now = p ≡ progress.Ended

@@ -12,8 +12,8 @@ ghost use Rattle.sp_ends.specs.declared.dialer.Dialer.{Dialer as DialerType};
 ghost use Rattle.sp_ends.specs.declared.newcomer.Newcomer.{Newcomer as NewcomerType};
 ghost use Rattle.sp_ends.specs.Newcomers.{IsGreeted};
 ghost use Rattle.sp_ends.specs.Standing.{LinksStand, HandStands, IsCauseOf, NetStands, EndsStand, SameCounts, IsListener};
-ghost use Rattle.sp_ends.specs.Freeing.{GivesOneBack, FateBack, Frees, Redials, Turns, AreWaiting};
-ghost use Rattle.sp_ends.specs.Turning.{EndsTicked, Quietly, AllTaken, IsDry, is_dry_for, is_dry_fate, FateStands, IsNow, IsSound, SameEnds, AreSameDialers, Serves, InTurn, InTurnWith, AsksNet, DialsAt, IsLeftOf, DecidedFor, MissesFor};
+ghost use Rattle.sp_ends.specs.Freeing.{GivesOneBack, FateBack, Frees, Redials, Turns, AreWaiting, KnowsLinks, KnowsDialed};
+ghost use Rattle.sp_ends.specs.Turning.{EndsTicked, Quietly, AllTaken, IsDry, is_dry_for, is_dry_fate, FateStands, IsNow, IsSound, SameEnds, AreSameDialers, Serves, InTurn, InTurnWith, AsksNet, DialsAt, IsLeftOf, DecidedFor, MissesFor, AreYoung, FateIsYoung, IsOut};
 
 use crate::ends::{Ends, MOST_NEWCOMERS};
 use crate::newcomer::{Newcomer, Progress};
@@ -101,6 +101,8 @@ impl<L: Link> Ends<L> {
         ensures turns { Turns now (N.seen net.old) (N.seen net.new) self.old.dialers self.new.dialers }
         ensures waits { length self.new.newcomers < 256 → AreWaiting now self.new.dialers }
         ensures taken { AllTaken single.old single.new }
+        ensures young { AreYoung now 0 self.new.newcomers }
+        ensures known { KnowsDialed (length self.old.listeners) (N.seen net.old) (N.seen net.new) self.new.dialers }
     {
         let mut turn = EndsTurn::new();
         self.take_all_ended(rt, net, single, now, &mut turn);
@@ -186,6 +188,7 @@ impl<L: Link> Ends<L> {
         ensures serves { Serves self.old self.new (N.seen net.old) (N.seen net.new) single.old single.new }
         ensures frees { Frees now (N.seen net.old) (N.seen net.new) self.old.dialers self.new.dialers }
         ensures dry { IsDry turn.new.is_dry single.new }
+        ensures young { AreYoung now 0 self.new.newcomers }
     {
         'greets: for _ in 0..self.newcomers.len() {
             let Some(newcomer) = self.newcomers.pop_front() else {
@@ -213,6 +216,7 @@ impl<L: Link> Ends<L> {
         ensures serves { Serves self.old self.new (N.seen net.old) (N.seen net.new) single.old single.new }
         ensures frees { Frees now (N.seen net.old) (N.seen net.new) self.old.dialers self.new.dialers }
         ensures dry { IsDry turn.new.is_dry single.new }
+        ensures young { (k : ℕ) → AreYoung now k self.old.newcomers → AreYoung now k self.new.newcomers }
     {
         let place = newcomer.link.place();
         match greet_one(self.alloc, rt, net, single, newcomer, now) {
@@ -245,6 +249,8 @@ impl<L: Link> Ends<L> {
         ensures dry { IsDry turn.new.is_dry single.new }
         ensures few { length self.new.newcomers ≤ length self.old.newcomers + length self.old.listeners }
         ensures frees { Frees now (N.seen net.old) (N.seen net.new) self.old.dialers self.new.dialers }
+        ensures handed { (N.seen net.new).opened ≤ (N.seen net.old).opened + length self.old.listeners }
+        ensures young { AreYoung now 0 self.old.newcomers → AreYoung now 0 self.new.newcomers }
     {
         'accepts: for i in 0..self.listeners.len() {
             if self.newcomers.len() >= MOST_NEWCOMERS {
@@ -277,6 +283,8 @@ impl<L: Link> Ends<L> {
         ensures quietly { Quietly single.old single.new }
         ensures same { SameEnds self.old self.new }
         ensures dry { IsDry turn.new.is_dry single.new }
+        ensures handed { (N.seen net.new).opened ≤ (N.seen net.old).opened + 1 }
+        ensures young { AreYoung now 0 self.old.newcomers → AreYoung now 0 self.new.newcomers }
     {
         match net.accept(self.listeners[i]) {
             Linked::NotYet => (),
@@ -305,6 +313,8 @@ impl<L: Link> Ends<L> {
         ensures dry { IsDry turn.new.is_dry single.new }
         ensures turns { Turns now (N.seen net.old) (N.seen net.new) self.old.dialers self.new.dialers }
         ensures waits { length self.new.newcomers < 256 → AreWaiting now self.new.dialers }
+        ensures known { KnowsLinks (N.seen net.old).opened (N.seen net.new) self.new.dialers }
+        ensures young { AreYoung now 0 self.old.newcomers → AreYoung now 0 self.new.newcomers }
     {
         'dials: for i in 0..self.dialers.len() {
             if self.newcomers.len() >= MOST_NEWCOMERS {
@@ -339,6 +349,8 @@ impl<L: Link> Ends<L> {
         ensures quietly { Quietly single.old single.new }
         ensures same { SameEnds self.old self.new }
         ensures dry { IsDry turn.new.is_dry single.new }
+        ensures known { KnowsLinks (N.seen net.old).opened (N.seen net.new) self.new.dialers }
+        ensures young { AreYoung now 0 self.old.newcomers → AreYoung now 0 self.new.newcomers }
     {
         match net.dial(&self.dialers[i].addr) {
             Linked::NotYet => self.dialers[i].dialed(now, None),
@@ -368,6 +380,7 @@ impl<L: Link> Ends<L> {
         ensures serves { Serves self.old self.new (N.seen net.old) (N.seen net.new) single.old single.new }
         ensures frees { Frees now (N.seen net.old) (N.seen net.new) self.old.dialers self.new.dialers }
         ensures dry { IsDry turn.new.is_dry single.new }
+        ensures young { AreYoung now 0 self.old.newcomers → AreYoung now 0 self.new.newcomers }
     {
         single.met(rt, link.place());
         turn.moved = true;
@@ -402,6 +415,7 @@ fn greet_one<R: Wait, N: Net, P: Proto>(
     ensures counts { SameCounts (N.seen net.old) (N.seen net.new) }
     ensures dry { has_dry_miss (past_of single.new.seen) ≡ (is_dry_fate result || has_dry_miss (past_of single.old.seen)) }
     ensures back { FateBack result (N.L.seen newcomer.link).place (N.seen net.old) (N.seen net.new) }
+    ensures young { FateIsYoung now result }
 {
     let mut newcomer = newcomer;
     let progress = newcomer.greet();
@@ -448,6 +462,7 @@ fn attach<R: Wait, N: Net, P: Proto>(
     ensures counts { SameCounts (N.seen net.old) (N.seen net.new) }
     ensures dry { has_dry_miss (past_of single.new.seen) ≡ (is_dry_fate result || has_dry_miss (past_of single.old.seen)) }
     ensures back { FateBack result (N.L.seen link).place (N.seen net.old) (N.seen net.new) }
+    ensures out { IsOut result }
 {
     let place = link.place();
     match TcpWire::new(alloc, link, &[], MAX_BODY) {

@@ -9,6 +9,7 @@ ghost use Rattle.sp_core.specs.declared.ops.BeginError.TheVariants as error;
 ghost use Rattle.sp_core.specs.Standing.{BeganBy, began, HasFirst};
 ghost use Rattle.sp_core.specs.Collecting.{CollectedBy, DueBy, IsOpen};
 ghost use Rattle.sp_core.specs.Closing.{ClosedBy};
+ghost use Rattle.sp_core.specs.Contexts.{SubscribedBy};
 ghost use Rattle.sp_core.specs.Wires.{numbers_of, IsUnused};
 ghost use Rattle.sp_core.specs.Attaching.{AttachedBy, attached, TookWire};
 ghost use Rattle.sp_core.specs.Serving.{IsServeTurn, ServedBy};
@@ -20,7 +21,7 @@ use sp_base::{Ctx, PipeId, Tick};
 use sp_history::entry::{Miss, Totals};
 use sp_msg::{Message, Wire};
 use sp_proto::Proto;
-use sp_socket::{AttachError, BeginError, Collected, Gone, Op, Served};
+use sp_socket::{AttachError, BeginError, Collected, Gone, Op, Served, TopicError};
 use std::sync::Wait;
 
 impl<P: Proto, W: Wire> Single<P, W> {
@@ -69,6 +70,15 @@ impl<P: Proto, W: Wire> Single<P, W> {
         ensures turn { TookOne (λ z h t. CollectedBy result op 1 h t) self.old self.new }
     {
         self.socket.collect(rt, &mut self.pass, op)
+    }
+
+    /// Puts a topic on for the context (NNG_OPT_SUB_SUBSCRIBE of nng_sub(7)), of at most 1,024 bytes; one that is there
+    /// stays. Refused by the first cause of `TopicError` that stands.
+    pub fn subscribe<R: Wait>(&mut self, rt: &R, c: Ctx, topic: &[u8]) -> Result<(), TopicError>
+        ensures open_ { KeepsOpen self.old self.new }
+        ensures turn { TookOne (λ z h t. SubscribedBy result z h t c topic.now) self.old self.new }
+    {
+        self.socket.subscribe(rt, &mut self.pass, c, topic)
     }
 
     /// The wire, which was not used yet, becomes a pipe over the link with this place.

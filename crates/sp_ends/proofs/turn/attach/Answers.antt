@@ -5,7 +5,7 @@ use Rattle.sp_base.specs.Wires.{WireView, numbers_of}
 use Rattle.sp_tcp.specs.Views.{TcpView}
 use Rattle.sp_ends.specs.declared.turn.Fate.{Fate}
 use Rattle.sp_ends.specs.Standing.{HandStands, IsCauseOf}
-use Rattle.sp_ends.specs.Turning.{FateStands, is_dry_fate}
+use Rattle.sp_ends.specs.Turning.{FateStands, is_dry_fate, IsOut}
 use Rattle.sp_ends.specs.Freeing.{FateBack, GivesOneBack}
 use Rattle.sp_ends.proofs.turn.attach.Goals as goal
 use Rattle.sp_ends.proofs.Turns.{quiet_one, quiet_both, first_play, settles_play, dry_first, dry_settles}
@@ -73,3 +73,9 @@ returns-in-Err-attach-clause-back g c =
     let same = link_back c.in-Err-attach.wire c.in-Ok.wire (g.N.L.Link.seen c.args.link) (g.N.L.Link.seen c.into_link.result) c.into_link.ensures.link c.in-Err-attach.ensures.turn.said.1 c.in-Ok.ensures.link_is in
     subst (λ (f : Fate g.row.N-L.Denot). FateBack f (g.N.L.Link.seen c.args.link).place (g.N.Net.seen c.args.net.now) (g.N.Net.seen c.miss-in-Err-attach.new.net)) (sym c.miss-in-Err-attach.ensures.fate)
     (subst (λ (x : LinkView). GivesOneBack x.place (g.N.Net.seen c.args.net.now) (g.N.Net.seen c.miss-in-Err-attach.new.net)) (sym same) c.miss-in-Err-attach.ensures.back)
+
+pub returns-in-Err-clause-out : goal.returns-in-Err-clause-out
+returns-in-Err-clause-out g c = subst (λ (f : Fate g.row.N-L.Denot). IsOut f) (sym c.miss.ensures.fate) tt
+
+pub returns-in-Err-attach-clause-out : goal.returns-in-Err-attach-clause-out
+returns-in-Err-attach-clause-out g c = subst (λ (f : Fate g.row.N-L.Denot). IsOut f) (sym c.miss-in-Err-attach.ensures.fate) tt

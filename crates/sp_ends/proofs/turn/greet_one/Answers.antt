@@ -8,6 +8,8 @@ use Rattle.sp_ends.specs.declared.turn.Fate.{Fate}
 use Rattle.sp_ends.specs.Standing.{HandStands, IsCauseOf}
 use Rattle.sp_ends.proofs.turn.greet_one.Goals as goal
 use Rattle.sp_ends.proofs.Hands.{to_hand, stays_behind}
+use Rattle.sp_ends.specs.Turning.{FateIsYoung}
+use Rattle.sp_ends.proofs.Young.{out_young}
 use Rattle.sp_ends.proofs.Greeting.{cause_of}
 
 pub attach-requires-clause-stands : goal.attach-requires-clause-stands
@@ -33,7 +35,7 @@ returns-in-Stays-clause-stands g c =
     λ start ns k s.
     let p = s.progressing.front.0 in
     let greeted = subst (λ (r : Role). GreetedTo g.N.L.Link.seen c.greet-progress.result r c.args.newcomer c.greet-progress.new.self) p.under_way.role_is c.greet-progress.ensures.greeted in
-    let waits = subst (λ (x : Progress). GreetedTo g.N.L.Link.seen x c.args.single.now.setting.role c.args.newcomer c.greet-progress.new.self) c.in-Stays.ensures greeted in
+    let waits = subst (λ (x : Progress). GreetedTo g.N.L.Link.seen x c.args.single.now.setting.role c.args.newcomer c.greet-progress.new.self) c.in-Stays.ensures.0 greeted in
     stays_behind g.N.L.Link.seen c.args.single.now.setting start c.args.single.now.seen ns k (g.N.Net.seen c.args.net.now) c.args.newcomer c.greet-progress.new.self c.greet-progress.ensures.later c.greet-progress.ensures.met waits.0 waits.1 waits.2 s
 
 pub returns-in-Attach-clause-stands : goal.returns-in-Attach-clause-stands
@@ -49,3 +51,12 @@ pub returns-in-Miss-clause-back : goal.returns-in-Miss-clause-back
 returns-in-Miss-clause-back g c =
     subst (λ (f : Fate g.row.N-L.Denot). FateBack f (g.N.L.Link.seen c.args.newcomer.link).place (g.N.Net.seen c.args.net.now) (g.N.Net.seen c.miss.new.net)) (sym c.miss.ensures.fate)
     (subst (λ (q : ℕ). GivesOneBack q (g.N.Net.seen c.args.net.now) (g.N.Net.seen c.miss.new.net)) (ap (λ (l : g.row.N-L.Denot). (g.N.L.Link.seen l).place) c.into_link-in-Miss.ensures ∙ c.greet-progress.ensures.later.place) c.miss.ensures.back)
+
+pub returns-in-Stays-clause-young : goal.returns-in-Stays-clause-young
+returns-in-Stays-clause-young g c = c.in-Stays.ensures.1
+
+pub returns-in-Attach-clause-young : goal.returns-in-Attach-clause-young
+returns-in-Attach-clause-young g c = out_young c.args.now c.attach.result c.attach.ensures.out
+
+pub returns-in-Miss-clause-young : goal.returns-in-Miss-clause-young
+returns-in-Miss-clause-young g c = subst (λ (f : Fate g.row.N-L.Denot). FateIsYoung c.args.now f) (sym c.miss.ensures.fate) tt

@@ -25,10 +25,20 @@ accept_one-requires-clause-listens g c at e =
 pub accepts-preserved : goal.accepts-preserved
 accepts-preserved g c =
     let e = c.accept_one.ensures in
-    asking_next g.L.Link.seen c.accepts.i c.args.self.now c.accepts.self c.accept_one.new.self (g.N.Net.seen c.args.net.now) (g.N.Net.seen c.accepts.net) (g.N.Net.seen c.accept_one.new.net) c.args.single.now c.accepts.single c.accept_one.new.single c.args.now c.accepts.turn.is_dry c.accept_one.new.turn.is_dry c.accepts.invariant e.in_turn e.few e.asks e.dialers e.frees e.quietly e.same e.dry
+    asking_next g.L.Link.seen c.accepts.i c.args.self.now c.accepts.self c.accept_one.new.self (g.N.Net.seen c.args.net.now) (g.N.Net.seen c.accepts.net) (g.N.Net.seen c.accept_one.new.net) c.args.single.now c.accepts.single c.accept_one.new.single c.args.now c.accepts.turn.is_dry c.accept_one.new.turn.is_dry c.accepts.invariant e.in_turn e.few e.asks e.dialers e.frees e.quietly e.same e.dry e.handed e.young
 
 pub returns-clause-asked : goal.returns-clause-asked
 returns-clause-asked g c start i_in stands =
     let old = ap (λ (e : EndsView g.row.L.Denot). length e.listeners) c.self.view_is in
     asked_all g.L.Link.seen c.accepts.i c.args.self.now c.accepts.self (g.N.Net.seen c.args.net.now) (g.N.Net.seen c.accepts.net) c.args.single.now c.accepts.single c.args.now c.accepts.turn.is_dry start c.accepts.invariant i_in c.requires.room
     (inl (omega (arith, old, c.accepts-test.false, c.accepts.auto.i-end, c.len-i-end.ensures, c.self.inside.listeners.ok.0))) stands
+
+pub returns-clause-handed : goal.returns-clause-handed
+returns-clause-handed g c =
+    let old = ap (λ (e : EndsView g.row.L.Denot). length e.listeners) c.self.view_is in
+    omega (arith, old, c.accepts-test.false, c.accepts.auto.i-end, c.len-i-end.ensures, c.self.inside.listeners.ok.0, c.accepts.invariant.handed)
+
+pub returns-then-len-ge-MOST_NEWCOMERS-clause-handed : goal.returns-then-len-ge-MOST_NEWCOMERS-clause-handed
+returns-then-len-ge-MOST_NEWCOMERS-clause-handed g c =
+    let old = ap (λ (e : EndsView g.row.L.Denot). length e.listeners) c.self.view_is in
+    omega (arith, old, c.accepts-test.true, c.len-i-end.ensures, c.self.inside.listeners.ok.0, c.accepts.invariant.handed)

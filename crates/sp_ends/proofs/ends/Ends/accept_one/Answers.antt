@@ -50,3 +50,17 @@ pub returns-in-Got-clause-frees : goal.returns-in-Got-clause-frees
 returns-in-Got-clause-frees g c =
     let h = c.in-Got.ensures.shows in
     frees_both c.args.now (g.N.Net.seen c.args.net.now) (g.N.Net.seen c.accept.new.self) (g.N.Net.seen c.welcome.new.net) c.args.self.now.dialers c.args.self.now.dialers c.welcome.new.self.dialers (frees_none c.args.now (g.N.Net.seen c.args.net.now) (g.N.Net.seen c.accept.new.self) c.args.self.now.dialers c.args.self.now.dialers (let o = h.opened in omega (arith, o)) h.back refl) c.welcome.ensures.frees
+
+pub returns-in-NotYet-clause-handed : goal.returns-in-NotYet-clause-handed
+returns-in-NotYet-clause-handed g c = let o = c.in-NotYet.ensures.shows.0.opened in omega (arith, o)
+
+pub returns-in-Failed-clause-handed : goal.returns-in-Failed-clause-handed
+returns-in-Failed-clause-handed g c = let o = c.in-Failed.ensures.shows.0.opened in omega (arith, o)
+
+pub returns-in-Got-clause-handed : goal.returns-in-Got-clause-handed
+returns-in-Got-clause-handed g c =
+    let o = c.in-Got.ensures.shows.opened in
+    let same = c.welcome.ensures.serves.counts.opened in omega (arith, o, same)
+
+pub returns-in-Got-clause-young : goal.returns-in-Got-clause-young
+returns-in-Got-clause-young g c = λ a. c.welcome.ensures.young a

@@ -1,14 +1,17 @@
-use Rattle.std.proofs.Common.{◌≡◌, ◌∙◌, Some, None, subst, sym, ap, refl, arith, slice_get}
+use Rattle.std.proofs.Common.{◌≡◌, ◌∙◌, List, Some, None, subst, sym, ap, refl, arith, slice_get}
 use Rattle.std.proofs.lemmas.Option.{slice_get_within}
 use Rattle.sp_base.specs.Addresses.{scheme_of}
 use Rattle.sp_base.specs.Steps.{IsHandedOut}
 use Rattle.sp_base.specs.declared.addr.Scheme.TheVariants as schemes
 use Rattle.sp_ends.specs.declared.dialer.Dialer.{Dialer}
+use Rattle.sp_ends.specs.declared.newcomer.Newcomer.{Newcomer}
 use Rattle.sp_ends.specs.Standing.{EndsView}
+use Rattle.sp_ends.specs.Turning.{AreYoung}
 use Rattle.sp_ends.proofs.NewcomingAsks.{at_index}
 use Rattle.sp_ends.proofs.NewcomingTurn.{untouched}
 use Rattle.sp_ends.proofs.NewcomingDials.{turned_as, dialed_at, dials_then}
 use Rattle.sp_ends.proofs.Freeing.{redials_none, redials_got}
+use Rattle.sp_ends.proofs.Knowing.{knows_none, knows_got}
 use Rattle.sp_ends.proofs.ends.Ends.dial_one.Goals as goal
 
 pub welcome-requires-clause-fresh : goal.welcome-requires-clause-fresh
@@ -95,3 +98,31 @@ returns-in-Got-clause-redials g c =
     let r = c.requires.dialable in
     let d = c.dialed-in-Got.ensures in
     redials_got c.args.i c.args.now (g.N.Net.seen c.args.net.now) (g.N.Net.seen c.dial.new.self) (g.N.Net.seen c.welcome.new.net) (g.L.Link.seen c.in-Got.link) _ c.self.inside.dialers.items c.args.self.now.dialers c.welcome.new.self.dialers c.dialed-in-Got.new.self c.in-Got.ensures.shows (ap (λ (v : EndsView g.row.L.Denot). v.dialers) c.self.view_is) (slice_get_within c.args.self.now.dialers c.args.i r.0 r.1) (d.2 ∙ ap Some c.place.ensures) c.welcome.ensures.frees
+
+pub returns-in-NotYet-clause-known : goal.returns-in-NotYet-clause-known
+returns-in-NotYet-clause-known g c =
+    let o = c.in-NotYet.ensures.shows.0.opened in
+    knows_none (g.N.Net.seen c.args.net.now).opened (g.N.Net.seen c.dial.new.self) _ (omega (arith, o))
+
+pub returns-in-Failed-clause-known : goal.returns-in-Failed-clause-known
+returns-in-Failed-clause-known g c =
+    let o = c.in-Failed.ensures.shows.0.opened in
+    knows_none (g.N.Net.seen c.args.net.now).opened (g.N.Net.seen c.dial.new.self) _ (omega (arith, o))
+
+pub returns-in-Got-clause-known : goal.returns-in-Got-clause-known
+returns-in-Got-clause-known g c =
+    let r = c.requires.dialable in
+    let d = c.dialed-in-Got.ensures in
+    knows_got c.args.i c.args.now (g.N.Net.seen c.args.net.now) (g.N.Net.seen c.dial.new.self) (g.N.Net.seen c.welcome.new.net) (g.L.Link.seen c.in-Got.link) _ c.self.inside.dialers.items c.args.self.now.dialers c.welcome.new.self.dialers c.dialed-in-Got.new.self c.in-Got.ensures.shows c.welcome.ensures.serves.counts.opened (ap (λ (v : EndsView g.row.L.Denot). v.dialers) c.self.view_is) (slice_get_within c.args.self.now.dialers c.args.i r.0 r.1) (d.2 ∙ ap Some c.place.ensures) c.welcome.ensures.frees
+
+pub returns-in-NotYet-clause-young : goal.returns-in-NotYet-clause-young
+returns-in-NotYet-clause-young g c = λ a.
+    subst (λ (ns : List (Newcomer g.row.L.Denot)). AreYoung c.args.now 0 ns) (sym (ap (λ (v : EndsView g.row.L.Denot). v.newcomers) c.self.view_is)) a
+
+pub returns-in-Failed-clause-young : goal.returns-in-Failed-clause-young
+returns-in-Failed-clause-young g c = λ a.
+    subst (λ (ns : List (Newcomer g.row.L.Denot)). AreYoung c.args.now 0 ns) (sym (ap (λ (v : EndsView g.row.L.Denot). v.newcomers) c.self.view_is)) a
+
+pub returns-in-Got-clause-young : goal.returns-in-Got-clause-young
+returns-in-Got-clause-young g c = λ a.
+    c.welcome.ensures.young (subst (λ (ns : List (Newcomer g.row.L.Denot)). AreYoung c.args.now 0 ns) (sym (ap (λ (v : EndsView g.row.L.Denot). v.newcomers) c.self.view_is)) a)

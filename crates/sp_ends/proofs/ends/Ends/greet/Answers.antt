@@ -3,7 +3,8 @@ use Rattle.std.proofs.Common.{refl, sym, ap, ◌∙◌, subst, List, [], ◌∷�
 use Rattle.sp_ends.specs.declared.newcomer.Newcomer.{Newcomer}
 use Rattle.sp_ends.specs.declared.dialer.Dialer.{Dialer}
 use Rattle.sp_ends.specs.Standing.{EndsView, LinksStand}
-use Rattle.sp_ends.specs.Turning.{AreSameDialers}
+use Rattle.sp_ends.specs.Turning.{AreSameDialers, AreYoung}
+use Rattle.sp_ends.proofs.Young.{young_more}
 use Rattle.sp_ends.proofs.ends.Ends.greet.Goals as goal
 use Rattle.sp_ends.proofs.Freeing.{frees_none, frees_lost}
 use Rattle.sp_ends.specs.Freeing.{GivesOneBack}
@@ -67,3 +68,14 @@ returns-in-Up-clause-frees g c =
 pub returns-in-Missed-clause-frees : goal.returns-in-Missed-clause-frees
 returns-in-Missed-clause-frees g c =
     frees_lost c.place-place.result (g.N.Net.seen c.args.net.now) (g.N.Net.seen c.greet_one.new.net) (subst (λ (q : ℕ). GivesOneBack q (g.N.Net.seen c.args.net.now) (g.N.Net.seen c.greet_one.new.net)) (sym c.place-place.ensures) c.in-Missed.ensures.back) c.args.now c.args.self.now.dialers c.lost.new.self.dialers c.lost.ensures.freed
+
+pub returns-in-Stays-clause-young : goal.returns-in-Stays-clause-young
+returns-in-Stays-clause-young g c = λ k a.
+    let before = ap (λ (e : EndsView g.row.L.Denot). e.newcomers) c.self.view_is in
+    let items = c.push_back_reserved.ensures.items in
+    let whole = ap (λ (ns : List (Newcomer g.row.L.Denot)). ns ++ c.in-Stays.newcomer ∷ []) (sym before) ∙ sym items in
+    subst (λ (ns : List (Newcomer g.row.L.Denot)). AreYoung c.args.now k ns) whole (young_more c.args.now k c.args.self.now.newcomers c.in-Stays.newcomer a c.in-Stays.ensures.young)
+
+pub returns-in-Missed-clause-young : goal.returns-in-Missed-clause-young
+returns-in-Missed-clause-young g c = λ k a.
+    subst (λ (ns : List (Newcomer g.row.L.Denot)). AreYoung c.args.now k ns) (sym (newcomers_lost c.args.self.now c.lost.new.self c.lost.ensures.same)) a

@@ -2,7 +2,9 @@
 use Rattle.std.proofs.Common.{◌≡◌, refl, sym, ap, ◌∙◌, subst, List, ℕ, ◌+◌, ◌-◌, length, arith}
 use Rattle.std.specs.Prelude.{suc}
 use Rattle.sp_ends.specs.Standing.{EndsView}
-use Rattle.sp_ends.specs.Turning.{InTurn}
+use Rattle.sp_ends.specs.declared.newcomer.Newcomer.{Newcomer}
+use Rattle.sp_ends.specs.Turning.{InTurn, AreYoung}
+use Rattle.sp_ends.proofs.Young.{young_none, young_rest}
 use Rattle.sp_ends.proofs.ends.Ends.greet_all.Goals as goal
 use Rattle.sp_ends.proofs.Serving.{turn_with, ends_none, same_dialers, counts_none, serves_both, serves_less}
 use Rattle.sp_ends.proofs.Turns.{quiet_none}
@@ -20,6 +22,7 @@ greets-init g c =
       serves = record { ends = ends_none c.args.self.now; dialers = same_dialers c.args.self.now.dialers; counts = counts_none (g.N.Net.seen c.args.net.now); quietly = quiet_none c.args.single.now };
       frees = frees_none c.args.now (g.N.Net.seen c.args.net.now) (g.N.Net.seen c.args.net.now) c.args.self.now.dialers c.args.self.now.dialers (omega arith) refl refl;
       dry = c.requires.dry;
+      young = young_none c.args.now (length c.args.self.now.newcomers - 0) c.args.self.now.newcomers (omega arith);
     }
 
 pub greet-requires-clause-in_turn : goal.greet-requires-clause-in_turn
@@ -46,6 +49,7 @@ greets-preserved g c =
       serves = serves_both c.args.self.now c.greets.self c.greet.new.self (g.N.Net.seen c.args.net.now) (g.N.Net.seen c.greets.net) (g.N.Net.seen c.greet.new.net) c.args.single.now c.greets.single c.greet.new.single c.greets.invariant.serves (serves_both c.greets.self _ c.greet.new.self (g.N.Net.seen c.greets.net) (g.N.Net.seen c.greets.net) (g.N.Net.seen c.greet.new.net) c.greets.single c.greets.single c.greet.new.single (serves_less c.greets.self _ (g.N.Net.seen c.greets.net) c.greets.single c.pop_front.new.self.items rest) c.greet.ensures.serves);
       frees = frees_both c.args.now (g.N.Net.seen c.args.net.now) (g.N.Net.seen c.greets.net) (g.N.Net.seen c.greet.new.net) c.args.self.now.dialers c.greets.self.dialers c.greet.new.self.dialers c.greets.invariant.frees (subst (λ (ds : List Dialer). Frees c.args.now (g.N.Net.seen c.greets.net) (g.N.Net.seen c.greet.new.net) ds c.greet.new.self.dialers) (ap (λ (e : EndsView g.row.L.Denot). e.dialers) c.self-in-greets.view_is) c.greet.ensures.frees);
       dry = c.greet.ensures.dry;
+      young = c.greet.ensures.young (length c.args.self.now.newcomers - (c.greets.counter + 1)) (young_rest c.args.now (length c.args.self.now.newcomers - c.greets.counter) (length c.args.self.now.newcomers - (c.greets.counter + 1)) c.in-Some.newcomer c.pop_front.new.self.items one (subst (λ (ns : List (Newcomer g.row.L.Denot)). AreYoung c.args.now (length c.args.self.now.newcomers - c.greets.counter) ns) first c.greets.invariant.young));
     }
 
 pub returns-clause-in_turn : goal.returns-clause-in_turn
@@ -56,3 +60,11 @@ returns-clause-in_turn g c =
     let past = c.greets-test.false in
     let none : length c.args.self.now.newcomers - c.greets.counter ≡ 0 = omega (arith, same, end, past) in
     subst (λ (m : ℕ). InTurn g.L.Link.seen start c.greets.self (g.N.Net.seen c.greets.net) c.greets.single c.args.now m) none (c.greets.invariant.in_turn start i)
+
+pub returns-clause-young : goal.returns-clause-young
+returns-clause-young g c =
+    let same = ap (λ (e : EndsView g.row.L.Denot). length e.newcomers) c.self.view_is in
+    let end = c.len-end.ensures in
+    let past = c.greets-test.false in
+    let none : length c.args.self.now.newcomers - c.greets.counter ≡ 0 = omega (arith, same, end, past) in
+    subst (λ (m : ℕ). AreYoung c.args.now m c.greets.self.newcomers) none c.greets.invariant.young

@@ -2,7 +2,7 @@
 use Rattle.std.proofs.Common.{length, ◌-◌, ◌≤◌}
 use Rattle.sp_base.specs.Views.{NetView}
 use Rattle.sp_ends.specs.Freeing.{Frees}
-use Rattle.sp_ends.specs.Turning.{InTurn, Serves, IsDry}
+use Rattle.sp_ends.specs.Turning.{InTurn, Serves, IsDry, AreYoung}
 use Rattle.sp_ends.proofs.ends.Ends.greet_all.Given as goal
 
 abbrev pub invariant-greets : goal.invariant-greets
@@ -14,4 +14,5 @@ invariant-greets g l =
       serves : Serves l.fn.self l.self (g.N.Net.seen l.fn.net) (g.N.Net.seen l.net) l.fn.single l.single;
       frees : Frees l.fn.now (g.N.Net.seen l.fn.net) (g.N.Net.seen l.net) l.fn.self.dialers l.self.dialers;
       dry : IsDry l.turn.is_dry l.single;
+      young : AreYoung l.fn.now (length l.fn.self.newcomers - l.counter) l.self.newcomers;
     }

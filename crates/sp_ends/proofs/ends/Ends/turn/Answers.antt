@@ -1,5 +1,5 @@
 -- What stands goes from part to part.
-use Rattle.std.proofs.Common.{refl, true, false}
+use Rattle.std.proofs.Common.{refl, true, false, ap, arith, length}
 use Rattle.sp_history.specs.Past.{past_of}
 use Rattle.sp_history.proofs.Backing.{legal_allowed}
 use Rattle.sp_ends.proofs.TakenAll.{untaken_off, off_stays}
@@ -92,3 +92,13 @@ returns-clause-taken g c p h =
     let off = untaken_off c.args.single.now.setting p (past_of c.args.single.now.seen) (legal_allowed c.args.single.now.setting c.args.single.now.seen c.requires.sound.legal) h in
     let down = off_stays false c.args.single.now c.take_all_ended.new.single p c.take_all_ended.ensures.serves.quietly mid.sound off in
     (off_stays true c.take_all_ended.new.single c.dial_all.new.single p later last.sound (down.0, down.1, λ taken. c.take_all_ended.ensures.taken p h)).2 refl
+
+pub returns-clause-known : goal.returns-clause-known
+returns-clause-known g c =
+    let taken = c.take_all_ended.ensures.serves in
+    let greeted = c.greet_all.ensures.serves in
+    let handed = c.accept_all.ensures.handed in
+    ((g.N.Net.seen c.accept_all.new.net).opened, omega (arith, handed, taken.counts.opened, greeted.counts.opened, ap length taken.ends.listeners, ap length greeted.ends.listeners), c.dial_all.ensures.known)
+
+pub returns-clause-young : goal.returns-clause-young
+returns-clause-young g c = c.dial_all.ensures.young (c.accept_all.ensures.young c.greet_all.ensures.young)

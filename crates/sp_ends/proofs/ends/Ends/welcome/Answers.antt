@@ -22,3 +22,6 @@ pub returns-clause-serves : goal.returns-clause-serves
 returns-clause-serves g c =
     let s = c.greet.ensures.serves in
     record { ends = s.ends; dialers = s.dialers; counts = s.counts; quietly = quiet_both c.args.single.now c.met.new.self c.greet.new.single (meets_quiet c.place.result c.args.single.now c.met.new.self c.met.ensures.turn) s.quietly }
+
+pub returns-clause-young : goal.returns-clause-young
+returns-clause-young g c = λ a. c.greet.ensures.young 0 a

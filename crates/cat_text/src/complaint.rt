@@ -1,0 +1,23 @@
+//! What is said of a wrong word.
+ghost use Rattle.std.specs.Prelude.{◌≡◌, ◌++◌, OnOk, OnErr, ℕ, List};
+ghost use Rattle.cat_text.specs.Naming.{naming, IsQuiet, IsBytes, between_quotes};
+
+use crate::plan::Format;
+use crate::printing::print;
+use sp_base::{Bytes, NoMemory};
+use std::alloc::Global;
+
+/// Puts the line that names a wrong word at the end of `out`: the word stands in it as the format Quoted prints it, so no
+/// byte of it but visible ones reaches a terminal. Refused for want of memory alone, and then a part of it may stand
+/// there.
+pub fn name_word(alloc: Global, word: &str, out: &mut Bytes) -> Result<(), NoMemory>
+    ensures { OnOk result (out.new ≡ out.old ++ naming word.now) }
+{
+    out.append(b"nngcat: see nngcat --help; can't go on with ")?;
+    print(alloc, Format::Quoted, word.as_bytes(), out)
+}
+
+/// The line that names a word has no control byte but the line feed at its end, whatever the word.
+pub fn names_quietly()
+    ensures { (word : List ℕ) → IsBytes word → IsQuiet (between_quotes word) }
+{}

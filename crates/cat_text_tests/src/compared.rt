@@ -1,0 +1,347 @@
+//! `Plan::read` and `print` beside the plainest readings, over generated words and bodies.
+
+use crate::plain_texts::text_of;
+use crate::plain_words::{
+    Kind, Said, address_of, drill_of, formats_of, is_right, number_of, plan_of, roles_of, stop_of,
+    times, value_of,
+};
+use cat_text::{CatPlan, Data, End, Format, Plan, PlanError, print};
+use sp_base::{Addr, Bytes, NoMemory, Role};
+use std::alloc::Global;
+use std::test::Fail;
+
+/// Words of which lists are made.
+const POOL: [&str; 48] = [
+    "--pull",
+    "--push",
+    "--sub0",
+    "--req",
+    "--rep",
+    "--pair",
+    "--bus0",
+    "--pub",
+    "--surveyor",
+    "--respondent0",
+    "--listen",
+    "--listen=tcp://*:0",
+    "--listen=inproc://a",
+    "--dial",
+    "--dial=tcp://1.2.3.4:5",
+    "--dial=tcp://*:1",
+    "--dial=tcp://1.2.3.4:0",
+    "tcp://127.0.0.1:5555",
+    "tcp://*:5",
+    "tcp://127.0.0.1:0",
+    "inproc://x",
+    "tcp://1.2.3",
+    "--data",
+    "--data=a=b",
+    "--file",
+    "--file=",
+    "--file=f",
+    "--subscribe",
+    "--subscribe=a",
+    "--count",
+    "--count=2",
+    "--count=4294967296",
+    "--interval",
+    "--interval=86400",
+    "--recv-timeout=86401",
+    "--send-timeout=0",
+    "0",
+    "3",
+    "01",
+    "x",
+    "",
+    "--ascii",
+    "--hex",
+    "--pull=x",
+    "--drill",
+    "--drill=1",
+    "--drill=0",
+    "--bogus",
+];
+
+/// Whole options that most often go together.
+const PARTS: [&str; 20] = [
+    "--listen=tcp://127.0.0.1:5555",
+    "--dial=tcp://10.0.0.1:1",
+    "--listen=inproc://x",
+    "--dial=inproc://y",
+    "--data=",
+    "--data=hello",
+    "--file=f",
+    "--subscribe=",
+    "--subscribe=a",
+    "--subscribe=b=c",
+    "--count=0",
+    "--count=7",
+    "--interval=0",
+    "--interval=3",
+    "--recv-timeout=4",
+    "--send-timeout=86400",
+    "--raw",
+    "--quoted",
+    "--msgpack",
+    "--ascii",
+];
+
+/// The next of a row of numbers that look random (a linear congruence).
+fn next(seed: u32) -> u32 {
+    seed.wrapping_mul(1_664_525).wrapping_add(1_013_904_223)
+}
+
+/// A number below `n` from the upper bits.
+fn below(seed: u32, n: usize) -> usize {
+    if n == 0 { 0 } else { (seed >> 8) as usize % n }
+}
+
+/// A word among the first `n`.
+fn word(words: &[&'static str], seed: u32, n: usize) -> &'static str {
+    match words.get(below(seed, n)) {
+        Some(word) => *word,
+        None => "",
+    }
+}
+
+/// So many words of the pool.
+fn any_words(alloc: Global, seed: &mut u32, len: usize) -> Result<Vec<String>, NoMemory> {
+    let mut list = Vec::new(alloc);
+    for _ in 0..len {
+        *seed = next(*seed);
+        list.push(String::from_str(alloc, word(POOL.as_slice(), *seed, 48))?)?;
+    }
+    Ok(list)
+}
+
+/// A role and so many options.
+fn likely_words(alloc: Global, seed: &mut u32, len: usize) -> Result<Vec<String>, NoMemory> {
+    let mut list = Vec::new(alloc);
+    *seed = next(*seed);
+    list.push(String::from_str(alloc, word(POOL.as_slice(), *seed, 10))?)?;
+    for _ in 0..len {
+        *seed = next(*seed);
+        list.push(String::from_str(alloc, word(PARTS.as_slice(), *seed, 20))?)?;
+    }
+    Ok(list)
+}
+
+fn is_same_address(a: &Addr, b: &Addr) -> bool {
+    match (a, b) {
+        (
+            Addr::Tcp { host, port },
+            Addr::Tcp {
+                host: other,
+                port: number,
+            },
+        ) => *host == *other && *port == *number,
+        (Addr::Inproc { name }, Addr::Inproc { name: other }) => {
+            name.as_slice() == other.as_slice()
+        }
+        _ => false,
+    }
+}
+
+/// Whether the end is the one that an option of this number says.
+fn is_end(alloc: Global, end: Option<&End>, n: usize, value: &[u8]) -> Result<bool, NoMemory> {
+    let Some(end) = end else {
+        return Ok(false);
+    };
+    let Some(wanted) = address_of(alloc, value)? else {
+        return Ok(false);
+    };
+    match end {
+        End::Dial(addr) => Ok(n == 0 && is_same_address(addr, &wanted)),
+        End::Listen(addr) => Ok(n == 1 && is_same_address(addr, &wanted)),
+    }
+}
+
+fn has_ends(
+    alloc: Global,
+    ends: &[End],
+    words: &[String],
+    list: &[Said],
+) -> Result<bool, NoMemory> {
+    let mut k: usize = 0;
+    for said in list {
+        if let Kind::Valued(n) = said.kind {
+            if n < 2 {
+                if !is_end(alloc, ends.get(k), n, value_of(words, *said))? {
+                    return Ok(false);
+                }
+                k = k.saturating_add(1);
+            }
+        }
+    }
+    Ok(k == ends.len())
+}
+
+fn has_topics(topics: &[Bytes], role: Role, words: &[String], list: &[Said]) -> bool {
+    if role == Role::Sub && times(list, 4) == 0 {
+        return topics.len() == 1 && topics[0].as_slice().is_empty();
+    }
+    let mut k: usize = 0;
+    for said in list {
+        if said.kind == Kind::Valued(4) {
+            match topics.get(k) {
+                Some(topic) => {
+                    if topic.as_slice() != value_of(words, *said) {
+                        return false;
+                    }
+                }
+                None => return false,
+            }
+            k = k.saturating_add(1);
+        }
+    }
+    k == topics.len()
+}
+
+/// The value of the option of this number, if it is there.
+fn value_at<'a>(words: &'a [String], list: &[Said], n: usize) -> Option<&'a [u8]> {
+    for said in list {
+        if said.kind == Kind::Valued(n) {
+            return Some(value_of(words, *said));
+        }
+    }
+    None
+}
+
+fn number_at(words: &[String], list: &[Said], n: usize) -> Option<u64> {
+    match value_at(words, list, n) {
+        Some(text) => number_of(text, 4_294_967_295),
+        None => None,
+    }
+}
+
+fn has_data(data: &Data, words: &[String], list: &[Said]) -> bool {
+    match data {
+        Data::None => value_at(words, list, 2).is_none() && value_at(words, list, 3).is_none(),
+        Data::Text(text) => value_at(words, list, 2) == Some(text.as_slice()),
+        Data::File(name) => value_at(words, list, 3) == Some(name.as_slice()),
+    }
+}
+
+/// After how many items such a play ends.
+fn count_of(role: Role, words: &[String], list: &[Said]) -> Option<u64> {
+    let has_body = times(list, 2).saturating_add(times(list, 3)) == 1;
+    let sends_first = match role {
+        Role::Push => true,
+        Role::Pub => true,
+        Role::Req => true,
+        Role::Surveyor => true,
+        Role::Pair0 => has_body,
+        Role::Bus => has_body,
+        _ => false,
+    };
+    match number_at(words, list, 5) {
+        Some(0) => None,
+        Some(n) => Some(n),
+        None => {
+            if sends_first && times(list, 6) == 0 {
+                Some(1)
+            } else {
+                None
+            }
+        }
+    }
+}
+
+fn is_number(said: Option<u32>, wanted: Option<u64>) -> bool {
+    match (said, wanted) {
+        (Some(a), Some(b)) => u64::from(a) == b,
+        (None, None) => true,
+        _ => false,
+    }
+}
+
+fn agrees(
+    alloc: Global,
+    plan: &CatPlan,
+    words: &[String],
+    list: &[Said],
+) -> Result<bool, NoMemory> {
+    let role = plan.role;
+    let ends = has_ends(alloc, plan.ends.as_slice(), words, list)?;
+    Ok(
+        ends && roles_of(list).0 == Some(role)
+            && has_data(&plan.data_, words, list)
+            && has_topics(plan.topics.as_slice(), role, words, list)
+            && is_number(plan.count, count_of(role, words, list))
+            && is_number(plan.interval, number_at(words, list, 6))
+            && is_number(plan.recv_timeout, number_at(words, list, 7))
+            && is_number(plan.send_timeout, number_at(words, list, 8))
+            && plan.format == formats_of(list).0,
+    )
+}
+
+/// Whether the words are read as the plainest reading reads them.
+fn is_read_right(alloc: Global, words: &[String]) -> Result<bool, NoMemory> {
+    match Plan::read(alloc, words) {
+        Ok(Plan::Drill { count }) => Ok(drill_of(words) == Some(u64::from(count))),
+        Ok(Plan::Cat(plan)) => match plan_of(alloc, words)? {
+            Some(list) => agrees(alloc, &plan, words, &list),
+            None => Ok(false),
+        },
+        Err(PlanError::Usage { at }) => {
+            if is_right(alloc, words)? {
+                return Ok(false);
+            }
+            Ok(stop_of(alloc, words)? == at as usize)
+        }
+        Err(PlanError::NoMemory) => Err(NoMemory),
+    }
+}
+
+#[test]
+fn any_words_are_read_as_the_plain_reading_reads_them(rt: HostRuntime) -> Result<(), Fail> {
+    let mut seed: u32 = 7;
+    for n in 0..1_000usize {
+        let words = any_words(rt.alloc(), &mut seed, n % 7)?;
+        assert!(rt; is_read_right(rt.alloc(), &words)?);
+    }
+    Ok(())
+}
+
+#[test]
+fn likely_words_are_read_as_the_plain_reading_reads_them(rt: HostRuntime) -> Result<(), Fail> {
+    let mut seed: u32 = 11;
+    for n in 0..2_000usize {
+        let words = likely_words(rt.alloc(), &mut seed, n % 6)?;
+        assert!(rt; is_read_right(rt.alloc(), &words)?);
+    }
+    Ok(())
+}
+
+/// So many bytes, of which most are printed in a special way.
+fn any_body(alloc: Global, seed: &mut u32, len: usize) -> Result<Vec<u8>, NoMemory> {
+    let mut body = Vec::new(alloc);
+    for _ in 0..len {
+        *seed = next(*seed);
+        body.push((*seed >> 24) as u8)?;
+    }
+    Ok(body)
+}
+
+const FORMATS: [Format; 6] = [
+    Format::None,
+    Format::Ascii,
+    Format::Raw,
+    Format::Quoted,
+    Format::Hex,
+    Format::Msgpack,
+];
+
+#[test]
+fn bodies_are_printed_as_the_plain_printing_prints_them(rt: HostRuntime) -> Result<(), Fail> {
+    let mut seed: u32 = 13;
+    for n in 0..6_000usize {
+        let body = any_body(rt.alloc(), &mut seed, n % 97)?;
+        let format = FORMATS[n % 6];
+        let mut out = Bytes::from_slice(rt.alloc(), b"ab")?;
+        print(rt.alloc(), format, &body, &mut out)?;
+        let wanted = text_of(rt.alloc(), format, &body, b"ab")?;
+        assert!(rt; out.as_slice() == wanted.as_slice());
+    }
+    Ok(())
+}
