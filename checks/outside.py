@@ -11,12 +11,13 @@ import sys
 import time
 
 HERE = os.path.dirname(os.path.abspath(__file__))
-OURS = os.path.join(HERE, "..", "crates", "nngcat", "out", "nngcat")
+OURS = os.environ.get("OURS", os.path.join(HERE, "..", "crates", "nngcat", "out", "nngcat"))
 THEIRS = shutil.which("nngcat")
 LINKS = int(os.environ.get("LINKS", "100000"))
 MESSAGES = int(os.environ.get("MESSAGES", "1000000"))
 
 PUSH, PULL = 0x50, 0x51
+REQ, REP = 0x30, 0x31
 
 
 def free_port():
@@ -42,8 +43,31 @@ def connect(port, tries=200):
     raise OSError("nobody listens")
 
 
+def begin(program, *words, **more):
+    return subprocess.Popen([program, *words], stdout=subprocess.PIPE, stderr=subprocess.PIPE, **more)
+
+
 def start(*words, **more):
-    return subprocess.Popen([OURS, *words], stdout=subprocess.PIPE, stderr=subprocess.PIPE, **more)
+    return begin(OURS, *words, **more)
+
+
+def stop(*runs):
+    for run in runs:
+        run.kill()
+        run.communicate()
+
+
+def listening(program, port, *words):
+    """A run that listens at the port, once it does."""
+    run = begin(program, *words, "--listen", address(port))
+    connect(port).close()
+    return run
+
+
+def said(runs):
+    """What each of the runs that end by themselves prints, without the line feed at its end, and that all went well."""
+    outs = [run.communicate(timeout=60)[0].rstrip(b"\n") for run in runs]
+    return outs, all(run.returncode == 0 for run in runs)
 
 
 def address(port):
@@ -55,9 +79,10 @@ def many_links():
     port = free_port()
     run = start("--pull", "--listen", address(port), "--ascii", "--count", "1")
     held = connect(port)
+    held.sendall(greeting(PUSH))
     for _ in range(LINKS):
         connect(port).close()
-    held.sendall(greeting(PUSH) + frame(b"last"))
+    held.sendall(frame(b"last"))
     out, err = run.communicate(timeout=120)
     held.close()
     return out == b"last\n" and run.returncode == 0, f"{LINKS} links, status {run.returncode} {err!r}"
@@ -215,8 +240,9 @@ def replies_to_theirs():
     port = free_port()
     run = start("--rep", "--listen", address(port), "--ascii", "--data", "pong", "--count", "1")
     connect(port).close()
+    # Without an interval nng's requester gave up at times, with `Cannot set recv timeout`, on a busy machine.
     asked = subprocess.run([THEIRS, "--req", "--dial", address(port), "--data", "ping", "--ascii", "--count", "1",
-                            "--recv-timeout", "5"], stdout=subprocess.PIPE, timeout=60)
+                            "--interval", "1", "--recv-timeout", "5"], stdout=subprocess.PIPE, timeout=60)
     out, _ = run.communicate(timeout=60)
     right = out == b"ping\n" and asked.stdout.strip() == b"pong"
     return right and run.returncode == 0, f"{out!r}, {asked.stdout!r}, status {run.returncode}"
@@ -228,7 +254,7 @@ def answers_theirs():
     run = start("--respondent", "--listen", address(port), "--ascii", "--data", "here", "--count", "1")
     connect(port).close()
     asked = subprocess.run([THEIRS, "--surveyor", "--dial", address(port), "--data", "who", "--ascii", "--count", "1",
-                            "--recv-timeout", "1"], stdout=subprocess.PIPE, timeout=60)
+                            "--interval", "1", "--recv-timeout", "1"], stdout=subprocess.PIPE, timeout=60)
     out, _ = run.communicate(timeout=60)
     right = out == b"who\n" and asked.stdout.strip() == b"here"
     return right and run.returncode == 0, f"{out!r}, {asked.stdout!r}, status {run.returncode}"
@@ -251,6 +277,104 @@ def pairs_with_theirs():
     back.communicate(timeout=60)
     right = out == b"hello\n" and came.strip() == b"hi"
     return right and run.returncode == 0 and back.returncode == 0, f"{out!r}, {came!r}"
+
+
+# Without an interval Debian's requester gives up where it had to wait for its first peer.
+ASK = ("--req", "--data", "ping", "--ascii", "--count", "1", "--recv-timeout", "20", "--interval", "20")
+ANSWER = ("--rep", "--data", "pong", "--ascii")
+
+
+def asked_by_four(server, asker):
+    """Four requesters dial one replier."""
+    port = free_port()
+    replier = listening(server, port, *ANSWER)
+    outs, well = said([begin(asker, *ASK, "--dial", address(port)) for _ in range(4)])
+    stop(replier)
+    return well and outs == [b"pong"] * 4, outs
+
+
+def asks_one_that_dials(asker, server):
+    """A requester listens, a replier dials it."""
+    port = free_port()
+    run = listening(asker, port, *ASK)
+    replier = begin(server, *ANSWER, "--dial", address(port))
+    outs, well = said([run])
+    stop(replier)
+    return well and outs == [b"pong"], outs
+
+
+def asks_one_that_dies(asker, server):
+    """A replier takes a request and dies; the one that listens after it gets the request too."""
+    port = free_port()
+    with socket.socket() as listener:
+        listener.setsockopt(socket.SOL_SOCKET, socket.SO_REUSEADDR, 1)
+        listener.bind(("127.0.0.1", port))
+        listener.listen(8)
+        run = begin(asker, *ASK, "--dial", address(port))
+        peer, _ = listener.accept()
+        peer.sendall(greeting(REP))
+        wanted = len(greeting(REQ) + frame(b"1234ping"))
+        came = b""
+        while len(came) < wanted:
+            piece = peer.recv(wanted - len(came))
+            if not piece:
+                break
+            came += piece
+        peer.close()
+    replier = begin(server, *ANSWER, "--listen", address(port))
+    outs, well = said([run])
+    stop(replier)
+    return well and outs == [b"pong"] and len(came) == wanted, outs
+
+
+def requests():
+    """Requests and replies between ours and Debian's, both ways, each of them listening."""
+    tried = [check(*pair) for check in (asked_by_four, asks_one_that_dials, asks_one_that_dies)
+             for pair in ((OURS, THEIRS), (THEIRS, OURS))]
+    return all(well for well, _ in tried), f"{[outs for _, outs in tried]}"
+
+
+def bus_of_four():
+    """A bus sends to three others: ours to two of Debian's and one of ours, and the other way round."""
+    told = []
+    for sender, others in ((OURS, (THEIRS, THEIRS, OURS)), (THEIRS, (OURS, OURS, THEIRS))):
+        port = free_port()
+        run = listening(sender, port, "--bus", "--data", "all", "--interval", "1")
+        outs, well = said([begin(other, "--bus", "--dial", address(port), "--ascii", "--count", "1",
+                                 "--recv-timeout", "20") for other in others])
+        stop(run)
+        told.append((outs, well))
+    for sender, listener in ((OURS, THEIRS), (THEIRS, OURS)):
+        port = free_port()
+        run = listening(listener, port, "--bus", "--ascii", "--count", "1", "--recv-timeout", "20")
+        other = begin(sender, "--bus", "--dial", address(port), "--data", "all", "--interval", "1")
+        told.append(said([run]))
+        stop(other)
+    return all(well and set(outs) == {b"all"} for outs, well in told), f"{told}"
+
+
+def publishes():
+    """A publisher that listens has three subscribers of different topics, and one that dials has one; another topic
+    takes nothing."""
+    told = []
+    topics = ((), ("--subscribe", "ne"), ("--subscribe", "old", "--subscribe", "news"))
+    for publisher, subscribers in ((OURS, (THEIRS, THEIRS, OURS)), (THEIRS, (OURS, OURS, THEIRS))):
+        port = free_port()
+        run = listening(publisher, port, "--pub", "--data", "news", "--interval", "1")
+        told.append(said([begin(program, "--sub", "--dial", address(port), "--ascii", "--count", "2", *more)
+                          for program, more in zip(subscribers, topics)]))
+        others, well = said([begin(program, "--sub", "--dial", address(port), "--ascii", "--subscribe", "old",
+                                   "--recv-timeout", "3") for program in (OURS, THEIRS)])
+        told.append(([b"newsnews"] if others == [b"", b""] else others, True))
+        stop(run)
+    for publisher, subscriber in ((OURS, THEIRS), (THEIRS, OURS)):
+        port = free_port()
+        run = listening(subscriber, port, "--sub", "--ascii", "--count", "2", "--recv-timeout", "20")
+        other = begin(publisher, "--pub", "--dial", address(port), "--data", "news", "--interval", "1")
+        told.append(said([run]))
+        stop(other)
+    told = [([out.replace(b"\n", b"") for out in outs], well) for outs, well in told]
+    return all(well and set(outs) == {b"newsnews"} for outs, well in told), f"{told}"
 
 
 def printed(program, form, bodies):
@@ -276,14 +400,97 @@ def formats_of_theirs():
     return not wrong, f"35 bodies, other: {wrong}"
 
 
+def answered(*words, **more):
+    """Status, standard output and standard error of our program on these words."""
+    run = subprocess.run([OURS, *words], stdout=subprocess.PIPE, stderr=subprocess.PIPE, timeout=60, **more)
+    return run.returncode, run.stdout, run.stderr
+
+
+def help_and_version():
+    """--help and --version alone: status 0, on standard output, at most 60 lines, four examples."""
+    status, text, err = answered("--help")
+    lines = text.decode().split("\n")
+    right = status == 0 and err == b"" and len(lines) <= 61 and lines[-1] == ""
+    right = right and sum(line.startswith("  nngcat --") for line in lines) >= 4
+    status, version, err = answered("--version")
+    right = right and status == 0 and err == b"" and version.count(b"\n") == 1 and version.startswith(b"nngcat ")
+    status, out, err = answered("--help", "--version")
+    right = right and status == 1 and out == b"" and err.startswith(b"nngcat: bad word 0\n")
+    return right, f"{len(lines) - 1} lines, {version!r}"
+
+
+def wrong_words():
+    """A wrong word is named: its place, then the word as the format quoted prints it, whatever its bytes."""
+    listen = ("--listen", "tcp://127.0.0.1:5555")
+    rows = [
+        (("--bogus",), 0, b'can\'t go on with "--bogus"'),
+        ((), 0, b"a word is missing at the end"),
+        (("--pull",), 1, b"a word is missing at the end"),
+        (("--pull", *listen, "x"), 3, b'can\'t go on with "x"'),
+        (("--pull", *listen, "--count", "\x1b[31m\r\n\t\x7f\"\\\xe9"), 4,
+         b'can\'t go on with "\\x1b[31m\\r\\n\\t\\x7f\\"\\\\\\xc3\\xa9"'),
+        (("",), 0, b'can\'t go on with ""'),
+        (("--drill", "1"), 0, b"this role, address or drill is not there yet"),
+    ]
+    wrong = []
+    for words, at, text in rows:
+        found = answered(*words)
+        if found != (1, b"", b"nngcat: bad word %d\nnngcat: see nngcat --help; %s\n" % (at, text)):
+            wrong.append((words, found))
+    found = answered(b"--pull", b"\xff")
+    if found != (1, b"", b"nngcat: bad word 0\n"):
+        wrong.append(found)
+    return not wrong, f"{len(rows) + 1} lists, other: {wrong}"
+
+
+def standard_input():
+    """--file - sends what standard input holds, every byte of it."""
+    port = free_port()
+    body = bytes(range(256)) * 300
+    run = start("--push", "--listen", address(port), "--file", "-", stdin=subprocess.PIPE)
+    run.stdin.write(body)
+    run.stdin.close()
+    run.stdin = None
+    peer = connect(port)
+    peer.sendall(greeting(PULL))
+    wanted, came = greeting(PUSH) + frame(body), b""
+    while len(came) < len(wanted):
+        piece = peer.recv(65536)
+        if not piece:
+            break
+        came += piece
+    run.communicate(timeout=60)
+    peer.close()
+    return came == wanted and run.returncode == 0, f"{len(came)} bytes, status {run.returncode}"
+
+
+def completion():
+    """The completion of words in bash."""
+    shell = shutil.which("bash")
+    if not shell:
+        return True, "skipped, no bash"
+    run = subprocess.run([shell, os.path.join(HERE, "completion.sh")], stdout=subprocess.PIPE, timeout=60)
+    wrong = [line for line in run.stdout.decode().splitlines() if not line.startswith("ok")]
+    return run.returncode == 0 and not wrong, f"{run.stdout.count(10)} cases, other: {wrong}"
+
+
+def manual_page():
+    """The manual page is laid out without a warning."""
+    if not shutil.which("man"):
+        return True, "skipped, no man"
+    run = subprocess.run(["man", "--warnings", "-E", "UTF-8", "-l", "-Tutf8", "-Z", os.path.join(HERE, "..", "share", "nngcat.1")],
+                         stdout=subprocess.DEVNULL, stderr=subprocess.PIPE, timeout=60)
+    return run.returncode == 0 and run.stderr == b"", f"{run.stderr!r}"
+
+
 def main():
     if not os.access(OURS, os.X_OK):
         print("skipped: crates/nngcat/out/nngcat isn't built")
         return 0
-    checks = [broken_peers, slow_reader, slow_peer, peer_that_comes_back, many_links, many_messages]
+    checks = [help_and_version, wrong_words, standard_input, completion, manual_page, broken_peers, slow_reader, slow_peer, peer_that_comes_back, many_links, many_messages]
     if THEIRS:
         checks += [theirs_to_ours, ours_to_theirs, four_of_theirs, theirs_is_dialed, replies_to_theirs, answers_theirs,
-                   pairs_with_theirs, formats_of_theirs]
+                   pairs_with_theirs, requests, bus_of_four, publishes, formats_of_theirs]
     else:
         print("skipped: no nngcat of nng is installed")
     wanted = sys.argv[1:]

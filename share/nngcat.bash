@@ -1,19 +1,80 @@
 # Completion of nngcat's words in bash: put it into /etc/bash_completion.d/, or source it.
-_nngcat() {
-    local word=${COMP_WORDS[COMP_CWORD]} before=${COMP_WORDS[COMP_CWORD-1]}
-    case $before in
-        --file)
-            COMPREPLY=($(compgen -f -- "$word"))
-            return ;;
-        --dial|--listen)
-            COMPREPLY=($(compgen -W 'tcp:// inproc://' -- "$word"))
-            compopt -o nospace
-            return ;;
-        --data|--subscribe|--count|--interval|--recv-timeout|--send-timeout|--drill)
-            return ;;
+
+# The last two words before the cursor, put together again where `=` and `:` break them (COMP_WORDBREAKS).
+_nngcat_words() {
+    local i piece glued=1
+    before= word=
+    for ((i = 1; i <= COMP_CWORD; i++)); do
+        piece=${COMP_WORDS[i]}
+        if [[ $i -gt 1 && ( $glued == 0 || $piece =~ ^[=:]+$ ) ]]; then
+            word+=$piece
+        else
+            before=$word word=$piece
+        fi
+        [[ $piece =~ ^[=:]+$ ]]
+        glued=$?
+    done
+}
+
+# Takes from each answer what stands before the last break within the word: bash keeps it.
+_nngcat_trim() {
+    local i head=
+    [[ $COMP_WORDBREAKS == *=* && $word == --*=* ]] && head=${word%%=*}=
+    [[ $COMP_WORDBREAKS == *:* && $word == *:* ]] && head=${word%"${word##*:}"}
+    for i in "${!COMPREPLY[@]}"; do
+        COMPREPLY[i]=${COMPREPLY[i]#"$head"}
+    done
+}
+
+# The answers among so many words, behind what stands before the value.
+_nngcat_among() {
+    local answer
+    while IFS= read -r answer; do
+        COMPREPLY+=("$lead$answer")
+    done < <(compgen -W "$1" -- "$value")
+}
+
+# The names of files. The quote or the backslashes that were typed are no part of a name; bash puts a backslash before a
+# blank of an answer, and a / behind a directory.
+_nngcat_files() {
+    local answer
+    value=${value#[\"\']}
+    value=${value//\\/}
+    while IFS= read -r answer; do
+        COMPREPLY+=("$lead$answer")
+    done < <(compgen -f -- "$value")
+    compopt -o filenames 2>/dev/null
+}
+
+_nngcat_value() {
+    case $1 in
+        --file) _nngcat_files ;;
+        --dial | --listen)
+            _nngcat_among 'tcp:// inproc://'
+            compopt -o nospace 2>/dev/null ;;
     esac
-    COMPREPLY=($(compgen -W '--pair --bus --pub --sub --push --pull --req --rep --surveyor --respondent
-        --dial --listen --data --file --subscribe --count --interval --recv-timeout --send-timeout
-        --ascii --raw --quoted --hex --msgpack --drill --help --version' -- "$word"))
+}
+
+_nngcat() {
+    local before word value lead=
+    local roles='--pair --bus --pub --sub --push --pull --req --rep --surveyor --respondent
+        --pair0 --bus0 --pub0 --sub0 --push0 --pull0 --req0 --rep0 --surveyor0 --respondent0'
+    local others='--dial --listen --data --file --subscribe --count --interval --recv-timeout --send-timeout
+        --ascii --raw --quoted --hex --msgpack --drill --help --version'
+    COMPREPLY=()
+    _nngcat_words
+    value=$word
+    case $before in
+        --file | --dial | --listen | --data | --subscribe | --count | --interval | --recv-timeout | --send-timeout | --drill)
+            _nngcat_value "$before" ;;
+        *)
+            if [[ $word == --*=* ]]; then
+                value=${word#*=} lead=${word%%=*}=
+                _nngcat_value "${word%%=*}"
+            else
+                _nngcat_among "$roles $others"
+            fi ;;
+    esac
+    _nngcat_trim
 }
 complete -F _nngcat nngcat

@@ -1,6 +1,9 @@
-//! How fast nngcat's run goes over a link in memory: a pull that prints, and a push that sends. What is printed is the
+//! How fast nngcat's run goes over a link in memory: a pull that prints, and a push that sends; and how fast bodies are
+//! printed. What is printed is the
 //! same at any speed: what each run came to. The rates go to standard error.
 #![tactic(auto)]
+
+mod texts;
 
 use cat_run::{Status, run};
 use sp_base::{Bytes, NoMemory};
@@ -142,5 +145,6 @@ fn body_of(alloc: Global, size: usize) -> Result<Vec<u8>, NoMemory> {
 }
 
 fn main(rt: HostRuntime) -> io::Result<()> {
-    bench(&rt, &rt)
+    bench(&rt, &rt)?;
+    texts::bench(&rt)
 }

@@ -1,6 +1,6 @@
 -- A run stands before its first round.
-use Rattle.std.proofs.Common.{◌≡◌, refl, ap, sym, ◌∙◌, subst, List, [], ℕ, zero, suc, Bool, false, arith, Option, Some, None}
-use Rattle.std.specs.Prelude.{IsTrue, ◌||◌, not, is_some, nat_le}
+use Rattle.std.proofs.Common.{◌≡◌, refl, ap, sym, ◌∙◌, subst, List, [], ℕ, zero, suc, Bool, true, false, arith, length, Option, Some, None}
+use Rattle.std.specs.Prelude.{IsTrue, ◌||◌, ◌&&◌, ◌==◌, not, is_some, nat_le}
 use Rattle.std.proofs.lemmas.Bool.Decides.{nat_tests}
 use Rattle.turn_lock.specs.declared.turn.Turn.{Turn}
 use Rattle.sp_spec.specs.Outside.{grown}
@@ -21,6 +21,8 @@ use Rattle.cat_rounds.specs.declared.player.Script.{Script}
 use Rattle.cat_rounds.specs.declared.player.Player.{Player}
 use Rattle.cat_rounds.specs.Lasting.{play_of, is_plain_role, PlayStands, IsNewPlayer, IsUnderWay, IsLast, IsDue, IsOver, over_at, HasPrinted}
 use Rattle.cat_rounds.specs.Going.{RunStands}
+use Rattle.cat_rounds.specs.Starting.{CanSubscribe}
+use Rattle.sp_history.specs.Setting.{is_sub}
 use Rattle.cat_rounds.specs.Built.{IsBuilt, IsBuiltData, IsBody, has_data}
 use Rattle.cat_rounds.proofs.Silent.{append_nil}
 
@@ -107,7 +109,7 @@ begins seen net s e script p empty none new role plain carries =
 -- the play of a plan whose sends carry this
 abbrev pub script_of : CatPlan → Option (List ℕ) → Script
 script_of plan body =
-    record { role = plan.role; body = body; count = plan.count; interval = plan.interval; recv_timeout = plan.recv_timeout; send_timeout = plan.send_timeout; format = plan.format }
+    record { role = plan.role; body = body; topics = plan.topics; count = plan.count; interval = plan.interval; recv_timeout = plan.recv_timeout; send_timeout = plan.send_timeout; format = plan.format }
 
 carries_body : (data_ : Data) (files : FilesView) (body : Option (List ℕ)) → IsBuiltData data_ → IsBody data_ body → Carries data_ files body
 carries_body datas.None files body built is = is
@@ -124,7 +126,7 @@ is_play_of plan files body p built is script =
     subst (λ (s : Script). IsPlayOf plan files (play_of s)) (sym script) (record {
       role = refl;
       body = carries_body plan.data_ files body built.data_built is;
-      topics = sym built.no_topics;
+      topics = refl;
       count = refl;
       interval = refl;
       recv_timeout = refl;
@@ -148,3 +150,15 @@ plan_begins seen net s e plan body p dice empty setting none new built is =
   where
     role : s.setting.role ≡ plan.role
     role = ap (λ (z : Setting). z.role) setting
+
+-- its socket takes its topics
+pub can_subscribe : (s : SingleView) (plan : CatPlan) (body : Option (List ℕ)) (p : Player) (dice : ℕ) → s.setting ≡ run_setting plan.role dice → IsNewPlayer (script_of plan body) p → IsBuilt plan → CanSubscribe s.setting p.script.topics
+can_subscribe s plan body p dice setting new built =
+    subst (λ (z : Setting). CanSubscribe z p.script.topics) (sym setting) (subst (λ (x : Script). CanSubscribe (run_setting plan.role dice) x.topics) (sym new.script_is) (record {
+      supported = cooked (is_sub plan.role) (length plan.topics == 0) built.topics_built.supported;
+      short = built.topics_built.short;
+    }))
+  where
+    cooked : (a b : Bool) → (a || b) ≡ true → (a && not false || b) ≡ true
+    cooked true b h = refl
+    cooked false b h = h

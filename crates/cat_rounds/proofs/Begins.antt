@@ -15,7 +15,6 @@ use Rattle.sp_history.specs.declared.entry.Entry.{Entry}
 use Rattle.sp_history.specs.declared.entry.Entry.TheVariants.{Begin, Ctx}
 use Rattle.sp_history.specs.declared.setting.Setting.{Setting}
 use Rattle.sp_history.specs.Changes.{none_of}
-use Rattle.sp_history.specs.Setting.{floods}
 use Rattle.sp_history.specs.Lists.{has}
 use Rattle.sp_history.specs.Legal.{is_state, is_free, state_for, does}
 use Rattle.sp_history.specs.Found.{is_taken, has_no_slot}
@@ -32,14 +31,15 @@ use Rattle.sp_single.specs.Singles.{SingleView, TookOne}
 use Rattle.sp_ends.specs.Turning.{IsSound}
 use Rattle.cat_play.specs.Plans.{Play}
 use Rattle.cat_play.specs.Scripts.{under_way, last_result, last_send, receives_next, asks_anew, is_receive_next, over, texts, is_kind}
-use Rattle.cat_play.specs.Playing.{each, keeps_topics, is_left, is_surveyor, may_rest, found_over, is_refused, is_kept_back, waits_for_pipe, waits_for_interval, deadline_for, carries_data, is_spaced}
+use Rattle.cat_play.specs.Playing.{is_send, each, keeps_topics, is_left, is_surveyor, may_rest, found_over, is_refused, is_kept_back, waits_for_pipe, waits_for_interval, deadline_for, carries_data, is_spaced}
 use Rattle.cat_play.specs.Steps.{AddsNone, HasOne, moves_play, moves_ends}
 use Rattle.cat_play.proofs.Stepping.{is_left_stays, last_result_stays, open_is}
 use Rattle.cat_rounds.specs.declared.player.Over.{Over}
 use Rattle.cat_rounds.specs.declared.player.Over.TheVariants as overs
 use Rattle.cat_rounds.specs.declared.player.Player.{Player}
-use Rattle.cat_rounds.specs.Lasting.{play_of, is_plain_role, PlayStands, IsOver, IsLast, IsDue, HasPlayed}
+use Rattle.cat_rounds.specs.Lasting.{play_of, is_plain_role, PlayStands, IsOver, IsLast, IsDue, HasPlayed, AreOn}
 use Rattle.cat_rounds.specs.Stepping.{Stands, GoesOnBy, Rested, step_for}
+use Rattle.cat_rounds.proofs.Subscribed.{still_on, on_turn}
 use Rattle.cat_rounds.proofs.Silent.{adds_one, now_stays}
 use Rattle.cat_rounds.proofs.Settling.{settling_silent, settling_linkless, none_around}
 use Rattle.cat_rounds.proofs.Standing.{play_stays, texts_stay_so, over_kept}
@@ -50,13 +50,6 @@ use Rattle.cat_rounds.proofs.Through.{BeginLeaves, begin_leaves, send_notes, May
 pub asks_one : (role : Role) → IsTrue (is_plain_role role) → is_surveyor role ≡ false
 asks_one roles.Surveyor h = cc
 asks_one _ h = refl
-
-pub floods_none : (role : Role) → IsTrue (is_plain_role role) → floods role ≡ false
-floods_none role h = go (floods role) _ h
-  where
-    go : (a b : Bool) → (not a && b) ≡ true → a ≡ false
-    go true b h = cc
-    go false b h = refl
 
 may_receive : (role : Role) (b r : Bool) (last : Option Ending) → receives_next role b r last ≡ true → can_receive role ≡ true
 may_receive roles.Push b r last h = cc
@@ -89,6 +82,7 @@ silent_stands s s' took p t none was =
       play = at_new s s' took (λ z h. PlayStands z h p) (play_stays s.setting p s.seen (s.seen ++ took.turn ∷ []) (adds_one moves_play s.seen took.turn none) was.play);
       sound = sound_new s s' took;
       now_is = at_new s s' took (λ z h. t ≡ now (past_of h)) (was.now_is ∙ sym (ap now (past_of-append s.seen took.turn) ∙ now_stays took.turn.entries (past_of s.seen) none));
+      topics_on = at_new s s' took (λ z h. AreOn p.script.topics (past_of h)) (on_turn p.script.topics s.seen took.turn none was.topics_on);
     }
 
 pub silent_texts : {says : Setting → List (Turn Entry) → Turn Entry → Type 0} (s s' : SingleView) (took : TookOne says s s') (play : Play) → none_of moves_play took.turn.entries ≡ true → is_closed (past_of s.seen) ≡ false → texts play (past_of s'.seen) ≡ texts play (past_of s.seen)
@@ -102,7 +96,7 @@ silent_left s s' took none left =
 -- ---- Why a begin was refused
 
 -- the context on which all is played is open
-ctx_zero : (play : Play) (past : List Entry) → IsTrue (each (keeps_topics play) past) → ctxs past ≡ 0 ∷ []
+pub ctx_zero : (play : Play) (past : List Entry) → IsTrue (each (keeps_topics play) past) → ctxs past ≡ 0 ∷ []
 ctx_zero play [] h = refl
 ctx_zero play (Ctx c gate ∷ past) h = cc
 ctx_zero play (e ∷ past) h = ctx_zero play past (rest (keeps_topics play past e) h)
@@ -213,6 +207,7 @@ pub record Makes (s : SingleView) (p : Player) (op : OpName) (act : Act) (d : Op
   pub data_ : carries_data (play_of p.script) (past_of s.seen) (Begin op 1 0 act d) ≡ true
   pub deadline : d ≡ deadline_for (play_of p.script) (past_of s.seen) act
   pub spaced : is_spaced (play_of p.script) (past_of s.seen) (Begin op 1 0 act d) ≡ true
+  pub pipe : (is_send (Begin op 1 0 act d) && waits_for_pipe (play_of p.script) (past_of s.seen)) ≡ false
 
 -- what stands after it, where the player notes this of its last send
 pub record HasBegun (s s' : SingleView) (p : Player) (t : ℕ) (op : OpName) (sent : Option ℕ) : Type 0 where
@@ -247,6 +242,7 @@ has_begun s s' took p t op act d begin opens was makes =
             play = at_new s s' took (λ z h. IsOpen 1 op h → PlayStands z h (record p { op = Some op; last_send = noted act p.last_send t })) play_now opens;
             sound = sound_new s s' took;
             now_is = at_new s s' took (λ z h. t ≡ now (past_of h)) (was.now_is ∙ sym leaves.now_is);
+            topics_on = at_new s s' took (λ z h. AreOn p.script.topics (past_of h)) (still_on p.script.topics (past_of s.seen) (past_of (s.seen ++ took.turn ∷ [])) leaves.topics_are was.topics_on);
           };
       goes_on = goes_on_by s s' took (subst (λ (es : List Entry). none_of moves_ends es ≡ true) (sym begin.entries) (none_around moves_ends begin.early (Begin op 1 0 act d) begin.late (settling_linkless begin.early begin.early_settles) refl (settling_linkless begin.late begin.late_settles)));
       played = λ left. at_new s s' took (λ z h. HasPlayed z h (record p { op = Some op; last_send = noted act p.last_send t })) (record { collected = leaves.left_ ∙ left; busy = rw leaves.under refl });
@@ -264,8 +260,8 @@ has_begun s s' took p t op act d begin opens was makes =
         record {
           open_ = was.play.is_open;
           plain = asks_one p.script.role was.play.plain;
-          one_only = floods_none p.script.role was.play.plain;
-          topics = refl;
+          pipe = makes.pipe;
+          topics_on = was.topics_on;
           free = under_none p.op s.seen makes.free was.play.hand;
           going = is_open p.over s.setting (play_of p.script) (past_of s.seen) makes.open_ was.play.over;
           next = makes.next;

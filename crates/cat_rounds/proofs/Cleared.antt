@@ -5,16 +5,12 @@ use Rattle.std.proofs.lemmas.Bool.Decides.{nat_tests}
 use Rattle.turn_lock.specs.declared.turn.Turn.{Turn}
 use Rattle.sp_history.specs.declared.entry.Entry.{Entry}
 use Rattle.sp_history.specs.declared.entry.Entry.TheVariants.{Out, Stall, Clear}
-use Rattle.sp_history.specs.declared.setting.Setting.{Setting}
 use Rattle.sp_history.specs.Changes.{none_of}
 use Rattle.sp_history.specs.Lists.{has}
-use Rattle.sp_history.specs.Found.{is_out, is_begin}
-use Rattle.sp_history.specs.Past.{onto, past_of, up, pend, is_cleared}
-use Rattle.sp_history.specs.Requests.{requests}
-use Rattle.sp_history.specs.Legal.{LegalTurn, sending}
+use Rattle.sp_history.specs.Found.{is_out}
+use Rattle.sp_history.specs.Past.{onto, past_of, up, is_cleared}
 use Rattle.sp_history.specs.Swept.{AreFlushed, IsFlushedFirst}
 use Rattle.sp_history.proofs.Appending.{past_of-append, onto-append}
-use Rattle.sp_history.proofs.QuietTurns.{nothing_out}
 use Rattle.sp_history.proofs.Sweeping.{flushed_first}
 use Rattle.cat_play.proofs.Stepping.{none_first, none_rest}
 
@@ -60,9 +56,9 @@ flushed_clears entries past p f no_stall no_out = go f.is_flush
         let outs : none_of is_out f.after ≡ true = (none_after is_out f.before f.flush f.after (subst (λ (es : List Entry). none_of is_out es ≡ true) stands no_out)).1 in
         subst (λ (es : List Entry). is_cleared (onto es past) p ≡ true) (sym stands) (rw (onto-append f.before (f.flush ∷ f.after) past, e) (cleared_stays p f.after (Clear p ∷ onto f.before past) outs (rw (self p) refl)))
 
--- after a turn that flushed each pipe, found no pipe that has something left to write, and had nothing to send, all is written
-pub all_cleared : (z : Setting) (h : List (Turn Entry)) (t : Turn Entry) → LegalTurn z (past_of h) t → AreFlushed (past_of h) t → none_of is_stall t.entries ≡ true → none_of is_begin t.entries ≡ true
-    → sending (pend (past_of h)) ≡ [] → (requests z (past_of h)).live ≡ [] → (p : ℕ) → has (up (past_of (h ++ t ∷ []))) p ≡ true → is_cleared (past_of (h ++ t ∷ [])) p ≡ true
-all_cleared z h t legal flushed no_stall no_begin none live p is_up =
+-- after a turn that flushed each pipe, found no pipe that has something left to write, and put nothing on a pipe, all is
+-- written
+pub all_cleared : (h : List (Turn Entry)) (t : Turn Entry) → AreFlushed (past_of h) t → none_of is_stall t.entries ≡ true → none_of is_out t.entries ≡ true → (p : ℕ) → has (up (past_of (h ++ t ∷ []))) p ≡ true → is_cleared (past_of (h ++ t ∷ [])) p ≡ true
+all_cleared h t flushed no_stall no_out p is_up =
     let is = past_of-append h t in
-    subst (λ (past : List Entry). is_cleared past p ≡ true) (sym is) (flushed_clears t.entries (past_of h) p (flushed_first (past_of h) t p flushed (subst (λ (past : List Entry). has (up past) p ≡ true) is is_up)) no_stall (nothing_out z (past_of h) t legal none live no_begin))
+    subst (λ (past : List Entry). is_cleared past p ≡ true) (sym is) (flushed_clears t.entries (past_of h) p (flushed_first (past_of h) t p flushed (subst (λ (past : List Entry). has (up past) p ≡ true) is is_up)) no_stall no_out)

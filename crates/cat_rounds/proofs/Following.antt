@@ -148,13 +148,13 @@ dials_next es i x b l e = let n : i + 1 ≡ suc i = omega arith in subst (λ (k 
 pub grows : {L : Type 0} (net net' : NetView) (e e' : EndsView L) (x : End) → AddsEnd (Ok tt) x e e' net net' → (length e'.listeners ≡ length e.listeners + listen_one x) × (length e'.dialers ≡ length e.dialers + dial_one x) × (net'.opened ≡ net.opened) × (net.faults ≤ net'.faults) × (listen_one x + dial_one x ≡ 1)
 grows net net' e e' (ends.Listen addr) (at, is, l) =
     (ap (λ (w : EndsView _). length w.listeners) is ∙ length_more e.listeners at, ap (λ (w : EndsView _). length w.dialers) is ∙ omega arith, l.opened, l.faults, refl)
-grows net net' e e' (ends.Dial addr) ((d, n, is), same) =
+grows net net' e e' (ends.Dial addr) ((d, n, is), same, of) =
     (ap (λ (w : EndsView _). length w.listeners) is ∙ omega arith, ap (λ (w : EndsView _). length w.dialers) is ∙ length_more e.dialers d, ap (λ (m : NetView). m.opened) same, (let q = ap (λ (m : NetView). m.faults) same in omega (arith, q)), refl)
 
 pub adds : {L : Type 0} (seen : L → LinkView) (start net net' : NetView) (s : SingleView) (e e' : EndsView L) (p : Player) (x : End) → s.seen ≡ [] → AddsEnd (Ok tt) x e e' net net' → length e.listeners + length e.dialers < 64 → RunStands seen start s e p net false → RunStands seen start s e' p net' false
 adds seen start net net' s e e' p (ends.Listen addr) empty (at, is, l) few run =
     record { sound = run.sound; play = run.play; ends_stand = subst (λ (h : List (Turn Entry)). EndsStand seen s.setting start h net' e') (sym empty) (listens_more seen s.setting start net net' e e' at l is few (subst (λ (h : List (Turn Entry)). EndsStand seen s.setting start h net e) empty run.ends_stand)); dry = run.dry }
-adds seen start net net' s e e' p (ends.Dial addr) empty ((d, n, is), same) few run =
+adds seen start net net' s e e' p (ends.Dial addr) empty ((d, n, is), same, of) few run =
     subst (λ (m : NetView). RunStands seen start s e' p m false) (sym same) (record { sound = run.sound; play = run.play; ends_stand = subst (λ (h : List (Turn Entry)). EndsStand seen s.setting start h net e') (sym empty) (dials_more seen s.setting start net e e' d n is few (subst (λ (h : List (Turn Entry)). EndsStand seen s.setting start h net e) empty run.ends_stand)); dry = run.dry })
 
 -- the same where the socket and the play are those from before

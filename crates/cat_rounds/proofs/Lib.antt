@@ -20,3 +20,7 @@ pub mod Ending
 pub mod Beginning
 pub mod Asked
 pub mod Played
+pub mod Pipes
+pub mod Subscribed
+pub mod Subscribing
+pub mod Late

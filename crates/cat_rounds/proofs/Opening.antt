@@ -22,7 +22,8 @@ use Rattle.cat_play.specs.Running.{has_dry_miss}
 use Rattle.cat_play.specs.Steps.{moves_play, moves_ends}
 use Rattle.cat_play.proofs.Stepping.{stays}
 use Rattle.cat_rounds.specs.declared.player.Player.{Player}
-use Rattle.cat_rounds.specs.Lasting.{play_of, PlayStands, HasPrinted, MayTick}
+use Rattle.cat_rounds.specs.Lasting.{play_of, PlayStands, HasPrinted, MayTick, AreOn}
+use Rattle.cat_rounds.proofs.Subscribed.{on_turn}
 use Rattle.cat_rounds.specs.Stepping.{Stands, GoesOnBy, HasPrintedCut}
 use Rattle.cat_rounds.specs.Going.{RunStands, RoundStands, PrintsRound, past_now}
 use Rattle.cat_rounds.specs.declared.rounds.Round.{Round}
@@ -31,7 +32,7 @@ use Rattle.cat_play.specs.declared.ends.Status.TheVariants as status
 use Rattle.cat_rounds.proofs.Silent.{keeps_all, now_stays}
 use Rattle.cat_rounds.proofs.Standing.{play_stays, texts_stay_so}
 use Rattle.cat_rounds.proofs.Begins.{at_new, sound_new}
-use Rattle.cat_rounds.proofs.Ticks.{first_tick, ticked_play, ticked_now, ticked_texts, ticked_ticks, ticked_dry, dry_stays, ticks_step}
+use Rattle.cat_rounds.proofs.Ticks.{first_tick, ticked_play, ticked_now, ticked_texts, ticked_ticks, ticked_dry, ticked_topics, dry_stays, ticks_step}
 
 -- ---- The tick
 
@@ -57,6 +58,7 @@ opens seen start net s s' e p n took keep run may less =
         play = at_new s s' took (λ y g. PlayStands y g p) (ticked_play z h t n p first run.play may (λ op o. subst (λ (g : List (Turn Entry)). IsOpen 1 op g) took.seen (keep op o)));
         sound = sound_new s s' took;
         now_is = at_new s s' took (λ y g. n ≡ now (past_of g)) (ticked_now z h t n p first run.play may less);
+        topics_on = at_new s s' took (λ y g. AreOn p.script.topics (past_of g)) (ticked_topics z h t n p first run.play may);
       };
       dry = at_new s s' took (λ y g. has_dry_miss (past_of g) ≡ false) (ticked_dry z h t n p first run.play may ∙ run.dry);
       setting = took.setting;
@@ -78,6 +80,7 @@ quiet_stands s s' p n q sound was =
       play = subst (λ (z : Setting). PlayStands z s'.seen p) (sym q.setting) (play_stays s.setting p s.seen s'.seen q.silent was.play);
       sound = sound;
       now_is = keeps_all moves_play (λ g. n ≡ now (past_of g)) (now_turn n) s.seen s'.seen q.silent was.now_is;
+      topics_on = keeps_all moves_play (λ g. AreOn p.script.topics (past_of g)) (on_turn p.script.topics) s.seen s'.seen q.silent was.topics_on;
     }
 
 pub quiet_texts : (s s' : SingleView) (p : Player) (n : ℕ) → Quietly s s' → Stands s p n → texts (play_of p.script) (past_of s'.seen) ≡ texts (play_of p.script) (past_of s.seen)
@@ -117,15 +120,20 @@ on_dry is_dry s s' g was = keeps_all moves_ends (λ h. has_dry_miss (past_of h) 
     step : (h : List (Turn Entry)) (t : Turn Entry) → none_of moves_ends t.entries ≡ true → has_dry_miss (past_of h) ≡ is_dry → has_dry_miss (past_of (h ++ t ∷ [])) ≡ is_dry
     step h t none was = ap has_dry_miss (past_of-append h t) ∙ (dry_stays t.entries (past_of h) none ∙ was)
 
+-- the run stands on after turns that move no link
+pub run_linkless : {L : Type 0} (seen : L → LinkView) (start net : NetView) (s s' : SingleView) (e : EndsView L) (p : Player) → GoesOnBy s s' → PlayStands s'.setting s'.seen p → IsSound s' → IsDry false s → EndsStand seen s.setting start s.seen net e → RunStands seen start s' e p net false
+run_linkless seen start net s s' e p g play sound dry ends =
+    record {
+      sound = sound;
+      play = play;
+      ends_stand = subst (λ (z : Setting). EndsStand seen z start s'.seen net e) (sym g.setting) (linkless seen s.setting start net s.seen s'.seen e g.links (subst (λ (z : Setting). Legal z s'.seen) g.setting sound.legal) ends);
+      dry = on_dry false s s' g dry;
+    }
+
 -- the run stands on, once the play has gone on
 pub run_on : {L : Type 0} (seen : L → LinkView) (start net : NetView) (s s' : SingleView) (e e' : EndsView L) (p : Player) (n : ℕ) → GoesOnBy s s' → e' ≡ e → Stands s' p n → IsDry false s → EndsStand seen s.setting start s.seen net e → RunStands seen start s' e' p net false
 run_on seen start net s s' e e' p n g same stands dry ends =
-    record {
-      sound = stands.sound;
-      play = stands.play;
-      ends_stand = subst (λ (x : EndsView _). EndsStand seen s'.setting start s'.seen net x) (sym same) (subst (λ (z : Setting). EndsStand seen z start s'.seen net e) (sym g.setting) (linkless seen s.setting start net s.seen s'.seen e g.links (subst (λ (z : Setting). Legal z s'.seen) g.setting stands.sound.legal) ends));
-      dry = on_dry false s s' g dry;
-    }
+    subst (λ (x : EndsView _). RunStands seen start s' x p net false) (sym same) (run_linkless seen start net s s' e p g stands.play stands.sound dry ends)
 
 -- ---- What a round comes to
 

@@ -1,12 +1,12 @@
 -- What parts of a round do, one after the other.
 use Rattle.std.proofs.Common.{◌≡◌, refl, ap, sym, ◌∙◌, subst, List, [], ◌∷◌, ◌++◌, ℕ, ◌≤◌, Bool, true, false, arith, length, Option, Some, None}
-use Rattle.std.specs.Prelude.{IsTrue, ◌&&◌, ◌||◌, not, is_some}
+use Rattle.std.specs.Prelude.{IsTrue, ◌&&◌, ◌||◌, not, is_some, nat_lt}
 use Rattle.std.specs.List.{list_any}
 use Rattle.turn_lock.specs.declared.turn.Turn.{Turn}
 use Rattle.sp_base.specs.Views.{SinkView}
 use Rattle.sp_base.specs.declared.OpName.{OpName}
 use Rattle.sp_history.specs.declared.entry.Entry.{Entry}
-use Rattle.sp_history.specs.declared.entry.Entry.TheVariants.{Up, Met, NoUp, Taken, Tick, Begin, Took, Topic, Ctx, Close, Stall}
+use Rattle.sp_history.specs.declared.entry.Entry.TheVariants.{Up, Met, NoUp, Taken, Tick, Begin, Took, Topic, Ctx, Close, Stall, Out}
 use Rattle.sp_history.specs.declared.setting.Setting.{Setting}
 use Rattle.sp_history.specs.Changes.{none_of}
 use Rattle.sp_history.specs.Past.{onto, past_of, up}
@@ -24,8 +24,8 @@ use Rattle.cat_play.specs.Steps.{moves_ends, moves_play}
 use Rattle.cat_rounds.specs.declared.player.Over.{Over}
 use Rattle.cat_rounds.specs.declared.player.Over.TheVariants as overs
 use Rattle.cat_rounds.specs.declared.player.Player.{Player}
-use Rattle.cat_rounds.specs.Lasting.{play_of, is_plain_role, PlayStands, IsUnderWay, IsOver, HasPrinted, HasServed, MayTick}
-use Rattle.cat_rounds.specs.Going.{AreCleared}
+use Rattle.cat_rounds.specs.Lasting.{play_of, is_plain_role, PlayStands, IsUnderWay, IsOver, HasPrinted, HasServed, MayTick, AreOn}
+use Rattle.cat_rounds.specs.Going.{AreCleared, has_more}
 use Rattle.cat_rounds.specs.Stepping.{Stands, GoesOnBy, SameScript}
 use Rattle.cat_rounds.proofs.Silent.{keeps_all, adds_then, swept_stays}
 use Rattle.cat_rounds.proofs.Ordered.{goes_on_while_busy, free_pends_none}
@@ -33,8 +33,11 @@ use Rattle.cat_rounds.proofs.Cleared.{is_stall, all_cleared}
 use Rattle.cat_play.proofs.Stepping.{open_is}
 use Rattle.sp_history.proofs.Appending.{LegalFrom-front}
 use Rattle.sp_history.specs.Legal.{Legal, sending}
-use Rattle.sp_history.specs.Found.{is_begin}
-use Rattle.sp_history.specs.Setting.{is_asker}
+use Rattle.sp_history.specs.Found.{is_begin, is_out}
+use Rattle.sp_history.specs.Setting.{is_asker, is_req}
+use Rattle.sp_history.proofs.QuietTurns.{nothing_out}
+use Rattle.sp_core.specs.Tallies.{moves}
+use Rattle.std.proofs.lemmas.Bool.Decides.{nat_tests}
 use Rattle.sp_history.specs.Requests.{requests}
 use Rattle.sp_history.specs.Past.{pend}
 use Rattle.sp_base.specs.declared.role.Role.{Role}
@@ -185,12 +188,13 @@ or_last false true c h = refl
 or_last false false c h = h
 
 -- nothing is under way, so the next tick may come
-pub may_tick_at_end : (z : Setting) (h : List (Turn Entry)) (p : Player) → PlayStands z h p → HasServed z h → p.op ≡ None → (p.over ≡ overs.Open → ⊥) → MayTick z h p
-may_tick_at_end z h p s served free n =
+pub may_tick_at_end : (z : Setting) (h : List (Turn Entry)) (p : Player) → PlayStands z h p → AreOn p.script.topics (past_of h) → HasServed z h → p.op ≡ None → (p.over ≡ overs.Open → ⊥) → MayTick z h p
+may_tick_at_end z h p s on served free n =
     let o = is_over_so p.over z p (past_of h) n s.over in
     record {
       served = served;
       collected = s.idle free;
+      topics_on = on;
       busy = or_last (not (has_ticked (past_of h))) (is_some (under_way (past_of h))) (may_rest z (play_of p.script) (past_of h)) (rests o);
     }
   where
@@ -210,26 +214,68 @@ no_begins : (es : List Entry) → AreServing es → none_of is_begin es ≡ true
 no_begins [] s = refl
 no_begins (e ∷ es) s = rw (serving_begin e s.0) (no_begins es s.1)
 
-asks_nobody : (role : Role) → IsTrue (is_plain_role role) → is_asker role ≡ false
-asks_nobody roles.Req h = cc
-asks_nobody roles.Surveyor h = cc
-asks_nobody _ h = refl
+asks_nobody : (role : Role) → IsTrue (is_plain_role role) → is_req role ≡ false → is_asker role ≡ false
+asks_nobody roles.Req h n = cc
+asks_nobody roles.Surveyor h n = cc
+asks_nobody _ h n = refl
 
-no_live : (z : Setting) (past : List Entry) → IsTrue (is_plain_role z.role) → (requests z past).live ≡ []
-no_live z past h = rw (asks_nobody z.role h) refl
+no_live : (z : Setting) (past : List Entry) → IsTrue (is_plain_role z.role) → is_req z.role ≡ false → (requests z past).live ≡ []
+no_live z past h n = rw (asks_nobody z.role h n) refl
+
+or_false : (a b : Bool) → (a || b) ≡ false → (a ≡ false) × (b ≡ false)
+or_false true b h = cc
+or_false false b h = (refl, h)
+
+and_false : (a b : Bool) → (a && b) ≡ false → a ≡ true → b ≡ false
+and_false true b h e = h
+and_false false b h e = cc
+
+not_out : (e : Entry) → moves e ≡ false → is_out e ≡ false
+not_out (Out p b) h = cc
+not_out _ h = refl
+
+-- a turn that moved nothing put nothing on a pipe
+not_moved : (es : List Entry) → list_any moves es ≡ false → none_of is_out es ≡ true
+not_moved [] h = refl
+not_moved (e ∷ es) h =
+    let s = or_false (moves e) (list_any moves es) h in
+    rw (not_out e s.0) (not_moved es s.1)
 
 -- after a serve that left nothing to be written, where the play is over, all is written
-pub through : (r : Served) (s s' : SingleView) (p : Player) (t : ℕ) → TookOne (ServesSo r) s s' → Stands s p t → p.op ≡ None → r.waiting ≡ 0 → AreCleared (past_of s'.seen)
+pub through : (r : Served) (s s' : SingleView) (p : Player) (t : ℕ) → TookOne (ServesSo r) s s' → Stands s p t → p.op ≡ None → has_more p.script.role r ≡ false → AreCleared (past_of s'.seen)
 through r s s' p t took stands free none =
-    let z = s.setting in
-    let all = subst (λ (h : List (Turn Entry)). Legal z h) took.seen (subst (λ (y : Setting). Legal y s'.seen) took.setting took.legal) in
-    let legal = (LegalFrom-front z [] s.seen took.turn all).1 in
-    let kinds = took.said.2.kinds in
-    let under = subst (λ (o : Option OpName). IsUnderWay o s.seen) free stands.play.hand in
-    let orders = subst (λ (past : List Entry). IsTrue (each alternates past)) (open_is (past_of s.seen) stands.play.is_open) stands.play.so_far.alternate in
-    let pends : sending (pend (past_of s.seen)) ≡ [] = ap sending (free_pends_none z s.seen stands.sound.legal orders under) in
-    let plain = subst (λ (role : Role). IsTrue (is_plain_role role)) (sym stands.play.role) stands.play.plain in
-    subst (λ (h : List (Turn Entry)). AreCleared (past_of h)) (sym took.seen) (all_cleared z s.seen took.turn legal took.said.1 (no_stalls took.turn.entries (sym took.said.3.1 ∙ none)) (no_begins took.turn.entries kinds) pends (no_live z (past_of s.seen) plain))
+    subst (λ (h : List (Turn Entry)). AreCleared (past_of h)) (sym took.seen) (all_cleared s.seen took.turn took.said.1 (no_stalls took.turn.entries (sym took.said.3.1 ∙ no_wait)) (no_outs (is_req z.role) refl))
+  where
+    z : Setting
+    z = s.setting
+
+    parts : (nat_lt 0 r.waiting ≡ false) × ((is_req p.script.role && r.moved) ≡ false)
+    parts = or_false (nat_lt 0 r.waiting) (is_req p.script.role && r.moved) none
+
+    no_wait : r.waiting ≡ 0
+    no_wait = let few = parts.0 in grind (arith, nat_tests)
+
+    all : Legal z (s.seen ++ took.turn ∷ [])
+    all = subst (λ (h : List (Turn Entry)). Legal z h) took.seen (subst (λ (y : Setting). Legal y s'.seen) took.setting took.legal)
+
+    under : IsUnderWay None s.seen
+    under = subst (λ (o : Option OpName). IsUnderWay o s.seen) free stands.play.hand
+
+    orders : IsTrue (each alternates (past_of s.seen))
+    orders =
+        subst (λ (past : List Entry). IsTrue (each alternates past)) (open_is (past_of s.seen) stands.play.is_open) stands.play.so_far.alternate
+
+    pends : sending (pend (past_of s.seen)) ≡ []
+    pends = ap sending (free_pends_none z s.seen stands.sound.legal orders under)
+
+    plain : IsTrue (is_plain_role z.role)
+    plain = subst (λ (role : Role). IsTrue (is_plain_role role)) (sym stands.play.role) stands.play.plain
+
+    no_outs : (b : Bool) → is_req z.role ≡ b → none_of is_out took.turn.entries ≡ true
+    no_outs true req =
+        not_moved took.turn.entries (sym took.said.3.2 ∙ and_false (is_req p.script.role) r.moved parts.1 (ap is_req (sym stands.play.role) ∙ req))
+    no_outs false other =
+        nothing_out z (past_of s.seen) took.turn (LegalFrom-front z [] s.seen took.turn all).1 pends (no_live z (past_of s.seen) plain other) (no_begins took.turn.entries took.said.2.kinds)
 
 pub serve_texts : (r : Served) (s s' : SingleView) (p : Player) (t : ℕ) → TookOne (ServesSo r) s s' → Stands s p t → texts (play_of p.script) (past_of s'.seen) ≡ texts (play_of p.script) (past_of s.seen)
 serve_texts r s s' p t took stands = silent_texts s s' took (play_of p.script) (serving_silent took.turn.entries took.said.2.kinds) stands.play.is_open

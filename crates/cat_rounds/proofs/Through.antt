@@ -13,9 +13,8 @@ use Rattle.sp_history.specs.declared.entry.Entry.{Entry}
 use Rattle.sp_history.specs.declared.entry.Entry.TheVariants.{Begin, Took, Close}
 use Rattle.sp_history.specs.declared.setting.Setting.{Setting}
 use Rattle.sp_history.specs.Changes.{none_of}
-use Rattle.sp_history.specs.Setting.{floods}
 use Rattle.sp_history.specs.Once.{end_count}
-use Rattle.sp_history.specs.Past.{onto, past_of, is_closed, now}
+use Rattle.sp_history.specs.Past.{onto, past_of, is_closed, now, topics}
 use Rattle.sp_history.specs.Legal.{Legal, AreAllowed, Allowed, is_uncollected}
 use Rattle.sp_history.specs.Found.{act_of, end_of}
 use Rattle.sp_history.proofs.Appending.{past_of-append, onto-append}
@@ -28,6 +27,8 @@ use Rattle.cat_play.specs.Steps.{moves_play, is_close, MayPlay, HasOne}
 use Rattle.cat_play.proofs.Stepping.{stays, goes_on, open_is, under_way_stays, last_result_stays, is_left_stays}
 use Rattle.cat_play.proofs.Staying.{over_stays}
 use Rattle.cat_play.proofs.Turning.{turn_of_one}
+use Rattle.cat_rounds.specs.Lasting.{AreOn}
+use Rattle.cat_rounds.proofs.Subscribed.{topics_stay, still_on}
 use Rattle.cat_rounds.proofs.Silent.{last_send_stays, now_stays, closed_stays}
 use Rattle.cat_rounds.proofs.Ordered.{uncollected_has_end, end_stays, over_in, open_over}
 
@@ -38,13 +39,13 @@ turn_past h t early late e is =
     past_of-append h t ∙ (ap (λ es. onto es (past_of h)) is ∙ onto-append early (e ∷ late) (past_of h))
 
 -- what the entry leaves, the turn leaves
-through : {A : Type 0} (f : List Entry → A) → ((entries past : List Entry) → none_of moves_play entries ≡ true → f (onto entries past) ≡ f past)
+pub through : {A : Type 0} (f : List Entry → A) → ((entries past : List Entry) → none_of moves_play entries ≡ true → f (onto entries past) ≡ f past)
     → (h : List (Turn Entry)) (t : Turn Entry) (e : Entry) (early late : List Entry) → HasOne e t early late → f (e ∷ onto early (past_of h)) ≡ f (onto early (past_of h)) → f (past_of (h ++ t ∷ [])) ≡ f (past_of h)
 through f stay h t e early late one mid =
     ap f (turn_past h t early late e one.stands) ∙ (stay late (e ∷ onto early (past_of h)) one.after ∙ (mid ∙ stay early (past_of h) one.before))
 
 -- what the entry makes, the turn makes
-upon : {A : Type 0} (f : List Entry → A) → ((entries past : List Entry) → none_of moves_play entries ≡ true → f (onto entries past) ≡ f past)
+pub upon : {A : Type 0} (f : List Entry → A) → ((entries past : List Entry) → none_of moves_play entries ≡ true → f (onto entries past) ≡ f past)
     → (h : List (Turn Entry)) (t : Turn Entry) (e : Entry) (early late : List Entry) → HasOne e t early late → f (past_of (h ++ t ∷ [])) ≡ f (e ∷ onto early (past_of h))
 upon f stay h t e early late one =
     ap f (turn_past h t early late e one.stands) ∙ stay late (e ∷ onto early (past_of h)) one.after
@@ -55,14 +56,14 @@ count_step : (z : Setting) (play : Play) (e : Entry) (past : List Entry) → mov
 count_step z play (Took op k) past h = cc
 count_step z play _ past h = refl
 
-count_in_stays : (z : Setting) (play : Play) (entries past : List Entry) → none_of moves_play entries ≡ true → count_in z play (onto entries past) ≡ count_in z play past
+pub count_in_stays : (z : Setting) (play : Play) (entries past : List Entry) → none_of moves_play entries ≡ true → count_in z play (onto entries past) ≡ count_in z play past
 count_in_stays z play = stays (count_in z play) (count_step z play)
 
 texts_step : (play : Play) (e : Entry) (past : List Entry) → moves_play e ≡ false → texts_in play (e ∷ past) ≡ texts_in play past
 texts_step play (Took op k) past h = cc
 texts_step play _ past h = refl
 
-texts_in_stay : (play : Play) (entries past : List Entry) → none_of moves_play entries ≡ true → texts_in play (onto entries past) ≡ texts_in play past
+pub texts_in_stay : (play : Play) (entries past : List Entry) → none_of moves_play entries ≡ true → texts_in play (onto entries past) ≡ texts_in play past
 texts_in_stay play = stays (texts_in play) (texts_step play)
 
 timed_step : (receives : Bool) (e : Entry) (past : List Entry) → moves_play e ≡ false → timed_out_in receives (e ∷ past) ≡ timed_out_in receives past
@@ -101,6 +102,7 @@ pub record BeginLeaves (z : Setting) (play : Play) (op : OpName) (act : Act) (h 
   pub over_is : over z play (past_of h') ≡ over z play (past_of h)
   pub left_ : is_left (past_of h') ≡ is_left (past_of h)
   pub now_is : now (past_of h') ≡ now (past_of h)
+  pub topics_are : topics (past_of h') 0 ≡ topics (past_of h) 0
 
 pub begin_leaves : (z : Setting) (play : Play) (h : List (Turn Entry)) (t : Turn Entry) (early late : List Entry) (op : OpName) (k c : ℕ) (act : Act) (d : Option ℕ)
     → HasOne (Begin op k c act d) t early late → is_closed (past_of h) ≡ false → BeginLeaves z play op act h (h ++ t ∷ [])
@@ -116,6 +118,7 @@ begin_leaves z play h t early late op k c act d one open_ =
       over_is = open_over z play (past_of (h ++ t ∷ [])) open_more ∙ (through (over_in z play) over_in_stays h t _ early late one refl ∙ sym (open_over z play (past_of h) open_));
       left_ = through is_left is_left_stays h t _ early late one refl;
       now_is = through now now_stays h t _ early late one refl;
+      topics_are = through (λ (past : List Entry). topics past 0) topics_stay h t _ early late one refl;
     }
   where
     open_more : is_closed (past_of (h ++ t ∷ [])) ≡ false
@@ -155,8 +158,8 @@ same_self (Some a) = grind (arith, nat_tests)
 pub record MayBeginNow (z : Setting) (play : Play) (past : List Entry) (op : OpName) (k : ℕ) (act : Act) (d : Option ℕ) : Type 0 where
   pub open_ : is_closed past ≡ false
   pub plain : is_surveyor play.role ≡ false
-  pub one_only : floods play.role ≡ false
-  pub topics : play.topics ≡ []
+  pub pipe : (is_send (Begin op k 0 act d) && waits_for_pipe play past) ≡ false
+  pub topics_on : AreOn play.topics past
   pub free : under_way past ≡ None
   pub going : over z play past ≡ false
   pub next : is_kind (is_receive_next z play past) (Some act) ≡ true
@@ -167,7 +170,7 @@ pub record MayBeginNow (z : Setting) (play : Play) (past : List Entry) (op : OpN
 begin_may : (z : Setting) (play : Play) (past entries : List Entry) (op : OpName) (k : ℕ) (act : Act) (d : Option ℕ) → none_of moves_play entries ≡ true → MayBeginNow z play past op k act d → MayPlay z play (onto entries past) (Begin op k 0 act d)
 begin_may z play past entries op k act d none may =
     record {
-      topics = rw may.topics refl;
+      topics = still_on play.topics past (onto entries past) (topics_stay entries past none) may.topics_on;
       alternate = rw (under_way_stays entries past none, may.free) refl;
       verbs = both (over z play (onto entries past)) _ (over_stays z play entries past may.open_ none ∙ may.going) kind_now;
       data_ = data_kept act may.data_;
@@ -199,14 +202,7 @@ begin_may z play past entries op k act d none may =
 pub begin_goes_on : (z : Setting) (play : Play) (h : List (Turn Entry)) (t : Turn Entry) (early late : List Entry) (op : OpName) (k : ℕ) (act : Act) (d : Option ℕ)
     → HasOne (Begin op k 0 act d) t early late → MayBeginNow z play (past_of h) op k act d → PlaysSoFar z play h → PlaysSoFar z play (h ++ t ∷ [])
 begin_goes_on z play h t early late op k act d one may was =
-    goes_on z play h t may.open_ was (turn_of_one z play h t (Begin op k 0 act d) early late one (begin_may z play (past_of h) early op k act d one.before may) no_wait (λ tick. cc))
-  where
-    no_wait : (is_send (Begin op k 0 act d) && waits_for_pipe play (past_of h)) ≡ false
-    no_wait = rw may.one_only (and_false (is_send (Begin op k 0 act d)))
-      where
-        and_false : (b : Bool) → (b && false) ≡ false
-        and_false true = refl
-        and_false false = refl
+    goes_on z play h t may.open_ was (turn_of_one z play h t (Begin op k 0 act d) early late one (begin_may z play (past_of h) early op k act d one.before may) may.pipe (λ tick. cc))
 
 -- ---- A collecting
 
@@ -225,6 +221,7 @@ pub record TookLeaves (z : Setting) (play : Play) (op : OpName) (ending : Ending
   pub timed : (receives : Bool) → timed_out receives (past_of h') ≡ (is_kind receives (act_of (past_of h') op) && is_timed_out (Some ending) || timed_out receives (past_of h))
   pub left_ : is_left (past_of h') ≡ false
   pub now_is : now (past_of h') ≡ now (past_of h)
+  pub topics_are : topics (past_of h') 0 ≡ topics (past_of h) 0
 
 -- the operation had ended when it was collected
 allowed_before : (z : Setting) (entries past : List Entry) → AreAllowed z (onto entries past) → AreAllowed z past
@@ -274,6 +271,7 @@ took_leaves z play h t early late op k ending plain legal one open_ found =
       timed = times;
       left_ = upon is_left is_left_stays h t _ early late one;
       now_is = through now now_stays h t _ early late one refl;
+      topics_are = through (λ (past : List Entry). topics past 0) topics_stay h t _ early late one refl;
     }
   where
     open_more : is_closed (past_of (h ++ t ∷ [])) ≡ false

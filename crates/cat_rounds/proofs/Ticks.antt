@@ -7,7 +7,7 @@ use Rattle.sp_history.specs.declared.entry.Entry.{Entry}
 use Rattle.sp_history.specs.declared.entry.Entry.TheVariants.{Tick, NoUp}
 use Rattle.sp_history.specs.declared.setting.Setting.{Setting}
 use Rattle.sp_history.specs.Changes.{none_of}
-use Rattle.sp_history.specs.Past.{onto, past_of, now, is_closed, due_at}
+use Rattle.sp_history.specs.Past.{onto, past_of, now, is_closed, due_at, topics}
 use Rattle.sp_history.specs.Found.{ticks}
 use Rattle.sp_core.specs.Standing.{HasFirst}
 use Rattle.sp_core.specs.Collecting.{DueFrom, IsOpen}
@@ -21,8 +21,9 @@ use Rattle.cat_play.proofs.Stepping.{stays, goes_on, open_is, under_way_stays, l
 use Rattle.cat_play.proofs.Staying.{counted_stays, texts_stay}
 use Rattle.cat_play.proofs.Turning.{turn_of_one}
 use Rattle.cat_rounds.specs.declared.player.Player.{Player}
-use Rattle.cat_rounds.specs.Lasting.{play_of, PlayStands, IsUnderWay, IsLast, IsDue, MayTick}
+use Rattle.cat_rounds.specs.Lasting.{play_of, PlayStands, IsUnderWay, IsLast, IsDue, MayTick, AreOn}
 use Rattle.cat_rounds.proofs.Silent.{last_send_stays, now_stays, closed_stays}
+use Rattle.cat_rounds.proofs.Subscribed.{topics_stay, still_on}
 use Rattle.cat_rounds.proofs.Settling.{settling_silent, settling_linkless}
 use Rattle.cat_rounds.proofs.Standing.{timed_stays, over_kept}
 use Rattle.cat_rounds.proofs.Through.{turn_past}
@@ -130,3 +131,6 @@ module _ (z : Setting) (h : List (Turn Entry)) (t : Turn Entry) (n : ℕ) (p : P
 
   pub ticked_dry : has_dry_miss (past_of (h ++ t ∷ [])) ≡ has_dry_miss (past_of h)
   ticked_dry = ap has_dry_miss past_is ∙ dry_stays first.late more (settling_linkless first.late first.late_settles)
+
+  pub ticked_topics : AreOn p.script.topics (past_of (h ++ t ∷ []))
+  ticked_topics = still_on p.script.topics (past_of h) (past_of (h ++ t ∷ [])) (ap (λ (past : List Entry). topics past 0) past_is ∙ topics_stay first.late more silent) may.topics_on

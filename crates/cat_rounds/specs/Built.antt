@@ -1,11 +1,14 @@
 -- Which plans can be played, and how a run of one begins and ends.
-use Rattle.std.specs.Prelude.{◌≡◌, ◌≤◌, [], ◌⊎◌, ◌||◌, not, ℕ, ⊤, true, false, Bool, IsTrue, List, length, Result, Option, Some, None}
+use Rattle.std.specs.Prelude.{◌≡◌, ◌≤◌, ◌==◌, [], ◌⊎◌, ◌||◌, not, ℕ, ⊤, true, false, Bool, IsTrue, List, length, Result, Option, Some, None, ◌++◌, ◌∷◌, IfOk}
 use Rattle.std.specs.List.{AllByRecursion}
 use Rattle.turn_lock.specs.declared.turn.Turn.{Turn}
 use Rattle.sp_spec.specs.Outside.{Rose}
 use Rattle.sp_base.specs.Addresses.{scheme_of, is_dialable}
 use Rattle.sp_base.specs.Views.{LinkView, NetView, PaceView, SinkView}
+use Rattle.sp_base.specs.declared.addr.Addr.{Addr}
 use Rattle.sp_base.specs.declared.addr.Scheme.TheVariants as schemes
+use Rattle.sp_base.specs.declared.role.Role.{Role}
+use Rattle.sp_history.specs.Setting.{is_sub}
 use Rattle.sp_history.specs.declared.entry.Entry.{Entry}
 use Rattle.sp_history.specs.Past.{past_of, is_closed}
 use Rattle.sp_history.specs.Legal.{Legal}
@@ -29,6 +32,7 @@ use Rattle.cat_play.specs.Scripts.{texts, counted, timed_out}
 use Rattle.cat_play.specs.Spending.{listens_of, dials_of}
 use Rattle.cat_play.specs.Steps.{AddsNone, moves_ends}
 use Rattle.sp_ends.specs.declared.ends.EndError.{EndError}
+use Rattle.sp_ends.specs.declared.dialer.Dialer.{Dialer}
 use Rattle.cat_rounds.specs.declared.player.Player.{Player}
 use Rattle.cat_rounds.specs.Lasting.{play_of, is_plain_role}
 use Rattle.cat_rounds.specs.Stepping.{Sinks}
@@ -55,13 +59,18 @@ abbrev pub IsBuiltData : Data → Type 0
 IsBuiltData (datas.File name) = ⊥
 IsBuiltData _ = ⊤
 
--- a plan that can be played: over TCP, of a role whose next call depends on nothing but what was collected last, without
--- topics, and with data that stand in its words
+-- topics of a role that has them, each of at most 1,024 bytes
+pub record AreTopics (role : Role) (ts : List (List ℕ)) : Type 0 where
+  pub supported : IsTrue (is_sub role || (length ts == 0))
+  pub short : AllByRecursion (λ t. length t ≤ 1024) ts
+
+-- a plan that can be played: over TCP, of a role whose next call depends on nothing but what was collected last, with
+-- topics that its socket takes, and with data that stand in its words
 pub record IsBuilt (plan : CatPlan) : Type 0 where
   pub plain : IsTrue (is_plain_role plan.role)
   pub ends_built : AreBuilt plan.ends
   pub data_built : IsBuiltData plan.data_
-  pub no_topics : plan.topics ≡ []
+  pub topics_built : AreTopics plan.role plan.topics
   -- what is sent has a body
   pub carries : IsTrue (not (needs_data plan.role) || has_data plan.data_)
 
@@ -73,10 +82,14 @@ IsBody (datas.File name) body = body ≡ None
 
 -- ---- The beginning
 
+-- the dialer that was added dials this address
+abbrev pub HasDialer : {L : Type 0} → Addr → EndsView L → EndsView L → Type 0
+HasDialer addr old new = (d : Dialer) × (new.dialers ≡ old.dialers ++ d ∷ []) × (d.addr ≡ addr)
+
 -- one end more
 abbrev pub AddsEnd : {L : Type 0} → Result (Unit {0}) EndError → End → EndsView L → EndsView L → NetView → NetView → Type 0
 AddsEnd result (ends.Listen addr) old new net net' = ListensAlso result old new net net'
-AddsEnd result (ends.Dial addr) old new net net' = DialsAlso result old new × (net' ≡ net)
+AddsEnd result (ends.Dial addr) old new net net' = DialsAlso result old new × (net' ≡ net) × IfOk result (λ done. HasDialer addr old new)
 
 -- why it ended so: the net failed to listen before the first round, or the rounds ended so
 abbrev pub EndsFor : Status → SingleView → Player → NetView → NetView → PaceView → PaceView → SinkView → SinkView → Type 0

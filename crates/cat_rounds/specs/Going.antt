@@ -1,10 +1,13 @@
 -- What stands of a run between two rounds, and what it comes to.
-use Rattle.std.specs.Prelude.{◌≡◌, ◌<◌, ◌+◌, ◌^◌, ℕ, ⊤, true, false, Bool, List, length, Option, None}
+use Rattle.std.specs.Prelude.{◌≡◌, ◌<◌, ◌+◌, ◌^◌, ℕ, ⊤, true, false, Bool, List, length, Option, None, ◌||◌, ◌&&◌, nat_lt}
 use Rattle.turn_lock.specs.declared.turn.Turn.{Turn}
 use Rattle.sp_base.specs.Views.{LinkView, NetView, PaceView, SinkView}
+use Rattle.sp_base.specs.declared.role.Role.{Role}
 use Rattle.sp_history.specs.declared.entry.Entry.{Entry}
 use Rattle.sp_history.specs.Past.{past_of, up, now, is_cleared}
 use Rattle.sp_history.specs.Lists.{has}
+use Rattle.sp_history.specs.Setting.{is_req}
+use Rattle.sp_core.specs.declared.serve.Served.{Served}
 use Rattle.sp_single.specs.Singles.{SingleView}
 use Rattle.sp_ends.specs.Standing.{EndsView, EndsStand}
 use Rattle.sp_ends.specs.Turning.{IsSound, IsDry}
@@ -31,6 +34,10 @@ pub record RunStands {L : Type 0} (seen : L → LinkView) (start : NetView) (s :
 -- each pipe that is up has all written that was put on it
 abbrev pub AreCleared : List Entry → Type 0
 AreCleared past = (p : ℕ) → has (up past) p ≡ true → is_cleared past p ≡ true
+
+-- a pipe has something left to write; or, of a req, the turn moved something, so that a request may have gone out again
+abbrev pub has_more : Role → Served → Bool
+has_more role r = nat_lt 0 r.waiting || is_req role && r.moved
 
 -- nothing is under way, the play came to its end, and all is written
 pub record IsThrough (s : SingleView) (p : Player) : Type 0 where

@@ -1,22 +1,22 @@
 -- What stands of a play while it goes on.
 use Rattle.std.specs.Prelude.{◌≡◌, ◌+◌, ◌&&◌, ◌||◌, not, ℕ, zero, ⊤, true, false, Bool, IsTrue, List, [], reverse, Option, Some, None, is_some}
+use Rattle.std.specs.List.{list_all}
 use Rattle.turn_lock.specs.declared.turn.Turn.{Turn}
 use Rattle.sp_spec.specs.Outside.{grown}
 use Rattle.sp_base.specs.declared.OpName.{OpName}
 use Rattle.sp_base.specs.declared.role.Role.{Role}
-use Rattle.sp_base.specs.declared.role.Role.TheVariants as roles
 use Rattle.sp_history.specs.declared.entry.Entry.{Entry}
 use Rattle.sp_history.specs.declared.entry.Ending.{Ending as EndingType}
 use Rattle.sp_history.specs.declared.entry.Ending.TheVariants.{Won, Gone}
 use Rattle.sp_history.specs.declared.entry.Outcome.TheVariants.{Received, Sent}
 use Rattle.sp_history.specs.declared.setting.Setting.{Setting}
-use Rattle.sp_history.specs.Setting.{floods}
-use Rattle.sp_history.specs.Past.{past_of, is_closed, now}
+use Rattle.sp_history.specs.Legal.{has_topic}
+use Rattle.sp_history.specs.Past.{past_of, is_closed, now, topics}
 use Rattle.sp_core.specs.Collecting.{IsOpen}
 use Rattle.cat_text.specs.Drafts.{needs_data}
 use Rattle.cat_play.specs.Plans.{Play}
 use Rattle.cat_play.specs.Scripts.{has_ticked, under_way, last_result, last_send, counted, texts, joined, has_reached, timed_out, over}
-use Rattle.cat_play.specs.Playing.{PlaysSoFar, may_rest, was_swept, is_left}
+use Rattle.cat_play.specs.Playing.{PlaysSoFar, may_rest, was_swept, is_left, is_surveyor}
 use Rattle.cat_rounds.specs.declared.next.Last.{Last}
 use Rattle.cat_rounds.specs.declared.next.Last.TheVariants as lasts
 use Rattle.cat_rounds.specs.declared.player.Script.{Script}
@@ -26,19 +26,13 @@ use Rattle.cat_rounds.specs.declared.player.Player.{Player}
 
 -- ---- The play that is played
 
--- the play of a script without topics
+-- the play of a script
 abbrev pub play_of : Script → Play
-play_of s = record { role = s.role; body = s.body; topics = []; count = s.count; interval = s.interval; recv_timeout = s.recv_timeout; send_timeout = s.send_timeout; format = s.format }
+play_of s = record { role = s.role; body = s.body; topics = s.topics; count = s.count; interval = s.interval; recv_timeout = s.recv_timeout; send_timeout = s.send_timeout; format = s.format }
 
--- its next call and what counts depend on nothing but what was collected last, no send waits for a pipe, and no request
--- goes out again
+-- its next call and what counts depend on nothing but what was collected last
 abbrev pub is_plain_role : Role → Bool
-is_plain_role role = not (floods role) && not (asks_role role)
-  where
-    asks_role : Role → Bool
-    asks_role roles.Surveyor = true
-    asks_role roles.Req = true
-    asks_role _ = false
+is_plain_role role = not (is_surveyor role)
 
 -- ---- What the code knows
 
@@ -83,6 +77,10 @@ pub record PlayStands (z : Setting) (h : List (Turn Entry)) (p : Player) : Type 
   -- what had ended when the last tick came is collected, where nothing is under way
   pub idle : p.op ≡ None → is_left (past_of h) ≡ false
 
+-- each of these topics is on, on context 0
+abbrev pub AreOn : List (List ℕ) → List Entry → Type 0
+AreOn ts past = IsTrue (list_all (has_topic (topics past 0)) ts)
+
 -- the text of the sink grew by the texts of the play
 abbrev pub HasPrinted : Option (List ℕ) → Option (List ℕ) → List (Turn Entry) → Player → Type 0
 HasPrinted before now h p = now ≡ grown before (joined (texts (play_of p.script) (past_of h)))
@@ -102,6 +100,7 @@ pub record HasPlayed (z : Setting) (h : List (Turn Entry)) (p : Player) : Type 0
 pub record MayTick (z : Setting) (h : List (Turn Entry)) (p : Player) : Type 0 where
   pub served : HasServed z h
   pub collected : is_left (past_of h) ≡ false
+  pub topics_on : AreOn p.script.topics (past_of h)
   pub busy : IsTrue (not (has_ticked (past_of h)) || is_some (under_way (past_of h)) || may_rest z (play_of p.script) (past_of h))
 
 -- a play of no items is over before it begins

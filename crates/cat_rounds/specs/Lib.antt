@@ -2,3 +2,5 @@ pub mod Lasting
 pub mod Stepping
 pub mod Going
 pub mod Built
+pub mod Starting
+pub mod Late

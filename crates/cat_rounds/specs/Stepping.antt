@@ -1,13 +1,14 @@
 -- What a step of the play does.
-use Rattle.std.specs.Prelude.{◌≡◌, ◌==◌, ◌≤◌, ◌-◌, ◌++◌, ℕ, ⊤, true, false, Bool, not, ◌&&◌, ◌||◌, List, Option, Some, is_some, is_none}
+use Rattle.std.specs.Prelude.{◌≡◌, ◌==◌, ◌≤◌, ◌-◌, ◌++◌, ℕ, ⊤, true, false, Bool, not, ◌&&◌, ◌||◌, List, Option, Some, is_some, is_none, None}
 use Rattle.turn_lock.specs.declared.turn.Turn.{Turn}
 use Rattle.sp_spec.specs.Outside.{grown, Rose}
 use Rattle.sp_base.specs.Views.{SinkView}
 use Rattle.sp_history.specs.declared.entry.Cause.TheVariants.{TimedOut}
 use Rattle.sp_history.specs.declared.entry.Entry.{Entry}
 use Rattle.sp_history.specs.declared.entry.Entry.TheVariants.{Begin, Tick}
-use Rattle.sp_history.specs.Setting.{is_req}
-use Rattle.sp_history.specs.Past.{past_of}
+use Rattle.sp_history.specs.Lists.{is_nil}
+use Rattle.sp_history.specs.Setting.{is_req, floods}
+use Rattle.sp_history.specs.Past.{past_of, up}
 use Rattle.sp_msg.specs.Views.{MessageView}
 use Rattle.sp_core.specs.declared.ops.BeginError.{BeginError}
 use Rattle.sp_core.specs.declared.ops.BeginError.TheVariants as error
@@ -29,7 +30,7 @@ use Rattle.cat_rounds.specs.declared.player.Collecting.{Collecting}
 use Rattle.cat_rounds.specs.declared.player.Collecting.TheVariants as collecting
 use Rattle.cat_rounds.specs.declared.player.Script.{Script}
 use Rattle.cat_rounds.specs.declared.player.Player.{Player}
-use Rattle.cat_rounds.specs.Lasting.{play_of, PlayStands, HasPrinted, HasPlayed}
+use Rattle.cat_rounds.specs.Lasting.{play_of, PlayStands, HasPrinted, HasPlayed, AreOn}
 
 -- ---- Before and after
 
@@ -38,6 +39,8 @@ pub record Stands (s : SingleView) (p : Player) (now : ℕ) : Type 0 where
   pub play : PlayStands s.setting s.seen p
   pub sound : IsSound s
   pub now_is : IsNow now s
+  -- so that an operation may begin
+  pub topics_on : AreOn p.script.topics (past_of s.seen)
 
 -- turns more, and none of them moves a link between the net, the ends and the socket
 pub record GoesOnBy (old new : SingleView) : Type 0 where
@@ -47,6 +50,11 @@ pub record GoesOnBy (old new : SingleView) : Type 0 where
 -- the same script and the same text before it
 abbrev pub SameScript : Player → Player → Type 0
 SameScript old new = new.script ≡ old.script
+
+-- whether a pipe is up is known, where the first send waits for one
+abbrev pub KnowsPipes : Bool → SingleView → Player → Type 0
+KnowsPipes has_pipe s p =
+    floods p.script.role ≡ true → is_some p.script.body ≡ true → p.op ≡ None → p.last_send ≡ None → is_nil (up (past_of s.seen)) ≡ not has_pipe
 
 -- ---- What is printed
 

@@ -2,6 +2,7 @@
 ghost use Rattle.std.specs.Prelude.{◌≡◌, IsTrue, Bool};
 ghost use Rattle.sp_history.specs.declared.entry.Ending.{Ending as EndingType};
 ghost use Rattle.std.specs.Prelude.{Option};
+ghost use Rattle.sp_history.specs.Setting.{floods};
 ghost use Rattle.cat_play.specs.Scripts as scripts;
 ghost use Rattle.cat_rounds.specs.Lasting.{IsLast, is_plain_role};
 
@@ -41,5 +42,16 @@ pub(crate) fn counts(role: Role, has_data: bool, last: Last) -> bool
         Last::Nothing | Last::Gone => false,
         Last::Received => role == Role::Req || !has_data,
         Last::Sent => role != Role::Req && has_data,
+    }
+}
+
+/// Whether a send goes to every pipe that is up, so that the first one waits until there is one.
+pub(crate) fn floods(role: Role) -> bool
+    ensures { result ≡ floods role }
+{
+    match role {
+        Role::Pub | Role::Surveyor | Role::Bus => true,
+        Role::Sub | Role::Push | Role::Pull | Role::Pair0 => false,
+        Role::Req | Role::Rep | Role::Respondent => false,
     }
 }

@@ -1,16 +1,17 @@
 //! The play of one socket: one operation after the other.
-ghost use Rattle.std.specs.Prelude.{◌≡◌, ◌↔◌, ◌<◌, ◌+◌, ℕ, List, Option, None, Some, [], IsTrue, IfOk, IfSome, is_some, true, false};
+ghost use Rattle.std.specs.Prelude.{◌≡◌, ◌↔◌, ◌<◌, ◌+◌, ℕ, List, Option, None, Some, [], IsTrue, IfOk, IfSome, is_some, true, false, is_none, not, ◌&&◌, Bool};
 ghost use Rattle.std.specs.Option.{option_map};
 ghost use Rattle.sp_history.specs.Past.{past_of, is_closed};
 ghost use Rattle.sp_socket.specs.Turns.{AllEnded};
 ghost use Rattle.cat_play.specs.Scripts.{texts, under_way, is_receive_next};
-ghost use Rattle.cat_play.specs.Playing.{after_seconds, is_within, is_left, waits_for_interval};
+ghost use Rattle.cat_play.specs.Playing.{after_seconds, is_within, is_left, waits_for_interval, waits_for_pipe};
 ghost use Rattle.sp_ends.specs.Turning.{IsSound};
 ghost use Rattle.cat_rounds.specs.Lasting.{play_of, is_plain_role, HasPrinted, IsUnderWay, IsNewPlayer};
-ghost use Rattle.cat_rounds.specs.Stepping.{Stands, GoesOnBy, SameScript, PrintedAfter, PrintedThen, Sinks, Puts, PutsPiece, PutsFor, NotedAs, Rested, counts_one, counts_for_last, over_for, step_for, CollectsLast};
+ghost use Rattle.sp_history.specs.Setting.{floods};
+ghost use Rattle.cat_rounds.specs.Stepping.{KnowsPipes, Stands, GoesOnBy, SameScript, PrintedAfter, PrintedThen, Sinks, Puts, PutsPiece, PutsFor, NotedAs, Rested, counts_one, counts_for_last, over_for, step_for, CollectsLast};
 
-use crate::next::{Last, counts, receives_next};
-use cat_text::{Format, push_text};
+use crate::next::{Last, counts, floods, receives_next};
+use cat_text::{Format, TopicList, push_text};
 use sp_base::{Bytes, Ctx, NoMemory, Role, Sink, Sunk, Tick};
 use sp_msg::{Message, Wire};
 use sp_proto::Proto;
@@ -21,7 +22,7 @@ use std::mem;
 use std::sync::Wait;
 
 /// The context on which everything is played.
-const CTX: Ctx = Ctx(0);
+pub(crate) const CTX: Ctx = Ctx(0);
 
 /// What the play is to be: the plan without its ends.
 #[derive(Drop)]
@@ -29,6 +30,8 @@ pub struct Script {
     pub role: Role,
     /// What each send carries.
     pub body: Option<Bytes>,
+    /// What a sub takes.
+    pub topics: TopicList,
     /// How many items are counted until it is over; none is never.
     pub count: Option<u32>,
     /// In seconds, as the other times.
@@ -150,17 +153,20 @@ impl Player {
         single: &mut Single<P, W>,
         out: &mut S,
         now: Tick,
+        has_pipe: bool,
     ) -> Step
         requires stands { Stands single.old self.old now }
+        requires pipes { KnowsPipes has_pipe single.old self.old }
         ensures stands { Stands single.new self.new now }
         ensures script { SameScript self.old self.new }
         ensures goes_on { GoesOnBy single.old single.new }
         ensures rested { Rested result single.new self.new }
         ensures printed { (before : Option (List ℕ)) → HasPrinted before (S.seen out.old).text single.old.seen self.old → PrintedAfter result before (S.seen out.new).text single.new.seen self.new }
         ensures sinks { Sinks (result ≡ Step.OutFault) (S.seen out.old) (S.seen out.new) }
+        ensures begun { result ≡ Step.Begun → is_some self.new.op ≡ true }
     {
         match self.collect(rt, single, out) {
-            Collecting::Free => self.begin(rt, single, now),
+            Collecting::Free => self.begin(rt, single, now, has_pipe),
             Collecting::NotYet => Step::Rests,
             Collecting::OutFault => Step::OutFault,
             Collecting::NoMemory => Step::NoMemory,
@@ -183,6 +189,7 @@ impl Player {
         ensures busy { result ≡ Collecting.NotYet → is_some (under_way (past_of single.new.seen)) ≡ true }
         ensures printed { (before : Option (List ℕ)) → HasPrinted before (S.seen out.old).text single.old.seen self.old → PrintedThen result before (S.seen out.new).text single.new.seen self.new }
         ensures sinks { Sinks (result ≡ Collecting.OutFault) (S.seen out.old) (S.seen out.new) }
+        ensures pipes { (has_pipe : Bool) → KnowsPipes has_pipe single.old self.old → KnowsPipes has_pipe single.new self.new }
     {
         let Some(op) = self.op.take() else {
             return Collecting::Free;
@@ -287,9 +294,11 @@ impl Player {
         rt: &R,
         single: &mut Single<P, W>,
         now: Tick,
+        has_pipe: bool,
     ) -> Step
         requires stands { Stands single.old self.old now }
         requires free { self.old.op ≡ None }
+        requires pipes { KnowsPipes has_pipe single.old self.old }
         requires left { is_left (past_of single.old.seen) ≡ false }
         ensures stands { Stands single.new self.new now }
         ensures script { SameScript self.old self.new }
@@ -297,13 +306,14 @@ impl Player {
         ensures rested { Rested result single.new self.new }
         ensures texts { texts (play_of self.old.script) (past_of single.new.seen) ≡ texts (play_of self.old.script) (past_of single.old.seen) }
         ensures fault { result ≡ Step.OutFault → ⊥ }
+        ensures begun { result ≡ Step.Begun → is_some self.new.op ≡ true }
     {
         if self.over != Over::Open {
             return Step::Rests;
         }
         if receives_next(self.script.role, self.script.body.is_some(), self.last) {
             self.begin_recv(rt, single, now)
-        } else if self.is_within_interval(now) {
+        } else if self.waits_for_pipe(has_pipe) || self.is_within_interval(now) {
             Step::Rests
         } else {
             self.begin_send(rt, single, now)
@@ -327,6 +337,7 @@ impl Player {
         ensures rested { Rested result single.new self.new }
         ensures texts { texts (play_of self.old.script) (past_of single.new.seen) ≡ texts (play_of self.old.script) (past_of single.old.seen) }
         ensures fault { result ≡ Step.OutFault → ⊥ }
+        ensures begun { result ≡ Step.Begun → is_some self.new.op ≡ true }
     {
         match single.begin_recv(rt, CTX, after(now, self.script.recv_timeout)) {
             Err(_) => Step::Rests,
@@ -335,6 +346,13 @@ impl Player {
                 Step::Begun
             }
         }
+    }
+
+    // Whether the first send waits until a pipe is up.
+    fn waits_for_pipe(&self, has_pipe: bool) -> bool
+        ensures { result ≡ (floods self.now.script.role && is_none self.now.last_send && not has_pipe) }
+    {
+        floods(self.script.role) && self.last_send.is_none() && !has_pipe
     }
 
     // Whether the interval since the last send isn't over.
@@ -355,6 +373,7 @@ impl Player {
         requires left { is_left (past_of single.old.seen) ≡ false }
         requires open_ { self.old.over ≡ Over.Open }
         requires next { is_receive_next single.old.setting (play_of self.old.script) (past_of single.old.seen) ≡ false }
+        requires pipe { waits_for_pipe (play_of self.old.script) (past_of single.old.seen) ≡ false }
         requires spaced { waits_for_interval (play_of self.old.script) (past_of single.old.seen) ≡ false }
         ensures stands { Stands single.new self.new now }
         ensures script { SameScript self.old self.new }
@@ -362,6 +381,7 @@ impl Player {
         ensures rested { Rested result single.new self.new }
         ensures texts { texts (play_of self.old.script) (past_of single.new.seen) ≡ texts (play_of self.old.script) (past_of single.old.seen) }
         ensures fault { result ≡ Step.OutFault → ⊥ }
+        ensures begun { result ≡ Step.Begun → is_some self.new.op ≡ true }
     {
         let Ok(m) = self.message() else {
             return Step::NoMemory;

@@ -5,14 +5,17 @@ ghost use Rattle.sp_history.specs.Past.{past_of};
 ghost use Rattle.sp_ends.specs.Turning.{SameEnds};
 ghost use Rattle.cat_play.specs.Scripts.{has_ticked, texts};
 ghost use Rattle.cat_rounds.specs.Lasting.{play_of, HasPrinted, HasServed, MayTick};
-ghost use Rattle.cat_rounds.specs.Stepping.{Stands, GoesOnBy, SameScript, Sinks};
-ghost use Rattle.cat_rounds.specs.Going.{RunStands, RoundStands, GoesTo, RoundGoesTo, WentOrOver, PacedTo, TicksOnce, PrintsTo, PrintsGoing, PrintsRound, IsDryAt, is_dry_at, past_now};
+ghost use Rattle.cat_rounds.specs.Stepping.{KnowsPipes, Stands, GoesOnBy, SameScript, Sinks};
+ghost use Rattle.cat_rounds.specs.Late.{IsLateBy, RoundIsLate, StallsMore};
+ghost use Rattle.sp_history.specs.Setting.{is_req};
+ghost use Rattle.cat_rounds.specs.Going.{RunStands, RoundStands, GoesTo, RoundGoesTo, WentOrOver, PacedTo, TicksOnce, PrintsTo, PrintsGoing, PrintsRound, IsDryAt, is_dry_at, past_now, has_more};
 
 use crate::game::Game;
 use crate::player::{Over, Step};
 use cat_play::ends::Status;
-use sp_base::{Link, Net, Pace, Paced, Sink, Tick};
+use sp_base::{Link, Net, Pace, Paced, Role, Sink, Tick};
 use sp_proto::Proto;
+use sp_socket::Served;
 use std::sync::Wait;
 
 /// How often the pipes are served in a round at most, while messages move.
@@ -60,6 +63,7 @@ impl<P: Proto, L: Link> Game<P, L> {
         ensures printed { (before : Option (List ℕ)) → HasPrinted before (S.seen out.old).text self.old.single.seen self.old.player → PrintsTo result before (S.seen out.new).text self.new.single.seen self.new.player }
         ensures sinks { Sinks (result ≡ Status.OutFault) (S.seen out.old) (S.seen out.new) }
         ensures same { SameEnds self.old.ends self.new.ends × SameScript self.old.player self.new.player × (self.new.single.setting ≡ self.old.single.setting) }
+        ensures late { is_req self.old.player.script.role ≡ false → IsLateBy 1 self.new.single self.new.player }
     {
         let mut moved = true;
         'rounds: for _ in 0..u64::MAX {
@@ -86,12 +90,14 @@ impl<P: Proto, L: Link> Game<P, L> {
         requires stands { (start : NetView) × RunStands L.seen start self.old.single self.old.ends self.old.player (N.seen net.old) false }
         requires may_tick { MayTick self.old.single.setting self.old.single.seen self.old.player }
         requires later { past_now self.old.single ≤ now }
+        requires late { is_req self.old.player.script.role ≡ false → IsLateBy 0 self.old.single self.old.player }
         ensures stands { (start : NetView) → RunStands L.seen start self.old.single self.old.ends self.old.player (N.seen net.old) false → RoundStands L.seen start result self.new.single self.new.ends self.new.player (N.seen net.new) }
         ensures ticked { TicksOnce now self.old.single self.new.single }
         ensures went { RoundGoesTo result self.new.single self.new.player }
         ensures printed { (before : Option (List ℕ)) → HasPrinted before (S.seen out.old).text self.old.single.seen self.old.player → PrintsRound result before (S.seen out.new).text self.new.single.seen self.new.player }
         ensures sinks { Sinks (result ≡ Round.Ends Status.OutFault) (S.seen out.old) (S.seen out.new) }
         ensures same { SameEnds self.old.ends self.new.ends × SameScript self.old.player self.new.player × (self.new.single.setting ≡ self.old.single.setting) }
+        ensures late { is_req self.old.player.script.role ≡ false → RoundIsLate result self.new.single self.new.player }
     {
         self.single.tick(rt, now);
         let turn = self.ends.turn(rt, net, &mut self.single, now);
@@ -115,6 +121,7 @@ impl<P: Proto, L: Link> Game<P, L> {
         ensures printed { (before : Option (List ℕ)) → HasPrinted before (S.seen out.old).text self.old.single.seen self.old.player → PrintsGoing result before (S.seen out.new).text self.new.single.seen self.new.player }
         ensures sinks { Sinks (result ≡ Going.OutFault) (S.seen out.old) (S.seen out.new) }
         ensures same { SameScript self.old.player self.new.player × (self.new.ends ≡ self.old.ends) }
+        ensures over { self.old.player.over ≢ Over.Open → result ≡ Going.Over }
     {
         let mut moved = false;
         'sweeps: for _ in 0..SWEEPS {
@@ -143,7 +150,8 @@ impl<P: Proto, L: Link> Game<P, L> {
         ensures same { SameScript self.old.player self.new.player × (self.new.ends ≡ self.old.ends) }
     {
         let served = self.single.serve(rt);
-        match self.steps(rt, out, now) {
+        let has_pipe = served.up > 0;
+        match self.steps(rt, out, now, has_pipe) {
             Going::Rests(went) => Going::Rests(went || served.moved),
             Going::Over => Going::Over,
             Going::OutFault => Going::OutFault,
@@ -152,9 +160,10 @@ impl<P: Proto, L: Link> Game<P, L> {
     }
 
     // Goes on with the play until it rests.
-    fn steps<R: Wait, S: Sink>(&mut self, rt: &R, out: &mut S, now: Tick) -> Going
+    fn steps<R: Wait, S: Sink>(&mut self, rt: &R, out: &mut S, now: Tick, has_pipe: bool) -> Going
         requires stands { Stands self.old.single self.old.player now }
         requires served { HasServed self.old.single.setting self.old.single.seen }
+        requires pipes { KnowsPipes has_pipe self.old.single self.old.player }
         ensures stands { Stands self.new.single self.new.player now }
         ensures goes_on { GoesOnBy self.old.single self.new.single }
         ensures went { GoesTo result self.new.single self.new.player }
@@ -164,7 +173,7 @@ impl<P: Proto, L: Link> Game<P, L> {
     {
         let mut moved = false;
         'steps: for _ in 0..STEPS {
-            match self.player.step(rt, &mut self.single, out, now) {
+            match self.player.step(rt, &mut self.single, out, now, has_pipe) {
                 Step::Begun => moved = true,
                 Step::Rests => return Going::Rests(moved),
                 Step::OutFault => return Going::OutFault,
@@ -185,9 +194,11 @@ impl<P: Proto, L: Link> Game<P, L> {
         ensures texts { texts (play_of self.old.player.script) (past_of self.new.single.seen) ≡ texts (play_of self.old.player.script) (past_of self.old.single.seen) }
         ensures same { (self.new.player ≡ self.old.player) × (self.new.ends ≡ self.old.ends) }
         ensures fault { (result ≡ Round.Ends Status.OutFault → ⊥) × (result ≡ Round.Ends Status.NoMemory → ⊥) }
+        ensures stalls { is_req self.old.player.script.role ≡ false → StallsMore result self.old.single self.new.single }
     {
         let served = self.single.serve(rt);
-        if served.waiting > 0 {
+        let waits = has_more(self.player.script.role, served);
+        if waits {
             return Round::Goes(served.moved);
         }
         match self.player.over {
@@ -196,4 +207,11 @@ impl<P: Proto, L: Link> Game<P, L> {
             Over::Open => unreachable!(),
         }
     }
+}
+
+// Whether a pipe has something left to write. Of a req, a request may have gone out again where the turn moved something.
+fn has_more(role: Role, served: Served) -> bool
+    ensures { result ≡ has_more role served }
+{
+    served.waiting > 0 || (role == Role::Req && served.moved)
 }

@@ -4,10 +4,13 @@ ghost use Rattle.std.specs.Option.{option_map};
 ghost use Rattle.sp_base.specs.Views.{FilesView, NetView};
 ghost use Rattle.sp_proto.specs.Kinds.{Kind, Starts, setting_of};
 ghost use Rattle.cat_play.specs.Openings.{greetings};
-ghost use Rattle.cat_play.specs.Running.{world, run_setting, RunsPlan};
+ghost use Rattle.cat_play.specs.Running.{world, run_setting, RunsPlan, EndsPlan};
 ghost use Rattle.cat_rounds.specs.Lasting.{HasPrinted};
 ghost use Rattle.cat_rounds.specs.Stepping.{SameScript};
 ghost use Rattle.cat_rounds.specs.Going.{RunStands, PrintsTo, IsDryAt, is_dry_at};
+ghost use Rattle.cat_rounds.specs.Starting.{CanSubscribe};
+ghost use Rattle.cat_rounds.specs.Late.{IsLateBy};
+ghost use Rattle.sp_history.specs.Setting.{is_req};
 ghost use Rattle.cat_rounds.specs.Built.{IsBuilt, AreBuilt, IsBuiltEnd, IsBody, Follows, AddsEnd, FinishesAs};
 
 use crate::game::Game;
@@ -45,7 +48,7 @@ fn unopened(status: Status) -> CatEnd
 }
 
 /// Plays the plan on a socket over this machine, which is one of the plan's role and as good as new: opens the socket,
-/// listens and dials in the order of the plan, goes round, closes, and gives every link back. Whatever it answers, the
+/// listens and dials in the order of the plan, puts its topics on, goes round, closes, and gives every link back. Whatever it answers, the
 /// history of the socket says all that was done.
 pub fn play<R: Wait, N: Net, Pa: Pace, S: Sink, P: Proto + Drop>(
     alloc: Global,
@@ -59,14 +62,16 @@ pub fn play<R: Wait, N: Net, Pa: Pace, S: Sink, P: Proto + Drop>(
     requires starts { (k : Kind) × Starts P.ties machine k }
     requires setting { (dice : ℕ) × (setting_of (P.kind machine) 16 1 ≡ run_setting plan.role dice) }
     requires built { IsBuilt plan }
-    ensures { (files : FilesView) (dice : ℕ) → setting_of (P.kind machine) 16 1 ≡ run_setting plan.role dice →
+    ensures runs { (files : FilesView) (dice : ℕ) → setting_of (P.kind machine) 16 1 ≡ run_setting plan.role dice →
         RunsPlan (greetings plan.role) result.status plan dice (option_map (λ r. r.turns) result.record_) (world (N.seen net.old) files (Pa.seen pace.old) (S.seen out.old)) (world (N.seen net.new) files (Pa.seen pace.new) (S.seen out.new)) }
+    ensures in_time { (files : FilesView) (dice : ℕ) → setting_of (P.kind machine) 16 1 ≡ run_setting plan.role dice → is_req plan.role ≡ false →
+        EndsPlan result.status plan dice (option_map (λ r. r.turns) result.record_) (world (N.seen net.old) files (Pa.seen pace.old) (S.seen out.old)) (world (N.seen net.new) files (Pa.seen pace.new) (S.seen out.new)) }
 {
     let CatPlan {
         role,
         ends,
         data_,
-        topics: _,
+        topics,
         count,
         interval,
         recv_timeout,
@@ -76,6 +81,7 @@ pub fn play<R: Wait, N: Net, Pa: Pace, S: Sink, P: Proto + Drop>(
     let script = Script {
         role,
         body: body_of(data_),
+        topics,
         count,
         interval,
         recv_timeout,
@@ -110,7 +116,7 @@ fn body_of(data_: Data) -> Option<Bytes>
 }
 
 impl<P: Proto, L: Link> Game<P, L> {
-    // Listens and dials as planned, and goes round.
+    // Listens and dials as planned, puts the topics on, and goes round.
     fn follow<R: Wait, N: Net<L = L>, Pa: Pace, S: Sink>(
         &mut self,
         rt: &R,
@@ -123,11 +129,13 @@ impl<P: Proto, L: Link> Game<P, L> {
         requires fresh { self.old.single.seen ≡ [] }
         requires no_ends { (self.old.ends.listeners ≡ []) × (self.old.ends.dialers ≡ []) }
         requires built { AreBuilt ends.now }
+        requires topics { CanSubscribe self.old.single.setting self.old.player.script.topics }
         ensures stands { (start : NetView) → RunStands L.seen start self.old.single self.old.ends self.old.player (N.seen net.old) false → RunStands L.seen start self.new.single self.new.ends self.new.player (N.seen net.new) (is_dry_at self.new.single) }
         ensures dry { IsDryAt result self.new.single }
         ensures followed { Follows result ends.now self.new.single self.new.ends self.new.player (N.seen net.old) (N.seen net.new) (Pa.seen pace.old) (Pa.seen pace.new) (S.seen out.old) (S.seen out.new) }
         ensures printed { (before : Option (List ℕ)) → HasPrinted before (S.seen out.old).text self.old.single.seen self.old.player → PrintsTo result before (S.seen out.new).text self.new.single.seen self.new.player }
         ensures same { SameScript self.old.player self.new.player × (self.new.single.setting ≡ self.old.single.setting) }
+        ensures late { is_req self.old.player.script.role ≡ false → IsLateBy 1 self.new.single self.new.player }
     {
         for end in ends {
             match self.add(net, end) {
@@ -136,7 +144,7 @@ impl<P: Proto, L: Link> Game<P, L> {
                 Err(EndError::NoMemory) => return Status::NoMemory,
             }
         }
-        self.go_round(rt, net, pace, out)
+        self.begin(rt, net, pace, out)
     }
 
     // One end of the plan.

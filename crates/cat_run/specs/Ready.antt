@@ -16,7 +16,7 @@ use Rattle.cat_text.specs.declared.plan.Data.{Data}
 use Rattle.cat_text.specs.declared.plan.Data.TheVariants as datas
 use Rattle.cat_play.specs.declared.ends.Status.{Status}
 use Rattle.cat_play.specs.declared.ends.Status.TheVariants as status
-use Rattle.cat_rounds.specs.Built.{IsBuiltEnd, AreBuilt, has_data, IsBuilt}
+use Rattle.cat_rounds.specs.Built.{IsBuiltEnd, AreBuilt, AreTopics, has_data, IsBuilt}
 
 -- ---- Plans that can be run
 
@@ -27,17 +27,17 @@ has_machine roles.Push = true
 has_machine roles.Pull = true
 has_machine roles.Rep = true
 has_machine roles.Respondent = true
-has_machine roles.Pub = false
-has_machine roles.Sub = false
-has_machine roles.Req = false
+has_machine roles.Pub = true
+has_machine roles.Sub = true
+has_machine roles.Req = true
 has_machine roles.Surveyor = false
-has_machine roles.Bus = false
+has_machine roles.Bus = true
 
--- a plan over TCP, of a role that a run has a machine for
+-- a plan over TCP, of a role that a run has a machine for, with topics that its socket takes
 pub record IsReady (plan : CatPlan) : Type 0 where
   pub machine : IsTrue (has_machine plan.role)
   pub ends_built : AreBuilt plan.ends
-  pub no_topics : plan.topics ≡ []
+  pub topics_ready : AreTopics plan.role plan.topics
   pub carries : IsTrue (not (needs_data plan.role) || has_data plan.data_)
 
 -- no drill can be run yet

@@ -1,14 +1,17 @@
 //! Which plans can be run.
-ghost use Rattle.std.specs.Prelude.{◌≡◌, ◌↔◌, ◌||◌, not, IsTrue};
-ghost use Rattle.cat_rounds.specs.Built.{IsBuiltEnd, AreBuilt, has_data};
+ghost use Rattle.std.specs.Prelude.{◌≡◌, ◌≤◌, ◌↔◌, ◌||◌, not, length, IsTrue};
+ghost use Rattle.cat_rounds.specs.Built.{IsBuiltEnd, AreBuilt, AreTopics, has_data};
 ghost use Rattle.cat_text.specs.Drafts.{needs_data};
 ghost use Rattle.cat_run.specs.Ready.{IsReady, has_machine};
 
 use cat_text::{CatPlan, Data, End};
-use sp_base::{Role, Scheme};
+use sp_base::{Bytes, Role, Scheme};
 
 /// How many ends a plan has at most.
 const MOST_ENDS: usize = 64;
+
+/// The longest topic.
+const LONGEST_TOPIC: usize = 1_024;
 
 // Whether the plan can be run.
 pub(crate) fn is_ready(plan: &CatPlan) -> bool
@@ -17,7 +20,7 @@ pub(crate) fn is_ready(plan: &CatPlan) -> bool
     if !has_machine(plan.role) {
         return false;
     }
-    if plan.topics.len() != 0 {
+    if !are_topics(plan.role, plan.topics.as_slice()) {
         return false;
     }
     if !carries_data(plan.role, &plan.data_) {
@@ -34,6 +37,23 @@ fn are_built(ends: &[End]) -> bool
         return false;
     }
     ends.iter().all(|end| is_built_end(end))
+}
+
+// Whether the socket of the role takes these topics.
+fn are_topics(role: Role, topics: &[Bytes]) -> bool
+    ensures { IsTrue result ↔ AreTopics role topics.now }
+{
+    if role != Role::Sub && !topics.is_empty() {
+        return false;
+    }
+    topics.iter().all(|topic| is_short(topic))
+}
+
+// Whether a topic isn't too long.
+fn is_short(topic: &Bytes) -> bool
+    ensures { IsTrue result ↔ (length topic.now ≤ 1024) }
+{
+    topic.as_slice().len() <= LONGEST_TOPIC
 }
 
 // Whether it has data where its play has to send.
@@ -53,11 +73,11 @@ fn has_machine(role: Role) -> bool
         Role::Pull => true,
         Role::Rep => true,
         Role::Respondent => true,
-        Role::Pub => false,
-        Role::Sub => false,
-        Role::Req => false,
+        Role::Pub => true,
+        Role::Sub => true,
+        Role::Req => true,
         Role::Surveyor => false,
-        Role::Bus => false,
+        Role::Bus => true,
     }
 }
 

@@ -2,7 +2,11 @@
 #![tactic(auto)]
 
 #[cfg(test)]
+mod asking;
+#[cfg(test)]
 mod first_path;
+#[cfg(test)]
+mod intervals;
 #[cfg(test)]
 mod nets;
 #[cfg(test)]
@@ -11,6 +15,8 @@ mod play;
 mod refusals;
 #[cfg(test)]
 mod roles;
+#[cfg(test)]
+mod spreading;
 
 /// How many turns the pace of a test has, a millisecond apart.
 pub const TURNS: u64 = 200;

@@ -1,4 +1,6 @@
-use crate::play::link_of;
+use crate::TURNS;
+use crate::play::{ALL, HELLO_80, HELLO_81, link_of, outgoing, play};
+use cat_run::Status;
 use sp_base::{Addr, Host, Link, LinkRead, Linked, Listened, Net};
 use sp_fakes::MemNet;
 use std::test::Fail;
@@ -40,5 +42,40 @@ fn each_listener_has_links_of_its_own(rt: HostRuntime) -> Result<(), Fail> {
     assert_eq!(rt; first_read(&mut net, 2), Some((1, 2)));
     assert_eq!(rt; first_read(&mut net, 3), Some((2, 3)));
     assert_eq!(rt; first_read(&mut net, 4), None);
+    Ok(())
+}
+
+// The first link brings a message and ends, the second another one. Between them lie a hundred milliseconds.
+#[test]
+fn a_pipe_that_is_lost_is_dialed_again(rt: HostRuntime) -> Result<(), Fail> {
+    const DIALS: &[&str] = &[
+        "--pull",
+        "--dial",
+        "tcp://127.0.0.1:5555",
+        "--ascii",
+        "--count",
+        "2",
+    ];
+    let alloc = rt.alloc();
+    let mut links = Vec::new(alloc);
+    links.push(link_of(
+        alloc,
+        &[HELLO_80, b"\x00\x00\x00\x00\x00\x00\x00\x01a"],
+        true,
+        ALL,
+    )?)?;
+    links.push(link_of(
+        alloc,
+        &[HELLO_80, b"\x00\x00\x00\x00\x00\x00\x00\x01b"],
+        false,
+        ALL,
+    )?)?;
+    let came = play(&rt, DIALS, outgoing(alloc, links)?)?;
+    assert_eq!(rt; came.status, Status::Done);
+    assert_eq!(rt; came.opened, 2);
+    assert_eq!(rt; came.printed.as_slice(), b"a\nb\n".as_slice());
+    assert_eq!(rt; came.written.as_slice(), HELLO_81);
+    assert_eq!(rt; came.second.as_slice(), HELLO_81);
+    assert!(rt; came.left < TURNS - 100);
     Ok(())
 }

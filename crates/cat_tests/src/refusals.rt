@@ -22,7 +22,7 @@ fn words_without_a_plan_are_refused_at_their_place(rt: HostRuntime) -> Result<()
         (&["--push", "--listen", A], 3),
         (&["--push", "--listen", A, "--data"], 4),
         // A plan of a role without a machine, and a drill.
-        (&["--pub", "--listen", A, "--data", "x"], 0),
+        (&["--surveyor", "--listen", A, "--data", "x"], 0),
         (&["--drill", "5"], 0),
         (&["--pull", "--listen", "inproc://a"], 0),
     ];

@@ -7,11 +7,13 @@ Usage: nngcat ROLE ENDPOINT.. [OPTION]..
 Sends or receives messages over a scalability protocol, and prints what it receives.
 A value is the next word, or stands behind =, as in --count=3. Options come in any order.
 
-Roles (exactly one):
+Roles (exactly one; each also with 0 at its end):
   --push    sends to one peer each          --pull        receives from all peers
-  --pair    one peer, both ways             --rep         prints requests, replies with data
-                                            --respondent  prints surveys, answers with data
-  Not there yet: --pub, --sub, --req, --surveyor, --bus.
+  --pub     sends to all subscribers        --sub         receives what begins with one of its topics
+  --req     sends data, prints its reply    --rep         prints requests, replies with data
+  --pair    one peer, both ways             --respondent  prints surveys, answers with data
+  --bus     all peers: sends data, or receives where it has none
+  Not there yet: --surveyor.
 
 Endpoints (1 to 64 in all):
   --listen ADDRESS        accept connections at ADDRESS
@@ -19,9 +21,13 @@ Endpoints (1 to 64 in all):
   ADDRESS is tcp://HOST:PORT. HOST is *, localhost or four numbers with dots between; * is for
   --listen alone. PORT is 0 to 65535, and not 0 for --dial.
 
-Data (one of the two; push needs it, pull takes none):
+Data (one of the two; push, pub and req need it, pull and sub take none):
   --data TEXT             send TEXT
   --file NAME             send what the file NAME holds; - is standard input
+
+What a sub takes:
+  --subscribe TEXT        messages that begin with TEXT, of at most 1,024 bytes; up to 64 times.
+                          Without it a sub takes all
 
 How it is printed (one format at most; without one nothing is printed):
   --raw                   the bytes as they are
@@ -49,6 +55,9 @@ Examples:
   nngcat --push --dial tcp://127.0.0.1:5555 --data hello
   nngcat --pair --dial tcp://127.0.0.1:5556 --quoted --count 10
   nngcat --rep --listen tcp://*:5557 --ascii --data pong --recv-timeout 60
+  nngcat --req --dial tcp://127.0.0.1:5557 --data ping --ascii
+  nngcat --pub --listen tcp://*:5558 --data news --interval 1
+  nngcat --sub --dial tcp://127.0.0.1:5558 --subscribe ne --ascii
 ";
 
 /// The answer to `--version` alone.

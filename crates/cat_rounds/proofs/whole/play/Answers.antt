@@ -1,12 +1,14 @@
-use Rattle.std.proofs.Common.{sym, ◌∙◌, subst, List}
+use Rattle.std.proofs.Common.{sym, ap, ◌∙◌, subst, List}
 use Rattle.std.specs.Option.{option_map}
 use Rattle.cat_text.specs.declared.plan.End.{End}
 use Rattle.cat_play.specs.declared.ends.Status.{Status}
 use Rattle.cat_play.specs.Openings.{greetings}
-use Rattle.cat_play.specs.Running.{world, RunsPlan}
+use Rattle.cat_play.specs.Running.{world, RunsPlan, EndsPlan}
 use Rattle.cat_rounds.specs.Built.{Follows}
-use Rattle.cat_rounds.proofs.Beginning.{plan_begins, is_play_of, prints_nothing}
+use Rattle.cat_rounds.proofs.Beginning.{plan_begins, is_play_of, prints_nothing, can_subscribe}
+use Rattle.sp_history.specs.Setting.{is_req}
 use Rattle.cat_rounds.proofs.Played.{runs_plan}
+use Rattle.cat_rounds.proofs.Late.{in_time}
 use Rattle.cat_rounds.proofs.whole.play.Goals as goal
 
 pub follow-status-requires-clause-stands : goal.follow-status-requires-clause-stands
@@ -15,6 +17,10 @@ follow-status-requires-clause-stands g c =
     let single = c.in-Ok-open.single in
     (net, plan_begins g.N.L.Link.seen net single c.in-Ok.links c.args.plan c.body_of.result c.new-2.result c.requires.setting.0 c.in-Ok-open.ensures.0 (c.in-Ok-open.ensures.1 ∙ c.requires.setting.1) c.in-Ok.ensures c.new-2.ensures c.requires.built c.body_of.ensures)
 
+pub follow-status-requires-clause-topics : goal.follow-status-requires-clause-topics
+follow-status-requires-clause-topics g c =
+    can_subscribe c.in-Ok-open.single c.args.plan c.body_of.result c.new-2.result c.requires.setting.0 (c.in-Ok-open.ensures.1 ∙ c.requires.setting.1) c.new-2.ensures c.requires.built
+
 pub finish-requires : goal.finish-requires
 finish-requires g c =
     let net = g.N.Net.seen c.args.net.now in
@@ -22,8 +28,8 @@ finish-requires g c =
     let run = plan_begins g.N.L.Link.seen net single c.in-Ok.links c.args.plan c.body_of.result c.new-2.result c.requires.setting.0 c.in-Ok-open.ensures.0 (c.in-Ok-open.ensures.1 ∙ c.requires.setting.1) c.in-Ok.ensures c.new-2.ensures c.requires.built c.body_of.ensures in
     record { stands = (net, c.follow-status.ensures.stands net run) }
 
-pub returns : goal.returns
-returns g c files dice setting =
+pub returns-clause-runs : goal.returns-clause-runs
+returns-clause-runs g c files dice setting =
     let net = g.N.Net.seen c.args.net.now in
     let between = g.N.Net.seen c.follow-status.new.net in
     let after = g.N.Net.seen c.finish.new.net in
@@ -42,3 +48,23 @@ returns g c files dice setting =
     let run = f.stands net begun in
     let followed = subst (λ (es : List End). Follows st es single ends player net between pace pace' out out') c.as_slice.ensures f.followed in
     subst (λ (s : Status). RunsPlan (greetings plan.role) s plan dice (option_map (λ r. r.turns) c.finish.result.record_) (world net files pace out) (world after files pace' out')) (sym c.finish.ensures.status) (runs_plan g.N.L.Link.seen st plan single ends player net between after pace pace' out out' (option_map (λ r. r.turns) c.finish.result.record_) files dice (f.same.1 ∙ (c.in-Ok-open.ensures.1 ∙ setting)) (is_play_of plan files c.body_of.result player c.requires.built c.body_of.ensures (f.same.0 ∙ c.new-2.ensures.script_is)) run f.dry followed (f.printed out.text (prints_nothing out.text first.seen c.new-2.result c.in-Ok-open.ensures.0)) (c.finish.ensures.finished net run))
+
+pub returns-clause-in_time : goal.returns-clause-in_time
+returns-clause-in_time g c files dice setting not_req =
+    let net = g.N.Net.seen c.args.net.now in
+    let between = g.N.Net.seen c.follow-status.new.net in
+    let after = g.N.Net.seen c.finish.new.net in
+    let pace = g.Pa.Pace.seen c.args.pace.now in
+    let pace' = g.Pa.Pace.seen c.follow-status.new.pace in
+    let out = g.S.Sink.seen c.args.out.now in
+    let out' = g.S.Sink.seen c.follow-status.new.out in
+    let single = c.follow-status.new.self.single in
+    let ends = c.follow-status.new.self.ends in
+    let player = c.follow-status.new.self.player in
+    let plan = c.args.plan in
+    let st = c.follow-status.result in
+    let f = c.follow-status.ensures in
+    let begun = plan_begins g.N.L.Link.seen net c.in-Ok-open.single c.in-Ok.links plan c.body_of.result c.new-2.result dice c.in-Ok-open.ensures.0 (c.in-Ok-open.ensures.1 ∙ setting) c.in-Ok.ensures c.new-2.ensures c.requires.built c.body_of.ensures in
+    let late = f.late (ap (λ x. is_req x.role) c.new-2.ensures.script_is ∙ not_req) in
+    subst (λ (s : Status). EndsPlan s plan dice (option_map (λ r. r.turns) c.finish.result.record_) (world net files pace out) (world after files pace' out')) (sym c.finish.ensures.status)
+    (in_time g.N.L.Link.seen st plan single ends player net between after files dice c.body_of.result (f.same.1 ∙ (c.in-Ok-open.ensures.1 ∙ setting)) c.requires.built c.body_of.ensures (f.same.0 ∙ c.new-2.ensures.script_is) late pace pace' out out' (option_map (λ r. r.turns) c.finish.result.record_) (c.finish.ensures.finished net (f.stands net begun)))

@@ -17,4 +17,4 @@ pub play-requires-clause-setting : goal.play-requires-clause-setting
 play-requires-clause-setting g c = (c.args.dice, setting_is g.P.Proto.ties g.P.Proto.kind g.met.P.Proto.kinds c.in-Ok.machine c.args.plan.role c.args.dice (starts g c))
 
 pub returns-in-Ok : goal.returns-in-Ok
-returns-in-Ok g c = λ files. c.play.ensures files c.args.dice (setting_is g.P.Proto.ties g.P.Proto.kind g.met.P.Proto.kinds c.in-Ok.machine c.args.plan.role c.args.dice (IfOk-at_ok (λ m. Starts g.P.Proto.ties m (usual_kind c.args.plan.role c.args.dice)) c.in-Ok.is c.requires.starts))
+returns-in-Ok g c = λ files. c.play.ensures.runs files c.args.dice (setting_is g.P.Proto.ties g.P.Proto.kind g.met.P.Proto.kinds c.in-Ok.machine c.args.plan.role c.args.dice (IfOk-at_ok (λ m. Starts g.P.Proto.ties m (usual_kind c.args.plan.role c.args.dice)) c.in-Ok.is c.requires.starts))

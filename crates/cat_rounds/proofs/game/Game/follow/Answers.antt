@@ -1,8 +1,11 @@
-use Rattle.std.proofs.Common.{◌≡◌, ◌<◌, ◌+◌, ◌∙◌, ap, arith, length, take}
+use Rattle.std.proofs.Common.{◌≡◌, ◌<◌, ◌+◌, ◌∙◌, sym, subst, ap, arith, length, take}
 use Rattle.std.proofs.lemmas.List.{take_all}
 use Rattle.cat_play.specs.Spending.{listens_of, dials_of}
 use Rattle.sp_single.specs.Singles.{SingleView}
+use Rattle.cat_rounds.specs.declared.player.Player.{Player}
+use Rattle.cat_rounds.specs.Starting.{CanSubscribe}
 use Rattle.cat_rounds.proofs.Following.{adds_on, grows, listens_next, dials_next, followed_on}
+use Rattle.sp_history.specs.Setting.{is_req}
 use Rattle.cat_rounds.proofs.game.Game.follow.Goals as goal
 
 pub loop-end-preserved : goal.loop-end-preserved
@@ -36,6 +39,14 @@ loop-end-preserved g c =
 pub returns-clause-followed : goal.returns-clause-followed
 returns-clause-followed g c =
     let i = c.loop-end.invariant in
-    let r = c.go_round.ensures in
+    let r = c.begin.ensures in
     let all : take c.loop-end.end-index c.args.ends.now ≡ c.args.ends.now = take_all c.loop-end.end-index c.args.ends.now c.loop-end-test.false in
-    followed_on c.go_round.result c.args.ends.now c.go_round.new.self.single c.go_round.new.self.ends c.go_round.new.self.player (g.N.Net.seen c.args.net.now) (g.N.Net.seen c.go_round.new.net) (g.Pa.Pace.seen c.args.pace.now) (g.Pa.Pace.seen c.go_round.new.pace) (g.S.Sink.seen c.args.out.now) (g.S.Sink.seen c.go_round.new.out) r.went r.pace (ap length r.same.0.listeners ∙ (i.listens ∙ ap listens_of all)) (r.same.0.dials ∙ (i.dials ∙ ap dials_of all)) r.sinks
+    followed_on c.begin.result c.args.ends.now c.begin.new.self.single c.begin.new.self.ends c.begin.new.self.player (g.N.Net.seen c.args.net.now) (g.N.Net.seen c.begin.new.net) (g.Pa.Pace.seen c.args.pace.now) (g.Pa.Pace.seen c.begin.new.pace) (g.S.Sink.seen c.args.out.now) (g.S.Sink.seen c.begin.new.out) r.went r.pace (ap length r.same.0.listeners ∙ (i.listens ∙ ap listens_of all)) (r.same.0.dials ∙ (i.dials ∙ ap dials_of all)) r.sinks
+
+pub begin-requires-clause-can : goal.begin-requires-clause-can
+begin-requires-clause-can g c =
+    let i = c.loop-end.invariant in
+    subst (λ (v : SingleView). CanSubscribe v.setting c.loop-end.self.player.script.topics) (sym i.single) (subst (λ (q : Player). CanSubscribe c.args.self.now.single.setting q.script.topics) (sym i.player) c.requires.topics)
+
+pub returns-clause-late : goal.returns-clause-late
+returns-clause-late g c not_req = c.begin.ensures.late (ap (λ (x : Player). is_req x.script.role) c.loop-end.invariant.player ∙ not_req)

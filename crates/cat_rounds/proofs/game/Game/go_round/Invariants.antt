@@ -6,6 +6,8 @@ use Rattle.sp_ends.specs.Turning.{SameEnds}
 use Rattle.cat_rounds.specs.Lasting.{HasPrinted, MayTick}
 use Rattle.cat_rounds.specs.Stepping.{SameScript}
 use Rattle.cat_rounds.specs.Going.{RunStands, past_now}
+use Rattle.sp_history.specs.Setting.{is_req}
+use Rattle.cat_rounds.specs.Late.{IsLateBy}
 use Rattle.cat_rounds.proofs.game.Game.go_round.Given as goal
 
 abbrev pub invariant-rounds : goal.invariant-rounds
@@ -19,5 +21,6 @@ invariant-rounds g l = record {
   left_ : (g.Pa.Pace.seen l.fn.pace).left ≡ (g.Pa.Pace.seen l.pace).left + length (ticks (past_of l.self.single.seen));
   count : length (ticks (past_of l.self.single.seen)) ≤ l.counter;
   now_is : past_now l.self.single ≤ (g.Pa.Pace.seen l.pace).latest;
+  late : is_req l.fn.self.player.script.role ≡ false → IsLateBy 0 l.self.single l.self.player;
   silent : (g.Pa.Pace.seen l.pace).is_over ≡ (g.Pa.Pace.seen l.fn.pace).is_over;
 }

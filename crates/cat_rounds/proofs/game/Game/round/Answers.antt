@@ -1,10 +1,14 @@
-use Rattle.std.proofs.Common.{sym, ◌∙◌, ap, subst}
+use Rattle.std.proofs.Common.{◌≡◌, sym, ◌∙◌, ap, subst, refl, inl, inr}
 use Rattle.sp_spec.specs.Outside.{grown}
 use Rattle.cat_play.specs.Scripts.{joined}
 use Rattle.std.proofs.Common.{false}
 use Rattle.sp_ends.specs.Turning.{IsDry}
 use Rattle.cat_rounds.specs.Lasting.{HasPrinted}
 use Rattle.cat_rounds.proofs.Opening.{opens, quiet_stands, quiet_texts, quiet_ticks, on_ticks, run_on, round_stands, round_prints, cut_nowhere}
+use Rattle.sp_history.specs.Setting.{is_req}
+use Rattle.cat_rounds.specs.declared.player.Player.{Player}
+use Rattle.cat_rounds.specs.declared.rounds.Going.TheVariants as goings
+use Rattle.cat_rounds.proofs.Late.{late_tick, late_quiet, late_on, late_then, ends_late, goes_early, drains_late, open_or}
 use Rattle.cat_rounds.proofs.game.Game.round.Goals as goal
 
 pub turn-turn-requires-clause-ticked : goal.turn-turn-requires-clause-ticked
@@ -241,3 +245,87 @@ returns-in-Over-clause-printed g c = λ before h.
     let d = c.drain.ensures in
     let f = c.in-Over.ensures.printed before (h ∙ ap (λ ts. grown before (joined ts)) (sym (quiet_texts s1 s2 p c.args.now t.quietly o.stands ∙ o.texts_are))) in
     round_prints c.drain.result before (g.S.Sink.seen c.play.new.out).text c.drain.new.self.single.seen c.drain.new.self.player d.fault.0 d.fault.1 (subst (λ q. HasPrinted before (g.S.Sink.seen c.play.new.out).text c.drain.new.self.single.seen q) (sym d.same.0) (f ∙ ap (λ ts. grown before (joined ts)) (sym d.texts)))
+
+pub returns-then-turn-clause-late : goal.returns-then-turn-clause-late
+returns-then-turn-clause-late g c not_req =
+    let s0 = c.args.self.now.single in
+    let s1 = c.tick.new.self in
+    let s2 = c.turn-turn.new.single in
+    let p = c.args.self.now.player in
+    let tick = late_tick s0 s1 p c.args.now c.tick.ensures.turn c.requires.stands.1.play in
+    let quiet = late_quiet s1 s2 p c.turn-turn.ensures.quietly in
+    ends_late s0 s1 s2 p p refl (c.requires.late not_req) tick quiet
+
+pub returns-then-moved-clause-late : goal.returns-then-moved-clause-late
+returns-then-moved-clause-late g c not_req =
+    let s0 = c.args.self.now.single in
+    let s1 = c.tick.new.self in
+    let s2 = c.turn-turn.new.single in
+    let p = c.args.self.now.player in
+    let tick = late_tick s0 s1 p c.args.now c.tick.ensures.turn c.requires.stands.1.play in
+    let quiet = late_quiet s1 s2 p c.turn-turn.ensures.quietly in
+    let s3 = c.play.new.self.single in
+    let q = c.play.new.self.player in
+    let y = c.play.ensures in
+    let on = late_then s1 s2 s3 p quiet (late_on s2 s3 p y.goes_on) in
+    elim (open_or p.over) [
+      | inl open_ ↦ goes_early s0 s1 s3 p q y.same.0 (c.requires.late not_req) tick on open_
+      | inr over ↦ absurd (let no : goings.Rests c.in-Rests.moved ≡ goings.Over = sym c.in-Rests.is ∙ y.over over in cc)
+    ]
+
+pub returns-else-moved-clause-late : goal.returns-else-moved-clause-late
+returns-else-moved-clause-late g c not_req =
+    let s0 = c.args.self.now.single in
+    let s1 = c.tick.new.self in
+    let s2 = c.turn-turn.new.single in
+    let p = c.args.self.now.player in
+    let tick = late_tick s0 s1 p c.args.now c.tick.ensures.turn c.requires.stands.1.play in
+    let quiet = late_quiet s1 s2 p c.turn-turn.ensures.quietly in
+    let s3 = c.play.new.self.single in
+    let q = c.play.new.self.player in
+    let y = c.play.ensures in
+    let on = late_then s1 s2 s3 p quiet (late_on s2 s3 p y.goes_on) in
+    elim (open_or p.over) [
+      | inl open_ ↦ goes_early s0 s1 s3 p q y.same.0 (c.requires.late not_req) tick on open_
+      | inr over ↦ absurd (let no : goings.Rests c.in-Rests.moved ≡ goings.Over = sym c.in-Rests.is ∙ y.over over in cc)
+    ]
+
+pub returns-in-OutFault-clause-late : goal.returns-in-OutFault-clause-late
+returns-in-OutFault-clause-late g c not_req =
+    let s0 = c.args.self.now.single in
+    let s1 = c.tick.new.self in
+    let s2 = c.turn-turn.new.single in
+    let p = c.args.self.now.player in
+    let tick = late_tick s0 s1 p c.args.now c.tick.ensures.turn c.requires.stands.1.play in
+    let quiet = late_quiet s1 s2 p c.turn-turn.ensures.quietly in
+    let s3 = c.play.new.self.single in
+    let on = late_then s1 s2 s3 p quiet (late_on s2 s3 p c.play.ensures.goes_on) in
+    ends_late s0 s1 s3 p c.play.new.self.player c.play.ensures.same.0 (c.requires.late not_req) tick on
+
+pub returns-in-NoMemory-clause-late : goal.returns-in-NoMemory-clause-late
+returns-in-NoMemory-clause-late g c not_req =
+    let s0 = c.args.self.now.single in
+    let s1 = c.tick.new.self in
+    let s2 = c.turn-turn.new.single in
+    let p = c.args.self.now.player in
+    let tick = late_tick s0 s1 p c.args.now c.tick.ensures.turn c.requires.stands.1.play in
+    let quiet = late_quiet s1 s2 p c.turn-turn.ensures.quietly in
+    let s3 = c.play.new.self.single in
+    let on = late_then s1 s2 s3 p quiet (late_on s2 s3 p c.play.ensures.goes_on) in
+    ends_late s0 s1 s3 p c.play.new.self.player c.play.ensures.same.0 (c.requires.late not_req) tick on
+
+pub returns-in-Over-clause-late : goal.returns-in-Over-clause-late
+returns-in-Over-clause-late g c not_req =
+    let s0 = c.args.self.now.single in
+    let s1 = c.tick.new.self in
+    let s2 = c.turn-turn.new.single in
+    let p = c.args.self.now.player in
+    let tick = late_tick s0 s1 p c.args.now c.tick.ensures.turn c.requires.stands.1.play in
+    let quiet = late_quiet s1 s2 p c.turn-turn.ensures.quietly in
+    let s3 = c.play.new.self.single in
+    let s4 = c.drain.new.self.single in
+    let y = c.play.ensures in
+    let d = c.drain.ensures in
+    let on = late_then s1 s2 s3 p quiet (late_on s2 s3 p y.goes_on) in
+    let script = ap (λ (x : Player). x.script) d.same.0 ∙ y.same.0 in
+    drains_late s0 s1 s3 p c.drain.new.self.player script (c.requires.late not_req) tick on c.drain.result s4 (late_on s3 s4 p d.goes_on) (d.stalls (ap (λ x. is_req x.role) y.same.0 ∙ not_req))

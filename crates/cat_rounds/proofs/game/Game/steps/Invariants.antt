@@ -1,5 +1,6 @@
 use Rattle.std.proofs.Common.{◌≡◌, ◌<◌}
 use Rattle.cat_rounds.specs.Lasting.{HasServed, HasPlayed}
+use Rattle.cat_rounds.specs.Stepping.{KnowsPipes}
 use Rattle.cat_rounds.proofs.Rounding.{Along}
 use Rattle.cat_rounds.proofs.game.Game.steps.Given as goal
 
@@ -8,5 +9,6 @@ invariant-steps g l = record {
   along : Along l.initial.self.single l.self.single l.initial.self.player l.self.player (g.S.Sink.seen l.initial.out) (g.S.Sink.seen l.out) l.now;
   served : HasServed l.self.single.setting l.self.single.seen;
   played : 0 < l.counter → HasPlayed l.self.single.setting l.self.single.seen l.self.player;
+  pipes : KnowsPipes l.has_pipe l.self.single l.self.player;
   ends : l.self.ends ≡ l.initial.self.ends;
 }

@@ -1,4 +1,5 @@
 use Rattle.cat_rounds.proofs.Rounding.{serve_along, goes_then}
+use Rattle.cat_rounds.proofs.Pipes.{serve_knows}
 use Rattle.cat_rounds.proofs.game.Game.sweep.Goals as goal
 
 pub steps-requires-clause-stands : goal.steps-requires-clause-stands
@@ -8,6 +9,10 @@ steps-requires-clause-stands g c =
 pub steps-requires-clause-served : goal.steps-requires-clause-served
 steps-requires-clause-served g c =
     (serve_along c.serve-served.result c.args.self.now.single c.serve-served.new.self c.args.self.now.player (g.S.Sink.seen c.args.out.now) c.args.now c.serve-served.ensures.turn c.requires.stands).1
+
+pub steps-requires-clause-pipes : goal.steps-requires-clause-pipes
+steps-requires-clause-pipes g c =
+    serve_knows c.serve-served.result c.args.self.now.single c.serve-served.new.self c.args.self.now.player c.serve-served.ensures.turn
 
 pub returns-then-went-clause-goes_on : goal.returns-then-went-clause-goes_on
 returns-then-went-clause-goes_on g c =

@@ -33,7 +33,7 @@ returns-in-Err-clause-texts g c =
 begun : (g : Given.Over) → (c : goal.After-hold g) → HasBegun c.args.single.now c.begin_recv.new.self c.args.self.now c.args.now c.in-Ok.op c.args.self.now.last_send
 begun g c =
     let took = c.in-Ok.ensures.turn in
-    has_begun c.args.single.now c.begin_recv.new.self took c.args.self.now c.args.now c.in-Ok.op Recv c.after.result took.said.0 c.in-Ok.ensures.opens c.requires.stands (record { free = c.requires.free; open_ = c.requires.open_; next = c.requires.next; data_ = refl; deadline = c.after.ensures ∙ ap (λ t. option_map (after_seconds t) c.args.self.now.script.recv_timeout) c.requires.stands.now_is; spaced = refl })
+    has_begun c.args.single.now c.begin_recv.new.self took c.args.self.now c.args.now c.in-Ok.op Recv c.after.result took.said.0 c.in-Ok.ensures.opens c.requires.stands (record { free = c.requires.free; open_ = c.requires.open_; next = c.requires.next; data_ = refl; deadline = c.after.ensures ∙ ap (λ t. option_map (after_seconds t) c.args.self.now.script.recv_timeout) c.requires.stands.now_is; spaced = refl; pipe = refl })
 
 pub returns-in-Ok-clause-stands : goal.returns-in-Ok-clause-stands
 returns-in-Ok-clause-stands g c =

@@ -1,11 +1,14 @@
-use Rattle.std.proofs.Common.{◌≡◌, ap, sym, ◌∙◌, subst, ℕ, Some}
+use Rattle.std.proofs.Common.{◌≡◌, ap, sym, ◌∙◌, subst, ℕ, List, Some}
+use Rattle.sp_history.specs.Past.{past_of}
 use Rattle.cat_play.specs.Scripts.{joined}
 use Rattle.sp_spec.specs.Outside.{grown}
-use Rattle.cat_rounds.specs.Lasting.{play_of}
+use Rattle.cat_rounds.specs.Lasting.{play_of, AreOn}
+use Rattle.cat_rounds.proofs.Subscribed.{still_on}
 use Rattle.cat_rounds.specs.Stepping.{Stands, NotedAs, PutsFor}
 use Rattle.cat_rounds.proofs.Settling.{settling_silent, settling_linkless}
 use Rattle.cat_rounds.proofs.Begins.{silent_stands, silent_texts, goes_on_by}
 use Rattle.cat_rounds.proofs.Collects.{IsCollected, is_collected, busy_is_due, noted_stands, noted_prints, noted_script, stays_busy, not_left, pending_now}
+use Rattle.cat_rounds.proofs.Pipes.{knows_after, noted_sent}
 use Rattle.cat_rounds.proofs.player.Player.collect.Given
 use Rattle.cat_rounds.proofs.player.Player.collect.Goals as goal
 
@@ -60,6 +63,7 @@ returns-in-Ended-clause-stands g c = λ t was.
       play = noted_stands c.args.single.now c.collect.new.self c.args.self.now c.note.new.self t c.in-Some.op said.1.0 said.1.1 c.take.new.self coll was (sym c.in-Some.ensures.value) c.take.ensures.after (subst (λ o. NotedAs o (record c.args.self.now { op = c.take.new.self }) c.note.new.self) said.1.3 c.note.ensures.noted);
       sound = coll.sound;
       now_is = was.now_is ∙ sym coll.leaves.now_is;
+      topics_on = subst (λ (ts : List (List ℕ)). AreOn ts (past_of c.collect.new.self.seen)) (sym (ap (λ sc. sc.topics) (noted_script c.in-Ended.outcome (record c.args.self.now { op = c.take.new.self }) c.note.new.self c.note.ensures.noted))) (still_on c.args.self.now.script.topics (past_of c.args.single.now.seen) (past_of c.collect.new.self.seen) coll.leaves.topics_are was.topics_on);
     })
 
 pub returns-in-Ended-clause-goes_on : goal.returns-in-Ended-clause-goes_on
@@ -72,3 +76,12 @@ pub returns-in-Ended-clause-printed : goal.returns-in-Ended-clause-printed
 returns-in-Ended-clause-printed g c = λ before had.
     (let said = c.in-Ended.ensures.turn.said in
     noted_prints c.note.result c.args.single.now c.collect.new.self c.args.self.now c.note.new.self c.in-Some.op said.1.0 said.1.1 before (g.S.Sink.seen c.args.out.now).text (g.S.Sink.seen c.note.new.out).text (collected g c c.requires.stands.0 c.requires.stands.1) (noted_script c.in-Ended.outcome (record c.args.self.now { op = c.take.new.self }) c.note.new.self c.note.ensures.noted) (subst (λ o. PutsFor o c.note.result c.note.new.self (g.S.Sink.seen c.args.out.now).text (g.S.Sink.seen c.note.new.out).text) said.1.3 c.note.ensures.printed) had)
+
+pub returns-in-Ended-clause-pipes : goal.returns-in-Ended-clause-pipes
+returns-in-Ended-clause-pipes g c has_pipe was =
+    let s = c.args.single.now in
+    let p = c.args.self.now in
+    let old = record p { op = c.take.new.self } in
+    let script = noted_script c.in-Ended.outcome old c.note.new.self c.note.ensures.noted in
+    let sent = noted_sent c.in-Ended.outcome old c.note.new.self c.note.ensures.noted in
+    knows_after has_pipe s.setting s.seen p c.in-Some.op c.collect.new.self c.note.new.self c.requires.stands.1.play (sym c.in-Some.ensures.value) script sent

@@ -11,3 +11,6 @@ returns-in-OutFault-clause-stands g c = c.collect.ensures.stands c.args.now c.re
 
 pub returns-in-NoMemory-clause-stands : goal.returns-in-NoMemory-clause-stands
 returns-in-NoMemory-clause-stands g c = c.collect.ensures.stands c.args.now c.requires.stands
+
+pub begin-requires-clause-pipes : goal.begin-requires-clause-pipes
+begin-requires-clause-pipes g c = c.collect.ensures.pipes c.args.has_pipe c.requires.pipes

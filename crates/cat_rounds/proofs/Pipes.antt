@@ -1,0 +1,112 @@
+-- Whether a pipe is up, as the player knows it.
+use Rattle.std.proofs.Common.{◌≡◌, refl, ap, sym, ◌∙◌, subst, List, [], ◌∷◌, ◌++◌, ℕ, Bool, true, false, arith, length, Option, Some, None}
+use Rattle.std.specs.Prelude.{IsTrue, ◌&&◌, not, is_some, is_none, nat_lt}
+use Rattle.std.proofs.lemmas.Bool.Decides.{nat_tests}
+use Rattle.turn_lock.specs.declared.turn.Turn.{Turn}
+use Rattle.sp_base.specs.declared.OpName.{OpName}
+use Rattle.sp_base.specs.declared.role.Role.{Role}
+use Rattle.sp_base.specs.declared.role.Role.TheVariants as roles
+use Rattle.sp_history.specs.declared.entry.Act.TheVariants.{Recv, Send}
+use Rattle.sp_history.specs.declared.entry.Cause.TheVariants as causes
+use Rattle.sp_history.specs.declared.entry.Ending.{Ending}
+use Rattle.sp_history.specs.declared.entry.Entry.{Entry}
+use Rattle.sp_history.specs.declared.entry.Entry.TheVariants.{Begin, Took}
+use Rattle.sp_history.specs.declared.setting.Setting.{Setting}
+use Rattle.sp_history.specs.Lists.{is_nil}
+use Rattle.sp_history.specs.Past.{past_of, up}
+use Rattle.sp_history.specs.Setting.{floods}
+use Rattle.sp_core.specs.declared.ops.Outcome.{Outcome}
+use Rattle.sp_core.specs.declared.ops.Outcome.TheVariants as outcomes
+use Rattle.sp_core.specs.declared.serve.Served.{Served}
+use Rattle.sp_single.specs.Singles.{SingleView, TookOne}
+use Rattle.cat_play.specs.Plans.{Play}
+use Rattle.cat_play.specs.Playing.{each, is_in_turn, waits_for_pipe}
+use Rattle.cat_play.specs.Scripts.{asks_anew, is_receive_next, last_result, last_send, over, receives_next, under_way}
+use Rattle.cat_play.proofs.Stepping.{open_is}
+use Rattle.cat_rounds.specs.declared.player.Player.{Player}
+use Rattle.cat_rounds.specs.Lasting.{play_of, is_plain_role, PlayStands, IsUnderWay}
+use Rattle.cat_rounds.specs.Stepping.{KnowsPipes, NotedAs}
+use Rattle.cat_rounds.proofs.Begins.{at_new}
+use Rattle.cat_rounds.proofs.Counting.{has_body}
+use Rattle.cat_rounds.proofs.Rounding.{ServesSo}
+
+-- ---- A play that only sends
+
+-- a role that sends to all sends its data, and receives nothing
+floods_sends : (role : Role) (b r : Bool) (last : Option Ending) → IsTrue (is_plain_role role) → floods role ≡ true → b ≡ true → receives_next role b r last ≡ false
+floods_sends roles.Pub b r last plain flood body = refl
+floods_sends roles.Bus b r last plain flood body = rw body refl
+floods_sends roles.Surveyor b r last plain flood body = cc
+floods_sends _ b r last plain flood body = cc
+
+-- what is under way there is a send
+sent_under : (z : Setting) (play : Play) (past : List Entry) → ((before : List Entry) → is_receive_next z play before ≡ false) → IsTrue (each (is_in_turn z play) past) → is_some (under_way past) ≡ true → is_some (last_send past) ≡ true
+sent_under z play [] sends verbs under = cc
+sent_under z play (Begin op k c (Send m) d ∷ past) sends verbs under = refl
+sent_under z play (Begin op k c Recv d ∷ past) sends verbs under =
+    elim (no_receive (over z play past) (is_receive_next z play past) (each (is_in_turn z play) past) (sends past) verbs) [ ]
+  where
+    no_receive : (a b c : Bool) → b ≡ false → ((not a && b) && c) ≡ true → ⊥
+    no_receive true b c e h = cc
+    no_receive false true c e h = cc
+    no_receive false false c e h = cc
+sent_under z play (Took op k ∷ past) sends verbs under = cc
+sent_under z play (e ∷ past) sends verbs under = sent_under z play past sends verbs under
+
+none_sent : (o : Option ℕ) → is_some o ≡ true → o ≡ None → ⊥
+none_sent None some none = cc
+none_sent (Some n) some none = cc
+
+-- so something was sent where an operation is under way
+was_sent : (z : Setting) (h : List (Turn Entry)) (p : Player) (op : OpName) → PlayStands z h p → p.op ≡ Some op → floods p.script.role ≡ true → is_some p.script.body ≡ true → p.last_send ≡ None → ⊥
+was_sent z h p op stands held flood body none =
+    none_sent (last_send (past_of h)) (sent_under z (play_of p.script) (past_of h) (λ before. floods_sends p.script.role (is_some p.script.body) (asks_anew z before) (last_result before) stands.plain flood body) verbs under) (stands.sent ∙ none)
+  where
+    verbs : IsTrue (each (is_in_turn z (play_of p.script)) (past_of h))
+    verbs =
+        subst (λ (past : List Entry). IsTrue (each (is_in_turn z (play_of p.script)) past)) (open_is (past_of h) stands.is_open) stands.so_far.verbs
+
+    hand : IsUnderWay (Some op) h
+    hand = subst (λ (o : Option OpName). IsUnderWay o h) held stands.hand
+
+    under : is_some (under_way (past_of h)) ≡ true
+    under = ap is_some hand.0
+
+-- a player that holds an operation waits for no pipe, also after it was collected
+pub knows_after : (has_pipe : Bool) (z : Setting) (h : List (Turn Entry)) (p : Player) (op : OpName) (s' : SingleView) (p' : Player) → PlayStands z h p → p.op ≡ Some op → p'.script ≡ p.script → p'.last_send ≡ p.last_send → KnowsPipes has_pipe s' p'
+knows_after has_pipe z h p op s' p' stands held script sent flood body free none =
+    elim (was_sent z h p op stands held (sym (ap (λ s. floods s.role) script) ∙ flood) (sym (ap (λ s. is_some s.body) script) ∙ body) (sym sent ∙ none)) [ ]
+
+-- what was collected leaves the last send
+pub noted_sent : (o : Outcome) (old new : Player) → NotedAs o old new → new.last_send ≡ old.last_send
+noted_sent (outcomes.Received m) old new n = ap (λ (p : Player). p.last_send) n
+noted_sent outcomes.Sent old new n = ap (λ (p : Player). p.last_send) n
+noted_sent (outcomes.Gone causes.TimedOut by back) old new n = ap (λ (p : Player). p.last_send) n
+noted_sent (outcomes.Gone causes.Cancelled by back) old new n = ap (λ (p : Player). p.last_send) n
+noted_sent (outcomes.Gone causes.Closed by back) old new n = ap (λ (p : Player). p.last_send) n
+noted_sent (outcomes.Gone causes.Superseded by back) old new n = ap (λ (p : Player). p.last_send) n
+noted_sent (outcomes.Gone causes.SurveyOver by back) old new n = ap (λ (p : Player). p.last_send) n
+
+-- ---- The answer of a serve
+
+nil_is : (xs : List ℕ) (n : ℕ) → n ≡ length xs → is_nil xs ≡ not (nat_lt 0 n)
+nil_is [] n e = grind (arith, nat_tests)
+nil_is (x ∷ xs) n e = grind (arith, nat_tests)
+
+pub serve_knows : (r : Served) (s s' : SingleView) (p : Player) → TookOne (ServesSo r) s s' → KnowsPipes (nat_lt 0 r.up) s' p
+serve_knows r s s' p took flood body free none =
+    at_new s s' took (λ z h. is_nil (up (past_of h)) ≡ not (nat_lt 0 r.up)) (nil_is (up (past_of (s.seen ++ took.turn ∷ []))) r.up took.said.4)
+
+-- ---- Whether the first send waits
+
+pub waits_is : (has_pipe : Bool) (s : SingleView) (p : Player) → PlayStands s.setting s.seen p → p.op ≡ None → is_receive_next s.setting (play_of p.script) (past_of s.seen) ≡ false → KnowsPipes has_pipe s p → waits_for_pipe (play_of p.script) (past_of s.seen) ≡ (floods p.script.role && is_none p.last_send && not has_pipe)
+waits_is has_pipe s p stands free next knows =
+    ap (λ l. floods p.script.role && is_none l && is_nil (up (past_of s.seen))) stands.sent ∙ go (floods p.script.role) refl p.last_send refl
+  where
+    body : is_some p.script.body ≡ true
+    body = has_body p.script.role (is_some p.script.body) (asks_anew s.setting (past_of s.seen)) (last_result (past_of s.seen)) stands.plain next stands.carries
+
+    go : (f : Bool) → floods p.script.role ≡ f → (l : Option ℕ) → p.last_send ≡ l → (f && is_none l && is_nil (up (past_of s.seen))) ≡ (f && is_none l && not has_pipe)
+    go false flood l last = refl
+    go true flood (Some n) last = refl
+    go true flood None last = knows flood body free last

@@ -1,0 +1,90 @@
+//! The topics of a sub, which are put on before the first round.
+ghost use Rattle.std.specs.Prelude.{◌≡◌, ◌≤◌, ℕ, List, [], Option, false, length, IsTrue};
+ghost use Rattle.sp_base.specs.Views.{NetView};
+ghost use Rattle.sp_history.specs.Legal.{has_topic};
+ghost use Rattle.sp_history.specs.Past.{past_of, topics};
+ghost use Rattle.sp_history.specs.Setting.{has_topics, is_req};
+ghost use Rattle.sp_ends.specs.Turning.{SameEnds};
+ghost use Rattle.cat_rounds.specs.Lasting.{HasPrinted};
+ghost use Rattle.cat_rounds.specs.Stepping.{SameScript, Sinks};
+ghost use Rattle.cat_rounds.specs.Going.{RunStands, WentOrOver, PacedTo, PrintsTo, IsDryAt, is_dry_at};
+ghost use Rattle.cat_rounds.specs.Late.{IsLateBy};
+ghost use Rattle.cat_rounds.specs.Starting.{CanSubscribe, IsBefore, Prepares, IsOnFor, AreOnFor};
+
+use crate::game::Game;
+use crate::player::{CTX, Player};
+use cat_play::ends::Status;
+use sp_base::{Link, Net, NoMemory, Pace, Sink};
+use sp_msg::Wire;
+use sp_proto::Proto;
+use sp_single::Single;
+use sp_socket::TopicError;
+use std::sync::Wait;
+
+// Puts one topic of the play on.
+fn subscribe<R: Wait, P: Proto, W: Wire>(
+    rt: &R,
+    single: &mut Single<P, W>,
+    _player: &Player,
+    topic: &[u8],
+) -> Result<(), NoMemory>
+    requires before { IsBefore single.old _player.now }
+    requires planned { IsTrue (has_topic _player.now.script.topics topic.now) }
+    requires can { IsTrue (has_topics single.old.setting) × (length topic.now ≤ 1024) }
+    ensures prepares { Prepares single.old single.new _player.now }
+    ensures on { IsOnFor result topic.now single.new }
+{
+    match single.subscribe(rt, CTX, topic) {
+        Ok(()) => Ok(()),
+        Err(TopicError::NoMemory) => Err(NoMemory),
+        Err(TopicError::Closed) => unreachable!(),
+        Err(TopicError::NotSupported) => unreachable!(),
+        Err(TopicError::NoEntry) => unreachable!(),
+        Err(TopicError::TooLong) => unreachable!(),
+    }
+}
+
+// Puts all topics of the play on.
+fn subscribe_all<R: Wait, P: Proto, W: Wire>(
+    rt: &R,
+    single: &mut Single<P, W>,
+    player: &Player,
+) -> Result<(), NoMemory>
+    requires before { IsBefore single.old player.now }
+    requires can { CanSubscribe single.old.setting player.now.script.topics }
+    ensures prepares { Prepares single.old single.new player.now }
+    ensures on { AreOnFor result player.now.script.topics single.new }
+{
+    for topic in player.script.topics.as_slice() {
+        subscribe(rt, single, player, topic.as_slice())?;
+    }
+    Ok(())
+}
+
+impl<P: Proto, L: Link> Game<P, L> {
+    // Puts the topics on, and goes round.
+    pub(crate) fn begin<R: Wait, N: Net<L = L>, Pa: Pace, S: Sink>(
+        &mut self,
+        rt: &R,
+        net: &mut N,
+        pace: &mut Pa,
+        out: &mut S,
+    ) -> Status
+        requires stands { (start : NetView) × RunStands L.seen start self.old.single self.old.ends self.old.player (N.seen net.old) false }
+        requires fresh { self.old.single.seen ≡ [] }
+        requires can { CanSubscribe self.old.single.setting self.old.player.script.topics }
+        ensures stands { (start : NetView) → RunStands L.seen start self.old.single self.old.ends self.old.player (N.seen net.old) false → RunStands L.seen start self.new.single self.new.ends self.new.player (N.seen net.new) (is_dry_at self.new.single) }
+        ensures dry { IsDryAt result self.new.single }
+        ensures went { WentOrOver result self.new.single self.new.player (S.seen out.old) (S.seen out.new) (Pa.seen pace.new) }
+        ensures pace { PacedTo result (Pa.seen pace.old) (Pa.seen pace.new) (past_of self.new.single.seen) }
+        ensures printed { (before : Option (List ℕ)) → HasPrinted before (S.seen out.old).text self.old.single.seen self.old.player → PrintsTo result before (S.seen out.new).text self.new.single.seen self.new.player }
+        ensures sinks { Sinks (result ≡ Status.OutFault) (S.seen out.old) (S.seen out.new) }
+        ensures same { SameEnds self.old.ends self.new.ends × SameScript self.old.player self.new.player × (self.new.single.setting ≡ self.old.single.setting) }
+        ensures late { is_req self.old.player.script.role ≡ false → IsLateBy 1 self.new.single self.new.player }
+    {
+        match subscribe_all(rt, &mut self.single, &self.player) {
+            Ok(()) => self.go_round(rt, net, pace, out),
+            Err(_) => Status::NoMemory,
+        }
+    }
+}
