@@ -2,21 +2,16 @@
 //!
 //! Nothing is begun where nothing is kept. A caller that guessed the name of the operation may end it first; then the
 //! message stays, and the next try has another name.
-ghost use Rattle.std.specs.Prelude.{◌≡◌, ◌≤◌, ◌++◌, ◌∷◌, ℕ, List, [], Some, true, false, MatchResult};
-ghost use Rattle.std.specs.Option.{option_map};
-ghost use Rattle.turn_lock.specs.declared.turn.Turn.{Turn};
-ghost use Rattle.sp_history.specs.declared.entry.Act.TheVariants as acts;
-ghost use Rattle.sp_history.specs.declared.entry.Entry.{Entry};
-ghost use Rattle.sp_history.specs.declared.entry.Entry.TheVariants.{Begin};
-ghost use Rattle.sp_history.specs.Lists.{is_nil};
-ghost use Rattle.sp_history.specs.Past.{past_of};
-ghost use Rattle.sp_history.specs.Kept.{kept};
-ghost use Rattle.sp_history.specs.Moments.{Moment, past, also};
+ghost use Rattle.std.specs.Prelude.{◌≡◌, []};
+ghost use Rattle.sp_history.specs.Moments.{Moment};
 ghost use Rattle.sp_core.specs.Errors.{now_number};
-ghost use Rattle.sp_core.specs.Immediate.{ReceivedNow, RefusedNow, NowTo, TriedTo};
-ghost use Rattle.sp_core.specs.Looking.{Grows, HasLooked, reads_of};
-ghost use Rattle.sp_core.specs.Owning.{Owns, CanBegin, IsNext};
-ghost use Rattle.sp_core.specs.Standing.{StandsFor, IsSettled, core_setting};
+ghost use Rattle.sp_core.specs.Looking.{Grows, reads_of};
+ghost use Rattle.sp_core.specs.Owning.{Owns};
+ghost use Rattle.sp_core.specs.Standing.{IsSettled};
+ghost use Rattle.sp_core.specs.CollectSteps.{DrawsToReceive, ReceivesAtOnce, TriesOnce};
+ghost use Rattle.turn_lock.specs.Turning.{TakesTurn};
+ghost use Rattle.sp_core.specs.CallSays.{MayTakeTurn, ReceivesNow};
+ghost use Rattle.sp_core.specs.Cores.{words_of};
 
 use crate::ops::{BeginError, Outcome};
 use crate::owner::Core;
@@ -25,6 +20,7 @@ use sp_history::entry::Entry;
 use sp_msg::{Message, Wire};
 use sp_proto::{Act, Proto, Verb};
 use std::sync::Wait;
+use turn_lock::Stands;
 
 /// Why nothing was received at once, the first cause that stands.
 #[derive(Clone, Copy, PartialEq, Eq, Debug)]
@@ -50,11 +46,9 @@ impl<P: Proto, W: Wire> Core<P, W> {
     /// Receives the oldest message that is kept for the context, if there is one: an operation is begun, won and
     /// collected in one turn. Refused as `begin_recv` is, and then where nothing is kept. Takes no memory.
     pub fn try_recv<R: Wait>(&mut self, rt: &R, k: u32, c: Ctx) -> Result<Message, NowError>
-        requires stands { (h : List (Turn Entry)) × StandsFor P.ties P.room W.shown self.old h }
-        requires caller { (1 ≤ k) × (k ≤ self.old.desk.words.callers) }
-        ensures turn { (h : List (Turn Entry)) → StandsFor P.ties P.room W.shown self.old h → (t : Turn Entry) × (t.number ≡ k) × StandsFor P.ties P.room W.shown self.new (h ++ t ∷ []) × ReceivedNow result (core_setting P.kind self.old) h t k c × HasLooked c (past_of h) t.entries (reads_of self.old) (reads_of self.new) }
-        ensures setting { core_setting P.kind self.new ≡ core_setting P.kind self.old }
-        ensures words { self.new.desk.words ≡ self.old.desk.words }
+        requires turn { MayTakeTurn ⟦<Core<P, W> as Stands>⟧.stands self.old k }
+        ensures turn { TakesTurn ⟦<Core<P, W> as Stands>⟧.stands self.old self.new k (ReceivesNow P.kind result k c self.old self.new) }
+        ensures label { ⟦<Core<P, W> as Stands>⟧.label self.new ≡ ⟦<Core<P, W> as Stands>⟧.label self.old }
     {
         self.open_turn(rt, k, c);
         self.receive_now(rt, c)
@@ -63,8 +57,8 @@ impl<P: Proto, W: Wire> Core<P, W> {
     // Tries until a message is received, or none can be. The turn is settled before and after.
     fn receive_now<R: Wait>(&mut self, rt: &R, c: Ctx) -> Result<Message, NowError>
         requires { (t : Moment) × Owns P.ties P.room W.shown [] self.old t × IsSettled t }
-        ensures received { (t : Moment) → Owns P.ties P.room W.shown [] self.old t → IsSettled t → (u : Moment) × Owns P.ties P.room W.shown [] self.new u × IsSettled u × NowTo result c t u }
-        ensures words { self.new.desk.words ≡ self.old.desk.words }
+        ensures received { ReceivesAtOnce P.ties P.room W.shown result c self.old self.new }
+        ensures words { words_of self.new ≡ words_of self.old }
         ensures reads { Grows (reads_of self.old) (reads_of self.new) }
     {
         for _ in rt.forever() {
@@ -80,8 +74,8 @@ impl<P: Proto, W: Wire> Core<P, W> {
     // One try: none where a caller ended the receive first.
     fn try_once<R: Wait>(&mut self, rt: &R, c: Ctx) -> Result<Option<Message>, NowError>
         requires { (t : Moment) × Owns P.ties P.room W.shown [] self.old t × IsSettled t }
-        ensures tried { (t : Moment) → Owns P.ties P.room W.shown [] self.old t → IsSettled t → (u : Moment) × Owns P.ties P.room W.shown [] self.new u × IsSettled u × TriedTo result c t u }
-        ensures words { self.new.desk.words ≡ self.old.desk.words }
+        ensures tried { TriesOnce P.ties P.room W.shown result c self.old self.new }
+        ensures words { words_of self.new ≡ words_of self.old }
         ensures reads { Grows (reads_of self.old) (reads_of self.new) }
     {
         let op = match self.draw_to_receive(c) {
@@ -109,8 +103,8 @@ impl<P: Proto, W: Wire> Core<P, W> {
     // Draws a slot for a receive that can be given something at once.
     fn draw_to_receive(&mut self, c: Ctx) -> Result<OpName, NowError>
         requires { (t : Moment) × Owns P.ties P.room W.shown [] self.old t }
-        ensures drawn { (t : Moment) → Owns P.ties P.room W.shown [] self.old t → MatchResult result (λ op. Owns P.ties P.room W.shown (op.slot ∷ []) self.new t × IsNext t op × CanBegin t c acts.Recv × (is_nil (kept t.z (past t) c) ≡ false)) (λ e. Owns P.ties P.room W.shown [] self.new t × RefusedNow e t.z (past t) c) }
-        ensures words { self.new.desk.words ≡ self.old.desk.words }
+        ensures drawn { DrawsToReceive P.ties P.room W.shown result c self.old self.new }
+        ensures words { words_of self.new ≡ words_of self.old }
         ensures reads { reads_of self.new ≡ reads_of self.old }
     {
         if let Err(e) = self.may_begin(c, Verb::Recv) {

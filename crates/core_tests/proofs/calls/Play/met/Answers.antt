@@ -1,4 +1,5 @@
 use Rattle.sp_history.specs.declared.entry.Entry.TheVariants.{Met}
+use Rattle.sp_core.proofs.Labels.{same_words}
 use Rattle.core_tests.proofs.Playing.{plain_turn, first_plain}
 use Rattle.core_tests.proofs.calls.Play.met.Goals as goal
 
@@ -6,4 +7,4 @@ pub returns : goal.returns
 returns g c =
     let p = c.requires in
     let t = c.met.ensures.turn p.history p.stands in
-    plain_turn g.P.Proto.ties g.P.Proto.room g.W.Wire.shown c.args.self.now.core c.met.new.self c.args.self.now.words c.args.self.now.seat c.args.self.now.slots c.args.self.now.ops.items p t.0 t.2 (first_plain (Met c.args.place) t.0 tt t.3) c.met.ensures.words
+    plain_turn g.P.Proto.ties g.P.Proto.room g.W.Wire.shown c.args.self.now.core c.met.new.self c.args.self.now.words c.args.self.now.seat c.args.self.now.slots c.args.self.now.ops.items p t.0 t.2 (first_plain (Met c.args.place) t.0 tt t.3) (same_words g.P.Proto.kind c.args.self.now.core c.met.new.self c.met.ensures.label)

@@ -1,0 +1,93 @@
+-- What the public calls of a core say.
+use Rattle.std.specs.Prelude.{◌≡◌, ℕ, ◌≤◌, true, List, [], ◌∷◌, ◌++◌, length, Option, Result}
+use Rattle.turn_lock.specs.declared.turn.Turn.{Turn}
+use Rattle.sp_base.specs.declared.OpName.{OpName}
+use Rattle.sp_msg.specs.Views.{MessageView, WireView}
+use Rattle.sp_history.specs.declared.entry.Act.TheVariants.{Recv, Send}
+use Rattle.sp_history.specs.declared.entry.Entry.{Entry}
+use Rattle.sp_history.specs.Moments.{Moment}
+use Rattle.sp_history.specs.Past.{past_of, is_closed, up}
+use Rattle.sp_history.specs.Swept.{IsSwept, AreFlushed}
+use Rattle.sp_proto.specs.Kinds.{Kind, text_of}
+use Rattle.sp_core.specs.declared.contexts.CtxError.{CtxError}
+use Rattle.sp_core.specs.declared.contexts.TopicError.{TopicError}
+use Rattle.sp_core.specs.declared.immediate.NowError.{NowError}
+use Rattle.sp_core.specs.declared.lines.Fallen.{Fallen}
+use Rattle.sp_core.specs.declared.ops.BeginError.{BeginError}
+use Rattle.sp_core.specs.declared.owner.Core.{Core}
+use Rattle.sp_core.specs.declared.pipes.AttachError.{AttachError}
+use Rattle.sp_core.specs.declared.serve.Served.{Served}
+use Rattle.sp_core.specs.Attaching.{AttachedBy, attached}
+use Rattle.sp_core.specs.Collecting.{IsOpen}
+use Rattle.sp_core.specs.Contexts.{ShutBy, SubscribedBy, UnsubscribedBy}
+use Rattle.sp_core.specs.Cores.{callers_of}
+use Rattle.sp_core.specs.Immediate.{ReceivedNow}
+use Rattle.sp_core.specs.Looking.{HasLooked, reads_of}
+use Rattle.sp_core.specs.Parts.{HasWires}
+use Rattle.sp_core.specs.Serving.{IsServeTurn, ServedBy}
+use Rattle.sp_core.specs.Standing.{StandsFor, BeganBy, began, core_setting}
+use Rattle.sp_core.specs.Wires.{numbers_of}
+
+-- ---- Turns
+
+-- one of the core's callers, which have the numbers from 1
+abbrev pub IsCallerOf : {P W : Type 0} → Core P W → ℕ → Type 0
+IsCallerOf c k = (1 ≤ k) × (k ≤ callers_of c)
+
+-- the core stands for some history, and this is one of its callers
+abbrev pub MayTakeTurn : {P W : Type 0} → (Core P W → List (Turn Entry) → Type 0) → Core P W → ℕ → Type 0
+MayTakeTurn stands c k = ((h : List (Turn Entry)) × stands c h) × IsCallerOf c k
+
+-- the same, and the caller began the operation and has not collected it
+abbrev pub MayCollect : {P W : Type 0} → (Core P W → List (Turn Entry) → Type 0) → Core P W → ℕ → OpName → Type 0
+MayCollect stands c k op = ((h : List (Turn Entry)) × stands c h × IsOpen k op h) × IsCallerOf c k
+
+-- what `TakesTurn` says, of the histories of which this is so
+abbrev pub TakesTurnWhere : {P W : Type 0} → (Core P W → List (Turn Entry) → Type 0) → Core P W → Core P W → ℕ → (List (Turn Entry) → Type 0) → (List (Turn Entry) → Turn Entry → Type 0) → Type 0
+TakesTurnWhere stands old new k holds says =
+    (h : List (Turn Entry)) → stands old h → holds h → (t : Turn Entry) × (t.number ≡ k) × stands new (h ++ t ∷ []) × says h t
+
+-- ---- What a call says of its turn, after the history before it
+
+-- a receive began or was refused, and the core has looked at the context
+abbrev pub BeginsRecv : {P W : Type 0} → (P → Kind) → Result OpName BeginError → ℕ → ℕ → Option ℕ → Core P W → Core P W → List (Turn Entry) → Turn Entry → Type 0
+BeginsRecv kind r k c deadline old new h t =
+    BeganBy r (core_setting kind old) h t k c Recv deadline × HasLooked c (past_of h) t.entries (reads_of old) (reads_of new)
+
+-- the same of a send
+abbrev pub BeginsSend : {P W : Type 0} → (P → Kind) → Result OpName (BeginError × MessageView) → ℕ → ℕ → MessageView → Option ℕ → Core P W → Core P W → List (Turn Entry) → Turn Entry → Type 0
+BeginsSend kind r k c m deadline old new h t =
+    BeganBy (began r) (core_setting kind old) h t k c (Send (text_of m)) deadline × HasLooked c (past_of h) t.entries (reads_of old) (reads_of new)
+
+-- a message was received at once or none was, and the core has looked at the context
+abbrev pub ReceivesNow : {P W : Type 0} → (P → Kind) → Result MessageView NowError → ℕ → ℕ → Core P W → Core P W → List (Turn Entry) → Turn Entry → Type 0
+ReceivesNow kind r k c old new h t =
+    ReceivedNow r (core_setting kind old) h t k c × HasLooked c (past_of h) t.entries (reads_of old) (reads_of new)
+
+-- the wire has become a pipe, or why not
+abbrev pub AttachesWire : {P W : Type 0} → (P → Kind) → (W → WireView) → Result ℕ (AttachError × W) → W → ℕ → Core P W → List (Turn Entry) → Turn Entry → Type 0
+AttachesWire kind shown r w place old h t = AttachedBy (attached r) (core_setting kind old) h t place (numbers_of (shown w).name)
+
+-- each pipe was flushed and swept, and these are the counts of what came of it
+abbrev pub ServesPipes : {P W : Type 0} → (P → Kind) → Served → Core P W → List (Turn Entry) → Turn Entry → Type 0
+ServesPipes kind r old h t =
+    IsSwept (core_setting kind old) (past_of h) t × AreFlushed (past_of h) t × IsServeTurn t × ServedBy r t × (r.up ≡ length (up (past_of (h ++ t ∷ []))))
+
+-- the context was shut, or why not
+abbrev pub ClosesCtx : {P W : Type 0} → (P → Kind) → Result (Unit {0}) CtxError → ℕ → Core P W → List (Turn Entry) → Turn Entry → Type 0
+ClosesCtx kind r c old h t = ShutBy r (core_setting kind old) h t c
+
+-- the topic was put on, or why not
+abbrev pub Subscribes : {P W : Type 0} → (P → Kind) → Result (Unit {0}) TopicError → ℕ → List ℕ → Core P W → List (Turn Entry) → Turn Entry → Type 0
+Subscribes kind r c b old h t = SubscribedBy r (core_setting kind old) h t c b
+
+-- the topic was taken off, or why not
+abbrev pub Unsubscribes : {P W : Type 0} → (P → Kind) → Result (Unit {0}) TopicError → ℕ → List ℕ → Core P W → List (Turn Entry) → Turn Entry → Type 0
+Unsubscribes kind r c b old h t = UnsubscribedBy r (core_setting kind old) h t c b
+
+-- ---- The end
+
+-- of a closed core, the wires that were not taken
+abbrev pub HandsOutWires : {P W : Type 0} → (P → Moment → Type 0) → (P → ℕ) → (W → WireView) → List (Fallen W) → (P → Kind) → Core P W → Type 0
+HandsOutWires ties room shown r kind x =
+    (h : List (Turn Entry)) → StandsFor ties room shown x h → is_closed (past_of h) ≡ true → HasWires shown r (core_setting kind x) (past_of h)
