@@ -1,7 +1,11 @@
-//! Worked rows of the opening of WebSocket: heads that open it and heads that don't.
+//! Worked rows of WebSocket: heads that open it and heads that don't, frames that come, and what is written.
 #![tactic(auto)]
 
+#[cfg(test)]
+mod frames;
 #[cfg(test)]
 mod hostile;
 #[cfg(test)]
 mod opening;
+#[cfg(test)]
+mod writes;
