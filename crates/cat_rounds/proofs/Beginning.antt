@@ -19,7 +19,7 @@ use Rattle.cat_play.specs.Running.{run_setting}
 use Rattle.cat_rounds.specs.declared.player.Over.{Over}
 use Rattle.cat_rounds.specs.declared.player.Script.{Script}
 use Rattle.cat_rounds.specs.declared.player.Player.{Player}
-use Rattle.cat_rounds.specs.Lasting.{play_of, is_plain_role, PlayStands, IsNewPlayer, IsUnderWay, IsLast, IsDue, IsOver, over_at, HasPrinted}
+use Rattle.cat_rounds.specs.Lasting.{play_of, HasSurveys, PlayStands, IsNewPlayer, IsUnderWay, IsLast, IsDue, IsOver, over_at, HasPrinted}
 use Rattle.cat_rounds.specs.Going.{RunStands}
 use Rattle.cat_rounds.specs.Starting.{CanSubscribe}
 use Rattle.sp_history.specs.Setting.{is_sub}
@@ -75,11 +75,11 @@ over_begins z s None e = refl
 over_begins z s (Some zero) e = refl
 over_begins z s (Some (suc n)) e = let more : nat_le (suc n) 0 ≡ false = grind (arith, nat_tests) in rw more refl
 
-play_begins : (z : Setting) (s : Script) (p : Player) → IsNewPlayer s p → z.role ≡ s.role → IsTrue (is_plain_role s.role) → IsTrue (not (needs_data s.role) || is_some s.body) → PlayStands z [] p
-play_begins z s p n role plain carries =
+play_begins : (z : Setting) (s : Script) (p : Player) → IsNewPlayer s p → z.role ≡ s.role → HasSurveys z → IsTrue (not (needs_data s.role) || is_some s.body) → PlayStands z [] p
+play_begins z s p n role surveys carries =
     record {
       role = role ∙ sym (ap (λ (x : Script). x.role) n.script_is);
-      plain = subst (λ (x : Script). IsTrue (is_plain_role x.role)) (sym n.script_is) plain;
+      surveys = surveys;
       carries = subst (λ (x : Script). IsTrue (not (needs_data x.role) || is_some x.body)) (sym n.script_is) carries;
       is_open = refl;
       so_far = record { topics = refl; alternate = refl; verbs = refl; data_ = refl; deadlines = refl; spaced = refl; starts = refl; rounds = refl; collected = refl; swept = refl };
@@ -91,12 +91,12 @@ play_begins z s p n role plain carries =
       idle = λ e. refl;
     }
 
-begins : {L : Type 0} (seen : L → LinkView) (net : NetView) (s : SingleView) (e : EndsView L) (script : Script) (p : Player) → s.seen ≡ [] → e ≡ no_ends s.setting.role → IsNewPlayer script p → s.setting.role ≡ script.role → IsTrue (is_plain_role script.role)
+begins : {L : Type 0} (seen : L → LinkView) (net : NetView) (s : SingleView) (e : EndsView L) (script : Script) (p : Player) → s.seen ≡ [] → e ≡ no_ends s.setting.role → IsNewPlayer script p → s.setting.role ≡ script.role → HasSurveys s.setting
     → IsTrue (not (needs_data script.role) || is_some script.body) → RunStands seen net s e p net false
-begins seen net s e script p empty none new role plain carries =
+begins seen net s e script p empty none new role surveys carries =
     subst (λ (v : SingleView). RunStands seen net v e p net false) (sym single) (subst (λ (x : EndsView _). RunStands seen net (record { setting = s.setting; seen = [] }) x p net false) (sym none) (record {
       sound = record { legal = tt; settled = tt };
-      play = play_begins s.setting script p new role plain carries;
+      play = play_begins s.setting script p new role surveys carries;
       ends_stand = ends_begin seen s.setting net;
       dry = refl;
     }))
@@ -146,7 +146,7 @@ prints_nothing text h p empty = subst (λ (g : List (Turn Entry)). HasPrinted te
 pub plan_begins : {L : Type 0} (seen : L → LinkView) (net : NetView) (s : SingleView) (e : EndsView L) (plan : CatPlan) (body : Option (List ℕ)) (p : Player) (dice : ℕ) → s.seen ≡ [] → s.setting ≡ run_setting plan.role dice → e ≡ no_ends plan.role → IsNewPlayer (script_of plan body) p → IsBuilt plan
     → IsBody plan.data_ body → RunStands seen net s e p net false
 plan_begins seen net s e plan body p dice empty setting none new built is =
-    begins seen net s e (script_of plan body) p empty (none ∙ ap no_ends (sym role)) new role built.plain (has_body (not (needs_data plan.role)) plan.data_ body built.data_built is built.carries)
+    begins seen net s e (script_of plan body) p empty (none ∙ ap no_ends (sym role)) new role (subst HasSurveys (sym setting) (record { cooked = refl; time = refl })) (has_body (not (needs_data plan.role)) plan.data_ body built.data_built is built.carries)
   where
     role : s.setting.role ≡ plan.role
     role = ap (λ (z : Setting). z.role) setting

@@ -37,19 +37,16 @@ use Rattle.cat_play.proofs.Stepping.{is_left_stays, last_result_stays, open_is}
 use Rattle.cat_rounds.specs.declared.player.Over.{Over}
 use Rattle.cat_rounds.specs.declared.player.Over.TheVariants as overs
 use Rattle.cat_rounds.specs.declared.player.Player.{Player}
-use Rattle.cat_rounds.specs.Lasting.{play_of, is_plain_role, PlayStands, IsOver, IsLast, IsDue, HasPlayed, AreOn}
+use Rattle.cat_rounds.specs.Lasting.{play_of, PlayStands, IsOver, IsLast, IsDue, HasPlayed, AreOn}
 use Rattle.cat_rounds.specs.Stepping.{Stands, GoesOnBy, Rested, step_for}
 use Rattle.cat_rounds.proofs.Subscribed.{still_on, on_turn}
 use Rattle.cat_rounds.proofs.Silent.{adds_one, now_stays}
 use Rattle.cat_rounds.proofs.Settling.{settling_silent, settling_linkless, none_around}
 use Rattle.cat_rounds.proofs.Standing.{play_stays, texts_stay_so, over_kept}
-use Rattle.cat_rounds.proofs.Through.{BeginLeaves, begin_leaves, send_notes, MayBeginNow, begin_goes_on, next_stays}
+use Rattle.cat_rounds.proofs.Through.{BeginLeaves, begin_leaves, send_notes, MayBeginNow, begin_goes_on}
+use Rattle.cat_rounds.proofs.Surveying.{next_stays}
 
--- ---- Plain roles
-
-pub asks_one : (role : Role) → IsTrue (is_plain_role role) → is_surveyor role ≡ false
-asks_one roles.Surveyor h = cc
-asks_one _ h = refl
+-- ---- Roles
 
 may_receive : (role : Role) (b r : Bool) (last : Option Ending) → receives_next role b r last ≡ true → can_receive role ≡ true
 may_receive roles.Push b r last h = cc
@@ -187,11 +184,13 @@ refused_rests s s' took p t act e settles was left kind why not_memory =
     stands : PlayStands s.setting (s.seen ++ took.turn ∷ []) p
     stands = play_stays s.setting p s.seen (s.seen ++ took.turn ∷ []) (adds_one moves_play s.seen took.turn (settling_silent took.turn.entries settles)) was.play
 
-    same : last_result more ≡ last_result (past_of s.seen)
-    same = ap last_result (past_of-append s.seen took.turn) ∙ last_result_stays took.turn.entries (past_of s.seen) (settling_silent took.turn.entries settles)
+    silent : none_of moves_play took.turn.entries ≡ true
+    silent = settling_silent took.turn.entries settles
 
     next : is_receive_next s.setting (play_of p.script) more ≡ is_receive_next s.setting (play_of p.script) (past_of s.seen)
-    next = next_stays s.setting (play_of p.script) (past_of s.seen) more (asks_one p.script.role was.play.plain) same
+    next =
+        ap (is_receive_next s.setting (play_of p.script)) (past_of-append s.seen took.turn)
+        ∙ next_stays s.setting (play_of p.script) took.turn.entries (past_of s.seen) was.play.role silent (last_result_stays took.turn.entries (past_of s.seen) silent)
 
     refused : is_refused s.setting (play_of p.script) more ≡ true
     refused =
@@ -259,7 +258,7 @@ has_begun s s' took p t op act d begin opens was makes =
     may =
         record {
           open_ = was.play.is_open;
-          plain = asks_one p.script.role was.play.plain;
+          role = was.play.role;
           pipe = makes.pipe;
           topics_on = was.topics_on;
           free = under_none p.op s.seen makes.free was.play.hand;
@@ -279,7 +278,7 @@ has_begun s s' took p t op act d begin opens was makes =
     play_now open_ =
         record {
           role = was.play.role;
-          plain = was.play.plain;
+          surveys = was.play.surveys;
           carries = was.play.carries;
           is_open = leaves.open_;
           so_far = begin_goes_on s.setting (play_of p.script) s.seen took.turn begin.early begin.late op 1 act d one may was.play.so_far;

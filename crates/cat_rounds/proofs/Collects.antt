@@ -35,7 +35,7 @@ use Rattle.sp_single.specs.Singles.{SingleView, TookOne}
 use Rattle.sp_ends.specs.Turning.{IsSound}
 use Rattle.cat_text.specs.Printing.{print}
 use Rattle.cat_play.specs.Plans.{Play}
-use Rattle.cat_play.specs.Scripts.{under_way, counted, counts_for, over, has_reached, timed_out, is_timed_out, is_kind, texts, text_of, joined}
+use Rattle.cat_play.specs.Scripts.{asks_anew, under_way, counted, counts_for, over, has_reached, timed_out, is_timed_out, is_kind, texts, text_of, joined}
 use Rattle.cat_play.specs.Playing.{alternates, is_left, each}
 use Rattle.cat_play.specs.Running.{IsCutShort}
 use Rattle.cat_play.specs.Steps.{HasOne, moves_ends}
@@ -46,15 +46,16 @@ use Rattle.cat_rounds.specs.declared.player.Over.TheVariants as overs
 use Rattle.cat_rounds.specs.declared.player.Collecting.{Collecting}
 use Rattle.cat_rounds.specs.declared.player.Collecting.TheVariants as collecting
 use Rattle.cat_rounds.specs.declared.player.Player.{Player}
-use Rattle.cat_rounds.specs.Lasting.{play_of, PlayStands, IsOver, IsLast, IsDue, IsUnderWay, HasPrinted}
+use Rattle.cat_rounds.specs.Lasting.{play_of, is_survey_over, PlayStands, IsOver, IsLast, IsDue, IsUnderWay, HasPrinted}
 use Rattle.cat_rounds.specs.Stepping.{Stands, GoesOnBy, NotedAs, PutsFor, Puts, PrintedThen, less_due, is_last_item, over_after, over_for, counts_for_last}
 use Rattle.cat_rounds.proofs.Silent.{append_nil}
 use Rattle.cat_rounds.proofs.Settling.{settling_silent, settling_linkless, none_around, none_settling}
 use Rattle.cat_rounds.proofs.Ordered.{goes_on_while_busy, pending_is_not_left}
 use Rattle.cat_play.proofs.Stepping.{open_is}
 use Rattle.cat_rounds.proofs.Through.{TookLeaves, took_leaves, took_goes_on}
-use Rattle.cat_rounds.proofs.Begins.{at_new, sound_new, goes_on_by, asks_one}
-use Rattle.cat_rounds.proofs.Counting.{received_counts, sent_counts, gone_counts}
+use Rattle.cat_rounds.proofs.Begins.{at_new, sound_new, goes_on_by}
+use Rattle.cat_rounds.proofs.Surveying.{over_is, counts_same}
+use Rattle.cat_rounds.proofs.Counting.{received_counts, sent_counts, over_counts, gone_counts}
 
 -- ---- No other entry
 
@@ -184,14 +185,14 @@ is_collected s s' took p t op b ending has ended was holds =
         (begin_is_found (past_of (s.seen ++ took.turn ∷ [])) op 1 b.ctx b.act ended.deadline ended.begun (ends_once s.setting (s.seen ++ took.turn ∷ []) op legal).begun).0
 
     leaves : TookLeaves s.setting (play_of p.script) op ending s.seen (s.seen ++ took.turn ∷ [])
-    leaves = took_leaves s.setting (play_of p.script) s.seen took.turn has.early has.late op 1 ending (asks_one p.script.role was.play.plain) legal one was.play.is_open found_end
+    leaves = took_leaves s.setting (play_of p.script) s.seen took.turn has.early has.late op 1 ending was.play.role legal one was.play.is_open found_end
 
     play_now : (last : Last) (due : Option ℕ) (o : Over) (q : Player) → IsLast last (Some ending) → IsDue p.script.count due (counted s.setting (play_of p.script) (past_of (s.seen ++ took.turn ∷ []))) → IsOver o s.setting (play_of p.script) (past_of (s.seen ++ took.turn ∷ []))
         → PlayStands s.setting (s.seen ++ took.turn ∷ []) (record p { op = None; last = last; due = due; over = o; text = q.text })
     play_now last due o q is_last is_due is_over =
         record {
           role = was.play.role;
-          plain = was.play.plain;
+          surveys = was.play.surveys;
           carries = was.play.carries;
           is_open = leaves.open_;
           so_far = took_goes_on s.setting (play_of p.script) s.seen took.turn has.early has.late op 1 one was.play.is_open under was.play.so_far;
@@ -252,41 +253,58 @@ over_timed Recv z play op past more by found timed = last_or (has_reached play.c
 over_timed (Send m) z play op past more by found timed = timed false ∙ rw found refl
 
 pub noted_stands : (s s' : SingleView) (p p' : Player) (t : ℕ) (op : OpName) (b : Begun) (ending : Ending) (held : Option OpName) → IsCollected s s' p op b.act ending → Stands s p t → p.op ≡ Some op → held ≡ None
-    → NotedAs (outcome_of b ending) (record p { op = held }) p' → PlayStands s'.setting s'.seen p'
+    → NotedAs (is_survey_over p.last_send t) (outcome_of b ending) (record p { op = held }) p' → PlayStands s'.setting s'.seen p'
 noted_stands s s' p p' t op b ending held coll was holds none noted =
-    go ending coll (subst (λ (o : Option OpName). NotedAs (outcome_of b ending) (record p { op = o }) p') none noted)
+    go ending coll (subst (λ (o : Option OpName). NotedAs is_over (outcome_of b ending) (record p { op = o }) p') none noted)
   where
-    won : (x : Rattle.sp_history.specs.declared.entry.Outcome.Outcome) (c : Bool) (last : Last) → IsCollected s s' p op b.act (Won x) → IsLast last (Some (Won x)) → counts_for p.script.role (is_some p.script.body) false (Some (Won x)) ≡ c
-        → PlayStands s'.setting s'.seen (record p { op = None; last = last; due = less_due c p.due; over = over_after (is_last_item c p.due) p.over; text = p'.text })
-    won x c last k is_last counts =
-        let count : counted s.setting (play_of p.script) (past_of s'.seen) ≡ one_more c (counted s.setting (play_of p.script) (past_of s.seen)) =
-        k.leaves.count false ∙ ap (λ y. if y then counted s.setting (play_of p.script) (past_of s.seen) + 1 else counted s.setting (play_of p.script) (past_of s.seen)) counts in
-        k.stands last (less_due c p.due) (over_after (is_last_item c p.due) p.over) p' is_last (subst (λ (m : ℕ). IsDue p.script.count (less_due c p.due) m) (sym count) (due_after c p.script.count p.due (counted s.setting (play_of p.script) (past_of s.seen)) was.play.due (parts _ _ _ (busy_is_open s p t op was holds)).0)) (over_won c s.setting (play_of p.script) (past_of s.seen) (past_of s'.seen) p.due p.over count (λ r. k.leaves.timed r ∙ drop_false (is_kind r (act_of (past_of s'.seen) op)) (timed_out r (past_of s.seen))) (going_is_open p.over s.setting (play_of p.script) (past_of s.seen) was.play.over (busy_is_open s p t op was holds)) was.play.due (busy_is_open s p t op was holds))
+    is_over : Bool
+    is_over = is_survey_over p.last_send t
 
-    gone : (cause : Cause) (by : ℕ) (o : Over) → IsCollected s s' p op b.act (Gone cause by) → IsOver o s.setting (play_of p.script) (past_of s'.seen) → PlayStands s'.setting s'.seen (record p { op = None; last = lasts.Gone; due = p.due; over = o; text = p'.text })
-    gone cause by o k is_over =
-        let count : counted s.setting (play_of p.script) (past_of s'.seen) ≡ counted s.setting (play_of p.script) (past_of s.seen) =
-        k.leaves.count false ∙ ap (λ y. if y then counted s.setting (play_of p.script) (past_of s.seen) + 1 else counted s.setting (play_of p.script) (past_of s.seen)) (gone_counts p.script.role (is_some p.script.body) false cause by was.play.plain) in
-        k.stands lasts.Gone p.due o p' tt (subst (λ (m : ℕ). IsDue p.script.count p.due m) (sym count) was.play.due) is_over
+    before : ℕ
+    before = counted s.setting (play_of p.script) (past_of s.seen)
 
-    -- for another cause than its deadline
-    still : (cause : Cause) (by : ℕ) → is_timed_out (Some (Gone cause by)) ≡ false → IsCollected s s' p op b.act (Gone cause by) → PlayStands s'.setting s'.seen (record p { op = None; last = lasts.Gone; due = p.due; over = p.over; text = p'.text })
-    still cause by untimed k =
-        let count : counted s.setting (play_of p.script) (past_of s'.seen) ≡ counted s.setting (play_of p.script) (past_of s.seen) =
-        k.leaves.count false ∙ ap (λ y. if y then counted s.setting (play_of p.script) (past_of s.seen) + 1 else counted s.setting (play_of p.script) (past_of s.seen)) (gone_counts p.script.role (is_some p.script.body) false cause by was.play.plain) in
-        gone cause by p.over k (over_won false s.setting (play_of p.script) (past_of s.seen) (past_of s'.seen) p.due p.over count (λ r. k.leaves.timed r ∙ (ap (λ y. is_kind r (act_of (past_of s'.seen) op) && y || timed_out r (past_of s.seen)) untimed ∙ drop_false (is_kind r (act_of (past_of s'.seen) op)) (timed_out r (past_of s.seen)))) (going_is_open p.over s.setting (play_of p.script) (past_of s.seen) was.play.over (busy_is_open s p t op was holds)) was.play.due (busy_is_open s p t op was holds))
+    going : over s.setting (play_of p.script) (past_of s.seen) ≡ false
+    going = busy_is_open s p t op was holds
 
-    go : (x : Ending) → IsCollected s s' p op b.act x → NotedAs (outcome_of b x) (record p { op = None }) p' → PlayStands s'.setting s'.seen p'
+    open_ : p.over ≡ overs.Open
+    open_ = going_is_open p.over s.setting (play_of p.script) (past_of s.seen) was.play.over going
+
+    -- what counts, by what the player knows of its survey
+    counts : (x : Ending) (c : Bool) → IsCollected s s' p op b.act x → counts_for p.script.role (is_some p.script.body) is_over (Some x) ≡ c → counted s.setting (play_of p.script) (past_of s'.seen) ≡ one_more c before
+    counts x c k is =
+        k.leaves.count
+        ∙ ap (λ (y : Bool). if y then before + 1 else before) (sym (counts_same p.script.role (is_some p.script.body) is_over (asks_anew s.setting (past_of s.seen)) (Some x) (over_is s p t was)) ∙ is)
+
+    -- it didn't end with its deadline
+    untimed : (x : Ending) (c : Bool) (last : Last) (q : Player) → is_timed_out (Some x) ≡ false → IsCollected s s' p op b.act x → IsLast last (Some x) → counts_for p.script.role (is_some p.script.body) is_over (Some x) ≡ c
+        → PlayStands s'.setting s'.seen (record p { op = None; last = last; due = less_due c p.due; over = over_after (is_last_item c p.due) p.over; text = q.text })
+    untimed x c last q in_time k is_last is =
+        let count = counts x c k is in
+        k.stands last (less_due c p.due) (over_after (is_last_item c p.due) p.over) q is_last (subst (λ (m : ℕ). IsDue p.script.count (less_due c p.due) m) (sym count) (due_after c p.script.count p.due before was.play.due (parts _ _ _ going).0)) (over_won c s.setting (play_of p.script) (past_of s.seen) (past_of s'.seen) p.due p.over count (λ r. k.leaves.timed r ∙ (ap (λ y. is_kind r (act_of (past_of s'.seen) op) && y || timed_out r (past_of s.seen)) in_time ∙ drop_false (is_kind r (act_of (past_of s'.seen) op)) (timed_out r (past_of s.seen)))) open_ was.play.due going)
+
+    -- it ended with its deadline
+    timed : (by : ℕ) → IsCollected s s' p op b.act (Gone TimedOut by) → PlayStands s'.setting s'.seen (record p { op = None; last = lasts.Gone; over = over_for (is_none (back_of b.act)) })
+    timed by k =
+        let count = counts (Gone TimedOut by) false k (gone_counts p.script.role (is_some p.script.body) is_over TimedOut by (λ e. cc)) in
+        k.stands lasts.Gone p.due (over_for (is_none (back_of b.act))) p tt (subst (λ (m : ℕ). IsDue p.script.count p.due m) (sym count) was.play.due) (over_timed b.act s.setting (play_of p.script) op (past_of s.seen) (past_of s'.seen) by k.act_is k.leaves.timed)
+
+    same : (q : Player) → p' ≡ q → PlayStands s'.setting s'.seen q → PlayStands s'.setting s'.seen p'
+    same q is h = subst (λ (x : Player). PlayStands s'.setting s'.seen x) (sym is) h
+
+    go : (x : Ending) → IsCollected s s' p op b.act x → NotedAs is_over (outcome_of b x) (record p { op = None }) p' → PlayStands s'.setting s'.seen p'
     go (Won (Received m)) k noted =
-        subst (λ (q : Player). PlayStands s'.setting s'.seen q) (sym noted) (won (Received m) (counts_for_last p.script lasts.Received) lasts.Received k tt (received_counts p.script.role (is_some p.script.body) false m was.play.plain))
+        same _ noted (untimed (Won (Received m)) (counts_for_last p.script is_over lasts.Received) lasts.Received p' refl k tt (received_counts p.script.role (is_some p.script.body) is_over m))
     go (Won Sent) k noted =
-        subst (λ (q : Player). PlayStands s'.setting s'.seen q) (sym noted) (won Sent (counts_for_last p.script lasts.Sent) lasts.Sent k tt (sent_counts p.script.role (is_some p.script.body) false was.play.plain))
-    go (Gone TimedOut by) k noted =
-        subst (λ (q : Player). PlayStands s'.setting s'.seen q) (sym noted) (gone TimedOut by (over_for (is_none (back_of b.act))) k (over_timed b.act s.setting (play_of p.script) op (past_of s.seen) (past_of s'.seen) by k.act_is k.leaves.timed))
-    go (Gone Cancelled by) k noted = subst (λ (q : Player). PlayStands s'.setting s'.seen q) (sym noted) (still Cancelled by refl k)
-    go (Gone Closed by) k noted = subst (λ (q : Player). PlayStands s'.setting s'.seen q) (sym noted) (still Closed by refl k)
-    go (Gone Superseded by) k noted = subst (λ (q : Player). PlayStands s'.setting s'.seen q) (sym noted) (still Superseded by refl k)
-    go (Gone SurveyOver by) k noted = subst (λ (q : Player). PlayStands s'.setting s'.seen q) (sym noted) (still SurveyOver by refl k)
+        same _ noted (untimed (Won Sent) (counts_for_last p.script is_over lasts.Sent) lasts.Sent p' refl k tt (sent_counts p.script.role (is_some p.script.body) is_over))
+    go (Gone SurveyOver by) k noted =
+        same _ noted (untimed (Gone SurveyOver by) (counts_for_last p.script is_over lasts.SurveyOver) lasts.SurveyOver p refl k tt (over_counts p.script.role (is_some p.script.body) is_over by))
+    go (Gone TimedOut by) k noted = same _ noted (timed by k)
+    go (Gone Cancelled by) k noted =
+        same _ noted (untimed (Gone Cancelled by) false lasts.Gone p refl k tt (gone_counts p.script.role (is_some p.script.body) is_over Cancelled by (λ e. cc)))
+    go (Gone Closed by) k noted =
+        same _ noted (untimed (Gone Closed by) false lasts.Gone p refl k tt (gone_counts p.script.role (is_some p.script.body) is_over Closed by (λ e. cc)))
+    go (Gone Superseded by) k noted =
+        same _ noted (untimed (Gone Superseded by) false lasts.Gone p refl k tt (gone_counts p.script.role (is_some p.script.body) is_over Superseded by (λ e. cc)))
 
 -- ---- What is printed
 
@@ -334,14 +352,14 @@ noted_prints result s s' p p' op b ending before was now k same puts had =
     by_ending (Won Sent) put all = nothing put all
     by_ending (Gone cause by) put all = nothing put all
 
-pub noted_script : (o : Outcome) (old new : Player) → NotedAs o old new → new.script ≡ old.script
-noted_script (outcomes.Received m) old new noted = ap (λ q. q.script) noted
-noted_script outcomes.Sent old new noted = ap (λ q. q.script) noted
-noted_script (outcomes.Gone TimedOut by back) old new noted = ap (λ q. q.script) noted
-noted_script (outcomes.Gone Cancelled by back) old new noted = ap (λ q. q.script) noted
-noted_script (outcomes.Gone Closed by back) old new noted = ap (λ q. q.script) noted
-noted_script (outcomes.Gone Superseded by back) old new noted = ap (λ q. q.script) noted
-noted_script (outcomes.Gone SurveyOver by back) old new noted = ap (λ q. q.script) noted
+pub noted_script : (is_over : Bool) (o : Outcome) (old new : Player) → NotedAs is_over o old new → new.script ≡ old.script
+noted_script is_over (outcomes.Received m) old new noted = ap (λ q. q.script) noted
+noted_script is_over outcomes.Sent old new noted = ap (λ q. q.script) noted
+noted_script is_over (outcomes.Gone TimedOut by back) old new noted = ap (λ q. q.script) noted
+noted_script is_over (outcomes.Gone Cancelled by back) old new noted = ap (λ q. q.script) noted
+noted_script is_over (outcomes.Gone Closed by back) old new noted = ap (λ q. q.script) noted
+noted_script is_over (outcomes.Gone Superseded by back) old new noted = ap (λ q. q.script) noted
+noted_script is_over (outcomes.Gone SurveyOver by back) old new noted = ap (λ q. q.script) noted
 
 -- ---- What has not ended
 

@@ -24,3 +24,5 @@ pub mod Pipes
 pub mod Subscribed
 pub mod Subscribing
 pub mod Late
+pub mod Surveying
+pub mod Unsent

@@ -24,7 +24,7 @@ use Rattle.cat_play.specs.Steps.{moves_ends, moves_play}
 use Rattle.cat_rounds.specs.declared.player.Over.{Over}
 use Rattle.cat_rounds.specs.declared.player.Over.TheVariants as overs
 use Rattle.cat_rounds.specs.declared.player.Player.{Player}
-use Rattle.cat_rounds.specs.Lasting.{play_of, is_plain_role, PlayStands, IsUnderWay, IsOver, HasPrinted, HasServed, MayTick, AreOn}
+use Rattle.cat_rounds.specs.Lasting.{play_of, PlayStands, IsUnderWay, IsOver, HasPrinted, HasServed, MayTick, AreOn}
 use Rattle.cat_rounds.specs.Going.{AreCleared, has_more}
 use Rattle.cat_rounds.specs.Stepping.{Stands, GoesOnBy, SameScript}
 use Rattle.cat_rounds.proofs.Silent.{keeps_all, adds_then, swept_stays}
@@ -34,8 +34,8 @@ use Rattle.cat_play.proofs.Stepping.{open_is}
 use Rattle.sp_history.proofs.Appending.{LegalFrom-front}
 use Rattle.sp_history.specs.Legal.{Legal, sending}
 use Rattle.sp_history.specs.Found.{is_begin, is_out}
-use Rattle.sp_history.specs.Setting.{is_asker, is_req}
-use Rattle.sp_history.proofs.QuietTurns.{nothing_out}
+use Rattle.sp_history.specs.Setting.{is_req}
+use Rattle.cat_rounds.proofs.Unsent.{nothing_sent, sends_once}
 use Rattle.sp_core.specs.Tallies.{moves}
 use Rattle.std.proofs.lemmas.Bool.Decides.{nat_tests}
 use Rattle.sp_history.specs.Requests.{requests}
@@ -214,14 +214,6 @@ no_begins : (es : List Entry) → AreServing es → none_of is_begin es ≡ true
 no_begins [] s = refl
 no_begins (e ∷ es) s = rw (serving_begin e s.0) (no_begins es s.1)
 
-asks_nobody : (role : Role) → IsTrue (is_plain_role role) → is_req role ≡ false → is_asker role ≡ false
-asks_nobody roles.Req h n = cc
-asks_nobody roles.Surveyor h n = cc
-asks_nobody _ h n = refl
-
-no_live : (z : Setting) (past : List Entry) → IsTrue (is_plain_role z.role) → is_req z.role ≡ false → (requests z past).live ≡ []
-no_live z past h n = rw (asks_nobody z.role h n) refl
-
 or_false : (a b : Bool) → (a || b) ≡ false → (a ≡ false) × (b ≡ false)
 or_false true b h = cc
 or_false false b h = (refl, h)
@@ -268,14 +260,11 @@ through r s s' p t took stands free none =
     pends : sending (pend (past_of s.seen)) ≡ []
     pends = ap sending (free_pends_none z s.seen stands.sound.legal orders under)
 
-    plain : IsTrue (is_plain_role z.role)
-    plain = subst (λ (role : Role). IsTrue (is_plain_role role)) (sym stands.play.role) stands.play.plain
-
     no_outs : (b : Bool) → is_req z.role ≡ b → none_of is_out took.turn.entries ≡ true
     no_outs true req =
         not_moved took.turn.entries (sym took.said.3.2 ∙ and_false (is_req p.script.role) r.moved parts.1 (ap is_req (sym stands.play.role) ∙ req))
     no_outs false other =
-        nothing_out z (past_of s.seen) took.turn (LegalFrom-front z [] s.seen took.turn all).1 pends (no_live z (past_of s.seen) plain other) (no_begins took.turn.entries took.said.2.kinds)
+        nothing_sent z (past_of s.seen) took.turn (LegalFrom-front z [] s.seen took.turn all).1 pends (sends_once z other) (no_begins took.turn.entries took.said.2.kinds)
 
 pub serve_texts : (r : Served) (s s' : SingleView) (p : Player) (t : ℕ) → TookOne (ServesSo r) s s' → Stands s p t → texts (play_of p.script) (past_of s'.seen) ≡ texts (play_of p.script) (past_of s.seen)
 serve_texts r s s' p t took stands = silent_texts s s' took (play_of p.script) (serving_silent took.turn.entries took.said.2.kinds) stands.play.is_open

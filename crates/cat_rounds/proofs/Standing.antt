@@ -41,7 +41,7 @@ turn_stays : (z : Setting) (p : Player) (h : List (Turn Entry)) (t : Turn Entry)
 turn_stays z p h t none was =
     record {
       role = was.role;
-      plain = was.plain;
+      surveys = was.surveys;
       carries = was.carries;
       is_open = ap is_closed is ∙ (closed_stays t.entries (past_of h) none ∙ was.is_open);
       so_far = so_far_stays z (play_of p.script) h t was.is_open none was.so_far;

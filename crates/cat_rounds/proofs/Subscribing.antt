@@ -157,7 +157,7 @@ module _ {says : Setting → List (Turn Entry) → Turn Entry → Type 0} (s s' 
   topic_play =
       record {
         role = was.play.role;
-        plain = was.play.plain;
+        surveys = was.play.surveys;
         carries = was.play.carries;
         is_open = open_more;
         so_far = goes_on s.setting (play_of p.script) s.seen took.turn was.play.is_open was.play.so_far (turn_of_one s.setting (play_of p.script) s.seen took.turn e [] first.late one may refl (λ tick. cc));

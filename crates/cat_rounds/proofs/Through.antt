@@ -30,6 +30,7 @@ use Rattle.cat_play.proofs.Turning.{turn_of_one}
 use Rattle.cat_rounds.specs.Lasting.{AreOn}
 use Rattle.cat_rounds.proofs.Subscribed.{topics_stay, still_on}
 use Rattle.cat_rounds.proofs.Silent.{last_send_stays, now_stays, closed_stays}
+use Rattle.cat_rounds.proofs.Surveying.{SameSurvey, asks_stay, silent_surveys, next_stays, counts_same}
 use Rattle.cat_rounds.proofs.Ordered.{uncollected_has_end, end_stays, over_in, open_over}
 
 -- ---- The past of the turn
@@ -141,15 +142,6 @@ send_notes h t early late op k c (Send m) d one kind =
 
 -- ---- The begin may come
 
-next_by_last : (role : Role) → is_surveyor role ≡ false → (b r s : Bool) (last : Option Ending) → receives_next role b r last ≡ receives_next role b s last
-next_by_last roles.Surveyor h b r s last = cc
-next_by_last _ h b r s last = refl
-
--- what is next depends on what was collected last alone
-pub next_stays : (z : Setting) (play : Play) (past more : List Entry) → is_surveyor play.role ≡ false → last_result more ≡ last_result past → is_receive_next z play more ≡ is_receive_next z play past
-next_stays z play past more plain same =
-    ap (λ last. receives_next play.role (is_some play.body) (asks_anew z more) last) same ∙ next_by_last play.role plain (is_some play.body) (asks_anew z more) (asks_anew z past) (last_result past)
-
 same_self : (d : Option ℕ) → same_option d d ≡ true
 same_self None = refl
 same_self (Some a) = grind (arith, nat_tests)
@@ -157,7 +149,7 @@ same_self (Some a) = grind (arith, nat_tests)
 -- the facts of a begin that may come, before its turn
 pub record MayBeginNow (z : Setting) (play : Play) (past : List Entry) (op : OpName) (k : ℕ) (act : Act) (d : Option ℕ) : Type 0 where
   pub open_ : is_closed past ≡ false
-  pub plain : is_surveyor play.role ≡ false
+  pub role : z.role ≡ play.role
   pub pipe : (is_send (Begin op k 0 act d) && waits_for_pipe play past) ≡ false
   pub topics_on : AreOn play.topics past
   pub free : under_way past ≡ None
@@ -184,7 +176,7 @@ begin_may z play past entries op k act d none may =
     both a b e f = rw (e, f) refl
 
     kind_now : is_kind (is_receive_next z play (onto entries past)) (Some act) ≡ true
-    kind_now = ap (λ n. is_kind n (Some act)) (next_stays z play past (onto entries past) may.plain (last_result_stays entries past none)) ∙ may.next
+    kind_now = ap (λ n. is_kind n (Some act)) (next_stays z play entries past may.role none (last_result_stays entries past none)) ∙ may.next
 
     data_kept : (a : Act) → carries_data play past (Begin op k 0 a d) ≡ true → carries_data play (onto entries past) (Begin op k 0 a d) ≡ true
     data_kept Recv h = refl
@@ -206,17 +198,13 @@ begin_goes_on z play h t early late op k act d one may was =
 
 -- ---- A collecting
 
-counts_by_last : (role : Role) → is_surveyor role ≡ false → (b r s : Bool) (last : Option Ending) → counts_for role b r last ≡ counts_for role b s last
-counts_by_last roles.Surveyor h b r s last = cc
-counts_by_last _ h b r s last = refl
-
 -- what a turn leaves that collects the operation, which ended so
 pub record TookLeaves (z : Setting) (play : Play) (op : OpName) (ending : Ending) (h h' : List (Turn Entry)) : Type 0 where
   pub open_ : is_closed (past_of h') ≡ false
   pub free : under_way (past_of h') ≡ None
   pub result : last_result (past_of h') ≡ Some ending
   pub sent : last_send (past_of h') ≡ last_send (past_of h)
-  pub count : (over_now : Bool) → counted z play (past_of h') ≡ (if counts_for play.role (is_some play.body) over_now (Some ending) then counted z play (past_of h) + 1 else counted z play (past_of h))
+  pub count : counted z play (past_of h') ≡ (if counts_for play.role (is_some play.body) (asks_anew z (past_of h)) (Some ending) then counted z play (past_of h) + 1 else counted z play (past_of h))
   pub texts_are : texts play (past_of h') ≡ texts play (past_of h) ++ text_of play (Some ending)
   pub timed : (receives : Bool) → timed_out receives (past_of h') ≡ (is_kind receives (act_of (past_of h') op) && is_timed_out (Some ending) || timed_out receives (past_of h))
   pub left_ : is_left (past_of h') ≡ false
@@ -259,8 +247,8 @@ ended_so z h t early late op k ending legal one found = go (end_of (onto early (
         sym (end_stays late (Took op k ∷ onto early (past_of h)) op x e once) ∙ (ap (λ p. end_of p op) (sym is) ∙ found)
 
 pub took_leaves : (z : Setting) (play : Play) (h : List (Turn Entry)) (t : Turn Entry) (early late : List Entry) (op : OpName) (k : ℕ) (ending : Ending)
-    → is_surveyor play.role ≡ false → Legal z (h ++ t ∷ []) → HasOne (Took op k) t early late → is_closed (past_of h) ≡ false → end_of (past_of (h ++ t ∷ [])) op ≡ Some ending → TookLeaves z play op ending h (h ++ t ∷ [])
-took_leaves z play h t early late op k ending plain legal one open_ found =
+    → z.role ≡ play.role → Legal z (h ++ t ∷ []) → HasOne (Took op k) t early late → is_closed (past_of h) ≡ false → end_of (past_of (h ++ t ∷ [])) op ≡ Some ending → TookLeaves z play op ending h (h ++ t ∷ [])
+took_leaves z play h t early late op k ending role legal one open_ found =
     record {
       open_ = open_more;
       free = upon under_way under_way_stays h t _ early late one;
@@ -280,11 +268,17 @@ took_leaves z play h t early late op k ending plain legal one open_ found =
     there : end_of (onto early (past_of h)) op ≡ Some ending
     there = ended_so z h t early late op k ending legal one found
 
-    counts : (r : Bool) → counted z play (past_of (h ++ t ∷ [])) ≡ (if counts_for play.role (is_some play.body) r (Some ending) then counted z play (past_of h) + 1 else counted z play (past_of h))
-    counts r =
+    same_survey : SameSurvey play.role (asks_anew z (Took op k ∷ onto early (past_of h))) (asks_anew z (past_of h))
+    same_survey s =
+        asks_stay z (Took op k ∷ []) (onto early (past_of h)) (ap is_surveyor role ∙ s) refl
+        ∙ asks_stay z early (past_of h) (ap is_surveyor role ∙ s) (silent_surveys early one.before)
+
+    counts : counted z play (past_of (h ++ t ∷ [])) ≡ (if counts_for play.role (is_some play.body) (asks_anew z (past_of h)) (Some ending) then counted z play (past_of h) + 1 else counted z play (past_of h))
+    counts =
+        let r : Bool = asks_anew z (past_of h) in
         let is : is_counted z play (Took op k ∷ onto early (past_of h)) ≡ counts_for play.role (is_some play.body) r (Some ending) =
         ap (λ last. counts_for play.role (is_some play.body) (asks_anew z (Took op k ∷ onto early (past_of h))) last) there
-        ∙ counts_by_last play.role plain (is_some play.body) (asks_anew z (Took op k ∷ onto early (past_of h))) r (Some ending) in
+        ∙ counts_same play.role (is_some play.body) (asks_anew z (Took op k ∷ onto early (past_of h))) r (Some ending) same_survey in
         let n : count_in z play (onto early (past_of h)) ≡ counted z play (past_of h) =
         count_in_stays z play early (past_of h) one.before ∙ sym (ap (count_in z play) (open_is (past_of h) open_)) in
         let a : counted z play (past_of (h ++ t ∷ [])) ≡ count_in z play (Took op k ∷ onto early (past_of h)) =

@@ -108,7 +108,7 @@ module _ (z : Setting) (h : List (Turn Entry)) (t : Turn Entry) (n : ℕ) (p : P
   ticked_play keep =
       record {
         role = was.role;
-        plain = was.plain;
+        surveys = was.surveys;
         carries = was.carries;
         is_open = ap is_closed past_is ∙ (closed_stays first.late more silent ∙ was.is_open);
         so_far = goes_on z play h t was.is_open was.so_far (turn_of_one z play h t tick [] first.late one may_play refl (λ e ticked. may.served ticked));

@@ -34,7 +34,7 @@ use Rattle.cat_play.specs.Steps.{AddsNone, moves_ends}
 use Rattle.sp_ends.specs.declared.ends.EndError.{EndError}
 use Rattle.sp_ends.specs.declared.dialer.Dialer.{Dialer}
 use Rattle.cat_rounds.specs.declared.player.Player.{Player}
-use Rattle.cat_rounds.specs.Lasting.{play_of, is_plain_role}
+use Rattle.cat_rounds.specs.Lasting.{play_of}
 use Rattle.cat_rounds.specs.Stepping.{Sinks}
 use Rattle.cat_rounds.specs.Going.{AreCleared, WentOrOver, PacedTo}
 
@@ -64,10 +64,8 @@ pub record AreTopics (role : Role) (ts : List (List ℕ)) : Type 0 where
   pub supported : IsTrue (is_sub role || (length ts == 0))
   pub short : AllByRecursion (λ t. length t ≤ 1024) ts
 
--- a plan that can be played: over TCP, of a role whose next call depends on nothing but what was collected last, with
--- topics that its socket takes, and with data that stand in its words
+-- a plan that can be played: over TCP, with topics that its socket takes, and with data that stand in its words
 pub record IsBuilt (plan : CatPlan) : Type 0 where
-  pub plain : IsTrue (is_plain_role plan.role)
   pub ends_built : AreBuilt plan.ends
   pub data_built : IsBuiltData plan.data_
   pub topics_built : AreTopics plan.role plan.topics

@@ -1,10 +1,11 @@
 -- What stands of a play while it goes on.
-use Rattle.std.specs.Prelude.{◌≡◌, ◌+◌, ◌&&◌, ◌||◌, not, ℕ, zero, ⊤, true, false, Bool, IsTrue, List, [], reverse, Option, Some, None, is_some}
+use Rattle.std.specs.Prelude.{◌≡◌, ◌+◌, nat_le, ◌&&◌, ◌||◌, not, ℕ, zero, ⊤, true, false, Bool, IsTrue, List, [], reverse, Option, Some, None, is_some}
 use Rattle.std.specs.List.{list_all}
 use Rattle.turn_lock.specs.declared.turn.Turn.{Turn}
 use Rattle.sp_spec.specs.Outside.{grown}
 use Rattle.sp_base.specs.declared.OpName.{OpName}
 use Rattle.sp_base.specs.declared.role.Role.{Role}
+use Rattle.sp_history.specs.declared.entry.Cause.TheVariants.{SurveyOver}
 use Rattle.sp_history.specs.declared.entry.Entry.{Entry}
 use Rattle.sp_history.specs.declared.entry.Ending.{Ending as EndingType}
 use Rattle.sp_history.specs.declared.entry.Ending.TheVariants.{Won, Gone}
@@ -16,7 +17,7 @@ use Rattle.sp_core.specs.Collecting.{IsOpen}
 use Rattle.cat_text.specs.Drafts.{needs_data}
 use Rattle.cat_play.specs.Plans.{Play}
 use Rattle.cat_play.specs.Scripts.{has_ticked, under_way, last_result, last_send, counted, texts, joined, has_reached, timed_out, over}
-use Rattle.cat_play.specs.Playing.{PlaysSoFar, may_rest, was_swept, is_left, is_surveyor}
+use Rattle.cat_play.specs.Playing.{PlaysSoFar, may_rest, was_swept, is_left}
 use Rattle.cat_rounds.specs.declared.next.Last.{Last}
 use Rattle.cat_rounds.specs.declared.next.Last.TheVariants as lasts
 use Rattle.cat_rounds.specs.declared.player.Script.{Script}
@@ -30,9 +31,17 @@ use Rattle.cat_rounds.specs.declared.player.Player.{Player}
 abbrev pub play_of : Script → Play
 play_of s = record { role = s.role; body = s.body; topics = s.topics; count = s.count; interval = s.interval; recv_timeout = s.recv_timeout; send_timeout = s.send_timeout; format = s.format }
 
--- its next call and what counts depend on nothing but what was collected last
-abbrev pub is_plain_role : Role → Bool
-is_plain_role role = not (is_surveyor role)
+-- ---- Surveys
+
+-- a cooked socket whose surveys are live for a second: nng_surveyor(7)
+pub record HasSurveys (z : Setting) : Type 0 where
+  pub cooked : z.raw ≡ false
+  pub time : z.options.survey ≡ 1000
+
+-- no survey was begun, or the time of the last one is over
+abbrev pub is_survey_over : Option ℕ → ℕ → Bool
+is_survey_over None t = true
+is_survey_over (Some since) t = nat_le (since + 1000) t
 
 -- ---- What the code knows
 
@@ -41,6 +50,8 @@ abbrev pub IsLast : Last → Option EndingType → Type 0
 IsLast lasts.Nothing r = r ≡ None
 IsLast lasts.Received (Some (Won (Received m))) = ⊤
 IsLast lasts.Sent (Some (Won Sent)) = ⊤
+IsLast lasts.SurveyOver (Some (Gone SurveyOver by)) = ⊤
+IsLast lasts.Gone (Some (Gone SurveyOver by)) = ⊥
 IsLast lasts.Gone (Some (Gone cause by)) = ⊤
 IsLast _ _ = ⊥
 
@@ -64,7 +75,7 @@ IsUnderWay (Some op) h = (under_way (past_of h) ≡ Some op) × IsOpen 1 op h
 -- between two calls of a run that is open
 pub record PlayStands (z : Setting) (h : List (Turn Entry)) (p : Player) : Type 0 where
   pub role : z.role ≡ p.script.role
-  pub plain : IsTrue (is_plain_role p.script.role)
+  pub surveys : HasSurveys z
   -- what is sent has a body
   pub carries : IsTrue (not (needs_data p.script.role) || is_some p.script.body)
   pub is_open : is_closed (past_of h) ≡ false

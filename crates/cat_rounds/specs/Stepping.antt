@@ -1,9 +1,10 @@
 -- What a step of the play does.
-use Rattle.std.specs.Prelude.{◌≡◌, ◌==◌, ◌≤◌, ◌-◌, ◌++◌, ℕ, ⊤, true, false, Bool, not, ◌&&◌, ◌||◌, List, Option, Some, is_some, is_none, None}
+use Rattle.std.specs.Prelude.{◌≡◌, ◌==◌, ◌≤◌, ◌-◌, ◌++◌, ℕ, ⊤, true, false, Bool, not, ◌&&◌, ◌||◌, List, Option, Some, is_some, is_none, None, if◌then◌else◌}
 use Rattle.turn_lock.specs.declared.turn.Turn.{Turn}
 use Rattle.sp_spec.specs.Outside.{grown, Rose}
 use Rattle.sp_base.specs.Views.{SinkView}
-use Rattle.sp_history.specs.declared.entry.Cause.TheVariants.{TimedOut}
+use Rattle.sp_history.specs.declared.entry.Cause.{Cause}
+use Rattle.sp_history.specs.declared.entry.Cause.TheVariants.{TimedOut, SurveyOver}
 use Rattle.sp_history.specs.declared.entry.Entry.{Entry}
 use Rattle.sp_history.specs.declared.entry.Entry.TheVariants.{Begin, Tick}
 use Rattle.sp_history.specs.Lists.{is_nil}
@@ -18,6 +19,7 @@ use Rattle.sp_single.specs.Singles.{SingleView}
 use Rattle.sp_ends.specs.Turning.{IsSound, IsNow}
 use Rattle.cat_text.specs.Printing.{print}
 use Rattle.cat_play.specs.Scripts.{texts}
+use Rattle.cat_play.specs.Playing.{is_surveyor}
 use Rattle.cat_play.specs.Running.{IsCutShort}
 use Rattle.cat_play.specs.Steps.{AddsNone, moves_ends}
 use Rattle.cat_rounds.specs.declared.next.Last.{Last}
@@ -111,22 +113,34 @@ abbrev pub over_for : Bool → Over
 over_for true = overs.Finished
 over_for false = overs.SendTimedOut
 
--- the table of what counts, by what was collected last
-abbrev pub counts_for_last : Script → Last → Bool
-counts_for_last s lasts.Nothing = false
-counts_for_last s lasts.Gone = false
-counts_for_last s lasts.Received = is_req s.role || not (is_some s.body)
-counts_for_last s lasts.Sent = not (is_req s.role) && is_some s.body
+-- the table of what counts, by whether no survey is live and by what was collected last
+abbrev pub counts_for_last : Script → Bool → Last → Bool
+counts_for_last s is_over lasts.Nothing = false
+counts_for_last s is_over lasts.Gone = false
+counts_for_last s is_over lasts.SurveyOver = is_surveyor s.role
+counts_for_last s is_over lasts.Received =
+    if is_surveyor s.role then is_over else is_req s.role || not (is_some s.body)
+counts_for_last s is_over lasts.Sent = if is_surveyor s.role then is_over else not (is_req s.role) && is_some s.body
+
+-- the player after an operation ended without success, a receive or a send
+abbrev pub gone_for : Bool → Cause → Bool → Player → Player
+gone_for is_over SurveyOver receives p = counts_one (counts_for_last p.script is_over lasts.SurveyOver) lasts.SurveyOver p
+gone_for is_over TimedOut receives p = record p { last = lasts.Gone; over = over_for receives }
+gone_for is_over cause receives p = record p { last = lasts.Gone }
 
 -- the player after an operation came to this; its buffer may have changed
 abbrev pub AsCounted : Player → Player → Type 0
 AsCounted counted new = new ≡ record counted { text = new.text }
 
-abbrev pub NotedAs : Outcome → Player → Player → Type 0
-NotedAs (outcomes.Received m) old new = AsCounted (counts_one (counts_for_last old.script lasts.Received) lasts.Received old) new
-NotedAs outcomes.Sent old new = AsCounted (counts_one (counts_for_last old.script lasts.Sent) lasts.Sent old) new
-NotedAs (outcomes.Gone TimedOut by back) old new = AsCounted (record old { last = lasts.Gone; over = over_for (is_none back) }) new
-NotedAs (outcomes.Gone cause by back) old new = AsCounted (record old { last = lasts.Gone }) new
+-- the same, with what it counts
+abbrev pub AsLast : Bool → Last → Player → Player → Type 0
+AsLast is_over last old new = AsCounted (counts_one (counts_for_last old.script is_over last) last old) new
+
+-- the player after an outcome. The flag says whether no survey is live
+abbrev pub NotedAs : Bool → Outcome → Player → Player → Type 0
+NotedAs is_over (outcomes.Received m) old new = AsLast is_over lasts.Received old new
+NotedAs is_over outcomes.Sent old new = AsLast is_over lasts.Sent old new
+NotedAs is_over (outcomes.Gone cause by back) old new = new ≡ gone_for is_over cause (is_none back) old
 
 -- what it puts into the sink
 abbrev pub PutsFor : Outcome → Collecting → Player → Option (List ℕ) → Option (List ℕ) → Type 0

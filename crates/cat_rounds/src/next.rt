@@ -1,10 +1,13 @@
 //! The table of plays: which call comes next, and what counts.
-ghost use Rattle.std.specs.Prelude.{◌≡◌, IsTrue, Bool};
+ghost use Rattle.std.specs.Prelude.{◌≡◌};
 ghost use Rattle.sp_history.specs.declared.entry.Ending.{Ending as EndingType};
-ghost use Rattle.std.specs.Prelude.{Option};
+ghost use Rattle.std.specs.Prelude.{Option, Some};
+ghost use Rattle.sp_history.specs.declared.entry.Ending.TheVariants.{Won};
+ghost use Rattle.sp_history.specs.declared.entry.Outcome.TheVariants.{Received, Sent};
+ghost use Rattle.sp_history.specs.declared.entry.Message.{Message as MessageType};
 ghost use Rattle.sp_history.specs.Setting.{floods};
 ghost use Rattle.cat_play.specs.Scripts as scripts;
-ghost use Rattle.cat_rounds.specs.Lasting.{IsLast, is_plain_role};
+ghost use Rattle.cat_rounds.specs.Lasting.{IsLast};
 
 use sp_base::Role;
 
@@ -15,17 +18,19 @@ pub enum Last {
     Nothing,
     Received,
     Sent,
-    /// It ended without success.
+    /// A receive ended with its survey.
+    SurveyOver,
+    /// It ended without success, for another cause.
     Gone,
 }
 
-/// Whether the next call is a receive. Not for a surveyor, whose next call depends on its survey.
-pub(crate) fn receives_next(role: Role, has_data: bool, last: Last) -> bool
-    requires plain { IsTrue (is_plain_role role) }
-    ensures { (r : Option EndingType) (refused : Bool) → IsLast last r → result ≡ scripts.receives_next role has_data refused r }
+/// Whether the next call is a receive. The second flag says whether no survey is live.
+pub(crate) fn receives_next(role: Role, has_data: bool, is_over: bool, last: Last) -> bool
+    ensures { (r : Option EndingType) → IsLast last r → result ≡ scripts.receives_next role has_data is_over r }
 {
     match role {
-        Role::Pull | Role::Sub | Role::Surveyor => true,
+        Role::Pull | Role::Sub => true,
+        Role::Surveyor => !is_over,
         Role::Push | Role::Pub => false,
         Role::Pair0 | Role::Bus => !has_data,
         Role::Req => last == Last::Sent,
@@ -33,15 +38,39 @@ pub(crate) fn receives_next(role: Role, has_data: bool, last: Last) -> bool
     }
 }
 
-/// Whether what was collected last counts. Not for a surveyor.
-pub(crate) fn counts(role: Role, has_data: bool, last: Last) -> bool
-    requires plain { IsTrue (is_plain_role role) }
-    ensures { (r : Option EndingType) (over : Bool) → IsLast last r → result ≡ scripts.counts_for role has_data over r }
+/// Whether what was collected last counts. The second flag says whether no survey is live.
+pub(crate) fn counts(role: Role, has_data: bool, is_over: bool, last: Last) -> bool
+    ensures { (r : Option EndingType) → IsLast last r → result ≡ scripts.counts_for role has_data is_over r }
 {
     match last {
         Last::Nothing | Last::Gone => false,
-        Last::Received => role == Role::Req || !has_data,
-        Last::Sent => role != Role::Req && has_data,
+        Last::SurveyOver => role == Role::Surveyor,
+        Last::Received => counts_received(role, has_data, is_over),
+        Last::Sent => counts_sent(role, has_data, is_over),
+    }
+}
+
+// Whether a message that was received counts: of a surveyor, whether its survey is found over there.
+fn counts_received(role: Role, has_data: bool, is_over: bool) -> bool
+    ensures { (m : MessageType) → result ≡ scripts.counts_for role has_data is_over (Some (Won (Received m))) }
+{
+    match role {
+        Role::Surveyor => is_over,
+        Role::Req => true,
+        Role::Pair0 | Role::Pub | Role::Sub | Role::Push => !has_data,
+        Role::Pull | Role::Rep | Role::Respondent | Role::Bus => !has_data,
+    }
+}
+
+// Whether a send that was sent counts.
+fn counts_sent(role: Role, has_data: bool, is_over: bool) -> bool
+    ensures { result ≡ scripts.counts_for role has_data is_over (Some (Won Sent)) }
+{
+    match role {
+        Role::Surveyor => is_over,
+        Role::Req => false,
+        Role::Pair0 | Role::Pub | Role::Sub | Role::Push => has_data,
+        Role::Pull | Role::Rep | Role::Respondent | Role::Bus => has_data,
     }
 }
 

@@ -6,9 +6,9 @@ ghost use Rattle.sp_socket.specs.Turns.{AllEnded};
 ghost use Rattle.cat_play.specs.Scripts.{texts, under_way, is_receive_next};
 ghost use Rattle.cat_play.specs.Playing.{after_seconds, is_within, is_left, waits_for_interval, waits_for_pipe};
 ghost use Rattle.sp_ends.specs.Turning.{IsSound};
-ghost use Rattle.cat_rounds.specs.Lasting.{play_of, is_plain_role, HasPrinted, IsUnderWay, IsNewPlayer};
+ghost use Rattle.cat_rounds.specs.Lasting.{play_of, is_survey_over, HasPrinted, IsUnderWay, IsNewPlayer};
 ghost use Rattle.sp_history.specs.Setting.{floods};
-ghost use Rattle.cat_rounds.specs.Stepping.{KnowsPipes, Stands, GoesOnBy, SameScript, PrintedAfter, PrintedThen, Sinks, Puts, PutsPiece, PutsFor, NotedAs, Rested, counts_one, counts_for_last, over_for, step_for, CollectsLast};
+ghost use Rattle.cat_rounds.specs.Stepping.{KnowsPipes, Stands, GoesOnBy, SameScript, PrintedAfter, PrintedThen, Sinks, Puts, PutsPiece, PutsFor, NotedAs, Rested, counts_one, counts_for_last, over_for, step_for, gone_for, CollectsLast};
 
 use crate::next::{Last, counts, floods, receives_next};
 use cat_text::{Format, TopicList, push_text};
@@ -23,6 +23,9 @@ use std::sync::Wait;
 
 /// The context on which everything is played.
 pub(crate) const CTX: Ctx = Ctx(0);
+
+/// How long a survey is live, in milliseconds: what a socket has where nobody sets it.
+const SURVEY_TIME: u64 = 1_000;
 
 /// What the play is to be: the plan without its ends.
 #[derive(Drop)]
@@ -165,7 +168,7 @@ impl Player {
         ensures sinks { Sinks (result ≡ Step.OutFault) (S.seen out.old) (S.seen out.new) }
         ensures begun { result ≡ Step.Begun → is_some self.new.op ≡ true }
     {
-        match self.collect(rt, single, out) {
+        match self.collect(rt, single, out, now) {
             Collecting::Free => self.begin(rt, single, now, has_pipe),
             Collecting::NotYet => Step::Rests,
             Collecting::OutFault => Step::OutFault,
@@ -179,9 +182,10 @@ impl Player {
         rt: &R,
         single: &mut Single<P, W>,
         out: &mut S,
+        now: Tick,
     ) -> Collecting
-        requires stands { (now : ℕ) × Stands single.old self.old now }
-        ensures stands { (now : ℕ) → Stands single.old self.old now → Stands single.new self.new now }
+        requires stands { Stands single.old self.old now }
+        ensures stands { Stands single.new self.new now }
         ensures script { SameScript self.old self.new }
         ensures goes_on { GoesOnBy single.old single.new }
         ensures free { result ≡ Collecting.Free → self.new.op ≡ None }
@@ -199,45 +203,53 @@ impl Player {
                 hold(&mut self.op, op);
                 Collecting::NotYet
             }
-            Collected::Ended(outcome) => self.note(outcome, out),
+            Collected::Ended(outcome) => self.note(outcome, out, now),
         }
     }
 
     // Takes note of how an operation ended.
-    fn note<S: Sink>(&mut self, outcome: Outcome, out: &mut S) -> Collecting
-        requires plain { IsTrue (is_plain_role self.old.script.role) }
+    fn note<S: Sink>(&mut self, outcome: Outcome, out: &mut S, now: Tick) -> Collecting
         requires due { self.old.due ≡ Some 0 → ⊥ }
-        ensures noted { NotedAs outcome self.old self.new }
+        ensures noted { NotedAs (is_survey_over self.old.last_send now) outcome self.old self.new }
         ensures printed { PutsFor outcome result self.new (S.seen out.old).text (S.seen out.new).text }
         ensures sinks { Sinks (result ≡ Collecting.OutFault) (S.seen out.old) (S.seen out.new) }
     {
         match outcome {
             Outcome::Received(m) => {
-                self.count(Last::Received);
+                self.count(Last::Received, now);
                 self.print(&m, out)
             }
             Outcome::Sent => {
-                self.count(Last::Sent);
+                self.count(Last::Sent, now);
                 Collecting::Free
             }
             Outcome::Gone { cause, by: _, back } => {
-                self.last = Last::Gone;
-                if cause == Cause::TimedOut {
-                    self.timed_out(back.is_none());
-                }
+                self.gone(cause, back.is_none(), now);
                 Collecting::Free
             }
         }
     }
 
-    // The operation that was collected came to this.
-    fn count(&mut self, last: Last)
-        requires plain { IsTrue (is_plain_role self.old.script.role) }
-        requires due { counts_for_last self.old.script last ≡ true → self.old.due ≡ Some 0 → ⊥ }
-        ensures { self.new ≡ counts_one (counts_for_last self.old.script last) last self.old }
+    // An operation ended without success, a receive or a send.
+    fn gone(&mut self, cause: Cause, receives: bool, now: Tick)
+        requires due { self.old.due ≡ Some 0 → ⊥ }
+        ensures gone { self.new ≡ gone_for (is_survey_over self.old.last_send now) cause receives self.old }
     {
+        match cause {
+            Cause::SurveyOver => self.count(Last::SurveyOver, now),
+            Cause::TimedOut => self.timed_out(receives),
+            Cause::Cancelled | Cause::Closed | Cause::Superseded => self.last = Last::Gone,
+        }
+    }
+
+    // The operation that was collected came to this.
+    fn count(&mut self, last: Last, now: Tick)
+        requires due { self.old.due ≡ Some 0 → ⊥ }
+        ensures { self.new ≡ counts_one (counts_for_last self.old.script (is_survey_over self.old.last_send now) last) last self.old }
+    {
+        let is_over = self.is_survey_over(now);
         self.last = last;
-        if counts(self.script.role, self.script.body.is_some(), last) {
+        if counts(self.script.role, self.script.body.is_some(), is_over, last) {
             self.one_less();
         }
     }
@@ -258,10 +270,21 @@ impl Player {
         }
     }
 
+    // Whether no survey is live: none was begun, or the time of the last one is over.
+    fn is_survey_over(&self, now: Tick) -> bool
+        ensures { result ≡ is_survey_over self.now.last_send now }
+    {
+        match self.last_send {
+            None => true,
+            Some(since) => !is_before(now, since, SURVEY_TIME),
+        }
+    }
+
     // An operation ended with its deadline, a receive or a send.
     fn timed_out(&mut self, receives: bool)
-        ensures { self.new ≡ record self.old { over = over_for receives } }
+        ensures { self.new ≡ record self.old { last = Last.Gone; over = over_for receives } }
     {
+        self.last = Last::Gone;
         self.over = if receives {
             Over::Finished
         } else {
@@ -311,7 +334,13 @@ impl Player {
         if self.over != Over::Open {
             return Step::Rests;
         }
-        if receives_next(self.script.role, self.script.body.is_some(), self.last) {
+        let is_over = self.is_survey_over(now);
+        if receives_next(
+            self.script.role,
+            self.script.body.is_some(),
+            is_over,
+            self.last,
+        ) {
             self.begin_recv(rt, single, now)
         } else if self.waits_for_pipe(has_pipe) || self.is_within_interval(now) {
             Step::Rests

@@ -5,7 +5,6 @@ use Rattle.sp_spec.specs.Outside.{Rose}
 use Rattle.sp_base.specs.Views.{FilesView}
 use Rattle.sp_base.specs.Steps.{Holds}
 use Rattle.sp_base.specs.declared.role.Role.{Role}
-use Rattle.sp_base.specs.declared.role.Role.TheVariants as roles
 use Rattle.sp_proto.specs.Kinds.{Kind}
 use Rattle.sp_history.specs.Options.{usual}
 use Rattle.cat_text.specs.Drafts.{needs_data}
@@ -20,22 +19,8 @@ use Rattle.cat_rounds.specs.Built.{IsBuiltEnd, AreBuilt, AreTopics, has_data, Is
 
 -- ---- Plans that can be run
 
--- the roles that a run has a machine for
-abbrev pub has_machine : Role → Bool
-has_machine roles.Pair0 = true
-has_machine roles.Push = true
-has_machine roles.Pull = true
-has_machine roles.Rep = true
-has_machine roles.Respondent = true
-has_machine roles.Pub = true
-has_machine roles.Sub = true
-has_machine roles.Req = true
-has_machine roles.Surveyor = false
-has_machine roles.Bus = true
-
--- a plan over TCP, of a role that a run has a machine for, with topics that its socket takes
+-- a plan over TCP, with topics that its socket takes
 pub record IsReady (plan : CatPlan) : Type 0 where
-  pub machine : IsTrue (has_machine plan.role)
   pub ends_built : AreBuilt plan.ends
   pub topics_ready : AreTopics plan.role plan.topics
   pub carries : IsTrue (not (needs_data plan.role) || has_data plan.data_)

@@ -2,7 +2,7 @@
 ghost use Rattle.std.specs.Prelude.{◌≡◌, ◌≤◌, ◌↔◌, ◌||◌, not, length, IsTrue};
 ghost use Rattle.cat_rounds.specs.Built.{IsBuiltEnd, AreBuilt, AreTopics, has_data};
 ghost use Rattle.cat_text.specs.Drafts.{needs_data};
-ghost use Rattle.cat_run.specs.Ready.{IsReady, has_machine};
+ghost use Rattle.cat_run.specs.Ready.{IsReady};
 
 use cat_text::{CatPlan, Data, End};
 use sp_base::{Bytes, Role, Scheme};
@@ -17,9 +17,6 @@ const LONGEST_TOPIC: usize = 1_024;
 pub(crate) fn is_ready(plan: &CatPlan) -> bool
     ensures { IsTrue result ↔ IsReady plan.now }
 {
-    if !has_machine(plan.role) {
-        return false;
-    }
     if !are_topics(plan.role, plan.topics.as_slice()) {
         return false;
     }
@@ -61,24 +58,6 @@ fn carries_data(role: Role, data_: &Data) -> bool
     ensures { result ≡ (not (needs_data role) || has_data data_.now) }
 {
     !needs_data(role) || has_data(data_)
-}
-
-// Whether there is a machine for it.
-fn has_machine(role: Role) -> bool
-    ensures { result ≡ has_machine role }
-{
-    match role {
-        Role::Pair0 => true,
-        Role::Push => true,
-        Role::Pull => true,
-        Role::Rep => true,
-        Role::Respondent => true,
-        Role::Pub => true,
-        Role::Sub => true,
-        Role::Req => true,
-        Role::Surveyor => false,
-        Role::Bus => true,
-    }
 }
 
 // Whether its play has to send.

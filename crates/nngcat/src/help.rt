@@ -12,8 +12,8 @@ Roles (exactly one; each also with 0 at its end):
   --pub     sends to all subscribers        --sub         receives what begins with one of its topics
   --req     sends data, prints its reply    --rep         prints requests, replies with data
   --pair    one peer, both ways             --respondent  prints surveys, answers with data
-  --bus     all peers: sends data, or receives where it has none
-  Not there yet: --surveyor.
+  --bus     all peers: sends data,          --surveyor    sends data to all, prints what is answered
+            or receives where it has none                 within a second
 
 Endpoints (1 to 64 in all):
   --listen ADDRESS        accept connections at ADDRESS
@@ -21,7 +21,7 @@ Endpoints (1 to 64 in all):
   ADDRESS is tcp://HOST:PORT. HOST is *, localhost or four numbers with dots between; * is for
   --listen alone. PORT is 0 to 65535, and not 0 for --dial.
 
-Data (one of the two; push, pub and req need it, pull and sub take none):
+Data (one of the two; push, pub, req and surveyor need it, pull and sub take none):
   --data TEXT             send TEXT
   --file NAME             send what the file NAME holds; - is standard input
 

@@ -10,6 +10,7 @@ use Rattle.proto_reqrep.specs.Reqs.{Ties as RequestTies, req_kind}
 use Rattle.proto_bus.specs.Buses.{Ties as BusTies, bus_kind}
 use Rattle.proto_pubsub.specs.Pubs.{Ties as PublishTies, pub_kind}
 use Rattle.proto_pubsub.specs.Subs.{Ties as SubscribeTies, sub_kind}
+use Rattle.proto_survey.specs.Surveys.{Ties as SurveyTies, survey_kind}
 use Rattle.cat_run.proofs.Machines.{as_usual}
 use Rattle.cat_run.proofs.command.play_plan.Goals as goal
 
@@ -39,3 +40,6 @@ play_over-requires-in-Sub-clause-starts g c = as_usual (Starts SubscribeTies) c.
 
 pub play_over-requires-in-Bus-clause-starts : goal.play_over-requires-in-Bus-clause-starts
 play_over-requires-in-Bus-clause-starts g c = as_usual (Starts BusTies) c.new-in-Bus.result (bus_kind false) c.usual-options.result c.args.plan.role roles.Bus c.args.dice c.usual-options.ensures c.in-Bus.is refl c.new-in-Bus.ensures
+
+pub play_over-requires-in-Surveyor-clause-starts : goal.play_over-requires-in-Surveyor-clause-starts
+play_over-requires-in-Surveyor-clause-starts g c = as_usual (Starts SurveyTies) c.new-in-Surveyor.result (survey_kind false) c.usual-options.result c.args.plan.role roles.Surveyor c.args.dice c.usual-options.ensures c.in-Surveyor.is refl c.new-in-Surveyor.ensures

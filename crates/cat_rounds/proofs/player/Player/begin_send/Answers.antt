@@ -37,7 +37,7 @@ returns-in-Err-clause-texts g c =
 begun : (g : Given.Over) → (c : goal.After-self-1 g) → HasBegun c.args.single.now c.begin_send.new.self c.args.self.now c.args.now c.in-Ok-begin_send.op (Some c.args.now)
 begun g c =
     let took = c.in-Ok-begin_send.ensures.turn in
-    let some = has_body c.args.self.now.script.role _ (asks_anew c.args.single.now.setting (past_of c.args.single.now.seen)) (last_result (past_of c.args.single.now.seen)) c.requires.stands.play.plain c.requires.next c.requires.stands.play.carries in
+    let some = has_body c.args.self.now.script.role _ (asks_anew c.args.single.now.setting (past_of c.args.single.now.seen)) (last_result (past_of c.args.single.now.seen)) c.requires.next c.requires.stands.play.carries in
     has_begun c.args.single.now c.begin_send.new.self took c.args.self.now c.args.now c.in-Ok-begin_send.op (Send (text_of c.in-Ok.m)) c.after.result took.said.0 c.in-Ok-begin_send.ensures.opens c.requires.stands (record { free = c.requires.free; open_ = c.requires.open_; next = ap (λ b. not b) c.requires.next; data_ = is_plain_message c.args.self.now.script.body (text_of c.in-Ok.m) some c.in-Ok.ensures.0 c.in-Ok.ensures.1; deadline = c.after.ensures ∙ ap (λ t. option_map (after_seconds t) c.args.self.now.script.send_timeout) c.requires.stands.now_is; spaced = ap (λ b. not b) c.requires.spaced; pipe = c.requires.pipe })
 
 pub returns-clause-stands : goal.returns-clause-stands
