@@ -25,5 +25,5 @@ returns-clause-kept c = λ t l h.
     let was = c.args.self.now in
     let items : c.push_back.new.self.items ≡ was.kept.items ++ record { pipe = c.args.p; message = c.args.m } ∷ [] = search rules in
     let capacity : deque_capacity was.kept ≤ deque_capacity c.push_back.new.self = search rules in
-    let is : Pull = record { raw = was.raw; options = was.options; kept = c.push_back.new.self; pipes = was.pipes; waiting = was.waiting } in
-    (well_formed was t c.args.p c.args.m.body h, frame_ties was is t c.args.p c.args.m l c.requires h items capacity (refl, refl, refl, refl))
+    let is : Pull = record was { kept = c.push_back.new.self; sources = c.mark.new.self } in
+    (well_formed was t c.args.p c.args.m.body h, frame_ties was is t c.args.p c.args.m l c.requires h items capacity c.mark.ensures.kept c.mark.ensures.count (refl, refl, refl))
