@@ -1,0 +1,11 @@
+//! Tests of the machines of pub, sub, req, rep and respondent, with exact messages, ids and answers.
+#![tactic(auto)]
+
+#[cfg(test)]
+mod moves;
+#[cfg(test)]
+mod replies;
+#[cfg(test)]
+mod requests;
+#[cfg(test)]
+mod subs;
