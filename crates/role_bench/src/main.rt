@@ -1,0 +1,28 @@
+//! What the machines of pub, sub, req, rep and surveyor take for a call, as topics, contexts and pipes grow: nanoseconds
+//! for each unit of work, on standard error. What is printed is the same at any speed.
+#![tactic(auto)]
+
+mod asked;
+mod moves;
+mod spread;
+mod surveyed;
+mod timing;
+
+use sp_base::NoMemory;
+use std::io::{self, Eprint};
+use std::time::Clock;
+
+fn all<R: AllocGlobal + Clock + Eprint>(rt: &R) -> Result<(), NoMemory> {
+    spread::frames(rt)?;
+    spread::sends(rt)?;
+    asked::requests(rt)?;
+    surveyed::surveys(rt)
+}
+
+fn main(rt: HostRuntime) -> io::Result<()> {
+    if all(&rt).is_err() {
+        return Err(io::Error::from(io::ErrorKind::OutOfMemory));
+    }
+    println!(rt; "Topics, contexts and pipes were measured.")?;
+    Ok(())
+}

@@ -1,0 +1,87 @@
+//! What a benchmark does with a machine.
+use sp_base::{Ctx, NoMemory, OpName, PipeId};
+use sp_msg::Message;
+use sp_proto::{Act, Offer, Proto};
+use std::alloc::Global;
+
+/// The operation of the slot.
+pub fn op(slot: u32) -> OpName {
+    OpName {
+        slot,
+        generation: 1,
+    }
+}
+
+/// So many pipes come up, from number 1.
+pub fn ups<M: Proto>(m: &mut M, pipes: u32) -> Result<(), NoMemory> {
+    for i in 0..pipes {
+        if m.up(PipeId(i + 1)).is_err() {
+            return Err(NoMemory);
+        }
+    }
+    Ok(())
+}
+
+/// So many contexts are opened, from number 1.
+pub fn opens<M: Proto>(m: &mut M, contexts: u32) -> Result<(), NoMemory> {
+    for i in 0..contexts {
+        m.open_ctx(Ctx(i + 1))?;
+    }
+    Ok(())
+}
+
+/// A send of the body begins.
+pub fn send<M: Proto>(
+    m: &mut M,
+    alloc: Global,
+    slot: u32,
+    c: Ctx,
+    body: &[u8],
+) -> Result<(), NoMemory> {
+    m.reserve(1)?;
+    let message = Message::from_body(alloc, body)?;
+    match m.begin(op(slot), c, Act::Send(message)) {
+        Ok(()) => Ok(()),
+        Err(_) => Err(NoMemory),
+    }
+}
+
+/// A receive begins.
+pub fn receive<M: Proto>(m: &mut M, slot: u32, c: Ctx) -> Result<(), NoMemory> {
+    m.reserve(1)?;
+    match m.begin(op(slot), c, Act::Recv) {
+        Ok(()) => Ok(()),
+        Err(_) => Err(NoMemory),
+    }
+}
+
+/// A frame comes on the pipe.
+pub fn come<M: Proto>(m: &mut M, alloc: Global, p: PipeId, body: &[u8]) -> Result<(), NoMemory> {
+    let message = Message::from_body(alloc, body)?;
+    let _ = m.frame(p, message);
+    Ok(())
+}
+
+/// What is offered is done on the pipe, if anything is.
+pub fn take_offer<M: Proto>(m: &mut M, pipes: u32) {
+    match m.offer() {
+        Offer::Give { op } => drop(m.won(op, None)),
+        Offer::Send { op, pipe } => drop(m.won(op, Some(pipe))),
+        Offer::Flood { op } => flood(m, op, pipes),
+        Offer::Drop { op } => drop(m.won(op, None)),
+        Offer::Finish { op, cause: _ } => drop(m.lost(op)),
+        Offer::Again { ctx, pipe } => drop(m.again(ctx, pipe)),
+        Offer::Idle => {}
+    }
+}
+
+// The send goes out on each of the pipes that it may go to.
+fn flood<M: Proto>(m: &mut M, op: OpName, pipes: u32) {
+    for i in 0..pipes {
+        let p = PipeId(i + 1);
+        if m.goes_to(op, p) {
+            drop(m.flood(op, p));
+        }
+    }
+    drop(m.won(op, None));
+}
