@@ -11,6 +11,10 @@ naming word = codes "nngcat: see nngcat --help; can't go on with " ++ in_quotes 
 abbrev pub between_quotes : List ℕ → List ℕ
 between_quotes word = 34 ∷ flat_map quoted word ++ 34 ∷ []
 
+-- the same without the line feed at its end
+abbrev pub naming_line : List ℕ → List ℕ
+naming_line word = codes "nngcat: see nngcat --help; can't go on with " ++ between_quotes word
+
 abbrev pub IsBytes : List ℕ → Type 0
 IsBytes [] = Unit {0}
 IsBytes (b ∷ bytes) = (b < 256) × IsBytes bytes

@@ -1,6 +1,6 @@
 //! What is said of a wrong word.
-ghost use Rattle.std.specs.Prelude.{◌≡◌, ◌++◌, OnOk, OnErr, ℕ, List};
-ghost use Rattle.cat_text.specs.Naming.{naming, IsQuiet, IsBytes, between_quotes};
+ghost use Rattle.std.specs.Prelude.{◌≡◌, ◌++◌, ◌∷◌, [], OnOk, OnErr, ℕ, List};
+ghost use Rattle.cat_text.specs.Naming.{naming, naming_line, IsQuiet, IsBytes};
 
 use crate::plan::Format;
 use crate::printing::print;
@@ -19,5 +19,6 @@ pub fn name_word(alloc: Global, word: &str, out: &mut Bytes) -> Result<(), NoMem
 
 /// The line that names a word has no control byte but the line feed at its end, whatever the word.
 pub fn names_quietly()
-    ensures { (word : List ℕ) → IsBytes word → IsQuiet (between_quotes word) }
+    ensures line { (word : List ℕ) → naming word ≡ naming_line word ++ 10 ∷ [] }
+    ensures quiet { (word : List ℕ) → IsBytes word → IsQuiet (naming_line word) }
 {}
