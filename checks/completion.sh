@@ -36,16 +36,16 @@ case_is --pul -- --pull --pull0
 case_is --pull0 -- --pull0
 case_is --surv -- --surveyor --surveyor0
 case_is --help -- --help
+case_is --dr --
 case_is --pull --li -- --listen
-case_is --listen '' -- tcp:// inproc://
+case_is --listen '' -- tcp://
 case_is --listen t -- tcp://
 case_is --listen tcp : -- //
 case_is --listen tcp : // -- //
 case_is --listen tcp : //127.0.0.1 --
 case_is --listen tcp ://127.0.0.1 : 55 --
-case_is --listen = -- tcp:// inproc://
-case_is --listen = in -- inproc://
-case_is --listen = inproc : -- //
+case_is --listen = -- tcp://
+case_is --listen = in --
 case_is --dial = t -- tcp://
 case_is --dial = tcp : -- //
 case_is --dial tcp : -- //
