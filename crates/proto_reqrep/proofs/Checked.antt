@@ -1,21 +1,15 @@
 -- What a rep finds before an operation begins.
-use Rattle.std.proofs.Common.{◌≡◌, refl, ap, sym, ◌∙◌, List, [], ◌∷◌, ℕ, Bool, true, false, cond, arith, Option, Some, None, map}
+use Rattle.std.proofs.Common.{◌≡◌, refl, ap, sym, ◌∙◌, List, [], ◌∷◌, ℕ, Bool, true, false, Option, Some, None, map}
 use Rattle.std.specs.Prelude.{not, is_some, ◌&&◌, ◌||◌, ◌==◌}
 use Rattle.std.specs.List.{list_any}
-use Rattle.std.proofs.lemmas.Bool.Decides.{nat_tests}
 use Rattle.sp_base.specs.declared.role.Role.{Role}
-use Rattle.sp_base.specs.declared.role.Role.TheVariants as role
 use Rattle.sp_base.specs.Roles.{has_contexts as role_has_contexts}
-use Rattle.sp_history.specs.declared.setting.Setting.{Setting}
-use Rattle.sp_history.specs.declared.entry.Entry.{Entry}
 use Rattle.sp_history.specs.declared.entry.Act.{Act}
 use Rattle.sp_history.specs.declared.entry.Act.TheVariants.{Recv, Send}
-use Rattle.sp_history.specs.declared.parts.Begun.{Begun}
 use Rattle.sp_history.specs.declared.parts.Origin.{Origin}
 use Rattle.sp_history.specs.Lists.{has}
 use Rattle.sp_history.specs.Setting.{has_contexts}
-use Rattle.sp_history.specs.Past.{pend, ctxs}
-use Rattle.sp_history.specs.Kept.{stored}
+use Rattle.sp_history.specs.Past.{ctxs}
 use Rattle.sp_history.specs.Legal.{does, is_recv_on, is_state, state_for}
 use Rattle.sp_history.specs.Moments.{Moment, past}
 use Rattle.sp_proto.specs.Kinds.{verb_of}
@@ -24,7 +18,7 @@ use Rattle.proto_reqrep.specs.declared.rep.Reply.{Reply}
 use Rattle.proto_reqrep.specs.declared.rep.Place.{Place}
 use Rattle.proto_reqrep.specs.declared.rep.Answer.{Answer}
 use Rattle.proto_reqrep.specs.declared.rep.Waiting.{Waiting}
-use Rattle.proto_reqrep.specs.Reps.{Ties, begun_of, act_of, ctx_of, is_home, is_receive, state_at, origin_at}
+use Rattle.proto_reqrep.specs.Reps.{Ties, begun_of, act_of, ctx_of, is_home, is_receive, state_at}
 use Rattle.proto_reqrep.proofs.Replied.{is_rep, is_raw}
 use Rattle.proto_reqrep.specs.Reps.{role_of}
 use Rattle.proto_reqrep.specs.declared.rep.ReplyRole.{ReplyRole}

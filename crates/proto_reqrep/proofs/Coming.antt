@@ -1,10 +1,10 @@
 -- What a req stands for when operations begin, frames and ticks come, and when it closes; and what it finds before.
-use Rattle.std.proofs.Common.{◌≡◌, ◌≢◌, refl, ap, sym, ◌∙◌, subst, List, [], ◌∷◌, ◌++◌, ℕ, ◌+◌, ◌^◌, ◌<◌, ◌≤◌, max, Bool, true, false, cond, arith, Option, Some, None, map, length, inl, inr}
-use Rattle.std.specs.Prelude.{find, filter, drop, take, not, is_some, nat_lt, IsTrue, ◌&&◌, ◌||◌, ◌==◌}
-use Rattle.std.specs.List.{list_any, list_all}
+use Rattle.std.proofs.Common.{◌≡◌, ◌≢◌, refl, ap, sym, ◌∙◌, subst, List, [], ◌∷◌, ◌++◌, ℕ, ◌+◌, ◌^◌, ◌<◌, ◌≤◌, max, Bool, true, false, cond, arith, Option, Some, None, map, length}
+use Rattle.std.specs.Prelude.{find, filter, drop, take, not, is_some, nat_lt, ◌&&◌, ◌||◌, ◌==◌}
+use Rattle.std.specs.List.{list_any}
 use Rattle.std.specs.Option.{option_map}
 use Rattle.std.proofs.lemmas.Bool.Decides.{nat_tests}
-use Rattle.std.proofs.lemmas.List.{map-append, with_items_is, length-map}
+use Rattle.std.proofs.lemmas.List.{with_items_is, length-map}
 use Rattle.std.specs.Prelude.{Vec, Result, Ok, Err}
 use Rattle.sp_msg.specs.Messages.{Trimmed}
 use Rattle.sp_msg.specs.declared.message.Short.{Short}
@@ -13,77 +13,58 @@ use Rattle.std.specs.Vec.{with_items}
 use Rattle.sp_base.specs.declared.OpName.{OpName}
 use Rattle.sp_base.specs.declared.role.Role.{Role}
 use Rattle.sp_base.specs.declared.role.Role.TheVariants as role
-use Rattle.sp_msg.specs.Views.{MessageView, wire_text}
+use Rattle.sp_msg.specs.Views.{MessageView}
 use Rattle.sp_history.specs.declared.setting.Setting.{Setting}
 use Rattle.sp_history.specs.declared.entry.Entry.{Entry}
-use Rattle.sp_history.specs.declared.entry.Entry.TheVariants.{Begin, End, Out, Down, Full, Frame, Unkept, Ctx, Tick, Close, Dry}
-use Rattle.sp_history.specs.declared.entry.Gate.TheVariants.{Open, Shut}
+use Rattle.sp_history.specs.declared.entry.Entry.TheVariants.{Begin, Down, Frame, Ctx, Tick, Close}
+use Rattle.sp_history.specs.declared.entry.Gate.TheVariants.{Shut}
 use Rattle.sp_history.specs.declared.entry.Act.{Act}
 use Rattle.sp_history.specs.declared.entry.Act.TheVariants.{Recv, Send}
-use Rattle.sp_history.specs.declared.entry.Cause.{Cause}
-use Rattle.sp_history.specs.declared.entry.Ending.{Ending}
-use Rattle.sp_history.specs.declared.entry.Ending.TheVariants.{Won, Gone}
-use Rattle.sp_history.specs.declared.entry.Outcome.TheVariants.{Received, Sent}
 use Rattle.sp_history.specs.declared.entry.Message.{Message}
 use Rattle.sp_history.specs.declared.entry.Totals.{Totals}
 use Rattle.sp_history.specs.declared.parts.Begun.{Begun}
 use Rattle.sp_history.specs.declared.parts.Item.{Item}
 use Rattle.sp_history.specs.declared.parts.Request.{Request}
 use Rattle.sp_history.specs.declared.parts.Requests.{Requests}
-use Rattle.sp_history.specs.declared.parts.Origin.{Origin}
 use Rattle.sp_history.specs.declared.parts.How.TheVariants as how
-use Rattle.sp_history.specs.Lists.{has, without, is_nil, head_of, same_op, first_word, word}
-use Rattle.sp_history.specs.Setting.{is_req, is_reply, floods, has_topics, has_requests, resends}
+use Rattle.sp_history.specs.Lists.{has, is_nil, first_word}
+use Rattle.sp_history.specs.Setting.{is_reply, has_topics}
 use Rattle.sp_history.specs.Frames.{malformed, malformed_for, plain_item, item_for, item_of as item_in}
-use Rattle.sp_history.specs.Past.{is_of, without_begun, pend, pending, up, ups, ctxs, topics, now, opened}
-use Rattle.sp_history.specs.Kept.{pool, route, kept, replies_of, pool_of, is_on_pool, takes, add_for, add_item, is_wanted_by, wanted, has_none_of, is_from}
-use Rattle.sp_history.specs.Requests.{requests, no_requests, asked, is_orphan, end_on, without_orphan, after_end, of_live, after_moment, over_at, change_live, with_taken, with_out, with_frame, wire_of, live_on, request_of as asked_of, is_on, begin_on, next_id}
-use Rattle.sp_history.specs.Sends.{is_lost, is_due_again}
-use Rattle.sp_history.specs.Sends.{bytes_of, bytes_of_act, bytes_for, goes_nowhere}
+use Rattle.sp_history.specs.Past.{pend, up, ups, ctxs, topics, now}
+use Rattle.sp_history.specs.Kept.{pool, kept, replies_of, add_for, add_item, is_wanted_by, wanted, has_none_of, is_from}
+use Rattle.sp_history.specs.Requests.{requests, end_on, after_moment, over_at, with_frame, live_on, begin_on, next_id}
 use Rattle.sp_history.specs.Settled.{has_full, is_dry}
-use Rattle.sp_history.specs.Legal.{is_recv, AreAllowed}
+use Rattle.sp_history.specs.Legal.{is_recv}
 use Rattle.std.specs.Int.{w32, from_be_bytes}
-use Rattle.sp_history.specs.Once.{occurs, AreApart, AreDistinct}
-use Rattle.sp_history.specs.Moments.{Moment, Lawful, Back, past, also, next}
-use Rattle.sp_history.proofs.OnceHolds.{same_op-eq, occurs-without}
-use Rattle.sp_history.proofs.Requesting.{end_makes, out_makes, frame_makes, begun_makes, shut_makes, tick_makes, close_makes}
-use Rattle.sp_history.proofs.Backing.{legal_allowed}
+use Rattle.sp_history.specs.Once.{AreDistinct}
+use Rattle.sp_history.specs.Moments.{Moment, Lawful, past, also}
+use Rattle.sp_history.proofs.Requesting.{frame_makes, begun_makes, tick_makes, close_makes}
 use Rattle.sp_proto.specs.Kinds.{Kind, text_of}
-use Rattle.sp_proto.specs.Machines.{CanGive, CanSend, CanDrop, CanAgain, message_of}
 use Rattle.proto_reqrep.specs.declared.req.Request.{Request as Machine}
 use Rattle.proto_reqrep.specs.declared.req.Live.{Live}
 use Rattle.proto_reqrep.specs.declared.req.Kept.{Kept}
 use Rattle.proto_reqrep.specs.declared.req.Asking.{Asking}
-use Rattle.proto_reqrep.specs.Reqs.{Ties, Asked, begun_of, act_of, is_asked, is_left, is_sending, is_sending_on, is_receiving_on, orphaned, without_first, without_live, live_ctx, is_live_on, request_of, with_found, sent_at, with_reply, item_of, items_of, reply_in, message_in, HasLive, HaveLive, IsOf, raw_item}
-use Rattle.proto_reqrep.proofs.Orphaned.{flag_of}
-use Rattle.proto_reqrep.proofs.Living.{find_request, sound_at, equal_of, turned, same_number}
-use Rattle.proto_reqrep.proofs.Owning.{owned_at, owned_taken, only_receive, only_send, none_beside}
-use Rattle.proto_reqrep.proofs.Requested.{taken, taken_own, no_such, ended, ended_alone, gone_out, reply_came}
-use Rattle.sp_history.specs.Lists.{is_number}
-use Rattle.sp_history.specs.declared.parts.LastOut.{LastOut}
-use Rattle.sp_history.specs.Legal.{is_at, is_recv_on, is_state}
-use Rattle.sp_history.specs.declared.entry.Act.TheVariants as acts
-use Rattle.proto_reqrep.specs.Reqs.{Opened, Knows, SetTo, IsNew, dry_at, dried, wetted, seat_ctx, ask_state}
+use Rattle.proto_reqrep.specs.Reqs.{Ties, Asked, begun_of, act_of, is_receiving_on, orphaned, without_live, live_ctx, is_live_on, request_of, with_found, with_reply, item_of, HasLive, HaveLive, raw_item}
+use Rattle.proto_reqrep.proofs.Living.{equal_of, same_number}
+use Rattle.proto_reqrep.proofs.Requested.{ended, reply_came}
+use Rattle.sp_history.specs.Legal.{is_recv_on, is_state}
+use Rattle.proto_reqrep.specs.Reqs.{Opened, Knows, SetTo, out_last, seat_ctx, ask_state}
 use Rattle.proto_reqrep.specs.declared.req.Seat.{Seat}
-use Rattle.proto_reqrep.proofs.Living.{ctx_less, found_in, found_ctx, gone_on}
-use Rattle.proto_reqrep.proofs.Replied.{has_still, has_first}
-use Rattle.proto_reqrep.proofs.Standing.{is_req_role, is_raw, asks, asks_nothing, req_is, raw_same, raw_end, live_is, kept_is, kept_raw, flag, is_begun, the_op}
+use Rattle.proto_reqrep.proofs.Living.{ctx_less, gone_on}
+use Rattle.proto_reqrep.proofs.Standing.{is_req_role, is_raw, asks, asks_nothing, req_is, raw_same, live_is, kept_is, kept_raw}
 use Rattle.proto_reqrep.proofs.Requested.{begun_one, begun_new}
-use Rattle.sp_history.proofs.LiveRequests.{next_not_dry, opened_low}
-use Rattle.proto_reqrep.proofs.Reaching.{opened_as, opened_less}
 use Rattle.proto_reqrep.proofs.Owning.{all_marked}
 use Rattle.proto_reqrep.proofs.Working.{length_same}
 use Rattle.proto_reqrep.proofs.Outgoing.{ctxs_kept}
 use Rattle.sp_history.proofs.LiveRequests.{next_is_new}
-use Rattle.sp_history.proofs.Ids.{has_ids}
 use Rattle.sp_history.specs.Requests.{has_id, next_number, free_from}
 use Rattle.sp_history.specs.Legal.{does, state_for}
 use Rattle.sp_base.specs.Roles.{has_contexts as role_has_contexts}
 use Rattle.sp_history.specs.Setting.{has_contexts}
 use Rattle.std.specs.Prelude.{zero, suc, ◌%◌, ◌-◌}
-use Rattle.std.proofs.Math.Nat.{add-mod_left, mod-add-mod, mod-eq_of_lt, mod-lt}
-use Rattle.proto_reqrep.specs.Reqs.{Keeps, live_id, number_after, free_number, new_id, keeps_reply, is_given, raw_item, Asks, KeepsRaw}
-use Rattle.sp_proto.specs.Kinds.{entry_act, verb_of, kind_of}
+use Rattle.std.proofs.Math.Nat.{mod-add-mod}
+use Rattle.proto_reqrep.specs.Reqs.{Keeps, live_id, number_after, free_number, keeps_reply, is_given, raw_item, Asks}
+use Rattle.sp_proto.specs.Kinds.{verb_of, kind_of}
 use Rattle.sp_proto.specs.declared.Verb.{Verb}
 use Rattle.sp_proto.specs.declared.Verb.TheVariants as verbs
 
@@ -196,7 +177,7 @@ send_asked m n t op c x d r l h a =
 
 pub send_opened : (m n : Machine) (c : ℕ) (body : List ℕ) (cs : List ℕ) (dry : ℕ → Bool) → Asks c body m n → has cs c ≡ true → Opened m.live.items m.seats.items cs dry → Opened n.live.items n.seats.items cs dry
 send_opened m n c body cs dry a k h =
-    rw (a.3, a.11) (record { homes = λ d q. go d (has (map live_ctx (without_live c m.live.items)) d) refl (sym (two (without_live c m.live.items) d) ∙ q); contexts = h.contexts; dryness = h.dryness })
+    rw (a.3, a.12) (record { homes = λ d q. go d (has (map live_ctx (without_live c m.live.items)) d) refl (sym (two (without_live c m.live.items) d) ∙ q); contexts = h.contexts; dryness = h.dryness })
   where
     two : (xs : List Live) (d : ℕ) → has (map live_ctx (xs ++ a.0 ∷ [])) d ≡ (has (map live_ctx xs) d || (a.0.ctx == d))
     two [] d = last (a.0.ctx == d)
@@ -514,10 +495,10 @@ trimmed_is p old new (Err u) h e f = let long : nat_lt (length old.body) 4 ≡ f
 -- a send of a cooked req began
 pub all_begun : (m n : Machine) (t : Moment) (op : OpName) (c : ℕ) (x : MessageView) (d : Option ℕ) (ws : List Asking) → m.raw ≡ false → Lawful (also t (Begin op t.caller c (Send (text_of x)) d)) → Ties m t → Asks c x.body m n
     → ws ≡ n.waiting.items ++ record { op = op; ctx = c; message = Some x; is_orphan = false } ∷ []
-    → SetTo n.raw n.options n.tick (kind_of t.z) (now (past t)) × Knows n.ports.items (up (past t)) (ups (past t)) (λ q. has_full t.turn q) × Keeps n.raw n.kept.items (pool t.z (past t) 0)
+    → SetTo n.raw n.options n.tick n.last_pipe (kind_of t.z) (now (past t)) (out_last (past t)) × Knows n.ports.items (up (past t)) (ups (past t)) (λ q. has_full t.turn q) × Keeps n.raw n.kept.items (pool t.z (past t) 0)
     × Asked n.raw n.live.items n.last_id ws (pend (past t) ++ record { op = op; ctx = c; act = Send (text_of x) } ∷ []) (requests t.z (Begin op t.caller c (Send (text_of x)) d ∷ past t)) × Opened n.live.items n.seats.items (ctxs (past t)) (λ q. is_dry (past t) q)
 all_begun m n t op c x d ws r l h a e = (
-  rw (a.6, a.7, a.8) h.0,
+  rw (a.6, a.7, a.8, a.11) h.0,
   rw a.9 h.1,
   rw (a.6, a.10) h.2,
   asked_ops e (send_asked m n t op c x d r l h a),

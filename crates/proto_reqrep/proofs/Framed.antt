@@ -1,13 +1,11 @@
 -- A rep stands for its history after a frame.
-use Rattle.std.proofs.Common.{◌≡◌, refl, ap, sym, ◌∙◌, subst, List, [], ◌∷◌, ◌++◌, ℕ, Bool, true, false, cond, arith, Option, Some, None, length, map, drop, ◌<◌, ◌≤◌}
+use Rattle.std.proofs.Common.{◌≡◌, refl, ap, sym, ◌∙◌, List, [], ◌∷◌, ◌++◌, ℕ, Bool, true, false, cond, arith, Option, Some, length, map, ◌≤◌}
 use Rattle.std.specs.Prelude.{not, ◌&&◌, ◌==◌, Result, Ok, Err}
 use Rattle.std.proofs.lemmas.List.{map-append}
 use Rattle.sp_base.specs.declared.role.Role.{Role}
-use Rattle.sp_base.specs.declared.role.Role.TheVariants as role
-use Rattle.sp_msg.specs.Views.{MessageView, wire_text}
-use Rattle.sp_msg.specs.Messages.{HeaderAppended, HeaderTrimmed}
+use Rattle.sp_msg.specs.Views.{MessageView}
+use Rattle.sp_msg.specs.Messages.{HeaderAppended}
 use Rattle.sp_msg.specs.declared.message.HeaderFull.{HeaderFull}
-use Rattle.sp_msg.specs.declared.message.Short.{Short as TooShort}
 use Rattle.sp_history.specs.declared.setting.Setting.{Setting}
 use Rattle.sp_history.specs.declared.setting.Options.{Options}
 use Rattle.sp_history.specs.declared.entry.Entry.{Entry}

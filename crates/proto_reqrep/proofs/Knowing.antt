@@ -1,8 +1,8 @@
 -- Which pipes a req knows.
-use Rattle.std.proofs.Common.{◌≡◌, refl, ap, sym, ◌∙◌, List, ℕ, Bool, true, false, arith, map, ◌<◌, ◌≤◌}
+use Rattle.std.proofs.Common.{◌≡◌, refl, ap, ◌∙◌, List, ℕ, Bool, true, false, arith, map, ◌<◌, ◌≤◌}
 use Rattle.std.specs.Prelude.{filter, not, ◌||◌, ◌==◌}
 use Rattle.std.proofs.lemmas.Bool.Decides.{nat_tests}
-use Rattle.sp_history.specs.declared.entry.Entry.TheVariants.{Full, Down}
+use Rattle.sp_history.specs.declared.entry.Entry.TheVariants.{Full}
 use Rattle.sp_history.specs.declared.entry.Why.{Why}
 use Rattle.sp_history.specs.Lists.{has, without}
 use Rattle.sp_history.specs.Past.{up, ups}

@@ -1,16 +1,14 @@
 -- What becomes of the live requests of a req.
-use Rattle.std.proofs.Common.{◌≡◌, ◌≢◌, refl, ap, sym, ◌∙◌, subst, List, [], ◌∷◌, ◌++◌, ℕ, ◌^◌, ◌<◌, Bool, true, false, cond, arith, Option, Some, None, map, drop}
-use Rattle.std.specs.Prelude.{find, filter, not, is_some, ◌&&◌, ◌||◌, ◌==◌}
-use Rattle.std.specs.List.{list_any}
+use Rattle.std.proofs.Common.{◌≡◌, refl, ap, sym, ◌∙◌, subst, List, [], ◌∷◌, ◌++◌, ℕ, ◌^◌, ◌<◌, Bool, true, false, cond, arith, Some, None, map}
+use Rattle.std.specs.Prelude.{find, filter, not, ◌||◌, ◌==◌}
 use Rattle.std.specs.Option.{option_map}
 use Rattle.std.proofs.lemmas.Bool.Decides.{nat_tests}
-use Rattle.sp_history.specs.declared.entry.Entry.{Entry}
 use Rattle.sp_history.specs.declared.parts.Request.{Request}
 use Rattle.sp_history.specs.Lists.{has}
 use Rattle.sp_history.specs.Once.{AreDistinct}
 use Rattle.sp_history.specs.Requests.{is_on}
 use Rattle.proto_reqrep.specs.declared.req.Live.{Live}
-use Rattle.proto_reqrep.specs.Reqs.{request_of, live_ctx, live_id, is_live_on, without_live, keeps_reply, AreSound, items_of}
+use Rattle.proto_reqrep.specs.Reqs.{request_of, live_ctx, is_live_on, without_live, AreSound}
 
 pub equal_of : (m n : ℕ) → (m == n) ≡ true → m ≡ n
 equal_of m n h = grind (arith, nat_tests)

@@ -1,5 +1,5 @@
 -- What a req offers.
-use Rattle.std.proofs.Common.{◌≡◌, ◌≢◌, refl, ap, sym, ◌∙◌, subst, List, [], ◌∷◌, ◌++◌, ℕ, ◌+◌, ◌<◌, ◌≤◌, Bool, true, false, cond, arith, Option, Some, None, map, length, inl, inr}
+use Rattle.std.proofs.Common.{◌≡◌, refl, ap, sym, ◌∙◌, subst, List, [], ◌∷◌, ℕ, ◌+◌, ◌≤◌, Bool, true, false, cond, arith, Option, Some, None, map, length, inl, inr}
 use Rattle.std.specs.Prelude.{find, filter, not, is_some, nat_lt, IsTrue, ◌⊎◌, ◌&&◌, ◌||◌, ◌==◌}
 use Rattle.std.specs.List.{list_any, list_all, position, position_or_len}
 use Rattle.std.specs.Option.{option_map}
@@ -9,43 +9,41 @@ use Rattle.sp_base.specs.declared.role.Role.{Role}
 use Rattle.sp_base.specs.declared.role.Role.TheVariants as role
 use Rattle.sp_msg.specs.Views.{MessageView, wire_text}
 use Rattle.sp_history.specs.declared.entry.Entry.{Entry}
-use Rattle.sp_history.specs.declared.entry.Act.{Act}
-use Rattle.sp_history.specs.declared.entry.Act.TheVariants.{Recv, Send}
+use Rattle.sp_history.specs.declared.entry.Act.TheVariants.{Send}
 use Rattle.sp_history.specs.declared.entry.Cause.TheVariants as causes
 use Rattle.sp_history.specs.declared.entry.Message.{Message}
 use Rattle.sp_history.specs.declared.parts.Begun.{Begun}
 use Rattle.sp_history.specs.declared.parts.Item.{Item}
-use Rattle.sp_history.specs.declared.parts.Origin.{Origin}
 use Rattle.sp_history.specs.declared.parts.Request.{Request}
 use Rattle.sp_history.specs.declared.parts.Requests.{Requests}
 use Rattle.sp_history.specs.declared.setting.Setting.{Setting}
 use Rattle.sp_history.specs.Lists.{has, head_of, is_nil, same_op}
-use Rattle.sp_history.specs.Setting.{is_reply, floods, has_requests, resends}
-use Rattle.sp_history.specs.Past.{is_of, pend, pending, up, ctxs}
+use Rattle.sp_history.specs.Setting.{is_reply, has_requests, resends}
+use Rattle.sp_history.specs.Past.{is_of, pending, up, ctxs}
 use Rattle.sp_history.specs.Kept.{kept, route, replies_of}
-use Rattle.sp_history.specs.Requests.{requests, is_orphan, wire_of, live_on, request_of as asked_of, how_ended, no_requests}
-use Rattle.sp_history.specs.Sends.{may_go, targets, targets_of, bytes_of, bytes_of_act, bytes_for, begun_before, is_first_for, is_due_again}
+use Rattle.sp_history.specs.Requests.{requests, is_orphan, wire_of, live_on, request_of as asked_of, no_requests}
+use Rattle.sp_history.specs.Sends.{may_go, targets, targets_of, bytes_of, bytes_of_act, bytes_for, begun_before, is_due_again}
 use Rattle.sp_history.specs.Settled.{has_full, is_dry, receive_settled, send_settled, request_settled}
-use Rattle.sp_history.specs.Legal.{Calm, is_recv, is_recv_on}
+use Rattle.sp_history.specs.Legal.{is_recv, is_recv_on}
 use Rattle.sp_history.specs.Once.{AreApart, AreDistinct, occurs}
-use Rattle.sp_history.specs.Moments.{Moment, Lawful, past}
-use Rattle.sp_history.proofs.OnceHolds.{same_op-refl, same_op-eq, occurs-find}
+use Rattle.sp_history.specs.Moments.{Moment, past}
+use Rattle.sp_history.proofs.OnceHolds.{same_op-refl, occurs-find}
 use Rattle.sp_proto.specs.Kinds.{text_of}
 use Rattle.sp_proto.specs.Machines.{CanGive, CanSend, CanFinish, CanAgain, IsIdle, Offers}
 use Rattle.sp_proto.specs.declared.Offer.{Offer}
 use Rattle.sp_proto.specs.declared.Offer.TheVariants as offers
-use Rattle.proto_reqrep.specs.Ports.{port_of, is_free}
+use Rattle.proto_reqrep.specs.Ports.{port_of, is_free, is_free_behind, next_port, or_else, next_number as next_pipe}
 use Rattle.proto_reqrep.specs.declared.ports.Port.{Port}
 use Rattle.proto_reqrep.specs.declared.req.Request.{Request as Machine}
 use Rattle.proto_reqrep.specs.declared.req.Live.{Live}
 use Rattle.proto_reqrep.specs.declared.req.Asking.{Asking}
 use Rattle.proto_reqrep.specs.declared.req.Kept.{Kept}
-use Rattle.proto_reqrep.specs.Reqs.{Ties, begun_of, act_of, is_sending, is_live_on, live_ctx, request_of, is_due, is_late_in, out_offer, is_given, is_any_given, keeps_reply, dry_at, HasLive, IsOf}
+use Rattle.proto_reqrep.specs.Reqs.{Ties, IsNextPipe, out_last, begun_of, act_of, is_sending, is_live_on, live_ctx, request_of, is_due, out_offer, is_given, is_any_given, keeps_reply, dry_at, HasLive}
 use Rattle.proto_reqrep.proofs.Orphaned.{orphan_found, all_finished}
-use Rattle.proto_reqrep.proofs.Living.{equal_of, turned, same_number}
+use Rattle.proto_reqrep.proofs.Living.{equal_of, same_number}
 use Rattle.proto_reqrep.proofs.Owning.{owned_at}
-use Rattle.proto_reqrep.proofs.Standing.{is_req_role, is_raw, asks, flag, live_is, kept_is}
-use Rattle.proto_reqrep.proofs.Coming.{given_is, not_both}
+use Rattle.proto_reqrep.proofs.Standing.{is_req_role, is_raw, flag, live_is, kept_is}
+use Rattle.proto_reqrep.proofs.Coming.{given_is}
 use Rattle.proto_reqrep.proofs.Winning.{due_is}
 
 some_inj : {A : Type 0} (x y : A) → Some x ≡ Some y → x ≡ y
@@ -315,8 +313,13 @@ idle m t h o g s d =
       no_flood = λ q. let k : false ≡ true = rw (is_req_role m t h) at q in absurd cc;
     }
 
-pub idle_full : (m : Machine) (t : Moment) → Ties m t → find (λ (v : Asking). v.is_orphan) m.waiting.items ≡ None → find (gets m) m.waiting.items ≡ None → find is_free m.ports.items ≡ None → IsIdle t
-idle_full m t h o g f = let full = all_full (λ q. has_full t.turn q) (up (past t)) (ap (find is_free) (sym h.1.ports) ∙ f) in idle m t h o g (inl full) (inl full)
+-- there is no other
+no_second : {A : Type 0} (x y : Option A) → or_else x y ≡ None → y ≡ None
+no_second None y e = e
+no_second (Some x) y e = absurd cc
+
+pub idle_full : (m : Machine) (t : Moment) → Ties m t → find (λ (v : Asking). v.is_orphan) m.waiting.items ≡ None → find (gets m) m.waiting.items ≡ None → next_port m.last_pipe m.ports.items ≡ None → IsIdle t
+idle_full m t h o g f = let full = all_full (λ q. has_full t.turn q) (up (past t)) (ap (find is_free) (sym h.1.ports) ∙ no_second _ _ f) in idle m t h o g (inl full) (inl full)
 
 -- ---- Send and Again
 
@@ -333,6 +336,75 @@ free_is full (u ∷ us) x f = go (full u) refl f (free_is full us x)
     go false e f again =
         let is : u ≡ x.pipe = ap (λ (y : Port). y.pipe) (some_inj (port_of full u) x f) in
         (ap (λ b. b || has us x.pipe) (subst (λ n. (u == n) ≡ true) is (same_number u)), subst (λ n. full n ≡ false) is e)
+
+behind_is : (full : ℕ → Bool) (last : ℕ) (us : List ℕ) (x : Port) → find (is_free_behind last) (map (port_of full) us) ≡ Some x → (has us x.pipe ≡ true) × (full x.pipe ≡ false)
+behind_is full last [] x f = absurd cc
+behind_is full last (u ∷ us) x f = go (full u) refl (nat_lt last u) f (behind_is full last us x)
+  where
+    or_right : (a b : Bool) → b ≡ true → (a || b) ≡ true
+    or_right true b h = refl
+    or_right false b h = h
+
+    go : (b : Bool) → full u ≡ b → (a : Bool) → cond (not b && a) (Some (port_of full u)) (find (is_free_behind last) (map (port_of full) us)) ≡ Some x
+        → (find (is_free_behind last) (map (port_of full) us) ≡ Some x → (has us x.pipe ≡ true) × (full x.pipe ≡ false)) → (((u == x.pipe) || has us x.pipe) ≡ true) × (full x.pipe ≡ false)
+    go true e a f again = let k = again f in (or_right (u == x.pipe) _ k.0, k.1)
+    go false e false f again = let k = again f in (or_right (u == x.pipe) _ k.0, k.1)
+    go false e true f again =
+        let is : u ≡ x.pipe = ap (λ (y : Port). y.pipe) (some_inj (port_of full u) x f) in
+        (ap (λ b. b || has us x.pipe) (subst (λ n. (u == n) ≡ true) is (same_number u)), subst (λ n. full n ≡ false) is e)
+
+next_is : (full : ℕ → Bool) (last : ℕ) (us : List ℕ) (x : Port) → next_port last (map (port_of full) us) ≡ Some x → (has us x.pipe ≡ true) × (full x.pipe ≡ false)
+next_is full last us x f = go (find (is_free_behind last) (map (port_of full) us)) refl f
+  where
+    go : (o : Option Port) → find (is_free_behind last) (map (port_of full) us) ≡ o → or_else o (find is_free (map (port_of full) us)) ≡ Some x → (has us x.pipe ≡ true) × (full x.pipe ≡ false)
+    go None e k = free_is full us x k
+    go (Some y) e k = behind_is full last us x (e ∙ k)
+
+-- the first of the pipes, by their numbers
+find_mapped : (P : Port → Bool) (full : ℕ → Bool) (us : List ℕ) → find P (map (port_of full) us) ≡ option_map (port_of full) (find (λ q. P (port_of full q)) us)
+find_mapped P full [] = refl
+find_mapped P full (u ∷ us) = go (P (port_of full u)) (find_mapped P full us)
+  where
+    go : (b : Bool) → find P (map (port_of full) us) ≡ option_map (port_of full) (find (λ q. P (port_of full q)) us)
+        → cond b (Some (port_of full u)) (find P (map (port_of full) us)) ≡ option_map (port_of full) (cond b (Some u) (find (λ q. P (port_of full q)) us))
+    go true e = refl
+    go false e = e
+
+or_mapped : (f : ℕ → Port) (x y : Option ℕ) → or_else (option_map f x) (option_map f y) ≡ option_map f (or_else x y)
+or_mapped f None y = refl
+or_mapped f (Some x) y = refl
+
+next_mapped : (full : ℕ → Bool) (last : ℕ) (us : List ℕ) → next_port last (map (port_of full) us) ≡ option_map (port_of full) (next_pipe (λ q. not (full q)) last us)
+next_mapped full last us =
+    ap (λ (o : Option Port). or_else o (find is_free (map (port_of full) us))) (find_mapped (is_free_behind last) full us)
+    ∙ ap (or_else (option_map (port_of full) (find (λ q. is_free_behind last (port_of full q)) us))) (find_mapped is_free full us) ∙ or_mapped (port_of full) _ _
+
+-- it is the next in the round
+pub is_next : (m : Machine) (t : Moment) (q : Port) → Ties m t → next_port m.last_pipe m.ports.items ≡ Some q → IsNextPipe t q.pipe
+is_next m t q h f =
+    let full : ℕ → Bool = λ p. has_full t.turn p in
+    number (next_pipe (λ p. not (full p)) (out_last (past t)) (up (past t)))
+    (sym (next_mapped full (out_last (past t)) (up (past t))) ∙ ap (λ n. next_port n (map (port_of full) (up (past t)))) (sym h.0.outs) ∙ ap (next_port m.last_pipe) (sym h.1.ports) ∙ f)
+  where
+    number : (o : Option ℕ) → option_map (port_of (λ p. has_full t.turn p)) o ≡ Some q → o ≡ Some q.pipe
+    number None e = absurd cc
+    number (Some n) e = ap (λ (x : Port). Some x.pipe) (some_inj (port_of (λ p. has_full t.turn p) n) q e)
+
+pub sent_on : (n p : ℕ) (op : OpName) (a : Option Asking) (b : Option Live) → out_offer n a b ≡ offers.Send op p → n ≡ p
+sent_on n p op (Some w) b e = pipe_of w.op op n p e
+  where
+    pipe_of : (x y : OpName) (i j : ℕ) → offers.Send x i ≡ offers.Send y j → i ≡ j
+    pipe_of x y i j e = cc
+sent_on n p op None None e = absurd cc
+sent_on n p op None (Some x) e = absurd cc
+
+pub again_on : (n p c : ℕ) (a : Option Asking) (b : Option Live) → out_offer n a b ≡ offers.Again c p → n ≡ p
+again_on n p c (Some w) b e = absurd cc
+again_on n p c None None e = absurd cc
+again_on n p c None (Some x) e = pipe_of x.ctx c n p e
+  where
+    pipe_of : (x y : ℕ) (i j : ℕ) → offers.Again x i ≡ offers.Again y j → i ≡ j
+    pipe_of x y i j e = cc
 
 no_earlier : (z : Setting) (before : List Entry) (p : ℕ) (ws : List Asking) (w : Asking) → find is_sending ws ≡ Some w → list_any (λ other. has (targets z before other) p) (begun_before w.op (map begun_of ws)) ≡ false
 no_earlier z before p [] w f = absurd cc
@@ -475,12 +547,12 @@ can_again m t x p h f u n =
         nothing [] e k = absurd cc
         nothing (v ∷ vs) e k = absurd cc
 
-pub out_right : (m : Machine) (t : Moment) (q : Port) (y : Offer) → Ties m t → find (λ (v : Asking). v.is_orphan) m.waiting.items ≡ None → find (gets m) m.waiting.items ≡ None → find is_free m.ports.items ≡ Some q
+pub out_right : (m : Machine) (t : Moment) (q : Port) (y : Offer) → Ties m t → find (λ (v : Asking). v.is_orphan) m.waiting.items ≡ None → find (gets m) m.waiting.items ≡ None → next_port m.last_pipe m.ports.items ≡ Some q
     → y ≡ out_offer q.pipe (find is_sending m.waiting.items) (find (is_due m.options.resend m.tick m.ports.items m.seats.items) m.live.items) → Offers y t
 out_right m t q y h o g f e = subst (λ (z : Offer). Offers z t) (sym e) (go (find is_sending m.waiting.items) refl (find (is_due m.options.resend m.tick m.ports.items m.seats.items) m.live.items) refl)
   where
     free : (has (up (past t)) q.pipe ≡ true) × (has_full t.turn q.pipe ≡ false)
-    free = free_is (λ p. has_full t.turn p) (up (past t)) q (ap (find is_free) (sym h.1.ports) ∙ f)
+    free = next_is (λ p. has_full t.turn p) m.last_pipe (up (past t)) q (ap (next_port m.last_pipe) (sym h.1.ports) ∙ f)
 
     go : (a : Option Asking) → find is_sending m.waiting.items ≡ a → (b : Option Live) → find (is_due m.options.resend m.tick m.ports.items m.seats.items) m.live.items ≡ b → Offers (out_offer q.pipe a b) t
     go (Some w) k b l = let z = can_send m t w q.pipe h (none_any (λ (v : Asking). v.is_orphan) m.waiting.items o) k free.0 free.1 in (begun_of w, z.0, z.1)

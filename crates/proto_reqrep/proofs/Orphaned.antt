@@ -1,15 +1,14 @@
 -- Which operations of a req have no request any more.
-use Rattle.std.proofs.Common.{◌≡◌, refl, ap, sym, ◌∙◌, subst, List, [], ◌∷◌, ◌++◌, ℕ, ◌+◌, Bool, true, false, cond, arith, Option, Some, None, map, ◌≤◌}
-use Rattle.std.specs.Prelude.{find, filter, not, is_some, ◌&&◌, ◌||◌, ◌==◌}
+use Rattle.std.proofs.Common.{◌≡◌, refl, ap, sym, ◌∙◌, subst, List, [], ◌∷◌, ◌++◌, ℕ, ◌+◌, Bool, true, false, cond, arith, Some, map, ◌≤◌}
+use Rattle.std.specs.Prelude.{find, filter, not, ◌&&◌, ◌||◌, ◌==◌}
 use Rattle.std.specs.List.{list_any, list_all}
 use Rattle.std.specs.Option.{option_map}
-use Rattle.std.proofs.lemmas.Bool.Decides.{nat_tests}
 use Rattle.sp_base.specs.declared.OpName.{OpName}
 use Rattle.sp_history.specs.declared.parts.Begun.{Begun}
 use Rattle.sp_history.specs.declared.parts.How.{How}
 use Rattle.sp_history.specs.declared.parts.Orphan.{Orphan}
 use Rattle.sp_history.specs.declared.parts.Requests.{Requests}
-use Rattle.sp_history.specs.Lists.{has, same_op}
+use Rattle.sp_history.specs.Lists.{same_op}
 use Rattle.sp_history.specs.Past.{is_of, without_begun}
 use Rattle.sp_history.specs.Once.{AreApart, occurs}
 use Rattle.sp_history.specs.Requests.{is_orphan, orphan_of, is_bereft, end_on, without_orphan}

@@ -1,10 +1,9 @@
 -- What a req's requests become when one goes out, or a reply comes.
-use Rattle.std.proofs.Common.{◌≡◌, refl, ap, sym, ◌∙◌, subst, List, [], ◌∷◌, ◌++◌, ℕ, ◌^◌, ◌<◌, Bool, true, false, cond, arith, Option, Some, None, map, drop, take, length}
+use Rattle.std.proofs.Common.{◌≡◌, refl, ap, sym, ◌∙◌, subst, List, [], ◌∷◌, ◌++◌, ℕ, ◌^◌, ◌<◌, Bool, true, false, cond, Option, Some, None, map, drop, take, length}
 use Rattle.std.specs.Prelude.{find, not, is_some, nat_lt, ◌&&◌, ◌||◌, ◌==◌}
 use Rattle.std.specs.Option.{option_map}
 use Rattle.std.specs.Int.{w32, from_be_bytes}
 use Rattle.std.proofs.lemmas.Nat.{from_be_bytes-to_be_bytes_4}
-use Rattle.std.proofs.lemmas.Bool.Decides.{nat_tests}
 use lib.Pointwise.{bytes_decides}
 use Rattle.sp_base.specs.declared.role.Role.TheVariants as role
 use Rattle.sp_history.specs.declared.entry.Entry.{Entry}
@@ -19,7 +18,7 @@ use Rattle.sp_history.specs.Once.{AreDistinct}
 use Rattle.sp_history.specs.Requests.{wire_of, with_out, with_frame, is_for, has_room}
 use Rattle.proto_reqrep.specs.declared.req.Live.{Live}
 use Rattle.proto_reqrep.specs.declared.req.Kept.{Kept}
-use Rattle.proto_reqrep.specs.Reqs.{request_of, live_ctx, live_id, is_live_on, with_out_on, with_found, sent_at, out_on, AreSound, items_of, item_of, waits_for, with_kept, with_reply}
+use Rattle.proto_reqrep.specs.Reqs.{request_of, live_ctx, live_id, is_live_on, with_out_on, with_found, sent_at, AreSound, items_of, item_of, waits_for, with_kept, with_reply}
 use Rattle.proto_reqrep.proofs.Living.{equal_of, turned, same_number}
 
 word_back : (n : ℕ) → n < 2 ^ 32 → from_be_bytes w32 (word n) ≡ n

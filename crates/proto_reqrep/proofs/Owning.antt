@@ -7,11 +7,10 @@ use Rattle.std.proofs.lemmas.Bool.Decides.{nat_tests}
 use Rattle.sp_base.specs.declared.OpName.{OpName}
 use Rattle.sp_msg.specs.Views.{MessageView}
 use Rattle.sp_history.specs.declared.parts.LastOut.{LastOut}
-use Rattle.sp_history.specs.Lists.{has, same_op}
 use Rattle.proto_reqrep.specs.declared.req.Live.{Live}
 use Rattle.proto_reqrep.specs.declared.req.Kept.{Kept}
 use Rattle.proto_reqrep.specs.declared.req.Asking.{Asking}
-use Rattle.proto_reqrep.specs.Reqs.{live_ctx, is_live_on, without_live, is_asked, is_sending, without_first, orphaned, AreSound, IsOf, HasLive, HaveLive, is_sending_on, is_receiving_on, AreSingle, with_out_on, with_reply, with_kept, waits_for}
+use Rattle.proto_reqrep.specs.Reqs.{live_ctx, is_live_on, without_live, is_asked, is_sending, without_first, orphaned, IsOf, HasLive, HaveLive, is_sending_on, is_receiving_on, AreSingle, with_out_on, with_reply, with_kept, waits_for}
 use Rattle.proto_reqrep.proofs.Living.{equal_of, turned, same_number, find_less, find_first}
 use Rattle.proto_reqrep.proofs.Outgoing.{find_out}
 

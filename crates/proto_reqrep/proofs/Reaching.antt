@@ -1,7 +1,7 @@
 -- What a req stands for when requests begin and go out, frames come, and contexts open and shut.
-use Rattle.std.proofs.Common.{◌≡◌, ◌≢◌, refl, ap, sym, ◌∙◌, subst, List, [], ◌∷◌, ◌++◌, ℕ, ◌+◌, ◌^◌, ◌<◌, ◌≤◌, max, Bool, true, false, cond, arith, Option, Some, None, map, length, inl, inr}
-use Rattle.std.specs.Prelude.{find, filter, drop, take, not, is_some, nat_lt, IsTrue, ◌&&◌, ◌||◌, ◌==◌}
-use Rattle.std.specs.List.{list_any, list_all}
+use Rattle.std.proofs.Common.{◌≡◌, ◌≢◌, refl, ap, sym, ◌∙◌, subst, List, [], ◌∷◌, ◌++◌, ℕ, ◌+◌, ◌<◌, Bool, true, false, cond, arith, Option, Some, None, map}
+use Rattle.std.specs.Prelude.{find, filter, not, is_some, ◌&&◌, ◌||◌, ◌==◌}
+use Rattle.std.specs.List.{list_any}
 use Rattle.std.specs.Option.{option_map}
 use Rattle.std.proofs.lemmas.Bool.Decides.{nat_tests}
 use Rattle.std.proofs.lemmas.List.{map-append}
@@ -11,59 +11,42 @@ use Rattle.sp_base.specs.declared.role.Role.TheVariants as role
 use Rattle.sp_msg.specs.Views.{MessageView, wire_text}
 use Rattle.sp_history.specs.declared.setting.Setting.{Setting}
 use Rattle.sp_history.specs.declared.entry.Entry.{Entry}
-use Rattle.sp_history.specs.declared.entry.Entry.TheVariants.{Begin, End, Out, Down, Full, Frame, Unkept, Ctx, Tick, Close, Dry}
+use Rattle.sp_history.specs.declared.entry.Entry.TheVariants.{End, Out, Ctx}
 use Rattle.sp_history.specs.declared.entry.Gate.TheVariants.{Open, Shut}
-use Rattle.sp_history.specs.declared.entry.Act.{Act}
-use Rattle.sp_history.specs.declared.entry.Act.TheVariants.{Recv, Send}
-use Rattle.sp_history.specs.declared.entry.Cause.{Cause}
-use Rattle.sp_history.specs.declared.entry.Ending.{Ending}
-use Rattle.sp_history.specs.declared.entry.Ending.TheVariants.{Won, Gone}
-use Rattle.sp_history.specs.declared.entry.Outcome.TheVariants.{Received, Sent}
-use Rattle.sp_history.specs.declared.entry.Message.{Message}
-use Rattle.sp_history.specs.declared.entry.Totals.{Totals}
+use Rattle.sp_history.specs.declared.entry.Act.TheVariants.{Send}
+use Rattle.sp_history.specs.declared.entry.Ending.TheVariants.{Won}
+use Rattle.sp_history.specs.declared.entry.Outcome.TheVariants.{Sent}
 use Rattle.sp_history.specs.declared.parts.Begun.{Begun}
-use Rattle.sp_history.specs.declared.parts.Item.{Item}
 use Rattle.sp_history.specs.declared.parts.Request.{Request}
 use Rattle.sp_history.specs.declared.parts.Requests.{Requests}
-use Rattle.sp_history.specs.declared.parts.Origin.{Origin}
 use Rattle.sp_history.specs.declared.parts.How.TheVariants as how
-use Rattle.sp_history.specs.Lists.{has, without, is_nil, head_of, same_op, first_word, word}
-use Rattle.sp_history.specs.Setting.{is_req, is_reply, floods, has_topics, has_requests, resends}
-use Rattle.sp_history.specs.Frames.{malformed, plain_item}
-use Rattle.sp_history.specs.Past.{is_of, without_begun, pend, pending, up, ups, ctxs, now, opened}
-use Rattle.sp_history.specs.Kept.{pool, route, kept, replies_of, pool_of, is_on_pool, takes, add_for, add_item, is_wanted_by, wanted, has_none_of, is_from}
-use Rattle.sp_history.specs.Requests.{requests, no_requests, asked, is_orphan, end_on, without_orphan, after_end, of_live, after_moment, change_live, with_taken, with_out, with_frame, wire_of, live_on, request_of as asked_of, is_on, begin_on, next_id}
-use Rattle.sp_history.specs.Sends.{is_lost, is_due_again}
-use Rattle.sp_history.specs.Sends.{bytes_of, bytes_of_act, bytes_for, goes_nowhere}
-use Rattle.sp_history.specs.Settled.{has_full, is_dry}
-use Rattle.sp_history.specs.Legal.{is_recv, AreAllowed}
-use Rattle.sp_history.specs.Once.{occurs, AreApart}
-use Rattle.sp_history.specs.Moments.{Moment, Lawful, Back, past, also, next}
-use Rattle.sp_history.proofs.OnceHolds.{same_op-eq, occurs-without}
-use Rattle.sp_history.proofs.Requesting.{end_makes, out_makes, frame_makes, begun_makes, shut_makes, tick_makes}
+use Rattle.sp_history.specs.Lists.{has, without, is_nil, word}
+use Rattle.sp_history.specs.Past.{without_begun, pend, ctxs, opened}
+use Rattle.sp_history.specs.Kept.{route}
+use Rattle.sp_history.specs.Requests.{requests, no_requests, asked, is_orphan, end_on, without_orphan, after_end, of_live, change_live, with_out, wire_of, live_on, request_of as asked_of}
+use Rattle.sp_history.specs.Sends.{is_lost}
+use Rattle.sp_history.specs.Sends.{bytes_of_act, bytes_for}
+use Rattle.sp_history.specs.Settled.{is_dry}
+use Rattle.sp_history.specs.Legal.{AreAllowed}
+use Rattle.sp_history.specs.Moments.{Moment, Lawful, Back, past, also}
+use Rattle.sp_history.proofs.Requesting.{end_makes, out_makes, shut_makes}
 use Rattle.sp_history.proofs.Backing.{legal_allowed}
-use Rattle.sp_proto.specs.Kinds.{Kind, text_of}
-use Rattle.sp_proto.specs.Machines.{CanGive, CanSend, CanDrop, CanAgain, message_of}
+use Rattle.sp_proto.specs.Kinds.{text_of}
+use Rattle.sp_proto.specs.Machines.{CanSend, CanAgain}
 use Rattle.proto_reqrep.specs.declared.req.Request.{Request as Machine}
 use Rattle.proto_reqrep.specs.declared.req.Live.{Live}
-use Rattle.proto_reqrep.specs.declared.req.Kept.{Kept}
 use Rattle.proto_reqrep.specs.declared.req.Asking.{Asking}
-use Rattle.proto_reqrep.specs.Reqs.{Ties, Asked, begun_of, act_of, is_asked, is_left, is_sending, is_sending_on, is_receiving_on, orphaned, without_first, without_live, live_ctx, is_live_on, request_of, with_found, sent_at, with_reply, item_of, items_of, reply_in, message_in, HasLive, HaveLive, IsOf, raw_item}
-use Rattle.proto_reqrep.proofs.Orphaned.{flag_of}
-use Rattle.proto_reqrep.proofs.Living.{find_request, sound_at, equal_of, turned, same_number}
-use Rattle.proto_reqrep.proofs.Owning.{owned_at, owned_taken, only_receive, only_send, none_beside}
-use Rattle.proto_reqrep.proofs.Requested.{taken, taken_own, no_such, ended, ended_alone, gone_out, reply_came}
-use Rattle.sp_history.specs.Lists.{is_number}
+use Rattle.proto_reqrep.specs.Reqs.{Ties, Asked, begun_of, act_of, is_asked, is_sending, is_sending_on, without_first, without_live, live_ctx, is_live_on, request_of, with_found, sent_at, HaveLive, IsOf}
+use Rattle.proto_reqrep.proofs.Living.{equal_of, turned}
+use Rattle.proto_reqrep.proofs.Owning.{owned_at, only_send}
+use Rattle.proto_reqrep.proofs.Requested.{taken, ended_alone, gone_out}
 use Rattle.sp_history.specs.declared.parts.LastOut.{LastOut}
-use Rattle.sp_history.specs.Legal.{is_at, is_recv_on, is_state}
-use Rattle.sp_history.specs.declared.entry.Act.TheVariants as acts
-use Rattle.proto_reqrep.specs.Reqs.{Opened, Knows, SetTo, IsNew, dry_at, dried, wetted, seat_ctx, ask_state}
+use Rattle.proto_reqrep.specs.Reqs.{Opened, dry_at, dried, wetted, seat_ctx}
 use Rattle.proto_reqrep.specs.declared.req.Seat.{Seat}
-use Rattle.proto_reqrep.proofs.Living.{ctx_less, found_in, found_ctx, gone_on}
+use Rattle.proto_reqrep.proofs.Living.{ctx_less, gone_on}
 use Rattle.proto_reqrep.proofs.Replied.{has_still, has_first}
-use Rattle.proto_reqrep.proofs.Standing.{is_req_role, is_raw, asks, asks_nothing, req_is, raw_same, raw_end, live_is, flag, is_begun, the_op}
-use Rattle.proto_reqrep.proofs.Requested.{begun_one, begun_new}
-use Rattle.sp_history.proofs.LiveRequests.{next_not_dry, opened_low}
+use Rattle.proto_reqrep.proofs.Standing.{is_req_role, is_raw, asks, asks_nothing, raw_same, raw_end, live_is, flag, is_begun}
+use Rattle.sp_history.proofs.LiveRequests.{next_not_dry}
 
 some_inj : {A : Type 0} (x y : A) → Some x ≡ Some y → x ≡ y
 some_inj x y q = cc

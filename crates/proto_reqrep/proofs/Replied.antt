@@ -1,42 +1,30 @@
 -- A rep stands for its history after each call.
-use Rattle.std.proofs.Common.{◌≡◌, ◌≢◌, refl, ap, sym, ◌∙◌, subst, List, [], ◌∷◌, ◌++◌, ℕ, ◌+◌, Bool, true, false, cond, arith, Option, Some, None, length, map, ◌<◌, ◌≤◌}
-use Rattle.std.specs.Prelude.{Vec, find, filter, drop, not, option_to_list, is_some, ◌&&◌, ◌||◌, ◌==◌}
-use Rattle.std.specs.List.{list_all, list_any}
+use Rattle.std.proofs.Common.{◌≡◌, ◌≢◌, refl, ap, sym, ◌∙◌, subst, List, [], ◌∷◌, ◌++◌, ℕ, Bool, true, false, cond, arith, Option, Some, None, length, map, ◌<◌, ◌≤◌}
+use Rattle.std.specs.Prelude.{filter, not, ◌&&◌, ◌||◌, ◌==◌}
+use Rattle.std.specs.List.{list_any}
 use Rattle.std.specs.Option.{option_map}
 use Rattle.std.proofs.lemmas.Bool.Decides.{nat_tests}
 use Rattle.std.proofs.lemmas.List.{map-append}
 use Rattle.sp_base.specs.declared.OpName.{OpName}
-use Rattle.sp_base.specs.declared.role.Role.{Role}
-use Rattle.sp_base.specs.declared.role.Role.TheVariants as role
-use Rattle.sp_msg.specs.Views.{MessageView, wire_text}
 use Rattle.sp_history.specs.declared.setting.Setting.{Setting}
 use Rattle.sp_history.specs.declared.entry.Entry.{Entry}
-use Rattle.sp_history.specs.declared.entry.Entry.TheVariants.{Begin, End, Out, Down, Full, Frame, Unkept, Ctx}
+use Rattle.sp_history.specs.declared.entry.Entry.TheVariants.{Begin, Down, Full, Ctx}
 use Rattle.sp_history.specs.declared.entry.Gate.TheVariants.{Open, Shut}
 use Rattle.sp_history.specs.declared.entry.Act.{Act}
-use Rattle.sp_history.specs.declared.entry.Act.TheVariants.{Recv, Send}
-use Rattle.sp_history.specs.declared.entry.Cause.{Cause}
 use Rattle.sp_history.specs.declared.entry.Why.{Why}
-use Rattle.sp_history.specs.declared.entry.Ending.{Ending}
-use Rattle.sp_history.specs.declared.entry.Ending.TheVariants.{Won, Gone}
-use Rattle.sp_history.specs.declared.entry.Outcome.TheVariants.{Received, Sent}
-use Rattle.sp_history.specs.declared.entry.Message.{Message}
 use Rattle.sp_history.specs.declared.parts.Begun.{Begun}
 use Rattle.sp_history.specs.declared.parts.Item.{Item}
-use Rattle.sp_history.specs.declared.parts.Request.{Request}
 use Rattle.sp_history.specs.declared.parts.Origin.{Origin}
-use Rattle.sp_history.specs.Lists.{has, without, is_nil, is_number, same_op}
-use Rattle.sp_history.specs.Setting.{is_reply, floods, has_topics, has_stored}
-use Rattle.sp_history.specs.Past.{is_of, without_begun, pend, pending, up, ups, ctxs}
+use Rattle.sp_history.specs.Lists.{has, without, is_nil, same_op}
+use Rattle.sp_history.specs.Setting.{floods, has_stored}
+use Rattle.sp_history.specs.Past.{pend, up, ups, ctxs}
 use Rattle.sp_history.specs.Kept.{route, pool, kept, wanted, stored, is_from, has_none_of}
-use Rattle.sp_history.specs.Sends.{may_go, targets, bytes_of, begun_before, is_first_for, unclaimed, goes_nowhere}
-use Rattle.sp_history.specs.Settled.{receive_settled, send_settled, has_full}
-use Rattle.sp_history.specs.Legal.{Calm, is_recv, is_recv_on, is_at}
-use Rattle.sp_history.specs.Once.{AreApart}
+use Rattle.sp_history.specs.Settled.{has_full}
+use Rattle.sp_history.specs.Legal.{is_at}
 use Rattle.sp_history.specs.Moments.{Moment, Lawful, past, also, next}
 use Rattle.sp_history.proofs.OnceHolds.{same_op-refl}
-use Rattle.sp_proto.specs.Kinds.{Kind, text_of, entry_act}
-use Rattle.sp_proto.specs.Machines.{CanGive, CanSend, CanDrop, CanAgain, IsIdle, message_of}
+use Rattle.sp_proto.specs.Kinds.{Kind}
+use Rattle.sp_proto.specs.Machines.{CanSend}
 use Rattle.proto_reqrep.specs.declared.rep.Reply.{Reply}
 use Rattle.proto_reqrep.specs.declared.rep.Kept.{Kept}
 use Rattle.proto_reqrep.specs.declared.rep.Source.{Source}
@@ -44,12 +32,10 @@ use Rattle.proto_reqrep.specs.declared.rep.Place.{Place}
 use Rattle.proto_reqrep.specs.declared.rep.Answer.{Answer}
 use Rattle.proto_reqrep.specs.declared.rep.Waiting.{Waiting}
 use Rattle.proto_reqrep.specs.declared.ports.Port.{Port}
-use Rattle.proto_reqrep.specs.declared.ports.Way.{Way}
-use Rattle.proto_reqrep.specs.declared.ports.Way.TheVariants as ways
-use Rattle.proto_reqrep.specs.Ports.{port_of, marked, cleared, free_count, where_is}
-use Rattle.proto_reqrep.specs.Reps.{Ties, item_of, origin_of, origin_at, begun_of, act_of, ctx_of, is_for, is_receive, is_ready, can_go, isnt_full, target_of, way_of, out_text, without_first, Routed, AreHome}
-use Rattle.proto_reqrep.proofs.Taking.{find_begun, find_own, without_all, apart_without, apart_more}
-use Rattle.proto_reqrep.proofs.Piping.{ports_without, has_without, fewer_free, ports_marked, marks_fewer, ports_cleared, goes_on, is_full_at, nowhere_up, has_number, all_full}
+use Rattle.proto_reqrep.specs.Ports.{port_of, marked, cleared, free_count}
+use Rattle.proto_reqrep.specs.Reps.{Ties, item_of, origin_of, origin_at, begun_of, act_of, ctx_of, Routed, AreHome}
+use Rattle.proto_reqrep.proofs.Taking.{apart_more}
+use Rattle.proto_reqrep.proofs.Piping.{ports_without, has_without, fewer_free, ports_marked, marks_fewer, ports_cleared}
 use Rattle.proto_reqrep.proofs.Homes.{opens_none, shut_ctxs, shut_origins}
 use Rattle.proto_reqrep.specs.Reps.{role_of}
 use Rattle.proto_reqrep.specs.declared.rep.ReplyRole.{ReplyRole}

@@ -1,9 +1,7 @@
 -- What a req's operations and requests stand for after each entry.
-use Rattle.std.proofs.Common.{◌≡◌, ◌≢◌, refl, ap, sym, ◌∙◌, subst, List, [], ◌∷◌, ◌++◌, ℕ, zero, ◌+◌, ◌^◌, ◌<◌, ◌≤◌, Bool, true, false, cond, arith, Option, Some, None, map, length, inl, inr}
+use Rattle.std.proofs.Common.{◌≡◌, refl, ap, sym, ◌∙◌, subst, List, [], ◌∷◌, ◌++◌, ℕ, ◌+◌, ◌^◌, ◌<◌, Bool, true, false, cond, arith, Option, Some, None, map}
 use Rattle.std.specs.Prelude.{find, filter, drop, not, is_some, ◌&&◌, ◌||◌, ◌==◌}
 use Rattle.std.specs.List.{list_any, list_all}
-use Rattle.std.specs.Option.{option_map}
-use Rattle.std.proofs.lemmas.Bool.Decides.{nat_tests}
 use Rattle.std.proofs.lemmas.List.{map-append}
 use Rattle.sp_base.specs.declared.OpName.{OpName}
 use Rattle.sp_base.specs.declared.role.Role.TheVariants as role
@@ -11,26 +9,23 @@ use Rattle.sp_msg.specs.Views.{MessageView}
 use Rattle.sp_history.specs.declared.entry.Entry.{Entry}
 use Rattle.sp_history.specs.declared.parts.Begun.{Begun}
 use Rattle.sp_history.specs.declared.parts.How.{How}
-use Rattle.sp_history.specs.declared.parts.How.TheVariants as how
-use Rattle.sp_history.specs.declared.parts.LastOut.{LastOut}
 use Rattle.sp_history.specs.declared.parts.Orphan.{Orphan}
 use Rattle.sp_history.specs.declared.parts.Request.{Request}
 use Rattle.sp_history.specs.declared.parts.Requests.{Requests}
 use Rattle.sp_history.specs.declared.setting.Setting.{Setting}
 use Rattle.sp_history.specs.Lists.{has, same_op, first_word}
 use Rattle.sp_history.specs.Frames.{malformed, plain_item}
-use Rattle.sp_history.specs.Past.{is_of, without_begun}
+use Rattle.sp_history.specs.Past.{without_begun}
 use Rattle.sp_history.specs.Once.{AreApart, AreDistinct, occurs}
 use Rattle.sp_history.specs.Requests.{is_orphan, orphan_of, is_bereft, end_on, without_orphan, change_live, with_out, with_frame, wire_of, next_id, begin_on}
 use Rattle.sp_history.specs.Legal.{was_superseded, is_at}
-use Rattle.sp_history.proofs.OnceHolds.{same_op-eq, occurs-without}
 use Rattle.proto_reqrep.specs.declared.req.Live.{Live}
 use Rattle.proto_reqrep.specs.declared.req.Kept.{Kept}
 use Rattle.proto_reqrep.specs.declared.req.Asking.{Asking}
-use Rattle.proto_reqrep.specs.Reqs.{Asked, begun_of, is_asked, is_left, is_sending, is_sending_on, is_receiving_on, orphaned, without_first, without_live, live_ctx, live_id, is_live_on, request_of, is_superseded, with_found, sent_at, with_out_on, with_reply, AreSound, HaveLive, HasLive, IsOf, item_of}
+use Rattle.proto_reqrep.specs.Reqs.{Asked, begun_of, is_asked, is_left, is_sending, is_sending_on, is_receiving_on, orphaned, without_first, without_live, live_ctx, live_id, is_live_on, request_of, is_superseded, with_found, sent_at, with_reply, HasLive, IsOf, item_of}
 use Rattle.proto_reqrep.proofs.Taking.{apart_without, apart_more}
 use Rattle.proto_reqrep.proofs.Orphaned.{any_either, all_both, all_kept, left_more, none_more, caused, without_map, left_less}
-use Rattle.proto_reqrep.proofs.Living.{live_less, distinct_less, distinct_more, gone_on, hasnt_less, sound_less, sound_more, find_last}
+use Rattle.proto_reqrep.proofs.Living.{live_less, distinct_less, distinct_more, sound_less, sound_more, find_last}
 use Rattle.proto_reqrep.proofs.Outgoing.{out_is, out_alone, ids_out, ctxs_out, sound_out, ids_kept, ctxs_kept, sound_kept, frame_is}
 use Rattle.proto_reqrep.proofs.Owning.{owned_more, owned_taken, owned_marked, owned_longer, owned_less, owned_out, owned_kept, single_more, single_taken, single_marked}
 

@@ -1,57 +1,44 @@
 -- A req stands for its history after each call.
-use Rattle.std.proofs.Common.{◌≡◌, ◌≢◌, refl, ap, sym, ◌∙◌, subst, List, [], ◌∷◌, ◌++◌, ℕ, ◌+◌, ◌^◌, ◌<◌, ◌≤◌, max, Bool, true, false, cond, arith, Option, Some, None, map, length, inl, inr}
-use Rattle.std.specs.Prelude.{find, filter, drop, take, not, is_some, nat_lt, IsTrue, ◌&&◌, ◌||◌, ◌==◌}
-use Rattle.std.specs.List.{list_any, list_all}
+use Rattle.std.proofs.Common.{◌≡◌, ◌≢◌, refl, ap, sym, ◌∙◌, subst, List, [], ◌∷◌, ℕ, Bool, true, false, cond, Option, Some, None, map}
+use Rattle.std.specs.Prelude.{find, drop, is_some}
 use Rattle.std.specs.Option.{option_map}
-use Rattle.std.proofs.lemmas.Bool.Decides.{nat_tests}
-use Rattle.std.proofs.lemmas.List.{map-append}
 use Rattle.sp_base.specs.declared.OpName.{OpName}
-use Rattle.sp_base.specs.declared.role.Role.{Role}
 use Rattle.sp_base.specs.declared.role.Role.TheVariants as role
-use Rattle.sp_msg.specs.Views.{MessageView, wire_text}
+use Rattle.sp_msg.specs.Views.{MessageView}
 use Rattle.sp_history.specs.declared.setting.Setting.{Setting}
 use Rattle.sp_history.specs.declared.entry.Entry.{Entry}
-use Rattle.sp_history.specs.declared.entry.Entry.TheVariants.{Begin, End, Out, Down, Full, Frame, Unkept, Ctx, Tick, Close, Dry}
-use Rattle.sp_history.specs.declared.entry.Gate.TheVariants.{Open, Shut}
-use Rattle.sp_history.specs.declared.entry.Act.{Act}
+use Rattle.sp_history.specs.declared.entry.Entry.TheVariants.{End}
 use Rattle.sp_history.specs.declared.entry.Act.TheVariants.{Recv, Send}
 use Rattle.sp_history.specs.declared.entry.Cause.{Cause}
 use Rattle.sp_history.specs.declared.entry.Ending.{Ending}
 use Rattle.sp_history.specs.declared.entry.Ending.TheVariants.{Won, Gone}
-use Rattle.sp_history.specs.declared.entry.Outcome.TheVariants.{Received, Sent}
+use Rattle.sp_history.specs.declared.entry.Outcome.TheVariants.{Received}
 use Rattle.sp_history.specs.declared.entry.Message.{Message}
-use Rattle.sp_history.specs.declared.entry.Totals.{Totals}
 use Rattle.sp_history.specs.declared.parts.Begun.{Begun}
 use Rattle.sp_history.specs.declared.parts.Item.{Item}
 use Rattle.sp_history.specs.declared.parts.Request.{Request}
 use Rattle.sp_history.specs.declared.parts.Requests.{Requests}
-use Rattle.sp_history.specs.declared.parts.Origin.{Origin}
 use Rattle.sp_history.specs.declared.parts.How.TheVariants as how
-use Rattle.sp_history.specs.Lists.{has, without, is_nil, head_of, same_op, first_word, word}
-use Rattle.sp_history.specs.Setting.{is_req, is_reply, floods, has_topics, has_requests, resends}
-use Rattle.sp_history.specs.Frames.{malformed, plain_item}
-use Rattle.sp_history.specs.Past.{is_of, without_begun, pend, pending, up, ups, ctxs, now, opened}
-use Rattle.sp_history.specs.Kept.{pool, route, kept, replies_of, pool_of, is_on_pool, takes, add_for, add_item, is_wanted_by, wanted, has_none_of, is_from}
-use Rattle.sp_history.specs.Requests.{requests, no_requests, asked, is_orphan, end_on, without_orphan, after_end, of_live, after_moment, change_live, with_taken, with_out, with_frame, wire_of, live_on, request_of as asked_of, is_on, begin_on, next_id}
-use Rattle.sp_history.specs.Sends.{bytes_of, bytes_of_act, bytes_for, goes_nowhere}
-use Rattle.sp_history.specs.Settled.{has_full, is_dry}
-use Rattle.sp_history.specs.Legal.{is_recv, AreAllowed}
-use Rattle.sp_history.specs.Once.{occurs, AreApart}
-use Rattle.sp_history.specs.Moments.{Moment, Lawful, Back, past, also, next}
+use Rattle.sp_history.specs.Lists.{head_of, same_op}
+use Rattle.sp_history.specs.Setting.{is_req, floods, has_requests}
+use Rattle.sp_history.specs.Past.{is_of, without_begun, pend, pending}
+use Rattle.sp_history.specs.Kept.{pool, kept, replies_of, pool_of, is_on_pool}
+use Rattle.sp_history.specs.Requests.{requests, no_requests, asked, is_orphan, end_on, without_orphan, after_end, of_live, change_live, with_taken, live_on, is_on}
+use Rattle.sp_history.specs.Once.{AreApart}
+use Rattle.sp_history.specs.Moments.{Moment, past}
 use Rattle.sp_history.proofs.OnceHolds.{same_op-eq, occurs-without}
-use Rattle.sp_history.proofs.Requesting.{end_makes, out_makes, frame_makes, begun_makes, shut_makes, tick_makes}
-use Rattle.sp_history.proofs.Backing.{legal_allowed}
+use Rattle.sp_history.proofs.Requesting.{end_makes}
 use Rattle.sp_proto.specs.Kinds.{Kind, text_of}
-use Rattle.sp_proto.specs.Machines.{CanGive, CanSend, CanDrop, CanAgain, message_of}
+use Rattle.sp_proto.specs.Machines.{CanGive, CanSend, CanDrop, message_of}
 use Rattle.proto_reqrep.specs.declared.req.Request.{Request as Machine}
 use Rattle.proto_reqrep.specs.declared.req.Live.{Live}
 use Rattle.proto_reqrep.specs.declared.req.Kept.{Kept}
 use Rattle.proto_reqrep.specs.declared.req.Asking.{Asking}
-use Rattle.proto_reqrep.specs.Reqs.{Ties, Asked, begun_of, act_of, is_asked, is_left, is_sending, is_sending_on, is_receiving_on, orphaned, without_first, without_live, live_ctx, is_live_on, request_of, with_found, sent_at, with_reply, item_of, items_of, reply_in, message_in, HasLive, HaveLive, IsOf, raw_item}
+use Rattle.proto_reqrep.specs.Reqs.{Ties, Asked, begun_of, act_of, is_asked, is_sending, orphaned, without_first, without_live, is_live_on, request_of, item_of, items_of, reply_in, message_in}
 use Rattle.proto_reqrep.proofs.Orphaned.{flag_of}
-use Rattle.proto_reqrep.proofs.Living.{find_request, sound_at, equal_of, turned, same_number}
-use Rattle.proto_reqrep.proofs.Owning.{owned_at, owned_taken, only_receive, only_send, none_beside}
-use Rattle.proto_reqrep.proofs.Requested.{taken, taken_own, no_such, ended, ended_alone, gone_out, reply_came}
+use Rattle.proto_reqrep.proofs.Living.{find_request, sound_at}
+use Rattle.proto_reqrep.proofs.Owning.{owned_taken, only_receive, none_beside}
+use Rattle.proto_reqrep.proofs.Requested.{taken, taken_own, no_such, ended, ended_alone}
 
 pub is_req_role : (m : Machine) (t : Moment) → Ties m t → t.z.role ≡ role.Req
 is_req_role m t h = ap (λ (k : Kind). k.role) h.0.kind

@@ -1,20 +1,17 @@
 -- How much is left for a req to offer.
-use Rattle.std.proofs.Common.{◌≡◌, refl, ap, sym, ◌∙◌, subst, List, [], ◌∷◌, ℕ, ◌+◌, ◌*◌, ◌<◌, ◌≤◌, Bool, true, false, cond, arith, Option, Some, None, map, length}
+use Rattle.std.proofs.Common.{◌≡◌, refl, ap, sym, ◌∙◌, subst, List, [], ◌∷◌, ℕ, ◌+◌, ◌*◌, ◌<◌, ◌≤◌, Bool, true, false, cond, arith, Some, map, length}
 use Rattle.std.specs.Prelude.{find, not, is_some, nat_le, ◌&&◌, ◌||◌, ◌==◌}
 use Rattle.std.specs.List.{list_any}
 use Rattle.std.proofs.lemmas.Bool.Decides.{nat_tests}
 use Rattle.std.proofs.lemmas.Nat.{row_fits, mul-le}
-use Rattle.sp_history.specs.declared.parts.LastOut.{LastOut}
 use Rattle.sp_history.specs.Lists.{has}
-use Rattle.sp_history.specs.Once.{AreDistinct}
 use Rattle.proto_reqrep.specs.declared.ports.Port.{Port}
 use Rattle.proto_reqrep.specs.declared.req.Live.{Live}
-use Rattle.proto_reqrep.specs.declared.req.Kept.{Kept}
 use Rattle.proto_reqrep.specs.declared.req.Asking.{Asking}
 use Rattle.std.proofs.lemmas.List.{length-map}
 use Rattle.proto_reqrep.specs.declared.req.Seat.{Seat}
 use Rattle.proto_reqrep.specs.Ports.{is_pipe, port_of}
-use Rattle.proto_reqrep.specs.Reqs.{is_live_on, without_live, without_found, with_found, sent_at, is_late, is_late_in, is_due, due_count, dry_at, dried}
+use Rattle.proto_reqrep.specs.Reqs.{is_live_on, without_live, without_found, with_found, sent_at, is_late_in, is_due, due_count, dry_at, dried}
 
 pub count_most : (due : Live → Bool) (xs : List Live) → due_count due xs ≤ length xs
 count_most due [] = omega arith

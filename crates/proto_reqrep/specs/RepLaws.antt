@@ -1,7 +1,6 @@
 -- The laws of a rep as a machine.
 use Rattle.std.specs.Prelude.{◌≡◌, ◌≤◌, ℕ, true, [], map}
 use Rattle.std.proofs.Common.{refl, ap, sym, subst, ◌∙◌, Bool, false, cond, None, Option}
-use Rattle.sp_base.specs.declared.OpName.{OpName}
 use Rattle.sp_history.specs.declared.entry.Entry.{Entry}
 use Rattle.sp_history.specs.declared.entry.Entry.TheVariants.{Met, NoUp, Quiet, Stall, Clear, Taken, Took}
 use Rattle.sp_history.specs.Moments.{Moment, Lawful, past, also, IsSilent}

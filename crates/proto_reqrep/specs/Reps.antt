@@ -1,5 +1,5 @@
 -- What a rep stands for.
-use Rattle.std.specs.Prelude.{◌≡◌, ◌≤◌, ◌<◌, ◌==◌, ◌&&◌, ℕ, Bool, true, false, not, ⊤, if◌then◌else◌, List, [], ◌∷◌, ◌++◌, map, find, drop, Option, Some, None, MatchOption, is_some}
+use Rattle.std.specs.Prelude.{◌≡◌, ◌≤◌, ◌<◌, ◌==◌, ◌&&◌, ℕ, Bool, true, false, not, ⊤, if◌then◌else◌, List, [], ◌∷◌, ◌++◌, map, find, drop, Option, Some, None, is_some}
 use Rattle.std.specs.List.{list_any}
 use Rattle.std.specs.Option.{option_map}
 use Rattle.sp_base.specs.declared.OpName.{OpName}

@@ -2,11 +2,9 @@
 use Rattle.std.specs.Prelude.{◌≡◌, ◌≤◌, ℕ, true, [], map}
 use Rattle.std.specs.List.{list_all}
 use Rattle.std.proofs.Common.{refl, ap, sym, subst, ◌∙◌, Bool, false, cond}
-use Rattle.sp_base.specs.declared.OpName.{OpName}
 use Rattle.sp_history.specs.declared.entry.Entry.{Entry}
 use Rattle.sp_history.specs.declared.entry.Entry.TheVariants.{Met, NoUp, Quiet, Stall, Clear, Taken, Took}
 use Rattle.sp_history.specs.declared.parts.Requests.{Requests}
-use Rattle.sp_history.specs.declared.setting.Setting.{Setting}
 use Rattle.sp_history.specs.Lists.{has}
 use Rattle.sp_history.specs.Moments.{Moment, Lawful, past, also, IsSilent}
 use Rattle.sp_history.specs.Once.{AreApart}
@@ -18,7 +16,7 @@ use Rattle.sp_history.specs.Settled.{has_full, is_dry}
 use Rattle.sp_proto.specs.Kinds.{Starts, kind_of, setting_of}
 use Rattle.proto_reqrep.specs.Ports.{port_of}
 use Rattle.proto_reqrep.specs.declared.req.Request.{Request as Machine}
-use Rattle.proto_reqrep.specs.Reqs.{Ties, req_kind, dry_at, live_ctx, is_superseded}
+use Rattle.proto_reqrep.specs.Reqs.{Ties, req_kind, dry_at, live_ctx, is_superseded, out_last}
 
 pub kinds : (m : Machine) (t : Moment) → Ties m t → kind_of t.z ≡ req_kind m.raw m.options
 kinds m t h = h.0.kind
@@ -35,7 +33,7 @@ silent m t _ h l k = absurd h
 
 pub anew : (m : Machine) (t : Moment) → past t ≡ [] → Ties m t → Starts Ties m (req_kind m.raw m.options)
 anew m t e h slots callers caller = (
-  record { kind = refl; resend = h.0.resend; moment = h.0.moment ∙ ap now e },
+  record { kind = refl; resend = h.0.resend; moment = h.0.moment ∙ ap now e; outs = h.0.outs ∙ ap out_last e },
   record {
     ports = h.1.ports ∙ ap (λ before. map (port_of (λ q. has_full t.turn q)) (up before)) e;
     known = subst (λ before. (q : ℕ) → has (up before) q ≡ true → q ≤ ups before) e h.1.known;

@@ -1,10 +1,11 @@
 -- What a req stands for.
 use Rattle.std.specs.Prelude.{◌≡◌, ◌≢◌, ◌≤◌, ◌<◌, ◌+◌, ◌*◌, ◌^◌, ◌%◌, ◌==◌, ◌&&◌, ◌||◌, ℕ, zero, suc, Bool, true, false, not, ⊤, nat_le, if◌then◌else◌, List, [], ◌∷◌, ◌++◌, length, map, find, take, drop, Option, Some, None, is_some}
 use Rattle.std.specs.List.{list_any, list_all}
-use Rattle.std.specs.Option.{option_map}
 use Rattle.sp_base.specs.declared.OpName.{OpName}
 use Rattle.sp_base.specs.declared.role.Role.TheVariants as role
 use Rattle.sp_msg.specs.Views.{MessageView}
+use Rattle.sp_history.specs.declared.entry.Entry.{Entry}
+use Rattle.sp_history.specs.declared.entry.Entry.TheVariants.{Out}
 use Rattle.sp_history.specs.declared.entry.Act.{Act}
 use Rattle.sp_history.specs.declared.entry.Act.TheVariants.{Recv, Send}
 use Rattle.sp_history.specs.declared.parts.Begun.{Begun}
@@ -29,7 +30,7 @@ use Rattle.sp_proto.specs.declared.Verb.{Verb}
 use Rattle.sp_proto.specs.declared.Verb.TheVariants as verbs
 use Rattle.sp_proto.specs.declared.Verdict.{Verdict}
 use Rattle.sp_proto.specs.declared.Verdict.TheVariants as verdict
-use Rattle.proto_reqrep.specs.Ports.{port_of, is_pipe, free_count}
+use Rattle.proto_reqrep.specs.Ports.{port_of, is_pipe, free_count, next_number as next_pipe}
 use Rattle.proto_reqrep.specs.declared.ports.Port.{Port}
 use Rattle.proto_reqrep.specs.declared.req.Request.{Request as Machine}
 use Rattle.proto_reqrep.specs.declared.req.Live.{Live}
@@ -220,7 +221,7 @@ abbrev pub Asks : ℕ → List ℕ → Machine → Machine → Type 0
 Asks c body m n =
     (x : Live) × IsNew m c body x × (length (without_live c m.live.items) < 2 ^ 31) × (n.live.items ≡ without_live c m.live.items ++ x ∷ [])
     × (n.waiting.items ≡ map (orphaned c) m.waiting.items) × (n.last_id ≡ Some x.id)
-    × (n.raw ≡ m.raw) × (n.options ≡ m.options) × (n.tick ≡ m.tick) × (n.ports ≡ m.ports) × (n.kept ≡ m.kept) × (n.seats ≡ m.seats)
+    × (n.raw ≡ m.raw) × (n.options ≡ m.options) × (n.tick ≡ m.tick) × (n.ports ≡ m.ports) × (n.kept ≡ m.kept) × (n.last_pipe ≡ m.last_pipe) × (n.seats ≡ m.seats)
 
 abbrev pub raw_item : ℕ → List ℕ → Item
 raw_item p b = record { pipe = p; words = []; message = record { header = take 4 b; body = drop 4 b } }
@@ -266,12 +267,24 @@ AreSingle (w ∷ ws) =
 abbrev pub is_superseded : Orphan → Bool
 is_superseded o = was_superseded (Some o.how)
 
--- what it is set to, and the time
-pub record SetTo (raw : Bool) (options : Options) (tick : ℕ) (k : Kind) (t : ℕ) : Type 0 where
+-- the pipe of the last Out, or 0
+abbrev pub out_last : List Entry → ℕ
+out_last [] = 0
+out_last (Out p b ∷ past) = p
+out_last (_ ∷ past) = out_last past
+
+-- of the pipes that are up and were not found full in this turn, it is the next behind that of the last Out, in the
+-- round of their numbers
+abbrev pub IsNextPipe : Moment → ℕ → Type 0
+IsNextPipe t p = next_pipe (λ q. not (has_full t.turn q)) (out_last (past t)) (up (past t)) ≡ Some p
+
+-- what it is set to, the time, and the pipe of the last Out
+pub record SetTo (raw : Bool) (options : Options) (tick : ℕ) (last : ℕ) (k : Kind) (t : ℕ) (out : ℕ) : Type 0 where
   pub kind : k ≡ req_kind raw options
   -- an Out is never due again at once
   pub resend : 1 ≤ options.resend
   pub moment : tick ≡ t
+  pub outs : last ≡ out
 
 -- the pipes that are up, and which of them are full, none above the last one that came up
 pub record Knows (ps : List Port) (us : List ℕ) (last : ℕ) (full : ℕ → Bool) : Type 0 where
@@ -306,7 +319,7 @@ Keeps raw ks is = raw ≡ true → map item_of ks ≡ is
 
 abbrev pub Ties : Machine → Moment → Type 0
 Ties m t =
-    SetTo m.raw m.options m.tick (kind_of t.z) (now (past t))
+    SetTo m.raw m.options m.tick m.last_pipe (kind_of t.z) (now (past t)) (out_last (past t))
     × Knows m.ports.items (up (past t)) (ups (past t)) (λ q. has_full t.turn q)
     × Keeps m.raw m.kept.items (pool t.z (past t) 0)
     × Asked m.raw m.live.items m.last_id m.waiting.items (pend (past t)) (requests t.z (past t))

@@ -1,9 +1,14 @@
 //! The machine of req.
-ghost use Rattle.std.specs.Prelude.{◌≡◌, ◌≤◌, ◌<◌, ◌+◌, ◌^◌, ◌%◌, ◌==◌, ◌++◌, ◌&&◌, ℕ, [], ◌∷◌, None, Some, IfOk, OnOk, OnErr, false, true, not, map, filter, find, drop, length, option_to_list, is_some};
+ghost use Rattle.std.specs.Prelude.{◌≡◌, ◌≤◌, ◌<◌, ◌+◌, ◌-◌, ◌^◌, ◌%◌, ◌==◌, ◌++◌, ◌&&◌, ℕ, [], ◌∷◌, None, Some, IfOk, OnOk, OnErr, false, true, not, map, filter, find, drop, length, option_to_list, is_some};
 ghost use Rattle.std.specs.Vec.{vec_len, vec_capacity};
 ghost use Rattle.std.specs.VecDeque.{deque_len, deque_capacity};
 ghost use Rattle.std.specs.Option.{option_map};
 ghost use Rattle.std.specs.List.{position, list_any};
+ghost use Rattle.sp_base.specs.declared.OpName.{OpName};
+ghost use Rattle.sp_history.specs.Past.{up};
+ghost use Rattle.sp_history.specs.Legal.{Calm};
+ghost use Rattle.sp_history.specs.Moments.{Moment, Lawful, past};
+ghost use Rattle.sp_proto.specs.Machines.{Offers};
 ghost use Rattle.sp_history.specs.Options.{Fits};
 ghost use Rattle.sp_history.specs.Lists.{word, head_of};
 ghost use Rattle.sp_history.specs.Requests.{next_number};
@@ -13,7 +18,7 @@ ghost use Rattle.proto_reqrep.specs.declared.req.Kept.{Kept as KeptType};
 ghost use Rattle.proto_reqrep.specs.declared.req.Live.{Live as LiveType};
 ghost use Rattle.proto_reqrep.specs.declared.req.Asking.{Asking as AskingType};
 ghost use Rattle.proto_reqrep.specs.declared.req.Seat.{Seat as SeatType};
-ghost use Rattle.proto_reqrep.specs.Reqs.{Ties, req_kind, is_live_on, is_asked, without_first, without_live, orphaned, waits_for, with_reply, with_found, sent_at, keeps_reply, is_sending, is_due, dry_at, dried, wetted, number_after, free_number, reply_in, Asks, KeepsRaw, is_given, is_any_given, is_late, out_offer, ask_state, is_receiving_on};
+ghost use Rattle.proto_reqrep.specs.Reqs.{Ties, req_kind, is_live_on, is_asked, without_first, without_live, orphaned, waits_for, with_reply, with_found, sent_at, keeps_reply, is_sending, is_due, dry_at, dried, wetted, number_after, free_number, reply_in, Asks, KeepsRaw, is_given, is_any_given, is_late, out_offer, ask_state, is_receiving_on, work_left, IsNextPipe};
 
 use crate::ports::{Port, clear, forget, free_port, is_up, mark};
 use crate::trail::first_word;
@@ -73,6 +78,8 @@ pub struct Request {
     options: Options,
     tick: Tick,
     last_id: Option<u32>,
+    /// Of the last Out, or 0. The next goes to one behind it.
+    last_pipe: PipeId,
     /// In the order in which they came up.
     ports: Vec<Port>,
     /// Raw: the oldest first, at most one of each pipe.
@@ -387,6 +394,7 @@ impl Request {
                 options,
                 tick: Tick(0),
                 last_id: None,
+                last_pipe: PipeId(0),
                 ports: Vec::new(alloc),
                 kept: VecDeque::new(alloc),
                 live: Vec::new(alloc),
@@ -460,17 +468,19 @@ impl Request {
 
     // What goes out for a send of the context.
     fn send(&mut self, c: Ctx, m: Message, out: Option<PipeId>) -> Message
-        ensures same { self.new ≡ record self.old { live = self.new.live } }
+        ensures same { self.new ≡ record self.old { live = self.new.live; last_pipe = self.new.last_pipe } }
+        ensures pipe { (p : ℕ) → out ≡ Some p → self.new.last_pipe ≡ p }
         ensures raw { self.old.raw ≡ true → (result ≡ m) × (self.new.live ≡ self.old.live) }
         ensures cooked { self.old.raw ≡ false → (p : ℕ) → out ≡ Some p → self.new.live.items ≡ with_found (is_live_on c) (sent_at (record { pipe = p; when = self.old.tick })) self.old.live.items }
         ensures message { self.old.raw ≡ false → (p : ℕ) → out ≡ Some p → (x : LiveType) → find (is_live_on c) self.old.live.items ≡ Some x → wire_text result ≡ word x.id ++ m.body }
     {
-        if self.raw {
-            return m;
-        }
         match out {
             None => m,
             Some(pipe) => {
+                self.last_pipe = pipe;
+                if self.raw {
+                    return m;
+                }
                 let out = LastOut {
                     pipe,
                     when: self.tick,
@@ -699,7 +709,16 @@ impl Proto for Request {
         clear(&mut self.ports);
     }
 
-    fn offer(&mut self) -> Offer {
+    /// What goes out goes to the next pipe behind that of the last Out, in the round of their numbers.
+    fn offer(&mut self) -> Offer
+        ensures same { (t : Moment) → Ties self.old t → Ties self.new t }
+        ensures offered { (t : Moment) → Lawful t → Calm t.z (past t) → Ties self.old t → Offers result t }
+        ensures copies { (op : OpName) → result ≡ Offer.Flood op → (t : Moment) → Lawful t → Calm t.z (past t) → Ties self.old t → length (up (past t)) ≤ 0 }
+        ensures left { work_left self.new ≤ work_left self.old }
+        ensures room { vec_capacity self.old.waiting - vec_len self.old.waiting ≤ vec_capacity self.new.waiting - vec_len self.new.waiting }
+        ensures next { (op : OpName) (p : ℕ) → result ≡ Offer.Send op p → (t : Moment) → Ties self.old t → IsNextPipe t p }
+        ensures resend { (c p : ℕ) → result ≡ Offer.Again c p → (t : Moment) → Ties self.old t → IsNextPipe t p }
+    {
         if let Some(i) = orphan_place(&self.waiting) {
             return Offer::Finish {
                 op: self.waiting[i].op,
@@ -711,7 +730,7 @@ impl Proto for Request {
                 op: self.waiting[i].op,
             };
         }
-        match free_port(&self.ports) {
+        match free_port(&self.ports, self.last_pipe) {
             None => Offer::Idle,
             Some(pipe) => self.next_out(pipe),
         }
@@ -742,6 +761,7 @@ impl Proto for Request {
                     None
                 }
                 Ok(copy) => {
+                    self.last_pipe = p;
                     let out = LastOut {
                         pipe: p,
                         when: self.tick,

@@ -91,3 +91,62 @@ fn a_request_goes_out_again(rt: HostRuntime) -> Result<(), Fail> {
     assert!(rt; req.offer() == Offer::Idle);
     Ok(())
 }
+
+// A send of the message begins, and goes out where it is offered.
+fn goes_out(req: &mut Request, slot: u32, m: Message) -> Offer {
+    if req.reserve(1).is_err() || req.begin(op(slot), Ctx(0), Act::Send(m)).is_err() {
+        return Offer::Idle;
+    }
+    let offer = req.offer();
+    if let Offer::Send { op, pipe } = offer {
+        let _ = req.won(op, Some(pipe));
+    }
+    offer
+}
+
+fn offers_send(offer: Offer, pipe: u32) -> bool {
+    match offer {
+        Offer::Send { pipe: p, .. } => p.0 == pipe,
+        _ => false,
+    }
+}
+
+#[test]
+fn six_requests_go_to_two_pipes_in_turn(rt: HostRuntime) -> Result<(), Fail> {
+    for raw in [false, true] {
+        let mut req = Request::new(rt.alloc(), Options::usual(Role::Req, 0), raw)?;
+        assert!(rt; req.up(PipeId(1)).is_ok());
+        assert!(rt; req.up(PipeId(2)).is_ok());
+        for pipe in [1, 2, 1, 2, 1, 2] {
+            req.fresh();
+            let offer = goes_out(&mut req, pipe, Message::from_body(rt.alloc(), b"a")?);
+            assert!(rt; offers_send(offer, pipe));
+        }
+        req.fresh();
+        req.full(PipeId(1));
+        let offer = goes_out(&mut req, 0, Message::from_body(rt.alloc(), b"a")?);
+        assert!(rt; offers_send(offer, 2));
+    }
+    Ok(())
+}
+
+#[test]
+fn a_pipe_that_hangs_is_not_the_next_again(rt: HostRuntime) -> Result<(), Fail> {
+    let mut req = Request::new(rt.alloc(), Options::usual(Role::Req, 0), false)?;
+    assert!(rt; req.up(PipeId(1)).is_ok());
+    assert!(rt; req.up(PipeId(2)).is_ok());
+    let offer = goes_out(&mut req, 0, Message::from_body(rt.alloc(), b"a")?);
+    assert!(rt; offers_send(offer, 1));
+    for (tick, pipe) in [(60_000, 2), (120_000, 1), (180_000, 2)] {
+        req.fresh();
+        req.clock(Tick(tick));
+        let again = Offer::Again {
+            ctx: Ctx(0),
+            pipe: PipeId(pipe),
+        };
+        assert!(rt; req.offer() == again);
+        assert!(rt; req.again(Ctx(0), PipeId(pipe)).is_some());
+        assert!(rt; req.offer() == Offer::Idle);
+    }
+    Ok(())
+}

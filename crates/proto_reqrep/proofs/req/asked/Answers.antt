@@ -1,12 +1,8 @@
 use Rattle.std.proofs.Common.{◌≡◌, ◌∙◌, sym, ap, Some, None, ◌++◌, slice_index_or}
-use Rattle.std.specs.Prelude.{find}
-use Rattle.sp_msg.specs.Views.{wire_text}
 use Rattle.sp_history.specs.Lists.{word}
 use Rattle.proto_reqrep.specs.declared.req.Live.{Live}
 use Rattle.proto_reqrep.specs.Reqs.{is_live_on}
 use Rattle.proto_reqrep.proofs.Places.{found_at, not_found}
-use Rattle.proto_reqrep.proofs.Coming.{later}
-use Rattle.proto_reqrep.proofs.Working.{due_before}
 use Rattle.proto_reqrep.proofs.req.asked.Goals as goal
 
 pub returns-in-None-clause-message : goal.returns-in-None-clause-message

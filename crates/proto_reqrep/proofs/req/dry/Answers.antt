@@ -1,4 +1,3 @@
-use Rattle.std.proofs.Common.{refl, ap}
 use Rattle.proto_reqrep.specs.Reqs.{dried}
 use Rattle.proto_reqrep.proofs.Places.{written}
 use Rattle.proto_reqrep.proofs.req.dry.Goals as goal

@@ -1,7 +1,6 @@
 use Rattle.std.proofs.Common.{sym}
 use Rattle.proto_reqrep.specs.Reqs.{is_live_on, sent_at}
 use Rattle.proto_reqrep.proofs.Places.{not_found, with_none, with_at}
-use Rattle.proto_reqrep.proofs.Owning.{owned_kept}
 use Rattle.proto_reqrep.proofs.req.note_out.Goals as goal
 
 pub returns-in-None : goal.returns-in-None

@@ -1,4 +1,4 @@
-use Rattle.std.proofs.Common.{refl, ap}
+use Rattle.std.proofs.Common.{refl}
 use Rattle.proto_reqrep.specs.Reqs.{wetted}
 use Rattle.proto_reqrep.proofs.Places.{written}
 use Rattle.proto_reqrep.proofs.req.wet.Goals as goal

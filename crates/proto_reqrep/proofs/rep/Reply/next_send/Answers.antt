@@ -1,4 +1,3 @@
-use Rattle.std.proofs.Common.{sym}
 use Rattle.proto_reqrep.specs.declared.ports.Way.TheVariants as ways
 use Rattle.proto_reqrep.proofs.Offered.{send_none, send_at, offer_none, offer_way}
 use Rattle.proto_reqrep.proofs.rep.Reply.next_send.Goals as goal

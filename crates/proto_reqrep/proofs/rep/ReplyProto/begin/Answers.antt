@@ -1,12 +1,11 @@
-use Rattle.std.proofs.Common.{rules, refl, ap, sym, ◌∙◌, ◌≡◌, ◌++◌, ◌∷◌, [], Some, None, map, cond, ℕ, List}
+use Rattle.std.proofs.Common.{rules, refl, ap, ◌∙◌, ◌≡◌, ◌++◌, ◌∷◌, [], None, map, cond, List}
 use Rattle.std.specs.Prelude.{◌==◌}
 use Rattle.std.specs.Vec.{with_items}
-use Rattle.std.specs.Option.{option_map}
 use Rattle.sp_proto.specs.Kinds.{entry_act}
 use Rattle.proto_reqrep.specs.declared.rep.Reply.{Reply}
 use Rattle.proto_reqrep.specs.declared.rep.Place.{Place}
 use Rattle.proto_reqrep.specs.declared.rep.Waiting.{Waiting}
-use Rattle.proto_reqrep.specs.Reps.{origin_at, origin_of, ctx_of}
+use Rattle.proto_reqrep.specs.Reps.{origin_at, ctx_of}
 use Rattle.proto_reqrep.proofs.Homes.{places_written}
 use Rattle.proto_reqrep.proofs.Replied.{begun_ties}
 use Rattle.proto_reqrep.proofs.rep.ReplyProto.begin.Goals as goal

@@ -1,8 +1,5 @@
 use Rattle.std.proofs.Common.{refl, arith, ◌∙◌, sym, ap, subst, ◌≡◌}
-use Rattle.std.specs.Prelude.{Vec}
 use Rattle.std.specs.VecDeque.{deque_len, deque_capacity}
-use Rattle.proto_reqrep.specs.declared.rep.Waiting.{Waiting}
-use Rattle.proto_reqrep.specs.declared.ports.Port.{Port}
 use Rattle.proto_reqrep.specs.Ports.{free_count}
 use Rattle.proto_reqrep.specs.Reps.{Gives}
 use Rattle.sp_history.specs.declared.parts.Begun.{Begun}

@@ -1,6 +1,4 @@
-use Rattle.std.proofs.Common.{◌∙◌, sym, false, true}
-use Rattle.std.specs.Prelude.{not}
-use Rattle.proto_reqrep.proofs.Working.{not_true}
+use Rattle.std.proofs.Common.{◌∙◌, sym}
 use Rattle.proto_reqrep.proofs.Offering.{none_gets}
 use Rattle.proto_reqrep.proofs.req.Request.give_place.Goals as goal
 

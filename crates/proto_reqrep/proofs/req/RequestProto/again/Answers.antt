@@ -1,10 +1,9 @@
-use Rattle.std.proofs.Common.{◌≡◌, ◌∙◌, sym, ap, None, Some, map, List, ℕ, ◌++◌}
+use Rattle.std.proofs.Common.{◌≡◌, ◌∙◌, sym, ap, Some, List, ℕ, ◌++◌}
 use Rattle.std.specs.Prelude.{find}
 use Rattle.std.specs.List.{position}
 use Rattle.sp_msg.specs.Views.{MessageView}
 use Rattle.sp_history.specs.Lists.{word}
 use Rattle.proto_reqrep.specs.declared.req.Live.{Live}
-use Rattle.std.specs.Vec.{with_items}
 use Rattle.proto_reqrep.specs.Reqs.{is_live_on, sent_at, dried}
 use Rattle.proto_reqrep.proofs.Places.{found_at, not_found}
 use Rattle.proto_reqrep.proofs.Coming.{any_written, found_written}

@@ -1,5 +1,4 @@
-use Rattle.std.proofs.Common.{◌≡◌, ◌∙◌, sym, ap, refl}
-use Rattle.proto_reqrep.proofs.Coming.{recv_asked, send_raw_asked, send_asked, send_opened, asked_ops, all_begun}
+use Rattle.proto_reqrep.proofs.Coming.{recv_asked, send_raw_asked, asked_ops, all_begun}
 use Rattle.proto_reqrep.proofs.req.RequestProto.begin.Goals as goal
 
 pub returns-in-Recv-clause-begun : goal.returns-in-Recv-clause-begun

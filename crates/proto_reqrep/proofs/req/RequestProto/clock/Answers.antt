@@ -1,8 +1,6 @@
-use Rattle.std.proofs.Common.{◌≡◌, ◌∙◌, sym, map, subst, List}
+use Rattle.std.proofs.Common.{◌≡◌, sym, map}
 use Rattle.std.specs.Vec.{with_items}
-use Rattle.std.proofs.lemmas.List.{with_items_is, length-map}
-use Rattle.proto_reqrep.specs.declared.req.Seat.{Seat}
-use Rattle.proto_reqrep.specs.Reqs.{wetted, Opened}
+use Rattle.proto_reqrep.specs.Reqs.{wetted}
 use Rattle.proto_reqrep.proofs.Reaching.{wetted_opened}
 use Rattle.proto_reqrep.proofs.Coming.{ticked_asked, later, any_written, opened_seats}
 use Rattle.proto_reqrep.proofs.req.RequestProto.clock.Goals as goal
@@ -12,7 +10,7 @@ returns-clause-ticked c =
     λ t due n l h.
     let was = c.args.self.now in
     let seats : (with_items was.seats c.wet.new.seats).items ≡ map wetted was.seats.items = any_written wetted was.seats c.wet.new.seats c.deref_mut.result.now c.deref_mut.ensures.value c.wet.ensures in (
-      record { kind = h.0.kind; resend = h.0.resend; moment = sym (later _ _ l.turn.0.itself.0) },
+      record { kind = h.0.kind; resend = h.0.resend; moment = sym (later _ _ l.turn.0.itself.0); outs = h.0.outs },
       h.1,
       h.2,
       ticked_asked was t c.args.now due h,

@@ -1,6 +1,5 @@
-use Rattle.std.proofs.Common.{rules, refl, ◌≡◌, [], subst, sym, List, ap, map}
-use Rattle.proto_reqrep.specs.declared.req.Live.{Live}
-use Rattle.proto_reqrep.specs.Reqs.{Asked, Opened, item_of}
+use Rattle.std.proofs.Common.{rules, ◌≡◌, [], ap, map}
+use Rattle.proto_reqrep.specs.Reqs.{item_of}
 use Rattle.proto_reqrep.proofs.Coming.{closed_asked, closed_opened, asked_live, opened_live}
 use Rattle.proto_reqrep.proofs.req.RequestProto.close.Goals as goal
 

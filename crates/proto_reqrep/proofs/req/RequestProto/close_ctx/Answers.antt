@@ -1,9 +1,7 @@
-use Rattle.std.proofs.Common.{rules, refl, ◌≡◌, ◌≢◌, filter, subst, sym, List, ap, ◌∙◌}
+use Rattle.std.proofs.Common.{rules, ◌≡◌, filter}
 use Rattle.std.specs.Prelude.{not, ◌==◌}
 use Rattle.std.proofs.lemmas.Fn.{filter_same}
-use Rattle.proto_reqrep.specs.declared.req.Live.{Live}
 use Rattle.proto_reqrep.specs.declared.req.Seat.{Seat}
-use Rattle.proto_reqrep.specs.Reqs.{Asked, Opened}
 use Rattle.proto_reqrep.proofs.Reaching.{shut_asked, shut_opened}
 use Rattle.proto_reqrep.proofs.Coming.{shut_items, asked_live, opened_live}
 use Rattle.proto_reqrep.proofs.req.RequestProto.close_ctx.Goals as goal

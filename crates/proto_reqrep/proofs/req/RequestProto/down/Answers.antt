@@ -1,4 +1,3 @@
-use Rattle.std.proofs.Common.{refl}
 use Rattle.proto_reqrep.proofs.Knowing.{down_knows, down_free}
 use Rattle.proto_reqrep.proofs.Working.{less_free, count_most}
 use Rattle.proto_reqrep.proofs.Coming.{down_items}

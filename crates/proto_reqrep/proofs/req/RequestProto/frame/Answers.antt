@@ -1,5 +1,4 @@
-use Rattle.std.proofs.Common.{◌≡◌, ◌≢◌, ◌∙◌, sym, ap, refl, None, Some, true, false, rules, subst}
-use Rattle.std.specs.Vec.{with_items}
+use Rattle.std.proofs.Common.{◌≡◌, ◌∙◌, sym, ap, None, Some}
 use Rattle.proto_reqrep.specs.Reqs.{waits_for, with_kept}
 use Rattle.sp_history.specs.Lists.{first_word}
 use Rattle.proto_reqrep.specs.declared.req.Kept.{Kept}

@@ -1,4 +1,4 @@
-use Rattle.std.proofs.Common.{refl, ◌≡◌, map}
+use Rattle.std.proofs.Common.{◌≡◌, map}
 use Rattle.std.specs.Vec.{with_items}
 use Rattle.proto_reqrep.specs.Ports.{cleared}
 use Rattle.proto_reqrep.proofs.Piping.{each_written}

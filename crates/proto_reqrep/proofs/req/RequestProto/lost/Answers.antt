@@ -1,5 +1,4 @@
-use Rattle.std.proofs.Common.{◌≡◌, ◌∙◌, sym, arith, ap, map, refl}
-use Rattle.std.specs.Vec.{with_items}
+use Rattle.std.proofs.Common.{◌∙◌, arith, ap, map}
 use Rattle.proto_reqrep.specs.Reqs.{is_asked, orphaned}
 use Rattle.proto_reqrep.proofs.Standing.{none_taken, is_begun, lost_raw, lost_orphan, lost_live, its_lost}
 use Rattle.proto_reqrep.proofs.Coming.{asked_live, asked_ops, opened_live, any_written}

@@ -1,6 +1,4 @@
-use Rattle.std.proofs.Common.{rules, ◌≡◌, ◌++◌, ◌∷◌, [], false, subst, sym, List}
-use Rattle.proto_reqrep.specs.declared.req.Seat.{Seat}
-use Rattle.proto_reqrep.specs.Reqs.{Opened}
+use Rattle.std.proofs.Common.{rules, ◌≡◌, ◌++◌, ◌∷◌, [], false}
 use Rattle.proto_reqrep.proofs.Reaching.{opened_more}
 use Rattle.proto_reqrep.proofs.Coming.{opened_seats}
 use Rattle.proto_reqrep.proofs.req.RequestProto.open_ctx.Goals as goal

@@ -1,16 +1,13 @@
-use Rattle.std.proofs.Common.{◌≡◌, ◌≢◌, ◌∙◌, sym, ap, arith, subst, true, false, Some, None, rules, refl, Bool, ◌++◌}
-use Rattle.sp_msg.specs.Views.{MessageView, wire_text}
+use Rattle.std.proofs.Common.{◌∙◌, ℕ, sym, ap, arith, ◌++◌}
+use Rattle.sp_msg.specs.Views.{MessageView}
 use Rattle.sp_history.specs.Lists.{word}
-use Rattle.proto_reqrep.specs.Reqs.{is_asked, is_live_on, sent_at}
 use Rattle.std.specs.Vec.{vec_len, vec_capacity}
 use Rattle.std.specs.declared.alloc.Global.{Global}
 use Rattle.std.specs.declared.collections.VecDeque.{VecDeque}
 use Rattle.proto_reqrep.specs.declared.req.Kept.{Kept}
 use Rattle.proto_reqrep.specs.declared.req.Request.{Request as Machine}
 use Rattle.proto_reqrep.proofs.Winning.{given_all, sent_all}
-use Rattle.proto_reqrep.proofs.Standing.{none_taken, is_begun, recv_isnt_send, send_isnt_recv, never_floods, never_drops, given_raw, given_cooked, given_items, given_oldest, given_message}
-use Rattle.proto_reqrep.proofs.Reaching.{sent_raw, sent_raw_bytes, sent_cooked, sent_bytes, ctxs_sent, opened_as, opened_less}
-use Rattle.proto_reqrep.proofs.Coming.{asked_live, asked_ops, opened_live, not_both}
+use Rattle.proto_reqrep.proofs.Standing.{none_taken, is_begun, recv_isnt_send, send_isnt_recv}
 use Rattle.proto_reqrep.proofs.req.RequestProto.won.Goals as goal
 
 pub returns-in-None-clause-given : goal.returns-in-None-clause-given
@@ -24,7 +21,7 @@ returns-in-None-message-clause-given c =
     λ t s m o l h k.
     let was = c.args.self.now in
     let f = c.in-Some.ensures.found in
-    let all = given_all was c.give.new.self c.take.new.waiting t c.args.op s c.in-Some.w h f c.take.ensures.rest c.give.ensures.same m c.give.result k c.in-None-message.is c.give.ensures.raw c.give.ensures.cooked in
+    let all = given_all was c.give.new.self c.take.new.waiting t c.args.op s c.in-Some.w h f c.take.ensures.rest (c.give.ensures.same ∙ ap (λ (n : ℕ). record { raw = was.raw; options = was.options; tick = was.tick; last_id = was.last_id; last_pipe = n; ports = was.ports; kept = c.give.new.self.kept; live = c.give.new.self.live; waiting = c.take.new.waiting; seats = was.seats }) (sym (ap (λ (x : Machine). x.last_pipe) c.give.ensures.same))) m c.give.result k c.in-None-message.is (ap (λ (x : Machine). x.last_pipe) c.give.ensures.same) c.give.ensures.raw c.give.ensures.cooked in
     let long = ap (λ (x : Machine). vec_len x.waiting) c.give.ensures.same in
     let wide = ap (λ (x : Machine). vec_capacity x.waiting) c.give.ensures.same in
     (all.0, all.1, (all.2, omega (arith, long, wide, c.in-Some.ensures.len, c.take.ensures.capacity, was.waiting.ok.1)))
@@ -40,7 +37,7 @@ returns-in-Some-message-clause-sent c =
     λ t p s b o l h k.
     let was = c.args.self.now in
     let f = c.in-Some.ensures.found in
-    let all = sent_all was c.send.new.self c.take.new.waiting t c.args.op s c.in-Some.w h f c.take.ensures.rest (c.send.ensures.same ∙ ap (λ (k : VecDeque Kept Global). record { raw = was.raw; options = was.options; tick = was.tick; last_id = was.last_id; ports = was.ports; kept = k; live = c.send.new.self.live; waiting = c.take.new.waiting; seats = was.seats }) (sym (ap (λ (x : Machine). x.kept) c.send.ensures.same))) p b c.in-Some-message.m c.send.result k c.in-Some-message.is (ap (λ (x : Machine). x.kept) c.send.ensures.same) (λ r. let v = c.send.ensures.raw r in (v.0 ∙ c.in-Some-message.m-is, v.1)) (λ r. c.send.ensures.cooked r p o) (λ r y g. c.send.ensures.message r p o y g ∙ ap (λ (v : MessageView). word y.id ++ v.body) c.in-Some-message.m-is) in
+    let all = sent_all was c.send.new.self c.take.new.waiting t c.args.op s c.in-Some.w h f c.take.ensures.rest (c.send.ensures.same ∙ ap (λ (k : VecDeque Kept Global). record { raw = was.raw; options = was.options; tick = was.tick; last_id = was.last_id; last_pipe = c.send.new.self.last_pipe; ports = was.ports; kept = k; live = c.send.new.self.live; waiting = c.take.new.waiting; seats = was.seats }) (sym (ap (λ (x : Machine). x.kept) c.send.ensures.same))) p b c.in-Some-message.m c.send.result k c.in-Some-message.is (ap (λ (x : Machine). x.kept) c.send.ensures.same) (c.send.ensures.pipe p o) (λ r. let v = c.send.ensures.raw r in (v.0 ∙ c.in-Some-message.m-is, v.1)) (λ r. c.send.ensures.cooked r p o) (λ r y g. c.send.ensures.message r p o y g ∙ ap (λ (v : MessageView). word y.id ++ v.body) c.in-Some-message.m-is) in
     let long = ap (λ (x : Machine). vec_len x.waiting) c.send.ensures.same in
     let wide = ap (λ (x : Machine). vec_capacity x.waiting) c.send.ensures.same in
     (all.0, all.1, (all.2, omega (arith, long, wide, c.in-Some.ensures.len, c.take.ensures.capacity, was.waiting.ok.1)))
