@@ -8,6 +8,7 @@ import shutil
 import socket
 import subprocess
 import sys
+import threading
 import time
 
 HERE = os.path.dirname(os.path.abspath(__file__))
@@ -18,6 +19,7 @@ MESSAGES = int(os.environ.get("MESSAGES", "1000000"))
 
 PUSH, PULL = 0x50, 0x51
 REQ, REP = 0x30, 0x31
+RESPONDENT = 0x63
 
 
 def free_port():
@@ -334,6 +336,56 @@ def requests():
     return all(well for well, _ in tried), f"{[outs for _, outs in tried]}"
 
 
+def respondent(port, seconds=None):
+    """A respondent that answers each survey with `late`, so many seconds later, or never."""
+    peer = connect(port)
+    peer.sendall(greeting(RESPONDENT))
+
+    def answer():
+        with peer, peer.makefile("rb") as came:
+            came.read(8)
+            while True:
+                size = came.read(8)
+                if len(size) < 8:
+                    return
+                survey = came.read(int.from_bytes(size, "big"))
+                if seconds is not None:
+                    time.sleep(seconds)
+                    peer.sendall(frame(survey[:4] + b"late"))
+
+    threading.Thread(target=answer, daemon=True).start()
+
+
+SURVEYS = ("--surveyor", "--data", "who", "--ascii", "--interval", "2", "--count", "3")
+
+
+def surveys_three(surveyor, answerer):
+    """Three respondents dial a surveyor: one answers, one answers late, and one never."""
+    port = free_port()
+    run = listening(surveyor, port, *SURVEYS)
+    other = begin(answerer, "--respondent", "--dial", address(port), "--data", "here")
+    respondent(port, 1.5)
+    respondent(port)
+    outs, well = said([run])
+    stop(other)
+    return well and set(outs[0].replace(b"\n", b"").split(b"here")) == {b""} and b"here" in outs[0], outs
+
+
+def surveys_by_dialing(surveyor, answerer):
+    """A surveyor dials two respondents that listen."""
+    ports = [free_port() for _ in range(2)]
+    others = [listening(answerer, port, "--respondent", "--data", "here") for port in ports]
+    outs, well = said([begin(surveyor, *SURVEYS, "--dial", address(ports[0]), "--dial", address(ports[1]))])
+    stop(*others)
+    return well and set(outs[0].replace(b"\n", b"").split(b"here")) == {b""} and b"here" in outs[0], outs
+
+
+def surveys():
+    """Surveys and their answers between ours and Debian's, both ways, each of them listening."""
+    tried = [check(*pair) for check in (surveys_three, surveys_by_dialing) for pair in ((OURS, THEIRS), (THEIRS, OURS))]
+    return all(well for well, _ in tried), f"{[outs for _, outs in tried]}"
+
+
 def bus_of_four():
     """A bus sends to three others: ours to two of Debian's and one of ours, and the other way round."""
     told = []
@@ -430,7 +482,7 @@ def wrong_words():
         (("--pull", *listen, "--count", "\x1b[31m\r\n\t\x7f\"\\\xe9"), 4,
          b'can\'t go on with "\\x1b[31m\\r\\n\\t\\x7f\\"\\\\\\xc3\\xa9"'),
         (("",), 0, b'can\'t go on with ""'),
-        (("--drill", "1"), 0, b"this role, address or drill is not there yet"),
+        (("--drill", "1"), 0, b"this address or drill is not there yet"),
     ]
     wrong = []
     for words, at, text in rows:
@@ -490,7 +542,7 @@ def main():
     checks = [help_and_version, wrong_words, standard_input, completion, manual_page, broken_peers, slow_reader, slow_peer, peer_that_comes_back, many_links, many_messages]
     if THEIRS:
         checks += [theirs_to_ours, ours_to_theirs, four_of_theirs, theirs_is_dialed, replies_to_theirs, answers_theirs,
-                   pairs_with_theirs, requests, bus_of_four, publishes, formats_of_theirs]
+                   pairs_with_theirs, requests, surveys, bus_of_four, publishes, formats_of_theirs]
     else:
         print("skipped: no nngcat of nng is installed")
     wanted = sys.argv[1:]

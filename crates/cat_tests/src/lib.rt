@@ -17,6 +17,8 @@ mod refusals;
 mod roles;
 #[cfg(test)]
 mod spreading;
+#[cfg(test)]
+mod surveys;
 
 /// How many turns the pace of a test has, a millisecond apart.
 pub const TURNS: u64 = 200;
