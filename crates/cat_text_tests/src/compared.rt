@@ -63,11 +63,13 @@ const POOL: [&str; 48] = [
 ];
 
 /// Whole options that most often go together.
-const PARTS: [&str; 20] = [
+const PARTS: [&str; 22] = [
     "--listen=tcp://127.0.0.1:5555",
     "--dial=tcp://10.0.0.1:1",
     "--listen=inproc://x",
     "--dial=inproc://y",
+    "--listen=ws://*:80/a",
+    "--dial=ws://1.2.3.4:80",
     "--data=",
     "--data=hello",
     "--file=f",
@@ -114,14 +116,19 @@ fn any_words(alloc: Global, seed: &mut u32, len: usize) -> Result<Vec<String>, N
     Ok(list)
 }
 
-/// A role and so many options.
+/// So many options, with a role somewhere among them.
 fn likely_words(alloc: Global, seed: &mut u32, len: usize) -> Result<Vec<String>, NoMemory> {
     let mut list = Vec::new(alloc);
     *seed = next(*seed);
-    list.push(String::from_str(alloc, word(POOL.as_slice(), *seed, 10))?)?;
-    for _ in 0..len {
+    let place = below(*seed, len.saturating_add(1));
+    for n in 0..len.saturating_add(1) {
         *seed = next(*seed);
-        list.push(String::from_str(alloc, word(PARTS.as_slice(), *seed, 20))?)?;
+        let text = if n == place {
+            word(POOL.as_slice(), *seed, 10)
+        } else {
+            word(PARTS.as_slice(), *seed, 22)
+        };
+        list.push(String::from_str(alloc, text)?)?;
     }
     Ok(list)
 }
@@ -135,6 +142,14 @@ fn is_same_address(a: &Addr, b: &Addr) -> bool {
                 port: number,
             },
         ) => *host == *other && *port == *number,
+        (
+            Addr::Ws { host, port, path },
+            Addr::Ws {
+                host: other,
+                port: number,
+                path: way,
+            },
+        ) => *host == *other && *port == *number && path.as_slice() == way.as_slice(),
         (Addr::Inproc { name }, Addr::Inproc { name: other }) => {
             name.as_slice() == other.as_slice()
         }

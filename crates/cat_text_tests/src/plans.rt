@@ -19,19 +19,24 @@ fn push_bytes(text: &mut String, bytes: &[u8]) -> Result<(), NoMemory> {
     Ok(())
 }
 
+fn push_host(alloc: Global, text: &mut String, host: &Host, port: u16) -> Result<(), NoMemory> {
+    match host {
+        Host::Any => text.push_str(format!(in alloc; "*:{port}")?.as_str())?,
+        Host::V4(a, b, c, d) => {
+            text.push_str(format!(in alloc; "{a}.{b}.{c}.{d}:{port}")?.as_str())?
+        }
+    }
+    Ok(())
+}
+
 fn push_address(alloc: Global, text: &mut String, addr: &Addr) -> Result<(), NoMemory> {
     match addr {
-        Addr::Tcp { host, port } => match host {
-            Host::Any => text.push_str(format!(in alloc; "*:{port}")?.as_str())?,
-            Host::V4(a, b, c, d) => {
-                text.push_str(format!(in alloc; "{a}.{b}.{c}.{d}:{port}")?.as_str())?
-            }
-        },
-        Addr::Ws {
-            host: _,
-            port,
-            path: _,
-        } => text.push_str(format!(in alloc; "ws:{port}")?.as_str())?,
+        Addr::Tcp { host, port } => push_host(alloc, text, host, *port)?,
+        Addr::Ws { host, port, path } => {
+            text.push_str("ws ")?;
+            push_host(alloc, text, host, *port)?;
+            push_bytes(text, path.as_slice())?;
+        }
         Addr::Inproc { name } => push_bytes(text, name.as_slice())?,
     }
     Ok(())
@@ -105,10 +110,15 @@ fn show_cat(alloc: Global, plan: &CatPlan) -> Result<String, NoMemory> {
     Ok(text)
 }
 
-/// The plan of the words as a text.
+/// The plan of the texts as a text.
 fn show(alloc: Global, texts: &[&str]) -> Result<String, NoMemory> {
     let list = words(alloc, texts)?;
-    match Plan::read(alloc, &list) {
+    show_words(alloc, &list)
+}
+
+/// The plan of the words as a text.
+fn show_words(alloc: Global, list: &[String]) -> Result<String, NoMemory> {
+    match Plan::read(alloc, list) {
         Ok(Plan::Drill { count }) => Ok(format!(in alloc; "drill {count}")?),
         Ok(Plan::Cat(plan)) => show_cat(alloc, &plan),
         Err(PlanError::Usage { at }) => Ok(format!(in alloc; "wrong at {at}")?),
@@ -227,6 +237,19 @@ fn ends_keep_the_order_of_the_words(rt: HostRuntime) -> Result<(), Fail> {
             ],
             "Pull listen 127.0.0.1:1 listen tcp://*:0 None",
         ),
+        (
+            &[
+                "--pull",
+                "--listen",
+                "ws://*:0",
+                "--dial=ws://1.2.3.4:80/a/b",
+            ],
+            "Pull listen ws *:0/ dial ws 1.2.3.4:80/a/b None",
+        ),
+        (
+            &["--pull", "--dial", "ws://localhost:65535"],
+            "Pull dial ws 127.0.0.1:65535/ None",
+        ),
     ];
     for (texts, wanted) in rows {
         let shown = show(rt.alloc(), texts)?;
@@ -264,5 +287,137 @@ fn the_count_is_that_of_the_role(rt: HostRuntime) -> Result<(), Fail> {
         let shown = show(rt.alloc(), &[*role, "--listen", A, "--count", "3"])?;
         assert!(rt; shown.as_str().ends_with(" count 3 None"));
     }
+    Ok(())
+}
+
+#[test]
+fn each_name_of_a_role_is_that_role(rt: HostRuntime) -> Result<(), Fail> {
+    let names: &[(&str, &str, &str)] = &[
+        ("--pair", "--pair0", "Pair0 listen"),
+        ("--pub", "--pub0", "Pub listen"),
+        ("--sub", "--sub0", "Sub listen"),
+        ("--req", "--req0", "Req listen"),
+        ("--rep", "--rep0", "Rep listen"),
+        ("--push", "--push0", "Push listen"),
+        ("--pull", "--pull0", "Pull listen"),
+        ("--surveyor", "--surveyor0", "Surveyor listen"),
+        ("--respondent", "--respondent0", "Respondent listen"),
+        ("--bus", "--bus0", "Bus listen"),
+    ];
+    for (name, longer, front) in names {
+        for word in [*name, *longer] {
+            let takes_none = *name == "--pull" || *name == "--sub";
+            let last = if takes_none {
+                "--send-timeout=1"
+            } else {
+                "--data=x"
+            };
+            let shown = show(rt.alloc(), &[word, "--listen", A, last])?;
+            assert!(rt; shown.as_str().starts_with(front));
+        }
+    }
+    Ok(())
+}
+
+// Whether the data of a push of these words are these bytes.
+fn sends(alloc: Global, value: &str, bytes: &[u8]) -> Result<bool, NoMemory> {
+    let list = words(alloc, &["--push", "--listen", A, "--data", value])?;
+    match Plan::read(alloc, &list) {
+        Ok(Plan::Cat(plan)) => match &plan.data_ {
+            Data::Text(text) => Ok(text.as_slice() == bytes),
+            Data::None | Data::File(_) => Ok(false),
+        },
+        Ok(Plan::Drill { count: _ }) => Ok(false),
+        Err(PlanError::Usage { at: _ }) => Ok(false),
+        Err(PlanError::NoMemory) => Err(NoMemory),
+    }
+}
+
+// Whether the file that a push of these words sends has this name.
+fn sends_file(alloc: Global, name: &str) -> Result<bool, NoMemory> {
+    let list = words(alloc, &["--push", "--listen", A, "--file", name])?;
+    match Plan::read(alloc, &list) {
+        Ok(Plan::Cat(plan)) => match &plan.data_ {
+            Data::File(text) => Ok(text.as_slice() == name.as_bytes()),
+            Data::None | Data::Text(_) => Ok(false),
+        },
+        Ok(Plan::Drill { count: _ }) => Ok(false),
+        Err(PlanError::Usage { at: _ }) => Ok(false),
+        Err(PlanError::NoMemory) => Err(NoMemory),
+    }
+}
+
+#[test]
+fn data_are_the_bytes_of_the_text(rt: HostRuntime) -> Result<(), Fail> {
+    assert!(rt; sends(rt.alloc(), "\u{e9}", &[0xc3, 0xa9])?);
+    assert!(rt;
+        sends(
+            rt.alloc(),
+            "\u{20ac}a\u{1f600}",
+            b"\xe2\x82\xaca\xf0\x9f\x98\x80"
+        )?
+    );
+    Ok(())
+}
+
+// So many times a letter.
+fn repeated(alloc: Global, times: u32) -> Result<String, NoMemory> {
+    let mut text = String::new(alloc);
+    for _ in 0..times {
+        text.push_str("a")?;
+    }
+    Ok(text)
+}
+
+#[test]
+fn long_data_and_long_names_are_read(rt: HostRuntime) -> Result<(), Fail> {
+    let name = repeated(rt.alloc(), 4_096)?;
+    assert_eq!(rt; name.len(), 4_096);
+    assert!(rt; sends_file(rt.alloc(), name.as_str())?);
+    // The longest word that Linux hands to a program.
+    let text = repeated(rt.alloc(), 131_071)?;
+    assert_eq!(rt; text.len(), 131_071);
+    assert!(rt; sends(rt.alloc(), text.as_str(), text.as_bytes())?);
+    Ok(())
+}
+
+// Some words behind those that are there.
+fn push_words(list: &mut Vec<String>, alloc: Global, texts: &[&str]) -> Result<(), NoMemory> {
+    for text in texts {
+        list.push(String::from_str(alloc, text)?)?;
+    }
+    Ok(())
+}
+
+// The longest list that has a plan: a sub with 64 topics, 64 ends, and each other option that it may have.
+fn longest(alloc: Global) -> Result<Vec<String>, NoMemory> {
+    let mut list = words(alloc, &["--sub"])?;
+    for _ in 0..32u32 {
+        push_words(&mut list, alloc, &["--subscribe", "a", "--listen", A])?;
+        push_words(&mut list, alloc, &["--subscribe", "b", "--dial", B])?;
+    }
+    push_words(&mut list, alloc, &["--count", "1", "--interval", "2"])?;
+    push_words(
+        &mut list,
+        alloc,
+        &["--recv-timeout", "3", "--send-timeout", "4", "--hex"],
+    )?;
+    Ok(list)
+}
+
+#[test]
+fn the_longest_list_is_read(rt: HostRuntime) -> Result<(), Fail> {
+    let list = longest(rt.alloc())?;
+    assert_eq!(rt; list.len(), 266);
+    let mut wanted = String::from_str(rt.alloc(), "Sub")?;
+    for _ in 0..32u32 {
+        wanted.push_str(" listen 127.0.0.1:5555 dial 127.0.0.1:5556")?;
+    }
+    for _ in 0..32u32 {
+        wanted.push_str(" topic 'a' topic 'b'")?;
+    }
+    wanted.push_str(" count 1 interval 2 recv 3 send 4 Hex")?;
+    let shown = show_words(rt.alloc(), &list)?;
+    assert_eq!(rt; shown.as_str(), wanted.as_str());
     Ok(())
 }
