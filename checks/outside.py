@@ -17,6 +17,7 @@ THEIRS = shutil.which("nngcat")
 LINKS = int(os.environ.get("LINKS", "100000"))
 MESSAGES = int(os.environ.get("MESSAGES", "1000000"))
 
+PAIR = 0x10
 PUSH, PULL = 0x50, 0x51
 REQ, REP = 0x30, 0x31
 RESPONDENT = 0x63
@@ -43,6 +44,17 @@ def connect(port, tries=200):
         except OSError:
             time.sleep(0.02)
     raise OSError("nobody listens")
+
+
+def read_all(peer, size):
+    """So many bytes of the peer, or fewer where it ends before."""
+    came = b""
+    while len(came) < size:
+        piece = peer.recv(size - len(came))
+        if not piece:
+            break
+        came += piece
+    return came
 
 
 def begin(program, *words, **more):
@@ -316,12 +328,7 @@ def asks_one_that_dies(asker, server):
         peer, _ = listener.accept()
         peer.sendall(greeting(REP))
         wanted = len(greeting(REQ) + frame(b"1234ping"))
-        came = b""
-        while len(came) < wanted:
-            piece = peer.recv(wanted - len(came))
-            if not piece:
-                break
-            came += piece
+        came = read_all(peer, wanted)
         peer.close()
     replier = begin(server, *ANSWER, "--listen", address(port))
     outs, well = said([run])
@@ -383,6 +390,43 @@ def surveys_by_dialing(surveyor, answerer):
 def surveys():
     """Surveys and their answers between ours and Debian's, both ways, each of them listening."""
     tried = [check(*pair) for check in (surveys_three, surveys_by_dialing) for pair in ((OURS, THEIRS), (THEIRS, OURS))]
+    return all(well for well, _ in tried), f"{[outs for _, outs in tried]}"
+
+
+def words_of_devices():
+    """A request that came through devices gets all their words back in front of the reply."""
+    port = free_port()
+    words = bytes.fromhex("000000078000002a")
+    run = listening(OURS, port, *ANSWER)
+    want = greeting(REP) + frame(words + b"pong")
+    with connect(port) as peer:
+        peer.settimeout(20)
+        peer.sendall(greeting(REQ) + frame(words + b"q"))
+        came = read_all(peer, len(want))
+    stop(run)
+    return came == want, f"{came!r}"
+
+
+def takes_the_next(server, dialer):
+    """A pair that has a peer refuses another one, which dials on and is taken when the first has gone."""
+    port = free_port()
+    run = listening(server, port, "--pair0", "--ascii", "--count", "2")
+    with connect(port) as first:
+        first.settimeout(20)
+        first.sendall(greeting(PAIR) + frame(b"one"))
+        greeted = read_all(first, 8) == greeting(PAIR)
+        time.sleep(0.5)
+        other = begin(dialer, "--pair0", "--dial", address(port), "--data", "two", "--interval", "1")
+        time.sleep(2.5)
+        waits = run.poll() is None
+    outs, well = said([run])
+    stop(other)
+    return well and greeted and waits and outs[0].replace(b"\n", b"") == b"onetwo", outs
+
+
+def pair_takes_the_next():
+    """Ours with Debian's as the second peer, and the other way round."""
+    tried = [takes_the_next(OURS, THEIRS), takes_the_next(THEIRS, OURS)]
     return all(well for well, _ in tried), f"{[outs for _, outs in tried]}"
 
 
@@ -539,10 +583,10 @@ def main():
     if not os.access(OURS, os.X_OK):
         print("skipped: crates/nngcat/out/nngcat isn't built")
         return 0
-    checks = [help_and_version, wrong_words, standard_input, completion, manual_page, broken_peers, slow_reader, slow_peer, peer_that_comes_back, many_links, many_messages]
+    checks = [help_and_version, wrong_words, standard_input, completion, manual_page, broken_peers, slow_reader, slow_peer, peer_that_comes_back, words_of_devices, many_links, many_messages]
     if THEIRS:
         checks += [theirs_to_ours, ours_to_theirs, four_of_theirs, theirs_is_dialed, replies_to_theirs, answers_theirs,
-                   pairs_with_theirs, requests, surveys, bus_of_four, publishes, formats_of_theirs]
+                   pairs_with_theirs, pair_takes_the_next, requests, surveys, bus_of_four, publishes, formats_of_theirs]
     else:
         print("skipped: no nngcat of nng is installed")
     wanted = sys.argv[1:]
