@@ -46,6 +46,7 @@ use Rattle.proto_pending.proofs.Firsts.{first_found, passes_first, first_on, no_
 use Rattle.proto_bus.specs.declared.Bus.{Bus}
 use Rattle.proto_bus.specs.Buses.{Ties, Floods, IsFlood, AreCopies, message_in, receiver_of, left_out_of, header_of}
 use Rattle.proto_bus.specs.BusLaws.{goes_on, lawful_before}
+use Rattle.proto_bus.proofs.Counting.{one_fewer, ups_apart}
 
 pub is_bus : (m : Bus) (t : Moment) → Ties m t → t.z.role ≡ role.Bus
 is_bus m t h = ap (λ (k : Kind). k.role) h.0.kind
@@ -85,23 +86,6 @@ up_most (Down p why ∷ before) = omega (arith, up_most before, no_longer (up be
         go false h = omega (arith, h)
 up_most (_ ∷ before) = up_most before
 
-shorter : (us : List ℕ) (p : ℕ) → length (without us p) ≤ length us
-shorter [] p = omega arith
-shorter (u ∷ us) p = go (u == p) (shorter us p)
-  where
-    go : (b : Bool) → length (without us p) ≤ length us → length (cond (not b) (u ∷ without us p) (without us p)) ≤ length (u ∷ us)
-    go true h = omega (arith, h)
-    go false h = omega (arith, h)
-
--- one that was up is no longer
-one_fewer : (us : List ℕ) (p : ℕ) → has us p ≡ true → length (without us p) + 1 ≤ length us
-one_fewer [] p h = absurd cc
-one_fewer (u ∷ us) p h = go (u == p) h (shorter us p) (one_fewer us p)
-  where
-    go : (b : Bool) → (b || has us p) ≡ true → length (without us p) ≤ length us → (has us p ≡ true → length (without us p) + 1 ≤ length us) → length (cond (not b) (u ∷ without us p) (without us p)) + 1 ≤ length (u ∷ us)
-    go true h most again = omega (arith, most)
-    go false h most again = omega (arith, again h)
-
 append_one : (us : List ℕ) (p : ℕ) → length (us ++ p ∷ []) ≡ length us + 1
 append_one [] p = refl
 append_one (u ∷ us) p = omega (arith, append_one us p)
@@ -133,7 +117,7 @@ down_ties m n t p why l h same =
     let known = h.0.pipes in (
       record {
         kind = rw same h.0.kind;
-        pipes = rw same (omega (arith, one_fewer (up (past t)) p l.turn.0.itself.0, known));
+        pipes = rw same (omega (arith, one_fewer (up (past t)) p (ups_apart t (lawful_before t (Down p why) l)) l.turn.0.itself.0, known));
         items = rw same h.0.items ∙ ap (map message_in) (pool_down t.z (past t) p why (is_bus m t h));
         places = rw same h.0.places;
         pending = rw same h.0.pending;

@@ -49,7 +49,7 @@ pub anew : (m : Bus) (t : Moment) → past t ≡ [] → Ties m t → Starts Ties
 anew m t e h slots callers caller = (
   record {
     kind = refl;
-    pipes = subst (λ before. length (up before) ≤ m.pipes) e h.0.pipes;
+    pipes = h.0.pipes ∙ ap (λ before. length (up before)) e;
     items = h.0.items ∙ ap (λ before. map message_in (pool t.z before 0)) e;
     places = h.0.places;
     pending = subst (λ before. Holds m.pending (pend before)) e h.0.pending;

@@ -65,11 +65,11 @@ abbrev pub Floods : Setting → List Entry → Option ℕ → List MessageView �
 Floods z past out copies [] = ⊤
 Floods z past out copies (s ∷ ss) = HasCopies z past (length copies) × IsFlood z.raw out copies s.act × (ss ≡ [])
 
--- The bus is of this kind, knows how many pipes are up at most, keeps these items, for which it has places, and has these
+-- The bus is of this kind, knows how many pipes are up, keeps these items, for which it has places, and has these
 -- operations pending
 pub record Shows (m : Bus) (k : Kind) (us : List ℕ) (is : List Item) (ss : List Begun) (cs : List ℕ) : Type 0 where
   pub kind : k ≡ bus_kind m.raw m.options
-  pub pipes : length us ≤ m.pipes
+  pub pipes : m.pipes ≡ length us
   pub items : map text_of m.kept.items ≡ map message_in is
   pub places : m.options.queue ≤ deque_capacity m.kept
   pub pending : Holds m.pending ss
