@@ -502,41 +502,120 @@ def answered(*words, **more):
     return run.returncode, run.stdout, run.stderr
 
 
+# Each option of the help: how its line begins, its unit or range, and its default.
+OPTIONS = [
+    ("--listen ADDRESS", "0 to 65535", None),
+    ("--dial ADDRESS", "1 to 65535", None),
+    ("--data TEXT", "send TEXT", None),
+    ("--file NAME", "standard input", None),
+    ("--subscribe TEXT", "1,024 bytes", "Without it a sub takes all"),
+    ("--raw", "bytes", "without one nothing is printed"),
+    ("--ascii", "a line each", "without one nothing is printed"),
+    ("--quoted", "a line each", "without one nothing is printed"),
+    ("--hex", "two digits", "without one nothing is printed"),
+    ("--msgpack", "MessagePack", "without one nothing is printed"),
+    ("--count N", "0 to 4,294,967,295", "Default: 1 for what sends first and has no --interval, else no bound"),
+    ("--interval SECONDS", "0 to 86,400", "Default: at once"),
+    ("--recv-timeout SECONDS", "0 to 86,400", "Default: never"),
+    ("--send-timeout SECONDS", "0 to 86,400", "Default: never"),
+    ("--help, --version", "print this text", None),
+]
+ROLES = ("push", "pull", "pub", "sub", "req", "rep", "pair", "bus", "surveyor", "respondent")
+
+
+def told_of(lines, option):
+    """The text of an option: its line and those below it, up to the next option or an empty line; None without one."""
+    for n, line in enumerate(lines):
+        if line.startswith("  " + option + " "):
+            block = [line]
+            for more in lines[n + 1:]:
+                if not more or more.startswith("  --"):
+                    break
+                block.append(more)
+            return " ".join(" ".join(block).split())
+    return None
+
+
+def lacks(text, lines):
+    """What the help lacks: a role, an option, its unit or its default."""
+    whole = " ".join(text.split())
+    lacking = [role for role in ROLES if f"--{role}" not in text]
+    for option, unit, default in OPTIONS:
+        told = told_of(lines, option)
+        near = told and unit in (whole if option.endswith("ADDRESS") else told)
+        if not near or (default and default not in (told if default.startswith("Default") else whole)):
+            lacking.append(option)
+    return lacking
+
+
 def help_and_version():
-    """--help and --version alone: status 0, on standard output, at most 60 lines, four examples."""
+    """--help and --version alone: status 0, on standard output, at most 60 lines of 80 columns, four examples, each option
+    with its unit and default. Both complain where standard output takes nothing."""
     status, text, err = answered("--help")
     lines = text.decode().split("\n")
     right = status == 0 and err == b"" and len(lines) <= 61 and lines[-1] == ""
+    right = right and all(len(line) <= 80 for line in lines)
     right = right and sum(line.startswith("  nngcat --") for line in lines) >= 4
+    lacking = lacks(text.decode(), lines)
     status, version, err = answered("--version")
     right = right and status == 0 and err == b"" and version.count(b"\n") == 1 and version.startswith(b"nngcat ")
     status, out, err = answered("--help", "--version")
     right = right and status == 1 and out == b"" and err.startswith(b"nngcat: bad word 0\n")
-    return right, f"{len(lines) - 1} lines, {version!r}"
+    if os.path.exists("/dev/full"):
+        for word in ("--help", "--version"):
+            with open("/dev/full", "wb") as full:
+                run = subprocess.run([OURS, word], stdout=full, stderr=subprocess.PIPE, timeout=60)
+            right = right and (run.returncode, run.stderr) == (5, b"nngcat: output fault\n")
+    return right and not lacking, f"{len(lines) - 1} lines, {version!r}, lacking: {lacking}"
 
 
 def wrong_words():
     """A wrong word is named: its place, then the word as the format quoted prints it, whatever its bytes."""
     listen = ("--listen", "tcp://127.0.0.1:5555")
+    missing = b"a word is missing at the end: "
     rows = [
         (("--bogus",), 0, b'can\'t go on with "--bogus"'),
-        ((), 0, b"a word is missing at the end"),
-        (("--pull",), 1, b"a word is missing at the end"),
+        ((), 0, missing + b"a role"),
+        (listen, 2, missing + b"a role"),
+        (("--pull",), 1, missing + b"--listen or --dial"),
+        (("--push", *listen), 3, missing + b"--data or --file"),
+        (("--pull", "--listen"), 2, missing + b"the value of the last option"),
+        (("--drill",), 1, missing + b"the value of the last option"),
         (("--pull", *listen, "x"), 3, b'can\'t go on with "x"'),
         (("--pull", *listen, "--count", "\x1b[31m\r\n\t\x7f\"\\\xe9"), 4,
          b'can\'t go on with "\\x1b[31m\\r\\n\\t\\x7f\\"\\\\\\xc3\\xa9"'),
         (("",), 0, b'can\'t go on with ""'),
-        (("--drill", "1"), 0, b"this address or drill is not there yet"),
     ]
+    unready = [
+        (("--drill", "1"), 0, b"--drill"),
+        (("--drill=1",), 0, b"--drill=1"),
+        (("--pull", *listen, "--listen", "inproc://a"), 4, b"inproc://a"),
+        (("--ascii", "--pull", "--dial=inproc://a"), 2, b"--dial=inproc://a"),
+        (("--push", "--data", "--drill", "--listen", "ws://*:80/a"), 4, b"ws://*:80/a"),
+    ]
+    rows += [(words, at, b'can\'t go on with "%s"\nnngcat: this address or drill is not there yet' % word)
+             for words, at, word in unready]
     wrong = []
     for words, at, text in rows:
         found = answered(*words)
         if found != (1, b"", b"nngcat: bad word %d\nnngcat: see nngcat --help; %s\n" % (at, text)):
             wrong.append((words, found))
     found = answered(b"--pull", b"\xff")
-    if found != (1, b"", b"nngcat: bad word 0\n"):
+    if found != (1, b"", b"nngcat: bad word 0\nnngcat: see nngcat --help; a word is not UTF-8\n"):
         wrong.append(found)
     return not wrong, f"{len(rows) + 1} lists, other: {wrong}"
+
+
+def faults_name_their_words():
+    """A fault of a file or of the net is followed by the words that it may be about."""
+    with socket.socket() as taken:
+        taken.bind(("127.0.0.1", 0))
+        taken.listen(1)
+        port = taken.getsockname()[1]
+        net = answered("--pull", "--listen", address(port), "--dial=tcp://127.0.0.1:1")
+    lost = answered("--push", "--listen", address(free_port()), "--file", "no such\tfile")
+    right = net == (4, b"", b'nngcat: network fault\nnngcat: --listen "%s"\n' % address(port).encode())
+    return right and lost == (6, b"", b'nngcat: file fault\nnngcat: --file "no such\\tfile"\n'), f"{net}, {lost}"
 
 
 def standard_input():
@@ -558,6 +637,26 @@ def standard_input():
     run.communicate(timeout=60)
     peer.close()
     return came == wanted and run.returncode == 0, f"{len(came)} bytes, status {run.returncode}"
+
+
+def empty_input():
+    """--file - sends an empty message where standard input is empty, and is a fault where it is closed."""
+    port = free_port()
+    run = start("--push", "--listen", address(port), "--file", "-", stdin=subprocess.DEVNULL)
+    peer = connect(port)
+    peer.sendall(greeting(PULL))
+    wanted, came = greeting(PUSH) + frame(b""), b""
+    while len(came) < len(wanted):
+        piece = peer.recv(64)
+        if not piece:
+            break
+        came += piece
+    run.communicate(timeout=60)
+    peer.close()
+    closed = subprocess.run(["sh", "-c", 'exec "$0" "$@" <&-', OURS, "--push", "--listen", address(free_port()), "--file", "-"],
+                            stdout=subprocess.PIPE, stderr=subprocess.PIPE, timeout=60)
+    right = came == wanted and run.returncode == 0
+    return right and closed.returncode == 6, f"{came!r}, closed: status {closed.returncode} {closed.stderr!r}"
 
 
 def completion():
@@ -583,7 +682,7 @@ def main():
     if not os.access(OURS, os.X_OK):
         print("skipped: crates/nngcat/out/nngcat isn't built")
         return 0
-    checks = [help_and_version, wrong_words, standard_input, completion, manual_page, broken_peers, slow_reader, slow_peer, peer_that_comes_back, words_of_devices, many_links, many_messages]
+    checks = [help_and_version, wrong_words, faults_name_their_words, standard_input, empty_input, completion, manual_page, broken_peers, slow_reader, slow_peer, peer_that_comes_back, words_of_devices, many_links, many_messages]
     if THEIRS:
         checks += [theirs_to_ours, ours_to_theirs, four_of_theirs, theirs_is_dialed, replies_to_theirs, answers_theirs,
                    pairs_with_theirs, pair_takes_the_next, requests, surveys, bus_of_four, publishes, formats_of_theirs]

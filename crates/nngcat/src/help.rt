@@ -3,31 +3,32 @@
 /// The answer to `--help` alone.
 pub const HELP: &str = "\
 Usage: nngcat ROLE ENDPOINT.. [OPTION]..
-
-Sends or receives messages over a scalability protocol, and prints what it receives.
-A value is the next word, or stands behind =, as in --count=3. Options come in any order.
+Sends or receives messages over a scalability protocol; prints what it receives.
+A value is the next word, or stands behind =, as in --count=3.
+Options come in any order.
 
 Roles (exactly one; each also with 0 at its end):
-  --push    sends to one peer each          --pull        receives from all peers
-  --pub     sends to all subscribers        --sub         receives what begins with one of its topics
-  --req     sends data, prints its reply    --rep         prints requests, replies with data
-  --pair    one peer, both ways             --respondent  prints surveys, answers with data
-  --bus     all peers: sends data,          --surveyor    sends data to all, prints what is answered
-            or receives where it has none                 within a second
+  --push  sends to one peer each        --pull  receives from all peers
+  --pub   sends to all subscribers      --sub   takes what begins with a topic
+  --req   sends data, prints its reply  --rep   prints requests, sends data back
+  --pair  one peer: sends data, or receives where it has none
+  --bus   all peers: sends data, or receives where it has none
+  --respondent  prints surveys, answers with data
+  --surveyor    sends data to all, prints what is answered within a second
 
 Endpoints (1 to 64 in all):
   --listen ADDRESS        accept connections at ADDRESS
-  --dial ADDRESS          connect to ADDRESS, again 100 milliseconds after it fails or ends
-  ADDRESS is tcp://HOST:PORT. HOST is *, localhost or four numbers with dots between; * is for
-  --listen alone. PORT is 0 to 65535, and not 0 for --dial.
+  --dial ADDRESS          connect to ADDRESS, again 100 ms after failure or end
+  ADDRESS is tcp://HOST:PORT. HOST is *, localhost or four numbers with dots
+  between; * is for --listen alone. PORT is 0 to 65535, for --dial 1 to 65535.
 
 Data (one of the two; push, pub, req and surveyor need it, pull and sub take none):
   --data TEXT             send TEXT
   --file NAME             send what the file NAME holds; - is standard input
 
 What a sub takes:
-  --subscribe TEXT        messages that begin with TEXT, of at most 1,024 bytes; up to 64 times.
-                          Without it a sub takes all
+  --subscribe TEXT        messages that begin with TEXT, of at most 1,024 bytes;
+                          up to 64 times. Without it a sub takes all
 
 How it is printed (one format at most; without one nothing is printed):
   --raw                   the bytes as they are
@@ -37,23 +38,26 @@ How it is printed (one format at most; without one nothing is printed):
   --msgpack               each as binary data of MessagePack
 
 How often and how long:
-  --count N               end after N messages, 0 to 4,294,967,295; 0 is no bound. Default: 1 for
-                          what sends first and has no --interval, else no bound
-  --interval SECONDS      send again each so many seconds, 0 to 86,400. Default: at once
-  --recv-timeout SECONDS  end with status 0 where nothing comes for so long. Default: never
-  --send-timeout SECONDS  end with status 2 where nothing can be sent for so long, once what was sent
-                          before is written. Default: never
+  --count N               end after N messages (0 to 4,294,967,295; 0 is no
+                          bound). Default: 1 for what sends first and has no
+                          --interval, else no bound
+  --interval SECONDS      send again each so many seconds, 0 to 86,400.
+                          Default: at once
+  --recv-timeout SECONDS  end with status 0 where nothing comes for so long,
+                          0 to 86,400. Default: never
+  --send-timeout SECONDS  end with status 2 where nothing can be sent for so
+                          long, once what went before is written,
+                          0 to 86,400. Default: never
 
 Alone:
   --help, --version       print this text, or the version
 
-Status: 0 done, 1 wrong words, 2 send timed out, 3 stopped, 4 network fault, 5 output fault,
-6 file fault, 7 out of memory. The reason stands on standard error.
+Status: 0 done, 1 wrong words, 2 send timed out, 3 stopped, 4 network fault,
+5 output fault, 6 file fault, 7 out of memory. Standard error has the reason.
 
 Examples:
   nngcat --pull --listen tcp://127.0.0.1:5555 --ascii
   nngcat --push --dial tcp://127.0.0.1:5555 --data hello
-  nngcat --pair --dial tcp://127.0.0.1:5556 --quoted --count 10
   nngcat --rep --listen tcp://*:5557 --ascii --data pong --recv-timeout 60
   nngcat --req --dial tcp://127.0.0.1:5557 --data ping --ascii
   nngcat --pub --listen tcp://*:5558 --data news --interval 1

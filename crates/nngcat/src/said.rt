@@ -1,0 +1,105 @@
+//! What words say, as far as a complaint speaks of it. The words are right, or the beginning of words that are.
+
+/// An option: its name, its value, the place of its word, and that of the word that its value stands in.
+#[derive(Clone, Copy)]
+pub struct Said<'a> {
+    pub name: &'a str,
+    pub value: Option<&'a str>,
+    pub at: usize,
+    pub value_at: usize,
+}
+
+fn has_value(name: &str) -> bool {
+    match name {
+        "--listen" | "--dial" | "--data" | "--file" | "--subscribe" | "--count" => true,
+        "--interval" | "--recv-timeout" | "--send-timeout" | "--drill" => true,
+        _ => false,
+    }
+}
+
+fn is_format(name: &str) -> bool {
+    matches!(
+        name,
+        "--ascii" | "--raw" | "--quoted" | "--hex" | "--msgpack"
+    )
+}
+
+fn is_end(name: &str) -> bool {
+    matches!(name, "--listen" | "--dial")
+}
+
+/// The option that begins with the word at this place.
+pub fn said_at(words: &[String], at: usize) -> Option<Said<'_>> {
+    let word = words.get(at)?.as_str();
+    let mut said = Said {
+        name: word,
+        value: None,
+        at,
+        value_at: at,
+    };
+    if let Some((name, value)) = word.split_once('=') {
+        said.name = name;
+        said.value = Some(value);
+    } else if has_value(word) {
+        said.value_at = at.saturating_add(1);
+        said.value = match words.get(said.value_at) {
+            Some(value) => Some(value.as_str()),
+            None => None,
+        };
+    }
+    Some(said)
+}
+
+fn is_role(name: &str) -> bool {
+    !has_value(name) && !is_format(name)
+}
+
+// Whether it is a drill, or an address that isn't one of TCP.
+fn is_unready(said: &Said<'_>) -> bool {
+    said.name == "--drill" || (is_end(said.name) && !said.value.unwrap_or("").starts_with("tcp://"))
+}
+
+/// The place of the word that can't be run yet, in words that have a plan: a drill, or the first address that isn't one
+/// of TCP.
+pub fn unready_at(words: &[String]) -> usize {
+    let mut next = 0;
+    for _ in 0..words.len() {
+        let Some(said) = said_at(words, next) else {
+            break;
+        };
+        if is_unready(&said) {
+            return if is_end(said.name) {
+                said.value_at
+            } else {
+                said.at
+            };
+        }
+        next = said.value_at.saturating_add(1);
+    }
+    0
+}
+
+/// What is missing behind words with which right ones begin.
+pub fn missing(words: &[String]) -> &'static str {
+    let mut next = 0;
+    let mut has_role = false;
+    let mut has_end = false;
+    for _ in 0..words.len() {
+        let Some(said) = said_at(words, next) else {
+            break;
+        };
+        if said.value_at >= words.len() {
+            return "the value of the last option";
+        }
+        has_role = has_role || is_role(said.name);
+        has_end = has_end || is_end(said.name);
+        next = said.value_at.saturating_add(1);
+    }
+    if !has_role {
+        "a role"
+    } else if !has_end {
+        "--listen or --dial"
+    } else {
+        "--data or --file"
+    }
+}
