@@ -33,6 +33,7 @@ fn addresses_are_read(rt: HostRuntime) {
         ("inproc://a b", 10),
         ("inproc://\u{7f}", 9),
         ("inproc", 6),
+        ("inproc:x", 7),
         ("tcp://256.0.0.1:1", 8),
         ("tcp://127.0.0.1", 15),
         ("tcp://1.2.3.4:65536", 18),

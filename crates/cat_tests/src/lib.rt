@@ -19,6 +19,8 @@ mod roles;
 mod spreading;
 #[cfg(test)]
 mod surveys;
+#[cfg(test)]
+mod words;
 
 /// How many turns the pace of a test has, a millisecond apart.
 pub const TURNS: u64 = 200;

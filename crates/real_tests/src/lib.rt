@@ -4,4 +4,6 @@
 #[cfg(test)]
 mod adapters;
 #[cfg(test)]
+mod input;
+#[cfg(test)]
 mod real;

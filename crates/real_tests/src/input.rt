@@ -1,0 +1,173 @@
+//! Standard input as the file `-`: one that ends, one that fails.
+
+use cat_run::real::RealFiles;
+use sp_base::{Files, Whole};
+use std::alloc::{Allocator, Global};
+use std::fs::{Metadata, OpenOptions};
+use std::io::{BufRead, Error, ErrorKind, Lines, Read, Result as IoResult};
+use std::rt::Files as SystemFiles;
+use std::test::Fail;
+
+/// Gives so many bytes, one at a read, and then its end or a fault.
+#[derive(Clone, Copy, Debug, Drop)]
+struct Fed {
+    left: u32,
+    fails: bool,
+}
+
+impl Read for Fed {
+    fn read(&mut self, buf: &mut [u8]) -> IoResult<usize> {
+        let fed = *self;
+        if fed.left == 0 {
+            return if fed.fails {
+                Err(Error::from(ErrorKind::BrokenPipe))
+            } else {
+                Ok(0)
+            };
+        }
+        match buf.first_mut() {
+            Some(first) => {
+                *first = (fed.left % 251) as u8;
+                self.left = fed.left - 1;
+                Ok(1)
+            }
+            None => Ok(0),
+        }
+    }
+}
+
+impl BufRead for Fed {
+    fn fill_buf(&mut self) -> IoResult<&[u8]> {
+        Ok(&[])
+    }
+
+    fn consume(&mut self, _amount: usize) {}
+}
+
+/// The files of the machine, with this standard input.
+#[derive(Drop)]
+struct Machine<R: Drop> {
+    rt: R,
+    input: Fed,
+}
+
+impl<R: AllocGlobal + Drop> Alloc for Machine<R> {
+    type A = Global;
+
+    fn alloc(&self) -> Global {
+        self.rt.alloc()
+    }
+}
+
+impl<R: Drop> Input for Machine<R> {
+    type Reader = Fed;
+
+    fn read_line<A: Allocator + Clone>(&self, _buf: &mut String<A>) -> IoResult<usize> {
+        Ok(0)
+    }
+
+    fn lines<A: Allocator>(&self, alloc: A) -> Lines<Fed, A> {
+        self.input.lines(alloc)
+    }
+
+    fn reader(&self) -> Fed {
+        self.input
+    }
+}
+
+impl<R: SystemFiles + Drop> SystemFiles for Machine<R> {
+    type File = R::File;
+
+    type Dir = R::Dir;
+
+    fn open_file(&self, how: &OpenOptions, path: &str) -> IoResult<R::File> {
+        self.rt.open_file(how, path)
+    }
+
+    fn open_dir(&self, path: &str) -> IoResult<R::Dir> {
+        self.rt.open_dir(path)
+    }
+
+    fn metadata(&self, path: &str) -> IoResult<Metadata> {
+        self.rt.metadata(path)
+    }
+
+    fn symlink_metadata(&self, path: &str) -> IoResult<Metadata> {
+        self.rt.symlink_metadata(path)
+    }
+
+    fn copy(&self, from: &str, to: &str) -> IoResult<u64> {
+        self.rt.copy(from, to)
+    }
+
+    fn rename(&self, from: &str, to: &str) -> IoResult<()> {
+        self.rt.rename(from, to)
+    }
+
+    fn remove_file(&self, path: &str) -> IoResult<()> {
+        self.rt.remove_file(path)
+    }
+
+    fn create_dir(&self, path: &str) -> IoResult<()> {
+        self.rt.create_dir(path)
+    }
+
+    fn remove_dir(&self, path: &str) -> IoResult<()> {
+        self.rt.remove_dir(path)
+    }
+
+    fn remove_dir_all<B: Allocator>(&self, alloc: B, path: &str) -> IoResult<()> {
+        self.rt.remove_dir_all(alloc, path)
+    }
+}
+
+#[test]
+fn an_empty_input_is_an_empty_file(rt: HostRuntime) -> Result<(), Fail> {
+    let input = Fed {
+        left: 0,
+        fails: false,
+    };
+    let mut files = RealFiles::new(Machine {
+        rt: rt.clone()?,
+        input,
+    });
+    let whole = files.whole("-");
+    assert!(rt; matches!(&whole, Whole::Bytes(b) if b.as_slice().is_empty()));
+    Ok(())
+}
+
+#[test]
+fn an_input_gives_all_its_bytes(rt: HostRuntime) -> Result<(), Fail> {
+    let input = Fed {
+        left: 20_000,
+        fails: false,
+    };
+    let mut files = RealFiles::new(Machine {
+        rt: rt.clone()?,
+        input,
+    });
+    let mut wanted = Vec::new(rt.alloc());
+    for gone in 0..20_000u32 {
+        wanted.push(((20_000 - gone) % 251) as u8)?;
+    }
+    let whole = files.whole("-");
+    assert!(rt; matches!(&whole, Whole::Bytes(b) if b.as_slice() == wanted.as_slice()));
+    Ok(())
+}
+
+// Also where bytes came before: a part of an input is no file.
+#[test]
+fn an_input_that_fails_is_a_fault(rt: HostRuntime) -> Result<(), Fail> {
+    for left in [0u32, 1, 20_000] {
+        let input = Fed { left, fails: true };
+        let mut files = RealFiles::new(Machine {
+            rt: rt.clone()?,
+            input,
+        });
+        let whole = files.whole("-");
+        assert!(rt; matches!(&whole, Whole::Failed));
+        let other = files.whole("/dev/null");
+        assert!(rt; matches!(&other, Whole::Bytes(b) if b.as_slice().is_empty()));
+    }
+    Ok(())
+}
