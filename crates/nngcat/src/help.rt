@@ -22,7 +22,7 @@ Endpoints (1 to 64 in all):
   ADDRESS is tcp://HOST:PORT. HOST is *, localhost or four numbers with dots
   between; * is for --listen alone. PORT is 0 to 65535, for --dial 1 to 65535.
 
-Data (one of the two; push, pub, req and surveyor need it, pull and sub take none):
+Data (push, pub, req and surveyor need one of the two, pull and sub take none):
   --data TEXT             send TEXT
   --file NAME             send what the file NAME holds; - is standard input
 
