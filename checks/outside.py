@@ -20,7 +20,8 @@ MESSAGES = int(os.environ.get("MESSAGES", "1000000"))
 PAIR = 0x10
 PUSH, PULL = 0x50, 0x51
 REQ, REP = 0x30, 0x31
-RESPONDENT = 0x63
+SURVEYOR, RESPONDENT = 0x62, 0x63
+PUB, SUB, BUS = 0x20, 0x21, 0x70
 
 
 def free_port():
@@ -678,6 +679,132 @@ def manual_page():
     return run.returncode == 0 and run.stderr == b"", f"{run.stderr!r}"
 
 
+# ---- All roles and their words, ours against theirs
+
+ANY = bytes.fromhex("6100225c0a7fff7a")
+ID = bytes.fromhex("80000005")
+
+
+def plays_against(port, role, first, answer, heard):
+    """A peer of this role: it sends these frames, answers each that comes, and keeps what came with its time."""
+    peer = connect(port)
+    peer.sendall(greeting(role) + b"".join(frame(body) for body in first))
+
+    def hear():
+        with peer, peer.makefile("rb") as came:
+            came.read(8)
+            try:
+                while len(size := came.read(8)) == 8:
+                    body = came.read(int.from_bytes(size, "big"))
+                    heard.append((time.time(), body))
+                    if answer is not None:
+                        peer.sendall(frame(answer(body)))
+            except OSError:
+                pass
+
+    thread = threading.Thread(target=hear, daemon=True)
+    thread.start()
+    return thread
+
+
+def comes_to(program, words, peer):
+    """What a run that listens prints, its status, and what the peer heard of it; None of the status where it didn't end."""
+    port = free_port()
+    heard = []
+    run = begin(program, *words, "--listen", address(port))
+    if peer is None:
+        thread = None
+    else:
+        thread = plays_against(port, *peer, heard)
+    try:
+        out, _ = run.communicate(timeout=12)
+        status = run.returncode
+    except subprocess.TimeoutExpired:
+        run.kill()
+        out, _ = run.communicate()
+        status = None
+    if thread is not None:
+        thread.join(timeout=2)
+    return out, status, heard
+
+
+def rows_of_formats():
+    """Each role that prints, in each format, one message of bytes of all kinds."""
+    echo = lambda body: body[:4] + ANY
+    roles = [
+        ("--pull", (), (PUSH, [ANY], None)),
+        ("--sub", (), (PUB, [ANY], None)),
+        ("--pair0", (), (PAIR, [ANY], None)),
+        ("--bus", (), (BUS, [ANY], None)),
+        ("--rep", ("--data", "ok"), (REQ, [ID + ANY], None)),
+        ("--respondent", ("--data", "ok"), (SURVEYOR, [ID + ANY], None)),
+        ("--req", ("--data", "q"), (REP, [], echo)),
+        ("--surveyor", ("--data", "q"), (RESPONDENT, [], echo)),
+    ]
+    for role, data, peer in roles:
+        for form in ("--ascii", "--raw", "--quoted", "--hex", "--msgpack", None):
+            yield (role, *data, *([form] if form else []), "--count", "1"), peer
+
+
+def rows_of_counts():
+    """Each role, twice."""
+    echo = lambda body: body[:4] + b"r"
+    yield ("--pull", "--raw", "--count", "2"), (PUSH, [b"a", b"b", b"c"], None)
+    yield ("--sub", "--subscribe", "b", "--raw", "--count", "2"), (PUB, [b"a", b"b1", b"b2", b"b3"], None)
+    yield ("--pair0", "--raw", "--count", "2"), (PAIR, [b"a", b"b", b"c"], None)
+    yield ("--bus", "--raw", "--count", "2"), (BUS, [b"a", b"b", b"c"], None)
+    for role, other in (("--push", PULL), ("--pub", SUB), ("--pair0", PAIR), ("--bus", BUS)):
+        yield (role, "--data", "d", "--interval", "1", "--count", "2"), (other, [], None)
+    for role, other in (("--req", REP), ("--surveyor", RESPONDENT)):
+        yield (role, "--data", "d", "--raw", "--interval", "2", "--count", "2"), (other, [], echo)
+
+
+def rows_of_times():
+    """Each role whose time runs out, and each that ends after one message."""
+    for role in ("--pull", "--sub", "--pair0", "--bus"):
+        yield (role, "--raw", "--recv-timeout", "1"), None
+    for role in ("--rep", "--respondent"):
+        yield (role, "--data", "d", "--raw", "--recv-timeout", "1"), None
+    for role, other in (("--push", PULL), ("--pub", SUB), ("--pair0", PAIR), ("--bus", BUS)):
+        yield (role, "--data", "d"), (other, [], None)
+    yield ("--req", "--data", "d", "--raw", "--recv-timeout", "1"), (REP, [], None)
+    yield ("--push", "--data", "d", "--send-timeout", "1"), None
+    yield ("--pair0", "--data", "d", "--send-timeout", "1"), None
+
+
+def same_but_ids(mine, yours):
+    """The same bodies; ids of requests and surveys differ by the dice."""
+    cut = lambda heard: [body[4:] if body[:1] >= b"\x80" else body for _, body in heard]
+    return cut(mine) == cut(yours)
+
+
+def is_known(words):
+    """Whether ours and Debian's differ there for a reason that docs/DECISIONS.md gives."""
+    first = words[0]
+    sends_to_all = first in ("--surveyor", "--pub", "--bus") and "--data" in words
+    gives_up = first == "--req" and "--interval" not in words
+    goes_on = first == "--pair0" and "--data" in words
+    status_of_times = first in ("--rep", "--respondent") and "--recv-timeout" in words or "--send-timeout" in words
+    return sends_to_all or gives_up or goes_on or status_of_times
+
+
+def whole_table():
+    """For each role, its formats, counts, intervals and times: what is printed, what the peer hears, and the status."""
+    known, other, count = 0, [], 0
+    for rows in (rows_of_formats(), rows_of_counts(), rows_of_times()):
+        for words, peer in rows:
+            count += 1
+            out, status, heard = comes_to(OURS, words, peer)
+            out2, status2, heard2 = comes_to(THEIRS, words, peer)
+            same = out.replace(b"\n", b"") == out2.replace(b"\n", b"") if "--ascii" in words else out == out2
+            if same and status == status2 and same_but_ids(heard, heard2):
+                continue
+            known += is_known(words)
+            if not is_known(words):
+                other.append((" ".join(words), (out, status, heard), (out2, status2, heard2)))
+    return not other, f"{count} rows, of which {known} differ for a known reason, other: {other}"
+
+
 def main():
     if not os.access(OURS, os.X_OK):
         print("skipped: crates/nngcat/out/nngcat isn't built")
@@ -685,7 +812,7 @@ def main():
     checks = [help_and_version, wrong_words, faults_name_their_words, standard_input, empty_input, completion, manual_page, broken_peers, slow_reader, slow_peer, peer_that_comes_back, words_of_devices, many_links, many_messages]
     if THEIRS:
         checks += [theirs_to_ours, ours_to_theirs, four_of_theirs, theirs_is_dialed, replies_to_theirs, answers_theirs,
-                   pairs_with_theirs, pair_takes_the_next, requests, surveys, bus_of_four, publishes, formats_of_theirs]
+                   pairs_with_theirs, pair_takes_the_next, requests, surveys, bus_of_four, publishes, formats_of_theirs, whole_table]
     else:
         print("skipped: no nngcat of nng is installed")
     wanted = sys.argv[1:]
