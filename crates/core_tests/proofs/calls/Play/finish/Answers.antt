@@ -11,8 +11,8 @@ into_wires-requires g c =
     let t = c.close.ensures.turn p.history (c.join.ensures.stands p.history p.stands) in
     (p.history ++ t.0 ∷ [], t.2, totals_closed (past_of (p.history ++ t.0 ∷ [])) c.close.result t.3.answer)
 
-pub close-requires-clause-turn : goal.close-requires-clause-turn
-close-requires-clause-turn g c =
+pub close-requires : goal.close-requires
+close-requires g c =
     let p = c.requires in
     let w : c.join.new.self.desk.words.callers ≡ c.args.self.core.desk.words.callers = ap (λ (n : Named). n.callers) (same_words g.P.Proto.kind c.args.self.core c.join.new.self c.join.ensures.label) in
-    ((p.history, c.join.ensures.stands p.history p.stands), (omega arith, omega (arith, w, p.has_caller)))
+    record { turn = ((p.history, c.join.ensures.stands p.history p.stands), (omega arith, omega (arith, w, p.has_caller))) }
