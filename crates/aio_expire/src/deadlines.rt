@@ -60,7 +60,7 @@ impl Deadlines {
         }
     }
 
-    /// Takes the slot's entry out. Answers whether it had one.
+    /// Takes the slot's entry out. Returns whether it had one.
     pub fn remove(&mut self, slot: u32) -> bool
         ensures had { IsTrue result ↔ (0 < count_of slot self.old.entries) }
         ensures rest { self.new ≡ record self.old { entries = others_than slot self.old.entries } }

@@ -2,7 +2,7 @@ ghost use Rattle.std.specs.Prelude.{◌≡◌, true};
 ghost use Rattle.sp_base.specs.Addresses.{is_dialable};
 
 use sp_base::{Addr, Bytes, Files, Host, Link, LinkRead, Linked, Net, Role, Whole, next_value};
-use sp_fakes::{LinkStep, MemFiles, MemLink, MemNet};
+use sp_fakes::{LinkStep, MemFiles, MemLink, MemNet, Returned};
 use sp_tcp::Greeting;
 use std::test::Fail;
 
@@ -134,6 +134,18 @@ fn a_link_in_memory_goes_by_its_script(rt: HostRuntime) -> Result<(), Fail> {
     let mut link = MemLink::new(alloc, script, 9, Vec::new(alloc));
     assert_eq!(rt; reads_of(&mut link), *b"a!---b..");
     assert_eq!(rt; link.written(), b"xyz".as_slice());
+    Ok(())
+}
+
+#[test]
+fn a_long_list_of_links_that_came_back_is_let_go(rt: HostRuntime) -> Result<(), Fail> {
+    let alloc = rt.alloc();
+    let mut came_back = Returned::Nothing;
+    for _ in 0..100_000u32 {
+        let link = MemLink::new(alloc, Vec::new(alloc), 9, Vec::new(alloc));
+        came_back = Returned::More(link, Box::new(alloc, came_back)?);
+    }
+    drop(came_back);
     Ok(())
 }
 

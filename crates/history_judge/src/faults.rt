@@ -40,10 +40,13 @@ pub enum Fault {
     NotNextTaken,
     /// The caller isn't the turn's.
     OtherCaller,
+    /// The operation's slot isn't one of the setting's.
     NoSuchSlot,
     /// The last operation of the slot was not collected.
     SlotTaken,
+    /// The generation isn't the slot's next one.
     WrongGeneration,
+    /// The slot has no further generation.
     WornSlot,
     /// The role doesn't do this.
     RoleCannot,
@@ -67,25 +70,33 @@ pub enum Fault {
     NotSent,
     /// This seat can't end an operation so.
     WrongSeat,
+    /// The operation's request was not replaced.
     NotSuperseded,
+    /// The survey's time isn't over.
     SurveyNotOver,
     /// The operation has not ended, or was collected.
     NothingToCollect,
+    /// The tick is earlier than the last.
     TimeGoesBack,
     /// The due operations are others.
     WrongDue,
+    /// The role has no contexts.
     NoContexts,
     /// The socket's own context stays open.
     OwnContext,
     /// An operation of the context, or of the socket, is pending.
     StillPending,
+    /// The role has no topics.
     NoTopics,
+    /// The topic is on already.
     TopicThere,
+    /// The topic isn't on.
     TopicAbsent,
     /// No copy for the context was due.
     NothingCopied,
     /// Pipes are up.
     StillUp,
+    /// The totals are others.
     WrongTotals,
     /// The turn leaves up a pipe of which a frame was malformed.
     MalformedStaysUp,

@@ -42,7 +42,7 @@ pub fn up(alloc: Global, past: &Past) -> Result<LinkedList<PipeId>, NoMemory>
     }
 }
 
-/// How many pipes came up. Past 2^64 - 1 a count answers `NoMemory`.
+/// How many pipes came up. Past 2^64 - 1 a count returns `NoMemory`.
 pub fn ups(past: &Past) -> Result<u64, NoMemory>
     ensures { IfOk result (λ found. found ≡ ups (entries_of past.now)) }
 {

@@ -9,7 +9,9 @@ use std::alloc::Global;
 /// The entries of a history so far, the newest first.
 #[derive(Drop)]
 pub enum Past {
+    /// No entry yet.
     Start,
+    /// The newest entry, and those before it.
     After(Entry, Box<Past>),
 }
 

@@ -1,8 +1,9 @@
 //! Reads worked histories, and says of each whether it is what it is said to be.
 //!
-//! A row is a line `= NAME ROLE OPTION.. : VERDICT` and a line for each turn, up to an empty line, the next row or the end; a
-//! line that begins with `#` says something to the reader. A turn is `CALLER: ENTRY, ENTRY ..`, where the caller's number may be left out for 1.
-//! `text` has the words of the entries. Printed are the rows whose verdict is another one, and how many rows were begun.
+//! A row is a line `= NAME ROLE OPTION.. : VERDICT` and a line for each turn, up to an empty line, the next row or the
+//! end; a line that begins with `#` says something to the reader. A turn is `CALLER: ENTRY, ENTRY ..`, where the
+//! caller's number may be left out for 1. `text` has the words of the entries. Printed are the rows whose verdict is
+//! another one, and how many rows were begun.
 #![tactic(auto)]
 
 mod text;

@@ -3,7 +3,7 @@
 //! | entry | words |
 //! |---|---|
 //! | a pipe comes up, is met, given back, goes down, is taken | `up 1`, `met 0`, `noup 0 bad`, `down 1 failed`, `taken 1` |
-//! | a frame, an out, and what a wire answers | `frame 1 78`, `out 1 78`, `full 1`, `quiet 1`, `stall 1`, `clear 1`, `unkept 1` |
+//! | a frame, an out, and what a wire returns | `frame 1 78`, `out 1 78`, `full 1`, `quiet 1`, `stall 1`, `clear 1`, `unkept 1` |
 //! | a begin of slot 0, generation 1 | `recv 0.1`, `send 0.1 HEADER/BODY`, and behind it `k2` a caller, `c1` a context, `d100` a deadline |
 //! | an end | `received 0.1 HEADER/BODY`, `sent 0.1`, `cancelled 0.1 SEAT`, and so `timedout`, `closed`, `superseded`, `surveyover` |
 //! | what was ended is collected | `took 0.1`, and behind it `k2` a caller |

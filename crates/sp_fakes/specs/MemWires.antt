@@ -39,7 +39,7 @@ mem_view script at kept marks fails pulls most = record { wire = mem_wire script
 abbrev pub unused_wire : WireView
 unused_wire = wire_view Nameless (Some []) (Some []) 0 false fresh_marks
 
--- a message of these bytes, or want of memory, and then the step is not passed
+-- a message of these bytes, or out of memory, and then the step is not passed
 abbrev pub GivesBytes : List ℕ → List WireStep → WireIn → List WireStep → Type 0
 GivesBytes b rest (ins.Message m) left = (m.header ≡ []) × (m.body ≡ b) × (left ≡ rest)
 GivesBytes b rest ins.NotYet left = ⊥

@@ -21,7 +21,9 @@ use std::mem;
 
 /// The links that were given back, the newest first.
 pub enum Returned {
+    /// None was given back.
     Nothing,
+    /// The newest, and those before it.
     More(MemLink, Box<Returned>),
 }
 

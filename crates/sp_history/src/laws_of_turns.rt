@@ -30,7 +30,8 @@ pub fn own_turns_tell_what_is_open()
     ensures { (z : Setting) (k : ℕ) (history : List (Turn Entry)) (op : OpName) → Legal z history → IsOpenOf k op (past_of (turns_of k history)) ↔ IsOpenOf k op (past_of history) }
 {}
 
-/// A turn that begins an operation, and doesn't collect it, leaves it open; and so does a later turn that doesn't collect it.
+/// A turn that begins an operation, and doesn't collect it, leaves it open; and so does a later turn that doesn't
+/// collect it.
 pub fn a_turn_leaves_it_open()
     ensures begun { (z : Setting) (history : List (Turn Entry)) (t : Turn Entry) (early late : List Entry) (op : OpName) (k c : ℕ) (act : Act) (d : Option ℕ) → Legal z (history ++ t ∷ []) → t.entries ≡ early ++ Begin op k c act d ∷ late → none_of (collects op) late ≡ true → IsOpenOf k op (past_of (history ++ t ∷ [])) }
     ensures stays { (z : Setting) (history : List (Turn Entry)) (t : Turn Entry) (k : ℕ) (op : OpName) → Legal z (history ++ t ∷ []) → IsOpenOf k op (past_of history) → none_of (collects op) t.entries ≡ true → IsOpenOf k op (past_of (history ++ t ∷ [])) }

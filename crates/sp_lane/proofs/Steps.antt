@@ -7,9 +7,9 @@ use Rattle.crossbeam_queue.specs.Fifo.{Pushes, Pops, Forks, Merges, Learns}
 use Rattle.crossbeam_queue.proofs.Lists.{at_set, at_snoc}
 use Rattle.sp_lane.specs.declared.rule.Side.{Side}
 use Rattle.sp_lane.specs.declared.item.Item.{Item}
-use Rattle.sp_lane.specs.Fronts.{IsFront}
+use Rattle.sp_lane.specs.Prefixes.{IsPrefix}
 use Rattle.sp_lane.specs.Order.{both_ends, spent, putting, taking, joined, marked, with_put, with_taken, HasPut, HasTaken, IsHeld, IsWaiting, IsLeft, Fits, IsInOrder}
-use Rattle.sp_lane.proofs.Fronts.{front_nil, front_self, front_more}
+use Rattle.sp_lane.proofs.Prefixes.{front_nil, front_self, front_more}
 
 at_end : (l : List Side) (a b : Side) (j : ℕ) → get_elem? l j ≢ some b → get_elem? (l ++ a ∷ []) j ≡ some b → j ≡ length l
 at_end [] a b zero n e = refl
@@ -88,7 +88,7 @@ forks port v a b items views h at =
     let first = (h.fits port v at).writes a in
     let second = (h.fits port v at).reads b in
     let vs : List Side = set views port l in
-    let Old : ℕ → Side → Type 0 = λ j u. (u.puts ≡ true → (j ≡ h.writer) × (u.put ≡ h.put) × IsFront u.seen_taken h.taken) × (u.takes ≢ true) in
+    let Old : ℕ → Side → Type 0 = λ j u. (u.puts ≡ true → (j ≡ h.writer) × (u.put ≡ h.put) × IsPrefix u.seen_taken h.taken) × (u.takes ≢ true) in
     let old : All Old vs = all_set Old views port l ((λ _. (first.0, first.1, front_nil h.taken)), λ p. true≢false (sym p)) (λ j u other e. ((h.fits j u e).writes, λ p. other (((h.fits j u e).reads p).0 ∙ sym second.0))) in
     record {
       writer = h.writer;
@@ -100,7 +100,7 @@ forks port v a b items views h at =
       fits = (λ j u e. ⊎_elim (λ x. record { writes = (old j u x).0; reads = (λ p. absurd ((old j u x).1 p)) })
           (λ (is : r ≡ u). record {
             writes = (λ p. absurd (true≢false (sym (ap (λ (y : Side). y.puts) is ∙ p))));
-            reads = (λ p. (at_end vs r u j (λ x. (old j u x).1 p) e, ap (λ (y : Side). y.taken) (sym is) ∙ second.1, subst (λ (y : Side). IsFront y.seen_put h.put) is (front_nil h.put)));
+            reads = (λ p. (at_end vs r u j (λ x. (old j u x).1 p) e, ap (λ (y : Side). y.taken) (sym is) ∙ second.1, subst (λ (y : Side). IsPrefix y.seen_put h.put) is (front_nil h.put)));
           })
           (at_snoc vs r u j e));
     }
@@ -150,8 +150,8 @@ left port v a b items views h at =
     record {
       rest = put.1 ∙ h.rest ∙ ap (λ l. l ++ items) (sym taken.1);
       most = h.most;
-      seen_taken = subst (IsFront v.seen_taken) (sym taken.1) put.2;
-      seen_put = subst (IsFront v.seen_put) (sym put.1) taken.2;
+      seen_taken = subst (IsPrefix v.seen_taken) (sym taken.1) put.2;
+      seen_put = subst (IsPrefix v.seen_put) (sym put.1) taken.2;
     }
 
 pub held : (port : ℕ) (v : Side) → v.puts ≡ true → Learns IsInOrder port v (IsHeld v)
@@ -162,4 +162,4 @@ held port v a items views h at =
 pub waiting : (port : ℕ) (v : Side) → v.takes ≡ true → Learns IsInOrder port v (IsWaiting v)
 waiting port v b items views h at =
     let taken = (h.fits port v at).reads b in
-    subst (IsFront v.seen_put) (h.rest ∙ ap (λ l. l ++ items) (sym taken.1)) taken.2
+    subst (IsPrefix v.seen_put) (h.rest ∙ ap (λ l. l ++ items) (sym taken.1)) taken.2

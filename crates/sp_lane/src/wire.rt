@@ -1,5 +1,6 @@
 //! A wire over two lanes: what it puts goes into the one, what it pulls comes from the other.
 ghost use Rattle.std.specs.Prelude.{◌≡◌, true, false, IfSome, Some};
+ghost use Rattle.sp_msg.specs.Views.{OverLanes};
 ghost use Rattle.sp_msg.specs.Wires.{AfterPull, AfterRoom, AfterPut, AfterFlush, AfterShut, may_flush};
 ghost use Rattle.sp_lane.specs.Lanes.{has_end};
 ghost use Rattle.sp_lane.specs.LaneWires.{new_lane_wire, PulledFrom, Joins, Pushed, TriedEnd, Drained, room_of, flush_of, is_lost, LanePulled, LaneRoomed, LaneFlushed, SameLanes};
@@ -20,7 +21,7 @@ pub struct LaneWire {
     inp: LaneOut,
     /// The message that was put and isn't in the lane yet.
     hand: Option<Message>,
-    /// The last message that was taken was lost for want of memory.
+    /// The last message that was taken was lost when out of memory.
     lost: bool,
     /// The wire was shut: a flush puts the end mark behind the message in hand.
     is_shut: bool,
@@ -235,6 +236,7 @@ impl Wire for LaneWire {
         ensures drains { self.new.wire.drains ≡ true }
         ensures hand { self.new.hand ≡ self.old.hand }
         ensures lanes { SameLanes self.old self.new }
+        ensures name { self.new.wire.name ≡ OverLanes self.new.out.name self.new.inp.name }
     {
         self.is_shut = true;
         self.marks.shut();

@@ -1,4 +1,4 @@
--- What each call of a wire answers, and what it does to what the wire shows.
+-- What each call of a wire returns, and what it does to what the wire shows.
 use Rattle.std.specs.Prelude.{◌≡◌, ◌≤◌, ◌+◌, ◌++◌, ◌||◌, ℕ, Bool, true, false, List, [], ◌∷◌, Option, Some, None}
 use Rattle.sp_msg.specs.Views.{MessageView, WireView, wire_text}
 use Rattle.sp_msg.specs.Marks.{one_more}

@@ -15,15 +15,15 @@ pub struct WireMarks {
     pub ended: bool,
     /// A pull answered that the next message is malformed.
     pub malformed: bool,
-    /// Answers `Failed`.
+    /// Returns `Failed`.
     pub faults: u64,
-    /// Answers `Full`.
+    /// Returns `Full`.
     pub fulls: u64,
-    /// Answers `NotYet` of a pull.
+    /// Returns `NotYet` of a pull.
     pub idles: u64,
-    /// Answers `NotYet` of a flush.
+    /// Returns `NotYet` of a flush.
     pub stalls: u64,
-    /// Answers `Refused`.
+    /// Returns `Refused`.
     pub refusals: u64,
 }
 

@@ -21,7 +21,7 @@ pub enum WireIn {
     Failed,
     /// A part of the machine that the wire needs refused it.
     Refused,
-    /// Want of memory; a message may be lost.
+    /// Out of memory; a message may be lost.
     NoMemory,
 }
 
@@ -36,7 +36,7 @@ pub enum Room {
     Failed,
     /// A part of the machine that the wire needs refused it.
     Refused,
-    /// Want of memory.
+    /// Out of memory.
     NoMemory,
 }
 
@@ -51,7 +51,7 @@ pub enum WireFlush {
     Failed,
     /// A part of the machine that the wire needs refused it.
     Refused,
-    /// Want of memory.
+    /// Out of memory.
     NoMemory,
 }
 

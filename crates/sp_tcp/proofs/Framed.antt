@@ -2,7 +2,7 @@
 use Rattle.std.proofs.Common.{◌≡◌, ◌<◌, ◌^◌, ◌++◌, ℕ, false, List, [], ◌∷◌, length, take, drop, Option, Some, None, refl, sym, ap, subst, ◌∙◌, arith}
 use Rattle.std.proofs.lemmas.List.{length-take, take-append-le, take-append-drop}
 use Rattle.sp_spec.specs.SpTcp.{frame, frames, text, shows, begins, IsOversize}
-use Rattle.sp_spec.specs.Outside.{Told, IsFront}
+use Rattle.sp_spec.specs.Outside.{Told, IsPrefix}
 use Rattle.sp_spec.proofs.Shows.{frames-cons, shows-front, length-frame}
 use Rattle.sp_tcp.specs.Readings.{IsPart, IsTooLong}
 use Rattle.sp_tcp.specs.Outlets.{SentWithin}
@@ -18,7 +18,7 @@ shows_in t s lt r e =
       bodies = r.bodies;
       came = ap (taken_in t.max t.unread) e ∙ ap (λ (b : List (List ℕ)). Some b) (Framing.reads_taken t.max t.unread s lt r);
       text_front = (t.unread, is);
-      front = subst (λ x. IsFront r.bodies (shows role t.max x)) (sym is) (shows-front role t.max r.bodies t.unread lt r.fit);
+      front = subst (λ x. IsPrefix r.bodies (shows role t.max x)) (sym is) (shows-front role t.max r.bodies t.unread lt r.fit);
     }
 
 cut_short : (sent : ℕ) (w : List (List ℕ)) → SentWithin [] sent w → CutShort (take sent (frames w)) w

@@ -15,7 +15,7 @@ use Rattle.sp_tcp.proofs.Marks.{plain_frames}
 pub number_text : (role : ℕ) (bodies : List (List ℕ)) (rest : List ℕ) → role < 2 ^ 16 → number_in (text role bodies ++ rest) ≡ role
 number_text role bodies rest lt = from_be_bytes-to_be_bytes_2 role lt
 
--- the front before the last bytes
+-- the prefix before the last bytes
 pub take_before : (a b s : List ℕ) (n : ℕ) → s ≡ a ++ b → length b ≡ n → take (length s - n) s ≡ a
 take_before a b s n e long =
     let k : length s - n ≡ length a = omega (arith, ap length e, length-append a b, long) in

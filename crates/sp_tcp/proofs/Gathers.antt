@@ -17,7 +17,7 @@ pub frames-nil : [] ≡ frames []
 unfolding frames
 frames-nil = refl
 
--- ---- fronts and rests of two lists
+-- ---- prefixes and rests of two lists
 
 pub take_append : (k : ℕ) (x y : List ℕ) → take k (x ++ y) ≡ take k x ++ take (k - length x) y
 take_append k x y = elim (cases_lt k (length x)) [
@@ -131,7 +131,7 @@ pub record Passing (mark : List ℕ) (written : ℕ) (old new : List (List ℕ))
 pub passing_none : (mark : List ℕ) (written : ℕ) (old : List (List ℕ)) → written ≤ length (marked_all mark old) → Passing mark written old old written
 passing_none mark written old le = record { passed = record { gone = []; is = refl; text = ap (λ t. t ++ take written (marked_all mark old)) (marked-nil mark) }; fits = le }
 
--- a front element
+-- a first element
 pub first_of : {A : Type 0} (s : List A) (d : A) → 0 < length s → d ≡ get_or s 0 d → s ≡ d ∷ drop 1 s
 first_of [] d lt e = absurd (omega (arith, lt))
 first_of (x ∷ s) d lt e = ap (λ t. t ∷ s) (sym e)
@@ -178,7 +178,7 @@ pub within_none : (mark : List ℕ) (written : ℕ) (old : List (List ℕ)) (ite
 within_none mark written old [] left e p = omega (arith, p.fits, ap length (marked-nil mark))
 within_none mark written old (m ∷ items) left e p = absurd (omega (arith, e))
 
--- ---- a front of what is not written
+-- ---- a prefix of what is not written
 
 pub long_front : (mark : List ℕ) (items : List MessageView) (m : MessageView) (sent : ℕ) (rest : List ℕ) → items ≡ m ∷ drop 1 items → sent < head_of mark + length (wire_text m) → drop sent (marked mark (wire_text m)) ≡ rest → drop sent (marked_all mark (map wire_text items)) ≡ rest ++ marked_all mark (map wire_text (drop 1 items))
 long_front mark items m sent rest first lt e =
@@ -226,7 +226,7 @@ pub not_empty : (n : ℕ) (b : Bool) → b ≡ (n == 0) → b ≡ false → 0 < 
 not_empty zero b e f = absurd cc
 not_empty (suc n) b e f = omega arith
 
--- a list that has no front element
+-- a list that has no first element
 pub none_left : (n : ℕ) → (0 < n → false ≡ true) → n ≡ 0
 none_left zero h = refl
 none_left (suc n) h = let e : false ≡ true = h (omega arith) in absurd cc

@@ -1,4 +1,4 @@
--- Where a front is split at the bytes that stand before a size.
+-- Where a prefix is split at the bytes that stand before a size.
 use Rattle.std.proofs.Common.{◌≡◌, ◌≤◌, ◌<◌, ◌++◌, ℕ, List, length, take, drop, min, sym, ap, ◌∙◌, append_assoc, arith, inl, inr}
 use Rattle.std.proofs.lemmas.List.{take-append-drop, take_all, length-drop}
 use Rattle.sp_spec.specs.SpTcp.{frame}
@@ -6,7 +6,7 @@ use Rattle.sp_tcp.specs.declared.reader.Front.{Front}
 use Rattle.sp_tcp.specs.declared.reader.Front.TheVariants as f
 use Rattle.sp_tcp.specs.Readings.{FrontIs}
 use Rattle.sp_tcp.specs.Marked.{IsMarkedPart, IsMarkedBad, MarkedFrontIs}
-use Rattle.sp_tcp.proofs.Fronts.{part_other}
+use Rattle.sp_tcp.proofs.Prefixes.{part_other}
 use Rattle.sp_tcp.proofs.Marks.{marked-is}
 
 module _ (mark s : List ℕ) (n max : ℕ) (n_is : n ≡ min (length mark) (length s)) where

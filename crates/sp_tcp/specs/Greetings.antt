@@ -1,6 +1,6 @@
 -- What a greeting answers to the bytes that were fed.
 use Rattle.std.specs.Prelude.{◌≡◌, ◌≤◌, ◌<◌, ◌++◌, ℕ, Bool, true, false, List, length, take}
-use Rattle.sp_spec.specs.Outside.{IsFront}
+use Rattle.sp_spec.specs.Outside.{IsPrefix}
 use Rattle.sp_spec.specs.SpTcp.{hello}
 use Rattle.sp_base.specs.Roles.{role_number, role_peer}
 use Rattle.sp_base.specs.declared.role.Role.{Role}
@@ -18,9 +18,9 @@ pub record AreGreetings (role : Role) (own peer : List ℕ) (seen : ℕ) (waits 
   pub within : seen ≤ 8
   pub begun : waits ≡ true → fed ≡ take seen peer
 
--- More: what was fed is a proper front of the peer's greeting. Peer: with a part of the piece it is that greeting.
--- Bad: neither of the two is a front of the other.
+-- More: what was fed is a proper prefix of the peer's greeting. Peer: with a part of the piece it is that greeting.
+-- Bad: neither of the two is a prefix of the other.
 abbrev pub FedAs : Greeted → List ℕ → List ℕ → List ℕ → Bool → Type 0
-FedAs g.More piece peer fed is_open = IsFront (fed ++ piece) peer × (length (fed ++ piece) < length peer) × (is_open ≡ true)
+FedAs g.More piece peer fed is_open = IsPrefix (fed ++ piece) peer × (length (fed ++ piece) < length peer) × (is_open ≡ true)
 FedAs (g.Peer rest) piece peer fed is_open = ((head : List ℕ) × (tail : List ℕ) × (piece ≡ head ++ tail) × (fed ++ head ≡ peer) × (length tail ≡ rest)) × (is_open ≡ false)
-FedAs g.Bad piece peer fed is_open = ¬ IsFront (fed ++ piece) peer × ¬ IsFront peer (fed ++ piece) × (is_open ≡ false)
+FedAs g.Bad piece peer fed is_open = ¬ IsPrefix (fed ++ piece) peer × ¬ IsPrefix peer (fed ++ piece) × (is_open ≡ false)

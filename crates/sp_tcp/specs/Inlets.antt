@@ -27,7 +27,7 @@ ReadInto (Ok reads.Ended) old new link link' = (new ≡ old) × Quiet link link'
 ReadInto (Ok reads.Failed) old new link link' = (new ≡ old) × Quiet link link' × ReadCounts link link' × Rose link.faults link'.faults × (link.ended ≡ false)
 ReadInto (Err _) old new link link' = (new ≡ old) × (link' ≡ link)
 
--- what a pull answers, by the bytes that are left
+-- what a pull returns, by the bytes that are left
 abbrev pub PullAnswer : List ℕ → ℕ → WireIn → List ℕ → List ℕ → LinkView → LinkView → Type 0
 PullAnswer mark max (ins.Message m) all left link link' = (m.header ≡ []) × (length m.body ≤ max) × (all ≡ marked mark m.body ++ left)
 PullAnswer mark max ins.NotYet all left link link' = (left ≡ all) × IsMarkedPart mark max left × Rose link.idles link'.idles × (link.ended ≡ false)

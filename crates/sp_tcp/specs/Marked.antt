@@ -1,7 +1,7 @@
 -- Frames with the bytes that stand before their sizes. SP over TCP has none there.
 use Rattle.std.specs.Prelude.{◌≡◌, ◌<◌, ◌≤◌, ◌+◌, ◌++◌, ◌⊎◌, ℕ, List, length}
 use Rattle.std.specs.List.{flat_map}
-use Rattle.sp_spec.specs.Outside.{IsFront}
+use Rattle.sp_spec.specs.Outside.{IsPrefix}
 use Rattle.sp_spec.specs.SpTcp.{frame}
 use Rattle.sp_tcp.specs.Readings.{IsPart, IsTooLong}
 use Rattle.sp_tcp.specs.declared.reader.Front.{Front}
@@ -28,7 +28,7 @@ IsMarkedPart mark max s = ((rest : List ℕ) × (s ++ rest ≡ mark) × (0 < len
 
 -- other bytes than the mark's, or a size above max behind them
 abbrev pub IsMarkedBad : List ℕ → ℕ → List ℕ → Type 0
-IsMarkedBad mark max s = (¬ IsFront s mark × ¬ IsFront mark s) ⊎ ((rest : List ℕ) × (s ≡ mark ++ rest) × IsTooLong max rest)
+IsMarkedBad mark max s = (¬ IsPrefix s mark × ¬ IsPrefix mark s) ⊎ ((rest : List ℕ) × (s ≡ mark ++ rest) × IsTooLong max rest)
 
 -- what stands at the front
 abbrev pub MarkedFrontIs : List ℕ → ℕ → List ℕ → Front → Type 0

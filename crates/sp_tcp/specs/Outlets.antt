@@ -1,7 +1,7 @@
 -- What writing does to what waits.
 use Rattle.std.specs.Prelude.{◌≡◌, ◌<◌, ◌+◌, ◌^◌, ◌++◌, ℕ, List, [], ◌∷◌, length, take, drop}
 use Rattle.sp_tcp.specs.Marked.{marked, marked_all, head_of}
-use Rattle.sp_spec.specs.Outside.{Rose, IsFront}
+use Rattle.sp_spec.specs.Outside.{Rose, IsPrefix}
 use Rattle.sp_base.specs.Views.{LinkView}
 use Rattle.sp_base.specs.Steps.{Went, Quiet, AfterWrite}
 use Rattle.sp_base.specs.declared.outside.LinkWrite.{LinkWrite}
@@ -27,10 +27,10 @@ pub record Passed (mark : List ℕ) (written : ℕ) (old new : List (List ℕ)) 
   pub is : old ≡ gone ++ new
   pub text : take written (marked_all mark old) ≡ marked_all mark gone ++ take left (marked_all mark new)
 
--- one write of a front of what is not written
+-- one write of a prefix of what is not written
 pub record WroteFront (mark : List ℕ) (result : LinkWrite) (o : OutletView) (link link' : LinkView) : Type 0 where
   pub piece : List ℕ
-  pub front : IsFront piece (drop o.sent (marked_all mark o.waiting))
+  pub front : IsPrefix piece (drop o.sent (marked_all mark o.waiting))
   pub few : o.sent + length piece < 2 ^ 64
   pub within : SentWithin mark o.sent o.waiting
   pub wrote : AfterWrite result piece link link'

@@ -2,7 +2,7 @@
 use Rattle.std.specs.Prelude.{◌≡◌, ◌≤◌, ◌<◌, ◌+◌, ◌-◌, ◌^◌, ◌++◌, ◌⊎◌, ℕ, true, false, List, [], ◌∷◌, length, take, drop, Option, Some, None}
 use Rattle.std.specs.Int.{w16, from_be_bytes}
 use Rattle.sp_spec.specs.SpTcp.{hello, frame, frames, text, shows, Fit, IsOversize}
-use Rattle.sp_spec.specs.Outside.{Rose, Told, IsFront}
+use Rattle.sp_spec.specs.Outside.{Rose, Told, IsPrefix}
 use Rattle.sp_base.specs.Views.{LinkView}
 use Rattle.sp_base.specs.Steps.{Came, Went}
 use Rattle.sp_base.specs.Roles.{role_number, role_peer}
@@ -105,17 +105,17 @@ pub record Holds (t : TcpState) : Type 0 where
 
 -- ---- what callers see
 
--- what came shows: text(peer, came) is a front of it, and came a front of all that it shows
+-- what came shows: text(peer, came) is a prefix of it, and came a prefix of all that it shows
 pub record ShowsIn (v : TcpView) (s : List ℕ) : Type 0 where
   pub bodies : List (List ℕ)
   pub came : v.wire.came ≡ Some bodies
-  pub text_front : IsFront (text (number_in s) bodies) s
-  pub front : IsFront bodies (shows (number_in s) v.max s)
+  pub text_front : IsPrefix (text (number_in s) bodies) s
+  pub front : IsPrefix bodies (shows (number_in s) v.max s)
 
 -- at most a part of the first frame, and not all of it
 abbrev pub CutShort : List ℕ → List (List ℕ) → Type 0
 CutShort part [] = part ≡ []
-CutShort part (t ∷ rest) = IsFront part (frame t) × (length part < length (frame t))
+CutShort part (t ∷ rest) = IsPrefix part (frame t) × (length part < length (frame t))
 
 -- what is written: all frames but those of the texts that wait, and a part of the next one
 pub record WrittenIn (v : TcpView) (s : List ℕ) : Type 0 where

@@ -45,7 +45,7 @@ impl Model for Outlet {
     ghost invariant = { λ o. (16 ≤ deque_capacity o.waiting) × (0 < o.stage.most) × (o.stage.most ≤ 65536) };
 }
 
-// Adds the next bytes of a frame, past so many; answers how many are to be passed behind it.
+// Adds the next bytes of a frame, past so many; returns how many are to be passed behind it.
 fn add_frame(stage: &mut Stage, m: &Message, skip: usize) -> usize
     ensures bytes { stage.new ≡ added stage.old skip (frame (wire_text m.now)) }
     ensures skip { result ≡ skip - length (frame (wire_text m.now)) }
@@ -93,7 +93,7 @@ fn long_rest<'a>(mark: &[u8], m: &'a Message, sent: usize, most: usize) -> &'a [
     rest
 }
 
-// Takes the frames away that are wholly written, where so many bytes are; answers how many are of the next one.
+// Takes the frames away that are wholly written, where so many bytes are; returns how many are of the next one.
 fn pass_frames(mark: &[u8], waiting: &mut VecDeque<Message>, written: usize) -> usize
     requires few { IsMark mark.now }
     requires fits { written ≤ length (marked_all mark.now (map wire_text waiting.old.items)) }

@@ -58,7 +58,7 @@ impl Stage {
         self.bytes.clear();
     }
 
-    /// Adds as much of a piece as there is room for, past its first `skip` bytes. Answers how many bytes are
+    /// Adds as much of a piece as there is room for, past its first `skip` bytes. Returns how many bytes are
     /// to be passed yet in the pieces that follow.
     pub fn add(&mut self, skip: usize, piece: &[u8]) -> usize
         ensures bytes { self.new ≡ added self.old skip piece.now }

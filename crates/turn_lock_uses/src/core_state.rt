@@ -54,7 +54,8 @@ impl<M: Machine> Stands for Core<M> {
     ghost label = { λ c. record { room = M.room c.machine; words = c.words.table_id } };
 }
 
-/// Takes one turn. What was seen grows by turns of others and by one turn of the caller's own, and the answer is one over these.
+/// Takes one turn. What was seen grows by turns of others and by one turn of the caller's own, and the answer is one
+/// over these.
 pub fn act<M: Machine, R: Wait>(
     rt: &R,
     lock: &TurnLock<Core<M>>,

@@ -75,7 +75,8 @@ fn add_times<R: Wait>(
     pass
 }
 
-/// Two threads add 1 in turns, each so many times. It gives the count, up to the greatest, and a pass that has seen the whole history. `None` is for want of memory.
+/// Two threads add 1 in turns, each so many times. It gives the count, up to the greatest, and a pass that has seen
+/// the whole history. `None` is for out of memory.
 pub fn count_in_turns<R: Threads + Wait + Sync>(
     rt: &R,
     alloc: Global,

@@ -63,7 +63,8 @@ fn take_turns<R: Threads + Wait + Sync>(
     Ok(core.into_log())
 }
 
-/// Three callers write 0, 1, 2 and so on, each so many times, into a register with room for so many writes. It gives all that was written, in order.
+/// Three callers write 0, 1, 2 and so on, each so many times, into a register with room for so many writes. It gives
+/// all that was written, in order.
 pub fn write_in_turns<R: Threads + Wait + Sync>(
     rt: &R,
     alloc: Global,

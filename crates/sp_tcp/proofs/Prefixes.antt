@@ -1,7 +1,7 @@
 -- Pieces at the front of a list.
 use Rattle.std.proofs.Common.{◌≡◌, ◌≤◌, ◌+◌, ◌++◌, ℕ, List, length, take, drop, sym, ap, ◌∙◌, append_assoc, arith}
 use Rattle.std.proofs.lemmas.List.{take-append-drop, take-append-le, drop-take, take-take, drop_at, drop-append-le, length-take}
-use Rattle.sp_spec.specs.Outside.{IsFront}
+use Rattle.sp_spec.specs.Outside.{IsPrefix}
 
 -- after a piece that is the next part of the wanted bytes
 pub part_more : (peer piece : List ℕ) (seen n : ℕ) → seen ≤ length peer → n ≤ length piece → take n piece ≡ take n (drop seen peer) → take seen peer ++ take n piece ≡ take (seen + n) peer
@@ -11,7 +11,7 @@ part_more peer piece seen n fits long same =
     ∙ take-append-drop seen (take (seen + n) peer)
 
 -- a piece that differs from the next part of the wanted bytes leads nowhere
-pub part_other : (peer piece : List ℕ) (seen n : ℕ) → seen ≤ length peer → n ≤ length piece → n ≤ length (drop seen peer) → ¬ (take n piece ≡ take n (drop seen peer)) → ¬ IsFront (take seen peer ++ piece) peer × ¬ IsFront peer (take seen peer ++ piece)
+pub part_other : (peer piece : List ℕ) (seen n : ℕ) → seen ≤ length peer → n ≤ length piece → n ≤ length (drop seen peer) → ¬ (take n piece ≡ take n (drop seen peer)) → ¬ IsPrefix (take seen peer ++ piece) peer × ¬ IsPrefix peer (take seen peer ++ piece)
 part_other peer piece seen n fits long short other =
     let front : length (take seen peer) ≡ seen = omega (arith, length-take seen peer) in (
       (λ (rest, e).
