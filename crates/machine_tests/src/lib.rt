@@ -1,4 +1,4 @@
-//! Tests of the machines of pub, sub, req, rep and respondent, with exact messages, ids and answers.
+//! Tests of the machines of pub, sub, req, rep, surveyor and respondent, with exact messages, ids and answers.
 #![tactic(auto)]
 
 #[cfg(test)]
@@ -9,3 +9,5 @@ mod replies;
 mod requests;
 #[cfg(test)]
 mod subs;
+#[cfg(test)]
+mod surveys;

@@ -46,7 +46,7 @@ use Rattle.proto_pending.proofs.Firsts.{first_found, passes_first, first_on, no_
 use Rattle.proto_bus.specs.declared.Bus.{Bus}
 use Rattle.proto_bus.specs.Buses.{Ties, Floods, IsFlood, AreCopies, message_in, receiver_of, left_out_of, header_of}
 use Rattle.proto_bus.specs.BusLaws.{goes_on, lawful_before}
-use Rattle.proto_bus.proofs.Counting.{one_fewer, ups_apart}
+use Rattle.proto_floods.proofs.Counting.{one_fewer, ups_apart}
 
 pub is_bus : (m : Bus) (t : Moment) → Ties m t → t.z.role ≡ role.Bus
 is_bus m t h = ap (λ (k : Kind). k.role) h.0.kind

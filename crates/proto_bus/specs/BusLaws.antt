@@ -1,5 +1,5 @@
 -- The laws of a bus as a machine.
-use Rattle.std.specs.Prelude.{◌≡◌, ◌≤◌, ℕ, true, false, List, [], ◌∷◌, length, map, filter, Option}
+use Rattle.std.specs.Prelude.{◌≡◌, ℕ, true, false, List, [], ◌∷◌, length, map, filter, Option}
 use Rattle.std.proofs.Common.{refl, ap, subst, ◌∙◌}
 use Rattle.sp_msg.specs.Views.{MessageView}
 use Rattle.sp_history.specs.Kept.{pool}

@@ -6,16 +6,17 @@
 //! taken when the bus is made; a further one is discarded. Raw, the header of what came is the id of its pipe.
 #![tactic(auto)]
 
-ghost use Rattle.std.specs.Prelude.{◌≡◌, ◌≤◌, ◌+◌, ◌∷◌, ◌++◌, ℕ, List, [], IfOk, true, find, filter, length, is_some, Some, None, if◌then◌else◌, nat_lt};
+ghost use Rattle.std.specs.Prelude.{◌≡◌, ◌<◌, ◌≤◌, ◌+◌, ◌∷◌, ◌++◌, ℕ, List, [], IfOk, IsOk, IfErr, OnOk, OnErr, Option, true, find, filter, length, is_some, Some, None, if◌then◌else◌, nat_lt};
 ghost use Rattle.std.specs.Option.{option_map};
 ghost use Rattle.sp_base.specs.declared.OpName.{OpName};
-ghost use Rattle.sp_history.specs.declared.entry.Entry.TheVariants.{Frame};
+ghost use Rattle.sp_history.specs.declared.entry.Entry.TheVariants.{Frame, Begin};
 ghost use Rattle.sp_history.specs.declared.parts.Begun.{Begun};
 ghost use Rattle.sp_history.specs.Lists.{is_number};
-ghost use Rattle.sp_history.specs.Moments.{Moment, Lawful, also};
-ghost use Rattle.sp_history.specs.Past.{is_of};
-ghost use Rattle.sp_proto.specs.Kinds.{Starts};
-ghost use Rattle.sp_proto.specs.Machines.{Frames};
+ghost use Rattle.sp_history.specs.Moments.{Moment, Lawful, past, also};
+ghost use Rattle.sp_history.specs.Past.{is_of, up};
+ghost use Rattle.sp_proto.specs.Kinds.{Starts, entry_act};
+ghost use Rattle.sp_proto.specs.Machines.{Frames, NoFlood, Takes};
+ghost use Rattle.proto_floods.specs.Copies.{TakesCopies};
 ghost use Rattle.proto_pending.specs.Waits.{Holds};
 ghost use Rattle.proto_bus.specs.Buses.{Ties, bus_kind, places_left, receiver_of, left_out_of, header_of, AreCopies};
 
@@ -71,6 +72,7 @@ fn leaves_out(left_out: Option<PipeId>, p: PipeId) -> bool
 fn copies_of(alloc: Global, m: &Message, most: usize) -> Result<Vec<Message>, NoMemory>
     ensures copies { IfOk result (λ v. AreCopies m.now.body v.items) }
     ensures all { IfOk result (λ v. length v.items ≡ most) }
+    ensures none { most ≡ 0 → IsOk result }
 {
     let mut copies = Vec::with_capacity(alloc, most)?;
     for _ in 0..most {
@@ -200,7 +202,17 @@ impl Proto for Bus {
         Ok(())
     }
 
-    fn begin(&mut self, op: OpName, c: Ctx, act: Act) -> Result<(), Message> {
+    /// A send takes a copy for each pipe that is up, and no more. Where none is up it takes no memory, however long it is.
+    fn begin(&mut self, op: OpName, c: Ctx, act: Act) -> Result<(), Message>
+        requires { 0 < places_left self.old }
+        ensures begun { OnOk result ((t : Moment) (deadline : Option ℕ) → NoFlood t → Takes (Ties self.old) (Ties self.new) t (Begin op t.caller c (entry_act act) deadline)) }
+        ensures handed_back { IfErr result (λ m. act ≡ Act.Send m) }
+        ensures same { OnErr result ((t : Moment) → Ties self.old t → Ties self.new t) }
+        ensures room { places_left self.old ≤ places_left self.new + 1 }
+        ensures room_kept { OnErr result (places_left self.old ≤ places_left self.new) }
+        ensures copies { OnOk result ((t : Moment) → Ties self.old t → TakesCopies act (length (up (past t))) (length self.new.copies.items)) }
+        ensures alone { (t : Moment) → Ties self.old t → up (past t) ≡ [] → OnErr result ⊥ }
+    {
         match act {
             Act::Recv => {
                 self.pending.push(op, c, Act::Recv);

@@ -151,7 +151,7 @@ impl Pending {
         }
     }
 
-    /// The operation, a receive or a send, ends: answers the message of a send, as it was begun.
+    /// The operation, a receive or a send, ends: returns the message of a send, as it was begun.
     pub fn end(&mut self, op: OpName) -> Option<Message>
         ensures ended { (ss : List Begun) (s : Begun) → Holds self.old ss → find (is_of op) ss ≡ Some s → (option_map text_of result ≡ message_of s.act) × Ends self.old self.new ss op }
         ensures room { room self.old ≤ room self.new }

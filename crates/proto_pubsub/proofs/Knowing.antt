@@ -1,6 +1,6 @@
 -- What the past of a sub tells of its contexts and receives.
-use Rattle.std.proofs.Common.{◌≡◌, ◌≢◌, refl, ap, sym, ◌∙◌, subst, List, [], ◌∷◌, ◌++◌, ℕ, ◌+◌, Bool, true, false, cond, arith, Option, Some, None, length, map, ◌<◌, ◌≤◌}
-use Rattle.std.specs.Prelude.{find, filter, drop, not, ⊤, ◌&&◌, ◌||◌, ◌==◌, nat_lt}
+use Rattle.std.proofs.Common.{◌≡◌, refl, ap, sym, ◌∙◌, subst, List, [], ◌∷◌, ◌++◌, ℕ, Bool, true, false, cond, arith, Some, ◌<◌}
+use Rattle.std.specs.Prelude.{find, filter, drop, not, ⊤, ◌&&◌, ◌||◌, ◌==◌}
 use Rattle.std.specs.List.{list_any}
 use Rattle.std.proofs.lemmas.Bool.Decides.{nat_tests}
 use Rattle.sp_base.specs.declared.OpName.{OpName}
@@ -19,7 +19,7 @@ use Rattle.sp_history.specs.declared.parts.Item.{Item}
 use Rattle.sp_history.specs.declared.parts.Keeping.{Keeping}
 use Rattle.sp_history.specs.declared.parts.Keeping.TheVariants.{Everywhere, Nowhere, Below}
 use Rattle.sp_history.specs.Lists.{has, without, same_bytes}
-use Rattle.sp_history.specs.Setting.{has_topics, has_contexts, is_reply}
+use Rattle.sp_history.specs.Setting.{is_reply}
 use Rattle.sp_history.specs.Past.{is_of, without_begun, pend, pending, ctxs, topics, opened}
 use Rattle.sp_history.specs.Kept.{pool, pool_keeping, pool_of, kept, keeps, takes, add_for, is_on_pool, is_wanted_by, is_from}
 use Rattle.sp_history.specs.Frames.{item_of}

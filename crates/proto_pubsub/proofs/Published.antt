@@ -36,6 +36,7 @@ use Rattle.sp_proto.specs.Kinds.{Kind}
 use Rattle.sp_proto.specs.Machines.{CanGive, CanFlood, IsIdle, NoFlood, message_of}
 use Rattle.proto_floods.specs.Copies.{HasCopies}
 use Rattle.proto_floods.proofs.Copying.{went_out, found_full, went_down, calm}
+use Rattle.proto_floods.proofs.Counting.{one_fewer, ups_apart}
 use Rattle.proto_pending.specs.Waits.{Holds, is_send, first_name}
 use Rattle.proto_pending.proofs.Splits.{find_passing, without_passing, other_stay}
 use Rattle.proto_pending.proofs.Firsts.{first_found, passes_first, none_kept, no_sends, first_is, none_first}
@@ -75,23 +76,6 @@ up_most (Down p why ∷ before) = omega (arith, up_most before, no_longer (up be
         go false h = omega (arith, h)
 up_most (_ ∷ before) = up_most before
 
-shorter : (us : List ℕ) (p : ℕ) → length (without us p) ≤ length us
-shorter [] p = omega arith
-shorter (u ∷ us) p = go (u == p) (shorter us p)
-  where
-    go : (b : Bool) → length (without us p) ≤ length us → length (cond (not b) (u ∷ without us p) (without us p)) ≤ length (u ∷ us)
-    go true h = omega (arith, h)
-    go false h = omega (arith, h)
-
--- one that was up is no longer
-one_fewer : (us : List ℕ) (p : ℕ) → has us p ≡ true → length (without us p) + 1 ≤ length us
-one_fewer [] p h = absurd cc
-one_fewer (u ∷ us) p h = go (u == p) h (shorter us p) (one_fewer us p)
-  where
-    go : (b : Bool) → (b || has us p) ≡ true → length (without us p) ≤ length us → (has us p ≡ true → length (without us p) + 1 ≤ length us) → length (cond (not b) (u ∷ without us p) (without us p)) + 1 ≤ length (u ∷ us)
-    go true h most again = omega (arith, most)
-    go false h most again = omega (arith, again h)
-
 append_one : (us : List ℕ) (p : ℕ) → length (us ++ p ∷ []) ≡ length us + 1
 append_one [] p = refl
 append_one (u ∷ us) p = omega (arith, append_one us p)
@@ -122,7 +106,7 @@ down_ties m n t p why l h same =
     let known = h.0.pipes in (
       record {
         kind = rw same h.0.kind;
-        pipes = rw same (omega (arith, one_fewer (up (past t)) p l.turn.0.itself.0, known));
+        pipes = rw same (omega (arith, one_fewer (up (past t)) p (ups_apart t (lawful_before t (Down p why) l)) l.turn.0.itself.0, known));
         items = sym (pool_down t.z (past t) p why (is_pub m t h)) ∙ h.0.items;
         pending = rw same h.0.pending;
         contexts = h.0.contexts;

@@ -1,5 +1,5 @@
 -- The contexts of a sub, one by one.
-use Rattle.std.proofs.Common.{◌≡◌, refl, ap, sym, ◌∙◌, subst, List, [], ◌∷◌, ◌++◌, ℕ, zero, suc, ◌+◌, Bool, true, false, cond, arith, Option, Some, None, length, map, take, drop, slice_index_or, slice_set, ◌<◌, ◌≤◌, add-one}
+use Rattle.std.proofs.Common.{◌≡◌, refl, ap, sym, ◌∙◌, subst, List, [], ◌∷◌, ◌++◌, ℕ, zero, suc, ◌+◌, Bool, true, false, cond, arith, Some, None, length, map, take, drop, slice_index_or, slice_set, ◌<◌, ◌≤◌, add-one}
 use Rattle.std.specs.Prelude.{Result, Ok, Err, Vec, find, filter, not, nat_lt, ◌||◌, ◌==◌}
 use Rattle.std.specs.Vec.{with_items}
 use Rattle.std.specs.List.{list_any, position, position_or_len, slice_get}
@@ -93,6 +93,28 @@ pub written : {A : Type 0} (f : A → A) (xs ys : List A) (i : ℕ) (d v : A) �
 written f xs ys i d v h e w =
     rw (w, e, add-one i) (writes f xs i d h)
 
+pub long_written : {A : Type 0} (f : A → A) (xs : List A) (i : ℕ) → length (map f (take i xs) ++ drop i xs) ≡ length xs
+long_written f [] zero = refl
+long_written f [] (suc i) = refl
+long_written f (x ∷ xs) zero = refl
+long_written f (x ∷ xs) (suc i) = omega (arith, long_written f xs i)
+
+-- what was written last stands there
+pub set_is : {A : Type 0} (xs : List A) (i : ℕ) (v d : A) → i < length xs → slice_index_or (slice_set xs i v) i d ≡ v
+set_is [] i v d h = absurd (omega arith)
+set_is (x ∷ xs) zero v d h = refl
+set_is (x ∷ xs) (suc i) v d h = set_is xs i v d (omega (arith, h))
+
+all_written : {A : Type 0} (f : A → A) (xs : List A) (k : ℕ) → length xs ≤ k → map f (take k xs) ++ drop k xs ≡ map f xs
+all_written f [] zero h = refl
+all_written f [] (suc k) h = refl
+all_written f (x ∷ xs) zero h = absurd (omega (arith, h))
+all_written f (x ∷ xs) (suc k) h = ap (λ rest. f x ∷ rest) (all_written f xs k (omega (arith, h)))
+
+-- with the last element all are written
+pub last_written : {A : Type 0} (f : A → A) (xs ys : List A) (i : ℕ) (d v : A) → i < length xs → length xs ≤ i + 1 → ys ≡ map f (take i xs) ++ drop i xs → v ≡ f (slice_index_or ys i d) → slice_set ys i v ≡ map f xs
+last_written f xs ys i d v h k e w = written f xs ys i d v h e w ∙ all_written f xs (i + 1) k
+
 -- the next one stays as it is
 halts : {A : Type 0} (f : A → A) (xs : List A) (i : ℕ) (d : A) → i < length xs → slice_set (map f (take i xs) ++ drop i xs) i (slice_index_or (map f (take i xs) ++ drop i xs) i d) ≡ map f (take i xs) ++ drop i xs
 halts f [] i d h = absurd (omega arith)
@@ -112,8 +134,8 @@ parts f (x ∷ xs) (suc i) d h =
     record { rest = p.rest; before = ap (λ rest. x ∷ rest) p.before; after = ap (λ rest. f x ∷ rest) p.after }
 
 -- the one before which it stopped is as it was
-pub stops : (f : SeatView → SeatView) (xs ys : List SeatView) (i c : ℕ) (d v : SeatView) → i < length xs → ys ≡ map f (take i xs) ++ drop i xs → v ≡ slice_index_or ys i d → v.ctx ≡ c → StopsAt f c xs (slice_set ys i v)
-stops f xs ys i c d v h e w k =
+pub stops : (needs : SeatView → Bool) (f : SeatView → SeatView) (xs ys : List SeatView) (i c : ℕ) (d v : SeatView) → i < length xs → ys ≡ map f (take i xs) ++ drop i xs → v ≡ slice_index_or ys i d → needs v ≡ true → v.ctx ≡ c → StopsAt needs f c xs (slice_set ys i v)
+stops needs f xs ys i c d v h e w need k =
     let at : SeatView = slice_index_or (map f (take i xs) ++ drop i xs) i d in
     let is : v ≡ at = w ∙ ap (λ (zs : List SeatView). slice_index_or zs i d) e in
     let p = parts f xs i d h in
@@ -123,6 +145,7 @@ stops f xs ys i c d v h e w k =
       rest = p.rest;
       before = p.before;
       here = ap (λ (x : SeatView). x.ctx) (sym is) ∙ k;
+      needed = ap needs (sym is) ∙ need;
       after = ap (λ (zs : List SeatView). slice_set zs i v) e ∙ ap (slice_set (map f (take i xs) ++ drop i xs) i) is ∙ halts f xs i d h ∙ p.after;
     }
 
@@ -140,8 +163,8 @@ long_parts : (f : SeatView → SeatView) (done rest : List SeatView) → length 
 long_parts f [] rest = refl
 long_parts f (x ∷ done) rest = omega (arith, long_parts f done rest)
 
-pub long_stops : (f : SeatView → SeatView) (c : ℕ) (xs ys : List SeatView) → StopsAt f c xs ys → length ys ≡ length xs
-long_stops f c xs ys h = ap length h.after ∙ long_parts f h.done (h.at ∷ h.rest) ∙ sym (ap length h.before)
+pub long_stops : (needs : SeatView → Bool) (f : SeatView → SeatView) (c : ℕ) (xs ys : List SeatView) → StopsAt needs f c xs ys → length ys ≡ length xs
+long_stops needs f c xs ys h = ap length h.after ∙ long_parts f h.done (h.at ∷ h.rest) ∙ sym (ap length h.before)
 
 -- ---- As a past tells them
 
@@ -168,21 +191,21 @@ each k f g cs h = twice cs ∙ map_same (λ c. k (f c)) g cs h
 tail_is : (x y : SeatView) (xs ys : List SeatView) → x ∷ xs ≡ y ∷ ys → (x ≡ y) × (xs ≡ ys)
 tail_is x y xs ys e = (cc, cc)
 
-module _ (is : ℕ → List Item) (ts : ℕ → List (List ℕ)) where
-  pub found_seat : (c : ℕ) (cs : List ℕ) → find (is_home c) (map (seat_at is ts) cs) ≡ cond (has cs c) (Some (seat_at is ts c)) None
+module _ (places : ℕ) (is : ℕ → List Item) (ts : ℕ → List (List ℕ)) where
+  pub found_seat : (c : ℕ) (cs : List ℕ) → find (is_home c) (map (seat_at places is ts) cs) ≡ cond (has cs c) (Some (seat_at places is ts c)) None
   found_seat c [] = refl
   found_seat c (x ∷ cs) = go (x == c) refl (found_seat c cs)
     where
-      go : (b : Bool) → (x == c) ≡ b → find (is_home c) (map (seat_at is ts) cs) ≡ cond (has cs c) (Some (seat_at is ts c)) None
-          → cond b (Some (seat_at is ts x)) (find (is_home c) (map (seat_at is ts) cs)) ≡ cond (b || has cs c) (Some (seat_at is ts c)) None
-      go true e again = ap (λ (n : ℕ). Some (seat_at is ts n)) (equal_of x c e)
+      go : (b : Bool) → (x == c) ≡ b → find (is_home c) (map (seat_at places is ts) cs) ≡ cond (has cs c) (Some (seat_at places is ts c)) None
+          → cond b (Some (seat_at places is ts x)) (find (is_home c) (map (seat_at places is ts) cs)) ≡ cond (b || has cs c) (Some (seat_at places is ts c)) None
+      go true e again = ap (λ (n : ℕ). Some (seat_at places is ts n)) (equal_of x c e)
       go false e again = again
 
-  pub any_seat : (c : ℕ) (cs : List ℕ) → list_any (is_home c) (map (seat_at is ts) cs) ≡ has cs c
+  pub any_seat : (c : ℕ) (cs : List ℕ) → list_any (is_home c) (map (seat_at places is ts) cs) ≡ has cs c
   any_seat c [] = refl
   any_seat c (x ∷ cs) = ap (λ b. (x == c) || b) (any_seat c cs)
 
-  pub stands : (c : ℕ) (cs : List ℕ) (done rest : List SeatView) (at : SeatView) → map (seat_at is ts) cs ≡ done ++ at ∷ rest → at.ctx ≡ c → has cs c ≡ true
+  pub stands : (c : ℕ) (cs : List ℕ) (done rest : List SeatView) (at : SeatView) → map (seat_at places is ts) cs ≡ done ++ at ∷ rest → at.ctx ≡ c → has cs c ≡ true
   stands c [] [] rest at e k = absurd cc
   stands c [] (d ∷ done) rest at e k = absurd cc
   stands c (x ∷ cs) [] rest at e k =
@@ -194,10 +217,19 @@ module _ (is : ℕ → List Item) (ts : ℕ → List (List ℕ)) where
       after true b q = refl
       after false b q = q
 
+  -- the one that stands there is as the past tells it
+  pub is_at : (cs : List ℕ) (done rest : List SeatView) (at : SeatView) → map (seat_at places is ts) cs ≡ done ++ at ∷ rest → at ≡ seat_at places is ts at.ctx
+  is_at [] [] rest at e = absurd cc
+  is_at [] (d ∷ done) rest at e = absurd cc
+  is_at (x ∷ cs) [] rest at e =
+      let first : seat_at places is ts x ≡ at = (tail_is _ _ _ _ e).0 in
+      sym first ∙ ap (seat_at places is ts) (ap (λ (y : SeatView). y.ctx) first)
+  is_at (x ∷ cs) (d ∷ done) rest at e = is_at cs done rest at (tail_is _ _ _ _ e).1
+
   module _ (js : ℕ → List Item) (us : ℕ → List (List ℕ)) where
     -- the one of this number is changed, and no other
-    pub changed : (g : SeatView → SeatView) (c : ℕ) (cs : List ℕ) → IsRising cs → g (seat_at is ts c) ≡ seat_at js us c → ((e : ℕ) → has cs e ≡ true → (c == e) ≡ false → seat_at is ts e ≡ seat_at js us e)
-        → with_found (is_home c) g (map (seat_at is ts) cs) ≡ map (seat_at js us) cs
+    pub changed : (g : SeatView → SeatView) (c : ℕ) (cs : List ℕ) → IsRising cs → g (seat_at places is ts c) ≡ seat_at places js us c → ((e : ℕ) → has cs e ≡ true → (c == e) ≡ false → seat_at places is ts e ≡ seat_at places js us e)
+        → with_found (is_home c) g (map (seat_at places is ts) cs) ≡ map (seat_at places js us) cs
     changed g c [] h k o = refl
     changed g c (x ∷ cs) h k o = go (x == c) refl (changed g c cs h.1 k)
       where
@@ -214,36 +246,36 @@ module _ (is : ℕ → List Item) (ts : ℕ → List (List ℕ)) where
         turned : (m n : ℕ) → (m == n) ≡ false → (n == m) ≡ false
         turned m n e = grind (arith, nat_tests)
 
-        go : (b : Bool) → (x == c) ≡ b → (((e : ℕ) → has cs e ≡ true → (c == e) ≡ false → seat_at is ts e ≡ seat_at js us e) → with_found (is_home c) g (map (seat_at is ts) cs) ≡ map (seat_at js us) cs) → cond b (g (seat_at is ts x) ∷ map (seat_at is ts) cs) (seat_at is ts x ∷ with_found (is_home c) g (map (seat_at is ts) cs)) ≡ seat_at js us x ∷ map (seat_at js us) cs
+        go : (b : Bool) → (x == c) ≡ b → (((e : ℕ) → has cs e ≡ true → (c == e) ≡ false → seat_at places is ts e ≡ seat_at places js us e) → with_found (is_home c) g (map (seat_at places is ts) cs) ≡ map (seat_at places js us) cs) → cond b (g (seat_at places is ts x) ∷ map (seat_at places is ts) cs) (seat_at places is ts x ∷ with_found (is_home c) g (map (seat_at places is ts) cs)) ≡ seat_at places js us x ∷ map (seat_at places js us) cs
         go true e again =
             let same : x ≡ c = equal_of x c e in
-            let first : g (seat_at is ts x) ≡ seat_at js us x = subst (λ (n : ℕ). g (seat_at is ts n) ≡ seat_at js us n) (sym same) k in
-            ap (λ y. y ∷ map (seat_at is ts) cs) first ∙ ap (λ rest. seat_at js us x ∷ rest) (map_same (seat_at is ts) (seat_at js us) cs (λ d q. o d (after (x == d) (has cs d) q) (later x c d e (h.0 d q))))
+            let first : g (seat_at places is ts x) ≡ seat_at places js us x = subst (λ (n : ℕ). g (seat_at places is ts n) ≡ seat_at places js us n) (sym same) k in
+            ap (λ y. y ∷ map (seat_at places is ts) cs) first ∙ ap (λ rest. seat_at places js us x ∷ rest) (map_same (seat_at places is ts) (seat_at places js us) cs (λ d q. o d (after (x == d) (has cs d) q) (later x c d e (h.0 d q))))
         go false e again =
-            let first : seat_at is ts x ≡ seat_at js us x = o x (rw (itself x) refl) (turned x c e) in
-            ap (λ y. y ∷ with_found (is_home c) g (map (seat_at is ts) cs)) first ∙ ap (λ rest. seat_at js us x ∷ rest) (again (λ d q. o d (after (x == d) (has cs d) q)))
+            let first : seat_at places is ts x ≡ seat_at places js us x = o x (rw (itself x) refl) (turned x c e) in
+            ap (λ y. y ∷ with_found (is_home c) g (map (seat_at places is ts) cs)) first ∙ ap (λ rest. seat_at places js us x ∷ rest) (again (λ d q. o d (after (x == d) (has cs d) q)))
 
     -- the one of this number is gone
-    pub shut : (c : ℕ) (cs : List ℕ) → ((e : ℕ) → (c == e) ≡ false → seat_at is ts e ≡ seat_at js us e) → filter (λ (x : SeatView). not (x.ctx == c)) (map (seat_at is ts) cs) ≡ map (seat_at js us) (without cs c)
+    pub shut : (c : ℕ) (cs : List ℕ) → ((e : ℕ) → (c == e) ≡ false → seat_at places is ts e ≡ seat_at places js us e) → filter (λ (x : SeatView). not (x.ctx == c)) (map (seat_at places is ts) cs) ≡ map (seat_at places js us) (without cs c)
     shut c [] o = refl
     shut c (x ∷ cs) o = go (x == c) refl (shut c cs o)
       where
         turned : (m n : ℕ) → (m == n) ≡ false → (n == m) ≡ false
         turned m n e = grind (arith, nat_tests)
 
-        go : (b : Bool) → (x == c) ≡ b → filter (λ (x : SeatView). not (x.ctx == c)) (map (seat_at is ts) cs) ≡ map (seat_at js us) (without cs c)
-            → cond (not b) (seat_at is ts x ∷ filter (λ (x : SeatView). not (x.ctx == c)) (map (seat_at is ts) cs)) (filter (λ (x : SeatView). not (x.ctx == c)) (map (seat_at is ts) cs)) ≡ map (seat_at js us) (cond (not b) (x ∷ without cs c) (without cs c))
+        go : (b : Bool) → (x == c) ≡ b → filter (λ (x : SeatView). not (x.ctx == c)) (map (seat_at places is ts) cs) ≡ map (seat_at places js us) (without cs c)
+            → cond (not b) (seat_at places is ts x ∷ filter (λ (x : SeatView). not (x.ctx == c)) (map (seat_at places is ts) cs)) (filter (λ (x : SeatView). not (x.ctx == c)) (map (seat_at places is ts) cs)) ≡ map (seat_at places js us) (cond (not b) (x ∷ without cs c) (without cs c))
         go true e again = again
-        go false e again = ap (λ y. y ∷ filter (λ (x : SeatView). not (x.ctx == c)) (map (seat_at is ts) cs)) (o x (turned x c e)) ∙ ap (λ rest. seat_at js us x ∷ rest) again
+        go false e again = ap (λ y. y ∷ filter (λ (x : SeatView). not (x.ctx == c)) (map (seat_at places is ts) cs)) (o x (turned x c e)) ∙ ap (λ rest. seat_at places js us x ∷ rest) again
 
     -- those below this number were changed, and no other
-    pub stopped : (f : SeatView → SeatView) (c : ℕ) (cs : List ℕ) (done rest : List SeatView) (at : SeatView) → IsRising cs → map (seat_at is ts) cs ≡ done ++ at ∷ rest → at.ctx ≡ c
-        → ((e : ℕ) → has cs e ≡ true → e < c → f (seat_at is ts e) ≡ seat_at js us e) → ((e : ℕ) → has cs e ≡ true → c ≤ e → seat_at is ts e ≡ seat_at js us e) → map f done ++ at ∷ rest ≡ map (seat_at js us) cs
+    pub stopped : (f : SeatView → SeatView) (c : ℕ) (cs : List ℕ) (done rest : List SeatView) (at : SeatView) → IsRising cs → map (seat_at places is ts) cs ≡ done ++ at ∷ rest → at.ctx ≡ c
+        → ((e : ℕ) → has cs e ≡ true → e < c → f (seat_at places is ts e) ≡ seat_at places js us e) → ((e : ℕ) → has cs e ≡ true → c ≤ e → seat_at places is ts e ≡ seat_at places js us e) → map f done ++ at ∷ rest ≡ map (seat_at places js us) cs
     stopped f c [] [] rest at r e k low high = absurd cc
     stopped f c [] (d ∷ done) rest at r e k low high = absurd cc
     stopped f c (x ∷ cs) [] rest at r e k low high =
         let same : x ≡ c = ap (λ (y : SeatView). y.ctx) (tail_is _ _ _ _ e).0 ∙ k in
-        sym e ∙ map_same (seat_at is ts) (seat_at js us) (x ∷ cs) (λ d q. high d q (least d (x == d) refl q same))
+        sym e ∙ map_same (seat_at places is ts) (seat_at places js us) (x ∷ cs) (λ d q. high d q (least d (x == d) refl q same))
       where
         least : (d : ℕ) (b : Bool) → (x == d) ≡ b → (b || has cs d) ≡ true → x ≡ c → c ≤ d
         least d true g q s = let is = equal_of x d g in omega (arith, is, s)
@@ -251,8 +283,8 @@ module _ (is : ℕ → List Item) (ts : ℕ → List (List ℕ)) where
     stopped f c (x ∷ cs) (d ∷ done) rest at r e k low high =
         let parted = tail_is _ _ _ _ e in
         let under : x < c = r.0 c (stands c cs done rest at parted.1 k) in
-        let first : f d ≡ seat_at js us x = ap f (sym parted.0) ∙ low x (rw (itself x) refl) under in
-        ap (λ y. y ∷ map f done ++ at ∷ rest) first ∙ ap (λ ys. seat_at js us x ∷ ys) (stopped f c cs done rest at r.1 parted.1 k (λ n q. low n (after (x == n) (has cs n) q)) (λ n q. high n (after (x == n) (has cs n) q)))
+        let first : f d ≡ seat_at places js us x = ap f (sym parted.0) ∙ low x (rw (itself x) refl) under in
+        ap (λ y. y ∷ map f done ++ at ∷ rest) first ∙ ap (λ ys. seat_at places js us x ∷ ys) (stopped f c cs done rest at r.1 parted.1 k (λ n q. low n (after (x == n) (has cs n) q)) (λ n q. high n (after (x == n) (has cs n) q)))
       where
         itself : (n : ℕ) → (n == n) ≡ true
         itself n = grind (arith, nat_tests)

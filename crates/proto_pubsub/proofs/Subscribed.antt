@@ -1,6 +1,6 @@
 -- A sub stands for its history after each call.
-use Rattle.std.proofs.Common.{◌≡◌, ◌≢◌, refl, ap, sym, ◌∙◌, subst, List, [], ◌∷◌, ◌++◌, ℕ, ◌+◌, Bool, true, false, cond, arith, Option, Some, None, length, map, slice_index_or, ◌<◌, ◌≤◌}
-use Rattle.std.specs.Prelude.{find, filter, drop, not, option_to_list, nat_lt, MatchOption, ◌&&◌, ◌||◌, ◌==◌, Result, Ok, Err, OnErr}
+use Rattle.std.proofs.Common.{◌≡◌, refl, ap, sym, ◌∙◌, subst, List, [], ◌∷◌, ◌++◌, ℕ, Bool, true, false, cond, arith, Option, Some, None, length, map, slice_index_or, ◌<◌, ◌≤◌}
+use Rattle.std.specs.Prelude.{find, filter, drop, not, nat_lt, ◌&&◌, ◌||◌, ◌==◌, Result, Ok, Err, OnErr}
 use Rattle.std.specs.List.{list_all, list_any, position}
 use Rattle.std.specs.Option.{option_map}
 use Rattle.std.proofs.lemmas.Bool.Decides.{nat_tests}
@@ -15,39 +15,37 @@ use Rattle.sp_history.specs.declared.setting.Options.{Options}
 use Rattle.sp_history.specs.declared.entry.Entry.{Entry}
 use Rattle.sp_history.specs.declared.entry.Entry.TheVariants.{Down, Frame, Begin, End, Ctx, Topic, Dry, Close}
 use Rattle.sp_history.specs.declared.entry.Gate.TheVariants.{Open, Shut}
-use Rattle.sp_history.specs.declared.entry.Switch.TheVariants.{On, Off}
+use Rattle.sp_history.specs.declared.entry.Switch.TheVariants.{Off}
 use Rattle.sp_history.specs.declared.entry.Act.{Act}
 use Rattle.sp_history.specs.declared.entry.Act.TheVariants.{Recv, Send}
 use Rattle.sp_history.specs.declared.entry.Cause.{Cause}
 use Rattle.sp_history.specs.declared.entry.Totals.{Totals}
 use Rattle.sp_history.specs.declared.entry.Why.{Why}
-use Rattle.sp_history.specs.declared.entry.Ending.{Ending}
 use Rattle.sp_history.specs.declared.entry.Ending.TheVariants.{Won, Gone}
-use Rattle.sp_history.specs.declared.entry.Outcome.TheVariants.{Received, Sent}
+use Rattle.sp_history.specs.declared.entry.Outcome.TheVariants.{Received}
 use Rattle.sp_history.specs.declared.entry.Message.{Message}
 use Rattle.sp_history.specs.declared.parts.Begun.{Begun}
 use Rattle.sp_history.specs.declared.parts.Item.{Item}
 use Rattle.sp_history.specs.declared.parts.Keeping.TheVariants.{Everywhere}
-use Rattle.sp_history.specs.Lists.{has, without, is_nil, head_of, same_bytes}
-use Rattle.sp_history.specs.Setting.{floods, has_topics, has_contexts, is_reply}
+use Rattle.sp_history.specs.Lists.{has, is_nil, head_of, same_bytes}
+use Rattle.sp_history.specs.Setting.{floods, has_contexts, is_reply}
 use Rattle.sp_history.specs.Past.{is_of, without_begun, pend, pending, ctxs, topics}
-use Rattle.sp_history.specs.Kept.{pool, pool_of, kept, takes, add_for, add_discarding, is_wanted_by, is_on_pool, is_from}
+use Rattle.sp_history.specs.Kept.{pool, kept, takes, add_for, add_discarding, is_wanted_by, is_on_pool, is_from}
 use Rattle.sp_history.specs.Frames.{malformed, plain_item, item_of}
-use Rattle.sp_history.specs.Sends.{targets}
 use Rattle.sp_history.specs.Settled.{receive_settled, send_settled, has_full}
-use Rattle.sp_history.specs.Legal.{is_recv, is_recv_on, is_state, does, has_topic, AreAllowed}
+use Rattle.sp_history.specs.Legal.{is_recv_on, is_state, does, AreAllowed}
 use Rattle.sp_history.specs.Once.{AreApart}
-use Rattle.sp_history.specs.Moments.{Moment, Lawful, past, also, next}
+use Rattle.sp_history.specs.Moments.{Moment, Lawful, past, also}
 use Rattle.sp_proto.specs.Kinds.{Kind, text_of, verb_of}
 use Rattle.sp_proto.specs.declared.Verb.TheVariants as verbs
 use Rattle.sp_proto.specs.declared.Verdict.TheVariants as verdicts
 use Rattle.sp_proto.specs.Machines.{CanGive, CanSend, CanDrop, IsIdle, Frames, Topics, switch_of, message_of}
 use Rattle.proto_pubsub.specs.declared.subscribe.Subscribe.{Subscribe}
 use Rattle.proto_pubsub.specs.declared.subscribe.Waiting.{Waiting}
-use Rattle.proto_pubsub.specs.Seats.{SeatView, is_home, kept_in, added, fresh_seat, given_from, emptied, switched, first_in, with_found, SwitchesIn, StopsAt}
-use Rattle.proto_pubsub.specs.Subs.{Ties, seat_at, view_of, begun_of, is_for, is_ready, keeps_at, is_kept, without_first}
-use Rattle.proto_pubsub.proofs.Knowing.{allowed, allowed_before, apart, rising, only_zero, AreHome, homes, home_of, pool_home, kept_home, nothing}
-use Rattle.proto_pubsub.proofs.Seating.{found_at, not_found, long_with, found_seat, any_seat, changed, each, map_same, shut, stands, stopped}
+use Rattle.proto_pubsub.specs.Seats.{SeatView, is_home, kept_in, takes_frame, added, fresh_seat, given_from, emptied, switched, first_in, with_found, SwitchesIn, StopsAt}
+use Rattle.proto_pubsub.specs.Subs.{Ties, NeedsCopy, seat_at, view_of, begun_of, is_for, is_ready, keeps_at, is_kept, without_first}
+use Rattle.proto_pubsub.proofs.Knowing.{IsRising, allowed, allowed_before, apart, rising, only_zero, AreHome, homes, home_of, pool_home, kept_home, nothing}
+use Rattle.proto_pubsub.proofs.Seating.{found_at, not_found, long_with, found_seat, any_seat, changed, each, map_same, shut, stands, is_at, stopped}
 use Rattle.proto_pubsub.proofs.Taking.{find_begun, find_own, without_all, first_of_its}
 
 pub is_sub : (m : Subscribe) (t : Moment) → Ties m t → t.z.role ≡ role.Sub
@@ -107,8 +105,8 @@ module _ (m : Subscribe) (t : Moment) (p : ℕ) (v : MessageView) (h : Ties m t)
       by_role = rw (is_sub m t h) refl
 
   -- the context keeps it
-  takes_in : (c : ℕ) → has (ctxs (past t)) c ≡ true → kept_in m.raw m.options v (seat_at (pools t) (tops t) c) ≡ seat_at (pools (also t (Frame p v.body))) (tops t) c
-  takes_in c k = go (m.raw || is_wanted_by (tops t c) v.body) ∙ sym (ap (λ (is : List Item). let x : SeatView = record { ctx = c; topics = tops t c; kept = map view_of is } in x) same)
+  takes_in : (c : ℕ) → has (ctxs (past t)) c ≡ true → kept_in m.raw m.options v (seat_at m.options.queue (pools t) (tops t) c) ≡ seat_at m.options.queue (pools (also t (Frame p v.body))) (tops t) c
+  takes_in c k = go (m.raw || is_wanted_by (tops t c) v.body) ∙ sym (ap (λ (is : List Item). let x : SeatView = record { ctx = c; topics = tops t c; places = m.options.queue; kept = map view_of is } in x) same)
     where
       more : List Item
       more = add_discarding m.options.prefer_new m.options.queue (Some (plain_item p v.body)) (pools t c)
@@ -122,9 +120,9 @@ module _ (m : Subscribe) (t : Moment) (p : ℕ) (v : MessageView) (h : Ties m t)
       puts : added m.options.prefer_new m.options.queue v (map view_of (pools t c)) ≡ map view_of more
       puts = ap (λ (x : MessageView). added m.options.prefer_new m.options.queue x (map view_of (pools t c))) is ∙ views_added m.options.prefer_new m.options.queue (plain_item p v.body) (pools t c)
 
-      go : (b : Bool) → cond b (record { ctx = c; topics = tops t c; kept = added m.options.prefer_new m.options.queue v (map view_of (pools t c)) }) (seat_at (pools t) (tops t) c)
-          ≡ (let x : SeatView = record { ctx = c; topics = tops t c; kept = map view_of (cond b more (pools t c)) } in x)
-      go true = ap (λ (vs : List MessageView). let x : SeatView = record { ctx = c; topics = tops t c; kept = vs } in x) puts
+      go : (b : Bool) → cond b (record { ctx = c; topics = tops t c; places = m.options.queue; kept = added m.options.prefer_new m.options.queue v (map view_of (pools t c)) }) (seat_at m.options.queue (pools t) (tops t) c)
+          ≡ (let x : SeatView = record { ctx = c; topics = tops t c; places = m.options.queue; kept = map view_of (cond b more (pools t c)) } in x)
+      go true = ap (λ (vs : List MessageView). let x : SeatView = record { ctx = c; topics = tops t c; places = m.options.queue; kept = vs } in x) puts
       go false = refl
 
   well_formed : malformed t.z (past t) p v.body ≡ false
@@ -135,20 +133,20 @@ module _ (m : Subscribe) (t : Moment) (p : ℕ) (v : MessageView) (h : Ties m t)
     well_formed,
     record {
       kind = rw (same.0, same.1) h.kind;
-      seats = e ∙ ap (map (kept_in m.raw m.options v)) h.seats ∙ each (kept_in m.raw m.options v) (seat_at (pools t) (tops t)) (seat_at (pools (also t (Frame p v.body))) (tops t)) (ctxs (past t)) takes_in;
+      seats = rw same.1 (e ∙ ap (map (kept_in m.raw m.options v)) h.seats ∙ each (kept_in m.raw m.options v) (seat_at m.options.queue (pools t) (tops t)) (seat_at m.options.queue (pools (also t (Frame p v.body))) (tops t)) (ctxs (past t)) takes_in);
       pending = rw w h.pending;
     },
   )
 
-  pub dry_ties : (n : Subscribe) (d : ℕ) → StopsAt (kept_in m.raw m.options v) d m.seats.items n.seats.items → n.waiting ≡ m.waiting → (n.raw ≡ m.raw) × (n.options ≡ m.options) → Frames (Ties n) (verdicts.Dry d) t p v.body
+  pub dry_ties : (n : Subscribe) (d : ℕ) → StopsAt (takes_frame m.raw m.options v.body) (kept_in m.raw m.options v) d m.seats.items n.seats.items → n.waiting ≡ m.waiting → (n.raw ≡ m.raw) × (n.options ≡ m.options) → Frames (Ties n) (verdicts.Dry d) t p v.body
   dry_ties n d stops w same =
       let before = sym h.seats ∙ stops.before in (
         well_formed,
         rw (is_sub m t h) refl,
-        stands (pools t) (tops t) d (ctxs (past t)) stops.done stops.rest stops.at before stops.here,
+        stands m.options.queue (pools t) (tops t) d (ctxs (past t)) stops.done stops.rest stops.at before stops.here,
         record {
           kind = rw (same.0, same.1) h.kind;
-          seats = stops.after ∙ stopped (pools t) (tops t) (pools (also (also t (Frame p v.body)) (Dry d))) (tops t) (kept_in m.raw m.options v) d (ctxs (past t)) stops.done stops.rest stops.at (rising t.z (past t) a) before stops.here low high;
+          seats = rw same.1 (stops.after ∙ stopped m.options.queue (pools t) (tops t) (pools (also (also t (Frame p v.body)) (Dry d))) (tops t) (kept_in m.raw m.options v) d (ctxs (past t)) stops.done stops.rest stops.at (rising t.z (past t) a) before stops.here low high);
           pending = rw w h.pending;
         },
       )
@@ -162,11 +160,52 @@ module _ (m : Subscribe) (t : Moment) (p : ℕ) (v : MessageView) (h : Ties m t)
       now_is : (e : ℕ) (b : Bool) → nat_lt e d ≡ b → pools (also (also t (Frame p v.body)) (Dry d)) e ≡ cond b (pools (also t (Frame p v.body)) e) (pools t e)
       now_is e b q = ap (λ b'. cond b' (pools (also t (Frame p v.body)) e) (pools t e)) q
 
-      low : (e : ℕ) → has (ctxs (past t)) e ≡ true → e < d → kept_in m.raw m.options v (seat_at (pools t) (tops t) e) ≡ seat_at (pools (also (also t (Frame p v.body)) (Dry d))) (tops t) e
-      low e k l = takes_in e k ∙ ap (λ (is : List Item). let x : SeatView = record { ctx = e; topics = tops t e; kept = map view_of is } in x) (sym (now_is e true (below e l)))
+      low : (e : ℕ) → has (ctxs (past t)) e ≡ true → e < d → kept_in m.raw m.options v (seat_at m.options.queue (pools t) (tops t) e) ≡ seat_at m.options.queue (pools (also (also t (Frame p v.body)) (Dry d))) (tops t) e
+      low e k l = takes_in e k ∙ ap (λ (is : List Item). let x : SeatView = record { ctx = e; topics = tops t e; places = m.options.queue; kept = map view_of is } in x) (sym (now_is e true (below e l)))
 
-      high : (e : ℕ) → has (ctxs (past t)) e ≡ true → d ≤ e → seat_at (pools t) (tops t) e ≡ seat_at (pools (also (also t (Frame p v.body)) (Dry d))) (tops t) e
-      high e k l = ap (λ (is : List Item). let x : SeatView = record { ctx = e; topics = tops t e; kept = map view_of is } in x) (sym (now_is e false (above e l)))
+      high : (e : ℕ) → has (ctxs (past t)) e ≡ true → d ≤ e → seat_at m.options.queue (pools t) (tops t) e ≡ seat_at m.options.queue (pools (also (also t (Frame p v.body)) (Dry d))) (tops t) e
+      high e k l = ap (λ (is : List Item). let x : SeatView = record { ctx = e; topics = tops t e; places = m.options.queue; kept = map view_of is } in x) (sym (now_is e false (above e l)))
+
+  -- the context at which it stopped needed a copy
+  pub dry_needs : (ys : List SeatView) (d : ℕ) → StopsAt (takes_frame m.raw m.options v.body) (kept_in m.raw m.options v) d m.seats.items ys → NeedsCopy t.z (past t) d p v.body
+  dry_needs ys d stops =
+      let before = sym h.seats ∙ stops.before in
+      let home = stands m.options.queue (pools t) (tops t) d (ctxs (past t)) stops.done stops.rest stops.at before stops.here in
+      let at : stops.at ≡ seat_at m.options.queue (pools t) (tops t) d = is_at m.options.queue (pools t) (tops t) (ctxs (past t)) stops.done stops.rest stops.at before ∙ ap (seat_at m.options.queue (pools t) (tops t)) stops.here in
+      let parts = both (m.raw || is_wanted_by (tops t d) v.body) (nat_lt (length (map view_of (pools t d))) m.options.queue || m.options.prefer_new) (sym (ap (takes_frame m.raw m.options v.body) at) ∙ stops.needed) in
+      record {
+        is_open = home;
+        takes = takes_is d home ∙ parts.0;
+        place = ap (λ (o : Options). nat_lt (length (pools t d)) o.queue || o.prefer_new) (is_options m t h) ∙ ap (λ (n : ℕ). nat_lt n m.options.queue || m.options.prefer_new) (sym (length-map (pools t d) view_of)) ∙ parts.1;
+      }
+    where
+      both : (a b : Bool) → (a && b) ≡ true → (a ≡ true) × (b ≡ true)
+      both true true q = (refl, refl)
+      both true false q = absurd cc
+      both false b q = absurd cc
+
+-- as many contexts as the sub has
+pub many : (m : Subscribe) (t : Moment) → Ties m t → length m.seats.items ≡ length (ctxs (past t))
+many m t h = ap length h.seats ∙ length-map (ctxs (past t)) (seat_at m.options.queue (pools t) (tops t))
+
+-- raw, one alone is open
+pub one_raw : (m : Subscribe) (t : Moment) → AreAllowed t.z (past t) → Ties m t → t.z.raw ≡ true → length m.seats.items ≤ 1
+one_raw m t a h r = let few = at_most (ctxs (past t)) (rising t.z (past t) a) (λ c k. only_zero t.z (past t) c a r k) in omega (arith, many m t h, few)
+  where
+    itself : (n : ℕ) (b : Bool) → ((n == n) || b) ≡ true
+    itself n b = grind (arith, nat_tests)
+
+    second : (a b : Bool) → b ≡ true → (a || b) ≡ true
+    second true b e = refl
+    second false b e = e
+
+    at_most : (cs : List ℕ) → IsRising cs → ((c : ℕ) → has cs c ≡ true → c ≡ 0) → length cs ≤ 1
+    at_most [] r all = omega arith
+    at_most (x ∷ []) r all = omega arith
+    at_most (x ∷ y ∷ cs) r all =
+        let under : x < y = r.0 y (itself y (has cs y)) in
+        let none : y ≡ 0 = all y (second (x == y) ((y == y) || has cs y) (itself y (has cs y))) in
+        absurd (omega (arith, under, none))
 
 -- ---- What is kept
 
@@ -176,7 +215,7 @@ nil_views (i ∷ is) = refl
 
 keeps_of : (m : Subscribe) (t : Moment) (c : ℕ) → AreAllowed t.z (past t) → Ties m t → has (ctxs (past t)) c ≡ true → keeps_at m.seats.items c ≡ not (is_nil (kept t.z (past t) c))
 keeps_of m t c a h k =
-    ap (λ (xs : List SeatView). is_kept (find (is_home c) xs)) h.seats ∙ ap is_kept (found_seat (pools t) (tops t) c (ctxs (past t)) ∙ ap (λ b. cond b (Some (seat_at (pools t) (tops t) c)) None) k) ∙ ap not (nil_views (pools t c))
+    ap (λ (xs : List SeatView). is_kept (find (is_home c) xs)) h.seats ∙ ap is_kept (found_seat m.options.queue (pools t) (tops t) c (ctxs (past t)) ∙ ap (λ b. cond b (Some (seat_at m.options.queue (pools t) (tops t) c)) None) k) ∙ ap not (nil_views (pools t c))
     ∙ sym (ap (λ (is : List Item). not (is_nil is)) (kept_home t.z (past t) c (is_sub m t h) a k))
 
 pub keeps_means : (m : Subscribe) (t : Moment) (c : ℕ) (xs : List SeatView) (b : Bool) → Lawful t → Ties m t → has (ctxs (past t)) c ≡ true → xs ≡ m.seats.items → b ≡ keeps_at xs c → b ≡ not (is_nil (kept t.z (past t) c))
@@ -185,7 +224,7 @@ keeps_means m t c xs b l h k e f = f ∙ ap (λ (ys : List SeatView). keeps_at y
 -- ---- Whether an operation may begin
 
 pub open_is : (m : Subscribe) (t : Moment) (c : ℕ) (xs : List SeatView) (b o : Bool) → Ties m t → xs ≡ m.seats.items → o ≡ list_any (is_home c) xs → o ≡ b → has (ctxs (past t)) c ≡ b
-open_is m t c xs b o h e k f = sym (any_seat (pools t) (tops t) c (ctxs (past t))) ∙ ap (list_any (is_home c)) (sym h.seats ∙ sym e) ∙ sym k ∙ f
+open_is m t c xs b o h e k f = sym (any_seat m.options.queue (pools t) (tops t) c (ctxs (past t))) ∙ ap (list_any (is_home c)) (sym h.seats ∙ sym e) ∙ sym k ∙ f
 
 pub no_state : (m : Subscribe) (t : Moment) (c : ℕ) (act : Act) → Ties m t → is_state t.z (past t) c act ≡ false
 no_state m t c act h = rw (is_sub m t h) refl
@@ -298,7 +337,7 @@ pub begun_ties : (m n : Subscribe) (t : Moment) (w : Waiting) (deadline : Option
 begun_ties m n t w deadline h e s same =
     record {
       kind = rw (same.0, same.1) h.kind;
-      seats = rw s h.seats;
+      seats = rw (s, same.1) h.seats;
       pending = ap (map begun_of) e ∙ map-append begun_of m.waiting.items (w ∷ []) ∙ ap (λ (ss : List Begun). ss ++ begun_of w ∷ []) h.pending;
     }
 
@@ -330,7 +369,7 @@ pub lost_ties : (m n : Subscribe) (t : Moment) (op : OpName) (cause : Cause) (by
 lost_ties m n t op cause by a h e s same =
     record {
       kind = rw (same.0, same.1) h.kind;
-      seats = rw s h.seats;
+      seats = rw (s, same.1) h.seats;
       pending = left_over m t op n.waiting.items a h e;
     }
 
@@ -364,7 +403,7 @@ module _ (m n : Subscribe) (t : Moment) (op : OpName) (s : Begun) (text : Messag
 
   pub gives : (r : Option MessageView) (xs : List SeatView) → xs ≡ m.seats.items → r ≡ first_in (find (is_home s.ctx) xs) → option_map text_of r ≡ Some text
   gives r xs e f =
-      ap (option_map text_of) (f ∙ ap (λ (ys : List SeatView). first_in (find (is_home s.ctx) ys)) (e ∙ h.seats) ∙ ap first_in (found_seat (pools t) (tops t) s.ctx (ctxs (past t)) ∙ ap (λ b. cond b (Some (seat_at (pools t) (tops t) s.ctx)) None) home))
+      ap (option_map text_of) (f ∙ ap (λ (ys : List SeatView). first_in (find (is_home s.ctx) ys)) (e ∙ h.seats) ∙ ap first_in (found_seat m.options.queue (pools t) (tops t) s.ctx (ctxs (past t)) ∙ ap (λ b. cond b (Some (seat_at m.options.queue (pools t) (tops t) s.ctx)) None) home))
       ∙ heads (pools t s.ctx) ∙ ap (λ (is : List Item). option_map (λ (i : Item). i.message) (head_of is)) (sym (kept_home t.z (past t) s.ctx (is_sub m t h) a home)) ∙ c.may.oldest
 
   on : (e : ℕ) → is_on_pool t.z e (pending (past t) op) ≡ (s.ctx == e)
@@ -374,7 +413,7 @@ module _ (m n : Subscribe) (t : Moment) (op : OpName) (s : Begun) (text : Messag
   given_ties xs e f w same =
       record {
         kind = rw (same.0, same.1) h.kind;
-        seats = f ∙ ap (with_found (is_home s.ctx) given_from) (e ∙ h.seats) ∙ changed (pools t) (tops t) (pools (also t (End op (Won (Received text))))) (tops t) given_from s.ctx (ctxs (past t)) (rising t.z (past t) a) here others;
+        seats = rw same.1 (f ∙ ap (with_found (is_home s.ctx) given_from) (e ∙ h.seats) ∙ changed m.options.queue (pools t) (tops t) (pools (also t (End op (Won (Received text))))) (tops t) given_from s.ctx (ctxs (past t)) (rising t.z (past t) a) here others);
         pending = left_over m t op n.waiting.items a h w;
       }
     where
@@ -388,11 +427,11 @@ module _ (m n : Subscribe) (t : Moment) (op : OpName) (s : Begun) (text : Messag
       now_is : (k : ℕ) (b : Bool) → (s.ctx == k) ≡ b → pools (also t (End op (Won (Received text)))) k ≡ cond b (drop 1 (pools t k)) (pools t k)
       now_is k b q = ap (λ b'. cond b' (drop 1 (pools t k)) (pools t k)) (on k ∙ q)
 
-      here : given_from (seat_at (pools t) (tops t) s.ctx) ≡ seat_at (pools (also t (End op (Won (Received text))))) (tops t) s.ctx
-      here = ap (λ (vs : List MessageView). let x : SeatView = record { ctx = s.ctx; topics = tops t s.ctx; kept = vs } in x) (fewer (pools t s.ctx) ∙ ap (map view_of) (sym (now_is s.ctx true (itself s.ctx))))
+      here : given_from (seat_at m.options.queue (pools t) (tops t) s.ctx) ≡ seat_at m.options.queue (pools (also t (End op (Won (Received text))))) (tops t) s.ctx
+      here = ap (λ (vs : List MessageView). let x : SeatView = record { ctx = s.ctx; topics = tops t s.ctx; places = m.options.queue; kept = vs } in x) (fewer (pools t s.ctx) ∙ ap (map view_of) (sym (now_is s.ctx true (itself s.ctx))))
 
-      others : (k : ℕ) → has (ctxs (past t)) k ≡ true → (s.ctx == k) ≡ false → seat_at (pools t) (tops t) k ≡ seat_at (pools (also t (End op (Won (Received text))))) (tops t) k
-      others k q f = ap (λ (is : List Item). let x : SeatView = record { ctx = k; topics = tops t k; kept = map view_of is } in x) (sym (now_is k false f))
+      others : (k : ℕ) → has (ctxs (past t)) k ≡ true → (s.ctx == k) ≡ false → seat_at m.options.queue (pools t) (tops t) k ≡ seat_at m.options.queue (pools (also t (End op (Won (Received text))))) (tops t) k
+      others k q f = ap (λ (is : List Item). let x : SeatView = record { ctx = k; topics = tops t k; places = m.options.queue; kept = map view_of is } in x) (sym (now_is k false f))
 
 pub gives_from : (m n : Subscribe) (t : Moment) (op : OpName) (s : Begun) (text : Message) → Lawful t → Ties m t → CanGive t op s text → (w : Waiting) → begun_of w ≡ s → (r : Option MessageView) (xs : List SeatView) → xs ≡ m.seats.items → r ≡ first_in (find (is_home w.ctx) xs) → option_map text_of r ≡ Some text
 gives_from m n t op s text l h c w own r xs e f = gives m n t op s text l h c r xs e (f ∙ ap (λ (q : Begun). first_in (find (is_home q.ctx) xs)) own)
@@ -403,15 +442,15 @@ given_from_ties m n t op s text l h c w own xs e f g same = given_ties m n t op 
 
 -- ---- Contexts
 
-pub opened_ties : (m n : Subscribe) (t : Moment) (c : ℕ) → Lawful (also t (Ctx c Open)) → Ties m t → n.seats.items ≡ m.seats.items ++ fresh_seat c ∷ [] → n.waiting ≡ m.waiting → (n.raw ≡ m.raw) × (n.options ≡ m.options) → Ties n (also t (Ctx c Open))
+pub opened_ties : (m n : Subscribe) (t : Moment) (c : ℕ) → Lawful (also t (Ctx c Open)) → Ties m t → n.seats.items ≡ m.seats.items ++ fresh_seat m.options.queue c ∷ [] → n.waiting ≡ m.waiting → (n.raw ≡ m.raw) × (n.options ≡ m.options) → Ties n (also t (Ctx c Open))
 opened_ties m n t c l h e w same =
     let now = l.turn.0.itself.1 in
     let none = nothing t.z Everywhere (past t) c (is_sub m t h) (allowed_before t (Ctx c Open) l) (omega (arith, now)) in
-    let new : fresh_seat c ≡ seat_at (pools t) (tops t) c =
-    ap (λ (is : List Item). let x : SeatView = record { ctx = c; topics = []; kept = map view_of is } in x) (sym none.0) ∙ ap (λ (ts : List (List ℕ)). let x : SeatView = record { ctx = c; topics = ts; kept = map view_of (pools t c) } in x) (sym none.1) in
+    let new : fresh_seat m.options.queue c ≡ seat_at m.options.queue (pools t) (tops t) c =
+    ap (λ (is : List Item). let x : SeatView = record { ctx = c; topics = []; places = m.options.queue; kept = map view_of is } in x) (sym none.0) ∙ ap (λ (ts : List (List ℕ)). let x : SeatView = record { ctx = c; topics = ts; places = m.options.queue; kept = map view_of (pools t c) } in x) (sym none.1) in
     record {
       kind = rw (same.0, same.1) h.kind;
-      seats = e ∙ ap (λ (xs : List SeatView). xs ++ fresh_seat c ∷ []) h.seats ∙ ap (λ (x : SeatView). map (seat_at (pools t) (tops t)) (ctxs (past t)) ++ x ∷ []) new ∙ sym (map-append (seat_at (pools t) (tops t)) (ctxs (past t)) (c ∷ []));
+      seats = rw same.1 (e ∙ ap (λ (xs : List SeatView). xs ++ fresh_seat m.options.queue c ∷ []) h.seats ∙ ap (λ (x : SeatView). map (seat_at m.options.queue (pools t) (tops t)) (ctxs (past t)) ++ x ∷ []) new ∙ sym (map-append (seat_at m.options.queue (pools t) (tops t)) (ctxs (past t)) (c ∷ [])));
       pending = rw w h.pending;
     }
 
@@ -419,18 +458,18 @@ pub shut_ties : (m n : Subscribe) (t : Moment) (c : ℕ) → Ties m t → n.seat
 shut_ties m n t c h e w same =
     record {
       kind = rw (same.0, same.1) h.kind;
-      seats = e ∙ ap (filter (λ (x : SeatView). not (x.ctx == c))) h.seats ∙ shut (pools t) (tops t) (pools (also t (Ctx c Shut))) (tops (also t (Ctx c Shut))) c (ctxs (past t)) others;
+      seats = rw same.1 (e ∙ ap (filter (λ (x : SeatView). not (x.ctx == c))) h.seats ∙ shut m.options.queue (pools t) (tops t) (pools (also t (Ctx c Shut))) (tops (also t (Ctx c Shut))) c (ctxs (past t)) others);
       pending = rw w h.pending;
     }
   where
-    others : (k : ℕ) → (c == k) ≡ false → seat_at (pools t) (tops t) k ≡ seat_at (pools (also t (Ctx c Shut))) (tops (also t (Ctx c Shut))) k
-    others k f = sym (ap (λ b. let x : SeatView = record { ctx = k; topics = cond b [] (tops t k); kept = map view_of (cond b [] (pools t k)) } in x) f)
+    others : (k : ℕ) → (c == k) ≡ false → seat_at m.options.queue (pools t) (tops t) k ≡ seat_at m.options.queue (pools (also t (Ctx c Shut))) (tops (also t (Ctx c Shut))) k
+    others k f = sym (ap (λ b. let x : SeatView = record { ctx = k; topics = cond b [] (tops t k); places = m.options.queue; kept = map view_of (cond b [] (pools t k)) } in x) f)
 
 pub closed_ties : (m n : Subscribe) (t : Moment) (totals : Totals) → Ties m t → n.seats.items ≡ map emptied m.seats.items → n.waiting ≡ m.waiting → (n.raw ≡ m.raw) × (n.options ≡ m.options) → Ties n (also t (Close totals))
 closed_ties m n t totals h e w same =
     record {
       kind = rw (same.0, same.1) h.kind;
-      seats = e ∙ ap (map emptied) h.seats ∙ each emptied (seat_at (pools t) (tops t)) (seat_at (λ c. []) (tops t)) (ctxs (past t)) (λ c k. refl);
+      seats = rw same.1 (e ∙ ap (map emptied) h.seats ∙ each emptied (seat_at m.options.queue (pools t) (tops t)) (seat_at m.options.queue (λ c. []) (tops t)) (ctxs (past t)) (λ c k. refl));
       pending = rw w h.pending;
     }
 
@@ -440,15 +479,15 @@ pub down_ties : (m : Subscribe) (t : Moment) (p : ℕ) (why : Why) → Ties m t 
 down_ties m t p why h =
     record {
       kind = h.kind;
-      seats = h.seats ∙ map_same (seat_at (pools t) (tops t)) (seat_at (pools (also t (Down p why))) (tops t)) (ctxs (past t)) stays;
+      seats = h.seats ∙ map_same (seat_at m.options.queue (pools t) (tops t)) (seat_at m.options.queue (pools (also t (Down p why))) (tops t)) (ctxs (past t)) stays;
       pending = h.pending;
     }
   where
     same : (r : Role) (is : List Item) → r ≡ role.Sub → is ≡ cond (is_reply r) (filter (λ (i : Item). not (is_from p i)) is) is
     same r is e = rw e refl
 
-    stays : (c : ℕ) → has (ctxs (past t)) c ≡ true → seat_at (pools t) (tops t) c ≡ seat_at (pools (also t (Down p why))) (tops t) c
-    stays c k = ap (λ (is : List Item). let x : SeatView = record { ctx = c; topics = tops t c; kept = map view_of is } in x) (same t.z.role (pools t c) (is_sub m t h))
+    stays : (c : ℕ) → has (ctxs (past t)) c ≡ true → seat_at m.options.queue (pools t) (tops t) c ≡ seat_at m.options.queue (pools (also t (Down p why))) (tops t) c
+    stays c k = ap (λ (is : List Item). let x : SeatView = record { ctx = c; topics = tops t c; places = m.options.queue; kept = map view_of is } in x) (same t.z.role (pools t c) (is_sub m t h))
 
 -- ---- Topics
 
@@ -465,21 +504,21 @@ module _ (m n : Subscribe) (t : Moment) (c : ℕ) (topic : List ℕ) (l : Lawful
   itself : (k : ℕ) → (k == k) ≡ true
   itself k = grind (arith, nat_tests)
 
-  switched_at : (on : Bool) → switched on topic (seat_at (pools t) (tops t) c) ≡ seat_at (pools (also t (Topic c topic (switch_of on)))) (tops (also t (Topic c topic (switch_of on)))) c
-  switched_at true = sym (ap (λ b. let x : SeatView = record { ctx = c; topics = cond b (tops t c ++ topic ∷ []) (tops t c); kept = map view_of (pools t c) } in x) (itself c))
+  switched_at : (on : Bool) → switched on topic (seat_at m.options.queue (pools t) (tops t) c) ≡ seat_at m.options.queue (pools (also t (Topic c topic (switch_of on)))) (tops (also t (Topic c topic (switch_of on)))) c
+  switched_at true = sym (ap (λ b. let x : SeatView = record { ctx = c; topics = cond b (tops t c ++ topic ∷ []) (tops t c); places = m.options.queue; kept = map view_of (pools t c) } in x) (itself c))
   switched_at false =
       let P : List ℕ → Bool = is_wanted_by (filter (λ u. not (same_bytes u topic)) (tops t c)) in
       let now : tops (also t (Topic c topic Off)) c ≡ filter (λ u. not (same_bytes u topic)) (tops t c) = ap (λ b. cond b (filter (λ u. not (same_bytes u topic)) (tops t c)) (tops t c)) (itself c) in
       let left : pools (also t (Topic c topic Off)) c ≡ filter (λ (i : Item). P i.message.body) (pools t c) =
       ap (λ b. cond b (filter (λ (i : Item). is_wanted_by (tops (also t (Topic c topic Off)) c) i.message.body) (pools t c)) (pools t c)) (itself c) ∙ ap (λ (ts : List (List ℕ)). filter (λ (i : Item). is_wanted_by ts i.message.body) (pools t c)) now in
-      ap (λ (vs : List MessageView). let x : SeatView = record { ctx = c; topics = filter (λ u. not (same_bytes u topic)) (tops t c); kept = vs } in x) (filters P (pools t c) ∙ ap (map view_of) (sym left))
-      ∙ ap (λ (ts : List (List ℕ)). let x : SeatView = record { ctx = c; topics = ts; kept = map view_of (pools (also t (Topic c topic Off)) c) } in x) (sym now)
+      ap (λ (vs : List MessageView). let x : SeatView = record { ctx = c; topics = filter (λ u. not (same_bytes u topic)) (tops t c); places = m.options.queue; kept = vs } in x) (filters P (pools t c) ∙ ap (map view_of) (sym left))
+      ∙ ap (λ (ts : List (List ℕ)). let x : SeatView = record { ctx = c; topics = ts; places = m.options.queue; kept = map view_of (pools (also t (Topic c topic Off)) c) } in x) (sym now)
 
-  others : (on : Bool) (k : ℕ) → has (ctxs (past t)) k ≡ true → (c == k) ≡ false → seat_at (pools t) (tops t) k ≡ seat_at (pools (also t (Topic c topic (switch_of on)))) (tops (also t (Topic c topic (switch_of on)))) k
-  others true k q f = sym (ap (λ b. let x : SeatView = record { ctx = k; topics = cond b (tops t k ++ topic ∷ []) (tops t k); kept = map view_of (pools t k) } in x) f)
+  others : (on : Bool) (k : ℕ) → has (ctxs (past t)) k ≡ true → (c == k) ≡ false → seat_at m.options.queue (pools t) (tops t) k ≡ seat_at m.options.queue (pools (also t (Topic c topic (switch_of on)))) (tops (also t (Topic c topic (switch_of on)))) k
+  others true k q f = sym (ap (λ b. let x : SeatView = record { ctx = k; topics = cond b (tops t k ++ topic ∷ []) (tops t k); places = m.options.queue; kept = map view_of (pools t k) } in x) f)
   others false k q f =
       sym
-      (ap (λ b. let x : SeatView = record { ctx = k; topics = cond b (filter (λ u. not (same_bytes u topic)) (tops t k)) (tops t k); kept = map view_of (cond b (filter (λ (i : Item). is_wanted_by (tops (also t (Topic c topic Off)) k) i.message.body) (pools t k)) (pools t k)) } in x) f)
+      (ap (λ b. let x : SeatView = record { ctx = k; topics = cond b (filter (λ u. not (same_bytes u topic)) (tops t k)) (tops t k); places = m.options.queue; kept = map view_of (cond b (filter (λ (i : Item). is_wanted_by (tops (also t (Topic c topic Off)) k) i.message.body) (pools t k)) (pools t k)) } in x) f)
 
   ctxs_same : (on : Bool) → ctxs (past (also t (Topic c topic (switch_of on)))) ≡ ctxs (past t)
   ctxs_same true = refl
@@ -493,25 +532,25 @@ module _ (m n : Subscribe) (t : Moment) (c : ℕ) (topic : List ℕ) (l : Lawful
   unchanged e =
       record {
         kind = rw (same.0, same.1) h.kind;
-        seats = e ∙ h.seats;
+        seats = rw same.1 (e ∙ h.seats);
         pending = rw w h.pending;
       }
 
-  found : (xs : List SeatView) → xs ≡ m.seats.items → find (is_home c) xs ≡ Some (seat_at (pools t) (tops t) c)
-  found xs e = ap (find (is_home c)) (e ∙ h.seats) ∙ found_seat (pools t) (tops t) c (ctxs (past t)) ∙ ap (λ b. cond b (Some (seat_at (pools t) (tops t) c)) None) open_
+  found : (xs : List SeatView) → xs ≡ m.seats.items → find (is_home c) xs ≡ Some (seat_at m.options.queue (pools t) (tops t) c)
+  found xs e = ap (find (is_home c)) (e ∙ h.seats) ∙ found_seat m.options.queue (pools t) (tops t) c (ctxs (past t)) ∙ ap (λ b. cond b (Some (seat_at m.options.queue (pools t) (tops t) c)) None) open_
 
   pub switched_ties : {E : Type 0} (r : Result Bool E) (xs : List SeatView) (on : Bool) → xs ≡ m.seats.items → SwitchesIn r (find (is_home c) xs) c xs n.seats.items topic on → Topics (Ties n) r t c topic on
   switched_ties {E = E} r xs on e s = go r (subst (λ (o : Option SeatView). SwitchesIn r o c xs n.seats.items topic on) (found xs e) s)
     where
-      go : (r : Result Bool E) → SwitchesIn r (Some (seat_at (pools t) (tops t) c)) c xs n.seats.items topic on → Topics (Ties n) r t c topic on
+      go : (r : Result Bool E) → SwitchesIn r (Some (seat_at m.options.queue (pools t) (tops t) c)) c xs n.seats.items topic on → Topics (Ties n) r t c topic on
       go (Ok true) q = (
         q.0,
         record {
           kind = rw (same.0, same.1) h.kind;
           seats =
-              q.1 ∙ ap (with_found (is_home c) (switched on topic)) (e ∙ h.seats)
-              ∙ changed (pools t) (tops t) (pools (also t (Topic c topic (switch_of on)))) (tops (also t (Topic c topic (switch_of on)))) (switched on topic) c (ctxs (past t)) (rising t.z (past t) (allowed t l)) (switched_at on) (others on)
-              ∙ ap (map (seat_at (pools (also t (Topic c topic (switch_of on)))) (tops (also t (Topic c topic (switch_of on)))))) (sym (ctxs_same on));
+              rw same.1 (q.1 ∙ ap (with_found (is_home c) (switched on topic)) (e ∙ h.seats)
+              ∙ changed m.options.queue (pools t) (tops t) (pools (also t (Topic c topic (switch_of on)))) (tops (also t (Topic c topic (switch_of on)))) (switched on topic) c (ctxs (past t)) (rising t.z (past t) (allowed t l)) (switched_at on) (others on)
+              ∙ ap (map (seat_at m.options.queue (pools (also t (Topic c topic (switch_of on)))) (tops (also t (Topic c topic (switch_of on)))))) (sym (ctxs_same on)));
           pending = rw w h.pending ∙ sym (pend_same on);
         },
       )
@@ -524,7 +563,7 @@ long_switched (Ok true) (Some x) c xs ys topic on s = long_with (is_home c) (swi
 long_switched (Ok false) (Some x) c xs ys topic on s = ap length s.1
 long_switched (Err e) (Some x) c xs ys topic on s = ap length s.1
 
--- no want of memory where one is taken off
+-- no out of memory where one is taken off
 pub switched_off : {E : Type 0} (r : Result Bool E) (o : Option SeatView) (c : ℕ) (xs ys : List SeatView) (topic : List ℕ) (on : Bool) → on ≡ false → SwitchesIn r o c xs ys topic on → OnErr r ⊥
 switched_off (Ok b) o c xs ys topic on e s = tt
 switched_off (Err x) None c xs ys topic on e s = let no : Err x ≡ Ok false = s.1 in absurd cc

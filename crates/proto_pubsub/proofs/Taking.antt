@@ -1,7 +1,7 @@
 -- What is left of the receives of a sub when one is taken out.
-use Rattle.std.proofs.Common.{◌≡◌, refl, ap, sym, ◌∙◌, subst, List, [], ◌∷◌, ◌++◌, ℕ, zero, suc, ◌+◌, Bool, true, false, cond, arith, Option, Some, None, length, map, slice_index_or, ◌<◌, ◌≤◌}
-use Rattle.std.specs.Prelude.{find, not, remove, ◌&&◌, ◌||◌, ◌==◌}
-use Rattle.std.specs.List.{position, list_any}
+use Rattle.std.proofs.Common.{◌≡◌, refl, ap, sym, ◌∙◌, subst, List, [], ◌∷◌, ℕ, zero, suc, ◌+◌, Bool, true, false, cond, arith, Some, None, length, map, slice_index_or, ◌<◌, ◌≤◌}
+use Rattle.std.specs.Prelude.{find, not, remove, ◌==◌}
+use Rattle.std.specs.List.{position}
 use Rattle.std.specs.Option.{option_map}
 use Rattle.std.proofs.lemmas.Bool.Decides.{nat_tests}
 use Rattle.std.proofs.lemmas.List.Quantifiers.{position-Some}

@@ -1,5 +1,5 @@
 -- The laws of a pub as a machine.
-use Rattle.std.specs.Prelude.{◌≡◌, ◌≤◌, true, false, List, [], ◌∷◌, length, filter}
+use Rattle.std.specs.Prelude.{◌≡◌, true, false, List, [], ◌∷◌, length, filter}
 use Rattle.std.proofs.Common.{refl, subst}
 use Rattle.sp_msg.specs.Views.{MessageView}
 use Rattle.sp_history.specs.Kept.{pool}
@@ -49,7 +49,7 @@ pub anew : (m : Publish) (t : Moment) → past t ≡ [] → Ties m t → Starts 
 anew m t e h slots callers caller = (
   record {
     kind = refl;
-    pipes = subst (λ before. length (up before) ≤ m.pipes) e h.0.pipes;
+    pipes = subst (λ before. m.pipes ≡ length (up before)) e h.0.pipes;
     items = subst (λ before. pool t.z before 0 ≡ []) e h.0.items;
     pending = subst (λ before. Holds m.pending (pend before)) e h.0.pending;
     contexts = refl;

@@ -1,5 +1,5 @@
 -- What a pub stands for.
-use Rattle.std.specs.Prelude.{◌≡◌, ◌≤◌, ℕ, Bool, ⊤, List, [], ◌∷◌, length, filter}
+use Rattle.std.specs.Prelude.{◌≡◌, ℕ, Bool, ⊤, List, [], ◌∷◌, length, filter}
 use Rattle.sp_base.specs.declared.role.Role.TheVariants as role
 use Rattle.sp_msg.specs.Views.{MessageView}
 use Rattle.sp_history.specs.declared.entry.Act.{Act}
@@ -43,10 +43,10 @@ abbrev pub Floods : Setting → List Entry → List MessageView → List Begun �
 Floods z past copies [] = ⊤
 Floods z past copies (s ∷ ss) = HasCopies z past (length copies) × IsFlood copies s.act × (ss ≡ [])
 
--- The pub is of this kind, knows how many pipes are up at most, and has these operations pending; nothing is kept
+-- The pub is of this kind, knows how many pipes are up, and has these operations pending; nothing is kept
 pub record Shows (m : Publish) (k : Kind) (us : List ℕ) (is : List Item) (ss : List Begun) (cs : List ℕ) : Type 0 where
   pub kind : k ≡ pub_kind m.raw m.options
-  pub pipes : length us ≤ m.pipes
+  pub pipes : m.pipes ≡ length us
   pub items : is ≡ []
   pub pending : Holds m.pending ss
   pub contexts : cs ≡ 0 ∷ []

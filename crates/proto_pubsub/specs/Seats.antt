@@ -1,15 +1,16 @@
 -- A context of a sub, and what becomes of it.
-use Rattle.std.specs.Prelude.{◌≡◌, ℕ, ◌==◌, ◌||◌, Bool, true, false, not, nat_lt, if◌then◌else◌, List, [], ◌∷◌, ◌++◌, length, map, drop, filter, Option, Some, None, Result, Ok, Err}
+use Rattle.std.specs.Prelude.{◌≡◌, ℕ, ◌==◌, ◌||◌, ◌&&◌, Bool, true, false, not, nat_lt, if◌then◌else◌, List, [], ◌∷◌, ◌++◌, length, map, drop, filter, Option, Some, None, Result, Ok, Err}
 use Rattle.sp_msg.specs.Views.{MessageView}
 use Rattle.sp_history.specs.declared.setting.Options.{Options}
 use Rattle.sp_history.specs.Lists.{same_bytes, head_of}
 use Rattle.sp_history.specs.Kept.{is_wanted_by}
 use Rattle.sp_history.specs.Legal.{has_topic}
 
--- a context, its topics, and what is kept for it, the oldest first
+-- a context, its topics, how many messages it has memory for, and what is kept for it, the oldest first
 pub record SeatView : Type 0 where
   pub ctx : ℕ
   pub topics : List (List ℕ)
+  pub places : ℕ
   pub kept : List MessageView
 
 -- the new one is last; a full queue discards it, or the oldest
@@ -19,23 +20,32 @@ added prefer_new most m ms = if nat_lt (length ms) most then ms ++ m ∷ [] else
 -- the context keeps the frame, where a topic matches it, or raw
 abbrev pub kept_in : Bool → Options → MessageView → SeatView → SeatView
 kept_in raw options m x =
-    if raw || is_wanted_by x.topics m.body then record { ctx = x.ctx; topics = x.topics; kept = added options.prefer_new options.queue m x.kept } else x
+    if raw || is_wanted_by x.topics m.body then record { ctx = x.ctx; topics = x.topics; places = x.places; kept = added options.prefer_new x.places m x.kept } else x
+
+-- the context keeps a frame with this body: it is for it, and the queue isn't full, or discards its oldest
+abbrev pub takes_frame : Bool → Options → List ℕ → SeatView → Bool
+takes_frame raw options body x = (raw || is_wanted_by x.topics body) && (nat_lt (length x.kept) x.places || options.prefer_new)
+
+-- the message is last, in a full queue in place of the oldest
+abbrev pub with_message : MessageView → SeatView → SeatView
+with_message m x =
+    record { ctx = x.ctx; topics = x.topics; places = x.places; kept = if nat_lt (length x.kept) x.places then x.kept ++ m ∷ [] else drop 1 x.kept ++ m ∷ [] }
 
 -- a new one
-abbrev pub fresh_seat : ℕ → SeatView
-fresh_seat c = record { ctx = c; topics = []; kept = [] }
+abbrev pub fresh_seat : ℕ → ℕ → SeatView
+fresh_seat places c = record { ctx = c; topics = []; places = places; kept = [] }
 
 -- the oldest message is gone
 abbrev pub given_from : SeatView → SeatView
-given_from x = record { ctx = x.ctx; topics = x.topics; kept = drop 1 x.kept }
+given_from x = record { ctx = x.ctx; topics = x.topics; places = x.places; kept = drop 1 x.kept }
 
 -- nothing is kept
 abbrev pub emptied : SeatView → SeatView
-emptied x = record { ctx = x.ctx; topics = x.topics; kept = [] }
+emptied x = record { ctx = x.ctx; topics = x.topics; places = x.places; kept = [] }
 
 -- one topic more
 abbrev pub with_topic : List ℕ → SeatView → SeatView
-with_topic t x = record { ctx = x.ctx; topics = x.topics ++ t ∷ []; kept = x.kept }
+with_topic t x = record { ctx = x.ctx; topics = x.topics ++ t ∷ []; places = x.places; kept = x.kept }
 
 abbrev pub topics_without : List ℕ → List (List ℕ) → List (List ℕ)
 topics_without t ts = filter (λ u. not (same_bytes u t)) ts
@@ -43,7 +53,7 @@ topics_without t ts = filter (λ u. not (same_bytes u t)) ts
 -- one topic less, and only what the others match
 abbrev pub without_topic : List ℕ → SeatView → SeatView
 without_topic t x =
-    record { ctx = x.ctx; topics = topics_without t x.topics; kept = filter (λ m. is_wanted_by (topics_without t x.topics) m.body) x.kept }
+    record { ctx = x.ctx; topics = topics_without t x.topics; places = x.places; kept = filter (λ m. is_wanted_by (topics_without t x.topics) m.body) x.kept }
 
 -- one is put on, or taken off
 abbrev pub switched : Bool → List ℕ → SeatView → SeatView
@@ -64,7 +74,7 @@ abbrev pub with_found : (SeatView → Bool) → (SeatView → SeatView) → List
 with_found P f [] = []
 with_found P f (x ∷ xs) = if P x then f x ∷ xs else x ∷ with_found P f xs
 
--- whether that changes something; want of memory changes nothing
+-- whether that changes something; out of memory it changes nothing
 abbrev pub Switches : {E : Type 0} → Result Bool E → SeatView → SeatView → List ℕ → Bool → Type 0
 Switches (Ok true) old new t on = (has_topic old.topics t ≡ not on) × (new ≡ switched on t old)
 Switches (Ok false) old new t on = (has_topic old.topics t ≡ on) × (new ≡ old)
@@ -81,11 +91,12 @@ abbrev pub SwitchesIn : {E : Type 0} → Result Bool E → Option SeatView → �
 SwitchesIn r None c old new t on = (new ≡ old) × (r ≡ Ok false)
 SwitchesIn r (Some x) c old new t on = SwitchesOne r x c old new t on
 
--- the frame was kept up to this context, for which there was no memory
-pub record StopsAt (f : SeatView → SeatView) (c : ℕ) (old new : List SeatView) : Type 0 where
+-- the frame was kept up to this context, which needed a copy of it for which there was no memory
+pub record StopsAt (needs : SeatView → Bool) (f : SeatView → SeatView) (c : ℕ) (old new : List SeatView) : Type 0 where
   pub done : List SeatView
   pub at : SeatView
   pub rest : List SeatView
   pub before : old ≡ done ++ at ∷ rest
   pub here : at.ctx ≡ c
+  pub needed : needs at ≡ true
   pub after : new ≡ map f done ++ at ∷ rest

@@ -1,5 +1,5 @@
 -- The laws of a sub as a machine.
-use Rattle.std.specs.Prelude.{◌≡◌, ℕ, List, [], ◌∷◌, map}
+use Rattle.std.specs.Prelude.{◌≡◌, [], map}
 use Rattle.std.proofs.Common.{refl, ap, ◌∙◌}
 use Rattle.sp_history.specs.declared.entry.Entry.{Entry}
 use Rattle.sp_history.specs.declared.entry.Entry.TheVariants.{Met, NoUp, Quiet, Stall, Clear, Taken, Took}
@@ -27,6 +27,6 @@ pub anew : (m : Subscribe) (t : Moment) → past t ≡ [] → Ties m t → Start
 anew m t e h slots callers caller =
     record {
       kind = refl;
-      seats = h.seats ∙ ap (λ before. map (seat_at (λ c. pool t.z before c) (λ c. topics before c)) (ctxs before)) e;
+      seats = h.seats ∙ ap (λ before. map (seat_at m.options.queue (λ c. pool t.z before c) (λ c. topics before c)) (ctxs before)) e;
       pending = h.pending ∙ ap pend e;
     }

@@ -1,16 +1,17 @@
 -- What a sub stands for.
-use Rattle.std.specs.Prelude.{◌≡◌, ◌≤◌, ℕ, ◌==◌, ◌||◌, Bool, true, false, not, nat_lt, if◌then◌else◌, List, [], ◌∷◌, ◌++◌, length, map, drop, find, filter, Option, Some, None}
+use Rattle.std.specs.Prelude.{◌≡◌, ℕ, ◌||◌, Bool, true, false, not, nat_lt, if◌then◌else◌, List, [], ◌∷◌, length, map, find, Option, Some, None}
 use Rattle.sp_base.specs.declared.OpName.{OpName}
 use Rattle.sp_base.specs.declared.role.Role.TheVariants as role
 use Rattle.sp_msg.specs.Views.{MessageView}
 use Rattle.sp_history.specs.declared.entry.Act.TheVariants.{Recv}
 use Rattle.sp_history.specs.declared.parts.Begun.{Begun}
 use Rattle.sp_history.specs.declared.parts.Item.{Item}
+use Rattle.sp_history.specs.declared.entry.Entry.{Entry}
+use Rattle.sp_history.specs.declared.setting.Setting.{Setting}
 use Rattle.sp_history.specs.declared.setting.Options.{Options}
-use Rattle.sp_history.specs.Lists.{is_nil, same_op, same_bytes}
-use Rattle.sp_history.specs.Kept.{pool, pool_of, is_wanted_by}
+use Rattle.sp_history.specs.Lists.{has, is_nil, same_op}
+use Rattle.sp_history.specs.Kept.{pool, takes}
 use Rattle.sp_history.specs.Past.{pend, ctxs, topics}
-use Rattle.sp_history.specs.Legal.{has_topic}
 use Rattle.sp_history.specs.Moments.{Moment, past}
 use Rattle.sp_proto.specs.Kinds.{Kind, kind_of}
 use Rattle.proto_pubsub.specs.Seats.{SeatView, is_home}
@@ -24,9 +25,9 @@ sub_kind raw options = record { role = role.Sub; raw = raw; options = options }
 abbrev pub view_of : Item → MessageView
 view_of i = record { header = i.message.header; body = i.message.body }
 
--- a context, with what is kept for it and its topics
-abbrev pub seat_at : (ℕ → List Item) → (ℕ → List (List ℕ)) → ℕ → SeatView
-seat_at is ts c = record { ctx = c; topics = ts c; kept = map view_of (is c) }
+-- a context of so many places, with what is kept for it and its topics
+abbrev pub seat_at : ℕ → (ℕ → List Item) → (ℕ → List (List ℕ)) → ℕ → SeatView
+seat_at places is ts c = record { ctx = c; topics = ts c; places = places; kept = map view_of (is c) }
 
 abbrev pub begun_of : Waiting → Begun
 begun_of w = record { op = w.op; ctx = w.ctx; act = Recv }
@@ -52,12 +53,19 @@ keeps_at xs c = is_kept (find (is_home c) xs)
 abbrev pub is_ready : List SeatView → Waiting → Bool
 is_ready xs w = keeps_at xs w.ctx
 
--- The sub is of this kind, has these contexts with what is kept for each and with its topics, and these receives wait
+-- The sub is of this kind, has these contexts, each with memory for `queue` messages, with what is kept for each and with
+-- its topics, and these receives wait
 pub record Shows (m : Subscribe) (k : Kind) (is : ℕ → List Item) (ts : ℕ → List (List ℕ)) (cs : List ℕ) (ss : List Begun) : Type 0 where
   pub kind : k ≡ sub_kind m.raw m.options
-  pub seats : m.seats.items ≡ map (seat_at is ts) cs
+  pub seats : m.seats.items ≡ map (seat_at m.options.queue is ts) cs
   pub pending : map begun_of m.waiting.items ≡ ss
 
 abbrev pub Ties : Subscribe → Moment → Type 0
 Ties m t =
     Shows m (kind_of t.z) (λ c. pool t.z (past t) c) (λ c. topics (past t) c) (ctxs (past t)) (pend (past t))
+
+-- the open context keeps the frame by its topics, or raw, and its queue isn't full, or discards its oldest
+pub record NeedsCopy (z : Setting) (past : List Entry) (c p : ℕ) (body : List ℕ) : Type 0 where
+  pub is_open : has (ctxs past) c ≡ true
+  pub takes : takes z past c p body ≡ true
+  pub place : (nat_lt (length (pool z past c)) z.options.queue || z.options.prefer_new) ≡ true

@@ -2,11 +2,13 @@
 //!
 //! A send goes to every pipe that is up and has room, in the turn of its begin. It takes a copy for each of them then, so
 //! that going out takes no memory. A pub receives nothing: a frame is no message of its protocol, whatever its bytes.
-ghost use Rattle.std.specs.Prelude.{◌≡◌, ◌≤◌, ℕ, [], IfOk, length};
-ghost use Rattle.sp_history.specs.declared.entry.Entry.TheVariants.{Frame};
-ghost use Rattle.sp_history.specs.Moments.{Moment, Lawful, also};
-ghost use Rattle.sp_proto.specs.Kinds.{Starts};
-ghost use Rattle.sp_proto.specs.Machines.{Frames};
+ghost use Rattle.std.specs.Prelude.{◌≡◌, ◌<◌, ◌≤◌, ◌+◌, ℕ, [], Option, IfOk, IsOk, IfErr, OnOk, OnErr, length};
+ghost use Rattle.sp_history.specs.declared.entry.Entry.TheVariants.{Frame, Begin};
+ghost use Rattle.sp_history.specs.Moments.{Moment, Lawful, past, also};
+ghost use Rattle.sp_history.specs.Past.{up};
+ghost use Rattle.sp_proto.specs.Kinds.{Starts, entry_act};
+ghost use Rattle.sp_proto.specs.Machines.{Frames, NoFlood, Takes};
+ghost use Rattle.proto_floods.specs.Copies.{TakesCopies};
 ghost use Rattle.proto_pubsub.specs.Pubs.{Ties, pub_kind, places_left, AreCopies};
 
 use proto_pending::Pending;
@@ -33,6 +35,7 @@ pub struct Publish {
 fn copies_of(alloc: Global, m: &Message, most: usize) -> Result<Vec<Message>, NoMemory>
     ensures copies { IfOk result (λ v. AreCopies m.now.body v.items) }
     ensures all { IfOk result (λ v. length v.items ≡ most) }
+    ensures none { most ≡ 0 → IsOk result }
 {
     let mut copies = Vec::with_capacity(alloc, most)?;
     for _ in 0..most {
@@ -132,7 +135,17 @@ impl Proto for Publish {
         Ok(())
     }
 
-    fn begin(&mut self, op: OpName, c: Ctx, act: Act) -> Result<(), Message> {
+    /// A send takes a copy for each pipe that is up, and no more. Where none is up it takes no memory, however long it is.
+    fn begin(&mut self, op: OpName, c: Ctx, act: Act) -> Result<(), Message>
+        requires { 0 < places_left self.old }
+        ensures begun { OnOk result ((t : Moment) (deadline : Option ℕ) → NoFlood t → Takes (Ties self.old) (Ties self.new) t (Begin op t.caller c (entry_act act) deadline)) }
+        ensures handed_back { IfErr result (λ m. act ≡ Act.Send m) }
+        ensures same { OnErr result ((t : Moment) → Ties self.old t → Ties self.new t) }
+        ensures room { places_left self.old ≤ places_left self.new + 1 }
+        ensures room_kept { OnErr result (places_left self.old ≤ places_left self.new) }
+        ensures copies { OnOk result ((t : Moment) → Ties self.old t → TakesCopies act (length (up (past t))) (length self.new.copies.items)) }
+        ensures alone { (t : Moment) → Ties self.old t → up (past t) ≡ [] → OnErr result ⊥ }
+    {
         match act {
             Act::Recv => {
                 self.pending.push(op, c, Act::Recv);

@@ -1,9 +1,10 @@
 //! The open contexts of a sub.
 ghost use Rattle.std.specs.Prelude.{◌≡◌, ◌==◌, ◌++◌, ◌∷◌, [], true, false, not, map, filter, drop, IfOk, OnOk, OnErr, if◌then◌else◌};
+ghost use Rattle.std.specs.VecDeque.{deque_capacity};
 ghost use Rattle.sp_history.specs.Lists.{is_nil, head_of, matches, same_bytes};
 ghost use Rattle.sp_history.specs.Kept.{is_wanted_by};
 ghost use Rattle.sp_history.specs.Legal.{has_topic};
-ghost use Rattle.proto_pubsub.specs.Seats.{kept_in, fresh_seat, given_from, emptied, with_topic, topics_without, without_topic, Switches};
+ghost use Rattle.proto_pubsub.specs.Seats.{kept_in, takes_frame, with_message, fresh_seat, given_from, emptied, with_topic, topics_without, without_topic, Switches};
 
 use sp_base::{Bytes, Ctx, NoMemory};
 use sp_history::setting::Options;
@@ -18,16 +19,22 @@ pub struct Seat {
     ctx: Ctx,
     /// In the order in which they were put on.
     topics: Vec<Bytes>,
-    /// The oldest first.
+    /// So many messages it keeps at most.
+    places: usize,
+    /// The oldest first, with memory for all its places.
     kept: VecDeque<Message>,
 }
 
 impl Model for Seat {
+    ghost use Rattle.std.specs.Prelude.{◌≤◌, ◌<◌};
+    ghost use Rattle.std.specs.VecDeque.{deque_capacity};
     ghost use Rattle.proto_pubsub.specs.Seats.{SeatView};
 
     ghost Value = { SeatView };
 
-    ghost view = { λ x. record { ctx = x.ctx; topics = x.topics.items; kept = x.kept.items } };
+    ghost view = { λ x. record { ctx = x.ctx; topics = x.topics.items; places = x.places; kept = x.kept.items } };
+
+    ghost invariant = { λ x. (x.places ≤ deque_capacity x.kept) × (0 < deque_capacity x.kept) };
 }
 
 // The topic is a beginning of the body.
@@ -51,25 +58,6 @@ fn is_same(a: &[u8], b: &[u8]) -> bool
     a == b
 }
 
-// Puts the message last, where the queue is full in place of the oldest. Where that takes memory and there is none, all is
-// as before.
-fn put(kept: &mut VecDeque<Message>, m: Message, is_full: bool) -> bool
-    ensures put { result ≡ true → kept.new.items ≡ (if is_full then drop 1 kept.old.items else kept.old.items) ++ m ∷ [] }
-    ensures same { result ≡ false → kept.new.items ≡ kept.old.items }
-{
-    if is_full {
-        match kept.pop_front() {
-            None => {}
-            Some(oldest) => {
-                drop(oldest);
-                kept.push_back_reserved(m);
-                return true;
-            }
-        }
-    }
-    kept.push_back(m).is_ok()
-}
-
 // Without this topic.
 fn drop_topic(topics: &mut Vec<Bytes>, t: &[u8])
     ensures { topics.new.items ≡ topics_without t.now topics.old.items }
@@ -79,7 +67,8 @@ fn drop_topic(topics: &mut Vec<Bytes>, t: &[u8])
 
 // Without what no topic matches.
 fn drop_unwanted(kept: &mut VecDeque<Message>, topics: &[Bytes])
-    ensures { kept.new.items ≡ filter (λ m. is_wanted_by topics.now m.body) kept.old.items }
+    ensures items { kept.new.items ≡ filter (λ m. is_wanted_by topics.now m.body) kept.old.items }
+    ensures capacity { deque_capacity kept.new ≡ deque_capacity kept.old }
 {
     kept.retain(|m| is_wanted(topics, m.body()));
 }
@@ -87,12 +76,14 @@ fn drop_unwanted(kept: &mut VecDeque<Message>, topics: &[Bytes])
 impl Seat {
     /// A context with no topic, for which nothing is kept. Takes the places of `queue` messages.
     pub fn new(alloc: Global, ctx: Ctx, options: Options) -> Result<Seat, NoMemory>
-        ensures { IfOk result (λ x. x ≡ fresh_seat ctx) }
+        ensures { IfOk result (λ x. x ≡ fresh_seat options.queue ctx) }
     {
-        let kept = VecDeque::with_capacity(alloc, options.queue as usize)?;
+        let places = options.queue as usize;
+        let kept = VecDeque::with_capacity(alloc, places.max(1))?;
         Ok(Seat {
             ctx,
             topics: Vec::new(alloc),
+            places,
             kept,
         })
     }
@@ -125,22 +116,50 @@ impl Seat {
         self.topics.iter().any(|u| is_same(u.as_slice(), t))
     }
 
-    /// Keeps a copy of the frame, where a topic matches it, or raw. Answers false where that found no memory; then all is as
-    /// before.
-    pub fn keep(&mut self, raw: bool, options: Options, m: &Message) -> bool
+    // Whether it keeps a frame with this body: a topic matches it, or raw; and the queue isn't full, or discards its
+    // oldest.
+    fn takes(&self, raw: bool, options: Options, body: &[u8]) -> bool
+        ensures { result ≡ takes_frame raw options body.now self.now }
+    {
+        (raw || is_wanted(&self.topics, body))
+            && (self.kept.len() < self.places || options.prefer_new)
+    }
+
+    // Puts the message last, where the queue is full in place of the oldest.
+    fn put(&mut self, m: Message)
+        ensures { self.new ≡ with_message m self.old }
+    {
+        if self.kept.len() >= self.places {
+            drop(self.kept.pop_front());
+        }
+        self.kept.push_back_reserved(m);
+    }
+
+    /// Keeps the frame, where a topic matches it, or raw. Takes no memory.
+    pub fn keep(&mut self, raw: bool, options: Options, m: Message)
+        ensures { self.new ≡ kept_in raw options m self.old }
+    {
+        if self.takes(raw, options, m.body()) {
+            self.put(m);
+        }
+    }
+
+    /// Keeps a copy of the frame, where a topic matches it, or raw. Answers false where a copy was needed and found no
+    /// memory; then all is as before.
+    pub fn keep_copy(&mut self, raw: bool, options: Options, m: &Message) -> bool
         ensures kept { result ≡ true → self.new ≡ kept_in raw options m.now self.old }
         ensures same { result ≡ false → self.new ≡ self.old }
+        ensures needed { result ≡ false → takes_frame raw options m.now.body self.old ≡ true }
     {
-        if !raw && !is_wanted(&self.topics, m.body()) {
-            return true;
-        }
-        let is_full = self.kept.len() >= options.queue as usize;
-        if is_full && !options.prefer_new {
+        if !self.takes(raw, options, m.body()) {
             return true;
         }
         match m.copy() {
             Err(_) => false,
-            Ok(copy) => put(&mut self.kept, copy, is_full),
+            Ok(copy) => {
+                self.put(copy);
+                true
+            }
         }
     }
 

@@ -2,19 +2,21 @@
 //!
 //! Each open context has topics, and a queue of at most `queue` messages, whose places are taken when it is opened. A frame
 //! is kept for each context of which a topic is a beginning of it, the empty topic of each; raw, for the one context that
-//! there is. A full queue discards its oldest message or the new one, as `prefer_new` says. The copy is made before
-//! anything is discarded; the first that finds no memory is told, and contexts of greater numbers go without as well.
-ghost use Rattle.std.specs.Prelude.{◌≡◌, ◌-◌, ◌+◌, ◌≤◌, ◌==◌, ◌≢◌, ℕ, [], ◌∷◌, true, Some, None, IfOk, map, filter, find, length, not, option_to_list};
+//! there is. A full queue discards its oldest message or the new one, as `prefer_new` says. The last open context keeps the
+//! frame itself, each other one a copy, which is made before anything is discarded; the first that finds no memory is
+//! told, and contexts of greater numbers go without as well.
+ghost use Rattle.std.specs.Prelude.{◌≡◌, ◌-◌, ◌+◌, ◌≤◌, ◌==◌, ◌≢◌, ℕ, [], ◌∷◌, true, Some, None, IfOk, map, filter, find, length, take, drop, ◌++◌, not, option_to_list};
 ghost use Rattle.std.specs.VecDeque.{deque_len, deque_capacity};
 ghost use Rattle.std.specs.Option.{option_map};
 ghost use Rattle.std.specs.List.{position, list_any};
 ghost use Rattle.sp_history.specs.declared.entry.Entry.TheVariants.{Frame};
 ghost use Rattle.sp_history.specs.Lists.{is_nil};
-ghost use Rattle.sp_history.specs.Moments.{Moment, Lawful, also};
+ghost use Rattle.sp_history.specs.Moments.{Moment, Lawful, past, also};
+ghost use Rattle.sp_history.specs.Past.{ctxs};
 ghost use Rattle.sp_proto.specs.Kinds.{Starts};
 ghost use Rattle.sp_proto.specs.Machines.{Frames};
-ghost use Rattle.proto_pubsub.specs.Seats.{kept_in, emptied, fresh_seat, given_from, is_home, first_in, with_found, SwitchesIn, StopsAt};
-ghost use Rattle.proto_pubsub.specs.Subs.{Ties, sub_kind, is_for, is_ready, keeps_at, without_first};
+ghost use Rattle.proto_pubsub.specs.Seats.{kept_in, takes_frame, emptied, fresh_seat, given_from, is_home, first_in, with_found, SwitchesIn, StopsAt};
+ghost use Rattle.proto_pubsub.specs.Subs.{Ties, NeedsCopy, sub_kind, is_for, is_ready, keeps_at, without_first};
 
 use crate::seats::Seat;
 use sp_base::{Ctx, NoMemory, OpName, PipeId, Role, Tick};
@@ -97,17 +99,40 @@ fn take(waiting: &mut VecDeque<Waiting>, op: OpName) -> Option<Waiting>
     }
 }
 
-// Keeps the frame in each context that takes it. Answers the first for which there was no memory, with which it stops.
-fn spread(seats: &mut [Seat], raw: bool, options: Options, m: &Message) -> Option<Ctx>
-    ensures whole { result ≡ None → seats.new ≡ map (kept_in raw options m.now) seats.old }
-    ensures stops { (c : ℕ) → result ≡ Some c → StopsAt (kept_in raw options m.now) c seats.old seats.new }
+// Keeps a copy of the frame in each of so many contexts that takes it. Answers the first for which there was no memory,
+// with which it stops.
+fn spread(seats: &mut [Seat], most: usize, raw: bool, options: Options, m: &Message) -> Option<Ctx>
+    requires { most ≤ length seats.old }
+    ensures whole { result ≡ None → seats.new ≡ map (kept_in raw options m.now) (take most seats.old) ++ drop most seats.old }
+    ensures none { most ≡ 0 → result ≡ None }
+    ensures stops { (c : ℕ) → result ≡ Some c → StopsAt (takes_frame raw options m.now.body) (kept_in raw options m.now) c seats.old seats.new }
 {
-    for seat in seats.iter_mut() {
-        if !seat.keep(raw, options, m) {
-            return Some(seat.ctx());
+    for i in 0..most {
+        if !seats[i].keep_copy(raw, options, m) {
+            return Some(seats[i].ctx());
         }
     }
     None
+}
+
+// Keeps the frame in each context that takes it: the last has the frame itself, each other one a copy. Answers the
+// first for which there was no memory, with which it stops.
+fn keep_in_all(seats: &mut [Seat], raw: bool, options: Options, m: Message) -> Option<Ctx>
+    ensures whole { result ≡ None → seats.new ≡ map (kept_in raw options m) seats.old }
+    ensures stops { (c : ℕ) → result ≡ Some c → StopsAt (takes_frame raw options m.body) (kept_in raw options m) c seats.old seats.new }
+    ensures one { length seats.old ≤ 1 → result ≡ None }
+{
+    let n = seats.len();
+    if n == 0 {
+        return None;
+    }
+    match spread(seats, n - 1, raw, options, &m) {
+        Some(c) => Some(c),
+        None => {
+            seats[n - 1].keep(raw, options, m);
+            None
+        }
+    }
 }
 
 // The oldest message of the context, which is kept no longer.
@@ -142,7 +167,7 @@ fn clear(seats: &mut [Seat])
 
 // The first context.
 fn first_seats(alloc: Global, options: Options) -> Result<Vec<Seat>, NoMemory>
-    ensures { IfOk result (λ v. v.items ≡ fresh_seat 0 ∷ []) }
+    ensures { IfOk result (λ v. v.items ≡ fresh_seat options.queue 0 ∷ []) }
 {
     let seat = Seat::new(alloc, Ctx(0), options)?;
     let mut seats = Vec::new(alloc);
@@ -217,9 +242,18 @@ impl Proto for Subscribe {
         true
     }
 
-    fn frame(&mut self, p: PipeId, m: Message) -> Verdict {
+    /// It has memory for all that it keeps, and the last open context gets the frame itself, so where one alone is open it
+    /// never lacks memory.
+    fn frame(&mut self, p: PipeId, m: Message) -> Verdict
+        requires { m.header ≡ [] }
+        ensures kept { (t : Moment) → Lawful (also t (Frame p m.body)) → Ties self.old t → Frames (Ties self.new) result t p m.body }
+        ensures room { deque_capacity self.old.waiting - deque_len self.old.waiting ≤ deque_capacity self.new.waiting - deque_len self.new.waiting }
+        ensures one { (t : Moment) → Ties self.old t → length (ctxs (past t)) ≤ 1 → result ≡ Verdict.Fine }
+        ensures raw { (t : Moment) → Lawful (also t (Frame p m.body)) → Ties self.old t → t.z.raw ≡ true → result ≡ Verdict.Fine }
+        ensures dry { (t : Moment) (c : ℕ) → Lawful (also t (Frame p m.body)) → Ties self.old t → result ≡ Verdict.Dry c → NeedsCopy t.z (past t) c p m.body }
+    {
         let _ = p;
-        match spread(&mut self.seats, self.raw, self.options, &m) {
+        match keep_in_all(&mut self.seats, self.raw, self.options, m) {
             None => Verdict::Fine,
             Some(c) => Verdict::Dry(c),
         }

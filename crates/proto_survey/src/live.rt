@@ -70,7 +70,8 @@ impl Live {
         self.replies.is_empty()
     }
 
-    /// Keeps the response, where fewer than so many are kept. Answers false where that found no memory; then all is as before.
+    /// Keeps the response, where fewer than so many are kept. Returns false where that found no memory; then all is
+    /// as before.
     pub fn keep(&mut self, most: u32, m: Message) -> bool
         ensures kept { result ≡ true → self.new ≡ with_reply most m self.old }
         ensures same { result ≡ false → self.new ≡ self.old }

@@ -24,8 +24,11 @@ pub enum SurveyEnd {
 /// An operation that waits: a send has its message, as it was begun.
 #[derive(Drop)]
 pub struct Asking {
+    /// Its name.
     pub op: OpName,
+    /// The context that it was begun on.
     pub ctx: Ctx,
+    /// Of a send: its message.
     pub message: Option<Message>,
     /// Of a receive whose survey has ended.
     pub ended: Option<SurveyEnd>,

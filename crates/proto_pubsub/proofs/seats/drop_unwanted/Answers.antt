@@ -4,5 +4,5 @@ use Rattle.sp_msg.specs.Views.{MessageView}
 use Rattle.sp_history.specs.Kept.{is_wanted_by}
 use Rattle.proto_pubsub.proofs.seats.drop_unwanted.Goals as goal
 
-pub returns : goal.returns
-returns c = filter_same _ (λ (m : MessageView). is_wanted_by c.args.topics.now m.body) _ (λ x b f' k. search rules) _ _ c.retain.ensures.filtered
+pub returns-clause-items : goal.returns-clause-items
+returns-clause-items c = filter_same _ (λ (m : MessageView). is_wanted_by c.args.topics.now m.body) _ (λ x b f' k. search rules) _ _ c.retain.ensures.filtered

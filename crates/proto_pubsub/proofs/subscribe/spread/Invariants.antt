@@ -2,5 +2,5 @@ use Rattle.std.proofs.Common.{◌≡◌, ◌++◌, map, take, drop}
 use Rattle.proto_pubsub.specs.Seats.{kept_in}
 use Rattle.proto_pubsub.proofs.subscribe.spread.Given as goal
 
-abbrev pub invariant-loop-seat : goal.invariant-loop-seat
-invariant-loop-seat l = l.seats ≡ map (kept_in l.fn.raw l.fn.options l.fn.m) (take l.seat-index l.initial.seats) ++ drop l.seat-index l.initial.seats
+abbrev pub invariant-loop-i : goal.invariant-loop-i
+invariant-loop-i l = l.seats ≡ map (kept_in l.fn.raw l.fn.options l.fn.m) (take l.i l.initial.seats) ++ drop l.i l.initial.seats

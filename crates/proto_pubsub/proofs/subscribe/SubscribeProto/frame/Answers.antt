@@ -1,11 +1,13 @@
-use Rattle.std.proofs.Common.{refl, ap, sym, ◌∙◌, ◌≡◌, map, Some, subst, ℕ, List}
+use Rattle.std.proofs.Common.{refl, ap, sym, ◌∙◌, ◌≡◌, ◌≤◌, map, Some, None, subst, ℕ, List, length}
 use Rattle.std.specs.Vec.{with_items}
 use Rattle.sp_history.specs.declared.entry.Entry.TheVariants.{Frame}
+use Rattle.sp_history.specs.Moments.{past}
 use Rattle.proto_pubsub.specs.declared.subscribe.Subscribe.{Subscribe}
-use Rattle.proto_pubsub.specs.Seats.{SeatView, kept_in, StopsAt}
+use Rattle.proto_pubsub.specs.Seats.{SeatView, kept_in, takes_frame, StopsAt}
+use Rattle.proto_pubsub.specs.Subs.{NeedsCopy}
 use Rattle.proto_pubsub.proofs.Knowing.{allowed_before}
 use Rattle.proto_pubsub.proofs.Seating.{seats_written, long_map, long_stops}
-use Rattle.proto_pubsub.proofs.Subscribed.{whole_ties, dry_ties}
+use Rattle.proto_pubsub.proofs.Subscribed.{whole_ties, dry_ties, dry_needs, many, one_raw}
 use Rattle.proto_pubsub.proofs.subscribe.SubscribeProto.frame.Goals as goal
 
 pub returns-in-None-clause-kept : goal.returns-in-None-clause-kept
@@ -13,20 +15,47 @@ returns-in-None-clause-kept c =
     λ t l h.
     let was = c.args.self.now in
     let olds = c.deref_mut.ensures.value in
-    let all = c.spread.ensures.whole c.in-None.is in
-    let seats = seats_written was.seats c.spread.new.seats c.deref_mut.result.now olds (long_map (kept_in was.raw was.options c.args.m) c.spread.new.seats c.deref_mut.result.now all) ∙ all ∙ ap (map (kept_in was.raw was.options c.args.m)) olds in
-    let is : Subscribe = record { alloc = was.alloc; raw = was.raw; options = was.options; seats = with_items was.seats c.spread.new.seats; waiting = was.waiting } in
+    let all = c.keep_in_all.ensures.whole c.in-None.is in
+    let seats = seats_written was.seats c.keep_in_all.new.seats c.deref_mut.result.now olds (long_map (kept_in was.raw was.options c.args.m) c.keep_in_all.new.seats c.deref_mut.result.now all) ∙ all ∙ ap (map (kept_in was.raw was.options c.args.m)) olds in
+    let is : Subscribe = record { alloc = was.alloc; raw = was.raw; options = was.options; seats = with_items was.seats c.keep_in_all.new.seats; waiting = was.waiting } in
     whole_ties was t c.args.p c.args.m h (allowed_before t (Frame c.args.p c.args.m.body) l) c.requires is seats refl (refl, refl)
 
-pub returns-clause-kept : goal.returns-clause-kept
-returns-clause-kept c =
+pub returns-in-Some-clause-kept : goal.returns-in-Some-clause-kept
+returns-in-Some-clause-kept c =
     λ t l h.
     let was = c.args.self.now in
     let olds = c.deref_mut.ensures.value in
     let d : ℕ = c.in-Some.c in
-    let st : StopsAt (kept_in was.raw was.options c.args.m) d c.deref_mut.result.now c.spread.new.seats = c.in-Some.ensures.stops d refl in
-    let written : (with_items was.seats c.spread.new.seats).items ≡ c.spread.new.seats = seats_written was.seats c.spread.new.seats c.deref_mut.result.now olds (long_stops (kept_in was.raw was.options c.args.m) d c.deref_mut.result.now c.spread.new.seats st) in
-    let is : Subscribe = record { alloc = was.alloc; raw = was.raw; options = was.options; seats = with_items was.seats c.spread.new.seats; waiting = was.waiting } in
-    let stops : StopsAt (kept_in was.raw was.options c.args.m) d was.seats.items is.seats.items =
-    subst (λ (ys : List SeatView). StopsAt (kept_in was.raw was.options c.args.m) d was.seats.items ys) (sym written) (subst (λ (xs : List SeatView). StopsAt (kept_in was.raw was.options c.args.m) d xs c.spread.new.seats) olds st) in
+    let st : StopsAt (takes_frame was.raw was.options c.args.m.body) (kept_in was.raw was.options c.args.m) d c.deref_mut.result.now c.keep_in_all.new.seats = c.in-Some.ensures.stops d refl in
+    let written : (with_items was.seats c.keep_in_all.new.seats).items ≡ c.keep_in_all.new.seats =
+    seats_written was.seats c.keep_in_all.new.seats c.deref_mut.result.now olds (long_stops (takes_frame was.raw was.options c.args.m.body) (kept_in was.raw was.options c.args.m) d c.deref_mut.result.now c.keep_in_all.new.seats st) in
+    let is : Subscribe = record { alloc = was.alloc; raw = was.raw; options = was.options; seats = with_items was.seats c.keep_in_all.new.seats; waiting = was.waiting } in
+    let stops : StopsAt (takes_frame was.raw was.options c.args.m.body) (kept_in was.raw was.options c.args.m) d was.seats.items is.seats.items =
+    subst (λ (ys : List SeatView). StopsAt (takes_frame was.raw was.options c.args.m.body) (kept_in was.raw was.options c.args.m) d was.seats.items ys) (sym written)
+    (subst (λ (xs : List SeatView). StopsAt (takes_frame was.raw was.options c.args.m.body) (kept_in was.raw was.options c.args.m) d xs c.keep_in_all.new.seats) olds st) in
     dry_ties was t c.args.p c.args.m h (allowed_before t (Frame c.args.p c.args.m.body) l) c.requires is d stops refl (refl, refl)
+
+pub returns-in-Some-clause-one : goal.returns-in-Some-clause-one
+returns-in-Some-clause-one c =
+    λ t h few.
+    let was = c.args.self.now in
+    let least : length c.deref_mut.result.now ≤ 1 = subst (λ (xs : List SeatView). length xs ≤ 1) (sym c.deref_mut.ensures.value) (subst (λ (n : ℕ). n ≤ 1) (sym (many was t h)) few) in
+    let no : Some c.in-Some.c ≡ None = c.in-Some.ensures.one least in
+    absurd cc
+
+pub returns-in-Some-clause-raw : goal.returns-in-Some-clause-raw
+returns-in-Some-clause-raw c =
+    λ t l h r.
+    let was = c.args.self.now in
+    let least : length c.deref_mut.result.now ≤ 1 = subst (λ (xs : List SeatView). length xs ≤ 1) (sym c.deref_mut.ensures.value) (one_raw was t (allowed_before t (Frame c.args.p c.args.m.body) l) h r) in
+    let no : Some c.in-Some.c ≡ None = c.in-Some.ensures.one least in
+    absurd cc
+
+pub returns-in-Some-clause-dry : goal.returns-in-Some-clause-dry
+returns-in-Some-clause-dry c =
+    λ t d l h e.
+    let was = c.args.self.now in
+    let is : c.in-Some.c ≡ d = cc in
+    let st : StopsAt (takes_frame was.raw was.options c.args.m.body) (kept_in was.raw was.options c.args.m) c.in-Some.c was.seats.items c.keep_in_all.new.seats =
+    subst (λ (xs : List SeatView). StopsAt (takes_frame was.raw was.options c.args.m.body) (kept_in was.raw was.options c.args.m) c.in-Some.c xs c.keep_in_all.new.seats) c.deref_mut.ensures.value (c.in-Some.ensures.stops c.in-Some.c refl) in
+    subst (λ (k : ℕ). NeedsCopy t.z (past t) k c.args.p c.args.m.body) is (dry_needs was t c.args.p c.args.m h (allowed_before t (Frame c.args.p c.args.m.body) l) c.requires c.keep_in_all.new.seats c.in-Some.c st)

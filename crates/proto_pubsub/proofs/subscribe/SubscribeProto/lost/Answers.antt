@@ -1,6 +1,5 @@
-use Rattle.std.proofs.Common.{refl, arith, sym, ap, ◌∙◌, ◌≡◌, Some, ◌+◌, length}
-use Rattle.std.specs.Prelude.{option_to_list, Option, ℕ}
-use Rattle.std.specs.VecDeque.{deque_len, deque_capacity}
+use Rattle.std.proofs.Common.{refl, arith, ap, ◌∙◌, ◌≡◌, length}
+use Rattle.std.specs.Prelude.{option_to_list, Option}
 use Rattle.sp_history.specs.declared.entry.Entry.TheVariants.{End}
 use Rattle.sp_history.specs.declared.entry.Ending.TheVariants.{Gone}
 use Rattle.proto_pubsub.specs.declared.subscribe.Subscribe.{Subscribe}

@@ -1,7 +1,3 @@
-use Rattle.std.proofs.Common.{sym, ap, ◌∙◌, ◌≡◌, Some, find}
-use Rattle.proto_pubsub.specs.declared.subscribe.Waiting.{Waiting}
-use Rattle.proto_pubsub.specs.Subs.{is_ready}
-use Rattle.proto_pubsub.proofs.Seating.{found_at, not_found}
 use Rattle.proto_pubsub.proofs.Subscribed.{can_give_at, idle_at}
 use Rattle.proto_pubsub.proofs.subscribe.SubscribeProto.offer.Goals as goal
 

@@ -1,4 +1,4 @@
-use Rattle.std.proofs.Common.{refl, ap, sym, ◌∙◌, ◌≡◌, length}
+use Rattle.std.proofs.Common.{refl, ◌≡◌}
 use Rattle.std.specs.Vec.{with_items}
 use Rattle.proto_pubsub.specs.declared.subscribe.Subscribe.{Subscribe}
 use Rattle.proto_pubsub.proofs.Seating.{seats_written}

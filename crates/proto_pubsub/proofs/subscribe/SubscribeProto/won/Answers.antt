@@ -1,6 +1,5 @@
-use Rattle.std.proofs.Common.{refl, arith, sym, ap, ◌∙◌, ◌≡◌}
+use Rattle.std.proofs.Common.{refl, arith, ◌∙◌, ◌≡◌}
 use Rattle.std.specs.Vec.{with_items}
-use Rattle.sp_history.specs.declared.parts.Begun.{Begun}
 use Rattle.proto_pubsub.specs.declared.subscribe.Subscribe.{Subscribe}
 use Rattle.proto_pubsub.proofs.Seating.{seats_written, long_with}
 use Rattle.proto_pubsub.proofs.Subscribed.{none_taken, taken, never_floods, never_dropped, never_sent, gives_from, given_from_ties}

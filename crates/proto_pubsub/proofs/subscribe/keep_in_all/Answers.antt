@@ -1,0 +1,12 @@
+use Rattle.std.proofs.Common.{refl, arith}
+use Rattle.proto_pubsub.specs.Seats.{kept_in}
+use Rattle.proto_pubsub.proofs.Seating.{last_written}
+use Rattle.proto_pubsub.proofs.subscribe.keep_in_all.Goals as goal
+
+pub returns-in-Some-clause-one : goal.returns-in-Some-clause-one
+returns-in-Some-clause-one c = λ few. c.in-Some.ensures.none (omega (arith, few))
+
+pub returns-in-None-clause-whole : goal.returns-in-None-clause-whole
+returns-in-None-clause-whole c =
+    λ e.
+    last_written (kept_in c.args.raw c.args.options c.args.m) c.args.seats.now c.spread.new.seats _ c.index-seats-n.result c.keep.new.self (omega (arith, c.if-n-eq0.false)) (omega (arith, c.if-n-eq0.false)) (c.in-None.ensures.whole refl) c.keep.ensures
