@@ -20,8 +20,8 @@ use Rattle.sp_history.proofs.OnceHolds.{same_op-refl, ends_once}
 use Rattle.aio_word.specs.Sight.{Named, Sight, IsSameSeat}
 use Rattle.sp_core.specs.declared.owner.Core.{Core}
 use Rattle.sp_core.specs.declared.ops.BeginError.{BeginError}
-use Rattle.sp_core.specs.declared.pipes.AttachError.{AttachError}
-use Rattle.sp_core.specs.declared.pipes.Gone.{Gone}
+use Rattle.sp_core.specs.declared.attach.AttachError.{AttachError}
+use Rattle.sp_core.specs.declared.attach.Gone.{Gone}
 use Rattle.sp_core.specs.Moving.{IsSettling, AreSettling}
 use Rattle.sp_core.specs.Standing.{StandsFor, HasBegin, HasFirst, BeganBy}
 use Rattle.sp_msg.specs.Views.{MessageView}
@@ -35,7 +35,7 @@ use Rattle.sp_core.specs.Immediate.{AreLost, HasLost, ReceivedNow}
 use Rattle.sp_core.specs.Attaching.{AttachedBy, TookWire}
 use Rattle.sp_core.specs.Collecting.{IsOpen, IsOpenBefore, HasTook, DueFrom, DueBy}
 use Rattle.sp_core.specs.Serving.{IsServing, AreServing}
-use Rattle.sp_core.specs.Closing.{AreEndsOf, FallsAs, AreFallsOf, ClosedBy, closed_totals}
+use Rattle.sp_core.specs.Closing.{AreEndsOf, GoesDownAs, AreDownsOf, ClosedBy, closed_totals}
 use Rattle.core_tests.specs.Plays.{count_of, AreHeld, Plays}
 
 -- ---- Turns that begin and collect nothing
@@ -96,12 +96,12 @@ ends_plain : (callers : ℕ) (ss : List Begun) (es : List Entry) → AreEndsOf c
 ends_plain callers [] es h = subst ArePlain (sym h) tt
 ends_plain callers (s ∷ ss) es h = subst ArePlain (sym h.3) (tt, ends_plain callers ss h.2 h.5)
 
-falls_as_plain : (p : ℕ) (es : List Entry) → FallsAs p es → ArePlain es
+falls_as_plain : (p : ℕ) (es : List Entry) → GoesDownAs p es → ArePlain es
 falls_as_plain p es (inl h) = subst ArePlain (sym h) (tt, (tt, tt))
 falls_as_plain p es (inr (inl h)) = subst ArePlain (sym h) (tt, (tt, tt))
 falls_as_plain p es (inr (inr h)) = subst ArePlain (sym h.2) (tt, tt)
 
-falls_plain : (ps : List ℕ) (es : List Entry) → AreFallsOf ps es → ArePlain es
+falls_plain : (ps : List ℕ) (es : List Entry) → AreDownsOf ps es → ArePlain es
 falls_plain [] es h = subst ArePlain (sym h) tt
 falls_plain (p ∷ ps) es h = subst ArePlain (sym h.2) (plain-append h.0 h.1 (falls_as_plain p h.0 h.3) (falls_plain ps h.1 h.4))
 
@@ -112,7 +112,7 @@ closed_plain totals callers h t c = go (is_closed (past_of h)) refl
     go true e = subst ArePlain (sym (c.second e)) tt
     go false e =
         let f = c.first e in
-        subst ArePlain (sym f.entries) (plain-append f.ends (f.falls ++ Close f.totals ∷ []) (ends_plain callers _ f.ends f.ended) (plain-append f.falls (Close f.totals ∷ []) (falls_plain _ f.falls f.fallen) (tt, tt)))
+        subst ArePlain (sym f.entries) (plain-append f.ends (f.down_entries ++ Close f.totals ∷ []) (ends_plain callers _ f.ends f.ended) (plain-append f.down_entries (Close f.totals ∷ []) (falls_plain _ f.down_entries f.gone_down) (tt, tt)))
 
 pub totals_closed : (past : List Entry) (totals : Totals) → closed_totals past ≡ Some totals → is_closed past ≡ true
 totals_closed [] totals h = cc
@@ -191,7 +191,7 @@ held_now (Err e) z h t c ops n a = held_has_lost c z.callers t.entries (past_of 
 
 module _ {P W : Type 0} (ties : P → Moment → Type 0) (room : P → ℕ) (shown : W → WireView) where
   more_turn : (c d : Core P W) (w : Named) (s : Sight) (n : ℕ) (ops more : List OpName) (p : Plays ties room shown c w s n ops) (t : Turn Entry) → StandsFor ties room shown d (p.history ++ t ∷ []) → AreHeld (onto t.entries (past_of p.history)) more
-      → d.desk.words ≡ c.desk.words → Plays ties room shown d w s n more
+      → d.op_words.words ≡ c.op_words.words → Plays ties room shown d w s n more
   more_turn c d w s n ops more p t st held same =
       record {
         history = p.history ++ t ∷ [];
@@ -204,24 +204,24 @@ module _ {P W : Type 0} (ties : P → Moment → Type 0) (room : P → ℕ) (sho
         first_seat = p.first_seat;
       }
 
-  pub plain_turn : (c d : Core P W) (w : Named) (s : Sight) (n : ℕ) (ops : List OpName) (p : Plays ties room shown c w s n ops) (t : Turn Entry) → StandsFor ties room shown d (p.history ++ t ∷ []) → ArePlain t.entries → d.desk.words ≡ c.desk.words
+  pub plain_turn : (c d : Core P W) (w : Named) (s : Sight) (n : ℕ) (ops : List OpName) (p : Plays ties room shown c w s n ops) (t : Turn Entry) → StandsFor ties room shown d (p.history ++ t ∷ []) → ArePlain t.entries → d.op_words.words ≡ c.op_words.words
       → Plays ties room shown d w s n ops
   plain_turn c d w s n ops p t st plain same =
       more_turn c d w s n ops ops p t st (held_plain (past_of p.history) ops t.entries plain p.held) same
 
   pub now_turn : (c d : Core P W) (w : Named) (s : Sight) (n : ℕ) (ops : List OpName) (p : Plays ties room shown c w s n ops) (t : Turn Entry) (r : Result MessageView NowError) (z : Setting) (x : ℕ) → StandsFor ties room shown d (p.history ++ t ∷ []) → ReceivedNow r z p.history t 1 x
-      → d.desk.words ≡ c.desk.words → Plays ties room shown d w s n ops
+      → d.op_words.words ≡ c.op_words.words → Plays ties room shown d w s n ops
   now_turn c d w s n ops p t r z x st now same = more_turn c d w s n ops ops p t st (held_now r z p.history t x ops now p.held) same
 
   pub begun_turn : (c d : Core P W) (w : Named) (s : Sight) (n : ℕ) (ops more : List OpName) (p : Plays ties room shown c w s n ops) (t : Turn Entry) (op : OpName) (x : ℕ) (act : Act) (dl : Option ℕ) → StandsFor ties room shown d (p.history ++ t ∷ [])
-      → HasBegin op 1 x act dl t → d.desk.words ≡ c.desk.words → more ≡ ops ++ op ∷ [] → Plays ties room shown d w s n more
+      → HasBegin op 1 x act dl t → d.op_words.words ≡ c.op_words.words → more ≡ ops ++ op ∷ [] → Plays ties room shown d w s n more
   begun_turn c d w s n ops more p t op x act dl st b same is =
       let early : AreHeld (onto b.early (past_of p.history)) ops = held_plain (past_of p.history) ops b.early (settling_plain b.early b.early_settles) p.held in
       let begun : AreHeld (Begin op 1 x act dl ∷ onto b.early (past_of p.history)) (ops ++ op ∷ []) = held_begin (onto b.early (past_of p.history)) ops op x act dl early in
       subst (λ (l : List OpName). Plays ties room shown d w s n l) (sym is) (more_turn c d w s n ops (ops ++ op ∷ []) p t st (held_with (past_of p.history) ops (ops ++ op ∷ []) b.early b.late (Begin op 1 x act dl) t.entries b.entries b.late_settles begun) same)
 
   pub took_turn : (c d : Core P W) (w : Named) (s : Sight) (n : ℕ) (ops more : List OpName) (op : OpName) (p : Plays ties room shown c w s n ops) (t : Turn Entry) → ops ≡ more ++ op ∷ [] → StandsFor ties room shown d (p.history ++ t ∷ [])
-      → HasTook op 1 t → d.desk.words ≡ c.desk.words → Plays ties room shown d w s n more
+      → HasTook op 1 t → d.op_words.words ≡ c.op_words.words → Plays ties room shown d w s n more
   took_turn c d w s n ops more op p t is st b same =
       let before : AreHeld (past_of p.history) (more ++ op ∷ []) = subst (λ (l : List OpName). AreHeld (past_of p.history) l) is p.held in
       let early : AreHeld (onto b.early (past_of p.history)) (more ++ op ∷ []) = held_plain (past_of p.history) (more ++ op ∷ []) b.early (settling_plain b.early b.early_settles) before in

@@ -27,8 +27,8 @@ pub record Plays {P W : Type 0} (ties : P → Moment → Type 0) (room : P → �
   pub history : List (Turn Entry)
   pub stands : StandsFor ties room shown core history
   pub held : AreHeld (past_of history) ops
-  pub has_caller : 1 ≤ core.desk.words.callers
-  pub slots_are : core.desk.words.slots ≡ slots
-  pub words_are : words ≡ core.desk.words
-  pub own_seat : seat.words ≡ core.desk.words.id
+  pub has_caller : 1 ≤ core.op_words.words.callers
+  pub slots_are : core.op_words.words.slots ≡ slots
+  pub words_are : words ≡ core.op_words.words
+  pub own_seat : seat.words ≡ core.op_words.words.id
   pub first_seat : seat.view.number ≡ 1

@@ -48,7 +48,7 @@ impl Other {
 
 // A share of the core's words.
 fn share<P: Proto, W: Wire>(rt: &impl Abort, core: &Core<P, W>) -> Words
-    ensures { result ≡ core.now.desk.words }
+    ensures { result ≡ core.now.op_words.words }
 {
     match core.words() {
         Ok(words) => words,

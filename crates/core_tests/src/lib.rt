@@ -5,3 +5,5 @@
 mod calls;
 #[cfg(test)]
 mod tests;
+#[cfg(test)]
+mod threads;

@@ -16,12 +16,12 @@ use Rattle.sp_history.specs.Once.{AreApart, occurs}
 use Rattle.sp_history.specs.Past.{pend, pending, is_of, without_begun, onto}
 use Rattle.sp_history.specs.Moments.{Moment, past, also}
 use Rattle.sp_history.proofs.OnceHolds.{same_op-eq, same_op-refl}
-use Rattle.sp_core.specs.declared.shelf.Pending.{Pending}
+use Rattle.sp_core.specs.declared.operations.Pending.{Pending}
 use Rattle.sp_core.specs.Looking.{Grows, ends_in, HasLooked, IsAt, IsFrom, LooksTo, FoundAt}
 use Rattle.sp_core.specs.Moving.{Later}
 use Rattle.std.proofs.lemmas.List.{length-map}
-use Rattle.sp_core.specs.declared.shelf.Shelf.{Shelf}
-use Rattle.sp_core.specs.Shelves.{Shelves, pending_of}
+use Rattle.sp_core.specs.declared.operations.Operations.{Operations}
+use Rattle.sp_core.specs.OperationsStand.{OperationsStand, pending_of}
 
 -- ---- Reads
 
@@ -55,19 +55,19 @@ same_place [] i s r h k = absurd h
 same_place (x ∷ xs) zero s r h k = sym h ∙ k
 same_place (x ∷ xs) (suc i) s r h k = same_place xs i s r h k
 
-module _ (shelf : Shelf) (t : Moment) (i : ℕ) (x : Pending) where
-  pub stands_at : Shelves [] shelf t → i < length shelf.pending.items → x ≡ get_or shelf.pending.items i x → (s : Begun) × IsAt i s (pend (past t)) × (x ≡ pending_of s)
+module _ (operations : Operations) (t : Moment) (i : ℕ) (x : Pending) where
+  pub stands_at : OperationsStand [] operations t → i < length operations.pending.items → x ≡ get_or operations.pending.items i x → (s : Begun) × IsAt i s (pend (past t)) × (x ≡ pending_of s)
   stands_at h l e =
-      let n : length shelf.pending.items ≡ length (pend (past t)) = ap length h.pending_is ∙ length-map (pend (past t)) pending_of in
+      let n : length operations.pending.items ≡ length (pend (past t)) = ap length h.pending_is ∙ length-map (pend (past t)) pending_of in
       at_place (pend (past t)) i x (omega (arith, n, l)) (e ∙ ap (λ (xs : List Pending). get_or xs i x) h.pending_is)
 
-  is_it : (s : Begun) → Shelves [] shelf t → i < length shelf.pending.items → x ≡ get_or shelf.pending.items i x → IsAt i s (pend (past t)) → x ≡ pending_of s
+  is_it : (s : Begun) → OperationsStand [] operations t → i < length operations.pending.items → x ≡ get_or operations.pending.items i x → IsAt i s (pend (past t)) → x ≡ pending_of s
   is_it s h l e at = let q = stands_at h l e in q.2 ∙ ap pending_of (same_place (pend (past t)) i q.0 s q.1 at)
 
-  pub its_name : (s : Begun) → Shelves [] shelf t → i < length shelf.pending.items → x ≡ get_or shelf.pending.items i x → IsAt i s (pend (past t)) → x.op ≡ s.op
+  pub its_name : (s : Begun) → OperationsStand [] operations t → i < length operations.pending.items → x ≡ get_or operations.pending.items i x → IsAt i s (pend (past t)) → x.op ≡ s.op
   its_name s h l e at = ap (λ (y : Pending). y.op) (is_it s h l e at)
 
-  pub its_ctx : (s : Begun) → Shelves [] shelf t → i < length shelf.pending.items → x ≡ get_or shelf.pending.items i x → IsAt i s (pend (past t)) → x.ctx ≡ s.ctx
+  pub its_ctx : (s : Begun) → OperationsStand [] operations t → i < length operations.pending.items → x ≡ get_or operations.pending.items i x → IsAt i s (pend (past t)) → x.ctx ≡ s.ctx
   its_ctx s h l e at = ap (λ (y : Pending). y.ctx) (is_it s h l e at)
 
 first_place : (ss : List Begun) (op : OpName) (s : Begun) (c : ℕ) → find (is_of op) ss ≡ Some s → s.ctx ≡ c → IsFrom zero op c ss

@@ -10,9 +10,9 @@ use Rattle.sp_history.specs.Lists.{same_op}
 use Rattle.sp_history.specs.Past.{is_of, pend}
 use Rattle.sp_history.specs.Once.{occurs}
 use Rattle.sp_history.specs.Moments.{Moment, past, Lawful}
-use Rattle.sp_core.specs.declared.shelf.Pending.{Pending}
-use Rattle.sp_core.specs.declared.shelf.Shelf.{Shelf}
-use Rattle.sp_core.specs.Shelves.{Shelves, count_of, pending_of}
+use Rattle.sp_core.specs.declared.operations.Pending.{Pending}
+use Rattle.sp_core.specs.declared.operations.Operations.{Operations}
+use Rattle.sp_core.specs.OperationsStand.{OperationsStand, count_of, pending_of}
 use Rattle.sp_core.proofs.Closings.{pend_apart}
 
 module _ (op : OpName) where
@@ -57,5 +57,5 @@ module _ (op : OpName) where
   counted (s ∷ ss) = ap (λ (n : ℕ). cond (same_op s.op op) (n + 1) n) (counted ss)
 
 -- no pending operation stands twice
-pub once : (s : Shelf) (t : Moment) (op : OpName) → Shelves [] s t → Lawful t → count_of op s.pending.items ≤ 1
+pub once : (s : Operations) (t : Moment) (op : OpName) → OperationsStand [] s t → Lawful t → count_of op s.pending.items ≤ 1
 once s t op h l = let n = pend_apart t l op in omega (arith, n, ap (count_of op) h.pending_is, counted op (pend (past t)))

@@ -11,11 +11,11 @@ use Rattle.sp_history.specs.Legal.{Allowed}
 use Rattle.sp_history.specs.Lists.{has, without}
 use Rattle.sp_history.specs.Past.{up}
 use Rattle.sp_history.specs.Moments.{Moment, past, Lawful}
-use Rattle.sp_core.specs.declared.lines.Pipe.{Pipe}
-use Rattle.sp_core.specs.Lines.{ids, is_below}
+use Rattle.sp_core.specs.declared.pipes.Pipe.{Pipe}
+use Rattle.sp_core.specs.Pipes.{ids, is_below}
 use Rattle.sp_core.proofs.Lawfuls.{by_steps}
 use Rattle.sp_core.proofs.Changing.{Numbered, numbered_next, has_at, equal_numbers, same_number}
-use Rattle.sp_core.proofs.Carrying.{some_at}
+use Rattle.sp_core.proofs.PipeSteps.{some_at}
 
 -- each number is below those after it
 abbrev pub IsRising : List ℕ → Type 0

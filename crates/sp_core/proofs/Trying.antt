@@ -40,10 +40,10 @@ use Rattle.sp_proto.specs.Machines.{CanGive, IsIdle}
 use Rattle.sp_core.specs.Collecting.{IsOpenBefore}
 use Rattle.sp_history.specs.declared.entry.Message.{Message}
 use Rattle.sp_core.specs.declared.owner.Core.{Core}
-use Rattle.sp_core.specs.declared.shelf.Shelf.{Shelf}
+use Rattle.sp_core.specs.declared.operations.Operations.{Operations}
 use Rattle.sp_core.specs.declared.ops.Outcome.TheVariants as out
 use Rattle.sp_core.specs.Ends.{outcome_of, view_of}
-use Rattle.sp_core.specs.Shelves.{Shelves, AllTaken}
+use Rattle.sp_core.specs.OperationsStand.{OperationsStand, AllTaken}
 use Rattle.sp_core.proofs.Lawfuls.{by_steps, counted}
 use Rattle.sp_core.specs.Immediate.{IsGiven, IsCallersEnd, IsLost, AreLost, HasLost, HasReceived, RefusedNow, ReceivedNow, LostTo, TriedTo, NowTo, tried}
 use Rattle.sp_core.specs.Moving.{AreSettling, Later}
@@ -214,8 +214,8 @@ slot_left t op n all = elim (all op.slot n.inside) [
 
 module _ {P W : Type 0} (ties : P → Moment → Type 0) (room : P → ℕ) (shown : W → WireView) where
   -- the slot that was drawn goes back
-  pub goes_back : (c : Core P W) (s : Shelf) (slot : ℕ) (t : Moment) → Owns ties room shown (slot ∷ []) c t → Shelves [] s t → (length s.free.items ≡ length c.shelf.free.items + 1) × (length s.done.items ≡ length c.shelf.done.items) → Owns ties room shown [] (record c { shelf = s }) t
-  goes_back c s slot t g sh same = record { lawful = g.lawful; calm = g.calm; proto = g.proto; desk = g.desk; shelf = sh; lines = g.lines; tally = g.tally; closed = g.closed; room_is = omega (arith, g.room_is, same.0, same.1) }
+  pub goes_back : (c : Core P W) (s : Operations) (slot : ℕ) (t : Moment) → Owns ties room shown (slot ∷ []) c t → OperationsStand [] s t → (length s.free.items ≡ length c.operations.free.items + 1) × (length s.done.items ≡ length c.operations.done.items) → Owns ties room shown [] (record c { operations = s }) t
+  goes_back c s slot t g sh same = record { lawful = g.lawful; calm = g.calm; proto = g.proto; op_words = g.op_words; operations = sh; pipes = g.pipes; tally = g.tally; closed = g.closed; room_is = omega (arith, g.room_is, same.0, same.1) }
 
 -- ---- What it came to
 
@@ -303,7 +303,7 @@ lost_more c t v u s r =
       );
     }
 
--- ---- What a try answers
+-- ---- What a try returns
 
 module _ (t u : Moment) (op : OpName) (c callers : ℕ) (im : Message) (ending : Ending) where
   pub got : (m : MessageView) → IsGiven callers im ending → out.Received m ≡ outcome_of (now_begun op c) ending → Later (tried t op c ending) u → Later (tried t op c (Won (Received (text_of m)))) u

@@ -1,12 +1,12 @@
 -- What the steps of a begin lead to, within a turn.
 use Rattle.sp_base.specs.declared.OpName.{OpName}
-use Rattle.sp_core.specs.Desks.{DecidedAs}
+use Rattle.sp_core.specs.OpWordsStand.{DecidedAs}
 use Rattle.sp_core.specs.Looking.{HasLooked, reads_of}
 use Rattle.sp_core.specs.Moving.{AreSettling}
 use Rattle.sp_core.specs.Owning.{CanBegin, IsNext, Owns}
-use Rattle.sp_core.specs.Shelves.{AllTaken}
+use Rattle.sp_core.specs.OperationsStand.{AllTaken}
 use Rattle.sp_core.specs.Standing.{IsSettled, RefusedFor, StandsFor, Turns, core_setting}
-use Rattle.sp_core.specs.declared.desk.Desk.{Desk as DeskType}
+use Rattle.sp_core.specs.declared.op_words.OpWords.{OpWords as OpWordsType}
 use Rattle.sp_core.specs.declared.ops.BeginError.{BeginError}
 use Rattle.sp_core.specs.declared.owner.Core.{Core}
 use Rattle.sp_history.specs.Moments.{Moment, also, next, past}
@@ -23,7 +23,7 @@ use Rattle.sp_proto.specs.Machines.{NoFlood}
 use Rattle.sp_proto.specs.declared.Verb.{Verb}
 use Rattle.std.specs.Prelude.{List, MatchOption, MatchResult, Option, Result, Some, [], ℕ, ◌∷◌, ◌≡◌, ◌≢◌}
 use Rattle.turn_lock.specs.declared.turn.Turn.{Turn}
-use Rattle.sp_core.specs.declared.desk.Decision.TheVariants as decision
+use Rattle.sp_core.specs.declared.op_words.Decision.TheVariants as decision
 use Rattle.sp_core.specs.declared.ops.BeginError.TheVariants as begin_error
 
 -- the turn begins: callers' ends on the context are recorded, and all is done that can be
@@ -34,12 +34,12 @@ OpensTurn ties room shown k c kind old new =
 -- the words show already how a caller ended the pending operation, and nothing else does yet
 abbrev pub MayNoteEnd : {P W : Type 0} → (P → Moment → Type 0) → (P → ℕ) → (W → WireView) → OpName → Cause → ℕ → Core P W → Type 0
 MayNoteEnd ties room shown op cause by old =
-    (d : DeskType) × (t : Moment) × (s : Begun) × Owns ties room shown [] (record old { desk = d }) t × (pending (past t) op ≡ Some s) × DecidedAs (decision.Gone cause by) op t old.desk
+    (d : OpWordsType) × (t : Moment) × (s : Begun) × Owns ties room shown [] (record old { op_words = d }) t × (pending (past t) op ≡ Some s) × DecidedAs (decision.Gone cause by) op t old.op_words
 
 -- this end is recorded
 abbrev pub NotesEnd : {P W : Type 0} → (P → Moment → Type 0) → (P → ℕ) → (W → WireView) → OpName → Cause → ℕ → Core P W → Core P W → Type 0
 NotesEnd ties room shown op cause by old new =
-    (d : DeskType) (t : Moment) (s : Begun) → Owns ties room shown [] (record old { desk = d }) t → pending (past t) op ≡ Some s → DecidedAs (decision.Gone cause by) op t old.desk → Owns ties room shown [] new (also t (End op (Gone cause by)))
+    (d : OpWordsType) (t : Moment) (s : Begun) → Owns ties room shown [] (record old { op_words = d }) t → pending (past t) op ≡ Some s → DecidedAs (decision.Gone cause by) op t old.op_words → Owns ties room shown [] new (also t (End op (Gone cause by)))
 
 -- whether the operation may begin, or why not
 abbrev pub TellsMayBegin : {P W : Type 0} → (P → Moment → Type 0) → (P → ℕ) → (W → WireView) → Result (Unit {0}) BeginError → ℕ → Verb → Core P W → Type 0

@@ -12,10 +12,10 @@ use Rattle.sp_proto.specs.Kinds.{Kind, text_of}
 use Rattle.sp_core.specs.declared.contexts.CtxError.{CtxError}
 use Rattle.sp_core.specs.declared.contexts.TopicError.{TopicError}
 use Rattle.sp_core.specs.declared.immediate.NowError.{NowError}
-use Rattle.sp_core.specs.declared.lines.Fallen.{Fallen}
+use Rattle.sp_core.specs.declared.pipes.DownPipe.{DownPipe}
 use Rattle.sp_core.specs.declared.ops.BeginError.{BeginError}
 use Rattle.sp_core.specs.declared.owner.Core.{Core}
-use Rattle.sp_core.specs.declared.pipes.AttachError.{AttachError}
+use Rattle.sp_core.specs.declared.attach.AttachError.{AttachError}
 use Rattle.sp_core.specs.declared.serve.Served.{Served}
 use Rattle.sp_core.specs.Attaching.{AttachedBy, attached}
 use Rattle.sp_core.specs.Collecting.{IsOpen}
@@ -88,6 +88,6 @@ Unsubscribes kind r c b old h t = UnsubscribedBy r (core_setting kind old) h t c
 -- ---- The end
 
 -- of a closed core, the wires that were not taken
-abbrev pub HandsOutWires : {P W : Type 0} → (P → Moment → Type 0) → (P → ℕ) → (W → WireView) → List (Fallen W) → (P → Kind) → Core P W → Type 0
+abbrev pub HandsOutWires : {P W : Type 0} → (P → Moment → Type 0) → (P → ℕ) → (W → WireView) → List (DownPipe W) → (P → Kind) → Core P W → Type 0
 HandsOutWires ties room shown r kind x =
     (h : List (Turn Entry)) → StandsFor ties room shown x h → is_closed (past_of h) ≡ true → HasWires shown r (core_setting kind x) (past_of h)

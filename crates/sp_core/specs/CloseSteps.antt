@@ -1,7 +1,7 @@
 -- What the steps of a close lead to, within its turn.
 use Rattle.sp_base.specs.declared.OpName.{OpName}
-use Rattle.sp_core.specs.Closing.{AreEndsOf, AreFallsOf, ClosesAt, FallsAs, IsCloseEnd, after}
-use Rattle.sp_core.specs.Lines.{IsPipeAt}
+use Rattle.sp_core.specs.Closing.{AreEndsOf, AreDownsOf, ClosesAt, GoesDownAs, IsCloseEnd, after}
+use Rattle.sp_core.specs.Pipes.{IsPipeAt}
 use Rattle.sp_core.specs.Owning.{Owns}
 use Rattle.sp_core.specs.declared.owner.Core.{Core}
 use Rattle.sp_history.specs.Lists.{head_of, without}
@@ -34,17 +34,17 @@ EndsOne ties room shown op old new =
 -- every pipe has gone down, and the same operations are pending
 abbrev pub TakesAllDown : {P W : Type 0} → (P → Moment → Type 0) → (P → ℕ) → (W → WireView) → Core P W → Core P W → Type 0
 TakesAllDown ties room shown old new =
-    (t : Moment) → ClosesAt ties room shown old t → (es : List Entry) × AreFallsOf (up (past t)) es × ClosesAt ties room shown new (after t es) × (up (past (after t es)) ≡ []) × (pend (past (after t es)) ≡ pend (past t))
+    (t : Moment) → ClosesAt ties room shown old t → (es : List Entry) × AreDownsOf (up (past t)) es × ClosesAt ties room shown new (after t es) × (up (past (after t es)) ≡ []) × (pend (past (after t es)) ≡ pend (past t))
 
 -- the first pipe was flushed and has gone down
 abbrev pub TakesFirstDown : {P W : Type 0} → (P → Moment → Type 0) → (P → ℕ) → (W → WireView) → Core P W → Core P W → Type 0
 TakesFirstDown ties room shown old new =
-    (t : Moment) → ClosesAt ties room shown old t → (p : ℕ) × (es : List Entry) × (head_of (up (past t)) ≡ Some p) × FallsAs p es × ClosesAt ties room shown new (after t es) × (up (past (after t es)) ≡ without (up (past t)) p) × (pend (past (after t es)) ≡ pend (past t))
+    (t : Moment) → ClosesAt ties room shown old t → (p : ℕ) × (es : List Entry) × (head_of (up (past t)) ≡ Some p) × GoesDownAs p es × ClosesAt ties room shown new (after t es) × (up (past (after t es)) ≡ without (up (past t)) p) × (pend (past (after t es)) ≡ pend (past t))
 
 -- the first pipe has gone down for the close
 abbrev pub TakesDown : {P W : Type 0} → (P → Moment → Type 0) → (P → ℕ) → (W → WireView) → ℕ → Core P W → Core P W → Type 0
 TakesDown ties room shown p old new =
-    (t : Moment) → ClosesAt ties room shown old t → IsPipeAt old.lines 0 p → ClosesAt ties room shown new (also t (Down p whys.Closed))
+    (t : Moment) → ClosesAt ties room shown old t → IsPipeAt old.pipes 0 p → ClosesAt ties room shown new (also t (Down p whys.Closed))
 
 -- nothing is pending and no pipe is up
 abbrev pub MayShutSocket : {P W : Type 0} → (P → Moment → Type 0) → (P → ℕ) → (W → WireView) → Core P W → Type 0

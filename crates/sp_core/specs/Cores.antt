@@ -7,19 +7,19 @@ use Rattle.sp_core.specs.declared.owner.Core.{Core}
 
 -- the words of its operations
 abbrev pub words_of : {P W : Type 0} → Core P W → Named
-words_of c = c.desk.words
+words_of c = c.op_words.words
 
 -- how many slots it has
 abbrev pub slots_of : {P W : Type 0} → Core P W → ℕ
-slots_of c = c.desk.words.slots
+slots_of c = c.op_words.words.slots
 
 -- how many callers it has
 abbrev pub callers_of : {P W : Type 0} → Core P W → ℕ
-callers_of c = c.desk.words.callers
+callers_of c = c.op_words.words.callers
 
 -- what its seat has seen of the words
 abbrev pub sight_of : {P W : Type 0} → Core P W → View
-sight_of c = c.desk.seat.view
+sight_of c = c.op_words.seat.view
 
 -- the kind of its machine
 abbrev pub kind_of_core : {P W : Type 0} → (P → Kind) → Core P W → Kind

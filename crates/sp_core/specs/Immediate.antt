@@ -23,7 +23,7 @@ use Rattle.sp_core.specs.declared.immediate.NowError.TheVariants as now_error
 use Rattle.sp_core.specs.declared.ops.BeginError.TheVariants as error
 use Rattle.sp_core.specs.Ends.{IsCallers}
 use Rattle.sp_core.specs.Moving.{AreSettling, Later}
-use Rattle.sp_core.specs.Shelves.{AllTaken}
+use Rattle.sp_core.specs.OperationsStand.{AllTaken}
 use Rattle.sp_core.specs.Standing.{RefusedFor}
 
 -- a caller ends an operation so
@@ -70,7 +70,7 @@ RefusedNow (now_error.Begin e) z past c = RefusedFor e z past c Recv × (e ≢ e
 RefusedNow now_error.Again z past c =
     (is_closed past ≡ false) × ChecksAct (Ok tt) z past c Recv × (AllTaken z past → ⊥) × (is_nil (kept z past c) ≡ true)
 
--- what an immediate receive did and answers
+-- what an immediate receive did and returns
 abbrev pub ReceivedNow : Result MessageView NowError → Setting → List (Turn Entry) → Turn Entry → ℕ → ℕ → Type 0
 ReceivedNow (Ok m) z h t k c = HasReceived m k c z.callers t.entries
 ReceivedNow (Err e) z h t k c = HasLost k c z.callers t.entries × RefusedNow e z (past_of (h ++ t ∷ [])) c

@@ -12,12 +12,12 @@ use Rattle.sp_history.specs.declared.parts.Begun.{Begun}
 use Rattle.sp_history.specs.Lists.{same_op}
 use Rattle.sp_history.specs.Past.{pend, pending}
 use Rattle.sp_history.specs.Moments.{Moment, past, also}
-use Rattle.sp_core.specs.declared.desk.Decision.{Decision}
+use Rattle.sp_core.specs.declared.op_words.Decision.{Decision}
 use Rattle.sp_core.specs.declared.owner.Core.{Core}
 
 -- what the core has read of its words
 abbrev pub reads_of : {P W : Type 0} → Core P W → List word.Entry
-reads_of c = c.desk.seat.view.reads
+reads_of c = c.op_words.seat.view.reads
 
 -- these reads, and maybe more
 pub record Grows (old new : List word.Entry) : Type 0 where

@@ -1,20 +1,20 @@
 -- What the calls of the parts lead to: the words, the lists of operations, the pipes and the counts.
 use Rattle.sp_base.specs.declared.OpName.{OpName}
 use Rattle.sp_core.specs.Collecting.{IsDoneAt, IsOutcomeOf}
-use Rattle.sp_core.specs.Desks.{Desks, DecidedAs}
+use Rattle.sp_core.specs.OpWordsStand.{OpWordsStand, DecidedAs}
 use Rattle.sp_core.specs.Ends.{outcome_of}
-use Rattle.sp_core.specs.Lines.{Carriers, IsPipeAt}
+use Rattle.sp_core.specs.Pipes.{PipesStand, IsPipeAt}
 use Rattle.sp_core.specs.Owning.{IsNext}
-use Rattle.sp_core.specs.Shelves.{IsWornOut, Shelves}
+use Rattle.sp_core.specs.OperationsStand.{IsWornOut, OperationsStand}
 use Rattle.sp_core.specs.Tallies.{Tallies}
 use Rattle.sp_core.specs.Wires.{IsUnused, numbers_of}
-use Rattle.sp_core.specs.declared.desk.Desk.{Desk}
-use Rattle.sp_core.specs.declared.desk.Decision.{Decision}
-use Rattle.sp_core.specs.declared.desk.Decision.TheVariants as decision
-use Rattle.sp_core.specs.declared.lines.Lines.{Lines}
-use Rattle.sp_core.specs.declared.lines.Pipe.{Pipe as PipeType}
+use Rattle.sp_core.specs.declared.op_words.OpWords.{OpWords}
+use Rattle.sp_core.specs.declared.op_words.Decision.{Decision}
+use Rattle.sp_core.specs.declared.op_words.Decision.TheVariants as decision
+use Rattle.sp_core.specs.declared.pipes.Pipes.{Pipes}
+use Rattle.sp_core.specs.declared.pipes.Pipe.{Pipe as PipeType}
 use Rattle.sp_core.specs.declared.ops.Outcome.{Outcome}
-use Rattle.sp_core.specs.declared.shelf.Shelf.{Shelf}
+use Rattle.sp_core.specs.declared.operations.Operations.{Operations}
 use Rattle.sp_core.specs.declared.tally.Tally.{Tally}
 use Rattle.sp_history.specs.Legal.{is_free, is_pending_on, is_uncollected}
 use Rattle.sp_history.specs.Lists.{has, without}
@@ -34,111 +34,111 @@ use Rattle.sp_history.specs.declared.entry.Gate.TheVariants as gate
 -- ---- Words
 
 -- the operation is pending at a moment for which the words stand
-abbrev pub HasPending : Desk → OpName → Type 0
-HasPending d op = (t : Moment) × (s : Begun) × Lawful t × Desks d t × (pending (past t) op ≡ Some s)
+abbrev pub HasPending : OpWords → OpName → Type 0
+HasPending d op = (t : Moment) × (s : Begun) × Lawful t × OpWordsStand d t × (pending (past t) op ≡ Some s)
 
 -- this is so of each such moment
-abbrev pub WherePending : Desk → OpName → (Moment → Type 0) → Type 0
-WherePending d op fact = (t : Moment) (s : Begun) → Lawful t → Desks d t → pending (past t) op ≡ Some s → fact t
+abbrev pub WherePending : OpWords → OpName → (Moment → Type 0) → Type 0
+WherePending d op fact = (t : Moment) (s : Begun) → Lawful t → OpWordsStand d t → pending (past t) op ≡ Some s → fact t
 
 -- how a caller ended the operation, or that it is pending still
-abbrev pub LookedAs : Option Decision → OpName → Moment → Desk → Type 0
-LookedAs r op t d = MatchOption r (Desks d t) (λ x. (x ≢ decision.Won) × DecidedAs x op t d)
+abbrev pub LookedAs : Option Decision → OpName → Moment → OpWords → Type 0
+LookedAs r op t d = MatchOption r (OpWordsStand d t) (λ x. (x ≢ decision.Won) × DecidedAs x op t d)
 
 -- the name of the slot's next operation, or none where the slot is worn
-abbrev pub NamesNext : Option OpName → ℕ → Desk → Type 0
+abbrev pub NamesNext : Option OpName → ℕ → OpWords → Type 0
 NamesNext r slot x =
-    (t : Moment) → Desks x t → slot < t.z.slots → MatchOption r (IsWornOut (begins (past t) slot)) (λ op. (op.slot ≡ slot) × (op.generation ≡ begins (past t) slot + 1) × (op.generation < 2 ^ 40))
+    (t : Moment) → OpWordsStand x t → slot < t.z.slots → MatchOption r (IsWornOut (begins (past t) slot)) (λ op. (op.slot ≡ slot) × (op.generation ≡ begins (past t) slot + 1) × (op.generation < 2 ^ 40))
 
 -- the operation's word has begun
-abbrev pub BeginsWord : OpName → Desk → Desk → Type 0
+abbrev pub BeginsWord : OpName → OpWords → OpWords → Type 0
 BeginsWord op old new =
-    (t : Moment) (c : ℕ) (act : Act) (deadline : Option ℕ) → Lawful t → Desks old t → IsNext t op → Desks new (also t (Begin op t.caller c act deadline))
+    (t : Moment) (c : ℕ) (act : Act) (deadline : Option ℕ) → Lawful t → OpWordsStand old t → IsNext t op → OpWordsStand new (also t (Begin op t.caller c act deadline))
 
 -- ---- Lists of operations
 
 -- as many slots are free, and as many operations ended and were not collected
-abbrev pub KeepsLengths : Shelf → Shelf → Type 0
+abbrev pub KeepsLengths : Operations → Operations → Type 0
 KeepsLengths old new = (length new.free.items ≡ length old.free.items) × (length new.done.items ≡ length old.done.items)
 
 -- one slot more is free
-abbrev pub HasOneMoreFree : Shelf → Shelf → Type 0
+abbrev pub HasOneMoreFree : Operations → Operations → Type 0
 HasOneMoreFree old new = (length new.free.items ≡ length old.free.items + 1) × (length new.done.items ≡ length old.done.items)
 
 -- one operation more ended and was not collected
-abbrev pub HasOneMoreEnded : Shelf → Shelf → Type 0
+abbrev pub HasOneMoreEnded : Operations → Operations → Type 0
 HasOneMoreEnded old new = (length new.free.items ≡ length old.free.items) × (length new.done.items ≡ length old.done.items + 1)
 
 -- the operation may begin in the slot that was drawn
-abbrev pub MayStart : OpName → ℕ → Option ℕ → Shelf → Type 0
+abbrev pub MayStart : OpName → ℕ → Option ℕ → Operations → Type 0
 MayStart op c deadline old =
-    (t : Moment) × (act : Act) × Shelves (op.slot ∷ []) old t × Lawful (also t (Begin op t.caller c act deadline))
+    (t : Moment) × (act : Act) × OperationsStand (op.slot ∷ []) old t × Lawful (also t (Begin op t.caller c act deadline))
 
 -- the operation is among the pending ones
-abbrev pub StartsOp : OpName → ℕ → Option ℕ → Shelf → Shelf → Type 0
+abbrev pub StartsOp : OpName → ℕ → Option ℕ → Operations → Operations → Type 0
 StartsOp op c deadline old new =
-    (t : Moment) (act : Act) → Shelves (op.slot ∷ []) old t → Lawful (also t (Begin op t.caller c act deadline)) → Shelves [] new (also t (Begin op t.caller c act deadline))
+    (t : Moment) (act : Act) → OperationsStand (op.slot ∷ []) old t → Lawful (also t (Begin op t.caller c act deadline)) → OperationsStand [] new (also t (Begin op t.caller c act deadline))
 
 -- the operation is among those that ended
-abbrev pub FinishesOp : OpName → Outcome → Shelf → Shelf → Type 0
+abbrev pub FinishesOp : OpName → Outcome → Operations → Operations → Type 0
 FinishesOp op r old new =
-    (t : Moment) (s : Begun) (ending : Ending) → Shelves [] old t → Lawful t → pending (past t) op ≡ Some s → r ≡ outcome_of s ending → Shelves [] new (also t (End op ending))
+    (t : Moment) (s : Begun) (ending : Ending) → OperationsStand [] old t → Lawful t → pending (past t) op ≡ Some s → r ≡ outcome_of s ending → OperationsStand [] new (also t (End op ending))
 
 -- a slot that is drawn is free
-abbrev pub DrawsFree : Option ℕ → Shelf → Shelf → Type 0
+abbrev pub DrawsFree : Option ℕ → Operations → Operations → Type 0
 DrawsFree r old new =
-    (i : ℕ) → r ≡ Some i → (t : Moment) → Shelves [] old t → (i < t.z.slots) × (is_free (past t) i ≡ true) × Shelves (i ∷ []) new t
+    (i : ℕ) → r ≡ Some i → (t : Moment) → OperationsStand [] old t → (i < t.z.slots) × (is_free (past t) i ≡ true) × OperationsStand (i ∷ []) new t
 
 -- a slot that is drawn is one free slot less
-abbrev pub DrawsOne : Option ℕ → Shelf → Shelf → Type 0
+abbrev pub DrawsOne : Option ℕ → Operations → Operations → Type 0
 DrawsOne r old new =
     (i : ℕ) → r ≡ Some i → (length new.free.items + 1 ≡ length old.free.items) × (length new.done.items ≡ length old.done.items)
 
 -- an operation of this name is pending
-abbrev pub TellsPending : Option OpName → Shelf → Type 0
+abbrev pub TellsPending : Option OpName → Operations → Type 0
 TellsPending r x =
-    (op : OpName) → r ≡ Some op → (t : Moment) → Shelves [] x t → Lawful t → (s : Begun) × (pending (past t) op ≡ Some s)
+    (op : OpName) → r ≡ Some op → (t : Moment) → OperationsStand [] x t → Lawful t → (s : Begun) × (pending (past t) op ≡ Some s)
 
 -- where the operation stands among those that ended, or that it does not
-abbrev pub FindsEnded : Option ℕ → OpName → Shelf → Type 0
+abbrev pub FindsEnded : Option ℕ → OpName → Operations → Type 0
 FindsEnded r op x =
-    MatchOption r ((t : Moment) → Shelves [] x t → is_uncollected (past t) op ≡ false) (λ i. IsDoneAt x op i × ((t : Moment) → Shelves [] x t → is_uncollected (past t) op ≡ true))
+    MatchOption r ((t : Moment) → OperationsStand [] x t → is_uncollected (past t) op ≡ false) (λ i. IsDoneAt x op i × ((t : Moment) → OperationsStand [] x t → is_uncollected (past t) op ≡ true))
 
 -- an operation that is pending on the context, or that none is
-abbrev pub FindsOn : Option OpName → ℕ → Shelf → Type 0
+abbrev pub FindsOn : Option OpName → ℕ → Operations → Type 0
 FindsOn r c x =
-    (t : Moment) → Shelves [] x t → Lawful t → MatchOption r (is_pending_on (past t) c ≡ false) (λ op. (s : Begun) × (pending (past t) op ≡ Some s) × (s.ctx ≡ c))
+    (t : Moment) → OperationsStand [] x t → Lawful t → MatchOption r (is_pending_on (past t) c ≡ false) (λ op. (s : Begun) × (pending (past t) op ≡ Some s) × (s.ctx ≡ c))
 
 -- the operation was taken out, with what it came to
-abbrev pub TakesOut : Outcome → OpName → Shelf → Shelf → Type 0
+abbrev pub TakesOut : Outcome → OpName → Operations → Operations → Type 0
 TakesOut r op old new =
-    (t : Moment) (k : ℕ) → Lawful t → Shelves [] old t → Shelves [] new (also t (Took op k)) × ((e : Ended) × IsOutcomeOf e op (past t) r)
+    (t : Moment) (k : ℕ) → Lawful t → OperationsStand [] old t → OperationsStand [] new (also t (Took op k)) × ((e : Ended) × IsOutcomeOf e op (past t) r)
 
 -- ---- Pipes
 
 -- this is so of each moment for which the pipes stand, and of the pipe at this place
-abbrev pub WherePipe : {W : Type 0} → (W → WireView) → Lines W → ℕ → (Moment → ℕ → Type 0) → Type 0
-WherePipe shown l i fact = (t : Moment) (p : ℕ) → Lawful t → Carriers shown l t → IsPipeAt l i p → fact t p
+abbrev pub WherePipe : {W : Type 0} → (W → WireView) → Pipes W → ℕ → (Moment → ℕ → Type 0) → Type 0
+WherePipe shown l i fact = (t : Moment) (p : ℕ) → Lawful t → PipesStand shown l t → IsPipeAt l i p → fact t p
 
 -- the wire that was not used is that of a pipe that is up
-abbrev pub AddsPipe : {W : Type 0} → (W → WireView) → ℕ → W → Lines W → Lines W → Type 0
+abbrev pub AddsPipe : {W : Type 0} → (W → WireView) → ℕ → W → Pipes W → Pipes W → Type 0
 AddsPipe shown p w old new =
-    (t : Moment) (place : ℕ) → Lawful t → Carriers shown old t → p ≡ ups (past t) + 1 → IsUnused (shown w) → Carriers shown new (also t (Up p place (record { numbers = numbers_of (shown w).name })))
+    (t : Moment) (place : ℕ) → Lawful t → PipesStand shown old t → p ≡ ups (past t) + 1 → IsUnused (shown w) → PipesStand shown new (also t (Up p place (record { numbers = numbers_of (shown w).name })))
 
 -- the message was put on the pipe at this place
-abbrev pub PutsOut : {W : Type 0} → (W → WireView) → ℕ → MessageView → Lines W → Lines W → Type 0
+abbrev pub PutsOut : {W : Type 0} → (W → WireView) → ℕ → MessageView → Pipes W → Pipes W → Type 0
 PutsOut shown i m old new =
-    (t : Moment) (p : ℕ) (b : List ℕ) → Lawful t → Carriers shown old t → IsPipeAt old i p → wire_text m ≡ b → Carriers shown new (also t (Out p b))
+    (t : Moment) (p : ℕ) (b : List ℕ) → Lawful t → PipesStand shown old t → IsPipeAt old i p → wire_text m ≡ b → PipesStand shown new (also t (Out p b))
 
 -- the pipe at this place is the last of those that are down
-abbrev pub MovesDown : {W : Type 0} → ℕ → Why → Lines W → Lines W → Type 0
+abbrev pub MovesDown : {W : Type 0} → ℕ → Why → Pipes W → Pipes W → Type 0
 MovesDown {W = W} i why old new =
     (x : PipeType W) → x ≡ slice_index_or old.up.items i x → new.down.items ≡ old.down.items ++ record { id = x.id; why = why; wire = x.wire } ∷ []
 
 -- where the pipe stands among those that are up, or that it does not
-abbrev pub FindsPipe : {W : Type 0} → (W → WireView) → Option ℕ → ℕ → Lines W → Type 0
+abbrev pub FindsPipe : {W : Type 0} → (W → WireView) → Option ℕ → ℕ → Pipes W → Type 0
 FindsPipe shown r p x =
-    MatchOption r ((t : Moment) → Lawful t → Carriers shown x t → has (up (past t)) p ≡ false) (λ i. IsPipeAt x i p)
+    MatchOption r ((t : Moment) → Lawful t → PipesStand shown x t → has (up (past t)) p ≡ false) (λ i. IsPipeAt x i p)
 
 -- ---- Counts
 

@@ -2,7 +2,7 @@
 use Rattle.sp_base.specs.declared.OpName.{OpName}
 use Rattle.sp_core.specs.Flooding.{AnsweredAt, SpreadTo, Spreads}
 use Rattle.sp_core.specs.Immediate.{IsGiven}
-use Rattle.sp_core.specs.Lines.{IsPipeAt, IsReadyAt}
+use Rattle.sp_core.specs.Pipes.{IsPipeAt, IsReadyAt}
 use Rattle.sp_core.specs.Moving.{Later}
 use Rattle.sp_core.specs.Owning.{Owns}
 use Rattle.sp_core.specs.declared.owner.Core.{Core}
@@ -32,17 +32,17 @@ MaySend ties room shown op pipe old =
 -- the send may go out on the pipe at this place, which has room
 abbrev pub MaySendAt : {P W : Type 0} → (P → Moment → Type 0) → (P → ℕ) → (W → WireView) → OpName → ℕ → ℕ → Core P W → Type 0
 MaySendAt ties room shown op pipe i old =
-    (t : Moment) × (s : Begun) × (b : List ℕ) × Owns ties room shown [] old t × CanSend t op pipe s b × IsPipeAt old.lines i pipe × IsReadyAt shown old.lines i
+    (t : Moment) × (s : Begun) × (b : List ℕ) × Owns ties room shown [] old t × CanSend t op pipe s b × IsPipeAt old.pipes i pipe × IsReadyAt shown old.pipes i
 
 -- the request may go out again on the pipe at this place, which has room
 abbrev pub MaySendAgainAt : {P W : Type 0} → (P → Moment → Type 0) → (P → ℕ) → (W → WireView) → ℕ → ℕ → ℕ → Core P W → Type 0
 MaySendAgainAt ties room shown c pipe i old =
-    (t : Moment) × (r : Request) × Owns ties room shown [] old t × CanAgain t c pipe r × IsPipeAt old.lines i pipe × IsReadyAt shown old.lines i
+    (t : Moment) × (r : Request) × Owns ties room shown [] old t × CanAgain t c pipe r × IsPipeAt old.pipes i pipe × IsReadyAt shown old.pipes i
 
 -- the request went out again, or there was no memory for its copy
 abbrev pub SendsAgainAt : {P W : Type 0} → (P → Moment → Type 0) → (P → ℕ) → (W → WireView) → ℕ → ℕ → ℕ → Core P W → Core P W → Type 0
 SendsAgainAt ties room shown c pipe i old new =
-    (t : Moment) (r : Request) → Owns ties room shown [] old t → CanAgain t c pipe r → IsPipeAt old.lines i pipe → (u : Moment) × Later t u × Owns ties room shown [] new u
+    (t : Moment) (r : Request) → Owns ties room shown [] old t → CanAgain t c pipe r → IsPipeAt old.pipes i pipe → (u : Moment) × Later t u × Owns ties room shown [] new u
 
 -- this is the copy of the send for the pipe
 abbrev pub CopiesFor : {P : Type 0} → (P → Moment → Type 0) → MessageView → P → P → OpName → ℕ → Type 0
@@ -67,19 +67,19 @@ SpreadsAll ties room shown op old new =
 -- a copy is left for the pipe at this place
 abbrev pub MaySpreadAt : {P W : Type 0} → (P → Moment → Type 0) → (P → ℕ) → (W → WireView) → (P → OpName → ℕ) → OpName → ℕ → ℕ → Core P W → Type 0
 MaySpreadAt ties room shown copies op p i old =
-    (t : Moment) × (s : Begun) × (b : List ℕ) × Spreads ties room shown old t op s b × IsPipeAt old.lines i p × (0 < copies old.proto op)
+    (t : Moment) × (s : Begun) × (b : List ℕ) × Spreads ties room shown old t op s b × IsPipeAt old.pipes i p × (0 < copies old.proto op)
 
 -- the pipe at this place has answered, if the send may go there
 abbrev pub SpreadsAt : {P W : Type 0} → (P → Moment → Type 0) → (P → ℕ) → (W → WireView) → OpName → ℕ → ℕ → Core P W → Core P W → Type 0
 SpreadsAt ties room shown op p i old new =
-    (t : Moment) (s : Begun) (b : List ℕ) → Spreads ties room shown old t op s b → IsPipeAt old.lines i p → (u : Moment) × AnsweredAt t u s b p × Spreads ties room shown new u op s b
+    (t : Moment) (s : Begun) (b : List ℕ) → Spreads ties room shown old t op s b → IsPipeAt old.pipes i p → (u : Moment) × AnsweredAt t u s b p × Spreads ties room shown new u op s b
 
 -- the send may go to the pipe at this place, which has room
 abbrev pub MayPutCopy : {P W : Type 0} → (P → Moment → Type 0) → (P → ℕ) → (W → WireView) → (P → OpName → ℕ) → OpName → ℕ → ℕ → Core P W → Type 0
 MayPutCopy ties room shown copies op p i old =
-    (t : Moment) × (s : Begun) × (b : List ℕ) × Spreads ties room shown old t op s b × (has (targets t.z (past t) s) p ≡ true) × IsPipeAt old.lines i p × IsReadyAt shown old.lines i × (0 < copies old.proto op)
+    (t : Moment) × (s : Begun) × (b : List ℕ) × Spreads ties room shown old t op s b × (has (targets t.z (past t) s) p ≡ true) × IsPipeAt old.pipes i p × IsReadyAt shown old.pipes i × (0 < copies old.proto op)
 
 -- the copy was put on the pipe at this place
 abbrev pub PutsCopy : {P W : Type 0} → (P → Moment → Type 0) → (P → ℕ) → (W → WireView) → OpName → ℕ → ℕ → Core P W → Core P W → Type 0
 PutsCopy ties room shown op p i old new =
-    (t : Moment) (s : Begun) (b : List ℕ) → Spreads ties room shown old t op s b → has (targets t.z (past t) s) p ≡ true → IsPipeAt old.lines i p → (u : Moment) × AnsweredAt t u s b p × Spreads ties room shown new u op s b
+    (t : Moment) (s : Begun) (b : List ℕ) → Spreads ties room shown old t op s b → has (targets t.z (past t) s) p ≡ true → IsPipeAt old.pipes i p → (u : Moment) × AnsweredAt t u s b p × Spreads ties room shown new u op s b

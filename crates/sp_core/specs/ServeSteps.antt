@@ -1,13 +1,13 @@
 -- What bringing a pipe up and serving the pipes lead to, within a turn.
 use Rattle.sp_core.specs.Attaching.{MayAttach, RefusedAttach}
-use Rattle.sp_core.specs.Lines.{Carriers, IsPipeAt}
+use Rattle.sp_core.specs.Pipes.{PipesStand, IsPipeAt}
 use Rattle.sp_core.specs.Owning.{Owns}
 use Rattle.sp_core.specs.Serving.{FlushTold, GotTo, IsFresh, IsReady, IsUnpulled, PulledAll, SweptTo, VisitedTo}
 use Rattle.sp_core.specs.Wires.{numbers_of}
-use Rattle.sp_core.specs.declared.lines.Flushed.{Flushed}
-use Rattle.sp_core.specs.declared.lines.Lines.{Lines as LinesType}
+use Rattle.sp_core.specs.declared.pipes.Flushed.{Flushed}
+use Rattle.sp_core.specs.declared.pipes.Pipes.{Pipes as PipesType}
 use Rattle.sp_core.specs.declared.owner.Core.{Core}
-use Rattle.sp_core.specs.declared.pipes.AttachError.{AttachError}
+use Rattle.sp_core.specs.declared.attach.AttachError.{AttachError}
 use Rattle.sp_core.specs.declared.serve.Got.{Got}
 use Rattle.sp_core.specs.declared.serve.Visit.{Visit}
 use Rattle.sp_history.specs.Kept.{wanted}
@@ -31,52 +31,52 @@ TellsMayAttach ties room shown r x =
 -- there are numbers left for a pipe that may come up
 abbrev pub LeavesNumbers : {P W : Type 0} → Option AttachError → Core P W → Type 0
 LeavesNumbers r x =
-    r ≡ None → (length x.lines.up.items + length x.lines.down.items < 4096) × (x.tally.ups < 2 ^ 31 - 1)
+    r ≡ None → (length x.pipes.up.items + length x.pipes.down.items < 4096) × (x.tally.ups < 2 ^ 31 - 1)
 
 -- the pipe at this place was flushed
 abbrev pub FlushesPipe : {P W : Type 0} → (P → Moment → Type 0) → (P → ℕ) → (W → WireView) → Flushed → ℕ → ℕ → Core P W → Core P W → Type 0
 FlushesPipe ties room shown r i p old new =
-    (t : Moment) → Owns ties room shown [] old t → IsPipeAt old.lines i p → (u : Moment) × FlushTold r p t u × Owns ties room shown [] new u
+    (t : Moment) → Owns ties room shown [] old t → IsPipeAt old.pipes i p → (u : Moment) × FlushTold r p t u × Owns ties room shown [] new u
 
 -- this frame of the pipe at this place was pulled, and is not recorded
 abbrev pub MayTakeFrame : {P W : Type 0} → (P → Moment → Type 0) → (P → ℕ) → (W → WireView) → ℕ → ℕ → MessageView → Core P W → Type 0
 MayTakeFrame {W = W} ties room shown i p m old =
-    (l : LinesType W) × (t : Moment) × Owns ties room shown [] (record old { lines = l }) t × (m.header ≡ []) × Carriers shown old.lines (also t (Frame p m.body)) × IsPipeAt old.lines i p × (wanted t.z (past t) p ≡ true)
+    (l : PipesType W) × (t : Moment) × Owns ties room shown [] (record old { pipes = l }) t × (m.header ≡ []) × PipesStand shown old.pipes (also t (Frame p m.body)) × IsPipeAt old.pipes i p × (wanted t.z (past t) p ≡ true)
 
 -- the frame is recorded and what came of it
 abbrev pub TakesFrame : {P W : Type 0} → (P → Moment → Type 0) → (P → ℕ) → (W → WireView) → Got → ℕ → ℕ → MessageView → Core P W → Core P W → Type 0
 TakesFrame {W = W} ties room shown r i p m old new =
-    (l : LinesType W) (t : Moment) → Owns ties room shown [] (record old { lines = l }) t → Carriers shown old.lines (also t (Frame p m.body)) → IsPipeAt old.lines i p → wanted t.z (past t) p ≡ true → (u : Moment) × GotTo r p t u × Owns ties room shown [] new u
+    (l : PipesType W) (t : Moment) → Owns ties room shown [] (record old { pipes = l }) t → PipesStand shown old.pipes (also t (Frame p m.body)) → IsPipeAt old.pipes i p → wanted t.z (past t) p ≡ true → (u : Moment) × GotTo r p t u × Owns ties room shown [] new u
 
 -- frames of the pipe at this place are wanted
 abbrev pub MayPull : {P W : Type 0} → (P → Moment → Type 0) → (P → ℕ) → (W → WireView) → ℕ → ℕ → Core P W → Type 0
 MayPull ties room shown i p old =
-    (t : Moment) × Owns ties room shown [] old t × IsPipeAt old.lines i p × (wanted t.z (past t) p ≡ true)
+    (t : Moment) × Owns ties room shown [] old t × IsPipeAt old.pipes i p × (wanted t.z (past t) p ≡ true)
 
 -- the pipe at this place was pulled from once
 abbrev pub PullsOnce : {P W : Type 0} → (P → Moment → Type 0) → (P → ℕ) → (W → WireView) → Got → ℕ → ℕ → Core P W → Core P W → Type 0
 PullsOnce ties room shown r i p old new =
-    (t : Moment) → Owns ties room shown [] old t → IsPipeAt old.lines i p → wanted t.z (past t) p ≡ true → (u : Moment) × GotTo r p t u × Owns ties room shown [] new u
+    (t : Moment) → Owns ties room shown [] old t → IsPipeAt old.pipes i p → wanted t.z (past t) p ≡ true → (u : Moment) × GotTo r p t u × Owns ties room shown [] new u
 
 -- the pipe at this place was not pulled from in this turn
 abbrev pub MayPullAll : {P W : Type 0} → (P → Moment → Type 0) → (P → ℕ) → (W → WireView) → ℕ → ℕ → Core P W → Type 0
 MayPullAll ties room shown i p old =
-    (t : Moment) × Owns ties room shown [] old t × IsPipeAt old.lines i p × IsUnpulled t p × IsReady t p
+    (t : Moment) × Owns ties room shown [] old t × IsPipeAt old.pipes i p × IsUnpulled t p × IsReady t p
 
 -- the pipe at this place was pulled from until it was served
 abbrev pub PullsPipe : {P W : Type 0} → (P → Moment → Type 0) → (P → ℕ) → (W → WireView) → Bool → ℕ → ℕ → Core P W → Core P W → Type 0
 PullsPipe ties room shown r i p old new =
-    (t : Moment) → Owns ties room shown [] old t → IsPipeAt old.lines i p → IsUnpulled t p → IsReady t p → (u : Moment) × PulledAll r p t u × Owns ties room shown [] new u
+    (t : Moment) → Owns ties room shown [] old t → IsPipeAt old.pipes i p → IsUnpulled t p → IsReady t p → (u : Moment) × PulledAll r p t u × Owns ties room shown [] new u
 
 -- nothing of this turn concerns the pipe at this place
 abbrev pub MayServe : {P W : Type 0} → (P → Moment → Type 0) → (P → ℕ) → (W → WireView) → ℕ → Core P W → Type 0
 MayServe ties room shown i old =
-    (t : Moment) × (p : ℕ) × Owns ties room shown [] old t × IsPipeAt old.lines i p × IsFresh t p
+    (t : Moment) × (p : ℕ) × Owns ties room shown [] old t × IsPipeAt old.pipes i p × IsFresh t p
 
 -- the pipe at this place was flushed and served
 abbrev pub ServesPipe : {P W : Type 0} → (P → Moment → Type 0) → (P → ℕ) → (W → WireView) → Visit → ℕ → Core P W → Core P W → Type 0
 ServesPipe ties room shown r i old new =
-    (t : Moment) (p : ℕ) → Owns ties room shown [] old t → IsPipeAt old.lines i p → IsFresh t p → (u : Moment) × VisitedTo r p t u × Owns ties room shown [] new u
+    (t : Moment) (p : ℕ) → Owns ties room shown [] old t → IsPipeAt old.pipes i p → IsFresh t p → (u : Moment) × VisitedTo r p t u × Owns ties room shown [] new u
 
 -- every pipe was flushed and served
 abbrev pub ServesAll : {P W : Type 0} → (P → Moment → Type 0) → (P → ℕ) → (W → WireView) → ℕ → Core P W → Core P W → Type 0

@@ -25,7 +25,7 @@ use turn_lock::Stands;
 /// Why nothing was received at once, the first cause that stands.
 #[derive(Clone, Copy, PartialEq, Eq, Debug)]
 pub enum NowError {
-    /// As no receive begins. Never for want of memory.
+    /// As no receive begins. Never for being out of memory.
     Begin(BeginError),
     /// Nothing is kept for the context.
     Again,
@@ -114,7 +114,7 @@ impl<P: Proto, W: Wire> Core<P, W> {
             return Err(NowError::Begin(BeginError::Busy));
         };
         if !self.proto.keeps(c) {
-            self.shelf.put_back(op.slot);
+            self.operations.put_back(op.slot);
             return Err(NowError::Again);
         }
         Ok(op)

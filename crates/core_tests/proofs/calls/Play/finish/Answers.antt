@@ -14,5 +14,5 @@ into_wires-requires g c =
 pub close-requires : goal.close-requires
 close-requires g c =
     let p = c.requires in
-    let w : c.join.new.self.desk.words.callers ≡ c.args.self.core.desk.words.callers = ap (λ (n : Named). n.callers) (same_words g.P.Proto.kind c.args.self.core c.join.new.self c.join.ensures.label) in
+    let w : c.join.new.self.op_words.words.callers ≡ c.args.self.core.op_words.words.callers = ap (λ (n : Named). n.callers) (same_words g.P.Proto.kind c.args.self.core c.join.new.self c.join.ensures.label) in
     record { turn = ((p.history, c.join.ensures.stands p.history p.stands), (omega arith, omega (arith, w, p.has_caller))) }

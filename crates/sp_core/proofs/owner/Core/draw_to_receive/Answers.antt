@@ -26,7 +26,7 @@ returns-then-not-keeps-clause-drawn g c =
     λ t h.
     let can = c.in_default.ensures t acts.Recv h refl in
     let d = c.in-Some.ensures.drawn t h in (
-      goes_back g.P.Proto.ties g.P.Proto.room g.W.Wire.shown c.draw.new.self c.put_back.new.self c.in-Some.op.slot t d.0 (c.put_back.ensures.back t d.0.shelf) c.put_back.ensures.lengths,
+      goes_back g.P.Proto.ties g.P.Proto.room g.W.Wire.shown c.draw.new.self c.put_back.new.self c.in-Some.op.slot t d.0 (c.put_back.ensures.back t d.0.operations) c.put_back.ensures.lengths,
       (can.open_, (can.supported, can.ctx_open, can.no_state), slot_left t c.in-Some.op d.1, nothing _ c.keeps.result (c.keeps.ensures t d.0.lawful d.0.proto can.role_does can.ctx_open) c.if-not-keeps.true),
     )
 

@@ -14,6 +14,6 @@ invariant-loop g l =
       finite : (goal.iterator-loop g).is_finite l.iterator';
       standing : (t : Moment) × Owns g.P.Proto.ties g.P.Proto.room g.W.Wire.shown [] l.self t × IsSettled t;
       reached : (t : Moment) → Owns g.P.Proto.ties g.P.Proto.room g.W.Wire.shown [] l.fn.self t → IsSettled t → (u : Moment) × LostTo l.fn.c t u × Owns g.P.Proto.ties g.P.Proto.room g.W.Wire.shown [] l.self u × IsSettled u;
-      words : l.self.desk.words ≡ l.fn.self.desk.words;
+      words : l.self.op_words.words ≡ l.fn.self.op_words.words;
       reads : Grows (reads_of l.fn.self) (reads_of l.self);
     }

@@ -1,0 +1,21 @@
+//! Tests of cores over the machines of each role and wires in memory, with exact answers, totals and bytes.
+#![tactic(auto)]
+
+#[cfg(test)]
+mod calls;
+#[cfg(test)]
+mod checks;
+#[cfg(test)]
+mod closing;
+#[cfg(test)]
+mod floods;
+#[cfg(test)]
+mod pairs;
+#[cfg(test)]
+mod replies;
+#[cfg(test)]
+mod requests;
+#[cfg(test)]
+mod subs;
+#[cfg(test)]
+mod surveys;

@@ -1,0 +1,21 @@
+use Rattle.std.proofs.Common.{◌≡◌, ap, sym, subst, List, [], ℕ, true, length}
+use Rattle.sp_history.specs.declared.entry.Entry.{Entry}
+use Rattle.sp_history.specs.Past.{pend, uncollected, begins, timers}
+use Rattle.sp_history.specs.Legal.{is_free}
+use Rattle.sp_history.specs.Moments.{Moment, past}
+use Rattle.sp_core.specs.declared.operations.Operations.{Operations}
+use Rattle.sp_core.specs.OperationsStand.{Holds}
+use Rattle.sp_core.proofs.OperationSteps.{every_slot, made}
+use Rattle.sp_core.proofs.operations.Operations.with_slots.Goals as goal
+
+at_start : (s : Operations) (slots : ℕ) (t : Moment) → past t ≡ [] → t.z.slots ≡ slots → Holds [] s slots [] [] [] (λ i. true) (λ i. 0) → Holds [] s t.z.slots (pend (past t)) (uncollected (past t)) (timers (past t)) (is_free (past t)) (begins (past t))
+at_start s slots t none n h =
+    subst (λ (before : List Entry). Holds [] s t.z.slots (pend before) (uncollected before) (timers before) (is_free before) (begins before)) (sym none) (subst (λ (k : ℕ). Holds [] s k [] [] [] (λ i. true) (λ i. 0)) (sym n) h)
+
+pub returns-clause-holds : goal.returns-clause-holds
+returns-clause-holds c =
+    λ t none n.
+    at_start _ c.args.slots t none n (made _ c.args.slots c.in_ok-with_capacity.ensures.items c.in_ok-with_capacity-2.ensures.items c.in_ok-new.ensures (every_slot c.args.slots _ c.in_ok-all_slots.ensures.slots) c.in_ok-with_capacity.ensures.capacity c.in_ok-with_capacity-2.ensures.capacity c.in_ok-all_slots.ensures.room)
+
+pub returns-clause-all : goal.returns-clause-all
+returns-clause-all c = ((every_slot c.args.slots _ c.in_ok-all_slots.ensures.slots).count, ap length c.in_ok-with_capacity-2.ensures.items)

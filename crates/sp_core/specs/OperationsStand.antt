@@ -1,0 +1,69 @@
+-- The lists of operations go with a history.
+use Rattle.std.specs.Prelude.{◌≡◌, ◌⊎◌, ℕ, zero, suc, ◌+◌, ◌-◌, ◌^◌, ◌<◌, ◌≤◌, Bool, true, false, if◌then◌else◌, List, [], ◌∷◌, map, length, vec_capacity}
+use Rattle.std.specs.List.{All}
+use Rattle.std.specs.VecDeque.{deque_capacity}
+use Rattle.aio_expire.specs.declared.deadlines.Deadline.{Deadline}
+use Rattle.sp_history.specs.declared.parts.Begun.{Begun}
+use Rattle.sp_history.specs.declared.parts.Ended.{Ended}
+use Rattle.sp_history.specs.declared.parts.Timer.{Timer}
+use Rattle.sp_base.specs.declared.OpName.{OpName}
+use Rattle.sp_history.specs.Lists.{has, same_op}
+use Rattle.sp_history.specs.declared.entry.Entry.{Entry}
+use Rattle.sp_history.specs.declared.setting.Setting.{Setting}
+use Rattle.sp_history.specs.Past.{pend, uncollected, begins, timers, by_deadline}
+use Rattle.sp_history.specs.Legal.{is_free}
+use Rattle.sp_history.specs.Moments.{Moment, past}
+use Rattle.sp_core.specs.declared.operations.Operations.{Operations}
+use Rattle.sp_core.specs.declared.operations.Pending.{Pending}
+use Rattle.sp_core.specs.Ends.{done_of}
+
+-- none stands there twice
+abbrev pub Apart : List ℕ → Type 0
+Apart [] = Unit {0}
+Apart (x ∷ xs) = (has xs x ≡ false) × Apart xs
+
+abbrev pub pending_of : Begun → Pending
+pending_of s = record { op = s.op; ctx = s.ctx }
+
+abbrev pub deadline_of : Timer → Deadline
+deadline_of d = record { at = d.due; op = d.op }
+
+-- the deadlines that are left, in order
+abbrev pub deadlines_of : List Timer → List Deadline
+deadlines_of ds = map deadline_of (by_deadline ds)
+
+-- the slot's generations are used up
+abbrev pub IsWornOut : ℕ → Type 0
+IsWornOut generation = generation ≡ 2 ^ 40 - 1
+
+-- how often the operation stands in the list
+abbrev pub count_of : OpName → List Pending → ℕ
+count_of op [] = 0
+count_of op (x ∷ xs) = if same_op x.op op then count_of op xs + 1 else count_of op xs
+
+-- The lists show these pending operations, the oldest first, and these that ended and were not collected. A slot that
+-- is free by the history is on the list of free ones, is drawn, or is worn
+pub record Holds (drawn : List ℕ) (s : Operations) (slots : ℕ) (ss : List Begun) (es : List Ended) (ds : List Timer) (free : ℕ → Bool) (gens : ℕ → ℕ) : Type 0 where
+  pub pending_is : s.pending.items ≡ map pending_of ss
+  pub done_is : s.done.items ≡ map done_of es
+  pub deadlines_are : s.deadlines ≡ record { slots = slots; entries = deadlines_of ds }
+  pub free_is : All (λ i. (i < slots) × (free i ≡ true)) s.free.items
+  pub drawn_is : All (λ i. (i < slots) × (free i ≡ true) × (has s.free.items i ≡ false)) drawn
+  pub free_apart : Apart s.free.items
+  pub every : (i : ℕ) → i < slots → free i ≡ true → (has s.free.items i ≡ true) ⊎ (has drawn i ≡ true) ⊎ IsWornOut (gens i)
+  pub fits : length drawn + length s.free.items + length s.pending.items + length s.done.items ≤ slots
+  pub pending_room : slots ≤ deque_capacity s.pending
+  pub done_room : slots ≤ deque_capacity s.done
+  pub free_room : slots ≤ vec_capacity s.free
+
+abbrev pub OperationsStand : List ℕ → Operations → Moment → Type 0
+OperationsStand drawn s t = Holds drawn s t.z.slots (pend (past t)) (uncollected (past t)) (timers (past t)) (is_free (past t)) (begins (past t))
+
+-- every slot that isn't worn has an operation that was not collected
+abbrev pub AllTaken : Setting → List Entry → Type 0
+AllTaken z past = (i : ℕ) → i < z.slots → (is_free past i ≡ false) ⊎ IsWornOut (begins past i)
+
+-- the numbers below n, each once, the greatest first
+abbrev pub AreAllSlots : ℕ → List ℕ → Type 0
+AreAllSlots zero xs = xs ≡ []
+AreAllSlots (suc n) xs = (rest : List ℕ) × (xs ≡ n ∷ rest) × AreAllSlots n rest

@@ -1,0 +1,195 @@
+//! The calls of the pipes: a wire becomes a pipe, a link is met or given back, and the wire of a pipe that went down is
+//! taken.
+ghost use Rattle.std.specs.Prelude.{◌≡◌, ◌≢◌, [], true, false, IsTrue, IfErr};
+ghost use Rattle.sp_history.specs.declared.entry.Entry.TheVariants.{Met, NoUp};
+ghost use Rattle.sp_history.specs.Setting.{is_pair};
+ghost use Rattle.sp_history.specs.Past.{up};
+ghost use Rattle.sp_history.specs.Moments.{Moment, past};
+ghost use Rattle.sp_proto.specs.Machines.{NoFlood};
+ghost use Rattle.sp_core.specs.Wires.{IsUnused};
+ghost use Rattle.sp_core.specs.Errors.{attach_number};
+ghost use Rattle.sp_core.specs.Owning.{Owns};
+ghost use Rattle.sp_core.specs.Standing.{HasFirst, core_setting};
+ghost use Rattle.sp_core.specs.Attaching.{NotesLink, TookWire};
+ghost use Rattle.sp_core.specs.ServeSteps.{BringsUp, TellsMayAttach, LeavesNumbers};
+ghost use Rattle.turn_lock.specs.Turning.{TakesTurn};
+ghost use Rattle.sp_core.specs.CallSays.{MayTakeTurn, AttachesWire};
+ghost use Rattle.sp_core.specs.Cores.{words_of};
+
+use crate::owner::Core;
+use crate::pipes::DownPipe;
+use sp_base::{PipeId, Role, SpError};
+use sp_history::entry::{Miss, Why};
+use sp_msg::Wire;
+use sp_proto::Proto;
+use std::sync::Wait;
+use turn_lock::Stands;
+
+// The most pipes that are up, or down with a wire that was not taken.
+const MOST_PIPES: usize = 4_096;
+
+// The greatest number of a pipe.
+const LAST_NUMBER: u32 = 2_147_483_647;
+
+/// Why a wire became no pipe, the first cause that stands.
+#[derive(Clone, Copy, PartialEq, Eq, Debug)]
+pub enum AttachError {
+    /// The socket is closed.
+    Closed,
+    /// The role has one pipe at a time, and one is up.
+    Refused,
+    /// 4,096 pipes are up or wait to be taken, or 2^31 - 1 came up.
+    Many,
+    /// Out of memory.
+    NoMemory,
+}
+
+impl From<AttachError> for SpError {
+    ghost from_gives = { λ why r. r ≡ attach_number why };
+
+    fn from(why: AttachError) -> SpError {
+        match why {
+            AttachError::Closed => SpError::Closed,
+            AttachError::Refused | AttachError::Many => SpError::Busy,
+            AttachError::NoMemory => SpError::NoMemory,
+        }
+    }
+}
+
+/// A pipe that went down, with its wire.
+#[derive(Drop)]
+pub struct Gone<W> {
+    /// Its number.
+    pub pipe: PipeId,
+    /// Why it went down.
+    pub why: Why,
+    /// Its wire, as the core left it.
+    pub wire: W,
+}
+
+impl<P: Proto, W: Wire> Core<P, W> {
+    /// The wire, which was not used yet, becomes a pipe over the link with this place; returns its number, one more than
+    /// the pipes that came up before. Takes all memory that the pipe needs until its wire is taken. Refused by the first
+    /// cause of `AttachError` that stands; then the wire comes back as it was.
+    pub fn attach<R: Wait>(
+        &mut self,
+        rt: &R,
+        k: u32,
+        w: W,
+        place: u32,
+    ) -> Result<PipeId, (AttachError, W)>
+        requires turn { MayTakeTurn ⟦<Core<P, W> as Stands>⟧.stands self.old k }
+        requires unused { IsUnused (W.shown w) }
+        ensures turn { TakesTurn ⟦<Core<P, W> as Stands>⟧.stands self.old self.new k (AttachesWire P.kind W.shown result w place self.old) }
+        ensures label { ⟦<Core<P, W> as Stands>⟧.label self.new ≡ ⟦<Core<P, W> as Stands>⟧.label self.old }
+        ensures handed_back { IfErr result (λ e. e.1 ≡ w) }
+    {
+        self.begin_turn();
+        let answer = self.bring_up(w);
+        self.settle(rt);
+        answer
+    }
+
+    /// The net handed out the link with this place. Also after the close. Takes no memory.
+    pub fn met<R: Wait>(&mut self, rt: &R, k: u32, place: u32)
+        requires turn { MayTakeTurn ⟦<Core<P, W> as Stands>⟧.stands self.old k }
+        ensures turn { TakesTurn ⟦<Core<P, W> as Stands>⟧.stands self.old self.new k (λ h t. HasFirst (Met place) t) }
+        ensures label { ⟦<Core<P, W> as Stands>⟧.label self.new ≡ ⟦<Core<P, W> as Stands>⟧.label self.old }
+    {
+        self.note_link(rt, k);
+    }
+
+    /// The link with this place was given back without having become a pipe. Also after the close. Takes no memory.
+    pub fn missed<R: Wait>(&mut self, rt: &R, k: u32, place: u32, miss: Miss)
+        requires turn { MayTakeTurn ⟦<Core<P, W> as Stands>⟧.stands self.old k }
+        ensures turn { TakesTurn ⟦<Core<P, W> as Stands>⟧.stands self.old self.new k (λ h t. HasFirst (NoUp place miss) t) }
+        ensures label { ⟦<Core<P, W> as Stands>⟧.label self.new ≡ ⟦<Core<P, W> as Stands>⟧.label self.old }
+    {
+        self.note_link(rt, k);
+    }
+
+    // The turn in which a link was met or given back. The core keeps nothing of it.
+    fn note_link<R: Wait>(&mut self, rt: &R, k: u32)
+        requires turn { MayTakeTurn ⟦<Core<P, W> as Stands>⟧.stands self.old k }
+        ensures turn { NotesLink ⟦<Core<P, W> as Stands>⟧.stands self.old self.new k }
+        ensures label { ⟦<Core<P, W> as Stands>⟧.label self.new ≡ ⟦<Core<P, W> as Stands>⟧.label self.old }
+    {
+        self.begin_turn();
+        self.settle(rt);
+    }
+
+    /// Takes the wire of the pipe that went down first of those that were not taken; none where there is none. Also
+    /// after the close. Takes no memory.
+    pub fn take_ended<R: Wait>(&mut self, rt: &R, k: u32) -> Option<Gone<W>>
+        requires turn { MayTakeTurn ⟦<Core<P, W> as Stands>⟧.stands self.old k }
+        ensures turn { TakesTurn ⟦<Core<P, W> as Stands>⟧.stands self.old self.new k (TookWire W.shown result (core_setting P.kind self.old)) }
+        ensures label { ⟦<Core<P, W> as Stands>⟧.label self.new ≡ ⟦<Core<P, W> as Stands>⟧.label self.old }
+    {
+        self.begin_turn();
+        let taken = self.pipes.take_first();
+        self.settle(rt);
+        let Some(DownPipe { id, why, wire }) = taken else {
+            return None;
+        };
+        Some(Gone {
+            pipe: id,
+            why,
+            wire,
+        })
+    }
+
+    // The wire becomes a pipe, if it can, with all memory that this needs, while no send to many pipes is pending.
+    fn bring_up(&mut self, w: W) -> Result<PipeId, (AttachError, W)>
+        requires owns { (t : Moment) × Owns P.ties P.room W.shown [] self.old t × NoFlood t }
+        requires unused { IsUnused (W.shown w) }
+        ensures up { BringsUp P.ties P.room W.shown result w self.old self.new }
+        ensures words { words_of self.new ≡ words_of self.old }
+        ensures handed_back { IfErr result (λ e. e.1 ≡ w) }
+    {
+        if let Some(e) = self.why_not() {
+            return Err((e, w));
+        }
+        if self.pipes.make_room().is_err() {
+            return Err((AttachError::NoMemory, w));
+        }
+        let p = PipeId(self.tally.ups + 1);
+        if self.proto.up(p).is_err() {
+            return Err((AttachError::NoMemory, w));
+        }
+        self.pipes.add(p, w);
+        self.tally.up();
+        Ok(p)
+    }
+
+    // Why no pipe may come up, other than being out of memory.
+    fn why_not(&self) -> Option<AttachError>
+        requires { (t : Moment) × Owns P.ties P.room W.shown [] self.now t }
+        ensures told { TellsMayAttach P.ties P.room W.shown result self.now }
+        ensures room { LeavesNumbers result self.now }
+    {
+        if self.closed {
+            return Some(AttachError::Closed);
+        }
+        if self.has_its_one() {
+            return Some(AttachError::Refused);
+        }
+        if self.pipes.up.len() + self.pipes.down.len() >= MOST_PIPES {
+            return Some(AttachError::Many);
+        }
+        if self.tally.ups >= LAST_NUMBER {
+            return Some(AttachError::Many);
+        }
+        None
+    }
+
+    // Whether the role has one pipe at a time, and one is up.
+    fn has_its_one(&self) -> bool
+        ensures one { result ≡ true → (t : Moment) → Owns P.ties P.room W.shown [] self.now t → IsTrue (is_pair t.z.role) × (up (past t) ≢ []) }
+        ensures none { result ≡ false → (t : Moment) → Owns P.ties P.room W.shown [] self.now t → IsTrue (is_pair t.z.role) → up (past t) ≡ [] }
+    {
+        match self.proto.role() {
+            Role::Pair0 => !self.pipes.up.is_empty(),
+            _ => false,
+        }
+    }
+}
