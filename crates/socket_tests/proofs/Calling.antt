@@ -54,11 +54,11 @@ pub list_made : (s : SocketName) (l : ListView) (z : Setting) → l ≡ new_list
 list_made s l z is slots callers =
     subst (IsListOf s) (sym is) (record { lock = refl; callers = callers; own = each_mapped (IsOf s) (new_pass s z) (λ n. (refl, (z, refl, slots, callers))) _ })
 
-each_front : {A : Type 0} (P : A → Type 0) (xs : List A) (x : A) → Each P (xs ++ x ∷ []) → Each P xs × P x
+pub each_front : {A : Type 0} (P : A → Type 0) (xs : List A) (x : A) → Each P (xs ++ x ∷ []) → Each P xs × P x
 each_front P [] x h = (tt, h.0)
 each_front P (y ∷ xs) x h = let r = each_front P xs x h.1 in ((h.0, r.0), r.1)
 
-each_more : {A : Type 0} (P : A → Type 0) (xs : List A) (x : A) → Each P xs → P x → Each P (xs ++ x ∷ [])
+pub each_more : {A : Type 0} (P : A → Type 0) (xs : List A) (x : A) → Each P xs → P x → Each P (xs ++ x ∷ [])
 each_more P [] x h p = (p, tt)
 each_more P (y ∷ xs) x h p = (h.0, each_more P xs x h.1 p)
 

@@ -290,7 +290,7 @@ fn collect_all<P: Proto, W: Wire, R: Wait + Abort>(
     unreachable!()
 }
 
-/// Closes the socket, collects all that the caller keeps, and gives its pass back. Answers the totals.
+/// Closes the socket, collects all that the caller keeps, and gives its pass back. Returns the totals.
 pub fn give_back<P: Proto, W: Wire, R: Wait + Abort>(
     rt: &R,
     socket: &Socket<P, W>,
@@ -311,7 +311,7 @@ pub fn give_back<P: Proto, W: Wire, R: Wait + Abort>(
     totals
 }
 
-/// Ends the socket; answers its wires, the last one first.
+/// Ends the socket; returns its wires, the last one first.
 pub fn finish<P: Proto, W: Wire + Drop, R: Wait + Abort>(
     rt: &R,
     alloc: Global,

@@ -5,8 +5,16 @@
 #[cfg(test)]
 mod callers;
 #[cfg(test)]
+mod held;
+#[cfg(test)]
+mod marks;
+#[cfg(test)]
 mod one;
 #[cfg(test)]
 mod parts;
 #[cfg(test)]
 mod tests;
+#[cfg(test)]
+mod threads;
+#[cfg(test)]
+mod workers;

@@ -10,7 +10,7 @@ use std::alloc::Global;
 use std::process::Abort;
 use std::sync::Wait;
 
-/// Receives one message from the wire, on a pull socket with one caller. Answers what the receive came to, and the wires
+/// Receives one message from the wire, on a pull socket with one caller. Returns what the receive came to, and the wires
 /// that are left.
 pub fn receive_one<W: Wire + Drop, R: Wait + Abort>(
     rt: &R,

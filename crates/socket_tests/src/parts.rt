@@ -16,6 +16,7 @@ use std::alloc::Global;
 use std::process::Abort;
 use std::sync::Wait;
 
+/// The machine of a pull; it aborts when out of memory.
 pub fn pull(rt: &impl Abort, alloc: Global) -> Pull
     ensures { (k : Kind) × Starts PullTies result k }
 {
@@ -25,6 +26,7 @@ pub fn pull(rt: &impl Abort, alloc: Global) -> Pull
     }
 }
 
+/// The machine of a push; it aborts when out of memory.
 pub fn push(rt: &impl Abort, alloc: Global) -> Push
     ensures { (k : Kind) × Starts PushTies result k }
 {
@@ -34,7 +36,7 @@ pub fn push(rt: &impl Abort, alloc: Global) -> Push
     }
 }
 
-// One step more.
+/// Puts the step last; it aborts when out of memory.
 pub fn add(rt: &impl Abort, script: &mut Vec<WireStep>, step: WireStep) {
     if script.push(step).is_err() {
         panic!(rt; "no memory for a script")

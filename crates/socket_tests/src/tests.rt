@@ -6,12 +6,12 @@ use crate::parts::{
 };
 use aio_word::Phase;
 use proto_pipeline::{Pull, Push};
-use sp_base::{Ctx, OpName, SpError, Tick};
+use sp_base::{Ctx, OpName, PipeId, SpError, Tick};
 use sp_fakes::MemWire;
 use sp_msg::Message;
 use sp_socket::{
-    BeginError, Cause, Config, CtxError, Miss, NowError, Outcome, Polled, Raced, Ticked,
-    TopicError, open,
+    AttachError, BeginError, Cause, Config, CtxError, Miss, NowError, Outcome, Polled, Raced,
+    Ticked, TopicError, open,
 };
 use std::alloc::Global;
 use std::process::Abort;
@@ -108,6 +108,14 @@ fn a_tick_loses_what_was_cancelled(rt: HostRuntime) {
     finish(&rt, alloc, socket, list);
 }
 
+// The number of the error, 0 where the wire became a pipe.
+fn attach_code(answer: Result<PipeId, (AttachError, MemWire)>) -> u32 {
+    match answer {
+        Ok(_) => 0,
+        Err((e, _wire)) => SpError::from(e).code(),
+    }
+}
+
 #[test]
 fn close_ends_what_is_pending_once(rt: HostRuntime) {
     let alloc = rt.alloc();
@@ -121,10 +129,9 @@ fn close_ends_what_is_pending_once(rt: HostRuntime) {
     assert!(rt; is_gone(first.collect(&rt, &socket), Cause::Closed, 0));
     assert!(rt; is_gone(first.collect(&rt, &socket), Cause::Closed, 0));
     assert!(rt; is_gone(first.collect(&rt, &socket), Cause::Closed, 0));
-    assert!(rt;
-        second
-            .attach(&rt, &socket, counting(&rt, alloc, 0))
-            .is_err()
+    assert_eq!(rt;
+        attach_code(second.attach(&rt, &socket, counting(&rt, alloc, 0))),
+        7
     );
     assert_eq!(rt; first.close(&rt, &socket), totals(3, 0, 3, 0));
     assert!(rt; second.take_ended(&rt, &socket).is_some());

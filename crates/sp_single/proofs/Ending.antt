@@ -13,7 +13,7 @@ use Rattle.sp_history.specs.declared.entry.Entry.{Entry}
 use Rattle.sp_history.specs.declared.setting.Setting.{Setting}
 use Rattle.sp_history.specs.Past.{past_of, ends, is_closed}
 use Rattle.sp_core.specs.declared.label.CoreLabel.{CoreLabel}
-use Rattle.sp_core.specs.declared.lines.Fallen.{Fallen}
+use Rattle.sp_core.specs.declared.pipes.DownPipe.{DownPipe}
 use Rattle.sp_core.specs.Ends.{decided}
 use Rattle.sp_core.specs.Parts.{HasWires}
 use Rattle.sp_socket.specs.Passes.{SocketName, PassView, ListView, IsOf, new_pass, new_list}
@@ -86,7 +86,7 @@ wins_no_cancel z h p one l number wins has op by s =
     not_expired : phase.Cancelled ≡ phase.Expired → ⊥
     not_expired e = search (e, rules)
 
-pub finished : {W : Type 0} (shown : W → WireView) (s : SocketName) (l : ListView) (p : PassView) (v : SingleView) (h : List (Turn Entry)) (ws : List (Fallen W)) (label : CoreLabel) (ps : List PassView) → single_of p ≡ v → IsSingle s l p → ps ≡ l.items ++ p ∷ [] → IsRecord label h ps → HasWires shown ws label.setting (past_of h) → FinishedAs shown v ws h
+pub finished : {W : Type 0} (shown : W → WireView) (s : SocketName) (l : ListView) (p : PassView) (v : SingleView) (h : List (Turn Entry)) (ws : List (DownPipe W)) (label : CoreLabel) (ps : List PassView) → single_of p ≡ v → IsSingle s l p → ps ≡ l.items ++ p ∷ [] → IsRecord label h ps → HasWires shown ws label.setting (past_of h) → FinishedAs shown v ws h
 finished shown s l p v h ws label ps e i items r w =
     let ps_is : ps ≡ p ∷ [] = items ∙ ap (λ (x : List PassView). x ++ p ∷ []) i.out in
     let fits = (subst (Each (FitsIn h label)) ps_is r.passes).0 in

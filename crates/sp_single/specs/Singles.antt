@@ -15,7 +15,7 @@ use Rattle.sp_history.specs.declared.parts.Begun.{Begun}
 use Rattle.sp_history.specs.Legal.{Legal}
 use Rattle.sp_history.specs.Settled.{Settled}
 use Rattle.sp_core.specs.declared.label.CoreLabel.{CoreLabel}
-use Rattle.sp_core.specs.declared.lines.Fallen.{Fallen}
+use Rattle.sp_core.specs.declared.pipes.DownPipe.{DownPipe}
 use Rattle.sp_core.specs.declared.collect.Collected.{Collected}
 use Rattle.sp_core.specs.declared.collect.Collected.TheVariants as collected
 use Rattle.sp_core.specs.Collecting.{DueBy, IsOpen}
@@ -86,7 +86,7 @@ AreUncancelled past = (op : OpName) (by : ℕ) → Stands (op, Gone Cancelled by
 
 -- what is left of a finished socket: its wires, and its history as the record, in which nothing was cancelled, and each
 -- operation that timed out had fallen due
-pub record FinishedAs {W : Type 0} (shown : W → WireView) (s : SingleView) (wires : List (Fallen W)) (record_ : List (Turn Entry)) : Type 0 where
+pub record FinishedAs {W : Type 0} (shown : W → WireView) (s : SingleView) (wires : List (DownPipe W)) (record_ : List (Turn Entry)) : Type 0 where
   pub whole : record_ ≡ s.seen
   pub wires_are : HasWires shown wires s.setting (past_of s.seen)
   pub uncancelled : AreUncancelled (past_of s.seen)

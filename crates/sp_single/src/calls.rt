@@ -25,7 +25,7 @@ use sp_socket::{AttachError, BeginError, Collected, Gone, Op, Served, TopicError
 use std::sync::Wait;
 
 impl<P: Proto, W: Wire> Single<P, W> {
-    /// Begins a receive, with a deadline or none. Never refused for want of memory.
+    /// Begins a receive, with a deadline or none. Never refused for being out of memory.
     pub fn begin_recv<R: Wait>(
         &mut self,
         rt: &R,

@@ -18,8 +18,8 @@ use Rattle.sp_history.specs.Past.{past_of, is_closed, up, pend, now, due_at}
 use Rattle.sp_history.proofs.OnceHolds.{same_op-eq}
 use Rattle.sp_core.specs.declared.ops.BeginError.{BeginError}
 use Rattle.sp_core.specs.declared.collect.Collected.TheVariants as collected
-use Rattle.sp_core.specs.declared.pipes.AttachError.{AttachError}
-use Rattle.sp_core.specs.declared.pipes.Gone.{Gone}
+use Rattle.sp_core.specs.declared.attach.AttachError.{AttachError}
+use Rattle.sp_core.specs.declared.attach.Gone.{Gone}
 use Rattle.sp_core.specs.declared.contexts.CtxError.{CtxError}
 use Rattle.sp_core.specs.declared.contexts.TopicError.{TopicError}
 use Rattle.sp_core.specs.Contexts.{OpenedBy, IsCtxEnd, AreCtxEnds, ShutBy, PutOn, SubscribedBy, UnsubscribedBy}
@@ -27,7 +27,7 @@ use Rattle.sp_core.specs.Moving.{AreSettling}
 use Rattle.sp_core.specs.Standing.{BeganBy, HasFirst}
 use Rattle.sp_core.specs.Attaching.{AttachedBy, TookWire}
 use Rattle.sp_core.specs.Serving.{AreServing}
-use Rattle.sp_core.specs.Closing.{ClosedBy, AreEndsOf, AreFallsOf, FallsAs}
+use Rattle.sp_core.specs.Closing.{ClosedBy, AreEndsOf, AreDownsOf, GoesDownAs}
 use Rattle.sp_core.specs.Collecting.{CollectedBy, DueBy, DueFrom}
 use Rattle.sp_history.specs.Changes.{none_of}
 use Rattle.sp_history.specs.Found.{collects}
@@ -86,12 +86,12 @@ none_ends : (op : OpName) (callers : ℕ) (ss : List Begun) (es : List Entry) �
 none_ends op callers [] es e = subst (NotTaken op) (sym e) refl
 none_ends op callers (s ∷ ss) es e = subst (NotTaken op) (sym e.3) (none_ends op callers ss e.2 e.5)
 
-none_fall : (op : OpName) (p : ℕ) (es : List Entry) → FallsAs p es → NotTaken op es
+none_fall : (op : OpName) (p : ℕ) (es : List Entry) → GoesDownAs p es → NotTaken op es
 none_fall op p es (inl e) = subst (NotTaken op) (sym e) refl
 none_fall op p es (inr (inl e)) = subst (NotTaken op) (sym e) refl
 none_fall op p es (inr (inr e)) = subst (NotTaken op) (sym e.2) refl
 
-none_falls : (op : OpName) (ps : List ℕ) (es : List Entry) → AreFallsOf ps es → NotTaken op es
+none_falls : (op : OpName) (ps : List ℕ) (es : List Entry) → AreDownsOf ps es → NotTaken op es
 none_falls op [] es e = subst (NotTaken op) (sym e) refl
 none_falls op (p ∷ ps) es e = subst (NotTaken op) (sym e.2) (none_both op e.0 e.1 (none_fall op p e.0 e.3) (none_falls op ps e.1 e.4))
 
@@ -102,7 +102,7 @@ none_closed r callers h t c = λ op. go op (is_closed (past_of h)) refl
     go op true e = subst (NotTaken op) (sym (c.second e)) refl
     go op false e =
         let f = c.first e in
-        subst (NotTaken op) (sym f.entries) (none_both op f.ends (f.falls ++ Close f.totals ∷ []) (none_ends op callers (pend (past_of h)) f.ends f.ended) (none_both op f.falls (Close f.totals ∷ []) (none_falls op (up (past_of h)) f.falls f.fallen) refl))
+        subst (NotTaken op) (sym f.entries) (none_both op f.ends (f.down_entries ++ Close f.totals ∷ []) (none_ends op callers (pend (past_of h)) f.ends f.ended) (none_both op f.down_entries (Close f.totals ∷ []) (none_falls op (up (past_of h)) f.down_entries f.gone_down) refl))
 
 pub none_opened : (r : Result ℕ CtxError) (z : Setting) (h : List (Turn Entry)) (t : Turn Entry) → OpenedBy r z h t → NoneTaken t.entries
 none_opened (Ok c) z h t b = none_first (Ctx c Open) t (λ op. refl) b.1

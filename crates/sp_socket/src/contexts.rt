@@ -14,7 +14,7 @@ use sp_proto::Proto;
 use std::sync::Wait;
 
 impl<P: Proto, W: Wire> Socket<P, W> {
-    /// Opens a context (nng_ctx_open(3)); answers its number, one more than the contexts that were opened before.
+    /// Opens a context (nng_ctx_open(3)); returns its number, one more than the contexts that were opened before.
     /// Refused by the first cause of `CtxError` that stands.
     pub fn open_ctx<R: Wait>(&self, rt: &R, pass: &mut Pass<P, W>) -> Result<Ctx, CtxError>
         requires own { IsOf self.now pass.old }

@@ -17,7 +17,7 @@ use sp_proto::Proto;
 use std::sync::Wait;
 use turn_lock::{Stack, TurnPass};
 
-// The history that a pass has seen.
+/// The history that a pass has seen.
 pub struct Seen;
 
 impl<P: Proto, W: Wire> Told<TurnPass<Core<P, W>>> for Seen {

@@ -2,7 +2,7 @@
 //!
 //! A pass is a caller's right to take turns, its seat at the words of the operations, and room for the names that fall
 //! due. Each call with a pass enters the lock, does one call of the core for the pass's number, and leaves: so it is one
-//! turn of that caller. What the call did and answers is said over the history that the pass has seen then. No call
+//! turn of that caller. What the call did and returns is said over the history that the pass has seen then. No call
 //! holds the lock while it waits for another caller's answer; what ends an operation from outside the lock is one
 //! exchange on its word.
 //!

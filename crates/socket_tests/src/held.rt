@@ -1,0 +1,92 @@
+//! A turn that is held up by its wire: others wait for no more than that turn, and a cancel doesn't wait at all.
+ghost use Rattle.std.specs.Prelude.{◌≡◌};
+
+use crate::callers::{finish, give_back, next, opened};
+use crate::marks::{Marks, shared, unmarked};
+use crate::parts::{begun, giving_x, is_gone, is_received, pull, totals};
+use crate::threads::do_all;
+use crate::workers::{Job, Task};
+use sp_base::{Ctx, Tick};
+use sp_fakes::MemWire;
+use sp_msg::{Message, Room, Wire, WireFlush, WireIn};
+use sp_socket::Cause;
+use std::sync::{Arc, Wait};
+
+// A wire that holds the turn up in which it is pulled first.
+#[derive(Drop)]
+struct HeldWire {
+    wire: MemWire,
+    marks: Arc<Marks>,
+    // Whether it has held a turn up.
+    done: bool,
+}
+
+impl HeldWire {
+    // Once: stops until the cancel was answered.
+    fn hold(&mut self)
+        ensures { self.new.wire ≡ self.old.wire }
+    {
+        if self.done {
+            return;
+        }
+        self.done = true;
+        self.marks.hold();
+    }
+}
+
+impl Wire for HeldWire {
+    ghost shown = { λ w. w.wire.wire };
+
+    fn pull<R: Wait>(&mut self, rt: &R) -> WireIn {
+        self.hold();
+        self.wire.pull(rt)
+    }
+
+    fn room<R: Wait>(&mut self, rt: &R) -> Room {
+        self.wire.room(rt)
+    }
+
+    fn put<R: Wait>(&mut self, rt: &R, m: Message) {
+        self.wire.put(rt, m)
+    }
+
+    fn flush<R: Wait>(&mut self, rt: &R) -> WireFlush {
+        self.wire.flush(rt)
+    }
+
+    fn shut(&mut self) {
+        self.wire.shut()
+    }
+}
+
+#[test]
+fn a_cancel_is_answered_within_a_held_turn(rt: HostRuntime) {
+    let alloc = rt.alloc();
+    let marks = unmarked(&rt, alloc);
+    let (socket, mut list) = opened(&rt, alloc, pull(&rt, alloc), 4, 4);
+    let mut main = next(&rt, alloc, &socket, &mut list);
+    let wire = HeldWire {
+        wire: giving_x(&rt, alloc, 1),
+        marks: shared(&rt, &marks),
+        done: false,
+    };
+    assert!(rt; main.attach(&rt, &socket, wire).is_ok());
+    let a = begun(&rt, main.begin_recv(&rt, &socket, Ctx(0), None));
+    let tasks = [
+        Task::new(Job::Serve(1)),
+        Task::new(Job::CancelWhenHeld(a, shared(&rt, &marks))),
+        Task::new(Job::Tick(Tick(1))),
+    ];
+    do_all(&rt, alloc, &socket, &mut list, &tasks);
+    assert_eq!(rt; tasks[1].ended(), 1);
+    assert!(rt; marks.was_held());
+    begun(&rt, main.begin_recv(&rt, &socket, Ctx(0), None));
+    assert!(rt; main.serve(&rt, &socket).moved);
+    assert!(rt; is_received(main.collect(&rt, &socket), b"x"));
+    assert!(rt; is_gone(main.collect(&rt, &socket), Cause::Cancelled, 2));
+    assert_eq!(rt;
+        give_back(&rt, &socket, &mut list, main),
+        totals(2, 1, 1, 1)
+    );
+    finish(&rt, alloc, socket, list);
+}

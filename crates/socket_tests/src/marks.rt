@@ -1,0 +1,90 @@
+//! What threads of a test tell each other, each looking a bounded number of times.
+use std::alloc::Global;
+use std::process::Abort;
+use std::sync::Arc;
+use std::sync::atomic::{AtomicU64, Ordering};
+use std::thread;
+
+// How often one who waits for a mark looks at the most.
+const LOOKS: u32 = 1_000_000;
+
+/// Three numbers that threads share, each 0 until it is set.
+#[derive(Drop)]
+pub struct Marks {
+    // 1 while a wire holds its turn up, 2 where it gave up.
+    held: AtomicU64,
+    // 1 once the cancel was answered.
+    answered: AtomicU64,
+    // The generation of the receive that has begun, in slot 0.
+    begun: AtomicU64,
+}
+
+/// No mark is set.
+pub fn unmarked(rt: &impl Abort, alloc: Global) -> Arc<Marks> {
+    match Arc::new(
+        alloc,
+        Marks {
+            held: AtomicU64::new(0),
+            answered: AtomicU64::new(0),
+            begun: AtomicU64::new(0),
+        },
+    ) {
+        Ok(marks) => marks,
+        Err(_) => panic!(rt; "no memory for marks"),
+    }
+}
+
+/// One owner of the marks more.
+pub fn shared(rt: &impl Abort, marks: &Arc<Marks>) -> Arc<Marks> {
+    match marks.clone() {
+        Ok(marks) => marks,
+        Err(_) => panic!(rt; "too many owners of marks"),
+    }
+}
+
+// Looks for the mark, yielding between two looks: what it was set to, 0 where that wasn't seen.
+fn seen(mark: &AtomicU64) -> u64 {
+    for _ in 0..LOOKS {
+        let value = mark.load(Ordering::SeqCst);
+        if value != 0 {
+            return value;
+        }
+        thread::yield_now();
+    }
+    0
+}
+
+impl Marks {
+    /// Holds up until the cancel was answered.
+    pub fn hold(&self) {
+        self.held.store(1, Ordering::SeqCst);
+        if seen(&self.answered) == 0 {
+            self.held.store(2, Ordering::SeqCst);
+        }
+    }
+
+    /// Looks for a turn to be held up. Whether it is.
+    pub fn is_held(&self) -> bool {
+        seen(&self.held) == 1
+    }
+
+    /// Whether a turn was held up, until the cancel was answered.
+    pub fn was_held(&self) -> bool {
+        self.held.load(Ordering::SeqCst) == 1
+    }
+
+    /// The cancel was answered.
+    pub fn answer(&self) {
+        self.answered.store(1, Ordering::SeqCst)
+    }
+
+    /// A receive of this generation has begun.
+    pub fn begin(&self, generation: u64) {
+        self.begun.store(generation, Ordering::SeqCst)
+    }
+
+    /// Looks for a receive to have begun: its generation, 0 where that wasn't seen.
+    pub fn begun(&self) -> u64 {
+        seen(&self.begun)
+    }
+}

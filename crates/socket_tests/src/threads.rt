@@ -1,0 +1,292 @@
+//! What sockets answer to callers in several threads.
+ghost use Rattle.std.specs.Prelude.{◌≡◌, ◌++◌, ◌∷◌, [], false};
+ghost use Rattle.aio_word.specs.Views.{Each};
+ghost use Rattle.socket_tests.specs.Calls.{Calls, IsListOf};
+
+use crate::callers::{Caller, finish, give_back, next, opened};
+use crate::marks::{shared, unmarked};
+use crate::parts::{begin_many, counting, giving_x, pull, totals};
+use crate::workers::{Job, Task, all_work};
+use proto_pipeline::Pull;
+use sp_base::{OpName, Tick};
+use sp_fakes::MemWire;
+use sp_msg::Wire;
+use sp_proto::Proto;
+use sp_socket::{Outcome, Pass, Socket, SocketPasses};
+use std::alloc::Global;
+use std::process::Abort;
+use std::sync::Wait;
+use std::thread::Threads;
+
+// One pass more.
+fn keep<P: Proto, W: Wire>(rt: &impl Abort, passes: &mut Vec<Pass<P, W>>, pass: Pass<P, W>)
+    ensures { passes.new.items ≡ passes.old.items ++ pass ∷ [] }
+{
+    match passes.push(pass) {
+        Ok(()) => (),
+        Err(_) => panic!(rt; "no memory for a pass"),
+    }
+}
+
+// One pass of the list more.
+fn lend<P: Proto, W: Wire>(
+    rt: &impl Abort,
+    socket: &Socket<P, W>,
+    list: &mut SocketPasses<P, W>,
+    passes: &mut Vec<Pass<P, W>>,
+)
+    requires list { IsListOf socket.now list.old }
+    requires passes { Each (λ p. Calls socket.now p []) passes.old.items }
+    ensures list { IsListOf socket.now list.new }
+    ensures passes { Each (λ p. Calls socket.now p []) passes.new.items }
+{
+    let _socket = socket;
+    let Some(pass) = list.pop() else {
+        panic!(rt; "no pass")
+    };
+    keep(rt, passes, pass)
+}
+
+// So many passes of the list.
+fn lend_many<P: Proto, W: Wire>(
+    rt: &impl Abort,
+    alloc: Global,
+    socket: &Socket<P, W>,
+    list: &mut SocketPasses<P, W>,
+    count: usize,
+) -> Vec<Pass<P, W>>
+    requires { IsListOf socket.now list.old }
+    ensures list { IsListOf socket.now list.new }
+    ensures passes { Each (λ p. Calls socket.now p []) result.items }
+{
+    let mut passes = Vec::new(alloc);
+    for _ in 0..count {
+        lend(rt, socket, list, &mut passes);
+    }
+    passes
+}
+
+// The last of these goes back into the list. Whether there was one.
+fn give_last<P: Proto, W: Wire>(
+    socket: &Socket<P, W>,
+    list: &mut SocketPasses<P, W>,
+    passes: &mut Vec<Pass<P, W>>,
+) -> bool
+    requires list { IsListOf socket.now list.old }
+    requires passes { Each (λ p. Calls socket.now p []) passes.old.items }
+    ensures list { IsListOf socket.now list.new }
+    ensures passes { Each (λ p. Calls socket.now p []) passes.new.items }
+    ensures none { result ≡ false → passes.new.items ≡ [] }
+{
+    let _socket = socket;
+    match passes.pop() {
+        None => false,
+        Some(pass) => {
+            list.give(pass);
+            true
+        }
+    }
+}
+
+// They go back into the list.
+fn take_back<P: Proto, W: Wire>(
+    rt: &impl Wait,
+    socket: &Socket<P, W>,
+    list: &mut SocketPasses<P, W>,
+    mut passes: Vec<Pass<P, W>>,
+)
+    requires list { IsListOf socket.now list.old }
+    requires passes { Each (λ p. Calls socket.now p []) passes.items }
+    ensures { IsListOf socket.now list.new }
+{
+    for _ in rt.forever() {
+        if !give_last(socket, list, &mut passes) {
+            passes.destroy_empty();
+            return;
+        }
+    }
+    unreachable!()
+}
+
+/// As many callers of the list as there are tasks do them, each in a thread of its own.
+pub fn do_all<P: Proto + Send, W: Wire + Send, R: Wait + Abort + Threads + Sync>(
+    rt: &R,
+    alloc: Global,
+    socket: &Socket<P, W>,
+    list: &mut SocketPasses<P, W>,
+    tasks: &[Task],
+)
+    requires { IsListOf socket.now list.old }
+    ensures { IsListOf socket.now list.new }
+{
+    let mut passes = lend_many(rt, alloc, socket, list, tasks.len());
+    all_work(rt, socket, tasks, passes.as_mut_slice());
+    take_back(rt, socket, list, passes)
+}
+
+#[test]
+fn two_threads_begin_serve_and_collect(rt: HostRuntime) {
+    let alloc = rt.alloc();
+    let (socket, mut list) = opened(&rt, alloc, pull(&rt, alloc), 4, 3);
+    let mut main = next(&rt, alloc, &socket, &mut list);
+    assert!(rt; main.attach(&rt, &socket, counting(&rt, alloc, 32)).is_ok());
+    let tasks = [Task::new(Job::Receive(16)), Task::new(Job::Receive(16))];
+    do_all(&rt, alloc, &socket, &mut list, &tasks);
+    assert_eq!(rt; tasks[0].ended(), 16);
+    assert_eq!(rt; tasks[1].ended(), 16);
+    assert_eq!(rt;
+        give_back(&rt, &socket, &mut list, main),
+        totals(32, 32, 0, 32)
+    );
+    assert_eq!(rt; finish(&rt, alloc, socket, list).len(), 1);
+}
+
+// Receives on two pipes, by four callers that race for the lock.
+#[test]
+fn four_threads_race_for_the_lock(rt: HostRuntime) {
+    let alloc = rt.alloc();
+    let (socket, mut list) = opened(&rt, alloc, pull(&rt, alloc), 8, 5);
+    let mut main = next(&rt, alloc, &socket, &mut list);
+    assert!(rt; main.attach(&rt, &socket, counting(&rt, alloc, 100)).is_ok());
+    assert!(rt; main.attach(&rt, &socket, counting(&rt, alloc, 100)).is_ok());
+    let tasks = [
+        Task::new(Job::Receive(50)),
+        Task::new(Job::Receive(50)),
+        Task::new(Job::Receive(50)),
+        Task::new(Job::Receive(50)),
+    ];
+    do_all(&rt, alloc, &socket, &mut list, &tasks);
+    assert_eq!(rt;
+        give_back(&rt, &socket, &mut list, main),
+        totals(200, 200, 0, 200)
+    );
+    assert_eq!(rt; finish(&rt, alloc, socket, list).len(), 2);
+}
+
+// Two callers close at the same time. Each receive ends once, and both answer the same totals.
+#[test]
+fn two_threads_close_and_answer_the_same(rt: HostRuntime) {
+    let alloc = rt.alloc();
+    let (socket, mut list) = opened(&rt, alloc, pull(&rt, alloc), 4, 3);
+    let mut main = next(&rt, alloc, &socket, &mut list);
+    assert!(rt; main.attach(&rt, &socket, counting(&rt, alloc, 0)).is_ok());
+    begin_many(&rt, alloc, &socket, &mut main, 4);
+    let tasks = [Task::new(Job::Close), Task::new(Job::Close)];
+    do_all(&rt, alloc, &socket, &mut list, &tasks);
+    assert_eq!(rt; tasks[0].ended(), 4);
+    assert_eq!(rt; tasks[1].ended(), 4);
+    assert_eq!(rt; received_of(&rt, &socket, &mut main, 4), 0);
+    assert_eq!(rt;
+        give_back(&rt, &socket, &mut list, main),
+        totals(4, 0, 4, 0)
+    );
+    finish(&rt, alloc, socket, list);
+}
+
+// ---- Waiting
+
+// One waits for a receive, and another serves. The message comes.
+#[test]
+fn waiting_receives_what_another_thread_serves(rt: HostRuntime) {
+    let alloc = rt.alloc();
+    let marks = unmarked(&rt, alloc);
+    let (socket, mut list) = opened(&rt, alloc, pull(&rt, alloc), 1, 3);
+    let mut main = next(&rt, alloc, &socket, &mut list);
+    assert!(rt; main.attach(&rt, &socket, giving_x(&rt, alloc, 0)).is_ok());
+    let tasks = [
+        Task::new(Job::Wait(shared(&rt, &marks))),
+        Task::new(Job::ServeWhenBegun(shared(&rt, &marks))),
+    ];
+    do_all(&rt, alloc, &socket, &mut list, &tasks);
+    assert_eq!(rt; tasks[0].ended(), 1);
+    assert_eq!(rt;
+        give_back(&rt, &socket, &mut list, main),
+        totals(1, 1, 0, 1)
+    );
+    finish(&rt, alloc, socket, list);
+}
+
+// One waits for a receive, and another cancels it.
+#[test]
+fn waiting_ends_where_another_thread_cancels(rt: HostRuntime) {
+    let alloc = rt.alloc();
+    let marks = unmarked(&rt, alloc);
+    let (socket, mut list) = opened::<Pull, MemWire>(&rt, alloc, pull(&rt, alloc), 1, 3);
+    let main = next(&rt, alloc, &socket, &mut list);
+    let tasks = [
+        Task::new(Job::Wait(shared(&rt, &marks))),
+        Task::new(Job::CancelWhenBegun(shared(&rt, &marks))),
+    ];
+    do_all(&rt, alloc, &socket, &mut list, &tasks);
+    assert_eq!(rt; tasks[0].ended(), 0);
+    assert_eq!(rt; tasks[1].ended(), 1);
+    assert_eq!(rt;
+        give_back(&rt, &socket, &mut list, main),
+        totals(1, 0, 1, 0)
+    );
+    finish(&rt, alloc, socket, list);
+}
+
+// ---- A race
+
+// How many of the kept receives got a message; each of the others has ended before.
+fn received_of<R: Wait + Abort>(
+    rt: &R,
+    socket: &Socket<Pull, MemWire>,
+    caller: &mut Caller<Pull, MemWire>,
+    times: u32,
+) -> u64
+    requires { Calls socket.now caller.old.pass caller.old.ops.items }
+    ensures { Calls socket.now caller.new.pass caller.new.ops.items }
+{
+    let mut received: u64 = 0;
+    for _ in 0..times {
+        match caller.collect(rt, socket) {
+            Some(Outcome::Received(_)) => received = received.saturating_add(1),
+            Some(_) => (),
+            None => panic!(rt; "a cancelled receive is pending"),
+        }
+    }
+    received
+}
+
+// The second half of the names.
+fn second_half(rt: &impl Abort, alloc: Global, names: &[OpName]) -> Vec<OpName> {
+    let mut half = Vec::new(alloc);
+    for op in names.iter().skip(names.len() / 2) {
+        if half.push(*op).is_err() {
+            panic!(rt; "no memory for a name")
+        }
+    }
+    half
+}
+
+// One caller serves, two cancel, and one lets what is due expire. Each receive ends once, by one of them.
+#[test]
+fn many_receives_are_raced(rt: HostRuntime) {
+    let alloc = rt.alloc();
+    let (socket, mut list) = opened(&rt, alloc, pull(&rt, alloc), 64, 5);
+    let mut main = next(&rt, alloc, &socket, &mut list);
+    let names = begin_many(&rt, alloc, &socket, &mut main, 64);
+    assert!(rt; main.attach(&rt, &socket, counting(&rt, alloc, 48)).is_ok());
+    let half = second_half(&rt, alloc, &names);
+    let tasks = [
+        Task::new(Job::Serve(16)),
+        Task::new(Job::Cancel(names)),
+        Task::new(Job::Cancel(half)),
+        Task::new(Job::Tick(Tick(1))),
+    ];
+    do_all(&rt, alloc, &socket, &mut list, &tasks);
+    let received = received_of(&rt, &socket, &mut main, 64);
+    let ended = tasks[1]
+        .ended()
+        .saturating_add(tasks[2].ended())
+        .saturating_add(tasks[3].ended());
+    assert_eq!(rt; received.saturating_add(ended), 64);
+    let t = give_back(&rt, &socket, &mut list, main);
+    assert_eq!(rt; t.begun, 64);
+    assert_eq!(rt; t.won, received);
+    assert_eq!(rt; t.gone, 64u64.saturating_sub(received));
+    assert!(rt; t.won <= t.frames);
+    finish(&rt, alloc, socket, list);
+}
