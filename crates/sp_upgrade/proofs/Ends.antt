@@ -17,7 +17,7 @@ pub of_all : (IsGood : List ℕ → List ℕ → Type 0) (IsBad : List ℕ → H
 of_all IsGood IsBad heads.More came head has of = absurd of
 of_all IsGood IsBad (heads.Good used answer) came head has of = (head, has, of.0, of.1)
 of_all IsGood IsBad (heads.Bad fault) came head has of = inr (head, has, of)
-of_all IsGood IsBad heads.NoMemory came head has of = tt
+of_all IsGood IsBad heads.NoMemory came head has of = (head, has, of)
 
 -- what is looked at
 looked_at : (s : List ℕ) → take (min (length s) most) s ≡ take most s

@@ -1,4 +1,4 @@
--- There is one answer to the bytes that came, but for want of memory.
+-- There is one answer to the bytes that came, except when out of memory.
 use Rattle.std.proofs.Common.{◌≡◌, ℕ, List, [], length, take, Option, Some, None, refl, sym, ap, subst, ◌∙◌, inl, inr, arith}
 use Rattle.std.proofs.lemmas.List.{take_all}
 use Rattle.std.proofs.lemmas.Bool.Decides.{leb_tells}

@@ -1,4 +1,4 @@
--- What opens a WebSocket, on both sides: the faults in their order, and what each call answers.
+-- What opens a WebSocket, on both sides: the faults in their order, and what each call returns.
 use Rattle.std.specs.Prelude.{◌≡◌, ◌≤◌, ◌⊎◌, ℕ, Bool, cond, not, ◌==◌, List, [], ◌∷◌, length, take, map, codes, bytes_eq, Option, None, Some}
 use Rattle.httparse.specs.Grammar.{RequestHead, ReadsRequest, ResponseHead, ReadsResponse, status_code}
 use Rattle.httparse.specs.Spans.{span_bytes, header_bytes}
@@ -25,21 +25,22 @@ abbrev pub first_fault : List (HeadFault × Bool) → Option HeadFault
 first_fault [] = None
 first_fault (f ∷ fs) = cond f.1 (Some f.0) (first_fault fs)
 
--- what a whole head comes to, by what is good of it with an answer and what is bad
+-- what a whole head comes to, by what is good of it with an answer and what is bad; out of memory only where it is
+-- good
 abbrev pub OfHead : (List ℕ → List ℕ → Type 0) → (List ℕ → HeadFault → Type 0) → Head → List ℕ → Type 0
 OfHead IsGood IsBad heads.More head = ⊥
 OfHead IsGood IsBad (heads.Good used answer) head = (used ≡ length head) × IsGood head answer
 OfHead IsGood IsBad (heads.Bad fault) head = IsBad head fault
-OfHead IsGood IsBad heads.NoMemory head = Unit {0}
+OfHead IsGood IsBad heads.NoMemory head = (answer : List ℕ) × IsGood head answer
 
 -- what all that came comes to
 abbrev pub Answers : (List ℕ → List ℕ → Type 0) → (List ℕ → HeadFault → Type 0) → Head → List ℕ → Type 0
 Answers IsGood IsBad heads.More came = IsShort came
 Answers IsGood IsBad (heads.Good used answer) came = (head : List ℕ) × HasHead came head × (used ≡ length head) × IsGood head answer
 Answers IsGood IsBad (heads.Bad fault) came = ((fault ≡ faults.TooLong) × IsTooLong came) ⊎ ((head : List ℕ) × HasHead came head × IsBad head fault)
-Answers IsGood IsBad heads.NoMemory came = Unit {0}
+Answers IsGood IsBad heads.NoMemory came = (head : List ℕ) × HasHead came head × ((answer : List ℕ) × IsGood head answer)
 
--- all that are answered, but for want of memory, are one
+-- all that are answered, except when out of memory, are one
 abbrev pub AreOne : (Head → Type 0) → Type 0
 AreOne IsAnswer = (a b : Head) → IsAnswer a → IsAnswer b → (a ≡ heads.NoMemory → ⊥) → (b ≡ heads.NoMemory → ⊥) → a ≡ b
 

@@ -19,7 +19,7 @@ use std::alloc::Global;
 
 /// What a dialing socket of this role writes first (RFC 6455 sections 1.3 and 4.1): it asks for the subprotocol of its
 /// peer. The address has one host, whose four numbers and port stand in the Host line; the key's 16 bytes are the
-/// caller's. Refused for want of memory alone.
+/// caller's. Refused only when out of memory.
 pub fn client_head(alloc: Global, key: &[u8], addr: &Addr, role: Role) -> Result<Bytes, NoMemory>
     requires key { length key.now ≡ 16 }
     requires addr { IsDialed addr.now }

@@ -47,12 +47,12 @@ pub enum Head {
     Good { used: u32, answer: Bytes },
     /// It opens none, and no bytes behind it can change that.
     Bad(HeadFault),
-    /// Want of memory; nothing is lost.
+    /// Out of memory for the answer to a good head; nothing is lost.
     NoMemory,
 }
 
 impl Head {
-    /// The same bytes have one answer on each side, but for want of memory.
+    /// The same bytes have one answer on each side, except when out of memory.
     pub fn is_one()
         ensures server { (role : Role) (path came : List ℕ) → AreOne (λ answer. ServerAnswers answer came role path) }
         ensures client { (role : Role) (key came : List ℕ) → AreOne (λ answer. ClientAnswers answer came key role) }

@@ -100,7 +100,8 @@ fn read_request(alloc: Global, head: &[u8], role: Role, path: &[u8]) -> Head
 /// What the bytes that came to a listening socket of this role and path come to (RFC 6455 sections 1.3, 4.2.1 and
 /// 4.2.2; the subprotocol is NAME`.sp.nanomsg.org`, of the listening role's name, as the WebSocket mapping of SP has
 /// it). `More` exactly where fewer than 8,192 came without a blank line; else the first fault that holds, in the order
-/// of `HeadFault`; else the answer. Looks at no byte behind the 8,192nd. `NoMemory` for want of memory alone.
+/// of `HeadFault`; else the answer. Looks at no byte behind the 8,192nd. `NoMemory` only where the head is good and there
+/// is no memory for its answer.
 pub fn server_head(alloc: Global, came: &[u8], role: Role, path: &[u8]) -> Head
     ensures { ServerAnswers result came.now role path.now }
 {

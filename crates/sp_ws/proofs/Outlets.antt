@@ -141,6 +141,7 @@ gave_none o f = record {
   came = refl;
   last = refl;
   role = refl;
+  reads = refl;
 }
 
 piece_some : (role : Role) (piece body : List ℕ) → IsFrame role piece body → 0 < length piece
@@ -170,6 +171,7 @@ gave_more o o2 o3 f f2 f3 g one =
       came = ap (λ (v : FramesView). v.came) s.rest ∙ g.came;
       last = ap (λ (v : FramesView). v.last) s.rest ∙ g.last;
       role = ap (λ (v : FramesView). v.role) s.rest ∙ g.role;
+      reads = ap (λ (v : FramesView). v.reads) s.rest ∙ g.reads;
     }
 
 -- nothing was sent, and only the count of refusals may differ
@@ -187,6 +189,7 @@ gave_same o o2 o3 f f2 f3 n g e s = record {
   came = ap (λ (v : FramesView). v.came) s ∙ g.came;
   last = ap (λ (v : FramesView). v.last) s ∙ g.last;
   role = ap (λ (v : FramesView). v.role) s ∙ g.role;
+  reads = ap (λ (v : FramesView). v.reads) s ∙ g.reads;
 }
 
 -- ---- writing

@@ -1,5 +1,13 @@
--- What each call of frames answers, and what it does to what the frames show.
-use Rattle.std.specs.Prelude.{◌≡◌, ◌++◌, ℕ, List, [], ◌∷◌, Option, Result, Ok, Err}
+-- What each call of frames returns, and what it does to what the frames show.
+use Rattle.std.specs.Prelude.{◌≡◌, ◌++◌, ◌⊎◌, ◌==◌, ℕ, Bool, true, List, [], ◌∷◌, Option, Result, Ok, Err}
+use Rattle.std.specs.List.{All}
+use Rattle.std.specs.IoError.{error_kind}
+use Rattle.std.specs.declared.io.ErrorKind.TheVariants as kinds
+use Rattle.tungstenite.specs.declared.error.Error.{Error}
+use Rattle.tungstenite.specs.declared.error.Error.TheVariants as errors
+use Rattle.tungstenite.specs.declared.message.Message.{Message}
+use Rattle.tungstenite.specs.declared.message.Message.TheVariants as messages
+use Rattle.tungstenite.specs.Failure.{IsOutside}
 use Rattle.sp_base.specs.declared.error.NoMemory.{NoMemory}
 use Rattle.sp_msg.specs.Marks.{one_more}
 use Rattle.websocket.specs.declared.protocol.frame.coding.OpCode.TheVariants as codes
@@ -18,6 +26,63 @@ use Rattle.sp_ws.specs.declared.frames.Last.TheVariants as lasts
 abbrev pub AfterFeed : Result Unit NoMemory → List ℕ → FramesView → FramesView → Type 0
 AfterFeed (Ok _) b old new = new ≡ record old { fed = old.fed ++ b }
 AfterFeed (Err _) b old new = new ≡ old
+
+-- ---- what a read of the crate that frames gave, and what it is called
+
+-- messages that are passed over
+abbrev pub IsControl : Message → Type 0
+IsControl (messages.Text s) = ⊥
+IsControl (messages.Binary s) = ⊥
+IsControl (messages.Ping s) = Unit {0}
+IsControl (messages.Pong s) = Unit {0}
+IsControl (messages.Close frame) = ⊥
+
+abbrev pub IsPassed : Result Message Error → Type 0
+IsPassed (Ok m) = IsControl m
+IsPassed (Err e) = ⊥
+
+-- a copy, or out of memory
+abbrev pub IsCopied : FrameIn → List ℕ → Type 0
+IsCopied (ins.Binary bytes) b = bytes ≡ b
+IsCopied ins.Text b = ⊥
+IsCopied ins.Idle b = ⊥
+IsCopied ins.Closed b = ⊥
+IsCopied ins.Broken b = ⊥
+IsCopied ins.NoMemory b = Unit {0}
+
+abbrev pub IsClosed : Error → Type 0
+IsClosed e = (e ≡ errors.ConnectionClosed) ⊎ (e ≡ errors.AlreadyClosed)
+
+-- nothing was there to read
+abbrev pub Waits : Error → Type 0
+Waits (errors.Io cause) = error_kind cause ≡ kinds.WouldBlock
+Waits e = ⊥
+
+-- what a failed read is called, where the stream is empty or not
+abbrev pub Fails : FrameIn → Error → Bool → Type 0
+Fails (ins.Binary bytes) e is_empty = ⊥
+Fails ins.Text e is_empty = ⊥
+Fails ins.Idle e is_empty = Waits e × (is_empty ≡ true)
+Fails ins.Closed e is_empty = IsClosed e
+Fails ins.Broken e is_empty = (IsClosed e → ⊥) × (e ≡ errors.OutOfMemory → ⊥) × (Waits e → is_empty ≡ true → ⊥)
+Fails ins.NoMemory e is_empty = IsOutside e
+
+-- what a read's answer is called
+abbrev pub Names : FrameIn → Result Message Error → Bool → Type 0
+Names answer (Ok (messages.Text s)) is_empty = answer ≡ ins.Text
+Names answer (Ok (messages.Binary s)) is_empty = IsCopied answer s
+Names answer (Ok (messages.Ping s)) is_empty = ⊥
+Names answer (Ok (messages.Pong s)) is_empty = ⊥
+Names answer (Ok (messages.Close frame)) is_empty = answer ≡ ins.Closed
+Names answer (Err e) is_empty = Fails answer e is_empty
+
+-- the reads of one call: pings and pongs, and then the one that is answered; or out of memory
+pub record ReadsTo (answer : FrameIn) (old new : List (Result Message Error)) (is_empty : Bool) : Type 0 where
+  pub passed : List (Result Message Error)
+  pub are : All IsPassed passed
+  pub last : ((r : Result Message Error) × (new ≡ old ++ (passed ++ r ∷ [])) × Names answer r is_empty) ⊎ ((answer ≡ ins.NoMemory) × ((more : List (Result Message Error)) × (new ≡ old ++ more)))
+
+-- ---- calls
 
 -- the bodies that came, after this answer
 abbrev pub came_with : FrameIn → List (List ℕ) → List (List ℕ)
@@ -64,6 +129,7 @@ pub record AfterNext (answer : FrameIn) (old new : FramesView) : Type 0 where
   pub breaks : new.breaks ≡ breaks_with answer old.breaks
   pub read : AllRead answer new
   pub role : new.role ≡ old.role
+  pub reads : ReadsTo answer old.reads new.reads (new.left == 0)
 
 -- the bytes are one binary frame of this body, masked where a client sends it
 pub record IsFrame (role : Role) (bytes body : List ℕ) : Type 0 where
@@ -77,7 +143,7 @@ pub record IsSent (body : List ℕ) (old new : FramesView) : Type 0 where
   pub frame : IsFrame old.role piece body
   pub rest : new ≡ record old { waiting = old.waiting ++ piece; sent = old.sent ++ body ∷ [] }
 
--- after a refusal, and after want of memory, nothing else is changed
+-- after a refusal, and after out of memory, nothing else is changed
 abbrev pub AfterSend : FrameOut → List ℕ → FramesView → FramesView → Type 0
 AfterSend outs.Done b old new = IsSent b old new
 AfterSend outs.Refused b old new = new ≡ record old { refusals = one_more old.refusals }

@@ -52,13 +52,14 @@ pub record Gave (old new : OutletView) (f f' : FramesView) : Type 0 where
   pub came : f'.came ≡ f.came
   pub last : f'.last ≡ f.last
   pub role : f'.role ≡ f.role
+  pub reads : f'.reads ≡ f.reads
 
 abbrev pub GaveAll : FrameOut → OutletView → FramesView → FramesView → Type 0
 GaveAll outs.Done new f f' = (new.held ≡ []) × (f'.refusals ≡ f.refusals)
 GaveAll outs.Refused new f f' = (0 < length new.held) × Rose f.refusals f'.refusals
 GaveAll outs.NoMemory new f f' = (0 < length new.held) × (f'.refusals ≡ f.refusals)
 
--- what the link took is the front of what waited
+-- what the link took is the prefix of what waited
 pub record Wrote (old new : OutletView) (f f' : FramesView) (link link' : LinkView) : Type 0 where
   pub piece : List ℕ
   pub waiting : f.waiting ≡ piece ++ f'.waiting

@@ -1,10 +1,7 @@
 -- What each call does to a socket over memory and what stands beside it.
 use Rattle.std.specs.Prelude.{◌≡◌, ◌++◌, ◌⊎◌, ℕ, zero, suc, Bool, true, false, List, [], length, drop, Option, Some, None, ◌==◌, Result, Ok, Err}
 use Rattle.tungstenite.specs.declared.error.Error.{Error}
-use Rattle.tungstenite.specs.declared.error.Error.TheVariants as errors
 use Rattle.tungstenite.specs.declared.message.Message.{Message}
-use Rattle.tungstenite.specs.declared.message.Message.TheVariants as messages
-use Rattle.tungstenite.specs.Failure.{IsIo, IsOutside}
 use Rattle.tungstenite.specs.Socket.{Socket, Reads}
 use Rattle.sp_ws.specs.declared.memory.Memory.{Memory}
 use Rattle.sp_ws.specs.declared.stream.Stream.{Stream}
@@ -14,7 +11,7 @@ use Rattle.sp_ws.specs.declared.frames.FrameOut.{FrameOut}
 use Rattle.sp_ws.specs.declared.frames.FrameOut.TheVariants as outs
 use Rattle.sp_ws.specs.declared.frames.Last.{Last}
 use Rattle.sp_ws.specs.Views.{FramesView}
-use Rattle.sp_ws.specs.Frames.{IsFrame}
+use Rattle.sp_ws.specs.Frames.{IsPassed, Names, ReadsTo, IsFrame}
 
 -- what was handed over and not read
 abbrev pub unread_in : Memory → List ℕ
@@ -29,7 +26,7 @@ unread_of s = length (unread_in s.socket.stream)
 -- what a socket shows of its stream and of what it counts beside it
 abbrev pub frames_view : Stream → List (List ℕ) → List (List ℕ) → Last → ℕ → ℕ → FramesView
 frames_view s came sent last refusals breaks =
-    record { role = s.role; fed = s.fed.items; left = unread_of s; waiting = s.out.items; came = came; sent = sent; last = last; refusals = refusals; breaks = breaks }
+    record { role = s.role; fed = s.fed.items; left = unread_of s; waiting = s.out.items; came = came; sent = sent; last = last; refusals = refusals; breaks = breaks; reads = s.reads.all }
 
 -- nothing that was fed is left over, and what waits stays
 abbrev pub Loaded : Bool → Stream → Stream → Type 0
@@ -42,52 +39,10 @@ Fetched done old new = (new.fed ≡ old.fed) × (new.role ≡ old.role) × ((rep
 
 -- ---- reading
 
--- messages that are passed over
-abbrev pub IsControl : Message → Type 0
-IsControl (messages.Text s) = ⊥
-IsControl (messages.Binary s) = ⊥
-IsControl (messages.Ping s) = Unit {0}
-IsControl (messages.Pong s) = Unit {0}
-IsControl (messages.Close frame) = ⊥
-
-abbrev pub IsPassed : Result Message Error → Type 0
-IsPassed (Ok m) = IsControl m
-IsPassed (Err e) = ⊥
-
 -- this many reads gave such messages
 abbrev pub Passed : ℕ → Socket Memory → Socket Memory → Type 0
 Passed zero old new = new ≡ old
 Passed (suc n) old new = (mid : Socket Memory) × Passed n old mid × ((r : Result Message Error) × IsPassed r × Reads remaining_in mid new r)
-
--- a copy, or want of memory
-abbrev pub IsCopied : FrameIn → List ℕ → Type 0
-IsCopied (ins.Binary bytes) b = bytes ≡ b
-IsCopied ins.Text b = ⊥
-IsCopied ins.Idle b = ⊥
-IsCopied ins.Closed b = ⊥
-IsCopied ins.Broken b = ⊥
-IsCopied ins.NoMemory b = Unit {0}
-
-abbrev pub IsClosed : Error → Type 0
-IsClosed e = (e ≡ errors.ConnectionClosed) ⊎ (e ≡ errors.AlreadyClosed)
-
--- what a failed read is called, where the stream is empty or not
-abbrev pub Fails : FrameIn → Error → Bool → Type 0
-Fails (ins.Binary bytes) e empty = ⊥
-Fails ins.Text e empty = ⊥
-Fails ins.Idle e empty = IsIo e × (empty ≡ true)
-Fails ins.Closed e empty = IsClosed e
-Fails ins.Broken e empty = (IsClosed e → ⊥) × (e ≡ errors.OutOfMemory → ⊥)
-Fails ins.NoMemory e empty = IsOutside e
-
--- what a read's answer is called
-abbrev pub Names : FrameIn → Result Message Error → Bool → Type 0
-Names answer (Ok (messages.Text s)) empty = answer ≡ ins.Text
-Names answer (Ok (messages.Binary s)) empty = IsCopied answer s
-Names answer (Ok (messages.Ping s)) empty = ⊥
-Names answer (Ok (messages.Pong s)) empty = ⊥
-Names answer (Ok (messages.Close frame)) empty = answer ≡ ins.Closed
-Names answer (Err e) empty = Fails answer e empty
 
 abbrev pub IsNamed : Option FrameIn → Result Message Error → Bool → Type 0
 IsNamed None r empty = IsPassed r
@@ -112,6 +67,10 @@ IdleWhen ins.Closed s = Unit {0}
 IdleWhen ins.Broken s = Unit {0}
 IdleWhen ins.NoMemory s = Unit {0}
 
+-- the reads that a call noted
+abbrev pub Noted : FrameIn → Stream → Stream → Type 0
+Noted answer old new = ReadsTo answer old.reads.all new.reads.all (unread_of new == 0)
+
 pub record NextIs (answer : FrameIn) (old new : Stream) : Type 0 where
   pub replies : List ℕ
   pub waiting : new.out.items ≡ old.out.items ++ replies
@@ -125,9 +84,9 @@ IsRefusal outs.Done = ⊥
 IsRefusal outs.Refused = Unit {0}
 IsRefusal outs.NoMemory = Unit {0}
 
--- what was fed is as it was, and so is the side
+-- what was fed is as it was, and so are the side and what was read
 abbrev pub IsBeside : Stream → Stream → Type 0
-IsBeside old new = (new.fed ≡ old.fed) × (new.socket ≡ old.socket) × (new.role ≡ old.role)
+IsBeside old new = (new.fed ≡ old.fed) × (new.socket ≡ old.socket) × (new.role ≡ old.role) × (new.reads ≡ old.reads)
 
 abbrev pub SendIs : FrameOut → List ℕ → Stream → Stream → Type 0
 SendIs outs.Done b old new = IsBeside old new × ((piece : List ℕ) × (new.out.items ≡ old.out.items ++ piece) × IsFrame old.role piece b)

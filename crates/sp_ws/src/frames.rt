@@ -18,7 +18,7 @@ pub enum FrameIn {
     Closed,
     /// No message by the rules of frames (RFC 6455 sections 5.2 to 5.5), or one that is too long.
     Broken,
-    /// Want of memory; a message may be lost.
+    /// Out of memory; a message may be lost.
     NoMemory,
 }
 
@@ -29,7 +29,7 @@ pub enum FrameOut {
     Done,
     /// The buffer is full.
     Refused,
-    /// Want of memory.
+    /// Out of memory.
     NoMemory,
 }
 
@@ -38,11 +38,17 @@ pub enum FrameOut {
 pub enum Last {
     /// None yet.
     Nothing,
+    /// A binary message.
     Binary,
+    /// A text message, which SP doesn't allow.
     Text,
+    /// Nothing came.
     Idle,
+    /// The peer closed.
     Closed,
+    /// What came is no WebSocket.
     Broken,
+    /// Out of memory.
     NoMemory,
 }
 
@@ -52,7 +58,7 @@ pub trait Frames {
     /// that came and those that were sent, the last answer, and the counts of answers Refused and Broken.
     ghost seen: { Self → FramesView };
 
-    /// Takes bytes that came. Refused for want of memory alone, and then nothing changes.
+    /// Takes bytes that came. Refused only when out of memory, and then nothing changes.
     fn feed(&mut self, b: &[u8]) -> Result<(), NoMemory>
         ensures { AfterFeed result b.now (seen self.old) (seen self.new) };
 

@@ -15,6 +15,7 @@ mod inlet;
 mod log;
 mod memory;
 mod outlet;
+mod reads;
 mod side;
 mod socket;
 mod spent;

@@ -8,7 +8,9 @@ use tungstenite::Role;
 /// starts from the seed.
 #[derive(Clone, Copy, Debug, PartialEq, Eq)]
 pub enum Side {
+    /// Listened: takes masked frames, sends bare ones (RFC 6455, 5.1).
     Server,
+    /// Dialed: sends masked frames, takes bare ones (RFC 6455, 5.1).
     Client { seed: u64 },
 }
 

@@ -1,10 +1,13 @@
 //! A `tungstenite` socket over memory, with what goes into it and what came out of it beside.
 ghost use Rattle.std.specs.Prelude.{◌≡◌, ◌≤◌, ◌++◌, ℕ, List, [], length, drop, IsTrue, IfOk, true};
-ghost use Rattle.sp_ws.specs.Streams.{unread_of, Fetched, Loaded, ReadTo, IsCopied, Fails, IsNamed, NextIs, SendIs, IsRefusal};
-ghost use Rattle.sp_ws.specs.Frames.{IsFrame};
+ghost use Rattle.std.specs.Prelude.{◌∷◌};
+ghost use Rattle.sp_ws.specs.Streams.{remaining_in, unread_of, Fetched, Loaded, ReadTo, IsNamed, Noted, NextIs, SendIs, IsRefusal};
+ghost use Rattle.sp_ws.specs.Frames.{IsFrame, IsCopied, Fails};
+ghost use Rattle.tungstenite.specs.Socket.{Reads};
 
 use crate::frames::{FrameIn, FrameOut};
 use crate::memory::{Keys, Memory};
+use crate::reads::{Given, ReadLog};
 use sp_base::{Bytes, next_value};
 use std::alloc::Global;
 use std::io::ErrorKind;
@@ -23,6 +26,8 @@ pub(crate) struct Stream {
     pub fed: Vec<u8>,
     /// What waits for the link.
     pub out: Vec<u8>,
+    /// What each read of the socket gave. It takes no memory.
+    pub reads: ReadLog,
 }
 
 // A copy of a message.
@@ -118,6 +123,7 @@ impl Stream {
         ensures out { result.out.items ≡ [] }
         ensures unread { unread_of result ≡ 0 }
         ensures role { result.role ≡ role }
+        ensures reads { result.reads.all ≡ [] }
     {
         let memory = Memory {
             fed: Vec::new(alloc),
@@ -136,13 +142,15 @@ impl Stream {
             socket: WebSocket::from_raw_socket(alloc, memory, keys, role, Some(config)),
             fed: Vec::new(alloc),
             out: Vec::new(alloc),
+            reads: ReadLog::none(),
         }
     }
 
     /// Hands what was fed over to the socket. A change of the socket's stream has no clause, so what it came to is
     /// looked at.
     fn load(&mut self) -> bool
-        ensures { Loaded result self.old self.new }
+        ensures loaded { Loaded result self.old self.new }
+        ensures reads { self.new.reads ≡ self.old.reads }
     {
         if self.fed.is_empty() {
             return true;
@@ -162,7 +170,8 @@ impl Stream {
 
     /// Puts what the socket wrote behind what waits.
     fn fetch(&mut self) -> bool
-        ensures { Fetched result self.old self.new }
+        ensures fetched { Fetched result self.old self.new }
+        ensures reads { self.new.reads ≡ self.old.reads }
     {
         if self.socket.get_ref().out.is_empty() {
             return true;
@@ -180,15 +189,29 @@ impl Stream {
         memory.out.is_empty() && memory.unread() == unread
     }
 
+    /// One read of the socket, which is noted. No other function reads it.
+    fn read_once(&mut self) -> Result<Message, Error>
+        ensures read { Reads remaining_in self.old.socket self.new.socket result }
+        ensures noted { self.new.reads.all ≡ self.old.reads.all ++ result ∷ [] }
+        ensures fed { self.new.fed ≡ self.old.fed }
+        ensures out { self.new.out ≡ self.old.out }
+        ensures role { self.new.role ≡ self.old.role }
+    {
+        let answer = self.socket.read();
+        self.reads = self.reads.and(&Given { answer: &answer });
+        answer
+    }
+
     /// What the socket's next message is, past pings and pongs.
     fn read_next(&mut self) -> FrameIn
         ensures read { ReadTo result self.old.socket self.new.socket }
+        ensures noted { Noted result self.old self.new }
         ensures fed { self.new.fed ≡ self.old.fed }
         ensures out { self.new.out ≡ self.old.out }
         ensures role { self.new.role ≡ self.old.role }
     {
         'reads: for _ in 0..u64::MAX {
-            let answer = self.socket.read();
+            let answer = self.read_once();
             let is_empty = self.socket.get_ref().unread() == 0;
             if let Some(named) = name(self.alloc, answer, is_empty) {
                 return named;
@@ -199,7 +222,8 @@ impl Stream {
 
     /// The next message of what was fed. Where there is no memory a message may be lost.
     pub(crate) fn next(&mut self) -> FrameIn
-        ensures { NextIs result self.old self.new }
+        ensures next { NextIs result self.old self.new }
+        ensures noted { Noted result self.old self.new }
     {
         if !self.load() {
             return FrameIn::NoMemory;

@@ -73,7 +73,7 @@ fn room_after(flushed: WireFlush, waiting: usize) -> Room
 
 impl<L: Link> WsWire<L> {
     /// A wire over a link whose opening is done; these bytes came behind the opening's head. A body that is read has at
-    /// most `max` bytes. Refused for want of memory alone, and then the link comes back as it was.
+    /// most `max` bytes. Refused only when out of memory, and then the link comes back as it was.
     pub fn new(
         alloc: Global,
         link: L,

@@ -152,6 +152,11 @@ fn a_server_pulls_binary_messages(rt: HostRuntime) -> Result<(), Fail> {
         (b"\x82\x85\x37\xfa\x21\x3d\x7f", b"e"),
         (b"\x82", b"e"),
         (b"", b"e"),
+        // the masked pong of RFC 6455 section 5.7
+        (
+            b"\x8a\x85\x37\xfa\x21\x3d\x7f\x9f\x4d\x51\x58\x82\x80\x00\x00\x00\x00",
+            b"[]e",
+        ),
     ];
     for (bytes, wanted) in rows {
         assert!(rt; gives_both(rt.alloc(), &rt, Side::Server, bytes, wanted)?);
@@ -225,6 +230,9 @@ fn a_message_has_at_most_max_bytes(rt: HostRuntime) -> Result<(), Fail> {
     assert!(rt; gives(rt.alloc(), &rt, Side::Server, five, 100, 4, b"x")?);
     assert!(rt; gives(rt.alloc(), &rt, Side::Server, HELLO, 100, 5, b"[Hello]e")?);
     assert!(rt; gives(rt.alloc(), &rt, Side::Server, HELLO, 100, 4, b"x")?);
+    // the second fragment passes the limit, and no fragment is the last
+    let begun: &[u8] = b"\x02\x83\x00\x00\x00\x00abc\x00\x82\x00\x00\x00\x00de";
+    assert!(rt; gives(rt.alloc(), &rt, Side::Server, begun, 100, 4, b"x")?);
     Ok(())
 }
 
@@ -239,25 +247,49 @@ fn zeroes(alloc: Global, length: u64) -> Result<Vec<u8>, NoMemory> {
     Ok(frame)
 }
 
-// How long the first message is that a server pulls of these bytes.
-fn first_length<R: Wait>(alloc: Global, rt: &R, bytes: &[u8]) -> Result<Option<usize>, NoMemory> {
+// How long the first message is that this side pulls of these bytes; and whether what it pulls is malformed.
+fn first_length<R: Wait>(
+    alloc: Global,
+    rt: &R,
+    side: Side,
+    bytes: &[u8],
+) -> Result<(usize, bool), NoMemory> {
     let mut script = Vec::new(alloc);
     script.push(LinkStep::Bytes(Bytes::from_slice(alloc, bytes)?))?;
     let link = MemLink::new(alloc, script, 100, Vec::new(alloc));
-    let mut wire = over(alloc, link, Side::Server, &[], MAX)?;
+    let mut wire = over(alloc, link, side, &[], MAX)?;
     match wire.pull(rt) {
-        WireIn::Message(m) => Ok(Some(m.body().len())),
+        WireIn::Message(m) => Ok((m.body().len(), false)),
+        WireIn::Malformed => Ok((0, true)),
         WireIn::NoMemory => Err(NoMemory),
-        _ => Ok(None),
+        _ => Ok((0, false)),
     }
 }
 
 #[test]
 fn a_mebibyte_is_pulled_and_no_byte_more(rt: HostRuntime) -> Result<(), Fail> {
     let longest = zeroes(rt.alloc(), 1_048_576)?;
-    assert_eq!(rt; first_length(rt.alloc(), &rt, &longest)?, Some(1_048_576));
+    let first = first_length(rt.alloc(), &rt, Side::Server, &longest)?;
+    assert_eq!(rt; first, (1_048_576, false));
     let longer = zeroes(rt.alloc(), 1_048_577)?;
-    assert_eq!(rt; first_length(rt.alloc(), &rt, &longer)?, None);
+    let first = first_length(rt.alloc(), &rt, Side::Server, &longer)?;
+    assert_eq!(rt; first, (0, true));
+    Ok(())
+}
+
+#[test]
+fn a_client_pulls_frames_of_each_length(rt: HostRuntime) -> Result<(), Fail> {
+    let rows: &[(&[u8], usize)] = &[
+        (b"\x82\x7d", 125),
+        (b"\x82\x7e\x01\x00", 256),
+        (b"\x82\x7f\x00\x00\x00\x00\x00\x01\x00\x00", 65_536),
+    ];
+    for (header, length) in rows {
+        let mut frame = Vec::from_slice(rt.alloc(), header)?;
+        frame.resize(header.len().saturating_add(*length), b'a')?;
+        let first = first_length(rt.alloc(), &rt, Side::Client { seed: 7 }, &frame)?;
+        assert_eq!(rt; first, (*length, false));
+    }
     Ok(())
 }
 

@@ -1,7 +1,7 @@
-//! Wrong heads, each named by the first rule that it breaks (RFC 6455 section 4.2.1): 177 of them near the sample, and
-//! the sample with each of its bytes but the last four replaced by 0.
+//! Wrong heads, each named by the first rule that it breaks (RFC 6455 section 4.2.1): more than 220 of them, and the sample with
+//! each of its bytes but the last four replaced by 0.
 
-use crate::opening::{H, fault, varied};
+use crate::opening::{H, fault, varied, with_lines, without_returns};
 use sp_upgrade::HeadFault;
 use std::alloc::{AllocError, Global};
 use std::test::Fail;
@@ -96,6 +96,10 @@ fn what_is_no_head_is_refused(rt: HostRuntime) -> Result<(), Fail> {
         b"Host: x\r\r\n",
         b"Host; x\r\n",
         b"Ho@st: x\r\n",
+        b"Host: x\r\n y\r\n",
+        b"Host: x\r\n\ty\r\n",
+        b"Host: x\n\r\n",
+        b"\nHost: x\r\n",
     ];
     let other = first_other(
         rt.alloc(),
@@ -110,6 +114,75 @@ fn what_is_no_head_is_refused(rt: HostRuntime) -> Result<(), Fail> {
         fault(rt.alloc(), b"\x16\x03\x01\r\n\r\n"),
         Some(HeadFault::NotHttp)
     );
+    Ok(())
+}
+
+#[test]
+fn folded_lines_are_refused(rt: HostRuntime) -> Result<(), Fail> {
+    let rows: &[(&[u8], &[u8])] = &[
+        (b"Upgrade: websocket", b"Upgrade:\r\n websocket"),
+        (b"Upgrade: websocket", b"Upgrade: h2c,\r\n\twebsocket"),
+        (b"Connection: Upgrade", b"Connection:\r\n Upgrade"),
+        (b"Connection: Upgrade", b"Connection: x,\n Upgrade"),
+        (b"Key: dGhl", b"Key:\r\n dGhl"),
+        (b"Key: dGhl", b"Key: dGhl\r\n "),
+        (b"Version: 13", b"Version:\r\n 13"),
+        (b"Protocol: rep", b"Protocol:\r\n\trep"),
+        (b"nanomsg.org", b"nanomsg.org\r\n , x"),
+    ];
+    for (old, new) in rows {
+        let came = varied(rt.alloc(), H, old, new)?;
+        assert_eq!(rt; fault(rt.alloc(), &came), Some(HeadFault::NotHttp));
+    }
+    Ok(())
+}
+
+#[test]
+fn lines_that_end_in_lf_alone_end_no_head(rt: HostRuntime) -> Result<(), Fail> {
+    let mut came = without_returns(rt.alloc(), H)?;
+    assert_eq!(rt; fault(rt.alloc(), &came), None);
+    came.extend_from_slice(b"\r\n\r\n")?;
+    assert_eq!(rt; fault(rt.alloc(), &came), Some(HeadFault::NotHttp));
+    Ok(())
+}
+
+#[test]
+fn heads_of_too_many_lines_are_refused(rt: HostRuntime) -> Result<(), Fail> {
+    let counts: &[usize] = &[59, 60, 64, 100, 1_000];
+    for more in counts {
+        let came = with_lines(rt.alloc(), *more)?;
+        assert_eq!(rt; fault(rt.alloc(), &came), Some(HeadFault::NotHttp));
+    }
+    Ok(())
+}
+
+// These bytes, and behind them this line 8,192 times.
+fn endless(alloc: Global, begun: &[u8], line: &[u8]) -> Result<Vec<u8>, AllocError> {
+    let mut came = Vec::from_slice(alloc, begun)?;
+    for _ in 0..8_192u32 {
+        came.extend_from_slice(line)?;
+    }
+    Ok(came)
+}
+
+#[test]
+fn heads_that_never_end_are_refused(rt: HostRuntime) -> Result<(), Fail> {
+    let lines: &[&[u8]] = &[
+        b"a",
+        b"\0",
+        b"\n",
+        b"\r",
+        b"\r\r\n",
+        b"X: y\r\n",
+        b"GET / HTTP/1.1\r\n",
+        b"Host: 127.0.0.1:5555\r\n",
+    ];
+    for line in lines {
+        let came = endless(rt.alloc(), b"", line)?;
+        assert_eq!(rt; fault(rt.alloc(), &came), Some(HeadFault::TooLong));
+        let came = endless(rt.alloc(), &H[..195], line)?;
+        assert_eq!(rt; fault(rt.alloc(), &came), Some(HeadFault::TooLong));
+    }
     Ok(())
 }
 
@@ -244,6 +317,17 @@ fn other_keys_are_refused(rt: HostRuntime) -> Result<(), Fail> {
     let none: &[&[u8]] = &[b"X-Key"];
     let other = first_other(rt.alloc(), b"Sec-WebSocket-Key", none, HeadFault::Key)?;
     assert_eq!(rt; other, None);
+    Ok(())
+}
+
+#[test]
+fn keys_of_zeroes_that_are_not_16_bytes_are_refused(rt: HostRuntime) -> Result<(), Fail> {
+    for length in 0..32usize {
+        let mut key = Vec::new(rt.alloc());
+        key.resize(length, b'A')?;
+        let came = varied(rt.alloc(), H, b"dGhlIHNhbXBsZSBub25jZQ==", &key)?;
+        assert_eq!(rt; fault(rt.alloc(), &came), Some(HeadFault::Key));
+    }
     Ok(())
 }
 

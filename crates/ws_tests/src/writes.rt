@@ -25,28 +25,52 @@ fn quiet(
     over(alloc, link, side, &[], MAX)
 }
 
+// What a wire on this side writes after it pulled all of these bytes, which are no message; nothing where the pull or
+// the flush answers otherwise.
+fn answered<R: Wait>(
+    alloc: Global,
+    rt: &R,
+    side: Side,
+    bytes: &[u8],
+) -> Result<Vec<u8>, NoMemory> {
+    let script = pieces(alloc, bytes, 100, LinkStep::NotYet)?;
+    let link = MemLink::new(alloc, script, 100, Vec::new(alloc));
+    let mut w = over(alloc, link, side, &[], MAX)?;
+    let WireIn::NotYet = w.pull(rt) else {
+        return Ok(Vec::new(alloc));
+    };
+    let WireFlush::Empty = w.flush(rt) else {
+        return Ok(Vec::new(alloc));
+    };
+    let link = w.into_link();
+    Ok(Vec::from_slice(alloc, link.written())?)
+}
+
 #[test]
 fn a_pong_answers_a_ping(rt: HostRuntime) -> Result<(), Fail> {
+    let ping: &[u8] = b"\x89\x81\x00\x00\x00\x00p";
+    let bare = answered(rt.alloc(), &rt, Side::Server, ping)?;
+    assert!(rt; bare.as_slice() == b"\x8a\x01p".as_slice());
+    let masked = answered(rt.alloc(), &rt, Side::Client { seed: 7 }, b"\x89\x01p")?;
+    assert!(rt; masked.as_slice() == b"\x8a\x81\x51\x75\xda\x14\x21".as_slice());
+    Ok(())
+}
+
+#[test]
+fn nothing_is_written_after_a_close(rt: HostRuntime) -> Result<(), Fail> {
     let script = pieces(
         rt.alloc(),
-        b"\x89\x81\x00\x00\x00\x00p",
+        b"\x88\x82\x00\x00\x00\x00\x03\xe8",
         100,
         LinkStep::NotYet,
     )?;
     let link = MemLink::new(rt.alloc(), script, 100, Vec::new(rt.alloc()));
     let mut w = over(rt.alloc(), link, Side::Server, &[], MAX)?;
     match w.pull(&rt) {
-        WireIn::NotYet => {}
-        _ => {
-            assert!(rt; false);
-            return Ok(());
-        }
-    }
-    match w.flush(&rt) {
-        WireFlush::Empty => {}
+        WireIn::Ended => {}
         _ => assert!(rt; false),
     }
-    assert!(rt; w.into_link().written() == b"\x8a\x01p".as_slice());
+    assert!(rt; w.into_link().written().is_empty());
     Ok(())
 }
 
@@ -124,5 +148,62 @@ fn a_message_is_one_binary_frame(rt: HostRuntime) -> Result<(), Fail> {
     assert!(rt; masked.starts_with(b"\x82\x85"));
     let wanted: &[u8] = b"[\x80\x00\x00\x05q]e";
     assert!(rt; gives(rt.alloc(), &rt, Side::Server, &masked, 2, MAX, wanted)?);
+    Ok(())
+}
+
+// Whether there was room for one message more.
+fn puts<R: Wait>(
+    alloc: Global,
+    rt: &R,
+    w: &mut WsWire<MemLink>,
+    body: &[u8],
+) -> Result<bool, NoMemory>
+    requires { w.old.wire.is_open ≡ true }
+    ensures { IfOk result (λ put. put ≡ true → w.new.wire.is_open ≡ true) }
+{
+    let Room::Yes = w.room(rt) else {
+        return Ok(false);
+    };
+    let m = Message::from_body(alloc, body)?;
+    w.put(rt, m);
+    Ok(true)
+}
+
+#[test]
+fn each_frame_has_its_own_mask(rt: HostRuntime) -> Result<(), Fail> {
+    let mut w = quiet(
+        rt.alloc(),
+        Side::Client { seed: 7 },
+        100,
+        Vec::new(rt.alloc()),
+    )?;
+    let body: &[u8] = b"\x80\x00\x00\x05q";
+    if puts(rt.alloc(), &rt, &mut w, body)? && puts(rt.alloc(), &rt, &mut w, body)? {
+        let _ = w.flush(&rt);
+    }
+    let wanted: &[u8] = b"\x82\x85\x7e\x43\x28\xbc\xfe\x43\x28\xb9\x0f\x82\x85\xf4\xa6\x1a\x7f\x74\xa6\x1a\x7a\x85";
+    assert!(rt; w.into_link().written() == wanted);
+    Ok(())
+}
+
+#[test]
+fn a_server_writes_frames_of_each_length(rt: HostRuntime) -> Result<(), Fail> {
+    let rows: &[(usize, &[u8])] = &[
+        (125, b"\x82\x7d"),
+        (126, b"\x82\x7e\x00\x7e"),
+        (65_535, b"\x82\x7e\xff\xff"),
+        (65_536, b"\x82\x7f\x00\x00\x00\x00\x00\x01\x00\x00"),
+    ];
+    for (length, header) in rows {
+        let mut body = Vec::new(rt.alloc());
+        body.resize(*length, b'a')?;
+        let mut w = quiet(rt.alloc(), Side::Server, 100_000, Vec::new(rt.alloc()))?;
+        if puts(rt.alloc(), &rt, &mut w, &body)? {
+            let _ = w.flush(&rt);
+        }
+        let link = w.into_link();
+        assert!(rt; link.written().starts_with(header) && link.written().ends_with(&body));
+        assert_eq!(rt; link.written().len(), header.len().saturating_add(*length));
+    }
     Ok(())
 }

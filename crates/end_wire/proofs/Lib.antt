@@ -1,0 +1,4 @@
+pub mod Renaming
+pub mod Beginning
+pub mod OverLink
+pub mod Numbers

@@ -1,0 +1,164 @@
+//! Worked openings.
+ghost use Rattle.std.specs.Prelude.{IfOk};
+ghost use Rattle.sp_base.specs.Steps.{IsNew};
+ghost use Rattle.sp_fakes.specs.MemLinks.{link_view};
+ghost use Rattle.link_opening.specs.Openings.{CanBegin};
+ghost use Rattle.link_opening.specs.Going.{IsUnderWay};
+
+use link_opening::{Opening, Progress, Way};
+use sp_base::{Addr, Bytes, Host, Role, Scheme};
+use sp_fakes::{LinkStep, MemLink};
+use std::alloc::{AllocError, Global};
+use std::test::Fail;
+
+const REQUEST: &[u8] =
+    b"GET / HTTP/1.1\r\nHost: 127.0.0.1:5555\r\nUpgrade: websocket\r\nConnection: Upgrade\r\nSec-WebSocket-Key: dGhlIHNhbXBsZSBub25jZQ==\r\nSec-WebSocket-Version: 13\r\nSec-WebSocket-Protocol: rep.sp.nanomsg.org\r\n\r\n";
+
+const RESPONSE: &[u8] =
+    b"HTTP/1.1 101 Switching Protocols\r\nUpgrade: websocket\r\nConnection: Upgrade\r\nSec-WebSocket-Accept: s3pPLMBiTxaQ9kYGzzhZRbK+xOo=\r\nSec-WebSocket-Protocol: rep.sp.nanomsg.org\r\n\r\n";
+
+// The request with the key that the generator gives from 0 on, and its response.
+const ASKED: &[u8] =
+    b"GET / HTTP/1.1\r\nHost: 127.0.0.1:5555\r\nUpgrade: websocket\r\nConnection: Upgrade\r\nSec-WebSocket-Key: FAV7fvdngU8aCO4RhLptMg==\r\nSec-WebSocket-Version: 13\r\nSec-WebSocket-Protocol: rep.sp.nanomsg.org\r\n\r\n";
+
+const ANSWERED: &[u8] =
+    b"HTTP/1.1 101 Switching Protocols\r\nUpgrade: websocket\r\nConnection: Upgrade\r\nSec-WebSocket-Accept: pcNwVK8H2TInp2i0TlaErEE0lwU=\r\nSec-WebSocket-Protocol: rep.sp.nanomsg.org\r\n\r\n";
+
+// A link that takes 40 bytes a write. It brings these pieces, the second after so many bytes were written.
+fn linked(
+    alloc: Global,
+    first: &[u8],
+    after: u64,
+    second: &[u8],
+    scheme: Scheme,
+) -> Result<MemLink, AllocError>
+    ensures { IfOk result (λ l. IsNew (link_view l).place (link_view l)) }
+{
+    let mut script = Vec::new(alloc);
+    script.push(LinkStep::Bytes(Bytes::from_vec(Vec::from_slice(alloc, first)?)))?;
+    script.push(LinkStep::NotYet)?;
+    script.push(LinkStep::After(after))?;
+    script.push(LinkStep::Bytes(Bytes::from_vec(Vec::from_slice(alloc, second)?)))?;
+    Ok(MemLink::new(alloc, script, 40, Vec::new(alloc)).placed(0, scheme))
+}
+
+// Tries twice, where the first try waits.
+fn greet_twice(opening: &mut Opening<MemLink>, alloc: Global) -> Progress
+    requires { IsUnderWay link_view opening.old }
+{
+    match opening.greet(alloc) {
+        Progress::Waits => opening.greet(alloc),
+        other => other,
+    }
+}
+
+// Whether the link was opened, after it wrote this, with these bytes behind the peer's part.
+fn opens(alloc: Global, link: MemLink, role: Role, way: Way, written: &[u8], behind: &[u8]) -> bool
+    requires fresh { IsNew (link_view link).place (link_view link) }
+    requires can { CanBegin way }
+{
+    let Ok(mut opening) = Opening::new(alloc, link, role, way) else {
+        return false;
+    };
+    let is_opened = greet_twice(&mut opening, alloc) == Progress::Opened;
+    let has_behind = is_behind(opening.came.as_slice(), opening.used, behind);
+    let link = opening.into_link();
+    is_opened && has_behind && link.written() == written
+}
+
+// Whether what came was found wrong, after the link wrote this.
+fn is_bad(alloc: Global, link: MemLink, role: Role, way: Way, written: &[u8]) -> bool
+    requires fresh { IsNew (link_view link).place (link_view link) }
+    requires can { CanBegin way }
+{
+    let Ok(mut opening) = Opening::new(alloc, link, role, way) else {
+        return false;
+    };
+    let is_bad = greet_twice(&mut opening, alloc) == Progress::Bad;
+    let link = opening.into_link();
+    is_bad && link.written() == written
+}
+
+// Whether these bytes follow the first so many.
+fn is_behind(came: &[u8], used: Option<usize>, behind: &[u8]) -> bool {
+    match used {
+        Some(used) => used <= came.len() && &came[used..] == behind,
+        None => false,
+    }
+}
+
+#[test]
+fn a_listening_link_answers(rt: HostRuntime) -> Result<(), Fail> {
+    let alloc = rt.alloc();
+    let link = linked(alloc, &REQUEST[..100], 0, &REQUEST[100..], Scheme::Ws)?;
+    let path = Bytes::from_vec(Vec::from_slice(alloc, b"/")?);
+    assert!(rt; opens(alloc, link, Role::Rep, Way::Serves { path }, RESPONSE, b""));
+    Ok(())
+}
+
+#[test]
+fn a_dialing_link_asks_first(rt: HostRuntime) -> Result<(), Fail> {
+    let alloc = rt.alloc();
+    let mut all = Vec::from_slice(alloc, ANSWERED)?;
+    all.extend_from_slice(b"\x82\x00")?;
+    let link = linked(alloc, b"", 197, &all, Scheme::Ws)?;
+    let path = Bytes::from_vec(Vec::from_slice(alloc, b"/")?);
+    let addr = Addr::Ws {
+        host: Host::V4(127, 0, 0, 1),
+        port: 5555,
+        path,
+    };
+    assert!(rt;
+        opens(
+            alloc,
+            link,
+            Role::Req,
+            Way::Asks { addr, start: 0 },
+            ASKED,
+            b"\x82\x00"
+        )
+    );
+    Ok(())
+}
+
+#[test]
+fn both_sides_greet_over_tcp(rt: HostRuntime) -> Result<(), Fail> {
+    let alloc = rt.alloc();
+    let link = linked(
+        alloc,
+        b"\x00SP",
+        8,
+        b"\x00\x00\x30\x00\x00\x00\x00",
+        Scheme::Tcp,
+    )?;
+    assert!(rt;
+        opens(
+            alloc,
+            link,
+            Role::Rep,
+            Way::Greeting,
+            b"\x00SP\x00\x00\x31\x00\x00",
+            b"\x00\x00"
+        )
+    );
+    Ok(())
+}
+
+#[test]
+fn what_is_wrong_is_not_answered(rt: HostRuntime) -> Result<(), Fail> {
+    let alloc = rt.alloc();
+    let link = linked(alloc, b"\x00SQ", 0, b"", Scheme::Tcp)?;
+    assert!(rt;
+        is_bad(
+            alloc,
+            link,
+            Role::Rep,
+            Way::Greeting,
+            b"\x00SP\x00\x00\x31\x00\x00"
+        )
+    );
+    let path = Bytes::from_vec(Vec::from_slice(alloc, b"/b")?);
+    let link = linked(alloc, REQUEST, 0, b"", Scheme::Ws)?;
+    assert!(rt; is_bad(alloc, link, Role::Rep, Way::Serves { path }, b""));
+    Ok(())
+}
