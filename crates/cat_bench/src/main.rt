@@ -11,6 +11,7 @@ use sp_fakes::{LinkStep, MemFiles, MemLink, MemNet, MemPace, MemSink};
 use std::alloc::Global;
 use std::io;
 use std::sync::Wait;
+use std::thread::Threads;
 use std::time::{Clock, Instant};
 
 /// The sizes of bodies in bytes, and how many messages of each size go through.
@@ -39,7 +40,7 @@ fn text_of(alloc: Global, number: u8, body: &[u8], count: u32) -> Result<Vec<u8>
 }
 
 // Runs the words over one link that brings this text.
-fn over<R: AllocGlobal + Wait>(rt: &R, words: &[String], text: Vec<u8>) -> Result<Ran, NoMemory> {
+fn over<R: AllocGlobal + Wait + Threads + Sync>(rt: &R, words: &[String], text: Vec<u8>) -> Result<Ran, NoMemory> {
     let alloc = rt.alloc();
     let mut script = Vec::new(alloc);
     script.push(LinkStep::Bytes(Bytes::from_vec(text)))?;
@@ -85,14 +86,14 @@ fn words(
 }
 
 // A pull that prints so many messages, raw.
-fn pull<R: AllocGlobal + Wait>(rt: &R, body: &[u8], count: u32) -> Result<Ran, NoMemory> {
+fn pull<R: AllocGlobal + Wait + Threads + Sync>(rt: &R, body: &[u8], count: u32) -> Result<Ran, NoMemory> {
     let words = words(rt.alloc(), "--pull", "--raw", &[], count)?;
     let text = text_of(rt.alloc(), 0x50, body, count)?;
     over(rt, &words, text)
 }
 
 // A push that sends so many messages.
-fn push<R: AllocGlobal + Wait>(rt: &R, body: &[u8], count: u32) -> Result<Ran, NoMemory> {
+fn push<R: AllocGlobal + Wait + Threads + Sync>(rt: &R, body: &[u8], count: u32) -> Result<Ran, NoMemory> {
     let words = words(rt.alloc(), "--push", "--data=", body, count)?;
     let text = text_of(rt.alloc(), 0x51, &[], 0)?;
     over(rt, &words, text)
@@ -119,7 +120,7 @@ fn tell(
     )
 }
 
-fn bench<R: AllocGlobal + Wait>(rt: &HostRuntime, waits: &R) -> io::Result<()> {
+fn bench<R: AllocGlobal + Wait + Threads + Sync>(rt: &HostRuntime, waits: &R) -> io::Result<()> {
     for (size, count) in RUNS {
         let Ok(body) = body_of(rt.alloc(), size) else {
             return Err(io::Error::from(io::ErrorKind::OutOfMemory));

@@ -4,7 +4,7 @@ use Rattle.std.specs.List.{list_any}
 use Rattle.std.specs.FinMap.{FinMap, get}
 use Rattle.std.specs.Ordering.{nat_cmp}
 use Rattle.turn_lock.specs.declared.turn.Turn.{Turn}
-use Rattle.sp_spec.specs.Outside.{IsFront, Told}
+use Rattle.sp_spec.specs.Outside.{IsPrefix, Told}
 use Rattle.sp_spec.specs.SpTcp.{text, shows, IsOversize}
 use Rattle.sp_base.specs.Views.{LinkView}
 use Rattle.sp_base.specs.Roles.{role_number}
@@ -86,7 +86,7 @@ IsLate past place = (t : ℕ) × (met_at past place ≡ Some t) × (t + 10000 �
 
 module _ (ways : Ways) (z : Setting) (record_ : List (Turn Entry)) where
   -- why a link was missed, by its state when it was given back: its greeting is wrong; it has ended, it has failed or it
-  -- took too long, and it isn't complete; attach was refused; want of memory is free
+  -- took too long, and it isn't complete; attach was refused; out of memory is free
   abbrev pub MissedFor : List Entry → ℕ → Miss → LinkView → ways.Way → Type 0
   MissedFor past place misses.Bad link way = IsSpoilt ways way link
   MissedFor past place misses.Ended link way = (link.ended ≡ true) × ¬ IsComplete ways way link × WroteOrStalled ways way link
@@ -106,10 +106,10 @@ module _ (ways : Ways) (z : Setting) (record_ : List (Turn Entry)) where
 
 -- ---- Links that came up
 
--- the frames that were pulled are a front of what came, and what was written is a front of what was put
+-- the frames that were pulled are a prefix of what came, and what was written is a prefix of what was put
 pub record Carries (z : Setting) (past : List Entry) (p : ℕ) (link : LinkView) : Type 0 where
-  pub came : Told link.came (λ came. IsFront (text (peer_number z.role) (frames past p)) came)
-  pub written : Told link.written (λ written. IsFront written (text (role_number z.role) (outs past p)))
+  pub came : Told link.came (λ came. IsPrefix (text (peer_number z.role) (frames past p)) came)
+  pub written : Told link.written (λ written. IsPrefix written (text (role_number z.role) (outs past p)))
 
 -- the last frame of the pipe is malformed
 abbrev pub fell_for_frame : Setting → List Entry → ℕ → Bool
@@ -121,7 +121,7 @@ IsDrained z max past p link = Told link.came (λ came. frames past p ≡ shows (
 
 -- why a pipe over TCP went down: its link has ended, and all that it shows was pulled; its link has failed; its last frame
 -- is malformed, or the link shows a message above the limit, and all before it was pulled; never for a refusal; the
--- close and want of memory are free
+-- close and out of memory are free
 abbrev pub FellFor : Setting → ℕ → List Entry → ℕ → Why → LinkView → Type 0
 FellFor z max past p whys.Ended link = (link.ended ≡ true) × IsDrained z max past p link
 FellFor z max past p whys.Failed link = 1 ≤ link.faults

@@ -2,8 +2,8 @@
 use Rattle.std.specs.Prelude.{◌≡◌, ◌⊎◌, ◌≤◌, ◌<◌, ℕ, true, false, Bool, IsTrue, ⊤, List, [], ◌∷◌, ◌++◌, Option, Some, None}
 use Rattle.std.specs.FinMap.{get}
 use Rattle.turn_lock.specs.declared.turn.Turn.{Turn}
-use Rattle.sp_spec.specs.Fronts.{IsViableUpTo}
-use Rattle.sp_spec.specs.Outside.{Rose, grown, IsFront, Told}
+use Rattle.sp_spec.specs.Prefixes.{IsViableUpTo}
+use Rattle.sp_spec.specs.Outside.{Rose, grown, IsPrefix, Told}
 use Rattle.sp_spec.specs.SpTcp.{text}
 use Rattle.sp_base.specs.Views.{LinkView, NetView, PaceView, SinkView, FilesView}
 use Rattle.sp_base.specs.Roles.{role_number}
@@ -63,7 +63,7 @@ Reads = List (List ℕ) → Plan → Type 0
 abbrev pub IsPlanned : Reads → List (List ℕ) → Type 0
 IsPlanned reads words = (plan : Plan) × reads words plan
 
--- wrong words are named at the first place from which no list of the set goes on; want of memory is the one other answer
+-- wrong words are named at the first place from which no list of the set goes on; out of memory is the one other answer
 -- to them
 pub record RefusesWords (reads : Reads) (s : Status) (words : List (List ℕ)) : Type 0 where
   pub usage : (at : ℕ) → s ≡ status.Usage at → (IsPlanned reads words → ⊥) × IsViableUpTo (IsPlanned reads) words at
@@ -124,10 +124,10 @@ pub record FilesBy (data_ : Data) (old new : World) : Type 0 where
 
 -- ---- The record
 
--- all of these texts, or a front of the last in its place
+-- all of these texts, or a prefix of the last in its place
 abbrev pub IsCutShort : List (List ℕ) → List ℕ → Type 0
 IsCutShort ts piece = (piece ≡ joined ts)
-    ⊎ ((before : List (List ℕ)) × (last : List ℕ) × (front : List ℕ) × (ts ≡ before ++ last ∷ []) × IsFront front last × (piece ≡ joined before ++ front))
+    ⊎ ((before : List (List ℕ)) × (last : List ℕ) × (front : List ℕ) × (ts ≡ before ++ last ∷ []) × IsPrefix front last × (piece ≡ joined before ++ front))
 
 -- the sink's text grew by these; where a put failed or memory was wanting, the last may be cut short
 abbrev pub Printed : Status → List (List ℕ) → World → World → Type 0
@@ -135,7 +135,7 @@ Printed status.OutFault ts old new = (piece : List ℕ) × IsCutShort ts piece �
 Printed status.NoMemory ts old new = (piece : List ℕ) × IsCutShort ts piece × (new.sink.text ≡ grown old.sink.text piece)
 Printed _ ts old new = new.sink.text ≡ grown old.sink.text (joined ts)
 
--- a link was missed for want of memory
+-- a link was missed when out of memory
 abbrev pub has_dry_miss : List Entry → Bool
 has_dry_miss [] = false
 has_dry_miss (NoUp place misses.NoMemory ∷ past) = true
@@ -157,7 +157,7 @@ pub record Runs (ways : Ways) (s : Status) (plan : CatPlan) (play : Play) (dice 
   pub spends : Spends plan.ends record_ old.net new.net old.pace new.pace
   pub ended : EndedFor s (run_setting plan.role dice) plan play (past_of record_) old new
   pub paced : PacedBy s old new
-  -- want of memory for a link ends the run
+  -- out of memory for a link ends the run
   pub memory : has_dry_miss (past_of record_) ≡ true → s ≡ status.NoMemory
 
 -- what became of a plan: no socket was opened, or this is its record
@@ -177,7 +177,7 @@ EndsPlan s plan dice None old new = ⊤
 EndsPlan s plan dice (Some record_) old new =
     (play : Play) → IsPlayOf plan old.files play → EndsInTime (is_called_off s) (run_setting plan.role dice) play record_ old.net new.net
 
--- what became of a drill: the three lines at its end, a front of them where a put failed or memory was wanting, and no
+-- what became of a drill: the three lines at its end, a prefix of them where a put failed or memory was wanting, and no
 -- other status
 abbrev pub DrillsTo : Status → ℕ → List (Turn Entry) → World → World → Type 0
 DrillsTo status.Done n record_ old new = (new.sink.text ≡ grown old.sink.text (lines n)) × GivesAll n record_

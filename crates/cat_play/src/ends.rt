@@ -5,7 +5,7 @@
 pub enum Status {
     /// The play came to its end: the count is reached, or a receive timed out.
     Done,
-    /// The words have no plan that can be run; `at` is the length of their longest front with which the words of some
+    /// The words have no plan that can be run; `at` is the length of their longest prefix with which the words of some
     /// plan begin.
     Usage { at: u32 },
     /// A send took longer than it may.
@@ -14,7 +14,7 @@ pub enum Status {
     Over,
     /// The net failed to listen.
     NetFault,
-    /// The output failed; a front of the text that it was given may stand there.
+    /// The output failed; a prefix of the text that it was given may stand there.
     OutFault,
     /// A file couldn't be read.
     FileFault,

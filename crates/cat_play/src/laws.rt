@@ -49,8 +49,8 @@ pub fn turns_that_go_on()
     ensures one { (z : Setting) (play : Play) (h : List (Turn Entry)) (t : Turn Entry) (e : Entry) (early late : List Entry) → HasOne e t early late → MayPlay z play (onto early (past_of h)) e → (is_send e && waits_for_pipe play (past_of h)) ≡ false → (is_tick e ≡ true → has_ticked (past_of h) ≡ true → was_swept z (reverse h) ≡ true) → GoesOn z play h t }
 {}
 
-/// The turn of the close goes on with a play, where no rule speaks of the entries before the close; and turns after it leave
-/// a play one, where they have no tick and begin no send.
+/// The turn of the close goes on with a play, where no rule speaks of the entries before the close; and turns after it
+/// leave a play one, where they have no tick and begin no send.
 pub fn a_play_closes()
     ensures closing { (z : Setting) (play : Play) (h : List (Turn Entry)) (t : Turn Entry) (entries : List Entry) (totals : Totals) → t.entries ≡ entries ++ Close totals ∷ [] → none_of moves_play entries ≡ true → GoesOn z play h t }
     ensures closed { (z : Setting) (play : Play) (h : List (Turn Entry)) (t : Turn Entry) → is_closed (past_of h) ≡ true → PlaysSoFar z play h → list_any is_tick t.entries ≡ false → list_any is_send t.entries ≡ false → PlaysSoFar z play (h ++ t ∷ []) }
@@ -67,7 +67,8 @@ pub fn tries_are_spaced()
     ensures { (past : List Entry) → AreOrdered (ticks (before_last_tick past)) → AreTries past (spaced_from 0 (ticks (before_last_tick past))) }
 {}
 
-/// A run of a plan without a drill that nothing stops comes to its end, or wants memory: by the causes of the statuses alone.
+/// A run of a plan without a drill that nothing stops comes to its end, or wants memory: by the causes of the
+/// statuses alone.
 pub fn a_run_completes()
     ensures opened { (s : Status) (z : Setting) (plan : CatPlan) (play : Play) (past : List Entry) (old new : World) → EndedFor s z plan play past old new → IsSpared plan old new → ComesToEnd s }
     ensures unopened { (s : Status) (plan : CatPlan) (old new : World) → UnopenedFor s old new → IsSpared plan old new → ComesToEnd s }

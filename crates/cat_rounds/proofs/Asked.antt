@@ -15,7 +15,8 @@ use Rattle.cat_play.specs.Spending.{CanRise, ticks_where, has_room, roomy_ticks,
 use Rattle.cat_play.proofs.Trying.{are_tries}
 use Rattle.sp_ends.specs.declared.dialer.Dialer.{Dialer}
 use Rattle.sp_ends.specs.Dialing.{IsDialed}
-use Rattle.sp_ends.specs.Standing.{NetStands, SameCounts, tries_of}
+use Rattle.sp_ends.specs.declared.listener.Listener.{Listener}
+use Rattle.sp_ends.specs.Standing.{Beginning, NetStands, SameCounts, tries_of}
 
 -- ---- Tries
 
@@ -92,25 +93,25 @@ same_number : (a b : ℕ) → (a == b) ≡ true → a ≡ b
 same_number a b e = grind (arith, nat_tests)
 
 -- the plan's ends are those that were asked, or nothing was asked yet
-abbrev pub AreAsked : List End → List Entry → List ℕ → List Dialer → Type 0
+abbrev pub AreAsked : List End → List Entry → List Listener → List Dialer → Type 0
 AreAsked es past ls ds = ((length ls ≡ listens_of es) × (length ds ≡ dials_of es)) ⊎ (ticks past ≡ [])
 
-grew : (es : List End) (start net net' : NetView) (past : List Entry) (ls : List ℕ) (ds : List Dialer) → NetStands start past past net ls ds → SameCounts net net' → AreOrdered (ticks (before_last_tick past)) → length (ticks past) < 2 ^ 64 → AreAsked es past ls ds
-    → start.opened ≤ net.opened → CanRise net'.idles → CanRise net'.faults → (tried : ℕ) → TriedAtLeast (net'.opened == start.opened) past tried → start.idles + start.faults + start.opened + listens_of es * roomy_ticks past + dials_of es * tried ≤ net'.idles + net'.faults + net'.opened
+grew : (es : List End) (start : Beginning) (net net' : NetView) (past : List Entry) (ls : List Listener) (ds : List Dialer) → NetStands start past past net ls ds → SameCounts net net' → AreOrdered (ticks (before_last_tick past)) → length (ticks past) < 2 ^ 64 → AreAsked es past ls ds
+    → start.net.opened ≤ net.opened → CanRise net'.idles → CanRise net'.faults → (tried : ℕ) → TriedAtLeast (net'.opened == start.net.opened) past tried → start.net.idles + start.net.faults + start.net.opened + listens_of es * roomy_ticks past + dials_of es * tried ≤ net'.idles + net'.faults + net'.opened
 grew es start net net' past ls ds stands counts order few (inl (listens, dials)) opened idles faults tried was =
     let rose = stands.rose (subst CanRise counts.idles idles) (subst CanRise counts.faults faults) in
     let asked = subst (λ n. n * roomy_ticks past ≤ length ls * ticks_where has_room past) listens (mul-le-mul_left (length ls) (rooms past)) in
-    let dialed = subst (λ n. n * tried ≤ tries_of ds) dials (all_tried past (net.opened ≡ start.opened) tried (has_tried past (net.opened ≡ start.opened) (net'.opened == start.opened) tried (λ e. sym counts.opened ∙ same_number net'.opened start.opened e) order few was) ds stands.dials) in
+    let dialed = subst (λ n. n * tried ≤ tries_of ds) dials (all_tried past (net.opened ≡ start.net.opened) tried (has_tried past (net.opened ≡ start.net.opened) (net'.opened == start.net.opened) tried (λ e. sym counts.opened ∙ same_number net'.opened start.net.opened e) order few was) ds stands.dials) in
     omega (arith, rose, asked, dialed, counts.idles, counts.faults, counts.opened)
 grew es start net net' past ls ds stands counts order few (inr none) opened idles faults tried was =
     let no_room = no_rooms past none in
-    let no_try = none_wanted past (net'.opened == start.opened) tried order none was in
+    let no_try = none_wanted past (net'.opened == start.net.opened) tried order none was in
     let asked : listens_of es * roomy_ticks past ≡ 0 = rw no_room (omega arith) in
     let dialed : dials_of es * tried ≡ 0 = rw no_try (omega arith) in
     omega (arith, asked, dialed, stands.idles, stands.faults, opened, counts.idles, counts.faults, counts.opened)
 
-pub were_asked : (es : List End) (z : Setting) (start net net' : NetView) (past : List Entry) (ls : List ℕ) (ds : List Dialer) → NetStands start past past net ls ds → SameCounts net net' → AreAllowed z past → length (ticks past) < 2 ^ 64 → AreAsked es past ls ds → start.opened ≤ net.opened
-    → WereAsked es past start net'
+pub were_asked : (es : List End) (z : Setting) (start : Beginning) (net net' : NetView) (past : List Entry) (ls : List Listener) (ds : List Dialer) → NetStands start past past net ls ds → SameCounts net net' → AreAllowed z past → length (ticks past) < 2 ^ 64 → AreAsked es past ls ds → start.net.opened ≤ net.opened
+    → WereAsked es past start.net net'
 were_asked es z start net net' past ls ds stands counts allowed few asked opened =
     record {
       idles = omega (arith, stands.idles, counts.idles);

@@ -1,19 +1,24 @@
 -- A run stands before its first round.
-use Rattle.std.proofs.Common.{◌≡◌, refl, ap, sym, ◌∙◌, subst, List, [], ℕ, zero, suc, Bool, true, false, arith, length, Option, Some, None}
+use Rattle.std.proofs.Common.{◌≡◌, refl, ap, sym, ◌∙◌, subst, List, [], ℕ, zero, suc, Bool, true, false, arith, length, Option, Some, None, ◌∷◌, inl, inr}
+use Rattle.std.specs.List.{AllByRecursion}
 use Rattle.std.specs.Prelude.{IsTrue, ◌||◌, ◌&&◌, ◌==◌, not, is_some, nat_le}
 use Rattle.std.proofs.lemmas.Bool.Decides.{nat_tests}
 use Rattle.turn_lock.specs.declared.turn.Turn.{Turn}
 use Rattle.sp_spec.specs.Outside.{grown}
 use Rattle.sp_base.specs.Views.{LinkView, NetView, FilesView}
 use Rattle.sp_base.specs.declared.role.Role.{Role}
+use Rattle.sp_base.specs.declared.addr.Addr.{Addr}
+use Rattle.link_opening.specs.Origins.{Origins, IsAmong}
 use Rattle.sp_history.specs.declared.entry.Entry.{Entry}
 use Rattle.sp_history.specs.declared.setting.Setting.{Setting}
 use Rattle.sp_single.specs.Singles.{SingleView}
-use Rattle.sp_ends.specs.Standing.{EndsView, EndsStand}
+use Rattle.sp_ends.specs.Standing.{EndsView, EndsStand, Beginning}
 use Rattle.cat_text.specs.Drafts.{needs_data}
 use Rattle.cat_text.specs.declared.plan.CatPlan.{CatPlan}
 use Rattle.cat_text.specs.declared.plan.Data.{Data}
 use Rattle.cat_text.specs.declared.plan.Data.TheVariants as datas
+use Rattle.cat_text.specs.declared.plan.End.{End}
+use Rattle.cat_text.specs.declared.plan.End.TheVariants as ends
 use Rattle.cat_play.specs.Plans.{Carries, IsPlayOf}
 use Rattle.cat_play.specs.Running.{run_setting}
 use Rattle.cat_rounds.specs.declared.player.Over.{Over}
@@ -23,15 +28,19 @@ use Rattle.cat_rounds.specs.Lasting.{play_of, HasSurveys, PlayStands, IsNewPlaye
 use Rattle.cat_rounds.specs.Going.{RunStands}
 use Rattle.cat_rounds.specs.Starting.{CanSubscribe}
 use Rattle.sp_history.specs.Setting.{is_sub}
-use Rattle.cat_rounds.specs.Built.{IsBuilt, IsBuiltData, IsBody, has_data}
+use Rattle.cat_rounds.specs.Built.{IsBuilt, IsBuiltData, IsBody, IsEndOf, has_data, listen_addrs, dial_addrs, origins_of}
 use Rattle.cat_rounds.proofs.Silent.{append_nil}
 
 -- no end
-abbrev pub no_ends : {L : Type 0} → Role → EndsView L
-no_ends role = record { role = role; listeners = []; dialers = []; newcomers = [] }
+abbrev pub no_ends : {L : Type 0} → Role → ℕ → EndsView L
+no_ends role dice = record { role = role; dice = dice; asked = 0; listeners = []; dialers = []; newcomers = [] }
 
-ends_begin : {L : Type 0} (seen : L → LinkView) (z : Setting) (net : NetView) → EndsStand seen z net [] net (no_ends z.role)
-ends_begin seen z net =
+-- a run of this plan begins
+abbrev pub start_of : NetView → CatPlan → ℕ → Beginning
+start_of net plan dice = record { net = net; origins = origins_of plan dice }
+
+ends_begin : {L : Type 0} (seen : L → LinkView) (z : Setting) (start : Beginning) → EndsStand seen z start [] start.net (no_ends z.role start.origins.dice)
+ends_begin seen z start =
     record {
       role = refl;
       links = record {
@@ -58,6 +67,7 @@ ends_begin seen z net =
         faults = omega arith;
         rose = λ i f. omega arith;
       };
+      of_run = record { listens = tt; dials = tt; dice = refl };
       few = omega arith;
     }
   where
@@ -91,13 +101,13 @@ play_begins z s p n role surveys carries =
       idle = λ e. refl;
     }
 
-begins : {L : Type 0} (seen : L → LinkView) (net : NetView) (s : SingleView) (e : EndsView L) (script : Script) (p : Player) → s.seen ≡ [] → e ≡ no_ends s.setting.role → IsNewPlayer script p → s.setting.role ≡ script.role → HasSurveys s.setting
-    → IsTrue (not (needs_data script.role) || is_some script.body) → RunStands seen net s e p net false
-begins seen net s e script p empty none new role surveys carries =
-    subst (λ (v : SingleView). RunStands seen net v e p net false) (sym single) (subst (λ (x : EndsView _). RunStands seen net (record { setting = s.setting; seen = [] }) x p net false) (sym none) (record {
+begins : {L : Type 0} (seen : L → LinkView) (start : Beginning) (s : SingleView) (e : EndsView L) (script : Script) (p : Player) → s.seen ≡ [] → e ≡ no_ends s.setting.role start.origins.dice → IsNewPlayer script p → s.setting.role ≡ script.role → HasSurveys s.setting
+    → IsTrue (not (needs_data script.role) || is_some script.body) → RunStands seen start s e p start.net false
+begins seen start s e script p empty none new role surveys carries =
+    subst (λ (v : SingleView). RunStands seen start v e p start.net false) (sym single) (subst (λ (x : EndsView _). RunStands seen start (record { setting = s.setting; seen = [] }) x p start.net false) (sym none) (record {
       sound = record { legal = tt; settled = tt };
       play = play_begins s.setting script p new role surveys carries;
-      ends_stand = ends_begin seen s.setting net;
+      ends_stand = ends_begin seen s.setting start;
       dry = refl;
     }))
   where
@@ -143,13 +153,22 @@ prints_nothing text h p empty = subst (λ (g : List (Turn Entry)). HasPrinted te
     nothing (Some s) = ap (λ (s : List ℕ). Some s) (sym (append_nil s))
 
 -- the run of a plan stands before its first round
-pub plan_begins : {L : Type 0} (seen : L → LinkView) (net : NetView) (s : SingleView) (e : EndsView L) (plan : CatPlan) (body : Option (List ℕ)) (p : Player) (dice : ℕ) → s.seen ≡ [] → s.setting ≡ run_setting plan.role dice → e ≡ no_ends plan.role → IsNewPlayer (script_of plan body) p → IsBuilt plan
-    → IsBody plan.data_ body → RunStands seen net s e p net false
+pub plan_begins : {L : Type 0} (seen : L → LinkView) (net : NetView) (s : SingleView) (e : EndsView L) (plan : CatPlan) (body : Option (List ℕ)) (p : Player) (dice : ℕ) → s.seen ≡ [] → s.setting ≡ run_setting plan.role dice → e ≡ no_ends plan.role dice → IsNewPlayer (script_of plan body) p → IsBuilt plan
+    → IsBody plan.data_ body → RunStands seen (start_of net plan dice) s e p net false
 plan_begins seen net s e plan body p dice empty setting none new built is =
-    begins seen net s e (script_of plan body) p empty (none ∙ ap no_ends (sym role)) new role (subst HasSurveys (sym setting) (record { cooked = refl; time = refl })) (has_body (not (needs_data plan.role)) plan.data_ body built.data_built is built.carries)
+    begins seen (start_of net plan dice) s e (script_of plan body) p empty (none ∙ ap (λ (r : Role). no_ends r dice) (sym role)) new role (subst HasSurveys (sym setting) (record { cooked = refl; time = refl })) (has_body (not (needs_data plan.role)) plan.data_ body built.data_built is built.carries)
   where
     role : s.setting.role ≡ plan.role
     role = ap (λ (z : Setting). z.role) setting
+
+-- each end of the plan is one of the run's
+pub all_ends_of : (plan : CatPlan) (dice : ℕ) → AllByRecursion (IsEndOf (origins_of plan dice)) plan.ends
+all_ends_of plan dice = among_all (origins_of plan dice) plan.ends (λ a x. x) (λ a x. x)
+  where
+    among_all : (o : Origins) (es : List End) → ((a : Addr) → IsAmong a (listen_addrs es) → IsAmong a o.listens) → ((a : Addr) → IsAmong a (dial_addrs es) → IsAmong a o.dials) → AllByRecursion (IsEndOf o) es
+    among_all o [] listens dials = tt
+    among_all o (ends.Listen addr ∷ es) listens dials = (listens addr (inl refl), among_all o es (λ a x. listens a (inr x)) dials)
+    among_all o (ends.Dial addr ∷ es) listens dials = (dials addr (inl refl), among_all o es listens (λ a x. dials a (inr x)))
 
 -- its socket takes its topics
 pub can_subscribe : (s : SingleView) (plan : CatPlan) (body : Option (List ℕ)) (p : Player) (dice : ℕ) → s.setting ≡ run_setting plan.role dice → IsNewPlayer (script_of plan body) p → IsBuilt plan → CanSubscribe s.setting p.script.topics

@@ -24,7 +24,7 @@ use Rattle.sp_history.proofs.Slots.{no_slot_where}
 use Rattle.sp_core.specs.declared.ops.BeginError.{BeginError}
 use Rattle.sp_core.specs.declared.ops.BeginError.TheVariants as error
 use Rattle.sp_core.specs.Moving.{AreSettling}
-use Rattle.sp_core.specs.Shelves.{AllTaken}
+use Rattle.sp_core.specs.OperationsStand.{AllTaken}
 use Rattle.sp_core.specs.Standing.{HasBegin, RefusedFor}
 use Rattle.sp_core.specs.Collecting.{IsOpen}
 use Rattle.sp_single.specs.Singles.{SingleView, TookOne}
@@ -168,7 +168,7 @@ refused_means z play past act error.State role open_ topics kind (open_too, (doe
 refused_means z play past act error.Busy role open_ topics kind (open_too, checks, taken) not_memory = last_or _ (has_no_slot z past) (all_taken z past taken)
 refused_means z play past act error.NoMemory role open_ topics kind why not_memory = elim (not_memory refl) [ ]
 
--- where a begin was refused for another cause than want of memory, nothing can begin
+-- where a begin was refused for another cause than being out of memory, nothing can begin
 pub refused_rests : {says : Setting → List (Turn Entry) → Turn Entry → Type 0} (s s' : SingleView) (took : TookOne says s s') (p : Player) (t : ℕ) (act : Act) (e : BeginError)
     → AreSettling took.turn.entries → Stands s p t → is_left (past_of s.seen) ≡ false → is_kind (is_receive_next s.setting (play_of p.script) (past_of s.seen)) (Some act) ≡ true
     → RefusedFor e s.setting (past_of (s.seen ++ took.turn ∷ [])) 0 act → (e ≡ error.NoMemory → ⊥) → HasPlayed s'.setting s'.seen p
@@ -290,7 +290,7 @@ has_begun s s' took p t op act d begin opens was makes =
           idle = λ e. cc;
         }
 
--- a step whose begin was refused rests, but for want of memory
+-- a step whose begin was refused rests, except when out of memory
 pub rested_after : (e : BeginError) (s : SingleView) (p : Player) → ((e ≡ error.NoMemory → ⊥) → HasPlayed s.setting s.seen p) → Rested (step_for e) s p
 rested_after error.NoMemory s p h = tt
 rested_after error.Closed s p h = h (λ e. cc)

@@ -15,7 +15,7 @@ use Rattle.sp_history.specs.declared.setting.Setting.{Setting}
 use Rattle.sp_history.specs.Changes.{none_of}
 use Rattle.sp_history.specs.Past.{onto, past_of, pend, up, is_closed}
 use Rattle.sp_history.proofs.Appending.{onto-more, past_of-append}
-use Rattle.sp_core.specs.Closing.{AreEndsOf, FallsAs, AreFallsOf, ClosesSo, ClosedBy}
+use Rattle.sp_core.specs.Closing.{AreEndsOf, GoesDownAs, AreDownsOf, ClosesSo, ClosedBy}
 use Rattle.cat_play.specs.Plans.{Play}
 use Rattle.cat_play.specs.Scripts.{open_part, counted, texts, texts_in, count_in, timed_out, timed_out_in}
 use Rattle.cat_play.specs.Playing.{is_tick, is_send, PlaysSoFar}
@@ -39,32 +39,32 @@ none_ends f step callers [] es is = rw is refl
 none_ends f step callers (s ∷ ss) es (cause, by, rest, is, may, more) =
     rw (is, step s.op (Gone cause by)) (none_ends f step callers ss rest more)
 
-none_fall : (f : Entry → Bool) → ((p : ℕ) → f (Stall p) ≡ false) → ((p : ℕ) → f (Clear p) ≡ false) → ((p : ℕ) (why : Why) → f (Down p why) ≡ false) → (p : ℕ) (es : List Entry) → FallsAs p es → none_of f es ≡ true
+none_fall : (f : Entry → Bool) → ((p : ℕ) → f (Stall p) ≡ false) → ((p : ℕ) → f (Clear p) ≡ false) → ((p : ℕ) (why : Why) → f (Down p why) ≡ false) → (p : ℕ) (es : List Entry) → GoesDownAs p es → none_of f es ≡ true
 none_fall f stall clear down p es (inl is) = rw (is, stall p, down p whys.Closed) refl
 none_fall f stall clear down p es (inr (inl is)) = rw (is, clear p, down p whys.Closed) refl
 none_fall f stall clear down p es (inr (inr (why, other, is))) = rw (is, down p why) refl
 
-none_falls : (f : Entry → Bool) → ((p : ℕ) → f (Stall p) ≡ false) → ((p : ℕ) → f (Clear p) ≡ false) → ((p : ℕ) (why : Why) → f (Down p why) ≡ false) → (ps : List ℕ) (es : List Entry) → AreFallsOf ps es → none_of f es ≡ true
+none_falls : (f : Entry → Bool) → ((p : ℕ) → f (Stall p) ≡ false) → ((p : ℕ) → f (Clear p) ≡ false) → ((p : ℕ) (why : Why) → f (Down p why) ≡ false) → (ps : List ℕ) (es : List Entry) → AreDownsOf ps es → none_of f es ≡ true
 none_falls f stall clear down [] es is = rw is refl
 none_falls f stall clear down (p ∷ ps) es (falls, rest, is, fell, more) =
     rw is (none_both f falls rest (none_fall f stall clear down p falls fell) (none_falls f stall clear down ps rest more))
 
 -- what comes before its Close
-pub close_stands : (callers : ℕ) (past : List Entry) (t : Turn Entry) (c : ClosesSo callers past t) → t.entries ≡ (c.ends ++ c.falls) ++ Close c.totals ∷ []
-close_stands callers past t c = c.entries ∙ sym (append_assoc c.ends c.falls (Close c.totals ∷ []))
+pub close_stands : (callers : ℕ) (past : List Entry) (t : Turn Entry) (c : ClosesSo callers past t) → t.entries ≡ (c.ends ++ c.down_entries) ++ Close c.totals ∷ []
+close_stands callers past t c = c.entries ∙ sym (append_assoc c.ends c.down_entries (Close c.totals ∷ []))
 
 pub none_before_close : (f : Entry → Bool) → ((op : OpName) (x : Ending) → f (End op x) ≡ false) → ((p : ℕ) → f (Stall p) ≡ false) → ((p : ℕ) → f (Clear p) ≡ false) → ((p : ℕ) (why : Why) → f (Down p why) ≡ false)
-    → (callers : ℕ) (past : List Entry) (t : Turn Entry) (c : ClosesSo callers past t) → none_of f (c.ends ++ c.falls) ≡ true
+    → (callers : ℕ) (past : List Entry) (t : Turn Entry) (c : ClosesSo callers past t) → none_of f (c.ends ++ c.down_entries) ≡ true
 none_before_close f end stall clear down callers past t c =
-    none_both f c.ends c.falls (none_ends f end callers (pend past) c.ends c.ended) (none_falls f stall clear down (up past) c.falls c.fallen)
+    none_both f c.ends c.down_entries (none_ends f end callers (pend past) c.ends c.ended) (none_falls f stall clear down (up past) c.down_entries c.gone_down)
 
-pub silent_before_close : (callers : ℕ) (past : List Entry) (t : Turn Entry) (c : ClosesSo callers past t) → none_of moves_play (c.ends ++ c.falls) ≡ true
+pub silent_before_close : (callers : ℕ) (past : List Entry) (t : Turn Entry) (c : ClosesSo callers past t) → none_of moves_play (c.ends ++ c.down_entries) ≡ true
 silent_before_close = none_before_close moves_play (λ op x. refl) (λ p. refl) (λ p. refl) (λ p why. refl)
 
 -- none of them moves a link
 pub close_linkless : (callers : ℕ) (past : List Entry) (t : Turn Entry) → ClosesSo callers past t → none_of moves_ends t.entries ≡ true
 close_linkless callers past t c =
-    rw (close_stands callers past t c) (none_both moves_ends (c.ends ++ c.falls) (Close c.totals ∷ []) (none_before_close moves_ends (λ op x. refl) (λ p. refl) (λ p. refl) (λ p why. refl) callers past t c) refl)
+    rw (close_stands callers past t c) (none_both moves_ends (c.ends ++ c.down_entries) (Close c.totals ∷ []) (none_before_close moves_ends (λ op x. refl) (λ p. refl) (λ p. refl) (λ p why. refl) callers past t c) refl)
 
 -- ---- Closed stays closed
 
@@ -77,9 +77,9 @@ closed_onto [] past h = h
 closed_onto (e ∷ es) past h = closed_onto es (e ∷ past) (closed_more e past h)
 
 -- the past behind the close
-pub past_closed : (callers : ℕ) (h : List (Turn Entry)) (t : Turn Entry) (c : ClosesSo callers (past_of h) t) → past_of (h ++ t ∷ []) ≡ Close c.totals ∷ onto (c.ends ++ c.falls) (past_of h)
+pub past_closed : (callers : ℕ) (h : List (Turn Entry)) (t : Turn Entry) (c : ClosesSo callers (past_of h) t) → past_of (h ++ t ∷ []) ≡ Close c.totals ∷ onto (c.ends ++ c.down_entries) (past_of h)
 past_closed callers h t c =
-    past_of-append h t ∙ (ap (λ es. onto es (past_of h)) (close_stands callers (past_of h) t c) ∙ onto-more (c.ends ++ c.falls) (Close c.totals) (past_of h))
+    past_of-append h t ∙ (ap (λ es. onto es (past_of h)) (close_stands callers (past_of h) t c) ∙ onto-more (c.ends ++ c.down_entries) (Close c.totals) (past_of h))
 
 pub closes : (callers : ℕ) (h : List (Turn Entry)) (t : Turn Entry) → ClosesSo callers (past_of h) t → is_closed (past_of (h ++ t ∷ [])) ≡ true
 closes callers h t c = ap is_closed (past_closed callers h t c)
@@ -138,7 +138,7 @@ closing_play z play totals callers h t h' open_ was by more =
     c = by.first open_
 
     entries : List Entry
-    entries = c.ends ++ c.falls
+    entries = c.ends ++ c.down_entries
 
     stands : t.entries ≡ entries ++ Close c.totals ∷ []
     stands = close_stands callers (past_of h) t c

@@ -4,7 +4,7 @@ use Rattle.std.specs.Prelude.{◌==◌, ◌⊎◌, ◌||◌, ◌&&◌, IsTrue, i
 use Rattle.std.proofs.lemmas.Bool.Decides.{nat_tests}
 use Rattle.std.proofs.lemmas.Grind.{flat_map-append}
 use Rattle.turn_lock.specs.declared.turn.Turn.{Turn}
-use Rattle.sp_spec.specs.Outside.{grown, IsFront}
+use Rattle.sp_spec.specs.Outside.{grown, IsPrefix}
 use Rattle.sp_base.specs.declared.OpName.{OpName}
 use Rattle.sp_history.specs.declared.entry.Act.{Act}
 use Rattle.sp_history.specs.declared.entry.Act.TheVariants.{Recv, Send}
@@ -315,8 +315,8 @@ grown_twice (Some s) x y = ap (λ z. Some z) (append_assoc s x y)
 joined_more : (ts : List (List ℕ)) (t : List ℕ) → joined (ts ++ t ∷ []) ≡ joined ts ++ t
 joined_more ts t = flat_map-append (λ x. x) ts (t ∷ []) ∙ ap (λ ys. joined ts ++ ys) (append_nil t)
 
--- all but the last stand there, and a front of it
-cut : (ts : List (List ℕ)) (t front : List ℕ) → IsFront front t → IsCutShort (ts ++ t ∷ []) (joined ts ++ front)
+-- all but the last stand there, and a prefix of it
+cut : (ts : List (List ℕ)) (t front : List ℕ) → IsPrefix front t → IsCutShort (ts ++ t ∷ []) (joined ts ++ front)
 cut ts t front f = inr (ts, t, front, refl, f, refl)
 
 pub noted_prints : (result : Collecting) (s s' : SingleView) (p p' : Player) (op : OpName) (b : Begun) (ending : Ending) (before was now : Option (List ℕ)) → IsCollected s s' p op b.act ending → p'.script ≡ p.script

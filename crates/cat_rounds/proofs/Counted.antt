@@ -22,7 +22,7 @@ never (Tick t due ∷ past) h = cc
 never (e ∷ past) h = never past h
 
 pub same_ends : {L : Type 0} (e : EndsView L) → SameEnds e e
-same_ends e = record { role = refl; listeners = refl; dials = refl }
+same_ends e = record { role = refl; dice = refl; listeners = refl; dials = refl }
 
 pub same_then : {L : Type 0} (a b c : EndsView L) → SameEnds a b → SameEnds b c → SameEnds a c
-same_then a b c f g = record { role = g.role ∙ f.role; listeners = g.listeners ∙ f.listeners; dials = g.dials ∙ f.dials }
+same_then a b c f g = record { role = g.role ∙ f.role; dice = g.dice ∙ f.dice; listeners = g.listeners ∙ f.listeners; dials = g.dials ∙ f.dials }

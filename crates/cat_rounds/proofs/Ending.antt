@@ -10,13 +10,13 @@ use Rattle.sp_history.specs.declared.setting.Setting.{Setting}
 use Rattle.sp_history.specs.Past.{past_of}
 use Rattle.sp_history.specs.Legal.{Legal}
 use Rattle.sp_history.specs.Settled.{Settled}
-use Rattle.sp_core.specs.declared.lines.Fallen.{Fallen}
+use Rattle.sp_core.specs.declared.pipes.DownPipe.{DownPipe}
 use Rattle.sp_core.specs.Closing.{ClosesSo, ClosedBy}
 use Rattle.sp_core.specs.Collecting.{IsOpen}
 use Rattle.sp_core.specs.Parts.{HasWires}
 use Rattle.sp_single.specs.Singles.{SingleView, TookOne, AreUncancelled, FinishedAs}
 use Rattle.sp_socket.specs.Due.{AllWereDue}
-use Rattle.sp_ends.specs.Standing.{EndsView, EndsStand, SameCounts}
+use Rattle.sp_ends.specs.Standing.{EndsView, EndsStand, SameCounts, Beginning}
 use Rattle.sp_ends.specs.Leaving.{LinksLeft, ClosedCleared}
 use Rattle.sp_ends.specs.Turning.{IsSound}
 use Rattle.sp_ends.proofs.Standing.{linkless}
@@ -38,7 +38,7 @@ pub hand_closed : (op : Option OpName) (callers : ℕ) (h : List (Turn Entry)) (
 hand_closed op callers h t c keeps was = go op was
   where
     same : under_way (past_of (h ++ t ∷ [])) ≡ under_way (past_of h)
-    same = ap under_way (past_closed callers h t c) ∙ under_way_stays (c.ends ++ c.falls) (past_of h) (silent_before_close callers (past_of h) t c)
+    same = ap under_way (past_closed callers h t c) ∙ under_way_stays (c.ends ++ c.down_entries) (past_of h) (silent_before_close callers (past_of h) t c)
 
     go : (op : Option OpName) → IsUnderWay op h → IsUnderWay op (h ++ t ∷ [])
     go None under = same ∙ under
@@ -85,11 +85,11 @@ module _ (totals : Totals) (s s' s'' : SingleView) (p : Player) (record_ : List 
       closed_cleared s.setting totals s.setting.callers begins_or_ticks s.seen e.closing.turn record_ e.sound.legal e.play.is_open cleared e.closing.said begins_none legal_record
 
   -- what stood on the links stands
-  pub ends_stand : {L : Type 0} (seen : L → LinkView) (start net : NetView) (ends : EndsView L) → EndsStand seen s.setting start s.seen net ends → EndsStand seen s.setting start record_ net ends
+  pub ends_stand : {L : Type 0} (seen : L → LinkView) (start : Beginning) (net : NetView) (ends : EndsView L) → EndsStand seen s.setting start s.seen net ends → EndsStand seen s.setting start record_ net ends
   ends_stand seen start net ends was =
       linkless seen s.setting start net s.seen record_ ends links_none legal_record was
 
-  pub finishes : {L W : Type 0} (seen : L → LinkView) (shown : W → WireView) (wires : List (Fallen W)) (start net net' : NetView) (ends : EndsView L) → FinishedAs shown s'' wires record_ → LinksLeft s.setting start record_ net' → SameCounts net net'
+  pub finishes : {L W : Type 0} (seen : L → LinkView) (shown : W → WireView) (wires : List (DownPipe W)) (start : Beginning) (net net' : NetView) (ends : EndsView L) → FinishedAs shown s'' wires record_ → LinksLeft s.setting start record_ net' → SameCounts net net'
       → FinishesTo seen start s ends p net net' record_
   finishes seen shown wires start net net' ends fin left counts =
       record {
@@ -107,6 +107,6 @@ module _ (totals : Totals) (s s' s'' : SingleView) (p : Player) (record_ : List 
         counts = counts;
       }
 
-  pub wires_are : {W : Type 0} (shown : W → WireView) (wires : List (Fallen W)) → FinishedAs shown s'' wires record_ → HasWires shown wires s.setting (past_of record_)
+  pub wires_are : {W : Type 0} (shown : W → WireView) (wires : List (DownPipe W)) → FinishedAs shown s'' wires record_ → HasWires shown wires s.setting (past_of record_)
   wires_are shown wires fin =
       subst (λ (z : Setting). HasWires shown wires z (past_of record_)) setting_kept (subst (λ (h : List (Turn Entry)). HasWires shown wires s''.setting (past_of h)) (sym e.whole) fin.wires_are)

@@ -10,8 +10,6 @@ use Rattle.sp_base.specs.Views.{LinkView, NetView, FilesView, PaceView, SinkView
 use Rattle.sp_history.specs.declared.entry.Entry.{Entry}
 use Rattle.sp_history.specs.declared.entry.Entry.TheVariants.{Tick, Stall}
 use Rattle.sp_history.specs.declared.setting.Setting.{Setting}
-use Rattle.sp_base.specs.declared.role.Role.{Role}
-use Rattle.sp_history.specs.Setting.{is_req}
 use Rattle.sp_history.specs.Changes.{none_of}
 use Rattle.sp_history.specs.Past.{onto, past_of}
 use Rattle.sp_history.proofs.Appending.{past_of-append}
@@ -40,7 +38,7 @@ use Rattle.cat_rounds.specs.Stepping.{GoesOnBy}
 use Rattle.cat_rounds.specs.Built.{IsBuilt, IsBuiltData, IsBody, FinishesTo, FinishesAs}
 use Rattle.cat_rounds.specs.Going.{has_more}
 use Rattle.cat_rounds.specs.Late.{late_at, IsLateBy, RoundIsLate, StallsMore}
-use Rattle.sp_ends.specs.Standing.{EndsView}
+use Rattle.sp_ends.specs.Standing.{Beginning, EndsView}
 use Rattle.cat_rounds.proofs.Beginning.{script_of}
 use Rattle.cat_rounds.proofs.Silent.{keeps_all}
 use Rattle.cat_rounds.proofs.Settling.{settling_silent}
@@ -227,29 +225,24 @@ play_is plan files body s play built is script of = whole ∙ ap play_of (sym sc
 excused : (a b c d m n : ℕ) → m ≤ n + 1 → n ≤ a → m ≤ a + b + 2 * c + d + 1
 excused a b c d m n le more = omega (arith, le, more)
 
-module _ {L : Type 0} (seen : L → LinkView) (st : Status) (plan : CatPlan) (s : SingleView) (e : EndsView L) (p : Player) (net between net' : NetView) (files : FilesView) (dice : ℕ) (body : Option (List ℕ)) (setting : s.setting ≡ run_setting plan.role dice) (built : IsBuilt plan) (is : IsBody plan.data_ body) (script : p.script ≡ script_of plan body) (late : IsLateBy 1 s p) where
-  prompt : (r : List (Turn Entry)) → FinishesTo seen net s e p between net' r → (play : Play) → IsPlayOf plan files play → IsPrompt (run_setting plan.role dice) play net'.back net.opened net'.opened r
+module _ {L : Type 0} (seen : L → LinkView) (st : Status) (plan : CatPlan) (s : SingleView) (e : EndsView L) (p : Player) (start : Beginning) (between net' : NetView) (files : FilesView) (dice : ℕ) (body : Option (List ℕ)) (setting : s.setting ≡ run_setting plan.role dice) (built : IsBuilt plan) (is : IsBody plan.data_ body) (script : p.script ≡ script_of plan body) (late : IsLateBy 1 s p) where
+  prompt : (r : List (Turn Entry)) → FinishesTo seen start s e p between net' r → (play : Play) → IsPlayOf plan files play → IsPrompt (run_setting plan.role dice) play net'.back start.net.opened net'.opened r
   prompt r f play of =
       let same : play ≡ play_of p.script = play_is plan files body p.script play built is script of in
       let kept : late_ticks (run_setting plan.role dice) play (past_of r) ≡ late_at s p = ap (λ (x : Play). late_ticks (run_setting plan.role dice) x (past_of r)) same ∙ ap (λ (z : Setting). late_ticks z (play_of p.script) (past_of r)) (sym setting) ∙ end_leaves (over s.setting (play_of p.script)) s.seen r f.links in
-      excused (stalled_turns r) (stalls_from net'.back net.opened (net'.opened - net.opened)) (down_total (past_of r)) (out_total (past_of r) / 64) (late_ticks (run_setting plan.role dice) play (past_of r)) (stalled_turns s.seen)
+      excused (stalled_turns r) (stalls_from net'.back start.net.opened (net'.opened - start.net.opened)) (down_total (past_of r)) (out_total (past_of r) / 64) (late_ticks (run_setting plan.role dice) play (past_of r)) (stalled_turns s.seen)
       (omega (arith, kept, late)) (stalled_more moves_ends s.seen r f.links)
 
-  soon : (b : Bool) (r : List (Turn Entry)) → FinishesTo seen net s e p between net' r → (play : Play) → IsPlayOf plan files play → EndsSoon b (run_setting plan.role dice) play net'.back net.opened net'.opened r
+  soon : (b : Bool) (r : List (Turn Entry)) → FinishesTo seen start s e p between net' r → (play : Play) → IsPlayOf plan files play → EndsSoon b (run_setting plan.role dice) play net'.back start.net.opened net'.opened r
   soon false r f play of = prompt r f play of
   soon true r f play of = inl (prompt r f play of)
 
   -- the rounds after the end of the play have their excuse
-  pub in_time : (pace pace' : PaceView) (out out' : SinkView) (record_ : Option (List (Turn Entry))) → FinishesAs seen net s e p between net' record_ → EndsPlan st plan dice record_ (world net files pace out) (world net' files pace' out')
+  pub in_time : (pace pace' : PaceView) (out out' : SinkView) (record_ : Option (List (Turn Entry))) → FinishesAs seen start s e p between net' record_ → EndsPlan st plan dice record_ (world start.net files pace out) (world net' files pace' out')
   in_time pace pace' out out' None f = tt
   in_time pace pace' out out' (Some r) f = λ play of rises. soon (is_called_off st) r f play of
 
--- ---- Of another role than req
+-- ---- What is left to write
 
-pub something_waits : (role : Role) (r : Served) → is_req role ≡ false → has_more role r ≡ true → 0 < r.waiting
-something_waits role r other more = let some_wait : nat_lt 0 r.waiting ≡ true = first (nat_lt 0 r.waiting) (is_req role) r.moved other more in grind (arith, nat_tests)
-  where
-    first : (a b c : Bool) → b ≡ false → (a || b && c) ≡ true → a ≡ true
-    first true b c e h = refl
-    first false true c e h = cc
-    first false false c e h = h
+pub something_waits : (r : Served) → has_more r ≡ true → 0 < r.waiting
+something_waits r more = grind (arith, nat_tests)

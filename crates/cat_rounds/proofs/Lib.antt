@@ -26,3 +26,5 @@ pub mod Subscribing
 pub mod Late
 pub mod Surveying
 pub mod Unsent
+pub mod Answered
+pub mod Resting

@@ -31,7 +31,7 @@ right_true : (a b : Bool) → (a && b) ≡ true → b ≡ true
 right_true true b h = h
 right_true false b h = cc
 
-later_rule : (rule : List Entry → Entry → Bool) (e : Entry) (past : List Entry) → IsTrue (each rule (e ∷ past)) → IsTrue (each rule past)
+pub later_rule : (rule : List Entry → Entry → Bool) (e : Entry) (past : List Entry) → IsTrue (each rule (e ∷ past)) → IsTrue (each rule past)
 later_rule rule e past h = right_true (rule past e) (each rule past) h
 
 later : (e : Entry) (past : List Entry) → IsTrue (each alternates (e ∷ past)) → IsTrue (each alternates past)
@@ -43,7 +43,7 @@ pub is_op_means : (o : Option OpName) (op : OpName) → is_op o op ≡ true → 
 is_op_means None op h = cc
 is_op_means (Some other) op h = ap (λ x. Some x) (same_op-eq other op h)
 
-none_means : (o : Option OpName) → is_none o ≡ true → o ≡ None
+pub none_means : (o : Option OpName) → is_none o ≡ true → o ≡ None
 none_means None h = refl
 none_means (Some op) h = cc
 
@@ -238,7 +238,7 @@ not_over false c h = refl
 pub open_over : (z : Setting) (play : Play) (past : List Entry) → is_closed past ≡ false → over z play past ≡ over_in z play past
 open_over z play past open_ = ap (over_in z play) (open_is past open_)
 
-going : (z : Setting) (play : Play) (op : OpName) (past : List Entry) → is_closed past ≡ false → IsTrue (each (is_in_turn z play) past) → under_way past ≡ Some op → over_in z play past ≡ false
+pub going : (z : Setting) (play : Play) (op : OpName) (past : List Entry) → is_closed past ≡ false → IsTrue (each (is_in_turn z play) past) → under_way past ≡ Some op → over_in z play past ≡ false
 going z play op [] open_ turns under = cc
 going z play op (Begin o k c act d ∷ past) open_ turns under =
     sym (open_over z play past open_) ∙ not_over (over z play past) _ (left_true _ _ turns)

@@ -15,13 +15,13 @@ use Rattle.sp_history.specs.Settled.{Settled}
 use Rattle.sp_history.proofs.Appending.{past_of-append}
 use Rattle.sp_history.proofs.Backing.{legal_allowed}
 use Rattle.sp_single.specs.Singles.{SingleView}
-use Rattle.sp_ends.specs.Standing.{EndsView, NetStands}
+use Rattle.link_opening.specs.Origins.{run_ways}
+use Rattle.sp_ends.specs.Standing.{Beginning, EndsView, NetStands}
 use Rattle.sp_ends.specs.Leaving.{LinksLeft}
 use Rattle.sp_ends.proofs.Standing.{linkless}
 use Rattle.cat_text.specs.declared.plan.CatPlan.{CatPlan}
 use Rattle.cat_play.specs.declared.ends.Status.{Status}
 use Rattle.cat_play.specs.declared.ends.Status.TheVariants as status
-use Rattle.cat_play.specs.Openings.{greetings}
 use Rattle.cat_play.specs.Plans.{Play, IsPlayOf}
 use Rattle.cat_play.specs.Playing.{Plays}
 use Rattle.cat_play.specs.Running.{World, world, run_setting, has_dry_miss, EndedFor, IsFinished, IsCutShort, Printed, Runs, RunsPlan}
@@ -63,12 +63,12 @@ dry_step _ past h = refl
 -- ---- A run
 
 -- a plan was followed, and then the run was finished
-pub record HasRun {L : Type 0} (seen : L → LinkView) (st : Status) (plan : CatPlan) (s : SingleView) (e : EndsView L) (p : Player) (net between net' : NetView) (pace pace' : PaceView) (out out' : SinkView) (record_ : List (Turn Entry)) : Type 0 where
-  pub run : RunStands seen net s e p between (is_dry_at s)
+pub record HasRun {L : Type 0} (seen : L → LinkView) (st : Status) (plan : CatPlan) (s : SingleView) (e : EndsView L) (p : Player) (start : Beginning) (between net' : NetView) (pace pace' : PaceView) (out out' : SinkView) (record_ : List (Turn Entry)) : Type 0 where
+  pub run : RunStands seen start s e p between (is_dry_at s)
   pub dry : IsDryAt st s
-  pub followed : Follows st plan.ends s e p net between pace pace' out out'
+  pub followed : Follows st plan.ends s e p start.net between pace pace' out out'
   pub printed : PrintsTo st out.text out'.text s.seen p
-  pub finished : FinishesTo seen net s e p between net' record_
+  pub finished : FinishesTo seen start s e p between net' record_
 
 or_of : (a b : Bool) → IsTrue (a || b) → IsTrue a ⊎ IsTrue b
 or_of true b h = inl refl
@@ -103,7 +103,7 @@ dry_ends status.NetFault s dry is = cc
 dry_ends status.OutFault s dry is = cc
 dry_ends status.FileFault s dry is = cc
 
-module _ {L : Type 0} (seen : L → LinkView) (st : Status) (plan : CatPlan) (s : SingleView) (e : EndsView L) (p : Player) (net between net' : NetView) (pace pace' : PaceView) (out out' : SinkView) (record_ : List (Turn Entry)) (r : HasRun seen st plan s e p net between net' pace pace' out out' record_) where
+module _ {L : Type 0} (seen : L → LinkView) (st : Status) (plan : CatPlan) (s : SingleView) (e : EndsView L) (p : Player) (start : Beginning) (between net' : NetView) (pace pace' : PaceView) (out out' : SinkView) (record_ : List (Turn Entry)) (r : HasRun seen st plan s e p start between net' pace pace' out out' record_) where
   -- what is read of the ends in the record is what was read before it was closed
   ticks_kept : ticks (past_of record_) ≡ ticks (past_of s.seen)
   ticks_kept = kept ticks ticks_step s.seen record_ r.finished.links
@@ -112,9 +112,9 @@ module _ {L : Type 0} (seen : L → LinkView) (st : Status) (plan : CatPlan) (s 
   few_ticks = subst (λ (ts : List ℕ). length ts < 2 ^ 64) (sym ticks_kept) r.followed.paced.few
 
   -- the net, asked by the record
-  net_stands : NetStands net (past_of record_) (past_of record_) between e.listeners e.dialers
+  net_stands : NetStands start (past_of record_) (past_of record_) between e.listeners e.dialers
   net_stands =
-      (linkless seen s.setting net between s.seen record_ e r.finished.links r.finished.legal r.run.ends_stand).asked
+      (linkless seen s.setting start between s.seen record_ e r.finished.links r.finished.legal r.run.ends_stand).asked
 
   are_asked : AreAsked plan.ends (past_of record_) e.listeners e.dialers
   are_asked = go r.followed.asked
@@ -123,13 +123,13 @@ module _ {L : Type 0} (seen : L → LinkView) (st : Status) (plan : CatPlan) (s 
       go (inl empty) = inr (ticks_kept ∙ ap (λ (h : List (Turn Entry)). ticks (past_of h)) empty)
       go (inr all) = inl all
 
-  spends : Spends plan.ends record_ net net' pace pace'
+  spends : Spends plan.ends record_ start.net net' pace pace'
   spends =
       record {
         turns = subst (λ (ts : List ℕ). pace.left ≡ pace'.left + length ts) (sym ticks_kept) r.followed.paced.left;
         greetings = r.finished.left_.asked few_ticks;
         pipes = r.finished.left_.read;
-        ends = were_asked plan.ends s.setting net between net' (past_of record_) e.listeners e.dialers net_stands r.finished.counts (legal_allowed s.setting record_ r.finished.legal) few_ticks are_asked r.run.ends_stand.links.kept.opened;
+        ends = were_asked plan.ends s.setting start between net' (past_of record_) e.listeners e.dialers net_stands r.finished.counts (legal_allowed s.setting record_ r.finished.legal) few_ticks are_asked r.run.ends_stand.links.kept.opened;
       }
 
   over_is : IsOver p.over s.setting (play_of p.script) (past_of record_)
@@ -140,50 +140,50 @@ module _ {L : Type 0} (seen : L → LinkView) (st : Status) (plan : CatPlan) (s 
   dry_is is = dry_ends st s r.dry (sym (kept has_dry_miss dry_step s.seen record_ r.finished.links) ∙ is)
 
 -- why it ended so
-ends_for : {L : Type 0} (seen : L → LinkView) (st : Status) (plan : CatPlan) (s : SingleView) (e : EndsView L) (p : Player) (net between net' : NetView) (pace pace' : PaceView) (out out' : SinkView) (record_ : List (Turn Entry)) (files : FilesView)
-    → HasRun seen st plan s e p net between net' pace pace' out out' record_ → EndedFor st s.setting plan (play_of p.script) (past_of record_) (world net files pace out) (world net' files pace' out')
-ends_for seen status.Done plan s e p net between net' pace pace' out out' record_ files r = (
-  finished_is p.over s.setting (play_of p.script) (past_of record_) r.followed.why.1 (over_is seen status.Done plan s e p net between net' pace pace' out out' record_ r),
+ends_for : {L : Type 0} (seen : L → LinkView) (st : Status) (plan : CatPlan) (s : SingleView) (e : EndsView L) (p : Player) (start : Beginning) (between net' : NetView) (pace pace' : PaceView) (out out' : SinkView) (record_ : List (Turn Entry)) (files : FilesView)
+    → HasRun seen st plan s e p start between net' pace pace' out out' record_ → EndedFor st s.setting plan (play_of p.script) (past_of record_) (world start.net files pace out) (world net' files pace' out')
+ends_for seen status.Done plan s e p start between net' pace pace' out out' record_ files r = (
+  finished_is p.over s.setting (play_of p.script) (past_of record_) r.followed.why.1 (over_is seen status.Done plan s e p start between net' pace pace' out out' record_ r),
   r.finished.left_.whole (r.finished.cleared r.followed.why.0.cleared),
 )
-ends_for seen (status.Usage at) plan s e p net between net' pace pace' out out' record_ files r = r.followed.why
-ends_for seen status.SendTimedOut plan s e p net between net' pace pace' out out' record_ files r =
-    timed_out_is p.over s.setting (play_of p.script) (past_of record_) r.followed.why.1 (over_is seen status.SendTimedOut plan s e p net between net' pace pace' out out' record_ r)
-ends_for seen status.Over plan s e p net between net' pace pace' out out' record_ files r = r.followed.why.0
-ends_for seen status.NetFault plan s e p net between net' pace pace' out out' record_ files r = (
-  inl (subst (λ n. Rose net.faults n) (sym r.finished.counts.faults) r.followed.why.0),
+ends_for seen (status.Usage at) plan s e p start between net' pace pace' out out' record_ files r = r.followed.why
+ends_for seen status.SendTimedOut plan s e p start between net' pace pace' out out' record_ files r =
+    timed_out_is p.over s.setting (play_of p.script) (past_of record_) r.followed.why.1 (over_is seen status.SendTimedOut plan s e p start between net' pace pace' out out' record_ r)
+ends_for seen status.Over plan s e p start between net' pace pace' out out' record_ files r = r.followed.why.0
+ends_for seen status.NetFault plan s e p start between net' pace pace' out out' record_ files r = (
+  inl (subst (λ n. Rose start.net.faults n) (sym r.finished.counts.faults) r.followed.why.0),
   r.followed.why.2,
   r.finished.counts.opened ∙ r.followed.why.1,
 )
-ends_for seen status.OutFault plan s e p net between net' pace pace' out out' record_ files r = r.followed.sinks.fault refl
-ends_for seen status.FileFault plan s e p net between net' pace pace' out out' record_ files r = r.followed.why
-ends_for seen status.NoMemory plan s e p net between net' pace pace' out out' record_ files r = tt
+ends_for seen status.OutFault plan s e p start between net' pace pace' out out' record_ files r = r.followed.sinks.fault refl
+ends_for seen status.FileFault plan s e p start between net' pace pace' out out' record_ files r = r.followed.why
+ends_for seen status.NoMemory plan s e p start between net' pace pace' out out' record_ files r = tt
 
-pub runs : {L : Type 0} (seen : L → LinkView) (st : Status) (plan : CatPlan) (s : SingleView) (e : EndsView L) (p : Player) (net between net' : NetView) (pace pace' : PaceView) (out out' : SinkView) (record_ : List (Turn Entry)) (files : FilesView) (dice : ℕ) → s.setting ≡ run_setting plan.role dice
-    → HasRun seen st plan s e p net between net' pace pace' out out' record_ → Runs (greetings plan.role) st plan (play_of p.script) dice record_ (world net files pace out) (world net' files pace' out')
-runs seen st plan s e p net between net' pace pace' out out' record_ files dice is r =
+pub runs : {L : Type 0} (seen : L → LinkView) (st : Status) (plan : CatPlan) (s : SingleView) (e : EndsView L) (p : Player) (start : Beginning) (between net' : NetView) (pace pace' : PaceView) (out out' : SinkView) (record_ : List (Turn Entry)) (files : FilesView) (dice : ℕ) → s.setting ≡ run_setting plan.role dice
+    → HasRun seen st plan s e p start between net' pace pace' out out' record_ → Runs (run_ways plan.role start.origins) st plan (play_of p.script) dice record_ (world start.net files pace out) (world net' files pace' out')
+runs seen st plan s e p start between net' pace pace' out out' record_ files dice is r =
     record {
       legal = subst (λ (z : Setting). Legal z record_) is r.finished.legal;
       settled = subst (λ (z : Setting). Settled z record_) is r.finished.settled;
       closed = r.finished.closed;
       plays = subst (λ (z : Setting). Plays z (play_of p.script) record_) is r.finished.plays;
-      printed = prints st out.text out'.text s.seen p (texts (play_of p.script) (past_of record_)) (world net files pace out) (world net' files pace' out') refl refl r.finished.texts_are r.printed;
-      records = (subst (λ (z : Setting). LinksLeft z net record_ net') is r.finished.left_).records r.finished.due;
+      printed = prints st out.text out'.text s.seen p (texts (play_of p.script) (past_of record_)) (world start.net files pace out) (world net' files pace' out') refl refl r.finished.texts_are r.printed;
+      records = (subst (λ (z : Setting). LinksLeft z start record_ net') is r.finished.left_).records r.finished.due;
       others = r.finished.left_.others;
-      spends = spends seen st plan s e p net between net' pace pace' out out' record_ r;
-      ended = subst (λ (z : Setting). EndedFor st z plan (play_of p.script) (past_of record_) (world net files pace out) (world net' files pace' out')) is (ends_for seen st plan s e p net between net' pace pace' out out' record_ files r);
+      spends = spends seen st plan s e p start between net' pace pace' out out' record_ r;
+      ended = subst (λ (z : Setting). EndedFor st z plan (play_of p.script) (past_of record_) (world start.net files pace out) (world net' files pace' out')) is (ends_for seen st plan s e p start between net' pace pace' out out' record_ files r);
       paced = record {
-        over = λ (o : st ≡ status.Over). subst (λ (st : Status). EndsFor st s p net between pace pace' out out') o r.followed.why;
+        over = λ (o : st ≡ status.Over). subst (λ (st : Status). EndsFor st s p start.net between pace pace' out out') o r.followed.why;
         not_over = r.followed.paced.not_over;
       };
-      memory = dry_is seen st plan s e p net between net' pace pace' out out' record_ r;
+      memory = dry_is seen st plan s e p start between net' pace pace' out out' record_ r;
     }
 
 -- the same of what is left of a run
-pub runs_plan : {L : Type 0} (seen : L → LinkView) (st : Status) (plan : CatPlan) (s : SingleView) (e : EndsView L) (p : Player) (net between net' : NetView) (pace pace' : PaceView) (out out' : SinkView) (record_ : Option (List (Turn Entry))) (files : FilesView) (dice : ℕ) → s.setting ≡ run_setting plan.role dice → IsPlayOf plan files (play_of p.script)
-    → RunStands seen net s e p between (is_dry_at s) → IsDryAt st s → Follows st plan.ends s e p net between pace pace' out out' → PrintsTo st out.text out'.text s.seen p → FinishesAs seen net s e p between net' record_
-    → RunsPlan (greetings plan.role) st plan dice record_ (world net files pace out) (world net' files pace' out')
-runs_plan seen st plan s e p net between net' pace pace' out out' None files dice is play run dry followed printed finished =
+pub runs_plan : {L : Type 0} (seen : L → LinkView) (st : Status) (plan : CatPlan) (s : SingleView) (e : EndsView L) (p : Player) (start : Beginning) (between net' : NetView) (pace pace' : PaceView) (out out' : SinkView) (record_ : Option (List (Turn Entry))) (files : FilesView) (dice : ℕ) → s.setting ≡ run_setting plan.role dice → IsPlayOf plan files (play_of p.script)
+    → RunStands seen start s e p between (is_dry_at s) → IsDryAt st s → Follows st plan.ends s e p start.net between pace pace' out out' → PrintsTo st out.text out'.text s.seen p → FinishesAs seen start s e p between net' record_
+    → RunsPlan (run_ways plan.role start.origins) st plan dice record_ (world start.net files pace out) (world net' files pace' out')
+runs_plan seen st plan s e p start between net' pace pace' out out' None files dice is play run dry followed printed finished =
     elim finished [ ]
-runs_plan seen st plan s e p net between net' pace pace' out out' (Some record_) files dice is play run dry followed printed finished =
-    (play_of p.script, play, runs seen st plan s e p net between net' pace pace' out out' record_ files dice is (record { run = run; dry = dry; followed = followed; printed = printed; finished = finished }))
+runs_plan seen st plan s e p start between net' pace pace' out out' (Some record_) files dice is play run dry followed printed finished =
+    (play_of p.script, play, runs seen st plan s e p start between net' pace pace' out out' record_ files dice is (record { run = run; dry = dry; followed = followed; printed = printed; finished = finished }))

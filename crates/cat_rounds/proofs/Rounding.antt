@@ -1,5 +1,5 @@
 -- What parts of a round do, one after the other.
-use Rattle.std.proofs.Common.{◌≡◌, refl, ap, sym, ◌∙◌, subst, List, [], ◌∷◌, ◌++◌, ℕ, ◌≤◌, Bool, true, false, arith, length, Option, Some, None}
+use Rattle.std.proofs.Common.{◌≡◌, refl, ap, sym, ◌∙◌, subst, inl, inr, List, [], ◌∷◌, ◌++◌, ℕ, ◌≤◌, Bool, true, false, arith, length, Option, Some, None}
 use Rattle.std.specs.Prelude.{IsTrue, ◌&&◌, ◌||◌, not, is_some, nat_lt}
 use Rattle.std.specs.List.{list_any}
 use Rattle.turn_lock.specs.declared.turn.Turn.{Turn}
@@ -35,7 +35,8 @@ use Rattle.sp_history.proofs.Appending.{LegalFrom-front}
 use Rattle.sp_history.specs.Legal.{Legal, sending}
 use Rattle.sp_history.specs.Found.{is_begin, is_out}
 use Rattle.sp_history.specs.Setting.{is_req}
-use Rattle.cat_rounds.proofs.Unsent.{nothing_sent, sends_once}
+use Rattle.cat_rounds.proofs.Unsent.{IsSilent, nothing_sent, sends_once}
+use Rattle.cat_rounds.proofs.Answered.{is_over_so, none_live}
 use Rattle.sp_core.specs.Tallies.{moves}
 use Rattle.std.proofs.lemmas.Bool.Decides.{nat_tests}
 use Rattle.sp_history.specs.Requests.{requests}
@@ -106,21 +107,6 @@ along_then a b c p q r x y w t f g =
     }
 
 -- ---- An ended play has nothing under way
-
-is_over_so : (o : Over) (z : Setting) (p : Player) (past : List Entry) → (o ≡ overs.Open → ⊥) → IsOver o z (play_of p.script) past → over z (play_of p.script) past ≡ true
-is_over_so overs.Open z p past n i = absurd (n refl)
-is_over_so overs.Finished z p past n i = go (has_reached p.script.count (counted z (play_of p.script) past)) (timed_out true past) (timed_out false past) i
-  where
-    go : (a b c : Bool) → IsTrue (a || b) → (a || b || c) ≡ true
-    go true b c h = refl
-    go false true c h = refl
-    go false false c h = cc
-is_over_so overs.SendTimedOut z p past n i = go (has_reached p.script.count (counted z (play_of p.script) past)) (timed_out true past) (timed_out false past) i
-  where
-    go : (a b c : Bool) → IsTrue c → (a || b || c) ≡ true
-    go true b c h = refl
-    go false true c h = refl
-    go false false c h = h
 
 pub free_at_end : (z : Setting) (h : List (Turn Entry)) (p : Player) → PlayStands z h p → (p.over ≡ overs.Open → ⊥) → p.op ≡ None
 free_at_end z h p s n = go p.op refl
@@ -214,38 +200,16 @@ no_begins : (es : List Entry) → AreServing es → none_of is_begin es ≡ true
 no_begins [] s = refl
 no_begins (e ∷ es) s = rw (serving_begin e s.0) (no_begins es s.1)
 
-or_false : (a b : Bool) → (a || b) ≡ false → (a ≡ false) × (b ≡ false)
-or_false true b h = cc
-or_false false b h = (refl, h)
-
-and_false : (a b : Bool) → (a && b) ≡ false → a ≡ true → b ≡ false
-and_false true b h e = h
-and_false false b h e = cc
-
-not_out : (e : Entry) → moves e ≡ false → is_out e ≡ false
-not_out (Out p b) h = cc
-not_out _ h = refl
-
--- a turn that moved nothing put nothing on a pipe
-not_moved : (es : List Entry) → list_any moves es ≡ false → none_of is_out es ≡ true
-not_moved [] h = refl
-not_moved (e ∷ es) h =
-    let s = or_false (moves e) (list_any moves es) h in
-    rw (not_out e s.0) (not_moved es s.1)
-
 -- after a serve that left nothing to be written, where the play is over, all is written
-pub through : (r : Served) (s s' : SingleView) (p : Player) (t : ℕ) → TookOne (ServesSo r) s s' → Stands s p t → p.op ≡ None → has_more p.script.role r ≡ false → AreCleared (past_of s'.seen)
-through r s s' p t took stands free none =
-    subst (λ (h : List (Turn Entry)). AreCleared (past_of h)) (sym took.seen) (all_cleared s.seen took.turn took.said.1 (no_stalls took.turn.entries (sym took.said.3.1 ∙ no_wait)) (no_outs (is_req z.role) refl))
+pub through : (r : Served) (s s' : SingleView) (p : Player) (t : ℕ) → TookOne (ServesSo r) s s' → Stands s p t → p.op ≡ None → (p.over ≡ overs.Open → ⊥) → has_more r ≡ false → AreCleared (past_of s'.seen)
+through r s s' p t took stands free n none =
+    subst (λ (h : List (Turn Entry)). AreCleared (past_of h)) (sym took.seen) (all_cleared s.seen took.turn took.said.1 (no_stalls took.turn.entries (sym took.said.3.1 ∙ no_wait)) no_outs)
   where
     z : Setting
     z = s.setting
 
-    parts : (nat_lt 0 r.waiting ≡ false) × ((is_req p.script.role && r.moved) ≡ false)
-    parts = or_false (nat_lt 0 r.waiting) (is_req p.script.role && r.moved) none
-
     no_wait : r.waiting ≡ 0
-    no_wait = let few = parts.0 in grind (arith, nat_tests)
+    no_wait = grind (arith, nat_tests)
 
     all : Legal z (s.seen ++ took.turn ∷ [])
     all = subst (λ (h : List (Turn Entry)). Legal z h) took.seen (subst (λ (y : Setting). Legal y s'.seen) took.setting took.legal)
@@ -260,11 +224,14 @@ through r s s' p t took stands free none =
     pends : sending (pend (past_of s.seen)) ≡ []
     pends = ap sending (free_pends_none z s.seen stands.sound.legal orders under)
 
-    no_outs : (b : Bool) → is_req z.role ≡ b → none_of is_out took.turn.entries ≡ true
-    no_outs true req =
-        not_moved took.turn.entries (sym took.said.3.2 ∙ and_false (is_req p.script.role) r.moved parts.1 (ap is_req (sym stands.play.role) ∙ req))
-    no_outs false other =
-        nothing_sent z (past_of s.seen) took.turn (LegalFrom-front z [] s.seen took.turn all).1 pends (sends_once z other) (no_begins took.turn.entries took.said.2.kinds)
+    -- a req has no live request, and no other role sends again
+    silent : (b : Bool) → is_req z.role ≡ b → IsSilent z (past_of s.seen)
+    silent true req = inr (none_live z s.seen p stands.sound.legal stands.play req n free)
+    silent false other = inl (sends_once z other)
+
+    no_outs : none_of is_out took.turn.entries ≡ true
+    no_outs =
+        nothing_sent z (past_of s.seen) took.turn (LegalFrom-front z [] s.seen took.turn all).1 pends (silent (is_req z.role) refl) (no_begins took.turn.entries took.said.2.kinds)
 
 pub serve_texts : (r : Served) (s s' : SingleView) (p : Player) (t : ℕ) → TookOne (ServesSo r) s s' → Stands s p t → texts (play_of p.script) (past_of s'.seen) ≡ texts (play_of p.script) (past_of s.seen)
 serve_texts r s s' p t took stands = silent_texts s s' took (play_of p.script) (serving_silent took.turn.entries took.said.2.kinds) stands.play.is_open

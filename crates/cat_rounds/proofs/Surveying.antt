@@ -154,13 +154,13 @@ either : (b : Bool) (r : Request) → (P : Request → Type 0) → (f g : Reques
 either true r P f g x y = x
 either false r P f g x y = y
 
-out_ctx : (t p : ℕ) (b : List ℕ) (r : Request) → (with_out t p b r).ctx ≡ r.ctx
+pub out_ctx : (t p : ℕ) (b : List ℕ) (r : Request) → (with_out t p b r).ctx ≡ r.ctx
 out_ctx t p b r = either (same_bytes b (wire_of r)) r (λ (x : Request). x.ctx ≡ r.ctx) (record r { last_out = Some (record { pipe = p; when = t }) }) r refl refl
 
 out_birth : (t p : ℕ) (b : List ℕ) (r : Request) → (with_out t p b r).birth ≡ r.birth
 out_birth t p b r = either (same_bytes b (wire_of r)) r (λ (x : Request). x.birth ≡ r.birth) (record r { last_out = Some (record { pipe = p; when = t }) }) r refl refl
 
-frame_ctx : (z : Setting) (past : List Entry) (p : ℕ) (b : List ℕ) (r : Request) → (with_frame z past p b r).ctx ≡ r.ctx
+pub frame_ctx : (z : Setting) (past : List Entry) (p : ℕ) (b : List ℕ) (r : Request) → (with_frame z past p b r).ctx ≡ r.ctx
 frame_ctx z past p b r =
     either (not (malformed z past p b) && is_for b r && has_room z r) r (λ (x : Request). x.ctx ≡ r.ctx) (record r { replies = r.replies ++ plain_item p (drop 4 b) ∷ [] }) r refl refl
 
@@ -209,15 +209,15 @@ shape_ticks z other time (Some since) t n ss rs later h = rw other (go (nat_le (
         rw all h
     go false e b k (x ∷ y ∷ xs) is h = elim h [ ]
 
-left_true : (a b : Bool) → (a && b) ≡ true → a ≡ true
+pub left_true : (a b : Bool) → (a && b) ≡ true → a ≡ true
 left_true true b h = refl
 left_true false b h = cc
 
-right_true : (a b : Bool) → (a && b) ≡ true → b ≡ true
+pub right_true : (a b : Bool) → (a && b) ≡ true → b ≡ true
 right_true true b h = h
 right_true false b h = cc
 
-same_zero : (c : ℕ) → (c == 0) ≡ true → c ≡ 0
+pub same_zero : (c : ℕ) → (c == 0) ≡ true → c ≡ 0
 same_zero c h = grind (arith, nat_tests)
 
 not_yet : (n : ℕ) → nat_le (n + 1000) n ≡ false
@@ -231,7 +231,7 @@ begun_shape : (c n id : ℕ) (body : List ℕ) (o : Option ℕ) (rs : List Reque
 begun_shape c n id body o rs zero s =
     subst (λ (k : ℕ). IsShape (alive (Some n) n) (filter (λ (r : Request). not (has (k ∷ []) r.ctx)) rs ++ begun k id body n ∷ [])) (sym zero) (subst (λ (xs : List Request). IsShape (alive (Some n) n) (xs ++ begun 0 id body n ∷ [])) (sym (shape_ends o rs s)) (subst (λ (b : Bool). IsShape (if b then None else Some n) (begun 0 id body n ∷ [])) (sym (not_yet n)) (refl, refl)))
 
-never : {A : Type 0} → false ≡ true → A
+pub never : {A : Type 0} → false ≡ true → A
 never e = cc
 
 -- what is known of a past of the play

@@ -16,7 +16,7 @@ use Rattle.sp_history.specs.Lists.{has}
 use Rattle.sp_history.specs.Past.{onto, past_from, past_of, up, pend, is_closed, is_cleared, down_for}
 use Rattle.sp_history.specs.Legal.{is_closing, comes_after_close, Follows, LegalFrom, Legal}
 use Rattle.sp_history.proofs.Appending.{onto-append}
-use Rattle.sp_core.specs.Closing.{AreEndsOf, FallsAs, AreFallsOf, ClosesSo, ClosedBy}
+use Rattle.sp_core.specs.Closing.{AreEndsOf, GoesDownAs, AreDownsOf, ClosesSo, ClosedBy}
 use Rattle.sp_ends.specs.Leaving.{ClosedCleared}
 use Rattle.cat_play.specs.Steps.{AddsNone}
 use Rattle.cat_rounds.specs.Going.{AreCleared}
@@ -63,7 +63,7 @@ down_here : (past : List Entry) (p : ℕ) (why : Why) (b : Bool) → (if b then 
 down_here past p why true h = inl refl
 down_here past p why false h = inr h
 
-one_fell : (q : ℕ) (es : List Entry) → FallsAs q es → (past : List Entry) (p : ℕ) → down_for (onto es past) p ≡ Some whys.Closed → ((q == p) ≡ true) ⊎ (down_for past p ≡ Some whys.Closed)
+one_fell : (q : ℕ) (es : List Entry) → GoesDownAs q es → (past : List Entry) (p : ℕ) → down_for (onto es past) p ≡ Some whys.Closed → ((q == p) ≡ true) ⊎ (down_for past p ≡ Some whys.Closed)
 one_fell q es (inl is) past p down =
     down_here past p whys.Closed (q == p) (subst (λ (es : List Entry). down_for (onto es past) p ≡ Some whys.Closed) is down)
 one_fell q es (inr (inl is)) past p down =
@@ -72,7 +72,7 @@ one_fell q es (inr (inr (why, other, is))) past p down =
     down_here past p why (q == p) (subst (λ (es : List Entry). down_for (onto es past) p ≡ Some whys.Closed) is down)
 
 -- a pipe that went down with them was one of these, or was down before
-all_fell : (ps : List ℕ) (es : List Entry) → AreFallsOf ps es → (past : List Entry) (p : ℕ) → down_for (onto es past) p ≡ Some whys.Closed → (has ps p ≡ true) ⊎ (down_for past p ≡ Some whys.Closed)
+all_fell : (ps : List ℕ) (es : List Entry) → AreDownsOf ps es → (past : List Entry) (p : ℕ) → down_for (onto es past) p ≡ Some whys.Closed → (has ps p ≡ true) ⊎ (down_for past p ≡ Some whys.Closed)
 all_fell [] es is past p down =
     inr (subst (λ (es : List Entry). down_for (onto es past) p ≡ Some whys.Closed) is down)
 all_fell (q ∷ ps) es (falls, rest, is, fell, more) past p down =
@@ -86,12 +86,12 @@ all_fell (q ∷ ps) es (falls, rest, is, fell, more) past p down =
     later (inl e) = inl (rw e (or_true (q == p)))
     later (inr d) = here (one_fell q falls fell past p d)
 
-one_cleared : (q : ℕ) (es : List Entry) → FallsAs q es → (past : List Entry) (p : ℕ) → is_cleared past p ≡ true → is_cleared (onto es past) p ≡ true
+one_cleared : (q : ℕ) (es : List Entry) → GoesDownAs q es → (past : List Entry) (p : ℕ) → is_cleared past p ≡ true → is_cleared (onto es past) p ≡ true
 one_cleared q es (inl is) past p h = rw is h
 one_cleared q es (inr (inl is)) past p h = rw (is, h) (or_true (q == p))
 one_cleared q es (inr (inr (why, other, is))) past p h = rw is h
 
-all_cleared : (ps : List ℕ) (es : List Entry) → AreFallsOf ps es → (past : List Entry) (p : ℕ) → is_cleared past p ≡ true → is_cleared (onto es past) p ≡ true
+all_cleared : (ps : List ℕ) (es : List Entry) → AreDownsOf ps es → (past : List Entry) (p : ℕ) → is_cleared past p ≡ true → is_cleared (onto es past) p ≡ true
 all_cleared [] es is past p h = rw is h
 all_cleared (q ∷ ps) es (falls, rest, is, fell, more) past p h =
     rw (is, onto-append falls rest past) (all_cleared ps rest more (onto falls past) p (one_cleared q falls fell past p h))
@@ -131,14 +131,14 @@ past_later past (t ∷ h) turns = past_later (onto t.entries past) h turns
 at_close : (z : Setting) (callers : ℕ) (h : List (Turn Entry)) (t : Turn Entry) → Legal z h → is_closed (past_of h) ≡ false → AreCleared (past_of h) → ClosesSo callers (past_of h) t → (p : ℕ) → down_for (past_of (h ++ t ∷ [])) p ≡ Some whys.Closed
     → is_cleared (past_of (h ++ t ∷ [])) p ≡ true
 at_close z callers h t legal open_ cleared c p down =
-    subst (λ (past : List Entry). is_cleared past p ≡ true) (sym is) (all_cleared (up (past_of h)) c.falls c.fallen before p (go (all_fell (up (past_of h)) c.falls c.fallen before p (subst (λ (past : List Entry). down_for past p ≡ Some whys.Closed) is down))))
+    subst (λ (past : List Entry). is_cleared past p ≡ true) (sym is) (all_cleared (up (past_of h)) c.down_entries c.gone_down before p (go (all_fell (up (past_of h)) c.down_entries c.gone_down before p (subst (λ (past : List Entry). down_for past p ≡ Some whys.Closed) is down))))
   where
     before : List Entry
     before = onto c.ends (past_of h)
 
-    is : past_of (h ++ t ∷ []) ≡ Close c.totals ∷ onto c.falls before
+    is : past_of (h ++ t ∷ []) ≡ Close c.totals ∷ onto c.down_entries before
     is =
-        past_closed callers h t c ∙ ap (λ (past : List Entry). Close c.totals ∷ past) (onto-append c.ends c.falls (past_of h))
+        past_closed callers h t c ∙ ap (λ (past : List Entry). Close c.totals ∷ past) (onto-append c.ends c.down_entries (past_of h))
 
     was_cleared : is_cleared before p ≡ is_cleared (past_of h) p
     was_cleared =

@@ -1,12 +1,11 @@
 -- Which plans can be played, and how a run of one begins and ends.
-use Rattle.std.specs.Prelude.{◌≡◌, ◌≤◌, ◌==◌, [], ◌⊎◌, ◌||◌, not, ℕ, ⊤, true, false, Bool, IsTrue, List, length, Result, Option, Some, None, ◌++◌, ◌∷◌, IfOk}
+use Rattle.std.specs.Prelude.{◌≡◌, ◌≤◌, ◌==◌, [], ◌⊎◌, ◌||◌, not, ℕ, ⊤, true, false, Bool, IsTrue, List, length, Result, Option, Some, None, ◌∷◌}
 use Rattle.std.specs.List.{AllByRecursion}
 use Rattle.turn_lock.specs.declared.turn.Turn.{Turn}
 use Rattle.sp_spec.specs.Outside.{Rose}
-use Rattle.sp_base.specs.Addresses.{scheme_of, is_dialable}
+use Rattle.sp_base.specs.Addresses.{is_dialable, is_linked}
 use Rattle.sp_base.specs.Views.{LinkView, NetView, PaceView, SinkView}
 use Rattle.sp_base.specs.declared.addr.Addr.{Addr}
-use Rattle.sp_base.specs.declared.addr.Scheme.TheVariants as schemes
 use Rattle.sp_base.specs.declared.role.Role.{Role}
 use Rattle.sp_history.specs.Setting.{is_sub}
 use Rattle.sp_history.specs.declared.entry.Entry.{Entry}
@@ -14,7 +13,8 @@ use Rattle.sp_history.specs.Past.{past_of, is_closed}
 use Rattle.sp_history.specs.Legal.{Legal}
 use Rattle.sp_history.specs.Settled.{Settled}
 use Rattle.sp_single.specs.Singles.{SingleView}
-use Rattle.sp_ends.specs.Standing.{EndsView}
+use Rattle.link_opening.specs.Origins.{Origins, IsAmong}
+use Rattle.sp_ends.specs.Standing.{EndsView, Beginning}
 use Rattle.sp_ends.specs.Adding.{ListensAlso, DialsAlso}
 use Rattle.sp_ends.specs.Leaving.{LinksLeft, ClosedCleared}
 use Rattle.sp_ends.specs.Standing.{SameCounts}
@@ -32,7 +32,6 @@ use Rattle.cat_play.specs.Scripts.{texts, counted, timed_out}
 use Rattle.cat_play.specs.Spending.{listens_of, dials_of}
 use Rattle.cat_play.specs.Steps.{AddsNone, moves_ends}
 use Rattle.sp_ends.specs.declared.ends.EndError.{EndError}
-use Rattle.sp_ends.specs.declared.dialer.Dialer.{Dialer}
 use Rattle.cat_rounds.specs.declared.player.Player.{Player}
 use Rattle.cat_rounds.specs.Lasting.{play_of}
 use Rattle.cat_rounds.specs.Stepping.{Sinks}
@@ -40,10 +39,10 @@ use Rattle.cat_rounds.specs.Going.{AreCleared, WentOrOver, PacedTo}
 
 -- ---- Plans
 
--- an end over TCP
+-- an end over TCP or WebSocket
 abbrev pub IsBuiltEnd : End → Type 0
-IsBuiltEnd (ends.Listen addr) = scheme_of addr ≡ schemes.Tcp
-IsBuiltEnd (ends.Dial addr) = (scheme_of addr ≡ schemes.Tcp) × (is_dialable addr ≡ true)
+IsBuiltEnd (ends.Listen addr) = is_linked addr ≡ true
+IsBuiltEnd (ends.Dial addr) = is_dialable addr ≡ true
 
 pub record AreBuilt (es : List End) : Type 0 where
   pub each_one : AllByRecursion IsBuiltEnd es
@@ -64,7 +63,7 @@ pub record AreTopics (role : Role) (ts : List (List ℕ)) : Type 0 where
   pub supported : IsTrue (is_sub role || (length ts == 0))
   pub short : AllByRecursion (λ t. length t ≤ 1024) ts
 
--- a plan that can be played: over TCP, with topics that its socket takes, and with data that stand in its words
+-- a plan that can be played: over TCP and WebSocket, with topics that its socket takes, and with data that stand in its words
 pub record IsBuilt (plan : CatPlan) : Type 0 where
   pub ends_built : AreBuilt plan.ends
   pub data_built : IsBuiltData plan.data_
@@ -78,16 +77,35 @@ IsBody datas.None body = body ≡ None
 IsBody (datas.Text text) body = body ≡ Some text
 IsBody (datas.File name) body = body ≡ None
 
--- ---- The beginning
+-- ---- Where the links of a plan come from
 
--- the dialer that was added dials this address
-abbrev pub HasDialer : {L : Type 0} → Addr → EndsView L → EndsView L → Type 0
-HasDialer addr old new = (d : Dialer) × (new.dialers ≡ old.dialers ++ d ∷ []) × (d.addr ≡ addr)
+-- the addresses at which it listens
+abbrev pub listen_addrs : List End → List Addr
+listen_addrs [] = []
+listen_addrs (ends.Listen addr ∷ es) = addr ∷ listen_addrs es
+listen_addrs (ends.Dial addr ∷ es) = listen_addrs es
+
+-- the addresses that it dials
+abbrev pub dial_addrs : List End → List Addr
+dial_addrs [] = []
+dial_addrs (ends.Listen addr ∷ es) = dial_addrs es
+dial_addrs (ends.Dial addr ∷ es) = addr ∷ dial_addrs es
+
+-- from the ends of the plan, with keys that are made from this number
+abbrev pub origins_of : CatPlan → ℕ → Origins
+origins_of plan dice = record { listens = listen_addrs plan.ends; dials = dial_addrs plan.ends; dice = dice }
+
+-- the address of the end is among them
+abbrev pub IsEndOf : Origins → End → Type 0
+IsEndOf o (ends.Listen addr) = IsAmong addr o.listens
+IsEndOf o (ends.Dial addr) = IsAmong addr o.dials
+
+-- ---- The beginning
 
 -- one end more
 abbrev pub AddsEnd : {L : Type 0} → Result (Unit {0}) EndError → End → EndsView L → EndsView L → NetView → NetView → Type 0
-AddsEnd result (ends.Listen addr) old new net net' = ListensAlso result old new net net'
-AddsEnd result (ends.Dial addr) old new net net' = DialsAlso result old new × (net' ≡ net) × IfOk result (λ done. HasDialer addr old new)
+AddsEnd result (ends.Listen addr) old new net net' = ListensAlso result addr old new net net'
+AddsEnd result (ends.Dial addr) old new net net' = DialsAlso result addr old new × (net' ≡ net)
 
 -- why it ended so: the net failed to listen before the first round, or the rounds ended so
 abbrev pub EndsFor : Status → SingleView → Player → NetView → NetView → PaceView → PaceView → SinkView → SinkView → Type 0
@@ -106,7 +124,7 @@ pub record Follows {L : Type 0} (result : Status) (es : List End) (s : SingleVie
 
 -- a closed, finished run: its record is the history and turns that move no link and no tick; it is a play, of which the
 -- same counts, is printed and timed out; its links are left
-pub record FinishesTo {L : Type 0} (seen : L → LinkView) (start : NetView) (s : SingleView) (e : EndsView L) (p : Player) (net net' : NetView) (record_ : List (Turn Entry)) : Type 0 where
+pub record FinishesTo {L : Type 0} (seen : L → LinkView) (start : Beginning) (s : SingleView) (e : EndsView L) (p : Player) (net net' : NetView) (record_ : List (Turn Entry)) : Type 0 where
   pub links : AddsNone moves_ends s.seen record_
   pub legal : Legal s.setting record_
   pub settled : Settled s.setting record_
@@ -120,6 +138,6 @@ pub record FinishesTo {L : Type 0} (seen : L → LinkView) (start : NetView) (s 
   pub left_ : LinksLeft s.setting start record_ net'
   pub counts : SameCounts net net'
 
-abbrev pub FinishesAs : {L : Type 0} → (L → LinkView) → NetView → SingleView → EndsView L → Player → NetView → NetView → Option (List (Turn Entry)) → Type 0
+abbrev pub FinishesAs : {L : Type 0} → (L → LinkView) → Beginning → SingleView → EndsView L → Player → NetView → NetView → Option (List (Turn Entry)) → Type 0
 FinishesAs seen start s e p net net' None = ⊥
 FinishesAs seen start s e p net net' (Some record_) = FinishesTo seen start s e p net net' record_

@@ -1,15 +1,13 @@
 -- What stands of a run between two rounds, and what it comes to.
-use Rattle.std.specs.Prelude.{◌≡◌, ◌<◌, ◌+◌, ◌^◌, ℕ, ⊤, true, false, Bool, List, length, Option, None, ◌||◌, ◌&&◌, nat_lt}
+use Rattle.std.specs.Prelude.{◌≡◌, ◌<◌, ◌+◌, ◌^◌, ℕ, ⊤, true, false, Bool, List, length, Option, None, nat_lt}
 use Rattle.turn_lock.specs.declared.turn.Turn.{Turn}
 use Rattle.sp_base.specs.Views.{LinkView, NetView, PaceView, SinkView}
-use Rattle.sp_base.specs.declared.role.Role.{Role}
 use Rattle.sp_history.specs.declared.entry.Entry.{Entry}
 use Rattle.sp_history.specs.Past.{past_of, up, now, is_cleared}
 use Rattle.sp_history.specs.Lists.{has}
-use Rattle.sp_history.specs.Setting.{is_req}
 use Rattle.sp_core.specs.declared.serve.Served.{Served}
 use Rattle.sp_single.specs.Singles.{SingleView}
-use Rattle.sp_ends.specs.Standing.{EndsView, EndsStand}
+use Rattle.sp_ends.specs.Standing.{EndsView, EndsStand, Beginning}
 use Rattle.sp_ends.specs.Turning.{IsSound, IsDry}
 use Rattle.cat_play.specs.declared.ends.Status.{Status}
 use Rattle.cat_play.specs.declared.ends.Status.TheVariants as status
@@ -25,7 +23,7 @@ use Rattle.cat_rounds.specs.Lasting.{PlayStands, HasPrinted, MayTick, HasPlayed,
 use Rattle.cat_rounds.specs.Stepping.{HasPrintedCut}
 
 -- the parts of a run that is open, between two calls of a round behind the turn of the ends
-pub record RunStands {L : Type 0} (seen : L → LinkView) (start : NetView) (s : SingleView) (ends : EndsView L) (p : Player) (net : NetView) (is_dry : Bool) : Type 0 where
+pub record RunStands {L : Type 0} (seen : L → LinkView) (start : Beginning) (s : SingleView) (ends : EndsView L) (p : Player) (net : NetView) (is_dry : Bool) : Type 0 where
   pub sound : IsSound s
   pub play : PlayStands s.setting s.seen p
   pub ends_stand : EndsStand seen s.setting start s.seen net ends
@@ -35,9 +33,9 @@ pub record RunStands {L : Type 0} (seen : L → LinkView) (start : NetView) (s :
 abbrev pub AreCleared : List Entry → Type 0
 AreCleared past = (p : ℕ) → has (up past) p ≡ true → is_cleared past p ≡ true
 
--- a pipe has something left to write; or, of a req, the turn moved something, so that a request may have gone out again
-abbrev pub has_more : Role → Served → Bool
-has_more role r = nat_lt 0 r.waiting || is_req role && r.moved
+-- a pipe has something left to write
+abbrev pub has_more : Served → Bool
+has_more r = nat_lt 0 r.waiting
 
 -- nothing is under way, the play came to its end, and all is written
 pub record IsThrough (s : SingleView) (p : Player) : Type 0 where
@@ -75,8 +73,8 @@ PrintsRound (rounds.Ends status.OutFault) before now h p = HasPrintedCut before 
 PrintsRound (rounds.Ends status.NoMemory) before now h p = HasPrintedCut before now h p
 PrintsRound _ before now h p = HasPrinted before now h p
 
--- a link was missed for want of memory at most where the round ends so
-abbrev pub RoundStands : {L : Type 0} → (L → LinkView) → NetView → Round → SingleView → EndsView L → Player → NetView → Type 0
+-- a link was missed when out of memory at most where the round ends so
+abbrev pub RoundStands : {L : Type 0} → (L → LinkView) → Beginning → Round → SingleView → EndsView L → Player → NetView → Type 0
 RoundStands seen start (rounds.Ends status.NoMemory) s ends p net = (is_dry : Bool) × RunStands seen start s ends p net is_dry
 RoundStands seen start _ s ends p net = RunStands seen start s ends p net false
 
@@ -91,7 +89,7 @@ pub record TicksOnce (t : ℕ) (old new : SingleView) : Type 0 where
 
 -- ---- All rounds
 
--- a link was missed for want of memory
+-- a link was missed when out of memory
 abbrev pub is_dry_at : SingleView → Bool
 is_dry_at s = has_dry_miss (past_of s.seen)
 

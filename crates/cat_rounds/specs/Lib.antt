@@ -4,3 +4,4 @@ pub mod Going
 pub mod Built
 pub mod Starting
 pub mod Late
+pub mod Resting

@@ -60,7 +60,7 @@ KnowsPipes has_pipe s p =
 
 -- ---- What is printed
 
--- a front of the last text, or the whole, stands in the sink behind the texts before it
+-- a prefix of the last text, or the whole, stands in the sink behind the texts before it
 abbrev pub HasPrintedCut : Option (List ℕ) → Option (List ℕ) → List (Turn Entry) → Player → Type 0
 HasPrintedCut before now h p =
     (piece : List ℕ) × IsCutShort (texts (play_of p.script) (past_of h)) piece × (now ≡ grown before piece)

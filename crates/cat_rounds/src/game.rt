@@ -1,14 +1,14 @@
 //! The parts of a run.
 use crate::player::Player;
+use end_wire::EndWire;
 use sp_base::Link;
 use sp_ends::Ends;
 use sp_proto::Proto;
 use sp_single::Single;
-use sp_tcp::TcpWire;
 
 /// The socket of a run, its ends, and its play. It must be spent.
 pub(crate) struct Game<P: Proto, L: Link> {
-    pub single: Single<P, TcpWire<L>>,
+    pub single: Single<P, EndWire<L>>,
     pub ends: Ends<L>,
     pub player: Player,
 }

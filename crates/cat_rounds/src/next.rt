@@ -16,7 +16,9 @@ use sp_base::Role;
 pub enum Last {
     /// None was collected yet.
     Nothing,
+    /// A receive got a message.
     Received,
+    /// A send went out.
     Sent,
     /// A receive ended with its survey.
     SurveyOver,

@@ -8,6 +8,7 @@ ghost use Rattle.cat_play.specs.Playing.{after_seconds, is_within, is_left, wait
 ghost use Rattle.sp_ends.specs.Turning.{IsSound};
 ghost use Rattle.cat_rounds.specs.Lasting.{play_of, is_survey_over, HasPrinted, IsUnderWay, IsNewPlayer};
 ghost use Rattle.sp_history.specs.Setting.{floods};
+ghost use Rattle.cat_rounds.specs.Resting.{IsKept};
 ghost use Rattle.cat_rounds.specs.Stepping.{KnowsPipes, Stands, GoesOnBy, SameScript, PrintedAfter, PrintedThen, Sinks, Puts, PutsPiece, PutsFor, NotedAs, Rested, counts_one, counts_for_last, over_for, step_for, gone_for, CollectsLast};
 
 use crate::next::{Last, counts, floods, receives_next};
@@ -30,6 +31,7 @@ const SURVEY_TIME: u64 = 1_000;
 /// What the play is to be: the plan without its ends.
 #[derive(Drop)]
 pub struct Script {
+    /// The role of its socket.
     pub role: Role,
     /// What each send carries.
     pub body: Option<Bytes>,
@@ -39,8 +41,11 @@ pub struct Script {
     pub count: Option<u32>,
     /// In seconds, as the other times.
     pub interval: Option<u32>,
+    /// How long a receive may take.
     pub recv_timeout: Option<u32>,
+    /// How long a send may take.
     pub send_timeout: Option<u32>,
+    /// How bodies are printed.
     pub format: Format,
 }
 
@@ -51,6 +56,7 @@ pub enum Over {
     Open,
     /// The count is reached, or a receive timed out.
     Finished,
+    /// A send timed out.
     SendTimedOut,
 }
 
@@ -61,7 +67,9 @@ pub enum Step {
     Begun,
     /// An operation is under way, or nothing can begin.
     Rests,
+    /// The output failed.
     OutFault,
+    /// Out of memory.
     NoMemory,
 }
 
@@ -71,13 +79,16 @@ pub enum Collecting {
     Free,
     /// It hasn't ended.
     NotYet,
+    /// The output failed.
     OutFault,
+    /// Out of memory.
     NoMemory,
 }
 
 /// A play that is under way.
 pub struct Player {
     alloc: Global,
+    /// What is to be played.
     pub script: Script,
     /// The operation that is under way.
     op: Option<Op>,
@@ -86,6 +97,7 @@ pub struct Player {
     last: Last,
     /// The tick at which the last send was begun.
     last_send: Option<Tick>,
+    /// How it ended, or that it goes on.
     pub over: Over,
     /// Where the texts are put together.
     text: Vec<u8>,
@@ -167,6 +179,7 @@ impl Player {
         ensures printed { (before : Option (List ℕ)) → HasPrinted before (S.seen out.old).text single.old.seen self.old → PrintedAfter result before (S.seen out.new).text single.new.seen self.new }
         ensures sinks { Sinks (result ≡ Step.OutFault) (S.seen out.old) (S.seen out.new) }
         ensures begun { result ≡ Step.Begun → is_some self.new.op ≡ true }
+        ensures kept { result ≡ Step.Rests → IsKept self.old.op self.new.op }
     {
         match self.collect(rt, single, out, now) {
             Collecting::Free => self.begin(rt, single, now, has_pipe),
@@ -189,6 +202,7 @@ impl Player {
         ensures script { SameScript self.old self.new }
         ensures goes_on { GoesOnBy single.old single.new }
         ensures free { result ≡ Collecting.Free → self.new.op ≡ None }
+        ensures kept { result ≡ Collecting.NotYet → self.new.op ≡ self.old.op }
         ensures left { is_left (past_of single.new.seen) ≡ false }
         ensures busy { result ≡ Collecting.NotYet → is_some (under_way (past_of single.new.seen)) ≡ true }
         ensures printed { (before : Option (List ℕ)) → HasPrinted before (S.seen out.old).text single.old.seen self.old → PrintedThen result before (S.seen out.new).text single.new.seen self.new }
@@ -330,6 +344,7 @@ impl Player {
         ensures texts { texts (play_of self.old.script) (past_of single.new.seen) ≡ texts (play_of self.old.script) (past_of single.old.seen) }
         ensures fault { result ≡ Step.OutFault → ⊥ }
         ensures begun { result ≡ Step.Begun → is_some self.new.op ≡ true }
+        ensures kept { result ≡ Step.Rests → self.new.op ≡ None }
     {
         if self.over != Over::Open {
             return Step::Rests;
@@ -367,6 +382,7 @@ impl Player {
         ensures texts { texts (play_of self.old.script) (past_of single.new.seen) ≡ texts (play_of self.old.script) (past_of single.old.seen) }
         ensures fault { result ≡ Step.OutFault → ⊥ }
         ensures begun { result ≡ Step.Begun → is_some self.new.op ≡ true }
+        ensures kept { result ≡ Step.Rests → self.new.op ≡ None }
     {
         match single.begin_recv(rt, CTX, after(now, self.script.recv_timeout)) {
             Err(_) => Step::Rests,
@@ -411,6 +427,7 @@ impl Player {
         ensures texts { texts (play_of self.old.script) (past_of single.new.seen) ≡ texts (play_of self.old.script) (past_of single.old.seen) }
         ensures fault { result ≡ Step.OutFault → ⊥ }
         ensures begun { result ≡ Step.Begun → is_some self.new.op ≡ true }
+        ensures kept { result ≡ Step.Rests → self.new.op ≡ None }
     {
         let Ok(m) = self.message() else {
             return Step::NoMemory;

@@ -1,19 +1,19 @@
 //! The rounds of a run.
-ghost use Rattle.std.specs.Prelude.{◌≡◌, ◌≢◌, ◌≤◌, ℕ, List, Option, None, true, false};
-ghost use Rattle.sp_base.specs.Views.{NetView};
+ghost use Rattle.std.specs.Prelude.{◌≡◌, ◌≢◌, ◌≤◌, ◌+◌, ℕ, List, Option, None, true, false, length};
+ghost use Rattle.sp_ends.specs.Standing.{Beginning};
 ghost use Rattle.sp_history.specs.Past.{past_of};
 ghost use Rattle.sp_ends.specs.Turning.{SameEnds};
 ghost use Rattle.cat_play.specs.Scripts.{has_ticked, texts};
 ghost use Rattle.cat_rounds.specs.Lasting.{play_of, HasPrinted, HasServed, MayTick};
 ghost use Rattle.cat_rounds.specs.Stepping.{KnowsPipes, Stands, GoesOnBy, SameScript, Sinks};
 ghost use Rattle.cat_rounds.specs.Late.{IsLateBy, RoundIsLate, StallsMore};
-ghost use Rattle.sp_history.specs.Setting.{is_req};
+ghost use Rattle.cat_rounds.specs.Resting.{IsKept, IsAtRest, MovesStill, RoundMoves};
 ghost use Rattle.cat_rounds.specs.Going.{RunStands, RoundStands, GoesTo, RoundGoesTo, WentOrOver, PacedTo, TicksOnce, PrintsTo, PrintsGoing, PrintsRound, IsDryAt, is_dry_at, past_now, has_more};
 
 use crate::game::Game;
 use crate::player::{Over, Step};
 use cat_play::ends::Status;
-use sp_base::{Link, Net, Pace, Paced, Role, Sink, Tick};
+use sp_base::{Link, Net, Pace, Paced, Sink, Tick};
 use sp_proto::Proto;
 use sp_socket::Served;
 use std::sync::Wait;
@@ -27,7 +27,7 @@ const STEPS: u32 = 64;
 /// What a round came to.
 #[derive(Clone, Copy, Debug, PartialEq, Eq)]
 pub enum Round {
-    /// The run goes on; whether anything moved.
+    /// The run goes on; whether messages move still.
     Goes(bool),
     /// The run is over.
     Ends(Status),
@@ -36,11 +36,13 @@ pub enum Round {
 /// What a part of a round came to.
 #[derive(Clone, Copy, Debug, PartialEq, Eq)]
 pub enum Going {
-    /// The play rests; whether anything moved before.
+    /// The run goes on; whether messages move still.
     Rests(bool),
     /// It is over.
     Over,
+    /// The output failed.
     OutFault,
+    /// Out of memory.
     NoMemory,
 }
 
@@ -53,17 +55,17 @@ impl<P: Proto, L: Link> Game<P, L> {
         pace: &mut Pa,
         out: &mut S,
     ) -> Status
-        requires stands { (start : NetView) × RunStands L.seen start self.old.single self.old.ends self.old.player (N.seen net.old) false }
+        requires stands { (start : Beginning) × RunStands L.seen start self.old.single self.old.ends self.old.player (N.seen net.old) false }
         requires may_tick { MayTick self.old.single.setting self.old.single.seen self.old.player }
         requires unticked { has_ticked (past_of self.old.single.seen) ≡ false }
-        ensures stands { (start : NetView) → RunStands L.seen start self.old.single self.old.ends self.old.player (N.seen net.old) false → RunStands L.seen start self.new.single self.new.ends self.new.player (N.seen net.new) (is_dry_at self.new.single) }
+        ensures stands { (start : Beginning) → RunStands L.seen start self.old.single self.old.ends self.old.player (N.seen net.old) false → RunStands L.seen start self.new.single self.new.ends self.new.player (N.seen net.new) (is_dry_at self.new.single) }
         ensures dry { IsDryAt result self.new.single }
         ensures went { WentOrOver result self.new.single self.new.player (S.seen out.old) (S.seen out.new) (Pa.seen pace.new) }
         ensures pace { PacedTo result (Pa.seen pace.old) (Pa.seen pace.new) (past_of self.new.single.seen) }
         ensures printed { (before : Option (List ℕ)) → HasPrinted before (S.seen out.old).text self.old.single.seen self.old.player → PrintsTo result before (S.seen out.new).text self.new.single.seen self.new.player }
         ensures sinks { Sinks (result ≡ Status.OutFault) (S.seen out.old) (S.seen out.new) }
         ensures same { SameEnds self.old.ends self.new.ends × SameScript self.old.player self.new.player × (self.new.single.setting ≡ self.old.single.setting) }
-        ensures late { is_req self.old.player.script.role ≡ false → IsLateBy 1 self.new.single self.new.player }
+        ensures late { IsLateBy 1 self.new.single self.new.player }
     {
         let mut moved = true;
         'rounds: for _ in 0..u64::MAX {
@@ -87,17 +89,18 @@ impl<P: Proto, L: Link> Game<P, L> {
         out: &mut S,
         now: Tick,
     ) -> Round
-        requires stands { (start : NetView) × RunStands L.seen start self.old.single self.old.ends self.old.player (N.seen net.old) false }
+        requires stands { (start : Beginning) × RunStands L.seen start self.old.single self.old.ends self.old.player (N.seen net.old) false }
         requires may_tick { MayTick self.old.single.setting self.old.single.seen self.old.player }
         requires later { past_now self.old.single ≤ now }
-        requires late { is_req self.old.player.script.role ≡ false → IsLateBy 0 self.old.single self.old.player }
-        ensures stands { (start : NetView) → RunStands L.seen start self.old.single self.old.ends self.old.player (N.seen net.old) false → RoundStands L.seen start result self.new.single self.new.ends self.new.player (N.seen net.new) }
+        requires late { IsLateBy 0 self.old.single self.old.player }
+        ensures stands { (start : Beginning) → RunStands L.seen start self.old.single self.old.ends self.old.player (N.seen net.old) false → RoundStands L.seen start result self.new.single self.new.ends self.new.player (N.seen net.new) }
         ensures ticked { TicksOnce now self.old.single self.new.single }
         ensures went { RoundGoesTo result self.new.single self.new.player }
         ensures printed { (before : Option (List ℕ)) → HasPrinted before (S.seen out.old).text self.old.single.seen self.old.player → PrintsRound result before (S.seen out.new).text self.new.single.seen self.new.player }
         ensures sinks { Sinks (result ≡ Round.Ends Status.OutFault) (S.seen out.old) (S.seen out.new) }
         ensures same { SameEnds self.old.ends self.new.ends × SameScript self.old.player self.new.player × (self.new.single.setting ≡ self.old.single.setting) }
-        ensures late { is_req self.old.player.script.role ≡ false → RoundIsLate result self.new.single self.new.player }
+        ensures late { RoundIsLate result self.new.single self.new.player }
+        ensures moved { RoundMoves result self.new.player self.old.single self.new.single }
     {
         self.single.tick(rt, now);
         let turn = self.ends.turn(rt, net, &mut self.single, now);
@@ -105,7 +108,7 @@ impl<P: Proto, L: Link> Game<P, L> {
             return Round::Ends(Status::NoMemory);
         }
         match self.play(rt, out, now) {
-            Going::Rests(moved) => Round::Goes(moved || turn.moved),
+            Going::Rests(moved) => Round::Goes(moved),
             Going::Over => self.drain(rt),
             Going::OutFault => Round::Ends(Status::OutFault),
             Going::NoMemory => Round::Ends(Status::NoMemory),
@@ -122,21 +125,21 @@ impl<P: Proto, L: Link> Game<P, L> {
         ensures sinks { Sinks (result ≡ Going.OutFault) (S.seen out.old) (S.seen out.new) }
         ensures same { SameScript self.old.player self.new.player × (self.new.ends ≡ self.old.ends) }
         ensures over { self.old.player.over ≢ Over.Open → result ≡ Going.Over }
+        ensures moved { MovesStill result self.old.single self.new.single }
     {
-        let mut moved = false;
         'sweeps: for _ in 0..SWEEPS {
             if self.player.over != Over::Open {
                 return Going::Over;
             }
             match self.sweep(rt, out, now) {
-                Going::Rests(false) => return Going::Rests(moved),
-                Going::Rests(true) => moved = true,
+                Going::Rests(false) => return Going::Rests(false),
+                Going::Rests(true) => (),
                 Going::Over => return Going::Over,
                 Going::OutFault => return Going::OutFault,
                 Going::NoMemory => return Going::NoMemory,
             }
         }
-        Going::Rests(moved)
+        Going::Rests(true)
     }
 
     // Serves the pipes once, and goes on with the play.
@@ -144,6 +147,8 @@ impl<P: Proto, L: Link> Game<P, L> {
         requires stands { Stands self.old.single self.old.player now }
         ensures stands { Stands self.new.single self.new.player now }
         ensures goes_on { GoesOnBy self.old.single self.new.single }
+        ensures still { result ≡ Going.Rests false → IsAtRest self.new.single }
+        ensures turns { length self.old.single.seen + 1 ≤ length self.new.single.seen }
         ensures went { GoesTo result self.new.single self.new.player }
         ensures printed { (before : Option (List ℕ)) → HasPrinted before (S.seen out.old).text self.old.single.seen self.old.player → PrintsGoing result before (S.seen out.new).text self.new.single.seen self.new.player }
         ensures sinks { Sinks (result ≡ Going.OutFault) (S.seen out.old) (S.seen out.new) }
@@ -166,6 +171,7 @@ impl<P: Proto, L: Link> Game<P, L> {
         requires pipes { KnowsPipes has_pipe self.old.single self.old.player }
         ensures stands { Stands self.new.single self.new.player now }
         ensures goes_on { GoesOnBy self.old.single self.new.single }
+        ensures kept { result ≡ Going.Rests false → IsKept self.old.player.op self.new.player.op }
         ensures went { GoesTo result self.new.single self.new.player }
         ensures printed { (before : Option (List ℕ)) → HasPrinted before (S.seen out.old).text self.old.single.seen self.old.player → PrintsGoing result before (S.seen out.new).text self.new.single.seen self.new.player }
         ensures sinks { Sinks (result ≡ Going.OutFault) (S.seen out.old) (S.seen out.new) }
@@ -194,12 +200,13 @@ impl<P: Proto, L: Link> Game<P, L> {
         ensures texts { texts (play_of self.old.player.script) (past_of self.new.single.seen) ≡ texts (play_of self.old.player.script) (past_of self.old.single.seen) }
         ensures same { (self.new.player ≡ self.old.player) × (self.new.ends ≡ self.old.ends) }
         ensures fault { (result ≡ Round.Ends Status.OutFault → ⊥) × (result ≡ Round.Ends Status.NoMemory → ⊥) }
-        ensures stalls { is_req self.old.player.script.role ≡ false → StallsMore result self.old.single self.new.single }
+        ensures stalls { StallsMore result self.old.single self.new.single }
+        ensures rests { result ≡ Round.Goes true → ⊥ }
     {
         let served = self.single.serve(rt);
-        let waits = has_more(self.player.script.role, served);
+        let waits = has_more(served);
         if waits {
-            return Round::Goes(served.moved);
+            return Round::Goes(false);
         }
         match self.player.over {
             Over::SendTimedOut => Round::Ends(Status::SendTimedOut),
@@ -209,9 +216,9 @@ impl<P: Proto, L: Link> Game<P, L> {
     }
 }
 
-// Whether a pipe has something left to write. Of a req, a request may have gone out again where the turn moved something.
-fn has_more(role: Role, served: Served) -> bool
-    ensures { result ≡ has_more role served }
+// Whether a pipe has something left to write.
+fn has_more(served: Served) -> bool
+    ensures { result ≡ has_more served }
 {
-    served.waiting > 0 || (role == Role::Req && served.moved)
+    served.waiting > 0
 }

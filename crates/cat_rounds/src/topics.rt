@@ -1,9 +1,9 @@
 //! The topics of a sub, which are put on before the first round.
 ghost use Rattle.std.specs.Prelude.{◌≡◌, ◌≤◌, ℕ, List, [], Option, false, length, IsTrue};
-ghost use Rattle.sp_base.specs.Views.{NetView};
+ghost use Rattle.sp_ends.specs.Standing.{Beginning};
 ghost use Rattle.sp_history.specs.Legal.{has_topic};
 ghost use Rattle.sp_history.specs.Past.{past_of, topics};
-ghost use Rattle.sp_history.specs.Setting.{has_topics, is_req};
+ghost use Rattle.sp_history.specs.Setting.{has_topics};
 ghost use Rattle.sp_ends.specs.Turning.{SameEnds};
 ghost use Rattle.cat_rounds.specs.Lasting.{HasPrinted};
 ghost use Rattle.cat_rounds.specs.Stepping.{SameScript, Sinks};
@@ -70,17 +70,17 @@ impl<P: Proto, L: Link> Game<P, L> {
         pace: &mut Pa,
         out: &mut S,
     ) -> Status
-        requires stands { (start : NetView) × RunStands L.seen start self.old.single self.old.ends self.old.player (N.seen net.old) false }
+        requires stands { (start : Beginning) × RunStands L.seen start self.old.single self.old.ends self.old.player (N.seen net.old) false }
         requires fresh { self.old.single.seen ≡ [] }
         requires can { CanSubscribe self.old.single.setting self.old.player.script.topics }
-        ensures stands { (start : NetView) → RunStands L.seen start self.old.single self.old.ends self.old.player (N.seen net.old) false → RunStands L.seen start self.new.single self.new.ends self.new.player (N.seen net.new) (is_dry_at self.new.single) }
+        ensures stands { (start : Beginning) → RunStands L.seen start self.old.single self.old.ends self.old.player (N.seen net.old) false → RunStands L.seen start self.new.single self.new.ends self.new.player (N.seen net.new) (is_dry_at self.new.single) }
         ensures dry { IsDryAt result self.new.single }
         ensures went { WentOrOver result self.new.single self.new.player (S.seen out.old) (S.seen out.new) (Pa.seen pace.new) }
         ensures pace { PacedTo result (Pa.seen pace.old) (Pa.seen pace.new) (past_of self.new.single.seen) }
         ensures printed { (before : Option (List ℕ)) → HasPrinted before (S.seen out.old).text self.old.single.seen self.old.player → PrintsTo result before (S.seen out.new).text self.new.single.seen self.new.player }
         ensures sinks { Sinks (result ≡ Status.OutFault) (S.seen out.old) (S.seen out.new) }
         ensures same { SameEnds self.old.ends self.new.ends × SameScript self.old.player self.new.player × (self.new.single.setting ≡ self.old.single.setting) }
-        ensures late { is_req self.old.player.script.role ≡ false → IsLateBy 1 self.new.single self.new.player }
+        ensures late { IsLateBy 1 self.new.single self.new.player }
     {
         match subscribe_all(rt, &mut self.single, &self.player) {
             Ok(()) => self.go_round(rt, net, pace, out),

@@ -1,23 +1,24 @@
 //! A run from its beginning to its end.
 ghost use Rattle.std.specs.Prelude.{◌≡◌, ℕ, List, [], Option, None, false};
+ghost use Rattle.std.specs.List.{AllByRecursion};
 ghost use Rattle.std.specs.Option.{option_map};
-ghost use Rattle.sp_base.specs.Views.{FilesView, NetView};
+ghost use Rattle.sp_base.specs.Views.{FilesView};
+ghost use Rattle.sp_ends.specs.Standing.{Beginning};
 ghost use Rattle.sp_proto.specs.Kinds.{Kind, Starts, setting_of};
-ghost use Rattle.cat_play.specs.Openings.{greetings};
+ghost use Rattle.link_opening.specs.Origins.{run_ways};
 ghost use Rattle.cat_play.specs.Running.{world, run_setting, RunsPlan, EndsPlan};
 ghost use Rattle.cat_rounds.specs.Lasting.{HasPrinted};
 ghost use Rattle.cat_rounds.specs.Stepping.{SameScript};
 ghost use Rattle.cat_rounds.specs.Going.{RunStands, PrintsTo, IsDryAt, is_dry_at};
 ghost use Rattle.cat_rounds.specs.Starting.{CanSubscribe};
 ghost use Rattle.cat_rounds.specs.Late.{IsLateBy};
-ghost use Rattle.sp_history.specs.Setting.{is_req};
-ghost use Rattle.cat_rounds.specs.Built.{IsBuilt, AreBuilt, IsBuiltEnd, IsBody, Follows, AddsEnd, FinishesAs};
+ghost use Rattle.cat_rounds.specs.Built.{IsBuilt, AreBuilt, IsBuiltEnd, IsBody, Follows, AddsEnd, FinishesAs, IsEndOf, origins_of};
 
 use crate::game::Game;
 use crate::player::{Player, Script};
 use cat_play::ends::Status;
 use cat_text::{CatPlan, Data, End};
-use sp_base::{Addr, Bytes, Link, Net, Pace, Sink};
+use sp_base::{Bytes, Link, Net, Pace, Sink};
 use sp_ends::{EndError, Ends};
 use sp_proto::Proto;
 use sp_single::{Single, SingleEnd};
@@ -28,7 +29,7 @@ use std::sync::Wait;
 /// How many operations the socket of a run has at once.
 const SLOTS: u32 = 16;
 
-/// What a run answers.
+/// What a run returns.
 #[derive(Drop)]
 pub struct CatEnd {
     /// Why it ended.
@@ -48,23 +49,25 @@ fn unopened(status: Status) -> CatEnd
 }
 
 /// Plays the plan on a socket over this machine, which is one of the plan's role and as good as new: opens the socket,
-/// listens and dials in the order of the plan, puts its topics on, goes round, closes, and gives every link back. Whatever it answers, the
-/// history of the socket says all that was done.
+/// listens and dials in the order of the plan, puts its topics on, goes round, closes, and gives every link back.
+/// Whatever it returns, the history of the socket says all that was done. `dice` is the number of which the socket was
+/// made; the keys of WebSocket openings are made from it too.
 pub fn play<R: Wait, N: Net, Pa: Pace, S: Sink, P: Proto + Drop>(
     alloc: Global,
     rt: &R,
     machine: P,
     plan: CatPlan,
+    dice: u32,
     net: &mut N,
     pace: &mut Pa,
     out: &mut S,
 ) -> CatEnd
     requires starts { (k : Kind) × Starts P.ties machine k }
-    requires setting { (dice : ℕ) × (setting_of (P.kind machine) 16 1 ≡ run_setting plan.role dice) }
+    requires setting { setting_of (P.kind machine) 16 1 ≡ run_setting plan.role dice }
     requires built { IsBuilt plan }
-    ensures runs { (files : FilesView) (dice : ℕ) → setting_of (P.kind machine) 16 1 ≡ run_setting plan.role dice →
-        RunsPlan (greetings plan.role) result.status plan dice (option_map (λ r. r.turns) result.record_) (world (N.seen net.old) files (Pa.seen pace.old) (S.seen out.old)) (world (N.seen net.new) files (Pa.seen pace.new) (S.seen out.new)) }
-    ensures in_time { (files : FilesView) (dice : ℕ) → setting_of (P.kind machine) 16 1 ≡ run_setting plan.role dice → is_req plan.role ≡ false →
+    ensures runs { (files : FilesView) →
+        RunsPlan (run_ways plan.role (origins_of plan dice)) result.status plan dice (option_map (λ r. r.turns) result.record_) (world (N.seen net.old) files (Pa.seen pace.old) (S.seen out.old)) (world (N.seen net.new) files (Pa.seen pace.new) (S.seen out.new)) }
+    ensures in_time { (files : FilesView) →
         EndsPlan result.status plan dice (option_map (λ r. r.turns) result.record_) (world (N.seen net.old) files (Pa.seen pace.old) (S.seen out.old)) (world (N.seen net.new) files (Pa.seen pace.new) (S.seen out.new)) }
 {
     let CatPlan {
@@ -88,7 +91,7 @@ pub fn play<R: Wait, N: Net, Pa: Pace, S: Sink, P: Proto + Drop>(
         send_timeout,
         format,
     };
-    let Ok(links) = Ends::new(alloc, role) else {
+    let Ok(links) = Ends::new(alloc, role, dice) else {
         return unopened(Status::NoMemory);
     };
     let Ok(single) = Single::open(alloc, machine, SLOTS) else {
@@ -125,17 +128,17 @@ impl<P: Proto, L: Link> Game<P, L> {
         pace: &mut Pa,
         out: &mut S,
     ) -> Status
-        requires stands { (start : NetView) × RunStands L.seen start self.old.single self.old.ends self.old.player (N.seen net.old) false }
+        requires stands { (start : Beginning) × AllByRecursion (IsEndOf start.origins) ends.now × RunStands L.seen start self.old.single self.old.ends self.old.player (N.seen net.old) false }
         requires fresh { self.old.single.seen ≡ [] }
         requires no_ends { (self.old.ends.listeners ≡ []) × (self.old.ends.dialers ≡ []) }
         requires built { AreBuilt ends.now }
         requires topics { CanSubscribe self.old.single.setting self.old.player.script.topics }
-        ensures stands { (start : NetView) → RunStands L.seen start self.old.single self.old.ends self.old.player (N.seen net.old) false → RunStands L.seen start self.new.single self.new.ends self.new.player (N.seen net.new) (is_dry_at self.new.single) }
+        ensures stands { (start : Beginning) → AllByRecursion (IsEndOf start.origins) ends.now → RunStands L.seen start self.old.single self.old.ends self.old.player (N.seen net.old) false → RunStands L.seen start self.new.single self.new.ends self.new.player (N.seen net.new) (is_dry_at self.new.single) }
         ensures dry { IsDryAt result self.new.single }
         ensures followed { Follows result ends.now self.new.single self.new.ends self.new.player (N.seen net.old) (N.seen net.new) (Pa.seen pace.old) (Pa.seen pace.new) (S.seen out.old) (S.seen out.new) }
         ensures printed { (before : Option (List ℕ)) → HasPrinted before (S.seen out.old).text self.old.single.seen self.old.player → PrintsTo result before (S.seen out.new).text self.new.single.seen self.new.player }
         ensures same { SameScript self.old.player self.new.player × (self.new.single.setting ≡ self.old.single.setting) }
-        ensures late { is_req self.old.player.script.role ≡ false → IsLateBy 1 self.new.single self.new.player }
+        ensures late { IsLateBy 1 self.new.single self.new.player }
     {
         for end in ends {
             match self.add(net, end) {
@@ -155,23 +158,15 @@ impl<P: Proto, L: Link> Game<P, L> {
     {
         match end {
             End::Listen(addr) => self.ends.listen(net, addr),
-            End::Dial(Addr::Tcp { host, port }) => self.ends.dial(*host, *port),
-            End::Dial(
-                Addr::Ws {
-                    host: _,
-                    port: _,
-                    path: _,
-                },
-            ) => unreachable!(),
-            End::Dial(Addr::Inproc { name: _ }) => unreachable!(),
+            End::Dial(addr) => self.ends.dial(addr),
         }
     }
 
     // Closes the socket, and gives everything back.
     fn finish<R: Wait, N: Net<L = L>>(self, rt: &R, net: &mut N, status: Status) -> CatEnd
-        requires stands { (start : NetView) × RunStands L.seen start self.single self.ends self.player (N.seen net.old) (is_dry_at self.single) }
+        requires stands { (start : Beginning) × RunStands L.seen start self.single self.ends self.player (N.seen net.old) (is_dry_at self.single) }
         ensures status { result.status ≡ status }
-        ensures finished { (start : NetView) → RunStands L.seen start self.single self.ends self.player (N.seen net.old) (is_dry_at self.single) → FinishesAs L.seen start self.single self.ends self.player (N.seen net.old) (N.seen net.new) (option_map (λ r. r.turns) result.record_) }
+        ensures finished { (start : Beginning) → RunStands L.seen start self.single self.ends self.player (N.seen net.old) (is_dry_at self.single) → FinishesAs L.seen start self.single self.ends self.player (N.seen net.old) (N.seen net.new) (option_map (λ r. r.turns) result.record_) }
     {
         let Game {
             mut single,

@@ -1,6 +1,6 @@
 -- What a run of a plan is to the plan whose file was loaded.
 use Rattle.std.specs.Prelude.{◌≡◌, ◌≤◌, ℕ, List, Option, Some, None}
-use Rattle.std.proofs.Common.{subst, arith}
+use Rattle.std.proofs.Common.{subst, sym, ◌∙◌, arith}
 use Rattle.turn_lock.specs.declared.turn.Turn.{Turn}
 use Rattle.sp_spec.specs.Outside.{Rose}
 use Rattle.sp_base.specs.Views.{NetView, FilesView, PaceView, SinkView}
@@ -12,16 +12,26 @@ use Rattle.cat_text.specs.declared.plan.Data.TheVariants as datas
 use Rattle.cat_play.specs.declared.ends.Status.{Status}
 use Rattle.cat_play.specs.declared.ends.Status.TheVariants as status
 use Rattle.cat_play.specs.Plans.{Play, IsPlayOf, Carries}
-use Rattle.cat_play.specs.Openings.{Ways, greetings}
-use Rattle.cat_play.specs.Running.{World, world, run_setting, EndedFor, UnopenedFor, Printed, Runs, RunsPlan, FilesBy}
+use Rattle.cat_play.specs.Openings.{Ways}
+use Rattle.cat_play.specs.Running.{World, world, run_setting, EndedFor, UnopenedFor, Printed, Runs, RunsPlan, FilesBy, RunsDrill, DrillsTo}
 use Rattle.cat_play.specs.Scripts.{texts}
 use Rattle.sp_history.specs.Past.{past_of}
+use Rattle.link_opening.specs.Origins.{run_ways}
+use Rattle.cat_rounds.specs.Built.{origins_of}
 use Rattle.cat_run.specs.Ready.{HasContent, AsksFiles}
 
 -- no plan is refused as wrong words
 pub no_usage : (ways : Ways) (s : Status) (plan : CatPlan) (dice : ℕ) (r : Option (List (Turn Entry))) (old new : World) → RunsPlan ways s plan dice r old new → (at : ℕ) → s ≡ status.Usage at → ⊥
 no_usage ways s plan dice None old new runs at is = subst (λ (x : Status). UnopenedFor x old new) is runs.0
 no_usage ways s plan dice (Some h) old new runs at is = subst (λ (x : Status). EndedFor x (run_setting plan.role dice) plan runs.0 (past_of h) old new) is runs.2.ended
+
+-- no drill ends as wrong words
+pub drill_no_usage : (s : Status) (n : ℕ) (r : Option (List (Turn Entry))) (old new : World) → RunsDrill s n r old new → (at : ℕ) → s ≡ status.Usage at → ⊥
+drill_no_usage s n None old new runs at is = apart (sym runs.0 ∙ is)
+  where
+    apart : status.NoMemory ≡ status.Usage at → ⊥
+    apart e = cc
+drill_no_usage s n (Some h) old new runs at is = subst (λ (x : Status). DrillsTo x n h old new) is runs.1
 
 -- what the sends carry
 carries : (data_ loaded : Data) (files : FilesView) (body : Option (List ℕ)) → HasContent data_ loaded files → Carries loaded files body → Carries data_ files body
@@ -95,9 +105,9 @@ module _ (net net' : NetView) (pace pace' : PaceView) (sink sink' : SinkView) (f
       (play, record { role = is.role; body = carries plan.data_ data_ files play.body content is.body; topics = is.topics; count = is.count; interval = is.interval; recv_timeout = is.recv_timeout; send_timeout = is.send_timeout; format = is.format }, runs ways s plan data_ play dice h (u files).2)
 
   -- the same of the plan that was loaded
-  pub run_of : (s : Status) (plan loaded : CatPlan) (data_ : Data) (dice : ℕ) (r : Option (List (Turn Entry))) → HasContent plan.data_ data_ files → loaded ≡ record plan { data_ = data_ } → ((f : FilesView) → RunsPlan (greetings loaded.role) s loaded dice r (world net f pace sink) (world net' f pace' sink')) → RunsPlan (greetings plan.role) s plan dice r old after
+  pub run_of : (s : Status) (plan loaded : CatPlan) (data_ : Data) (dice : ℕ) (r : Option (List (Turn Entry))) → HasContent plan.data_ data_ files → loaded ≡ record plan { data_ = data_ } → ((f : FilesView) → RunsPlan (run_ways loaded.role (origins_of loaded dice)) s loaded dice r (world net f pace sink) (world net' f pace' sink')) → RunsPlan (run_ways plan.role (origins_of plan dice)) s plan dice r old after
   run_of s plan loaded data_ dice r content is u =
-      loaded_runs (greetings plan.role) s plan data_ dice r content (subst (λ (l : CatPlan). (f : FilesView) → RunsPlan (greetings l.role) s l dice r (world net f pace sink) (world net' f pace' sink')) is u)
+      loaded_runs (run_ways plan.role (origins_of plan dice)) s plan data_ dice r content (subst (λ (l : CatPlan). (f : FilesView) → RunsPlan (run_ways l.role (origins_of l dice)) s l dice r (world net f pace sink) (world net' f pace' sink')) is u)
 
 -- the files were asked as the plan says
 pub files_by : (data_ : Data) (net net' : NetView) (pace pace' : PaceView) (sink sink' : SinkView) (files files' : FilesView) → AsksFiles data_ files files' → FilesBy data_ (world net files pace sink) (world net' files' pace' sink')

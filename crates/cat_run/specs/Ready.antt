@@ -19,16 +19,16 @@ use Rattle.cat_rounds.specs.Built.{IsBuiltEnd, AreBuilt, AreTopics, has_data, Is
 
 -- ---- Plans that can be run
 
--- a plan over TCP, with topics that its socket takes
+-- a plan over TCP and WebSocket, with topics that its socket takes
 pub record IsReady (plan : CatPlan) : Type 0 where
   pub ends_built : AreBuilt plan.ends
   pub topics_ready : AreTopics plan.role plan.topics
   pub carries : IsTrue (not (needs_data plan.role) || has_data plan.data_)
 
--- no drill can be run yet
+-- every drill can be run
 abbrev pub CanRun : Plan → Type 0
 CanRun (plans.Cat plan) = IsReady plan
-CanRun (plans.Drill count) = ⊥
+CanRun (plans.Drill count) = ⊤
 
 -- the machine of a role, cooked and as usual
 abbrev pub usual_kind : Role → ℕ → Kind

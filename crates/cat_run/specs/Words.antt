@@ -15,7 +15,7 @@ abbrev pub IsUnready : List (List ℕ) → Type 0
 IsUnready words = (plan : Plan) × ReadsWords words plan × (CanRun plan → ⊥)
 
 -- Wrong words are named at the first place from which no list of words with a plan goes on. A plan that can't be run yet
--- is refused as a whole, at 0. Want of memory is the one other answer to both.
+-- is refused as a whole, at 0. Out of memory is the one other answer to both.
 pub record AnswersWords (s : Status) (words : List (List ℕ)) : Type 0 where
   pub usage : (at : ℕ) → s ≡ status.Usage at → IsUsage words at ⊎ (IsUnready words × (at ≡ 0))
   pub wrong : (IsPlanned words → ⊥) → ((at : ℕ) × (s ≡ status.Usage at)) ⊎ (s ≡ status.NoMemory)

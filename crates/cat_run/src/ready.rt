@@ -5,7 +5,7 @@ ghost use Rattle.cat_text.specs.Drafts.{needs_data};
 ghost use Rattle.cat_run.specs.Ready.{IsReady};
 
 use cat_text::{CatPlan, Data, End};
-use sp_base::{Bytes, Role, Scheme};
+use sp_base::{Bytes, Role};
 
 /// How many ends a plan has at most.
 const MOST_ENDS: usize = 64;
@@ -26,7 +26,7 @@ pub(crate) fn is_ready(plan: &CatPlan) -> bool
     are_built(plan.ends.as_slice())
 }
 
-// Whether each is an end over TCP, and there are not too many.
+// Whether each is an end over TCP or WebSocket, and there are not too many.
 fn are_built(ends: &[End]) -> bool
     ensures { IsTrue result ↔ AreBuilt ends.now }
 {
@@ -88,12 +88,12 @@ fn has_data(data_: &Data) -> bool
     }
 }
 
-// Whether it is an end over TCP.
+// Whether it is an end over TCP or WebSocket.
 fn is_built_end(end: &End) -> bool
     ensures { IsTrue result ↔ IsBuiltEnd end.now }
 {
     match end {
-        End::Listen(addr) => addr.scheme() == Scheme::Tcp,
-        End::Dial(addr) => addr.scheme() == Scheme::Tcp && addr.is_dialable(),
+        End::Listen(addr) => addr.is_linked(),
+        End::Dial(addr) => addr.is_dialable(),
     }
 }

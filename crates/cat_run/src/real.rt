@@ -1,13 +1,16 @@
 //! The real outside: TCP without waiting, standard output, std's files, and a pace by the clock that rests until a
 //! socket is ready. Each raises a count at each error and tells nothing of its content; what they do with the machine
-//! is trusted. That a socket is ready ends a rest and decides nothing else.
+//! is trusted. That a socket is ready ends a rest, and a link whose socket was not reported ready since a read of it
+//! found nothing is not read.
 ghost use Rattle.std.specs.Prelude.{ℕ, List, None, ◌≡◌, ◌<◌, ◌-◌, ◌^◌, false, IfOk, IfSome};
 ghost use Rattle.sp_base.specs.Steps.{IsNew};
 ghost use Rattle.cat_run.specs.Real.{counts_view, real_net_view, unasked_net};
 
 use crate::back::Returned;
+pub use crate::wake::Wakes;
+use crate::wake::{ANY, Mark};
 use mio::net::{TcpListener, TcpStream};
-use mio::{Events, Interest, Poll, Registry, Token};
+use mio::{Events, Interest, Poll, Registry};
 use sp_base::{
     Addr, Bytes, Files, Host, Link, LinkRead, LinkWrite, Linked, Listened, ListenerSchemes, Net,
     Pace, Paced, Scheme, Sink, Sunk, Tick, Whole,
@@ -37,11 +40,11 @@ const DIALS: usize = 64;
 /// How many sockets that are ready one rest takes note of.
 const READY: usize = 64;
 
-/// How many milliseconds a pace rests at most while something moved not long ago.
+/// How many milliseconds a pace rests at most while a socket was ready not long ago.
 const REST: u64 = 1;
 
-/// How many turns in a row in which nothing moved make a pace idle.
-const QUIET_TURNS: u32 = 100;
+/// How many rests in a row that no socket ended make a pace idle.
+const QUIET_RESTS: u32 = 100;
 
 /// How many milliseconds an idle pace rests at most.
 const IDLE_REST: u64 = 10;
@@ -49,12 +52,10 @@ const IDLE_REST: u64 = 10;
 /// How often a connection that was begun is asked for before another one is begun in its place.
 const ASKS: u32 = 50;
 
-// All sockets have one name, since nobody asks which is ready.
-const ANY: Token = Token(0);
-
 /// A connection that doesn't wait.
 pub struct TcpLink {
     stream: TcpStream,
+    mark: Mark,
     counts: Counts,
 }
 
@@ -87,6 +88,10 @@ impl Link for TcpLink {
         if self.counts.ended {
             return LinkRead::Ended;
         }
+        if !self.mark.is_ready() {
+            self.counts.idles = self.counts.idles.saturating_add(1);
+            return LinkRead::NotYet;
+        }
         match self.stream.read(buf) {
             Ok(0) => {
                 self.counts.ended = true;
@@ -95,6 +100,9 @@ impl Link for TcpLink {
             Ok(n) => LinkRead::Got(n),
             Err(e) => {
                 if waits(&e) {
+                    if e.kind() == ErrorKind::WouldBlock {
+                        self.mark.found_nothing();
+                    }
                     self.counts.idles = self.counts.idles.saturating_add(1);
                     LinkRead::NotYet
                 } else {
@@ -144,7 +152,7 @@ struct Dialing {
 #[derive(Drop)]
 pub struct TcpNet<R: std::net::Net + Drop> {
     rt: R,
-    registry: Registry,
+    wakes: Wakes,
     listeners: Vec<TcpListener>,
     dialing: Vec<Dialing>,
     schemes: ListenerSchemes,
@@ -157,12 +165,12 @@ pub struct TcpNet<R: std::net::Net + Drop> {
 impl<R: std::net::Net + Drop> TcpNet<R> {
     /// A net that listens nowhere and has handed out no link. Its sockets end the rests of the pace whose registry
     /// this is.
-    pub fn new(rt: R, registry: Registry, alloc: Global) -> TcpNet<R>
+    pub fn new(rt: R, wakes: Wakes, alloc: Global) -> TcpNet<R>
         ensures { real_net_view result.schemes result.opened result.back.entries result.faults result.idles ≡ unasked_net }
     {
         TcpNet {
             rt,
-            registry,
+            wakes,
             listeners: Vec::new(alloc),
             dialing: Vec::new(alloc),
             schemes: ListenerSchemes::new(alloc),
@@ -213,6 +221,16 @@ fn take_one(
             Ok(stream)
         }
         None => Err(io::Error::from(ErrorKind::NotFound)),
+    }
+}
+
+// The mark of a link, by which its socket is reported from now on. Where that fails the link counts as ready.
+fn mark_of(wakes: &Wakes, stream: &mut TcpStream) -> Mark {
+    let mark = wakes.mark();
+    let both = Interest::READABLE | Interest::WRITABLE;
+    match wakes.registry.reregister(stream, mark.token(), both) {
+        Ok(()) => mark,
+        Err(_) => mark.give_back(),
     }
 }
 
@@ -323,12 +341,14 @@ fn ask<R: std::net::Net>(
 }
 
 // A link whose small messages aren't held back.
-fn link_of(stream: TcpStream, place: u32, scheme: Scheme) -> TcpLink
+fn link_of(wakes: &Wakes, stream: TcpStream, place: u32, scheme: Scheme) -> TcpLink
     requires { place < 2 ^ 32 - 2 }
     ensures fresh { IsNew place (counts_view result.counts) }
     ensures scheme { result.counts.scheme ≡ scheme }
 {
+    let mut stream = stream;
     let _ = stream.set_nodelay(true);
+    let mark = mark_of(wakes, &mut stream);
     let counts = Counts {
         place,
         scheme,
@@ -338,7 +358,11 @@ fn link_of(stream: TcpStream, place: u32, scheme: Scheme) -> TcpLink
         is_open: true,
         ended: false,
     };
-    TcpLink { stream, counts }
+    TcpLink {
+        stream,
+        mark,
+        counts,
+    }
 }
 
 impl<R: std::net::Net + Drop> Net for TcpNet<R> {
@@ -347,7 +371,7 @@ impl<R: std::net::Net + Drop> Net for TcpNet<R> {
     ghost seen = { λ n. real_net_view n.schemes n.opened n.back.entries n.faults n.idles };
 
     fn listen(&mut self, addr: &Addr) -> Listened {
-        if let Some(listener) = bind(&self.rt, &self.registry, addr) {
+        if let Some(listener) = bind(&self.rt, &self.wakes.registry, addr) {
             if self.listeners.push(listener).is_ok() {
                 if let Ok(number) = self.schemes.add(addr.scheme()) {
                     return Listened::At(number);
@@ -361,10 +385,10 @@ impl<R: std::net::Net + Drop> Net for TcpNet<R> {
 
     fn accept(&mut self, at: u32) -> Linked<TcpLink> {
         let scheme = self.schemes.scheme(at);
-        match take_one(&self.registry, &mut self.listeners, at) {
+        match take_one(&self.wakes.registry, &mut self.listeners, at) {
             Ok(stream) => {
                 if self.opened < u32::MAX - 1 {
-                    let link = link_of(stream, self.opened, scheme);
+                    let link = link_of(&self.wakes, stream, self.opened, scheme);
                     self.opened += 1;
                     return Linked::Got(link);
                 }
@@ -382,13 +406,13 @@ impl<R: std::net::Net + Drop> Net for TcpNet<R> {
 
     fn dial(&mut self, addr: &Addr) -> Linked<TcpLink> {
         let dialed = match socket_addr(addr) {
-            Some(to) => ask(&self.rt, &self.registry, &mut self.dialing, to),
+            Some(to) => ask(&self.rt, &self.wakes.registry, &mut self.dialing, to),
             None => Dialed::Failed,
         };
         match dialed {
             Dialed::Stands(stream) => {
                 if self.opened < u32::MAX - 1 {
-                    let link = link_of(stream, self.opened, addr.scheme());
+                    let link = link_of(&self.wakes, stream, self.opened, addr.scheme());
                     self.opened += 1;
                     return Linked::Got(link);
                 }
@@ -404,24 +428,30 @@ impl<R: std::net::Net + Drop> Net for TcpNet<R> {
     }
 
     fn give_back(&mut self, link: TcpLink) {
-        let TcpLink { stream: _, counts } = link;
+        let TcpLink {
+            stream: _,
+            mark,
+            counts,
+        } = link;
+        let _ = mark.give_back();
         self.back = self.back.with(&counts);
     }
 }
 
 /// A pace that rests where nothing moved, for a millisecond or until a socket of its registry is ready, with 2^64 - 1
-/// turns. After a hundred turns in a row in which nothing moved it rests for up to ten milliseconds. Its ticks are
+/// turns. After a hundred rests in a row that no socket ended it rests for up to ten milliseconds. Its ticks are
 /// milliseconds since it was made.
 #[derive(Drop)]
 pub struct RealPace<R: Clock + Drop> {
     rt: R,
     poll: Poll,
     events: Events,
+    wakes: Wakes,
     start: Instant,
     left: u64,
     latest: u64,
     over: bool,
-    // How many turns in a row moved nothing.
+    // How many rests in a row no socket has ended.
     quiet: u32,
 }
 
@@ -433,11 +463,13 @@ impl<R: Clock + Drop> RealPace<R> {
     {
         let poll = Poll::new(net)?;
         let events = Events::with_capacity(alloc, READY)?;
+        let wakes = Wakes::new(poll.registry().try_clone()?, alloc)?;
         let start = Instant::now(&rt)?;
         Ok(RealPace {
             rt,
             poll,
             events,
+            wakes,
             start,
             left: u64::MAX,
             latest: 0,
@@ -447,18 +479,21 @@ impl<R: Clock + Drop> RealPace<R> {
     }
 
     /// Where the sockets are made known that end a rest.
-    pub fn registry(&self) -> io::Result<Registry> {
-        self.poll.registry().try_clone()
+    pub fn registry(&self) -> io::Result<Wakes> {
+        self.wakes.share()
     }
 }
 
-// So many milliseconds, or until a socket is ready.
-fn rest<R: Clock>(rt: &R, poll: &mut Poll, events: &mut Events, most: u64) {
-    if poll
-        .poll(events, Some(Duration::from_millis(most)))
-        .is_err()
-    {
-        thread::sleep(rt, Duration::from_millis(most));
+// So many milliseconds, or until a socket is ready; whether one is.
+fn rest<R: Clock>(rt: &R, poll: &mut Poll, events: &mut Events, wakes: &Wakes, most: u64) -> bool {
+    let time = Duration::from_millis(most);
+    match poll.poll(events, Some(time)) {
+        Ok(()) => wakes.note(events),
+        Err(_) => {
+            wakes.note_all();
+            thread::sleep(rt, time);
+            false
+        }
     }
 }
 
@@ -471,16 +506,24 @@ impl<R: Clock + Drop> Pace for RealPace<R> {
             return Paced::Over;
         }
         self.left -= 1;
-        if moved {
+        let most = if moved {
+            0
+        } else if self.quiet < QUIET_RESTS {
+            REST
+        } else {
+            IDLE_REST
+        };
+        let woken = rest(
+            &self.rt,
+            &mut self.poll,
+            &mut self.events,
+            &self.wakes,
+            most,
+        );
+        if moved || woken {
             self.quiet = 0;
         } else {
             self.quiet = self.quiet.saturating_add(1);
-            let most = if self.quiet > QUIET_TURNS {
-                IDLE_REST
-            } else {
-                REST
-            };
-            rest(&self.rt, &mut self.poll, &mut self.events, most);
         }
         if let Ok(since) = self.start.elapsed(&self.rt) {
             let now = u64::try_from(since.as_millis()).unwrap_or(u64::MAX);

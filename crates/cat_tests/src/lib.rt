@@ -4,6 +4,8 @@
 #[cfg(test)]
 mod asking;
 #[cfg(test)]
+mod drills;
+#[cfg(test)]
 mod first_path;
 #[cfg(test)]
 mod intervals;
@@ -19,6 +21,8 @@ mod roles;
 mod spreading;
 #[cfg(test)]
 mod surveys;
+#[cfg(test)]
+mod websocket;
 #[cfg(test)]
 mod words;
 

@@ -5,7 +5,7 @@ use sp_base::{Addr, Host, Link, LinkRead, Linked, Listened, Net};
 use sp_fakes::MemNet;
 use std::test::Fail;
 
-// Listens at a port, accepts there, and answers the listener's number and how many bytes came of the link at once.
+// Listens at a port, accepts there, and returns the listener's number and how many bytes came of the link at once.
 fn first_read(net: &mut MemNet, port: u16) -> Option<(u32, usize)> {
     let addr = Addr::Tcp {
         host: Host::Any,

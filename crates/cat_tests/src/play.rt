@@ -9,6 +9,7 @@ use sp_base::{Addr, Bytes, Host, NoMemory};
 use sp_fakes::{LinkStep, MemFiles, MemLink, MemNet, MemPace, MemSink};
 use std::alloc::Global;
 use std::sync::Wait;
+use std::thread::Threads;
 
 /// The greeting of a push socket.
 pub const HELLO_80: &[u8] = b"\x00SP\x00\x00\x50\x00\x00";
@@ -152,7 +153,7 @@ fn written_on(alloc: Global, net: &MemNet, place: u32) -> Result<Vec<u8>, NoMemo
 }
 
 /// Runs the words. The file `letter` holds `dear all`.
-pub fn play<R: AllocGlobal + Wait>(
+pub fn play<R: AllocGlobal + Wait + Threads + Sync>(
     rt: &R,
     texts: &[&str],
     outside: Outside,
@@ -191,12 +192,16 @@ pub fn play<R: AllocGlobal + Wait>(
 }
 
 /// A pull of one message over one link that takes any length.
-pub fn one<R: AllocGlobal + Wait>(rt: &R, pieces: &[&[u8]], ends: bool) -> Result<Came, NoMemory> {
+pub fn one<R: AllocGlobal + Wait + Threads + Sync>(
+    rt: &R,
+    pieces: &[&[u8]],
+    ends: bool,
+) -> Result<Came, NoMemory> {
     taking(rt, pieces, ends, ALL)
 }
 
 /// A pull of one message over one link that takes so many bytes at a write.
-pub fn taking<R: AllocGlobal + Wait>(
+pub fn taking<R: AllocGlobal + Wait + Threads + Sync>(
     rt: &R,
     pieces: &[&[u8]],
     ends: bool,
@@ -206,7 +211,7 @@ pub fn taking<R: AllocGlobal + Wait>(
 }
 
 /// These words over one link that comes.
-pub fn over_one<R: AllocGlobal + Wait>(
+pub fn over_one<R: AllocGlobal + Wait + Threads + Sync>(
     rt: &R,
     texts: &[&str],
     link: MemLink,
@@ -218,7 +223,10 @@ pub fn over_one<R: AllocGlobal + Wait>(
 }
 
 /// A pull of one message over two links, the second of which gives a good greeting and the message `later`.
-pub fn followed<R: AllocGlobal + Wait>(rt: &R, first: MemLink) -> Result<Came, NoMemory> {
+pub fn followed<R: AllocGlobal + Wait + Threads + Sync>(
+    rt: &R,
+    first: MemLink,
+) -> Result<Came, NoMemory> {
     let alloc = rt.alloc();
     let mut links = Vec::new(alloc);
     links.push(first)?;
@@ -232,7 +240,10 @@ pub fn followed<R: AllocGlobal + Wait>(rt: &R, first: MemLink) -> Result<Came, N
 }
 
 /// The words over no link.
-pub fn unlinked<R: AllocGlobal + Wait>(rt: &R, texts: &[&str]) -> Result<Came, NoMemory> {
+pub fn unlinked<R: AllocGlobal + Wait + Threads + Sync>(
+    rt: &R,
+    texts: &[&str],
+) -> Result<Came, NoMemory> {
     let alloc = rt.alloc();
     play(rt, texts, incoming(alloc, Vec::new(alloc))?)
 }

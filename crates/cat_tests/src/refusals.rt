@@ -21,8 +21,7 @@ fn words_without_a_plan_are_refused_at_their_place(rt: HostRuntime) -> Result<()
         (&["--pull", "--listen", A, "--count", "1", "y"], 5),
         (&["--push", "--listen", A], 3),
         (&["--push", "--listen", A, "--data"], 4),
-        // A drill, and an end that isn't over TCP.
-        (&["--drill", "5"], 0),
+        // An end that isn't over TCP.
         (&["--pull", "--listen", "inproc://a"], 0),
     ];
     for (texts, at) in wrong {

@@ -7,6 +7,7 @@ use sp_fakes::{LinkStep, MemFiles, MemLink, MemNet, MemPace, MemSink};
 use std::alloc::Global;
 use std::sync::Wait;
 use std::test::Fail;
+use std::thread::Threads;
 
 const A: &str = "tcp://127.0.0.1:5555";
 
@@ -22,11 +23,6 @@ fn what_is_not_there_yet_is_refused_whole(rt: HostRuntime) -> Result<(), Fail> {
         &["--pull", "--listen", "inproc://a"],
         &["--pull", "--dial=inproc://a"],
         &["--pull", "--listen", A, "--dial", "inproc://a"],
-        &["--pull", "--listen", "ws://*:80/a"],
-        &["--pull", "--dial", "ws://127.0.0.1:80"],
-        &["--pull", "--listen", A, "--listen=ws://127.0.0.1:80"],
-        &["--drill", "1"],
-        &["--drill=1000000"],
     ];
     for texts in rows {
         let came = unlinked(&rt, texts)?;
@@ -40,7 +36,7 @@ fn what_is_not_there_yet_is_refused_whole(rt: HostRuntime) -> Result<(), Fail> {
 
 // How a push of the file `f` ends over files that hold one of this name, where these of their calls fail; whether it has a
 // record, how many links were handed out, and how many turns are left.
-fn sending<R: AllocGlobal + Wait>(
+fn sending<R: AllocGlobal + Wait + Threads + Sync>(
     rt: &R,
     held: &str,
     fails: Vec<u64>,

@@ -4,8 +4,7 @@
 pub const HELP: &str = "\
 Usage: nngcat ROLE ENDPOINT.. [OPTION]..
 Sends or receives messages over a scalability protocol; prints what it receives.
-A value is the next word, or stands behind =, as in --count=3.
-Options come in any order.
+A value is the next word, or behind =, as in --count=3. Options in any order.
 
 Roles (exactly one; each also with 0 at its end):
   --push  sends to one peer each        --pull  receives from all peers
@@ -19,8 +18,8 @@ Roles (exactly one; each also with 0 at its end):
 Endpoints (1 to 64 in all):
   --listen ADDRESS        accept connections at ADDRESS
   --dial ADDRESS          connect to ADDRESS, again 100 ms after failure or end
-  ADDRESS is tcp://HOST:PORT. HOST is *, localhost or four numbers with dots
-  between; * is for --listen alone. PORT is 0 to 65535, for --dial 1 to 65535.
+  ADDRESS is tcp://HOST:PORT or ws://HOST:PORT/PATH. HOST is *, localhost, or
+  four numbers with dots; PORT is 0 to 65535. --dial takes neither * nor port 0.
 
 Data (push, pub, req and surveyor need one of the two, pull and sub take none):
   --data TEXT             send TEXT
@@ -50,6 +49,7 @@ How often and how long:
                           0 to 86,400. Default: never
 
 Alone:
+  --drill N               tests N messages, 1 to 1,000,000, with four threads
   --help, --version       print this text, or the version
 
 Status: 0 done, 1 wrong words, 2 send timed out, 3 stopped, 4 network fault,
@@ -60,8 +60,8 @@ Examples:
   nngcat --push --dial tcp://127.0.0.1:5555 --data hello
   nngcat --rep --listen tcp://*:5557 --ascii --data pong --recv-timeout 60
   nngcat --req --dial tcp://127.0.0.1:5557 --data ping --ascii
-  nngcat --pub --listen tcp://*:5558 --data news --interval 1
-  nngcat --sub --dial tcp://127.0.0.1:5558 --subscribe ne --ascii
+  nngcat --pub --listen ws://*:5558/news --data news --interval 1
+  nngcat --sub --dial ws://127.0.0.1:5558/news --subscribe ne --ascii
 ";
 
 /// The answer to `--version` alone.

@@ -1,11 +1,13 @@
 //! What words say, as far as a complaint speaks of it. The words are right, or the beginning of words that are.
 
-/// An option: its name, its value, the place of its word, and that of the word that its value stands in.
+/// An option: its name, its value, and the place of the word that its value stands in.
 #[derive(Clone, Copy)]
 pub struct Said<'a> {
+    /// The option's name, with its dashes.
     pub name: &'a str,
+    /// Its value, if it has one.
     pub value: Option<&'a str>,
-    pub at: usize,
+    /// The place of the word that its value stands in.
     pub value_at: usize,
 }
 
@@ -34,7 +36,6 @@ pub fn said_at(words: &[String], at: usize) -> Option<Said<'_>> {
     let mut said = Said {
         name: word,
         value: None,
-        at,
         value_at: at,
     };
     if let Some((name, value)) = word.split_once('=') {
@@ -54,13 +55,12 @@ fn is_role(name: &str) -> bool {
     !has_value(name) && !is_format(name)
 }
 
-// Whether it is a drill, or an address that isn't one of TCP.
+// Whether it is an address within the process.
 fn is_unready(said: &Said<'_>) -> bool {
-    said.name == "--drill" || (is_end(said.name) && !said.value.unwrap_or("").starts_with("tcp://"))
+    is_end(said.name) && said.value.unwrap_or("").starts_with("inproc://")
 }
 
-/// The place of the word that can't be run yet, in words that have a plan: a drill, or the first address that isn't one
-/// of TCP.
+/// The place of the word that can't be run yet, in words that have a plan: the first address within the process.
 pub fn unready_at(words: &[String]) -> usize {
     let mut next = 0;
     for _ in 0..words.len() {
@@ -68,11 +68,7 @@ pub fn unready_at(words: &[String]) -> usize {
             break;
         };
         if is_unready(&said) {
-            return if is_end(said.name) {
-                said.value_at
-            } else {
-                said.at
-            };
+            return said.value_at;
         }
         next = said.value_at.saturating_add(1);
     }

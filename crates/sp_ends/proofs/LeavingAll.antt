@@ -1,23 +1,25 @@
 -- Where each link is when all were given back.
 use Rattle.std.proofs.Common.{◌≡◌, ◌≤◌, ◌<◌, ℕ, suc, Bool, true, false, cond, List, [], ◌∷◌, Option, Some, None, refl, sym, ap, subst, ◌∙◌, inl, inr, arith, eq-eqb, eqb-true}
-use Rattle.std.specs.Prelude.{◌==◌, ◌⊎◌, ◌||◌, ◌&&◌, IsTrue, is_none, is_some, nat_le, nat_lt}
+use Rattle.std.specs.Prelude.{⊤, ◌==◌, ◌⊎◌, ◌||◌, ◌&&◌, IsTrue, is_none, is_some, nat_le, nat_lt}
 use Rattle.std.specs.List.{All, AllByRecursion}
 use Rattle.std.specs.FinMap.{FinMap, get, insert}
 use Rattle.std.specs.Ordering.{nat_cmp}
 use Rattle.std.proofs.lemmas.Bool.{ne_eqb}
 use Rattle.sp_base.specs.Views.{LinkView}
-use Rattle.sp_tcp.specs.Views.{TcpView}
+use Rattle.end_wire.specs.declared.wire.EndWire.{EndWire}
+use Rattle.end_wire.specs.EndWires.{link_of}
 use Rattle.sp_history.specs.declared.entry.Entry.{Entry}
 use Rattle.sp_history.specs.declared.entry.Entry.TheVariants.{Up, Met, NoUp}
 use Rattle.sp_history.specs.Lists.{has, without}
 use Rattle.sp_history.specs.Past.{now, name_of}
-use Rattle.sp_core.specs.declared.lines.Fallen.{Fallen}
-use Rattle.sp_core.specs.Lines.{fallen_ids}
+use Rattle.sp_core.specs.declared.pipes.DownPipe.{DownPipe}
+use Rattle.sp_core.specs.Pipes.{down_ids}
 use Rattle.cat_play.specs.Playing.{each}
 use Rattle.cat_play.specs.Recording.{lane_place, place_of, met_at, greeting, keeps_places}
 use Rattle.sp_ends.specs.declared.newcomer.Newcomer.{Newcomer}
 use Rattle.sp_ends.specs.Standing.{places, is_over_link}
-use Rattle.sp_ends.specs.Leaving.{with_links, with_wires, shut_link}
+use Rattle.sp_ends.specs.Leaving.{with_links, with_link, with_wires}
+use Rattle.sp_ends.specs.Turning.{shut_link}
 use Rattle.sp_ends.proofs.Moves.{there, elsewhere}
 use Rattle.sp_ends.proofs.Places.{left_of, right_of, passed, inside, was_met, gone, not_without, has_append, Kept}
 
@@ -42,39 +44,57 @@ pub from_all : {X : Type 0} (P : X → Type 0) (xs : List X) → All P xs → Al
 from_all P [] h = tt
 from_all P (x ∷ xs) h = (h 0 x (omega arith), from_all P xs (λ k d lt. h (suc k) d (omega arith)))
 
--- one of the wires has this place, and its link is back; or none has it
-pub record OneOf (Fact : Fallen TcpView → Type 0) (back : FinMap nat_cmp LinkView) (ws : List (Fallen TcpView)) (place : ℕ) : Type 0 where
-  pub x : Fallen TcpView
+-- one of the wires has a link with this place, and that is back; or none has
+pub record OneOf {L : Type 0} (Fact : DownPipe (EndWire L) → Type 0) (back : FinMap nat_cmp LinkView) (ws : List (DownPipe (EndWire L))) (place : ℕ) : Type 0 where
+  pub x : DownPipe (EndWire L)
   pub fact : Fact x
-  pub there : has (fallen_ids ws) x.id ≡ true
-  pub place_is : x.wire.link.place ≡ place
-  pub found : get (with_wires back ws) place ≡ Some (shut_link x.wire)
+  pub there : has (down_ids ws) x.id ≡ true
+  pub link : LinkView
+  pub link_is : link_of x.wire ≡ Some link
+  pub place_is : link.place ≡ place
+  pub found : get (with_wires back ws) place ≡ Some (shut_link link)
 
-pub record NoneOf (back : FinMap nat_cmp LinkView) (ws : List (Fallen TcpView)) (place : ℕ) : Type 0 where
-  pub none : AllByRecursion (λ x. ¬ (x.wire.link.place ≡ place)) ws
+abbrev pub IsElsewhere : ℕ → Option LinkView → Type 0
+IsElsewhere place None = ⊤
+IsElsewhere place (Some link) = ¬ (link.place ≡ place)
+
+pub record NoneOf {L : Type 0} (back : FinMap nat_cmp LinkView) (ws : List (DownPipe (EndWire L))) (place : ℕ) : Type 0 where
+  pub none : AllByRecursion (λ x. IsElsewhere place (link_of x.wire)) ws
   pub found : get (with_wires back ws) place ≡ get back place
 
 or_true : (a : Bool) → (a || true) ≡ true
 or_true true = refl
 or_true false = refl
 
-pub look_wires : (Fact : Fallen TcpView → Type 0) (back : FinMap nat_cmp LinkView) (ws : List (Fallen TcpView)) (place : ℕ) → AllByRecursion Fact ws → OneOf Fact back ws place ⊎ NoneOf back ws place
-look_wires Fact back [] place all = inr (record { none = tt; found = refl })
-look_wires Fact back (x ∷ xs) place all = go (same_or_not x.wire.link.place place) (look_wires Fact back xs place all.1)
-  where
-    go : (x.wire.link.place ≡ place) ⊎ ¬ (x.wire.link.place ≡ place) → OneOf Fact back xs place ⊎ NoneOf back xs place → OneOf Fact back (x ∷ xs) place ⊎ NoneOf back (x ∷ xs) place
-    go (inl same) r = inl (record { x = x; fact = all.0; there = rw (eq-eqb x.id x.id refl) refl; place_is = same; found = get_same (with_wires back xs) x.wire.link.place (shut_link x.wire) place (sym same) })
-    go (inr ne) (inl one) = inl (record { x = one.x; fact = one.fact; there = ap (λ (b : Bool). (x.id == one.x.id) || b) one.there ∙ or_true (x.id == one.x.id); place_is = one.place_is; found = get_other (with_wires back xs) x.wire.link.place (shut_link x.wire) place (λ e. ne (sym e)) ∙ one.found })
-    go (inr ne) (inr nobody) = inr (record { none = (ne, nobody.none); found = get_other (with_wires back xs) x.wire.link.place (shut_link x.wire) place (λ e. ne (sym e)) ∙ nobody.found })
+module _ {L : Type 0} (Fact : DownPipe (EndWire L) → Type 0) where
+  pub look_wires : (back : FinMap nat_cmp LinkView) (ws : List (DownPipe (EndWire L))) (place : ℕ) → AllByRecursion Fact ws → OneOf Fact back ws place ⊎ NoneOf back ws place
+  look_wires back [] place all = inr (record { none = tt; found = refl })
+  look_wires back (x ∷ xs) place all = go (link_of x.wire) refl (look_wires back xs place all.1)
+    where
+      with_it : (o : Option LinkView) → link_of x.wire ≡ o → get (with_wires back (x ∷ xs)) place ≡ get (with_link (with_wires back xs) o) place
+      with_it o e = ap (λ (p : Option LinkView). get (with_link (with_wires back xs) p) place) e
 
--- the wire of this pipe
-pub at_id : (Fact : Fallen TcpView → Type 0) (ws : List (Fallen TcpView)) (p : ℕ) → has (fallen_ids ws) p ≡ true → AllByRecursion Fact ws → (x : Fallen TcpView) × (x.id ≡ p) × Fact x
-at_id Fact [] p h all = cc
-at_id Fact (x ∷ xs) p h all = go (x.id == p) refl h (at_id Fact xs p)
-  where
-    go : (b : Bool) → (x.id == p) ≡ b → (b || has (fallen_ids xs) p) ≡ true → (has (fallen_ids xs) p ≡ true → AllByRecursion Fact xs → (x : Fallen TcpView) × (x.id ≡ p) × Fact x) → (x : Fallen TcpView) × (x.id ≡ p) × Fact x
-    go true e k before = (x, eqb-true x.id p e, all.0)
-    go false e k before = before k all.1
+      also : OneOf Fact back xs place → get (with_wires back (x ∷ xs)) place ≡ get (with_wires back xs) place → OneOf Fact back (x ∷ xs) place
+      also one same = record { x = one.x; fact = one.fact; there = ap (λ (b : Bool). (x.id == one.x.id) || b) one.there ∙ or_true (x.id == one.x.id); link = one.link; link_is = one.link_is; place_is = one.place_is; found = same ∙ one.found }
+
+      at_link : (link : LinkView) → link_of x.wire ≡ Some link → (link.place ≡ place) ⊎ ¬ (link.place ≡ place) → OneOf Fact back xs place ⊎ NoneOf back xs place → OneOf Fact back (x ∷ xs) place ⊎ NoneOf back (x ∷ xs) place
+      at_link link e (inl same) r = inl (record { x = x; fact = all.0; there = rw (eq-eqb x.id x.id refl) refl; link = link; link_is = e; place_is = same; found = with_it (Some link) e ∙ get_same (with_wires back xs) link.place (shut_link link) place (sym same) })
+      at_link link e (inr ne) (inl one) = inl (also one (with_it (Some link) e ∙ get_other (with_wires back xs) link.place (shut_link link) place (λ q. ne (sym q))))
+      at_link link e (inr ne) (inr nobody) = inr (record { none = (subst (IsElsewhere place) (sym e) ne, nobody.none); found = with_it (Some link) e ∙ (get_other (with_wires back xs) link.place (shut_link link) place (λ q. ne (sym q)) ∙ nobody.found) })
+
+      go : (o : Option LinkView) → link_of x.wire ≡ o → OneOf Fact back xs place ⊎ NoneOf back xs place → OneOf Fact back (x ∷ xs) place ⊎ NoneOf back (x ∷ xs) place
+      go (Some link) e r = at_link link e (same_or_not link.place place) r
+      go None e (inl one) = inl (also one (with_it None e))
+      go None e (inr nobody) = inr (record { none = (subst (IsElsewhere place) (sym e) tt, nobody.none); found = with_it None e ∙ nobody.found })
+
+  -- the wire of this pipe
+  pub at_id : (ws : List (DownPipe (EndWire L))) (p : ℕ) → has (down_ids ws) p ≡ true → AllByRecursion Fact ws → (x : DownPipe (EndWire L)) × (x.id ≡ p) × Fact x
+  at_id [] p h all = cc
+  at_id (x ∷ xs) p h all = go (x.id == p) refl h (at_id xs p)
+    where
+      go : (b : Bool) → (x.id == p) ≡ b → (b || has (down_ids xs) p) ≡ true → (has (down_ids xs) p ≡ true → AllByRecursion Fact xs → (x : DownPipe (EndWire L)) × (x.id ≡ p) × Fact x) → (x : DownPipe (EndWire L)) × (x.id ≡ p) × Fact x
+      go true e k before = (x, eqb-true x.id p e, all.0)
+      go false e k before = before k all.1
 
 pub both_of : {X : Type 0} (P Q : X → Type 0) (xs : List X) → AllByRecursion P xs → AllByRecursion Q xs → AllByRecursion (λ x. P x × Q x) xs
 both_of P Q [] a b = tt
@@ -88,12 +108,12 @@ mapped_all P Q f (x ∷ xs) a = (f x a.0, mapped_all P Q f xs a.1)
 
 module _ {L : Type 0} (seen : L → LinkView) (Fact : Newcomer L → Type 0) where
   abbrev pub shut_of : Newcomer L → LinkView
-  shut_of n = record (seen n.link) { is_open = false }
+  shut_of n = record (seen n.opening.link) { is_open = false }
 
   pub record OneCame (back : FinMap nat_cmp LinkView) (ns : List (Newcomer L)) (place : ℕ) : Type 0 where
     pub n : Newcomer L
     pub fact : Fact n
-    pub place_is : (seen n.link).place ≡ place
+    pub place_is : (seen n.opening.link).place ≡ place
     pub there : has (places seen ns) place ≡ true
     pub found : get (with_links seen back ns) place ≡ Some (shut_of n)
 
@@ -103,18 +123,18 @@ module _ {L : Type 0} (seen : L → LinkView) (Fact : Newcomer L → Type 0) whe
 
   pub look_links : (back : FinMap nat_cmp LinkView) (ns : List (Newcomer L)) (place : ℕ) → AllByRecursion Fact ns → OneCame back ns place ⊎ NoneCame back ns place
   look_links back [] place all = inr (record { none = refl; found = refl })
-  look_links back (n ∷ ns) place all = go (same_or_not (seen n.link).place place) (look_links (insert back (seen n.link).place (shut_of n)) ns place all.1)
+  look_links back (n ∷ ns) place all = go (same_or_not (seen n.opening.link).place place) (look_links (insert back (seen n.opening.link).place (shut_of n)) ns place all.1)
     where
       more : FinMap nat_cmp LinkView
-      more = insert back (seen n.link).place (shut_of n)
+      more = insert back (seen n.opening.link).place (shut_of n)
 
-      differs : ¬ ((seen n.link).place ≡ place) → ((seen n.link).place == place) ≡ false
-      differs ne = ne_eqb (seen n.link).place place ne
+      differs : ¬ ((seen n.opening.link).place ≡ place) → ((seen n.opening.link).place == place) ≡ false
+      differs ne = ne_eqb (seen n.opening.link).place place ne
 
-      go : ((seen n.link).place ≡ place) ⊎ ¬ ((seen n.link).place ≡ place) → OneCame more ns place ⊎ NoneCame more ns place → OneCame back (n ∷ ns) place ⊎ NoneCame back (n ∷ ns) place
-      go t (inl one) = inl (record { n = one.n; fact = one.fact; place_is = one.place_is; there = ap (λ (b : Bool). ((seen n.link).place == place) || b) one.there ∙ or_true ((seen n.link).place == place); found = one.found })
-      go (inl same) (inr nobody) = inl (record { n = n; fact = all.0; place_is = same; there = rw (eq-eqb (seen n.link).place place same) refl; found = nobody.found ∙ get_same back (seen n.link).place (shut_of n) place (sym same) })
-      go (inr ne) (inr nobody) = inr (record { none = rw (differs ne) nobody.none; found = nobody.found ∙ get_other back (seen n.link).place (shut_of n) place (λ e. ne (sym e)) })
+      go : ((seen n.opening.link).place ≡ place) ⊎ ¬ ((seen n.opening.link).place ≡ place) → OneCame more ns place ⊎ NoneCame more ns place → OneCame back (n ∷ ns) place ⊎ NoneCame back (n ∷ ns) place
+      go t (inl one) = inl (record { n = one.n; fact = one.fact; place_is = one.place_is; there = ap (λ (b : Bool). ((seen n.opening.link).place == place) || b) one.there ∙ or_true ((seen n.opening.link).place == place); found = one.found })
+      go (inl same) (inr nobody) = inl (record { n = n; fact = all.0; place_is = same; there = rw (eq-eqb (seen n.opening.link).place place same) refl; found = nobody.found ∙ get_same back (seen n.opening.link).place (shut_of n) place (sym same) })
+      go (inr ne) (inr nobody) = inr (record { none = rw (differs ne) nobody.none; found = nobody.found ∙ get_other back (seen n.opening.link).place (shut_of n) place (λ e. ne (sym e)) })
 
 -- ---- Places of pipes
 

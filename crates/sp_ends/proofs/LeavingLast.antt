@@ -1,16 +1,17 @@
 -- What stands on the links of a run when all were given back.
-use Rattle.std.proofs.Common.{◌≡◌, ◌≤◌, ◌<◌, ℕ, Bool, true, false, List, [], ◌∷◌, length, take, Option, Some, None, refl, sym, ap, subst, ◌∙◌, inl, inr, arith, append-nil, length-append, eq-eqb}
+use Rattle.std.proofs.Common.{◌≡◌, ◌≤◌, ◌<◌, ℕ, Bool, true, false, List, [], ◌∷◌, length, Option, Some, None, refl, sym, ap, subst, ◌∙◌, inl, inr, arith, append-nil, eq-eqb}
 use Rattle.std.specs.Prelude.{⊤, ◌==◌, ◌^◌, ◌⊎◌, ◌||◌, IsTrue, is_some}
 use Rattle.std.specs.List.{AllByRecursion}
 use Rattle.std.specs.FinMap.{FinMap, get}
 use Rattle.std.specs.Ordering.{nat_cmp}
-use Rattle.std.proofs.lemmas.List.{take_all}
 use Rattle.turn_lock.specs.declared.turn.Turn.{Turn}
-use Rattle.sp_spec.specs.Outside.{Told, IsFront}
-use Rattle.sp_spec.specs.SpTcp.{hello, text}
+use Rattle.sp_spec.specs.Outside.{Told}
+use Rattle.sp_spec.specs.SpTcp.{text}
 use Rattle.sp_base.specs.Roles.{role_number}
 use Rattle.sp_base.specs.Views.{LinkView, NetView}
-use Rattle.sp_tcp.specs.Views.{TcpView}
+use Rattle.end_wire.specs.declared.wire.EndWire.{EndWire}
+use Rattle.end_wire.specs.EndWires.{shown, link_of}
+use Rattle.link_opening.specs.Origins.{Origins, run_ways}
 use Rattle.sp_history.specs.declared.entry.Entry.{Entry}
 use Rattle.sp_history.specs.declared.entry.Entry.TheVariants.{NoUp}
 use Rattle.sp_history.specs.declared.setting.Setting.{Setting}
@@ -19,71 +20,60 @@ use Rattle.sp_history.specs.Legal.{Legal}
 use Rattle.sp_history.specs.Lists.{has}
 use Rattle.sp_history.specs.Past.{past_of, is_closed, up, untaken, outs}
 use Rattle.sp_history.proofs.OnceHolds.{closed_pipes}
-use Rattle.sp_core.specs.declared.lines.Fallen.{Fallen}
-use Rattle.sp_core.specs.Lines.{fallen_ids}
+use Rattle.sp_core.specs.declared.pipes.DownPipe.{DownPipe}
+use Rattle.sp_core.specs.Pipes.{down_ids}
 use Rattle.sp_core.specs.Parts.{HasWires}
 use Rattle.sp_core.specs.Wires.{IsDownWire}
-use Rattle.cat_play.specs.Openings.{greetings, peer_number, IsComplete}
 use Rattle.cat_play.specs.Playing.{each}
 use Rattle.cat_play.specs.Recording.{Records, place_of, greeting, Each, HasCause, IsBack, IsUndone, times_out_rightly}
 use Rattle.cat_play.specs.Running.{max_body, KeepsOthers, AreWhole}
 use Rattle.cat_play.specs.Spending.{IsAsked, greeting_ticks}
 use Rattle.sp_ends.specs.declared.newcomer.Newcomer.{Newcomer}
-use Rattle.sp_ends.specs.Newcomers.{HasTried, IsUnderWay}
-use Rattle.sp_ends.specs.Standing.{EndsView, places, in_order, WasGreeted, LinksKept, EndsStand, HasCarried, IsShut, IsCarried, IsSomewhere, SameCounts}
-use Rattle.sp_ends.specs.Leaving.{LinksLeft, ClosedCleared, shown_wire, with_links, with_wires, shut_link, ShutsFramed, AreHandedOut}
+use Rattle.sp_ends.specs.Standing.{Beginning, EndsView, places, in_order, WasGreeted, LinksKept, EndsStand, HasCarried, IsShut, IsCarried, IsSomewhere, SameCounts}
+use Rattle.sp_ends.specs.Leaving.{LinksLeft, ClosedCleared, with_links, with_wires, CanShut, IsBelow, AreHandedOut}
+use Rattle.sp_ends.specs.Turning.{shut_link, shut_under}
 use Rattle.sp_ends.proofs.Places.{passed, inside, met_inside}
-use Rattle.sp_ends.proofs.LeavingWires.{named_at, LeftBy, carried_by}
-use Rattle.sp_ends.proofs.LeavingAll.{from_all, OneOf, NoneOf, look_wires, at_id, both_of, mapped_all, shut_of, OneCame, NoneCame, look_links, one_pipe, pipe_inside, was_missed, missed_rests, named_place}
-use Rattle.sp_ends.proofs.Newcoming.{hello_long}
+use Rattle.sp_ends.proofs.LeavingWires.{NamedAt, named_at, LeftBy, carried_by, has_link}
+use Rattle.sp_ends.proofs.LeavingAll.{from_all, OneOf, IsElsewhere, NoneOf, look_wires, at_id, both_of, mapped_all, shut_of, OneCame, NoneCame, look_links, one_pipe, pipe_inside, was_missed, missed_rests, named_place}
+use Rattle.sp_ends.proofs.Greeting.{incomplete, wrote}
 
 -- ---- A link that was left in progress
 
-told_every : (P : List ℕ → Type 0) (a : Option (List ℕ)) → ((s : List ℕ) → P s) → Told a P
-told_every P None f = tt
-told_every P (Some s) f = f s
-
-told_map : (P Q : List ℕ → Type 0) (a : Option (List ℕ)) → ((s : List ℕ) → P s → Q s) → Told a P → Told a Q
-told_map P Q None f t = tt
-told_map P Q (Some s) f t = f s t
-
-module _ {L : Type 0} (seen : L → LinkView) (z : Setting) (past : List Entry) (n : Newcomer L) (was : WasGreeted seen z past n) where
-  abbrev way : IsUnderWay seen z.role n
-  way = was.progressing.under_way
-
-  unmet : ¬ IsComplete (greetings z.role) tt (shut_of seen (λ _. ⊤) n)
-  unmet complete =
-      let came = complete.0 in
-      let fed : came ≡ n.greeting.fed = subst (λ (o : Option (List ℕ)). Told o (λ s. s ≡ n.greeting.fed)) complete.2 way.texts.came in
-      let front = complete.4 in
-      omega (arith, ap length fed, ap length front.1, length-append (hello (peer_number z.role)) front.0, hello_long (peer_number z.role), way.heard, way.few)
-
-  wrote : (w : List ℕ) → w ≡ take n.said (hello (role_number z.role)) → HasTried seen n → (owed : List ℕ) → owed ≡ hello (role_number z.role) → IsFront owed w ⊎ (1 ≤ (seen n.link).stalls)
-  wrote w is (inl all) owed e = inl ([], is ∙ ap (λ (k : ℕ). take k (hello (role_number z.role))) all ∙ take_all 8 (hello (role_number z.role)) (omega (arith, hello_long (role_number z.role))) ∙ sym e ∙ sym (append-nil owed))
-  wrote w is (inr stalled) owed e = inr stalled
-
-  undone : (h : List (Turn Entry)) → IsUndone (greetings z.role) z h (shut_of seen (λ _. ⊤) n)
-  undone h = (tt, was.progressing.scheme, (unmet, told_every _ (seen n.link).came (λ s. told_map _ _ (seen n.link).written (λ w is. wrote w is was.tried) way.texts.written)))
+undone : {L : Type 0} (seen : L → LinkView) (o : Origins) (z : Setting) (past : List Entry) (n : Newcomer L) (was : WasGreeted seen o z past n) (h : List (Turn Entry)) → IsUndone (run_ways z.role o) z h (shut_of seen (λ _. ⊤) n)
+undone seen o z past n was h =
+    let run = was.progressing.of_run in
+    (n.opening.way, (run.scheme, run.known), (incomplete seen o z n.opening run was.undone, wrote seen o z n.opening run was.tried))
 
 -- ---- Where each link is
 
 -- the link of a wire, shut, is what is left of its pipe
-pub record WireLeft (z : Setting) (h : List (Turn Entry)) (x : Fallen TcpView) : Type 0 where
-  pub came_up : place_of (past_of h) x.id ≡ Some x.wire.link.place
-  pub left_ : LeftBy z h x.id x.wire.link.place (shut_link x.wire)
+pub record WireLeft {L : Type 0} (o : Origins) (z : Setting) (h : List (Turn Entry)) (x : DownPipe (EndWire L)) : Type 0 where
+  pub has_one : (link : LinkView) × (link_of x.wire ≡ Some link)
+  pub came_up : (link : LinkView) → link_of x.wire ≡ Some link → place_of (past_of h) x.id ≡ Some link.place
+  pub left_ : (link : LinkView) → link_of x.wire ≡ Some link → LeftBy o z h x.id link.place (shut_link link)
 
-wire_left : (z : Setting) (start : NetView) (h : List (Turn Entry)) (net : NetView) → LinksKept z start h net → (x : Fallen TcpView) → IsDownWire z (past_of h) x.id x.why (shown_wire x.wire) × ShutsFramed x.wire → WireLeft z h x
-wire_left z start h net kept x both =
-    let down = both.0 in
-    let shuts = both.1 in
-    let at = named_place (past_of h) x.id _ down.agrees.name_is in
-    let n = named_at z start.opened net.opened (past_of h) x.id at.0 kept.in_place kept.few kept.named at.1 in
-    let l = carried_by z h x.id at.0 n x.why x.wire.wire down shuts.shut shuts.after shuts.framed in
-    let place_is : x.wire.link.place ≡ at.0 = sym (ap (λ (v : LinkView). v.place) shuts.over) ∙ l.place_is in
-    record {
-      came_up = at.1 ∙ ap (λ (m : ℕ). Some m) (sym place_is);
-      left_ = subst (λ (m : ℕ). LeftBy z h x.id m (shut_link x.wire)) (sym place_is) (subst (λ (v : LinkView). LeftBy z h x.id at.0 v) shuts.over l);
-    }
+module _ {L : Type 0} (z : Setting) (start : Beginning) (h : List (Turn Entry)) (net : NetView) (kept : LinksKept z start h net) (x : DownPipe (EndWire L)) (down : IsDownWire z (past_of h) x.id x.why (shown x.wire)) (shuts : CanShut x.wire) where
+  abbrev at_place : (place : ℕ) × (place_of (past_of h) x.id ≡ Some place)
+  at_place = named_place (past_of h) x.id _ down.agrees.name_is
+
+  abbrev named : NamedAt start.origins z (past_of h) x.id at_place.0
+  named = named_at start.origins z start.net.opened net.opened (past_of h) x.id at_place.0 kept.in_place kept.few kept.named at_place.1
+
+  by_link : (link : LinkView) → link_of x.wire ≡ Some link → LeftBy start.origins z h x.id at_place.0 (shut_link link)
+  by_link link e = carried_by start.origins z h x.id at_place.0 named x.why (shown x.wire) down shuts.shut shuts.after shuts.stands (shut_link link) (shuts.over ∙ ap shut_under e)
+
+  some_under : (o : Option LinkView) (l : LinkView) → shut_under o ≡ Some l → (link : LinkView) × (o ≡ Some link)
+  some_under None l e = cc
+  some_under (Some link) l e = (link, refl)
+
+  wire_left : WireLeft start.origins z h x
+  wire_left =
+      let has = has_link start.origins z h x.id at_place.0 named x.why (shown x.wire) down shuts.shut shuts.after shuts.lanes in
+      record {
+        has_one = some_under (link_of x.wire) has.0 (sym shuts.over ∙ has.1);
+        came_up = λ link e. at_place.1 ∙ ap (λ (m : ℕ). Some m) (sym (by_link link e).place_is);
+        left_ = λ link e. subst (λ (m : ℕ). LeftBy start.origins z h x.id m (shut_link link)) (sym (by_link link e).place_is) (by_link link e);
+      }
 
 is_true_false : (b : Bool) → b ≡ true → b ≡ false → ⊥
 is_true_false b t f = let no : true ≡ false = sym t ∙ f in cc
@@ -91,7 +81,7 @@ is_true_false b t f = let no : true ≡ false = sym t ∙ f in cc
 in_greeting : {L : Type 0} (seen : L → LinkView) (ns : List (Newcomer L)) (past : List Entry) → places seen (in_order 0 ns) ≡ greeting past → places seen ns ≡ greeting past
 in_greeting seen ns past e = ap (places seen) (sym (append-nil ns)) ∙ e
 
-module _ {L : Type 0} (seen : L → LinkView) (z : Setting) (start : NetView) (h : List (Turn Entry)) (net : NetView) (ends : EndsView L) (ws : List (Fallen TcpView)) (legal : Legal z h) (closed : is_closed (past_of h) ≡ true) (stands : EndsStand seen z start h net ends) (wires : HasWires shown_wire ws z (past_of h)) (framed : AllByRecursion (λ x. ShutsFramed x.wire) ws) where
+module _ {L : Type 0} (seen : L → LinkView) (z : Setting) (start : Beginning) (h : List (Turn Entry)) (net : NetView) (ends : EndsView L) (ws : List (DownPipe (EndWire L))) (legal : Legal z h) (closed : is_closed (past_of h) ≡ true) (stands : EndsStand seen z start h net ends) (wires : HasWires shown ws z (past_of h)) (shuts : AllByRecursion (λ x. CanShut x.wire) ws) where
   abbrev past : List Entry
   past = past_of h
 
@@ -107,20 +97,20 @@ module _ {L : Type 0} (seen : L → LinkView) (z : Setting) (start : NetView) (h
   came : places seen ends.newcomers ≡ greeting past
   came = in_greeting seen ends.newcomers past stands.links.progressing.all
 
-  greeted : AllByRecursion (WasGreeted seen z past) ends.newcomers
+  greeted : AllByRecursion (WasGreeted seen start.origins z past) ends.newcomers
   greeted = stands.links.progressing.rest
 
-  all_left : AllByRecursion (WireLeft z h) ws
-  all_left = mapped_all _ (WireLeft z h) (wire_left z start h net kept) ws (both_of _ _ ws (from_all _ ws wires.wires) framed)
+  all_left : AllByRecursion (WireLeft start.origins z h) ws
+  all_left = mapped_all _ (WireLeft start.origins z h) (λ x both. wire_left z start h net kept x both.0 both.1) ws (both_of _ _ ws (from_all _ ws wires.wires) shuts)
 
-  taken : (x : Fallen TcpView) → has (fallen_ids ws) x.id ≡ true → has (untaken past) x.id ≡ true
+  taken : (x : DownPipe (EndWire L)) → has (down_ids ws) x.id ≡ true → has (untaken past) x.id ≡ true
   taken x e = ap (λ (xs : List ℕ). has xs x.id) (sym wires.pipes) ∙ e
 
   abbrev Came : ℕ → Type 0
-  Came place = OneCame seen (WasGreeted seen z past) net.back ends.newcomers place × (get back place ≡ get between place)
+  Came place = OneCame seen (WasGreeted seen start.origins z past) net.back ends.newcomers place × (get back place ≡ get between place)
 
   abbrev Wired : ℕ → Type 0
-  Wired place = OneOf (WireLeft z h) between ws place
+  Wired place = OneOf (WireLeft start.origins z h) between ws place
 
   pub record Rested (place : ℕ) : Type 0 where
     pub found : get back place ≡ get net.back place
@@ -128,9 +118,9 @@ module _ {L : Type 0} (seen : L → LinkView) (z : Setting) (start : NetView) (h
     pub unmet : has (greeting past) place ≡ false
 
   where_is : (place : ℕ) → Came place ⊎ Wired place ⊎ Rested place
-  where_is place = go (look_wires (WireLeft z h) between ws place all_left) (look_links seen (WasGreeted seen z past) net.back ends.newcomers place greeted)
+  where_is place = go (look_wires (WireLeft start.origins z h) between ws place all_left) (look_links seen (WasGreeted seen start.origins z past) net.back ends.newcomers place greeted)
     where
-      go : OneOf (WireLeft z h) between ws place ⊎ NoneOf between ws place → OneCame seen (WasGreeted seen z past) net.back ends.newcomers place ⊎ NoneCame seen (WasGreeted seen z past) net.back ends.newcomers place → Came place ⊎ Wired place ⊎ Rested place
+      go : OneOf (WireLeft start.origins z h) between ws place ⊎ NoneOf between ws place → OneCame seen (WasGreeted seen start.origins z past) net.back ends.newcomers place ⊎ NoneCame seen (WasGreeted seen start.origins z past) net.back ends.newcomers place → Came place ⊎ Wired place ⊎ Rested place
       go (inl one) l = inr (inl one)
       go (inr nobody) (inl one) = inl (one, nobody.found)
       go (inr nobody) (inr none) = inr (inr (record { found = nobody.found ∙ none.found; unwired = nobody; unmet = ap (λ (xs : List ℕ). has xs place) (sym came) ∙ none.none }))
@@ -139,10 +129,10 @@ module _ {L : Type 0} (seen : L → LinkView) (z : Setting) (start : NetView) (h
   met_now place c = ap (λ (xs : List ℕ). has xs place) (sym came) ∙ c.0.there
 
   wired_up : (place : ℕ) (x : Wired place) → place_of past x.x.id ≡ Some place
-  wired_up place x = x.fact.came_up ∙ ap (λ (m : ℕ). Some m) x.place_is
+  wired_up place x = x.fact.came_up x.link x.link_is ∙ ap (λ (m : ℕ). Some m) x.place_is
 
-  wired_left : (place : ℕ) (x : Wired place) → LeftBy z h x.x.id place (shut_link x.x.wire)
-  wired_left place x = subst (λ (m : ℕ). LeftBy z h x.x.id m (shut_link x.x.wire)) x.place_is x.fact.left_
+  wired_left : (place : ℕ) (x : Wired place) → LeftBy start.origins z h x.x.id place (shut_link x.link)
+  wired_left place x = subst (λ (m : ℕ). LeftBy start.origins z h x.x.id m (shut_link x.link)) x.place_is (x.fact.left_ x.link x.link_is)
 
   none_up : (p : ℕ) → IsTrue (has (up past) p) → ⊥
   none_up p e = is_true_false (has (up past) p) e (ap (λ (xs : List ℕ). has xs p) (closed_pipes z h legal closed))
@@ -150,25 +140,27 @@ module _ {L : Type 0} (seen : L → LinkView) (z : Setting) (start : NetView) (h
   not_wired : (p place : ℕ) → Rested place → place_of past p ≡ Some place → IsTrue (has (untaken past) p) → ⊥
   not_wired p place r e on = go (at_id _ ws p (ap (λ (xs : List ℕ). has xs p) wires.pipes ∙ on) (both_of _ _ ws all_left r.unwired.none))
     where
-      go : (x : Fallen TcpView) × (x.id ≡ p) × (WireLeft z h x × ¬ (x.wire.link.place ≡ place)) → ⊥
+      go : (x : DownPipe (EndWire L)) × (x.id ≡ p) × (WireLeft start.origins z h x × IsElsewhere place (link_of x.wire)) → ⊥
       go (x, same, (left, other)) =
-          let a : place_of past p ≡ Some x.wire.link.place = ap (place_of past) (sym same) ∙ left.came_up in
-          let b : Some x.wire.link.place ≡ Some place = sym a ∙ e in
-          other cc
+          let link = left.has_one.0 in
+          let a : place_of past p ≡ Some link.place = ap (place_of past) (sym same) ∙ left.came_up link left.has_one.1 in
+          let b : Some link.place ≡ Some place = sym a ∙ e in
+          let away : ¬ (link.place ≡ place) = subst (IsElsewhere place) left.has_one.1 other in
+          away cc
 
   -- ---- Pipes
 
-  carried_at : (p place : ℕ) → place_of past p ≡ Some place → IsBack back place (HasCarried z h p)
+  carried_at : (p place : ℕ) → place_of past p ≡ Some place → IsBack back place (HasCarried start.origins z h p)
   carried_at p place e = go (where_is place) (kept.carried p place e)
     where
       off : has (greeting past) place ≡ false
-      off = passed start.opened net.opened past p place kept.in_place kept.few e
+      off = passed start.net.opened net.opened past p place kept.in_place kept.few e
 
-      go : Came place ⊎ Wired place ⊎ Rested place → IsCarried z h net p place → IsBack back place (HasCarried z h p)
+      go : Came place ⊎ Wired place ⊎ Rested place → IsCarried start.origins z h net p place → IsBack back place (HasCarried start.origins z h p)
       go (inl c) k = absurd (is_true_false _ (met_now place c) off)
       go (inr (inl x)) k =
-          let same : x.x.id ≡ p = one_pipe start.opened net.opened kept.few past x.x.id p place kept.in_place kept.over_links (wired_up place x) e in
-          (shut_link x.x.wire, x.found, subst (λ (q : ℕ). HasCarried z h q (shut_link x.x.wire)) same (wired_left place x).carried)
+          let same : x.x.id ≡ p = one_pipe start.net.opened net.opened kept.few past x.x.id p place kept.in_place kept.over_links (wired_up place x) e in
+          (shut_link x.link, x.found, subst (λ (q : ℕ). HasCarried start.origins z h q (shut_link x.link)) same (wired_left place x).carried)
       go (inr (inr r)) (inl on) = absurd (none_up p on)
       go (inr (inr r)) (inr (inl on)) = absurd (not_wired p place r e on)
       go (inr (inr r)) (inr (inr b)) = (b.0, r.found ∙ b.1, b.2.2)
@@ -178,10 +170,10 @@ module _ {L : Type 0} (seen : L → LinkView) (z : Setting) (start : NetView) (h
   abbrev IsRight : ℕ → LinkView → Type 0
   IsRight place link = IsShut place link × (length (ticks past) < 2 ^ 64 → IsAsked past place link)
 
-  right_at : (place : ℕ) → start.opened ≤ place → place < net.opened → IsBack back place (IsRight place)
+  right_at : (place : ℕ) → start.net.opened ≤ place → place < net.opened → IsBack back place (IsRight place)
   right_at place low high = go (where_is place) (kept.somewhere place low high)
     where
-      pipe : Rested place → (p : ℕ) → place_of past p ≡ Some place → IsCarried z h net p place → IsBack back place (IsRight place)
+      pipe : Rested place → (p : ℕ) → place_of past p ≡ Some place → IsCarried start.origins z h net p place → IsBack back place (IsRight place)
       pipe r p e (inl on) = absurd (none_up p on)
       pipe r p e (inr (inl on)) = absurd (not_wired p place r e on)
       pipe r p e (inr (inr b)) = (b.0, r.found ∙ b.1, (b.2.0, b.2.1))
@@ -189,45 +181,45 @@ module _ {L : Type 0} (seen : L → LinkView) (z : Setting) (start : NetView) (h
       go : Came place ⊎ Wired place ⊎ Rested place → IsSomewhere net past place → IsBack back place (IsRight place)
       go (inl c) s =
           let n = c.0.n in
-          (shut_of seen (WasGreeted seen z past) n, c.1 ∙ c.0.found, ((c.0.place_is, refl), λ few i st. let a = c.0.fact.progressing.asked i st in let same = ap (greeting_ticks past) c.0.place_is in omega (arith, a, same)))
-      go (inr (inl x)) s = let l = wired_left place x in (shut_link x.x.wire, x.found, ((l.place_is, refl), l.asked))
+          (shut_of seen (WasGreeted seen start.origins z past) n, c.1 ∙ c.0.found, ((c.0.place_is, refl), λ few i st. let a = c.0.fact.progressing.asked i st in let same = ap (greeting_ticks past) c.0.place_is in omega (arith, a, same)))
+      go (inr (inl x)) s = let l = wired_left place x in (shut_link x.link, x.found, ((l.place_is, refl), l.asked))
       go (inr (inr r)) (inl on) = absurd (is_true_false _ on r.unmet)
       go (inr (inr r)) (inr (inl p)) = pipe r p.0 p.1 (kept.carried p.0 place p.1)
       go (inr (inr r)) (inr (inr b)) = (b.0, r.found ∙ b.1, (b.2.0, λ few. b.2.1))
 
-  undone_at : (place : ℕ) → has (greeting past) place ≡ true → IsBack back place (IsUndone (greetings z.role) z h)
+  undone_at : (place : ℕ) → has (greeting past) place ≡ true → IsBack back place (IsUndone (run_ways z.role start.origins) z h)
   undone_at place on = go (where_is place)
     where
-      go : Came place ⊎ Wired place ⊎ Rested place → IsBack back place (IsUndone (greetings z.role) z h)
-      go (inl c) = (shut_of seen (WasGreeted seen z past) c.0.n, c.1 ∙ c.0.found, undone seen z past c.0.n c.0.fact h)
-      go (inr (inl x)) = absurd (is_true_false _ on (passed start.opened net.opened past x.x.id place kept.in_place kept.few (wired_up place x)))
+      go : Came place ⊎ Wired place ⊎ Rested place → IsBack back place (IsUndone (run_ways z.role start.origins) z h)
+      go (inl c) = (shut_of seen (WasGreeted seen start.origins z past) c.0.n, c.1 ∙ c.0.found, undone seen start.origins z past c.0.n c.0.fact h)
+      go (inr (inl x)) = absurd (is_true_false _ on (passed start.net.opened net.opened past x.x.id place kept.in_place kept.few (wired_up place x)))
       go (inr (inr r)) = absurd (is_true_false _ on r.unmet)
 
-  missed_at : (place : ℕ) → was_missed start.opened net.opened kept.few past place ≡ true → get back place ≡ get net.back place
-  missed_at place m = go (where_is place) (missed_rests start.opened net.opened kept.few past place kept.in_place kept.over_links m)
+  missed_at : (place : ℕ) → was_missed start.net.opened net.opened kept.few past place ≡ true → get back place ≡ get net.back place
+  missed_at place m = go (where_is place) (missed_rests start.net.opened net.opened kept.few past place kept.in_place kept.over_links m)
     where
       go : Came place ⊎ Wired place ⊎ Rested place → (has (greeting past) place ≡ false) × ((p : ℕ) → place_of past p ≡ Some place → ⊥) → get back place ≡ get net.back place
       go (inl c) r = absurd (is_true_false _ (met_now place c) r.0)
       go (inr (inl x)) r = absurd (r.1 x.x.id (wired_up place x))
       go (inr (inr s)) r = s.found
 
-  others : KeepsOthers start (record net { back = back })
+  others : KeepsOthers start.net (record net { back = back })
   others place out = go (where_is place)
     where
-      outside : (start.opened ≤ place) × (place < net.opened) → (place < start.opened) ⊎ (net.opened ≤ place) → ⊥
+      outside : (start.net.opened ≤ place) × (place < net.opened) → (place < start.net.opened) ⊎ (net.opened ≤ place) → ⊥
       outside within (inl lt) = absurd (omega (arith, within.0, lt))
       outside within (inr le) = absurd (omega (arith, within.1, le))
 
-      go : Came place ⊎ Wired place ⊎ Rested place → get back place ≡ get start.back place
-      go (inl c) = absurd (outside (inside start.opened net.opened past place kept.in_place (met_now place c)) out)
-      go (inr (inl x)) = absurd (outside (pipe_inside start.opened net.opened kept.few past x.x.id place kept.in_place kept.over_links (wired_up place x)) out)
+      go : Came place ⊎ Wired place ⊎ Rested place → get back place ≡ get start.net.back place
+      go (inl c) = absurd (outside (inside start.net.opened net.opened past place kept.in_place (met_now place c)) out)
+      go (inr (inl x)) = absurd (outside (pipe_inside start.net.opened net.opened kept.few past x.x.id place kept.in_place kept.over_links (wired_up place x)) out)
       go (inr (inr r)) = r.found ∙ kept.others place out
 
-  missed_still : (part : List Entry) → ((place : ℕ) → was_missed start.opened net.opened kept.few part place ≡ true → get back place ≡ get net.back place) → Each (HasCause (greetings z.role) z h net.back) part → Each (HasCause (greetings z.role) z h back) part
+  missed_still : (part : List Entry) → ((place : ℕ) → was_missed start.net.opened net.opened kept.few part place ≡ true → get back place ≡ get net.back place) → Each (HasCause (run_ways z.role start.origins) z h net.back) part → Each (HasCause (run_ways z.role start.origins) z h back) part
   missed_still [] same all = tt
   missed_still (NoUp place miss ∷ part) same all =
       let b = all.0 in
-      let first : was_missed start.opened net.opened kept.few (NoUp place miss ∷ part) place ≡ true = rw (eq-eqb place place refl) refl in
+      let first : was_missed start.net.opened net.opened kept.few (NoUp place miss ∷ part) place ≡ true = rw (eq-eqb place place refl) refl in
       ((b.0, same place first ∙ b.1, b.2), missed_still part (λ other m. same other (or_more (place == other) m)) all.1)
     where
       or_more : (t : Bool) {b : Bool} → b ≡ true → (t || b) ≡ true
@@ -235,7 +227,7 @@ module _ {L : Type 0} (seen : L → LinkView) (z : Setting) (start : NetView) (h
       or_more false e = e
   missed_still (e ∷ part) same all = (tt, missed_still part same all.1)
 
-  records : IsTrue (each times_out_rightly past) → Records (greetings z.role) z max_body start.opened net.opened back h
+  records : IsTrue (each times_out_rightly past) → Records (run_ways z.role start.origins) z max_body start.net.opened net.opened back h
   records due = record {
     places = kept.in_place;
     few = kept.few;
@@ -243,7 +235,7 @@ module _ {L : Type 0} (seen : L → LinkView) (z : Setting) (start : NetView) (h
     given_back = λ place a b. let r = right_at place a b in (r.0, r.1, r.2.0);
     missed = missed_still past missed_at kept.missed;
     left_ = undone_at;
-    came_up = λ p place e lt. let c = carried_at p place e in (c.0, c.1, ((tt, c.2.scheme, c.2.opened), record { texts = λ tcp. c.2.carries; fell = λ tcp. c.2.fell }));
+    came_up = λ p place e lt. let c = carried_at p place e in (c.0, c.1, (c.2.opened, record { texts = c.2.carries; fell = c.2.fell }));
     due = due;
   }
 
@@ -252,7 +244,7 @@ module _ {L : Type 0} (seen : L → LinkView) (z : Setting) (start : NetView) (h
       let c = carried_at p place e in
       let all : Some c.0 ≡ Some link = sym c.1 ∙ there in
       let same : c.0 ≡ link = some_link c.0 link all in
-      subst (λ (l : LinkView). Told l.written (λ written. written ≡ text (role_number z.role) (outs past p))) same (c.2.whole (cleared p down))
+      subst (λ (l : LinkView). Told l.written (λ written. written ≡ text (role_number z.role) (outs past p))) same (c.2.whole (ap (λ (l : LinkView). l.scheme) same ∙ tcp) (cleared p down))
     where
       some_link : (a b : LinkView) → Some a ≡ Some b → a ≡ b
       some_link a b q = cc
@@ -278,13 +270,16 @@ module _ {L : Type 0} (seen : L → LinkView) (z : Setting) (start : NetView) (h
 
 -- ---- Before they are given back
 
-pub newcomers_below : {L : Type 0} (seen : L → LinkView) (z : Setting) (start : NetView) (h : List (Turn Entry)) (net : NetView) (ends : EndsView L) → EndsStand seen z start h net ends → AllByRecursion (λ n. (seen n.link).place < net.opened) ends.newcomers
+pub newcomers_below : {L : Type 0} (seen : L → LinkView) (z : Setting) (start : Beginning) (h : List (Turn Entry)) (net : NetView) (ends : EndsView L) → EndsStand seen z start h net ends → AllByRecursion (λ n. (seen n.opening.link).place < net.opened) ends.newcomers
 newcomers_below seen z start h net ends stands =
     let kept = stands.links.kept in
-    mapped_all (WasGreeted seen z (past_of h)) (λ n. (seen n.link).place < net.opened) (λ n was. (met_inside start.opened net.opened (past_of h) (seen n.link).place kept.in_place (ap is_some was.progressing.met)).1) ends.newcomers stands.links.progressing.rest
+    mapped_all (WasGreeted seen start.origins z (past_of h)) (λ n. (seen n.opening.link).place < net.opened) (λ n was. (met_inside start.net.opened net.opened (past_of h) (seen n.opening.link).place kept.in_place (ap is_some was.progressing.met)).1) ends.newcomers stands.links.progressing.rest
 
-pub wires_below : {L : Type 0} (seen : L → LinkView) (z : Setting) (start : NetView) (h : List (Turn Entry)) (net : NetView) (ends : EndsView L) (ws : List (Fallen TcpView)) → EndsStand seen z start h net ends → HasWires shown_wire ws z (past_of h) → AreHandedOut net.opened ws
+below : {L : Type 0} (z : Setting) (start : Beginning) (h : List (Turn Entry)) (net : NetView) → LinksKept z start h net → (x : DownPipe (EndWire L)) → WireLeft start.origins z h x → (o : Option LinkView) → link_of x.wire ≡ o → IsBelow net.opened o
+below z start h net k x left None e = tt
+below z start h net k x left (Some link) e = (pipe_inside start.net.opened net.opened k.few (past_of h) x.id link.place k.in_place k.over_links (left.came_up link e)).1
+
+pub wires_below : {L : Type 0} (seen : L → LinkView) (z : Setting) (start : Beginning) (h : List (Turn Entry)) (net : NetView) (ends : EndsView L) (ws : List (DownPipe (EndWire L))) → EndsStand seen z start h net ends → HasWires shown ws z (past_of h) → AreHandedOut net.opened ws
 wires_below seen z start h net ends ws stands wires =
     let kept = stands.links.kept in
-    mapped_all _ (λ x. ShutsFramed x.wire → x.wire.link.place < net.opened)
-    (λ x down shuts. (pipe_inside start.opened net.opened kept.few (past_of h) x.id x.wire.link.place kept.in_place kept.over_links (wire_left z start h net kept x (down, shuts)).came_up).1) ws (from_all _ ws wires.wires)
+    mapped_all _ (λ x. CanShut x.wire → IsBelow net.opened (link_of x.wire)) (λ x down shuts. below z start h net kept x (wire_left z start h net kept x down shuts) (link_of x.wire) refl) ws (from_all _ ws wires.wires)

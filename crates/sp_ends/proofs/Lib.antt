@@ -10,7 +10,6 @@ pub mod Hands
 pub mod Turns
 pub mod Attaching
 pub mod Serving
-pub mod Newcoming
 pub mod Greeting
 pub mod NewcomingDialers
 pub mod LeavingWires
@@ -26,6 +25,7 @@ pub mod Freeing
 pub mod Knowing
 pub mod Young
 pub mod NewcomingAsks
+pub mod Arriving
 pub mod NewcomingDials
 pub mod NewcomingDue
 pub mod NewcomingRounds

@@ -10,7 +10,6 @@ use Rattle.turn_lock.specs.declared.turn.Turn.{Turn}
 use Rattle.sp_base.specs.Views.{LinkView, NetView}
 use Rattle.sp_base.specs.Steps.{IsHandedOut, AfterGiveBack}
 use Rattle.sp_base.specs.declared.addr.Scheme.{Scheme}
-use Rattle.sp_base.specs.declared.addr.Scheme.TheVariants as schemes
 use Rattle.sp_history.specs.declared.entry.Entry.{Entry}
 use Rattle.sp_history.specs.declared.entry.Entry.TheVariants.{Up, Met, NoUp, Taken}
 use Rattle.sp_history.specs.declared.entry.Miss.{Miss}
@@ -21,11 +20,12 @@ use Rattle.sp_history.specs.Legal.{Legal}
 use Rattle.sp_history.specs.Past.{past_of, up, ups, untaken, now}
 use Rattle.sp_history.proofs.Backing.{legal_allowed}
 use Rattle.sp_core.specs.Standing.{HasFirst}
-use Rattle.cat_play.specs.Openings.{greetings}
+use Rattle.cat_play.specs.Openings.{BeganSo}
+use Rattle.link_opening.specs.Origins.{run_ways}
 use Rattle.cat_play.specs.Recording.{lane_place, place_of, met_at, greeting, keeps_places, IsBack, MissedFor}
 use Rattle.cat_play.specs.Running.{KeepsOthers}
 use Rattle.cat_play.specs.Spending.{IsAsked}
-use Rattle.sp_ends.specs.Standing.{IsNamed, HasCarried, IsShut, IsSomewhere, IsAskedIn, LinksKept}
+use Rattle.sp_ends.specs.Standing.{Beginning, IsNamed, HasCarried, IsShut, IsSomewhere, IsAskedIn, LinksKept}
 use Rattle.sp_ends.proofs.Places.{has_at, met_inside, unmet_others, others_missed, others_up, up_once, up_inside, passed, inside}
 use Rattle.sp_ends.proofs.Leaving.{IsHeld, has_other, grown, or_true, numbered}
 use Rattle.sp_ends.proofs.Keeping.{legal_rest}
@@ -57,18 +57,18 @@ unequal a b e same = let t : (a == b) ≡ true = eq-eqb a b same in cc
 
 -- ---- Handed out
 
-module _ (z : Setting) (start net net' : NetView) (h : List (Turn Entry)) (t : Turn Entry) (link : LinkView) (wanted : Option Scheme) (o : IsHandedOut link wanted net net') (first : HasFirst (Met link.place) t) (l : Legal z (h ++ t ∷ [])) (k : LinksKept z start h net) where
+module _ (z : Setting) (start : Beginning) (net net' : NetView) (h : List (Turn Entry)) (t : Turn Entry) (link : LinkView) (wanted : Option Scheme) (o : IsHandedOut link wanted net net') (first : HasFirst (Met link.place) t) (l : Legal z (h ++ t ∷ [])) (k : LinksKept z start h net) where
   pub unmet_yet : met_at (past_of h) link.place ≡ None
   unmet_yet = go (met_at (past_of h) link.place) refl
     where
       go : (m : Option ℕ) → met_at (past_of h) link.place ≡ m → met_at (past_of h) link.place ≡ None
       go None e = e
-      go (Some n) e = let b = met_inside start.opened net.opened (past_of h) link.place k.in_place (rw e refl) in let p = o.fresh.place in absurd (omega (arith, b.1, p))
+      go (Some n) e = let b = met_inside start.net.opened net.opened (past_of h) link.place k.in_place (rw e refl) in let p = o.fresh.place in absurd (omega (arith, b.1, p))
 
   same_back : (q : ℕ) → get net'.back q ≡ get net.back q
   same_back q = ap (λ (b : FinMap nat_cmp LinkView). get b q) o.back
 
-  somewhere_met : (place : ℕ) → start.opened ≤ place → place < net'.opened → IsSomewhere net' (Met link.place ∷ past_of h) place
+  somewhere_met : (place : ℕ) → start.net.opened ≤ place → place < net'.opened → IsSomewhere net' (Met link.place ∷ past_of h) place
   somewhere_met place a b = go (link.place == place) refl
     where
       old : IsSomewhere net (past_of h) place → IsSomewhere net' (Met link.place ∷ past_of h) place
@@ -80,21 +80,21 @@ module _ (z : Setting) (start net net' : NetView) (h : List (Turn Entry)) (t : T
       go true e = let same : link.place ≡ place = eqb-true link.place place e in inl (subst (λ (q : ℕ). has (greeting (past_of h) ++ link.place ∷ []) q ≡ true) same (has_at (greeting (past_of h)) [] link.place))
       go false e = let n = unequal link.place place e in let p = o.fresh.place in let m = o.opened in old (k.somewhere place a (omega (arith, b, n, p, m)))
 
-  met_met : (place : ℕ) → start.opened ≤ place → place < net'.opened → is_some (met_at (Met link.place ∷ past_of h) place) ≡ true
+  met_met : (place : ℕ) → start.net.opened ≤ place → place < net'.opened → is_some (met_at (Met link.place ∷ past_of h) place) ≡ true
   met_met place a b = go (link.place == place) refl
     where
       go : (u : Bool) → (link.place == place) ≡ u → is_some (cond u (Some (now (past_of h))) (met_at (past_of h) place)) ≡ true
       go true e = refl
       go false e = let n = unequal link.place place e in let p = o.fresh.place in let m = o.opened in k.met place a (omega (arith, b, n, p, m))
 
-  others_met : KeepsOthers start net'
+  others_met : KeepsOthers start.net net'
   others_met place (inl x) = same_back place ∙ k.others place (inl x)
   others_met place (inr x) = let m = o.opened in same_back place ∙ k.others place (inr (omega (arith, x, m)))
 
-  keeps_met : keeps_places start.opened net'.opened (past_of h) (Met link.place) ≡ true
+  keeps_met : keeps_places start.net.opened net'.opened (past_of h) (Met link.place) ≡ true
   keeps_met =
       let p = o.fresh.place in let m = o.opened in let low = k.opened in
-      let a : nat_le start.opened link.place ≡ true = le-leb start.opened link.place (omega (arith, p, low)) in
+      let a : nat_le start.net.opened link.place ≡ true = le-leb start.net.opened link.place (omega (arith, p, low)) in
       let b : nat_lt link.place net'.opened ≡ true = lt-ltb link.place net'.opened (omega (arith, p, m)) in rw (a, b, unmet_yet) refl
 
   pub kept_met : LinksKept z start (h ++ t ∷ []) net'
@@ -111,14 +111,14 @@ module _ (z : Setting) (start net net' : NetView) (h : List (Turn Entry)) (t : T
         met = met_met;
         somewhere = somewhere_met;
         stays = λ q n. same_back q;
-        others_missed = unmet_others start.opened net.opened (past_of h) link.place k.in_place unmet_yet;
+        others_missed = unmet_others start.net.opened net.opened (past_of h) link.place k.in_place unmet_yet;
         carried = λ p place is. held_after z start net net' h t (Met link.place) first refl l k p place (λ x. x) (same_back place) is;
         others = others_met;
       })
 
 -- ---- Up
 
-module _ (z : Setting) (start net : NetView) (h : List (Turn Entry)) (t : Turn Entry) (p place : ℕ) (name : WireName) (next : p ≡ ups (past_of h) + 1) (waits : has (greeting (past_of h)) place ≡ true) (named : IsNamed z (past_of h) (Up p place name)) (first : HasFirst (Up p place name) t) (l : Legal z (h ++ t ∷ [])) (k : LinksKept z start h net) where
+module _ (z : Setting) (start : Beginning) (net : NetView) (h : List (Turn Entry)) (t : Turn Entry) (p place : ℕ) (name : WireName) (next : p ≡ ups (past_of h) + 1) (waits : has (greeting (past_of h)) place ≡ true) (named : IsNamed start.origins z (past_of h) (Up p place name)) (first : HasFirst (Up p place name) t) (l : Legal z (h ++ t ∷ [])) (k : LinksKept z start h net) where
   not_yet : (q other : ℕ) → place_of (past_of h) q ≡ Some other → (p == q) ≡ true → ⊥
   not_yet q other is e = let n = numbered z (past_of h) q other (legal_allowed z h (legal_rest z h (t ∷ []) l).0) is in let same : p ≡ q = eqb-true p q e in omega (arith, n, same, next)
 
@@ -166,17 +166,17 @@ module _ (z : Setting) (start net : NetView) (h : List (Turn Entry)) (t : Turn E
         met = k.met;
         somewhere = λ q a b. somewhere_up q (k.somewhere q a b);
         stays = λ q n. refl;
-        others_missed = others_missed start.opened net.opened (past_of h) place k.in_place waits;
+        others_missed = others_missed start.net.opened net.opened (past_of h) place k.in_place waits;
         carried = carried_up;
         others = k.others;
       })
 
 -- ---- Missed
 
-module _ (z : Setting) (start net net' : NetView) (h : List (Turn Entry)) (t : Turn Entry) (link : LinkView) (miss : Miss) (back : AfterGiveBack link net net') (waits : has (greeting (past_of h)) link.place ≡ true) (shut : link.is_open ≡ false) (tcp : link.scheme ≡ schemes.Tcp)
-    (asked : IsAsked (past_of h) link.place link) (cause : MissedFor (greetings z.role) z (h ++ t ∷ []) (past_of h) link.place miss link tt) (first : HasFirst (NoUp link.place miss) t) (l : Legal z (h ++ t ∷ [])) (k : LinksKept z start h net) where
-  bound : (start.opened ≤ link.place) × (link.place < net.opened)
-  bound = inside start.opened net.opened (past_of h) link.place k.in_place waits
+module _ (z : Setting) (start : Beginning) (net net' : NetView) (h : List (Turn Entry)) (t : Turn Entry) (link : LinkView) (miss : Miss) (back : AfterGiveBack link net net') (waits : has (greeting (past_of h)) link.place ≡ true) (shut : link.is_open ≡ false)
+    (asked : IsAsked (past_of h) link.place link) (cause : BeganSo (run_ways z.role start.origins) link (λ way. MissedFor (run_ways z.role start.origins) z (h ++ t ∷ []) (past_of h) link.place miss link way)) (first : HasFirst (NoUp link.place miss) t) (l : Legal z (h ++ t ∷ [])) (k : LinksKept z start h net) where
+  bound : (start.net.opened ≤ link.place) × (link.place < net.opened)
+  bound = inside start.net.opened net.opened (past_of h) link.place k.in_place waits
 
   gave : get net'.back link.place ≡ Some link
   gave = ap (λ (b : FinMap nat_cmp LinkView). get b link.place) back.back ∙ there net.back link.place link
@@ -197,9 +197,9 @@ module _ (z : Setting) (start net net' : NetView) (h : List (Turn Entry)) (t : T
       go false e (inr (inr x)) = inr (inr (x.0, others_back q (λ a. unequal link.place q e (sym a)) ∙ x.1, x.2))
 
   not_here : (p q : ℕ) → place_of (past_of h) p ≡ Some q → q ≡ link.place → ⊥
-  not_here p q is e = let no : has (greeting (past_of h)) q ≡ false = passed start.opened net.opened (past_of h) p q k.in_place k.few is in let no' : has (greeting (past_of h)) link.place ≡ false = subst (λ (m : ℕ). has (greeting (past_of h)) m ≡ false) e no in cc
+  not_here p q is e = let no : has (greeting (past_of h)) q ≡ false = passed start.net.opened net.opened (past_of h) p q k.in_place k.few is in let no' : has (greeting (past_of h)) link.place ≡ false = subst (λ (m : ℕ). has (greeting (past_of h)) m ≡ false) e no in cc
 
-  others_missed_ : KeepsOthers start net'
+  others_missed_ : KeepsOthers start.net net'
   others_missed_ q (inl x) = let b = bound in others_back q (λ e. omega (arith, x, b.0, e)) ∙ k.others q (inl x)
   others_missed_ q (inr x) = let b = bound in let m = back.opened in others_back q (λ e. omega (arith, x, b.1, m, e)) ∙ k.others q (inr (omega (arith, x, m)))
 
@@ -213,21 +213,21 @@ module _ (z : Setting) (start net net' : NetView) (h : List (Turn Entry)) (t : T
         keeps = waits;
         over = refl;
         name = tt;
-        cause = (link, gave, (tt, tcp, cause));
+        cause = (link, gave, cause);
         met = λ q a b. let m = back.opened in k.met q a (omega (arith, b, m));
         somewhere = λ q a b. let m = back.opened in somewhere_missed q (k.somewhere q a (omega (arith, b, m)));
         stays = others_back;
-        others_missed = others_missed start.opened net.opened (past_of h) link.place k.in_place waits;
+        others_missed = others_missed start.net.opened net.opened (past_of h) link.place k.in_place waits;
         carried = λ p q is. held_after z start net net' h t (NoUp link.place miss) first refl l k p q (λ x. x) (others_back q (not_here p q is)) is;
         others = others_missed_;
       })
 
 -- ---- Taken
 
-module _ (z : Setting) (start net net' : NetView) (h : List (Turn Entry)) (t : Turn Entry) (p : ℕ) (link : LinkView) (back : AfterGiveBack link net net') (is_place : place_of (past_of h) p ≡ Some link.place) (off : has (up (past_of h)) p ≡ false) (shut : link.is_open ≡ false)
-    (asked : IsAskedIn (past_of h) link.place link) (carries : HasCarried z h p link) (first : HasFirst (Taken p) t) (l : Legal z (h ++ t ∷ [])) (k : LinksKept z start h net) where
-  bound_taken : (start.opened ≤ link.place) × (link.place < net.opened)
-  bound_taken = up_inside start.opened net.opened k.few (past_of h) p link.place k.in_place k.over_links is_place
+module _ (z : Setting) (start : Beginning) (net net' : NetView) (h : List (Turn Entry)) (t : Turn Entry) (p : ℕ) (link : LinkView) (back : AfterGiveBack link net net') (is_place : place_of (past_of h) p ≡ Some link.place) (off : has (up (past_of h)) p ≡ false) (shut : link.is_open ≡ false)
+    (asked : IsAskedIn (past_of h) link.place link) (carries : HasCarried start.origins z h p link) (first : HasFirst (Taken p) t) (l : Legal z (h ++ t ∷ [])) (k : LinksKept z start h net) where
+  bound_taken : (start.net.opened ≤ link.place) × (link.place < net.opened)
+  bound_taken = up_inside start.net.opened net.opened k.few (past_of h) p link.place k.in_place k.over_links is_place
 
   gave_taken : get net'.back link.place ≡ Some link
   gave_taken = ap (λ (b : FinMap nat_cmp LinkView). get b link.place) back.back ∙ there net.back link.place link
@@ -258,7 +258,7 @@ module _ (z : Setting) (start net net' : NetView) (h : List (Turn Entry)) (t : T
       still e (inr x) = inr (has_other (untaken (past_of h)) p q e ∙ x)
 
       apart : (p == q) ≡ false → other ≡ link.place → ⊥
-      apart e same = unequal p q e (up_once start.opened net.opened k.few (past_of h) p q link.place k.in_place k.over_links is_place (subst (λ (m : ℕ). place_of (past_of h) q ≡ Some m) same is))
+      apart e same = unequal p q e (up_once start.net.opened net.opened k.few (past_of h) p q link.place k.in_place k.over_links is_place (subst (λ (m : ℕ). place_of (past_of h) q ≡ Some m) same is))
 
       some_same : (a b : ℕ) → Some a ≡ Some b → a ≡ b
       some_same a b e = cc
@@ -267,7 +267,7 @@ module _ (z : Setting) (start net net' : NetView) (h : List (Turn Entry)) (t : T
       go true e = let same : p ≡ q = eqb-true p q e in let place_same : link.place ≡ other = some_same link.place other (sym is_place ∙ (ap (λ (m : ℕ). place_of (past_of h) m) same ∙ is)) in subst (λ (m : ℕ). After m other) same (subst (λ (m : ℕ). After p m) place_same here_taken)
       go false e = held_after z start net net' h t (Taken p) first refl l k q other (still e) (others_taken other (apart e)) is
 
-  outside_taken : KeepsOthers start net'
+  outside_taken : KeepsOthers start.net net'
   outside_taken q (inl x) = let b = bound_taken in others_taken q (λ e. omega (arith, x, b.0, e)) ∙ k.others q (inl x)
   outside_taken q (inr x) = let b = bound_taken in let m = back.opened in others_taken q (λ e. omega (arith, x, b.1, m, e)) ∙ k.others q (inr (omega (arith, x, m)))
 
@@ -285,7 +285,7 @@ module _ (z : Setting) (start net net' : NetView) (h : List (Turn Entry)) (t : T
         met = λ q a b. let m = back.opened in k.met q a (omega (arith, b, m));
         somewhere = λ q a b. let m = back.opened in somewhere_taken q (k.somewhere q a (omega (arith, b, m)));
         stays = others_taken;
-        others_missed = others_up start.opened net.opened k.few (past_of h) p link.place k.in_place k.over_links is_place;
+        others_missed = others_up start.net.opened net.opened k.few (past_of h) p link.place k.in_place k.over_links is_place;
         carried = carried_taken;
         others = outside_taken;
       })

@@ -8,7 +8,7 @@ use Rattle.sp_history.specs.Found.{ticks}
 use Rattle.cat_play.specs.Spending.{spaced_from}
 use Rattle.sp_ends.specs.declared.dialer.Dialer.{Dialer}
 use Rattle.sp_ends.specs.Moments.{moment, IsDueAt}
-use Rattle.sp_ends.specs.Dialing.{IsDialed, IsTcpAddress, next_from}
+use Rattle.sp_ends.specs.Dialing.{IsDialed, IsDialable, next_from}
 use Rattle.sp_ends.specs.Freeing.{IsDue}
 use Rattle.sp_ends.specs.Turning.{IsSameDialer, AreSameDialers, HasDialed, DialsOne}
 use Rattle.sp_ends.proofs.Serving.{dialers_both}
@@ -54,7 +54,7 @@ module _ (past before : List Entry) (t : ℕ) (t_is : ticks past ≡ ticks befor
 
     dialed_now : (same2 : Type 0) (f : Dialer) → HasDialed t same2 e f → (same' → same2) → IsDue t e → IsDialed same' past f
     dialed_now same2 f h m2 due = record {
-      dialable = subst IsTcpAddress (sym (h.addr ∙ s.addr)) x.dialable;
+      dialable = subst IsDialable (sym (h.addr ∙ s.addr)) x.dialable;
       free = λ m. (h.next (m2 m)).1;
       next = λ m. (h.next (m2 m)).0 ∙ ap moment (sym (next_is ∙ ap (λ b. cond b (t + 100) n) (is_le (come m))));
       tries = λ m l.
@@ -70,7 +70,7 @@ module _ (past before : List Entry) (t : ℕ) (t_is : ticks past ≡ ticks befor
 
     not_due_now : (IsDue t e → ⊥) → IsDialed same' past e
     not_due_now no_due = record {
-      dialable = subst IsTcpAddress (sym s.addr) x.dialable;
+      dialable = subst IsDialable (sym s.addr) x.dialable;
       free = λ m. placed m;
       next = λ m. next_d m ∙ ap moment (sym (next_is ∙ ap (λ b. cond b (t + 100) n) (not_le (later m))));
       tries = λ m l.
@@ -104,7 +104,7 @@ module _ (past before : List Entry) (t : ℕ) (t_is : ticks past ≡ ticks befor
 
     not_tried : (same' → ⊥) → 0 < length (ticks before) → IsDialed same' past e
     not_tried none some = record {
-      dialable = subst IsTcpAddress (sym s.addr) x.dialable;
+      dialable = subst IsDialable (sym s.addr) x.dialable;
       free = λ m. absurd (none m);
       next = λ m. absurd (none m);
       tries = λ m l. absurd (none m);
@@ -115,7 +115,7 @@ module _ (past before : List Entry) (t : ℕ) (t_is : ticks past ≡ ticks befor
   -- of one that was dialed, or was not due
   still : (same same' : Type 0) (e f : Dialer) → IsDialed same past e → IsSameDialer e f → (same' → same) → IsDialed same' past f
   still same same' e f x s m = record {
-    dialable = subst IsTcpAddress (sym s.addr) x.dialable;
+    dialable = subst IsDialable (sym s.addr) x.dialable;
     free = λ w. ap (λ (q : Dialer). q.place) (s.free (x.free (m w))) ∙ x.free (m w);
     next = λ w. ap (λ (q : Dialer). q.next) (s.free (x.free (m w))) ∙ x.next (m w);
     tries = λ w l. through _ _ e.tries f.tries refl (x.tries (m w) l) s.tries;
@@ -167,11 +167,11 @@ module _ (past before : List Entry) (t : ℕ) (t_is : ticks past ≡ ticks befor
   rest_not_tried (suc i) same0 same (x ∷ ds) [] all d m none some = absurd d
   rest_not_tried (suc i) same0 same (x ∷ ds) (e ∷ es) all d m none some = (d.0, rest_not_tried i same0 same ds es all.1 d.1 m none some)
 
-  pub dialable_at : (i j : ℕ) (same0 same : Type 0) (ds es : List Dialer) (e : Dialer) → AllByRecursion (IsDialed same0 before) ds → DialedTo past i same ds es → slice_get es j ≡ Some e → IsTcpAddress e.addr
+  pub dialable_at : (i j : ℕ) (same0 same : Type 0) (ds es : List Dialer) (e : Dialer) → AllByRecursion (IsDialed same0 before) ds → DialedTo past i same ds es → slice_get es j ≡ Some e → IsDialable e.addr
   dialable_at i j same0 same ds [] e all d at = cc
   dialable_at zero j same0 same [] (f ∷ es) e all d at = absurd d
   dialable_at (suc i) j same0 same [] (f ∷ es) e all d at = absurd d
-  dialable_at zero zero same0 same (x ∷ ds) (f ∷ es) e all d at = let is : f ≡ e = cc in subst (λ (q : Dialer). IsTcpAddress q.addr) is (subst IsTcpAddress (sym d.0.addr) all.0.dialable)
+  dialable_at zero zero same0 same (x ∷ ds) (f ∷ es) e all d at = let is : f ≡ e = cc in subst (λ (q : Dialer). IsDialable q.addr) is (subst IsDialable (sym d.0.addr) all.0.dialable)
   dialable_at zero (suc j) same0 same (x ∷ ds) (f ∷ es) e all d at = dialable_at zero j same0 same ds es e all.1 d.1 at
-  dialable_at (suc i) zero same0 same (x ∷ ds) (f ∷ es) e all d at = let is : f ≡ e = cc in subst (λ (q : Dialer). IsTcpAddress q.addr) is d.0.dialable
+  dialable_at (suc i) zero same0 same (x ∷ ds) (f ∷ es) e all d at = let is : f ≡ e = cc in subst (λ (q : Dialer). IsDialable q.addr) is d.0.dialable
   dialable_at (suc i) (suc j) same0 same (x ∷ ds) (f ∷ es) e all d at = dialable_at i j same0 same ds es e all.1 d.1 at

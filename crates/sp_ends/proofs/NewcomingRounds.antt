@@ -2,7 +2,6 @@
 use Rattle.std.proofs.Common.{◌≡◌, ◌≤◌, ◌<◌, ◌+◌, ◌*◌, ◌++◌, ◌∷◌, ℕ, Bool, true, List, [], length, Some, refl, sym, ap, subst, ◌∙◌, arith, inl, inr, slice_get, get_or, eq-eqb, add-one}
 use Rattle.std.specs.Prelude.{◌^◌, ◌-◌, ◌⊎◌}
 use Rattle.std.specs.List.{AllByRecursion}
-use Rattle.std.specs.FinMap.{get}
 use Rattle.std.proofs.lemmas.Bool.{cases_lt}
 use Rattle.sp_base.specs.Views.{LinkView, NetView}
 use Rattle.sp_history.specs.Found.{ticks, last_tick, before_last_tick}
@@ -16,14 +15,14 @@ use Rattle.sp_single.specs.Singles.{SingleView}
 use Rattle.sp_ends.specs.declared.dialer.Dialer.{Dialer}
 use Rattle.sp_ends.specs.declared.newcomer.Newcomer.{Newcomer}
 use Rattle.sp_ends.specs.Moments.{moment}
-use Rattle.sp_ends.specs.Dialing.{IsDialed, IsTcpAddress, next_from}
-use Rattle.sp_ends.specs.Standing.{EndsView, NetStands, IsListener, places, in_order, sum_of, tries_of}
+use Rattle.sp_ends.specs.Dialing.{IsDialed, IsDialable, next_from}
+use Rattle.sp_ends.specs.Standing.{Beginning, EndsView, NetStands, IsListener, places, in_order, sum_of, tries_of}
 use Rattle.sp_ends.specs.Freeing.{IsDue, GotBack, Redials, KnowsLinks}
 use Rattle.sp_ends.specs.Turning.{Quietly, IsDry, InTurn, SameEnds, AsksNet, DialsAt, AreYoung}
 use Rattle.sp_ends.proofs.Places.{inside}
 use Rattle.sp_ends.proofs.Serving.{same_dialers, dials_long, ends_none, ends_both}
 use Rattle.sp_ends.proofs.Turns.{quiet_both, quiet_none, quiet_ticks, quiet_where}
-use Rattle.sp_ends.proofs.NewcomingAsks.{at_index, ticks_last}
+use Rattle.sp_ends.proofs.NewcomingAsks.{at_index, ticks_last, listens_still}
 use Rattle.sp_ends.proofs.NewcomingDials.{dials_tries}
 use Rattle.sp_ends.proofs.Freeing.{got_none, got_both, same_all, TurnedTo, turned_due, turned_not_due}
 use Rattle.sp_ends.proofs.Knowing.{knows_none, knows_next}
@@ -32,7 +31,7 @@ use Rattle.sp_ends.proofs.NewcomingDue.{DialedTo, next_dialed, next_not_due, all
 -- ---- All of them
 
 -- the tick of the turn is the last
-ticks_at : {L : Type 0} (seen : L → LinkView) (start : NetView) (ends : EndsView L) (net : NetView) (s : SingleView) (t k : ℕ) → InTurn seen start ends net s t k → ticks (past_of s.seen) ≡ ticks (before_last_tick (past_of s.seen)) ++ t ∷ []
+ticks_at : {L : Type 0} (seen : L → LinkView) (start : Beginning) (ends : EndsView L) (net : NetView) (s : SingleView) (t k : ℕ) → InTurn seen start ends net s t k → ticks (past_of s.seen) ≡ ticks (before_last_tick (past_of s.seen)) ++ t ∷ []
 ticks_at seen start ends net s t k i =
     let last : t ≡ last_tick (past_of s.seen) = i.now_is ∙ last_is_now s.setting (past_of s.seen) (legal_allowed s.setting s.seen i.sound.legal) in
     ticks_last (past_of s.seen) i.ticked ∙ ap (λ (m : ℕ). ticks (before_last_tick (past_of s.seen)) ++ m ∷ []) (sym last)
@@ -44,7 +43,7 @@ is_there xs ds i d q e lt is at =
     let both : Some d ≡ Some q = sym here ∙ at in cc
 
 pub record Dialing {L : Type 0} (seen : L → LinkView) (i : ℕ) (old new : EndsView L) (net net' : NetView) (a b : SingleView) (t : ℕ) (is_dry : Bool) : Type 0 where
-  pub in_turn : (start : NetView) → InTurn seen start old net a t 0 → InTurn seen start new net' b t 0
+  pub in_turn : (start : Beginning) → InTurn seen start old net a t 0 → InTurn seen start new net' b t 0
   pub ends : SameEnds old new
   pub quietly : Quietly a b
   pub dry : IsDry is_dry b
@@ -54,7 +53,7 @@ pub record Dialing {L : Type 0} (seen : L → LinkView) (i : ℕ) (old new : End
   pub idles : net.idles ≤ net'.idles
   pub faults : net.faults ≤ net'.faults
   pub lengths : length new.dialers ≡ length old.dialers
-  pub dialers : (start : NetView) → InTurn seen start old net a t 0 → AllByRecursion (IsDialed (net.opened ≡ start.opened) (before_last_tick (past_of a.seen))) old.dialers → DialedTo (past_of a.seen) i (net'.opened ≡ start.opened) old.dialers new.dialers
+  pub dialers : (start : Beginning) → InTurn seen start old net a t 0 → AllByRecursion (IsDialed (net.opened ≡ start.net.opened) (before_last_tick (past_of a.seen))) old.dialers → DialedTo (past_of a.seen) i (net'.opened ≡ start.net.opened) old.dialers new.dialers
   pub rose : CanRise net'.idles → CanRise net'.faults → sum_of net + tries_of new.dialers ≤ sum_of net' + tries_of old.dialers
   pub got : GotBack net net'
   pub turned : TurnedTo i t net net' old.dialers new.dialers
@@ -83,7 +82,7 @@ module _ {L : Type 0} (seen : L → LinkView) where
   }
 
   module _ (i : ℕ) (old mid : EndsView L) (net net1 : NetView) (a b : SingleView) (t : ℕ) (fits : t ≤ 2 ^ 64 - 1) (d : Bool) (was : Dialing seen i old mid net net1 a b t d) where
-    same_first : (start : NetView) → InTurn seen start old net a t 0 → net1.opened ≡ start.opened → net.opened ≡ start.opened
+    same_first : (start : Beginning) → InTurn seen start old net a t 0 → net1.opened ≡ start.net.opened → net.opened ≡ start.net.opened
     same_first start x e = omega (arith, e, was.opened, x.links.kept.opened)
 
     pub dialing_waits : ((e : Dialer) → slice_get mid.dialers i ≡ Some e → IsDue t e → ⊥) → Dialing seen (i + 1) old mid net net1 a b t d
@@ -98,7 +97,7 @@ module _ {L : Type 0} (seen : L → LinkView) where
       idles = was.idles;
       faults = was.faults;
       lengths = was.lengths;
-      dialers = λ start x all. subst (λ (k : ℕ). DialedTo (past_of a.seen) k (net1.opened ≡ start.opened) old.dialers mid.dialers) (sym (add-one i)) (next_not_due (past_of a.seen) (before_last_tick (past_of a.seen)) t (ticks_at seen start old net a t 0 x) fits i (net.opened ≡ start.opened) (net1.opened ≡ start.opened) old.dialers mid.dialers all (was.dialers start x all) (same_first start x) no_due);
+      dialers = λ start x all. subst (λ (k : ℕ). DialedTo (past_of a.seen) k (net1.opened ≡ start.net.opened) old.dialers mid.dialers) (sym (add-one i)) (next_not_due (past_of a.seen) (before_last_tick (past_of a.seen)) t (ticks_at seen start old net a t 0 x) fits i (net.opened ≡ start.net.opened) (net1.opened ≡ start.net.opened) old.dialers mid.dialers all (was.dialers start x all) (same_first start x) no_due);
       rose = was.rose;
       got = was.got;
       turned = subst (λ (k : ℕ). TurnedTo k t net net1 old.dialers mid.dialers) (sym (add-one i)) (turned_not_due t net net1 i old.dialers mid.dialers was.turned no_due);
@@ -107,7 +106,7 @@ module _ {L : Type 0} (seen : L → LinkView) where
     }
 
     pub dialing_next : (new : EndsView L) (net2 : NetView) (c : SingleView) (e : Bool) → ((q : Dialer) → slice_get mid.dialers i ≡ Some q → IsDue t q)
-        → ((start : NetView) → InTurn seen start mid net1 b t 0 → InTurn seen start new net2 c t 0) → length new.newcomers ≤ length mid.newcomers + 1 → AsksNet net1 net2 → DialsAt i t net1 net2 mid.dialers new.dialers → Redials i t net1 net2 mid.dialers new.dialers → Quietly b c → SameEnds mid new → IsDry e c
+        → ((start : Beginning) → InTurn seen start mid net1 b t 0 → InTurn seen start new net2 c t 0) → length new.newcomers ≤ length mid.newcomers + 1 → AsksNet net1 net2 → DialsAt i t net1 net2 mid.dialers new.dialers → Redials i t net1 net2 mid.dialers new.dialers → Quietly b c → SameEnds mid new → IsDry e c
         → KnowsLinks net1.opened net2 new.dialers → (AreYoung t 0 mid.newcomers → AreYoung t 0 new.newcomers) → Dialing seen (i + 1) old new net net2 a c t e
     dialing_next new net2 c e due in_turn few asks dials redials quietly same dry known young = record {
       in_turn = λ start x. in_turn start (was.in_turn start x);
@@ -120,7 +119,7 @@ module _ {L : Type 0} (seen : L → LinkView) where
       idles = omega (arith, asks.idles, was.idles);
       faults = omega (arith, asks.faults, was.faults);
       lengths = dials_long i t (net2.opened ≡ net1.opened) mid.dialers new.dialers dials ∙ was.lengths;
-      dialers = λ start x all. subst (λ (k : ℕ). DialedTo (past_of a.seen) k (net2.opened ≡ start.opened) old.dialers new.dialers) (sym (add-one i)) (next_dialed (past_of a.seen) (before_last_tick (past_of a.seen)) t (ticks_at seen start old net a t 0 x) fits i (net.opened ≡ start.opened) (net1.opened ≡ start.opened) (net2.opened ≡ net1.opened) (net2.opened ≡ start.opened)
+      dialers = λ start x all. subst (λ (k : ℕ). DialedTo (past_of a.seen) k (net2.opened ≡ start.net.opened) old.dialers new.dialers) (sym (add-one i)) (next_dialed (past_of a.seen) (before_last_tick (past_of a.seen)) t (ticks_at seen start old net a t 0 x) fits i (net.opened ≡ start.net.opened) (net1.opened ≡ start.net.opened) (net2.opened ≡ net1.opened) (net2.opened ≡ start.net.opened)
           old.dialers mid.dialers new.dialers all (was.dialers start x all) dials
           (λ m. omega (arith, m, was.opened, asks.opened, x.links.kept.opened)) (λ m. omega (arith, m, was.opened, asks.opened, x.links.kept.opened)) (λ m. omega (arith, m, was.opened, asks.opened, x.links.kept.opened)) due);
       rose = λ x y.
@@ -133,30 +132,26 @@ module _ {L : Type 0} (seen : L → LinkView) where
       young = λ x. young (was.young x);
     }
 
-    pub dialable_here : (start : NetView) → InTurn seen start old net a t 0 → AllByRecursion (IsDialed (net.opened ≡ start.opened) (before_last_tick (past_of a.seen))) old.dialers → (e : Dialer) → slice_get mid.dialers i ≡ Some e → IsTcpAddress e.addr
-    dialable_here start x all e at = dialable_at (past_of a.seen) (before_last_tick (past_of a.seen)) t (ticks_at seen start old net a t 0 x) fits i i (net.opened ≡ start.opened) (net1.opened ≡ start.opened) old.dialers mid.dialers e all (was.dialers start x all) at
+    pub dialable_here : (start : Beginning) → InTurn seen start old net a t 0 → AllByRecursion (IsDialed (net.opened ≡ start.net.opened) (before_last_tick (past_of a.seen))) old.dialers → (e : Dialer) → slice_get mid.dialers i ≡ Some e → IsDialable e.addr
+    dialable_here start x all e at = dialable_at (past_of a.seen) (before_last_tick (past_of a.seen)) t (ticks_at seen start old net a t 0 x) fits i i (net.opened ≡ start.net.opened) (net1.opened ≡ start.net.opened) old.dialers mid.dialers e all (was.dialers start x all) at
 
-    none_there : (start : NetView) → InTurn seen start mid net1 b t 0 → 256 ≤ length mid.newcomers → net1.opened ≡ start.opened → ⊥
+    none_there : (start : Beginning) → InTurn seen start mid net1 b t 0 → 256 ≤ length mid.newcomers → net1.opened ≡ start.net.opened → ⊥
     none_there start x many same = go mid.newcomers refl
       where
         go : (ns : List (Newcomer L)) → mid.newcomers ≡ ns → ⊥
         go [] e = omega (arith, many, ap length e)
         go (n ∷ ns) e =
             let at : places seen (in_order 0 (n ∷ ns)) ≡ greeting (past_of b.seen) = subst (λ ms. places seen (in_order 0 ms) ≡ greeting (past_of b.seen)) e x.links.progressing.all in
-            let on : has (greeting (past_of b.seen)) (seen n.link).place ≡ true = ap (λ (xs : List ℕ). has xs (seen n.link).place) (sym at) ∙ rw (eq-eqb (seen n.link).place (seen n.link).place refl) refl in
-            let within = inside start.opened net1.opened (past_of b.seen) (seen n.link).place x.links.kept.in_place on in
+            let on : has (greeting (past_of b.seen)) (seen n.opening.link).place ≡ true = ap (λ (xs : List ℕ). has xs (seen n.opening.link).place) (sym at) ∙ rw (eq-eqb (seen n.opening.link).place (seen n.opening.link).place refl) refl in
+            let within = inside start.net.opened net1.opened (past_of b.seen) (seen n.opening.link).place x.links.kept.in_place on in
             omega (arith, within.0, within.1, same)
 
-    all_listen : (xs : List ℕ) → AllByRecursion (IsListener net) xs → AllByRecursion (IsListener net1) xs
-    all_listen [] all = tt
-    all_listen (x ∷ xs) all = (ap (λ m. get m x) was.listens ∙ all.0, all_listen xs all.1)
-
     -- after the last of them, or when so many are in progress
-    pub dialed_all : (start : NetView) → InTurn seen start old net a t 0 → (ticks (before_last_tick (past_of a.seen)) ≡ [] → length old.newcomers ≤ length old.listeners) → (length old.dialers ≤ i) ⊎ ((i < length old.dialers) × (256 ≤ length mid.newcomers))
+    pub dialed_all : (start : Beginning) → InTurn seen start old net a t 0 → (ticks (before_last_tick (past_of a.seen)) ≡ [] → length old.newcomers ≤ length old.listeners) → (length old.dialers ≤ i) ⊎ ((i < length old.dialers) × (256 ≤ length mid.newcomers))
         → NetStands start (past_of a.seen) (before_last_tick (past_of a.seen)) net old.listeners old.dialers → NetStands start (past_of b.seen) (past_of b.seen) net1 mid.listeners mid.dialers
     dialed_all start x few ended stands = record {
       few = omega (arith, stands.few, ap length was.ends.listeners, was.lengths);
-      listens = subst (AllByRecursion (IsListener net1)) (sym was.ends.listeners) (all_listen old.listeners stands.listens);
+      listens = subst (AllByRecursion (IsListener net1)) (sym was.ends.listeners) (listens_still seen net net1 old.listeners was.listens stands.listens);
       dials = dials ended;
       first = λ e. let some = subst (λ (ts : List ℕ). 0 < length ts) (sym (quiet_ticks a b was.quietly) ∙ e) x.ticked in absurd (omega (arith, some));
       idles = omega (arith, stands.idles, was.idles);
@@ -165,32 +160,32 @@ module _ {L : Type 0} (seen : L → LinkView) where
           let before = stands.rose (omega (arith, r, was.idles)) (omega (arith, s, was.faults)) in
           let after = was.rose r s in
           let w = quiet_where has_room a b was.quietly in
-          subst (λ (k : ℕ). sum_of start + k + tries_of mid.dialers ≤ sum_of net1) (ap (λ (m : ℕ). length old.listeners * m) (sym w) ∙ ap (λ (k : ℕ). k * ticks_where has_room (past_of b.seen)) (sym (ap length was.ends.listeners))) (omega (arith, before, after));
+          subst (λ (k : ℕ). sum_of start.net + k + tries_of mid.dialers ≤ sum_of net1) (ap (λ (m : ℕ). length old.listeners * m) (sym w) ∙ ap (λ (k : ℕ). k * ticks_where has_room (past_of b.seen)) (sym (ap length was.ends.listeners))) (omega (arith, before, after));
     }
       where
         t_is : ticks (past_of a.seen) ≡ ticks (before_last_tick (past_of a.seen)) ++ t ∷ []
         t_is = ticks_at seen start old net a t 0 x
 
-        to : DialedTo (past_of a.seen) i (net1.opened ≡ start.opened) old.dialers mid.dialers
+        to : DialedTo (past_of a.seen) i (net1.opened ≡ start.net.opened) old.dialers mid.dialers
         to = was.dialers start x stands.dials
 
         nothing : (ts : List ℕ) → length ts ≤ 0 → ts ≡ []
         nothing [] h = refl
         nothing (y ∷ ts) h = absurd (omega (arith, h))
 
-        now_all : AllByRecursion (IsDialed (net1.opened ≡ start.opened) (past_of a.seen)) mid.dialers → AllByRecursion (IsDialed (net1.opened ≡ start.opened) (past_of b.seen)) mid.dialers
+        now_all : AllByRecursion (IsDialed (net1.opened ≡ start.net.opened) (past_of a.seen)) mid.dialers → AllByRecursion (IsDialed (net1.opened ≡ start.net.opened) (past_of b.seen)) mid.dialers
         now_all all = mapped mid.dialers all
           where
             q : ticks (past_of b.seen) ≡ ticks (past_of a.seen)
             q = quiet_ticks a b was.quietly
 
-            mapped : (ds : List Dialer) → AllByRecursion (IsDialed (net1.opened ≡ start.opened) (past_of a.seen)) ds → AllByRecursion (IsDialed (net1.opened ≡ start.opened) (past_of b.seen)) ds
+            mapped : (ds : List Dialer) → AllByRecursion (IsDialed (net1.opened ≡ start.net.opened) (past_of a.seen)) ds → AllByRecursion (IsDialed (net1.opened ≡ start.net.opened) (past_of b.seen)) ds
             mapped [] h = tt
             mapped (d ∷ ds) h = (record { dialable = h.0.dialable; free = h.0.free; next = λ m. h.0.next m ∙ ap (λ ts. moment (next_from 0 ts)) (sym q); tries = λ m l. subst (λ ts. length (spaced_from 0 ts) ≤ d.tries) (sym q) (h.0.tries m (subst (λ ts. length ts < 2 ^ 64) q l)); once = λ l. h.0.once (subst (λ ts. 0 < length ts) q l); begun = λ e. h.0.begun (sym q ∙ e) }, mapped ds h.1)
 
-        dials : (length old.dialers ≤ i) ⊎ ((i < length old.dialers) × (256 ≤ length mid.newcomers)) → AllByRecursion (IsDialed (net1.opened ≡ start.opened) (past_of b.seen)) mid.dialers
-        dials (inl all) = now_all (all_dialed (past_of a.seen) (before_last_tick (past_of a.seen)) t t_is fits i (net1.opened ≡ start.opened) old.dialers mid.dialers to all)
-        dials (inr early) = now_all (rest_not_tried (past_of a.seen) (before_last_tick (past_of a.seen)) t t_is fits i (net.opened ≡ start.opened) (net1.opened ≡ start.opened) old.dialers mid.dialers stands.dials to (same_first start x) (none_there start (was.in_turn start x) early.1) (some (cases_lt 0 (length (ticks (before_last_tick (past_of a.seen)))))))
+        dials : (length old.dialers ≤ i) ⊎ ((i < length old.dialers) × (256 ≤ length mid.newcomers)) → AllByRecursion (IsDialed (net1.opened ≡ start.net.opened) (past_of b.seen)) mid.dialers
+        dials (inl all) = now_all (all_dialed (past_of a.seen) (before_last_tick (past_of a.seen)) t t_is fits i (net1.opened ≡ start.net.opened) old.dialers mid.dialers to all)
+        dials (inr early) = now_all (rest_not_tried (past_of a.seen) (before_last_tick (past_of a.seen)) t t_is fits i (net.opened ≡ start.net.opened) (net1.opened ≡ start.net.opened) old.dialers mid.dialers stands.dials to (same_first start x) (none_there start (was.in_turn start x) early.1) (some (cases_lt 0 (length (ticks (before_last_tick (past_of a.seen)))))))
           where
             some : (0 < length (ticks (before_last_tick (past_of a.seen)))) ⊎ (length (ticks (before_last_tick (past_of a.seen))) ≤ 0) → 0 < length (ticks (before_last_tick (past_of a.seen)))
             some (inl lt) = lt

@@ -1,9 +1,8 @@
 -- A link that was handed out just now, and what asking the net leaves.
-use Rattle.std.proofs.Common.{◌≡◌, ◌<◌, ◌∷◌, ℕ, zero, suc, List, length, Some, refl, sym, ap, subst, ◌∙◌}
+use Rattle.std.proofs.Common.{◌≡◌, ◌<◌, ℕ, List, length, Option, Some, Result, Ok, IfOk, refl, sym, ap, subst, ◌∙◌}
 use Rattle.turn_lock.specs.declared.turn.Turn.{Turn}
 use Rattle.sp_base.specs.Views.{LinkView, NetView}
 use Rattle.sp_base.specs.Steps.{IsHandedOut, Untouched}
-use Rattle.sp_base.specs.declared.addr.Scheme.TheVariants as schemes
 use Rattle.sp_base.specs.declared.role.Role.{Role}
 use Rattle.sp_history.specs.declared.entry.Entry.{Entry}
 use Rattle.sp_history.specs.declared.entry.Entry.TheVariants.{Met}
@@ -13,10 +12,16 @@ use Rattle.sp_core.specs.Standing.{HasFirst}
 use Rattle.sp_single.specs.Singles.{SingleView, TookOne}
 use Rattle.cat_play.specs.Running.{has_dry_miss}
 use Rattle.sp_ends.specs.declared.newcomer.Newcomer.{Newcomer}
-use Rattle.sp_ends.specs.Newcomers.{IsUnderWay}
-use Rattle.sp_ends.specs.Standing.{EndsView, LinksKept, LinksStand}
-use Rattle.sp_ends.specs.Turning.{Quietly, InTurn, InTurnWith}
-use Rattle.sp_ends.proofs.Hands.{link_met}
+use Rattle.link_opening.specs.declared.way.Way.{Way}
+use Rattle.link_opening.specs.Openings.{scheme_for}
+use Rattle.link_opening.specs.Origins.{IsKnown}
+use Rattle.sp_base.specs.declared.error.NoMemory.{NoMemory}
+use Rattle.sp_base.specs.declared.addr.Scheme.{Scheme}
+use Rattle.sp_history.specs.declared.entry.Miss.TheVariants as misses
+use Rattle.cat_play.specs.Recording.{met_at}
+use Rattle.sp_ends.specs.Standing.{Beginning, EndsView, IsOfRun, IsCauseOf, LinksKept, LinksStand, HandStands}
+use Rattle.sp_ends.specs.Turning.{Quietly, InTurn, InTurnWith, IsNewcomer, Arrives}
+use Rattle.sp_ends.proofs.Hands.{link_met, met_then, hand_first}
 use Rattle.sp_ends.proofs.Turns.{first_play, quiet_one, quiet_now, quiet_ticks, sound_one, dry_first, after_one}
 
 abbrev pub MeetsAt : ℕ → Setting → List (Turn Entry) → Turn Entry → Type 0
@@ -28,26 +33,55 @@ meets_quiet place a b took = quiet_one (MeetsAt place) a b took (first_play (Met
 pub meets_dry : (place : ℕ) (a b : SingleView) → TookOne (MeetsAt place) a b → has_dry_miss (past_of b.seen) ≡ has_dry_miss (past_of a.seen)
 meets_dry place a b took = dry_first (Met place) (MeetsAt place) a b took took.said
 
--- a link that was handed out stands before the newcomers, once it is met
-pub welcomed : {L : Type 0} (seen : L → LinkView) (start before net : NetView) (ends : EndsView L) (a b : SingleView) (t : ℕ) (n : Newcomer L) (link : L) (place : ℕ) (role : Role) → place ≡ (seen link).place → n.link ≡ link → n.met ≡ t → role ≡ ends.role
-    → TookOne (MeetsAt place) a b → IsHandedOut (seen link) (Some schemes.Tcp) before net → IsUnderWay seen role n → InTurn seen start ends before a t 0 → InTurnWith seen start n ends net b t 0
-welcomed seen start before net ends a b t n link place role place_is link_is met_is role_is took handed way i =
+-- a link that was handed out is in hand, once it is met
+pub met_hand : {L : Type 0} (seen : L → LinkView) (start : Beginning) (before net : NetView) (ends : EndsView L) (a b : SingleView) (t : ℕ) (link : LinkView) (place : ℕ) (scheme : Option Scheme) → place ≡ link.place → TookOne (MeetsAt place) a b → IsHandedOut link scheme before net → InTurn seen start ends before a t 0
+    → HandStands seen b.setting start b.seen net ends.newcomers 0 link
+met_hand seen start before net ends a b t link place scheme at took handed i =
+    let first : HasFirst (Met link.place) took.turn = subst (λ (p : ℕ). HasFirst (Met p) took.turn) at took.said in
+    after_one (MeetsAt place) a b took (λ z h. HandStands seen z start h net ends.newcomers 0 link) (λ l. link_met seen a.setting start before net a.seen took.turn ends.newcomers link scheme handed first l i.links)
+
+-- it was met at this tick
+met_when : {L : Type 0} (seen : L → LinkView) (start : Beginning) (before net : NetView) (ends : EndsView L) (a b : SingleView) (t : ℕ) (link : LinkView) (place : ℕ) → place ≡ link.place → TookOne (MeetsAt place) a b → InTurn seen start ends before a t 0 → met_at (past_of b.seen) link.place ≡ Some t
+met_when seen start before net ends a b t link place at took i =
+    let first : HasFirst (Met link.place) took.turn = subst (λ (p : ℕ). HasFirst (Met p) took.turn) at took.said in
+    after_one (MeetsAt place) a b took (λ z h. met_at (past_of h) link.place ≡ Some t) (λ l. met_then seen a.setting start before net a.seen took.turn link first l i.links.kept ∙ ap Some (sym i.now_is))
+
+scheme_is : (a b : Scheme) → Some a ≡ Some b → a ≡ b
+scheme_is a b e = cc
+
+-- the newcomer over it stands before the others
+pub welcomed : {L : Type 0} (seen : L → LinkView) (start : Beginning) (before net : NetView) (ends : EndsView L) (a b : SingleView) (t : ℕ) (n : Newcomer L) (link : L) (place : ℕ) (role : Role) (way : Result Way NoMemory) (begins : Way) → place ≡ (seen link).place → way ≡ Ok begins → IsNewcomer seen link role begins t n → role ≡ ends.role
+    → TookOne (MeetsAt place) a b → Arrives start.origins (seen link) way before net → InTurn seen start ends before a t 0 → InTurnWith seen start n ends net b t 0
+welcomed seen start before net ends a b t n link place role way begins place_is way_is newcomer role_is took r i =
+    let quiet = meets_quiet place a b took in
     let setting_is : a.setting.role ≡ b.setting.role = ap (λ (z : Setting). z.role) (sym took.setting) in
-    let under : IsUnderWay seen a.setting.role n = subst (λ (r : Role). IsUnderWay seen r n) (role_is ∙ i.role) way in
-    let at : place ≡ (seen n.link).place = place_is ∙ ap (λ (l : _). (seen l).place) (sym link_is) in
-    let given : IsHandedOut (seen n.link) (Some schemes.Tcp) before net = subst (λ (l : _). IsHandedOut (seen l) (Some schemes.Tcp) before net) (sym link_is) handed in
-    let first : HasFirst (Met (seen n.link).place) took.turn = subst (λ (p : ℕ). HasFirst (Met p) took.turn) at took.said in
+    let same : begins ≡ r.begins = subst (λ (w : Result Way NoMemory). IfOk w (λ x. x ≡ r.begins)) way_is r.is in
+    let begun : n.opening.way ≡ r.begins = newcomer.fresh.way_is ∙ same in
+    let link_is : (seen link) ≡ (seen n.opening.link) = ap seen (sym newcomer.fresh.link_is) in
+    let hand = met_hand seen start before net ends a b t (seen link) place (Some (scheme_for r.begins)) place_is took r.handed i in
+    let run : IsOfRun seen start.origins b.setting n.opening = record {
+      role = newcomer.fresh.role_is ∙ (role_is ∙ (i.role ∙ setting_is));
+      scheme = ap (λ (v : LinkView). v.scheme) (sym link_is) ∙ (scheme_is (seen link).scheme (scheme_for r.begins) r.handed.scheme ∙ ap scheme_for (sym begun));
+      known = subst (λ (w : Way). IsKnown start.origins w) (sym begun) r.known;
+    } in
+    let met : met_at (past_of b.seen) (seen n.opening.link).place ≡ Some n.met =
+    subst (λ (v : LinkView). met_at (past_of b.seen) v.place ≡ Some n.met) link_is (met_when seen start before net ends a b t (seen link) place place_is took i ∙ ap Some (sym newcomer.met_is)) in
     record {
       role = i.role ∙ setting_is;
-      links = after_one (MeetsAt place) a b took (λ z h. LinksStand seen z start h net (n ∷ ends.newcomers) (suc zero)) (λ l. link_met seen a.setting start before net a.seen took.turn ends.newcomers n given first l under (met_is ∙ i.now_is) i.links);
-      now_is = quiet_now t a b (meets_quiet place a b took) i.now_is;
-      ticked = subst (λ (ts : List ℕ). 0 < length ts) (sym (quiet_ticks a b (meets_quiet place a b took))) i.ticked;
+      links = hand_first seen b.setting start net b.seen ends.newcomers n (subst (λ (v : LinkView). HandStands seen b.setting start b.seen net ends.newcomers 0 v) link_is hand) newcomer.under_way run met;
+      of_run = i.of_run;
+      now_is = quiet_now t a b quiet i.now_is;
+      ticked = subst (λ (ts : List ℕ). 0 < length ts) (sym (quiet_ticks a b quiet)) i.ticked;
       sound = sound_one (MeetsAt place) a b took;
     }
 
+-- out of memory is a cause of any link that arrives
+pub dry_cause : (start : Beginning) (z : Setting) (h : List (Turn Entry)) (link : LinkView) (way : Result Way NoMemory) (before net : NetView) → Arrives start.origins link way before net → IsCauseOf start.origins z h misses.NoMemory link
+dry_cause start z h link way before net r = (r.begins, (scheme_is link.scheme (scheme_for r.begins) r.handed.scheme, r.known), tt)
+
 -- ---- No link was handed out
 
-module _ {L : Type 0} (seen : L → LinkView) (z : Setting) (start : NetView) (h : List (Turn Entry)) where
+module _ {L : Type 0} (seen : L → LinkView) (z : Setting) (start : Beginning) (h : List (Turn Entry)) where
   same_kept : (net net' : NetView) → net'.opened ≡ net.opened → net'.back ≡ net.back → LinksKept z start h net → LinksKept z start h net'
   same_kept net net' o b k = subst (LinksKept z start h) is k'
     where
@@ -66,5 +100,5 @@ module _ {L : Type 0} (seen : L → LinkView) (z : Setting) (start : NetView) (h
   pub same_links : (net net' : NetView) (ns : List (Newcomer L)) (k : ℕ) → Untouched net net' → LinksStand seen z start h net ns k → LinksStand seen z start h net' ns k
   same_links net net' ns k u s = record { kept = same_kept net net' u.opened u.back s.kept; progressing = s.progressing }
 
-pub untouched : {L : Type 0} (seen : L → LinkView) (start : NetView) (ends : EndsView L) (net net' : NetView) (s : SingleView) (t k : ℕ) → Untouched net net' → InTurn seen start ends net s t k → InTurn seen start ends net' s t k
-untouched seen start ends net net' s t k u i = record { role = i.role; links = same_links seen s.setting start s.seen net net' ends.newcomers k u i.links; now_is = i.now_is; ticked = i.ticked; few = i.few; sound = i.sound }
+pub untouched : {L : Type 0} (seen : L → LinkView) (start : Beginning) (ends : EndsView L) (net net' : NetView) (s : SingleView) (t k : ℕ) → Untouched net net' → InTurn seen start ends net s t k → InTurn seen start ends net' s t k
+untouched seen start ends net net' s t k u i = record { role = i.role; links = same_links seen s.setting start s.seen net net' ends.newcomers k u i.links; of_run = i.of_run; now_is = i.now_is; ticked = i.ticked; few = i.few; sound = i.sound }

@@ -1,6 +1,7 @@
 -- Parts of a turn of the ends.
 use Rattle.std.proofs.Common.{◌≡◌, refl, ap, sym, ◌∙◌, subst, List, [], ◌∷◌, ◌++◌, ℕ, ◌+◌, ◌≤◌, ◌<◌, Bool, true, false, cond, arith, length, Some, eqb-true}
 use Rattle.std.specs.Prelude.{zero, suc, ◌==◌}
+use Rattle.std.specs.List.{AllByRecursion}
 use Rattle.turn_lock.specs.declared.turn.Turn.{Turn}
 use Rattle.sp_base.specs.Views.{LinkView, NetView}
 use Rattle.sp_base.specs.Steps.{AfterGiveBack}
@@ -17,9 +18,12 @@ use Rattle.sp_core.specs.Standing.{HasFirst}
 use Rattle.sp_single.specs.Singles.{SingleView, TookOne}
 use Rattle.cat_play.specs.Recording.{place_of}
 use Rattle.sp_ends.specs.declared.newcomer.Newcomer.{Newcomer}
+use Rattle.sp_ends.specs.declared.listener.Listener.{Listener}
 use Rattle.sp_ends.specs.declared.dialer.Dialer.{Dialer}
-use Rattle.sp_ends.specs.Standing.{EndsView, LinksStand, HasCarried, IsAskedIn, SameCounts}
-use Rattle.sp_ends.specs.Turning.{Quietly, IsSound, InTurn, InTurnWith, SameEnds, IsSameDialer, AreSameDialers, SameButPlaces, Serves, DialsOne}
+use Rattle.sp_base.specs.declared.addr.Addr.{Addr}
+use Rattle.link_opening.specs.Origins.{Origins, IsAmong}
+use Rattle.sp_ends.specs.Standing.{Beginning, EndsView, AreOfRun, LinksStand, HasCarried, IsAskedIn, SameCounts}
+use Rattle.sp_ends.specs.Turning.{Quietly, IsSound, InTurn, InTurnWith, SameEnds, IsSameDialer, AreSameDialers, SameButPlaces, Serves, DialsOne, addrs_of}
 use Rattle.sp_ends.proofs.Places.{gone}
 use Rattle.sp_ends.proofs.Leaving.{has_other}
 use Rattle.sp_ends.proofs.Standing.{settles, links_stay, are_progressing}
@@ -54,6 +58,43 @@ dialers_long [] [] x = refl
 dialers_long (d ∷ ds) (e ∷ es) x = ap suc (dialers_long ds es x.1)
 dialers_long [] (e ∷ es) x = absurd x
 dialers_long (d ∷ ds) [] x = absurd x
+
+-- each has its address
+pub dialers_addrs : (ds es : List Dialer) → AreSameDialers ds es → addrs_of es ≡ addrs_of ds
+dialers_addrs [] [] x = refl
+dialers_addrs (d ∷ ds) (e ∷ es) x = ap (λ (a : Addr). a ∷ addrs_of es) x.0.addr ∙ ap (λ (more : List Addr). d.addr ∷ more) (dialers_addrs ds es x.1)
+dialers_addrs [] (e ∷ es) x = absurd x
+dialers_addrs (d ∷ ds) [] x = absurd x
+
+pub dials_addrs : (i now : ℕ) (same : Type 0) (ds es : List Dialer) → DialsOne i now same ds es → addrs_of es ≡ addrs_of ds
+dials_addrs i now same [] [] x = refl
+dials_addrs zero now same (d ∷ ds) (e ∷ es) x = ap (λ (a : Addr). a ∷ addrs_of es) x.0.addr ∙ ap (λ (more : List Addr). d.addr ∷ more) (dialers_addrs ds es x.1)
+dials_addrs (suc i) now same (d ∷ ds) (e ∷ es) x = ap (λ (a : Addr). a ∷ addrs_of es) x.0.addr ∙ ap (λ (more : List Addr). d.addr ∷ more) (dials_addrs i now same ds es x.1)
+dials_addrs zero now same (d ∷ ds) [] x = absurd x
+dials_addrs (suc i) now same (d ∷ ds) [] x = absurd x
+dials_addrs zero now same [] (e ∷ es) x = absurd x
+dials_addrs (suc i) now same [] (e ∷ es) x = absurd x
+
+-- dialers of the same addresses
+same_addrs : (P : Addr → Type 0) (ds es : List Dialer) → addrs_of es ≡ addrs_of ds → AllByRecursion (λ (d : Dialer). P d.addr) ds → AllByRecursion (λ (d : Dialer). P d.addr) es
+same_addrs P ds [] e all = tt
+same_addrs P [] (d ∷ es) e all = cc
+same_addrs P (c ∷ ds) (d ∷ es) e all = (subst P (sym (first_is d.addr c.addr (addrs_of es) (addrs_of ds) e)) all.0, same_addrs P ds es (rest_is d.addr c.addr (addrs_of es) (addrs_of ds) e) all.1)
+  where
+    first_is : (a b : Addr) (xs ys : List Addr) → a ∷ xs ≡ b ∷ ys → a ≡ b
+    first_is a b xs ys e = cc
+
+    rest_is : (a b : Addr) (xs ys : List Addr) → a ∷ xs ≡ b ∷ ys → xs ≡ ys
+    rest_is a b xs ys e = cc
+
+-- the ends are the run's, later too
+pub of_run_on : {L : Type 0} (o : Origins) (old new : EndsView L) → SameEnds old new → AreOfRun o old → AreOfRun o new
+of_run_on o old new same r =
+    record {
+      listens = subst (AllByRecursion (λ (l : Listener). IsAmong l.addr o.listens)) (sym same.listeners) r.listens;
+      dials = same_addrs (λ (a : Addr). IsAmong a o.dials) old.dialers new.dialers same.dials r.dials;
+      dice = same.dice ∙ r.dice;
+    }
 
 pub dials_long : (i now : ℕ) (same : Type 0) (ds es : List Dialer) → DialsOne i now same ds es → length es ≡ length ds
 dials_long i now same [] [] x = refl
@@ -105,13 +146,13 @@ down_off z (_ ∷ past) p why a h = down_off z past p why a.1 h
 
 module _ {L : Type 0} where
   pub ends_none : (a : EndsView L) → SameEnds a a
-  ends_none a = record { role = refl; listeners = refl; dials = refl }
+  ends_none a = record { role = refl; dice = refl; listeners = refl; dials = refl }
 
   pub ends_both : (a b c : EndsView L) → SameEnds a b → SameEnds b c → SameEnds a c
-  ends_both a b c x y = record { role = y.role ∙ x.role; listeners = y.listeners ∙ x.listeners; dials = y.dials ∙ x.dials }
+  ends_both a b c x y = record { role = y.role ∙ x.role; dice = y.dice ∙ x.dice; listeners = y.listeners ∙ x.listeners; dials = y.dials ∙ x.dials }
 
   pub ends_lost : (a b : EndsView L) → SameButPlaces a b → SameEnds a b
-  ends_lost a b x = record { role = ap (λ (e : EndsView L). e.role) x.ends; listeners = ap (λ (e : EndsView L). e.listeners) x.ends; dials = dialers_long a.dialers b.dialers x.dialers }
+  ends_lost a b x = record { role = ap (λ (e : EndsView L). e.role) x.ends; dice = ap (λ (e : EndsView L). e.dice) x.ends; listeners = ap (λ (e : EndsView L). e.listeners) x.ends; dials = dialers_addrs a.dialers b.dialers x.dialers }
 
   pub newcomers_lost : (a b : EndsView L) → SameButPlaces a b → b.newcomers ≡ a.newcomers
   newcomers_lost a b x = ap (λ (e : EndsView L). e.newcomers) x.ends
@@ -122,18 +163,18 @@ module _ {L : Type 0} where
 
   -- ---- On in the turn
 
-  pub turn_on : (seen : L → LinkView) (start : NetView) (old new : EndsView L) (net net' : NetView) (time k k' : ℕ) (a b : SingleView) → SameEnds old new → Quietly a b → IsSound b → length new.newcomers ≤ 256 → InTurn seen start old net a time k → LinksStand seen b.setting start b.seen net' new.newcomers k' → InTurn seen start new net' b time k'
+  pub turn_on : (seen : L → LinkView) (start : Beginning) (old new : EndsView L) (net net' : NetView) (time k k' : ℕ) (a b : SingleView) → SameEnds old new → Quietly a b → IsSound b → length new.newcomers ≤ 256 → InTurn seen start old net a time k → LinksStand seen b.setting start b.seen net' new.newcomers k' → InTurn seen start new net' b time k'
   turn_on seen start old new net net' time k k' a b same quiet sound few i links =
-      record { role = same.role ∙ (i.role ∙ ap (λ (z : Setting). z.role) (sym quiet.setting)); links = links; now_is = quiet_now time a b quiet i.now_is; ticked = subst (λ (ts : List ℕ). 0 < length ts) (sym (quiet_ticks a b quiet)) i.ticked; few = few; sound = sound }
+      record { role = same.role ∙ (i.role ∙ ap (λ (z : Setting). z.role) (sym quiet.setting)); links = links; of_run = of_run_on start.origins old new same i.of_run; now_is = quiet_now time a b quiet i.now_is; ticked = subst (λ (ts : List ℕ). 0 < length ts) (sym (quiet_ticks a b quiet)) i.ticked; few = few; sound = sound }
 
   -- ---- A wire is taken
 
-  module _ (seen : L → LinkView) (start : NetView) (ns : List (Newcomer L)) (k : ℕ) (says : Setting → List (Turn Entry) → Turn Entry → Type 0) (a b : SingleView) (took : TookOne says a b) where
-    pub taken_stands : (net net' : NetView) (p : ℕ) (link : LinkView) → AfterGiveBack link net net' → place_of (past_of a.seen) p ≡ Some link.place → has (up (past_of a.seen)) p ≡ false → link.is_open ≡ false → IsAskedIn (past_of a.seen) link.place link → HasCarried a.setting a.seen p link → HasFirst (Taken p) took.turn → LinksStand seen a.setting start a.seen net ns k → LinksStand seen b.setting start b.seen net' ns k
+  module _ (seen : L → LinkView) (start : Beginning) (ns : List (Newcomer L)) (k : ℕ) (says : Setting → List (Turn Entry) → Turn Entry → Type 0) (a b : SingleView) (took : TookOne says a b) where
+    pub taken_stands : (net net' : NetView) (p : ℕ) (link : LinkView) → AfterGiveBack link net net' → place_of (past_of a.seen) p ≡ Some link.place → has (up (past_of a.seen)) p ≡ false → link.is_open ≡ false → IsAskedIn (past_of a.seen) link.place link → HasCarried start.origins a.setting a.seen p link → HasFirst (Taken p) took.turn → LinksStand seen a.setting start a.seen net ns k → LinksStand seen b.setting start b.seen net' ns k
     taken_stands net net' p link back is off shut asked carries first s =
         after_one says a b took (λ z h. LinksStand seen z start h net' ns k) (λ l. record {
           kept = kept_taken a.setting start net net' a.seen took.turn p link back is off shut asked carries first l s.kept;
-          progressing = are_progressing seen a.setting (past_of a.seen) (past_of (a.seen ++ took.turn ∷ [])) (met_after a.setting start net net' a.seen took.turn (Taken p) first refl l s.kept) (greeting_ticks_after a.setting start net net' a.seen took.turn (Taken p) first refl l s.kept) k ns (greeting_after a.setting start net net' a.seen took.turn (Taken p) first refl l s.kept) s.progressing;
+          progressing = are_progressing seen start.origins a.setting (past_of a.seen) (past_of (a.seen ++ took.turn ∷ [])) (met_after a.setting start net net' a.seen took.turn (Taken p) first refl l s.kept) (greeting_ticks_after a.setting start net net' a.seen took.turn (Taken p) first refl l s.kept) k ns (greeting_after a.setting start net net' a.seen took.turn (Taken p) first refl l s.kept) s.progressing;
         })
 
     -- nothing was taken
@@ -143,16 +184,16 @@ module _ {L : Type 0} where
   -- ---- Greetings
 
   -- the first of the newcomers is taken out
-  pub turn_with : (seen : L → LinkView) (start : NetView) (n : Newcomer L) (rest : List (Newcomer L)) (old new : EndsView L) (net : NetView) (time k k' : ℕ) (a : SingleView) → old.newcomers ≡ n ∷ rest → new ≡ record old { newcomers = rest } → k ≡ suc k' → InTurn seen start old net a time k → InTurnWith seen start n new net a time k'
+  pub turn_with : (seen : L → LinkView) (start : Beginning) (n : Newcomer L) (rest : List (Newcomer L)) (old new : EndsView L) (net : NetView) (time k k' : ℕ) (a : SingleView) → old.newcomers ≡ n ∷ rest → new ≡ record old { newcomers = rest } → k ≡ suc k' → InTurn seen start old net a time k → InTurnWith seen start n new net a time k'
   turn_with seen start n rest old new net time k k' a first is one i =
-      subst (λ (e : EndsView L). InTurnWith seen start n e net a time k') (sym is) (record { role = i.role; links = subst (λ (m : ℕ). LinksStand seen a.setting start a.seen net (n ∷ rest) m) one (subst (λ (ns : List (Newcomer L)). LinksStand seen a.setting start a.seen net ns k) first i.links); now_is = i.now_is; ticked = i.ticked; sound = i.sound })
+      subst (λ (e : EndsView L). InTurnWith seen start n e net a time k') (sym is) (record { role = i.role; links = subst (λ (m : ℕ). LinksStand seen a.setting start a.seen net (n ∷ rest) m) one (subst (λ (ns : List (Newcomer L)). LinksStand seen a.setting start a.seen net ns k) first i.links); of_run = record { listens = i.of_run.listens; dials = i.of_run.dials; dice = i.of_run.dice }; now_is = i.now_is; ticked = i.ticked; sound = i.sound })
 
   -- what became of it
-  pub turn_after : (seen : L → LinkView) (start : NetView) (n : Newcomer L) (old new : EndsView L) (net net' : NetView) (time k k' : ℕ) (a b : SingleView) → SameEnds old new → Quietly a b → IsSound b → length new.newcomers ≤ 256 → InTurnWith seen start n old net a time k → LinksStand seen b.setting start b.seen net' new.newcomers k' → InTurn seen start new net' b time k'
+  pub turn_after : (seen : L → LinkView) (start : Beginning) (n : Newcomer L) (old new : EndsView L) (net net' : NetView) (time k k' : ℕ) (a b : SingleView) → SameEnds old new → Quietly a b → IsSound b → length new.newcomers ≤ 256 → InTurnWith seen start n old net a time k → LinksStand seen b.setting start b.seen net' new.newcomers k' → InTurn seen start new net' b time k'
   turn_after seen start n old new net net' time k k' a b same quiet sound few i links =
-      record { role = same.role ∙ (i.role ∙ ap (λ (z : Setting). z.role) (sym quiet.setting)); links = links; now_is = quiet_now time a b quiet i.now_is; ticked = subst (λ (ts : List ℕ). 0 < length ts) (sym (quiet_ticks a b quiet)) i.ticked; few = few; sound = sound }
+      record { role = same.role ∙ (i.role ∙ ap (λ (z : Setting). z.role) (sym quiet.setting)); links = links; of_run = of_run_on start.origins old new same i.of_run; now_is = quiet_now time a b quiet i.now_is; ticked = subst (λ (ts : List ℕ). 0 < length ts) (sym (quiet_ticks a b quiet)) i.ticked; few = few; sound = sound }
 
   -- some newcomers less
   pub serves_less : (old new : EndsView L) (net : NetView) (s : SingleView) (rest : List (Newcomer L)) → new ≡ record old { newcomers = rest } → Serves old new net net s s
   serves_less old new net s rest is =
-      subst (λ (e : EndsView L). Serves old e net net s s) (sym is) (record { ends = record { role = refl; listeners = refl; dials = refl }; dialers = same_dialers old.dialers; counts = counts_none net; quietly = quiet_none s })
+      subst (λ (e : EndsView L). Serves old e net net s s) (sym is) (record { ends = record { role = refl; dice = refl; listeners = refl; dials = refl }; dialers = same_dialers old.dialers; counts = counts_none net; quietly = quiet_none s })

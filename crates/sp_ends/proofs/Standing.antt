@@ -18,9 +18,11 @@ use Rattle.cat_play.specs.Running.{has_dry_miss}
 use Rattle.cat_play.specs.Spending.{greeting_ticks, ticks_where, has_room}
 use Rattle.cat_play.specs.Steps.{AddsNone, moves_ends}
 use Rattle.sp_ends.specs.declared.newcomer.Newcomer.{Newcomer}
+use Rattle.sp_ends.specs.declared.listener.Listener.{Listener}
 use Rattle.sp_ends.specs.declared.dialer.Dialer.{Dialer}
+use Rattle.link_opening.specs.Origins.{Origins}
 use Rattle.sp_ends.specs.Dialing.{IsDialed}
-use Rattle.sp_ends.specs.Standing.{IsProgressing, WasGreeted, AreProgressing, LinksStand, NetStands, EndsView, EndsStand}
+use Rattle.sp_ends.specs.Standing.{Beginning, IsProgressing, WasGreeted, AreProgressing, LinksStand, NetStands, EndsView, EndsStand}
 use Rattle.sp_ends.proofs.Leaving.{past_of_more, NoneIn, turns_leave, moves_links}
 use Rattle.sp_ends.proofs.Places.{left_of, right_of}
 use Rattle.sp_ends.proofs.Keeping.{kept, legal_rest, greeting_is, met_is}
@@ -80,22 +82,22 @@ settles (e ∷ entries) h = rw (one e h.0, settles entries h.1) refl
 
 -- ---- Links in progress
 
-module _ {L : Type 0} (seen : L → LinkView) (z : Setting) (old new : List Entry) (met : (place : ℕ) → met_at new place ≡ met_at old place) where
+module _ {L : Type 0} (seen : L → LinkView) (o : Origins) (z : Setting) (old new : List Entry) (met : (place : ℕ) → met_at new place ≡ met_at old place) where
   -- so many ticks more at most
-  pub progress_later : (less more : ℕ) → ((place : ℕ) → greeting_ticks new place + less ≤ greeting_ticks old place + more) → (n : Newcomer L) → IsProgressing seen z old less n → IsProgressing seen z new more n
+  pub progress_later : (less more : ℕ) → ((place : ℕ) → greeting_ticks new place + less ≤ greeting_ticks old place + more) → (n : Newcomer L) → IsProgressing seen o z old less n → IsProgressing seen o z new more n
   progress_later less more t n p =
-      record { under_way = p.under_way; scheme = p.scheme; met = met (seen n.link).place ∙ p.met; asked = λ i s. let a = p.asked i s in let b = t (seen n.link).place in omega (arith, a, b) }
+      record { under_way = p.under_way; of_run = p.of_run; met = met (seen n.opening.link).place ∙ p.met; asked = λ i s. let a = p.asked i s in let b = t (seen n.opening.link).place in omega (arith, a, b) }
 
   module _ (same : (place : ℕ) → greeting_ticks new place ≡ greeting_ticks old place) where
-    pub progress_same : (slack : ℕ) (n : Newcomer L) → IsProgressing seen z old slack n → IsProgressing seen z new slack n
+    pub progress_same : (slack : ℕ) (n : Newcomer L) → IsProgressing seen o z old slack n → IsProgressing seen o z new slack n
     progress_same slack n p = progress_later slack slack (λ place. let e = same place in omega (arith, e)) n p
 
-    pub are_progressing : (k : ℕ) (ns : List (Newcomer L)) → greeting new ≡ greeting old → AreProgressing seen z old k ns → AreProgressing seen z new k ns
+    pub are_progressing : (k : ℕ) (ns : List (Newcomer L)) → greeting new ≡ greeting old → AreProgressing seen o z old k ns → AreProgressing seen o z new k ns
     are_progressing k ns g a =
         record {
           within = a.within;
-          front = all_mapped (IsProgressing seen z old 1) (IsProgressing seen z new 1) (progress_same 1) (take k ns) a.front;
-          rest = all_mapped (WasGreeted seen z old) (WasGreeted seen z new) (λ n w. record { progressing = progress_same 0 n w.progressing; tried = w.tried }) (drop k ns) a.rest;
+          front = all_mapped (IsProgressing seen o z old 1) (IsProgressing seen o z new 1) (progress_same 1) (take k ns) a.front;
+          rest = all_mapped (WasGreeted seen o z old) (WasGreeted seen o z new) (λ n w. record { progressing = progress_same 0 n w.progressing; undone = w.undone; tried = w.tried }) (drop k ns) a.rest;
           all = a.all ∙ sym g;
         }
 
@@ -121,13 +123,13 @@ pub same_dry : (e : Entry) (past : List Entry) → moves_ends e ≡ false → ha
 same_dry (NoUp place miss) past h = cc
 same_dry _ past h = refl
 
-module _ (start net : NetView) (listeners : List ℕ) (dialers : List Dialer) (asked dialed asked' dialed' : List Entry) where
+module _ (start : Beginning) (net : NetView) (listeners : List Listener) (dialers : List Dialer) (asked dialed asked' dialed' : List Entry) where
   pub net_same : ticks asked' ≡ ticks asked → ticks_where has_room asked' ≡ ticks_where has_room asked → ticks dialed' ≡ ticks dialed → NetStands start asked dialed net listeners dialers → NetStands start asked' dialed' net listeners dialers
   net_same a w d n =
       record {
         few = n.few;
         listens = n.listens;
-        dials = all_mapped (IsDialed (net.opened ≡ start.opened) dialed) (IsDialed (net.opened ≡ start.opened) dialed') (λ x i. record { dialable = i.dialable; free = i.free; begun = λ e. i.begun (sym d ∙ e); next = λ s. rw d (i.next s); tries = λ s few. let f : length (ticks dialed) < 2 ^ 64 = rw d at few in rw d (i.tries s f); once = λ l. i.once (rw d at l) }) dialers n.dials;
+        dials = all_mapped (IsDialed (net.opened ≡ start.net.opened) dialed) (IsDialed (net.opened ≡ start.net.opened) dialed') (λ x i. record { dialable = i.dialable; free = i.free; begun = λ e. i.begun (sym d ∙ e); next = λ s. rw d (i.next s); tries = λ s few. let f : length (ticks dialed) < 2 ^ 64 = rw d at few in rw d (i.tries s f); once = λ l. i.once (rw d at l) }) dialers n.dials;
         first = λ e. n.first (sym a ∙ e);
         idles = n.idles;
         faults = n.faults;
@@ -158,23 +160,23 @@ module _ {L : Type 0} (seen : L → LinkView) (z : Setting) (h turns : List (Tur
   pub now_is : now (past_of (h ++ turns)) ≡ now (past_of h)
   now_is = same_of now same_now
 
-  module _ (start net : NetView) (l : Legal z (h ++ turns)) where
+  module _ (start : Beginning) (net : NetView) (l : Legal z (h ++ turns)) where
     pub links_stay : (ns : List (Newcomer L)) (k : ℕ) → LinksStand seen z start h net ns k → LinksStand seen z start (h ++ turns) net ns k
     links_stay ns k s =
         record {
           kept = kept z h turns no_links start net s.kept (legal_rest z h turns l).0 (legal_rest z h turns l).1;
-          progressing = are_progressing seen z (past_of h) (past_of (h ++ turns)) (met_is z h turns no_links) (λ place. asked_are (λ before. has (greeting before) place)) k ns (greeting_is z h turns no_links) s.progressing;
+          progressing = are_progressing seen start.origins z (past_of h) (past_of (h ++ turns)) (met_is z h turns no_links) (λ place. asked_are (λ before. has (greeting before) place)) k ns (greeting_is z h turns no_links) s.progressing;
         }
 
-    pub net_stays : (listeners : List ℕ) (dialers : List Dialer) → NetStands start (past_of h) (past_of h) net listeners dialers → NetStands start (past_of (h ++ turns)) (past_of (h ++ turns)) net listeners dialers
+    pub net_stays : (listeners : List Listener) (dialers : List Dialer) → NetStands start (past_of h) (past_of h) net listeners dialers → NetStands start (past_of (h ++ turns)) (past_of (h ++ turns)) net listeners dialers
     net_stays listeners dialers n = net_same start net listeners dialers (past_of h) (past_of h) (past_of (h ++ turns)) (past_of (h ++ turns)) ticks_are (asked_are has_room) ticks_are n
 
     -- between two rounds
     pub ends_stay : (ends : EndsView L) → EndsStand seen z start h net ends → EndsStand seen z start (h ++ turns) net ends
     ends_stay ends s =
-        record { role = s.role; links = links_stay ends.newcomers 0 s.links; asked = net_stays ends.listeners ends.dialers s.asked; few = s.few }
+        record { role = s.role; links = links_stay ends.newcomers 0 s.links; asked = net_stays ends.listeners ends.dialers s.asked; of_run = s.of_run; few = s.few }
 
 -- the same, where the later history is given
-pub linkless : {L : Type 0} (seen : L → LinkView) (z : Setting) (start net : NetView) (h h' : List (Turn Entry)) (ends : EndsView L) → AddsNone moves_ends h h' → Legal z h' → EndsStand seen z start h net ends → EndsStand seen z start h' net ends
+pub linkless : {L : Type 0} (seen : L → LinkView) (z : Setting) (start : Beginning) (net : NetView) (h h' : List (Turn Entry)) (ends : EndsView L) → AddsNone moves_ends h h' → Legal z h' → EndsStand seen z start h net ends → EndsStand seen z start h' net ends
 linkless seen z start net h h' ends (turns, is, none) l s =
     subst (λ (g : List (Turn Entry)). EndsStand seen z start g net ends) (sym is) (ends_stay seen z h turns none start net (subst (λ (g : List (Turn Entry)). Legal z g) is l) ends s)

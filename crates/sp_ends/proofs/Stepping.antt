@@ -17,13 +17,13 @@ use Rattle.sp_history.proofs.Appending.{past_of-append}
 use Rattle.sp_history.proofs.Backing.{legal_allowed}
 use Rattle.sp_history.proofs.SilentPipes.{down_is_silent}
 use Rattle.sp_core.specs.Standing.{HasFirst}
-use Rattle.cat_play.specs.Openings.{greetings}
+use Rattle.link_opening.specs.Origins.{run_ways}
 use Rattle.cat_play.specs.Playing.{each, is_tick}
 use Rattle.cat_play.specs.Recording.{lane_place, place_of, met_at, greeting, keeps_places, Each, HasCause, IsBack}
 use Rattle.cat_play.specs.Running.{KeepsOthers}
 use Rattle.cat_play.specs.Spending.{greeting_ticks, ticks_where, IsAsked}
 use Rattle.cat_play.specs.Steps.{moves_ends}
-use Rattle.sp_ends.specs.Standing.{is_over_link, IsNamed, HasCarried, IsShut, IsSomewhere, IsAskedIn, IsCarried, LinksKept}
+use Rattle.sp_ends.specs.Standing.{Beginning, is_over_link, IsNamed, HasCarried, IsShut, IsSomewhere, IsAskedIn, IsCarried, LinksKept}
 use Rattle.sp_ends.proofs.Places.{left_of, right_of, IsOther}
 use Rattle.sp_ends.proofs.LeavingCleared.{stays_cleared}
 use Rattle.sp_ends.proofs.Leaving.{entries_leave, entries_keep, moves_links, IsHeld, held_on, numbered, malformed_same, each_mapped}
@@ -60,7 +60,7 @@ each_wider first less more l (e ∷ past) h =
 
 -- ---- One turn
 
-module _ (z : Setting) (start net net' : NetView) (h : List (Turn Entry)) (t : Turn Entry) (e : Entry) (first : HasFirst e t) (silent_tick : is_tick e ≡ false) (l : Legal z (h ++ t ∷ [])) (k : LinksKept z start h net) where
+module _ (z : Setting) (start : Beginning) (net net' : NetView) (h : List (Turn Entry)) (t : Turn Entry) (e : Entry) (first : HasFirst e t) (silent_tick : is_tick e ≡ false) (l : Legal z (h ++ t ∷ [])) (k : LinksKept z start h net) where
   none_late : none_of moves_ends first.late ≡ true
   none_late = settles first.late first.late_settles
 
@@ -102,23 +102,23 @@ module _ (z : Setting) (start net net' : NetView) (h : List (Turn Entry)) (t : T
 
   -- a link that is back, with what its pipe carried
   abbrev pub IsBackAfter : ℕ → ℕ → Type 0
-  IsBackAfter p place = IsBack net'.back place (λ link. IsShut place link × IsAskedIn (past_of (h ++ t ∷ [])) place link × HasCarried z (h ++ t ∷ []) p link)
+  IsBackAfter p place = IsBack net'.back place (λ link. IsShut place link × IsAskedIn (past_of (h ++ t ∷ [])) place link × HasCarried start.origins z (h ++ t ∷ []) p link)
 
   -- a pipe that is down is no longer changed
-  pub carried_after : (p place : ℕ) (link : LinkView) → place_of (past_of h) p ≡ Some place → has (up (past_of h)) p ≡ false → HasCarried z h p link → HasCarried z (h ++ t ∷ []) p link
+  pub carried_after : (p place : ℕ) (link : LinkView) → place_of (past_of h) p ≡ Some place → has (up (past_of h)) p ≡ false → HasCarried start.origins z h p link → HasCarried start.origins z (h ++ t ∷ []) p link
   carried_after p place link is off c =
       let m = (legal_rest z h (t ∷ []) l).1 in
       let more : past_of (h ++ t ∷ []) ≡ past_from (past_of h) (t ∷ []) = past_of-append h t in
       let s = subst (λ (past : List Entry). SameOfPipe p (past_of h) past) (sym more) (down_is_silent z (past_of h) (t ∷ []) p m (numbered z (past_of h) p place (legal_allowed z h (legal_rest z h (t ∷ []) l).0) is) off) in
       let bad : last_is_malformed z (past_of (h ++ t ∷ [])) p ≡ last_is_malformed z (past_of h) p = ap (λ (x : List Entry). last_is_malformed z x p) more ∙ malformed_same z p (t ∷ []) (past_of h) (subst (λ (x : List Entry). frames x p ≡ frames (past_of h) p) more s.frames) in
       let cl : is_cleared (past_of (h ++ t ∷ [])) p ≡ is_cleared (past_of h) p = ap (λ (x : List Entry). is_cleared x p) more ∙ stays_cleared z (past_of h) (t ∷ []) p m (numbered z (past_of h) p place (legal_allowed z h (legal_rest z h (t ∷ []) l).0) is) off in
-      carried_over z h (t ∷ []) p link s bad cl c
+      carried_over z h (t ∷ []) start.origins p link s bad cl c
 
   -- so far it is held, or back
   pub held_after : (p place : ℕ) → (IsHeld (past_of h) p → IsHeld (e ∷ past_of h) p) → get net'.back place ≡ get net.back place → place_of (past_of h) p ≡ Some place → IsHeld (e ∷ past_of h) p ⊎ IsBackAfter p place
   held_after p place still same is = go (k.carried p place is)
     where
-      go : IsCarried z h net p place → IsHeld (e ∷ past_of h) p ⊎ IsBackAfter p place
+      go : IsCarried start.origins z h net p place → IsHeld (e ∷ past_of h) p ⊎ IsBackAfter p place
       go (inl x) = inl (still (inl x))
       go (inr (inl x)) = inl (still (inr x))
       go (inr (inr b)) = turned (has (up (past_of h)) p) refl
@@ -130,22 +130,22 @@ module _ (z : Setting) (start net net' : NetView) (h : List (Turn Entry)) (t : T
   -- what an entry has to bring with it. Here is the place of a link that comes back in the turn
   pub record Steps : Type 0 where
     pub here : ℕ
-    pub opened : start.opened ≤ net'.opened
+    pub opened : start.net.opened ≤ net'.opened
     pub more : net.opened ≤ net'.opened
-    pub few : start.opened < net'.opened → net'.opened ≤ lane_place
-    pub keeps : keeps_places start.opened net'.opened (past_of h) e ≡ true
+    pub few : start.net.opened < net'.opened → net'.opened ≤ lane_place
+    pub keeps : keeps_places start.net.opened net'.opened (past_of h) e ≡ true
     pub over : is_over_link (past_of h) e ≡ true
-    pub name : IsNamed z (past_of h) e
-    pub cause : HasCause (greetings z.role) z (h ++ t ∷ []) net'.back (past_of h) e
-    pub met : (place : ℕ) → start.opened ≤ place → place < net'.opened → is_some (met_at (e ∷ past_of h) place) ≡ true
-    pub somewhere : (place : ℕ) → start.opened ≤ place → place < net'.opened → IsSomewhere net' (e ∷ past_of h) place
+    pub name : IsNamed start.origins z (past_of h) e
+    pub cause : HasCause (run_ways z.role start.origins) z (h ++ t ∷ []) net'.back (past_of h) e
+    pub met : (place : ℕ) → start.net.opened ≤ place → place < net'.opened → is_some (met_at (e ∷ past_of h) place) ≡ true
+    pub somewhere : (place : ℕ) → start.net.opened ≤ place → place < net'.opened → IsSomewhere net' (e ∷ past_of h) place
     pub stays : (place : ℕ) → (place ≡ here → ⊥) → get net'.back place ≡ get net.back place
-    pub others_missed : Each (IsOther start.opened net'.opened here) (past_of h)
+    pub others_missed : Each (IsOther start.net.opened net'.opened here) (past_of h)
     pub carried : (p place : ℕ) → place_of (e ∷ past_of h) p ≡ Some place → IsHeld (e ∷ past_of h) p ⊎ IsBackAfter p place
-    pub others : KeepsOthers start net'
+    pub others : KeepsOthers start.net net'
 
   module _ (s : Steps) where
-    cause_here : (past : List Entry) (d : Entry) → HasCause (greetings z.role) z (h ++ t ∷ []) net.back past d × IsOther start.opened net'.opened s.here past d → HasCause (greetings z.role) z (h ++ t ∷ []) net'.back past d
+    cause_here : (past : List Entry) (d : Entry) → HasCause (run_ways z.role start.origins) z (h ++ t ∷ []) net.back past d × IsOther start.net.opened net'.opened s.here past d → HasCause (run_ways z.role start.origins) z (h ++ t ∷ []) net'.back past d
     cause_here past (NoUp place miss) (c, o) = (c.0, s.stays place o ∙ c.1, c.2)
     cause_here past _ x = tt
 
@@ -153,10 +153,10 @@ module _ (z : Setting) (start net net' : NetView) (h : List (Turn Entry)) (t : T
     both_each A B [] a b = tt
     both_each A B (d ∷ past) a b = ((a.0, b.0), both_each A B past a.1 b.1)
 
-    causes : Each (HasCause (greetings z.role) z (h ++ t ∷ []) net'.back) (past_of h)
+    causes : Each (HasCause (run_ways z.role start.origins) z (h ++ t ∷ []) net'.back) (past_of h)
     causes =
-        each_mapped (λ q d. HasCause (greetings z.role) z (h ++ t ∷ []) net.back q d × IsOther start.opened net'.opened s.here q d) (HasCause (greetings z.role) z (h ++ t ∷ []) net'.back) cause_here (past_of h)
-        (both_each (HasCause (greetings z.role) z (h ++ t ∷ []) net.back) (IsOther start.opened net'.opened s.here) (past_of h) (each_mapped (HasCause (greetings z.role) z h net.back) (HasCause (greetings z.role) z (h ++ t ∷ []) net.back) (cause_still z h (t ∷ []) net.back) (past_of h) k.missed) s.others_missed)
+        each_mapped (λ q d. HasCause (run_ways z.role start.origins) z (h ++ t ∷ []) net.back q d × IsOther start.net.opened net'.opened s.here q d) (HasCause (run_ways z.role start.origins) z (h ++ t ∷ []) net'.back) cause_here (past_of h)
+        (both_each (HasCause (run_ways z.role start.origins) z (h ++ t ∷ []) net.back) (IsOther start.net.opened net'.opened s.here) (past_of h) (each_mapped (HasCause (run_ways z.role start.origins) z h net.back) (HasCause (run_ways z.role start.origins) z (h ++ t ∷ []) net.back) (cause_still z h (t ∷ []) (run_ways z.role start.origins) net.back) (past_of h) k.missed) s.others_missed)
 
     each_late : (rule : List Entry → Entry → Bool) → ((past : List Entry) (d : Entry) → moves_links d ≡ false → rule past d ≡ true) → IsTrue (each rule (e ∷ past_of h)) → IsTrue (each rule (past_of (h ++ t ∷ [])))
     each_late rule free x = subst (λ (past : List Entry). IsTrue (each rule past)) (sym past_is) (entries_keep moves_links (λ (p : List Entry). IsTrue (each rule p)) (λ d p n y. rw (free p d n) y) first.late (e ∷ past_of h) none_links x)
@@ -172,11 +172,11 @@ module _ (z : Setting) (start net net' : NetView) (h : List (Turn Entry)) (t : T
         asked : IsAsked (past_of (h ++ t ∷ [])) place b.0
         asked i s = let a = b.2.1 i s in let c = greeting_ticks_after place in let d = tick_leaves (λ before. has (greeting before) place) e (past_of h) silent_tick in omega (arith, a, c, d)
 
-    carried_late : (p place : ℕ) → IsHeld (e ∷ past_of h) p ⊎ IsBackAfter p place → IsCarried z (h ++ t ∷ []) net' p place
+    carried_late : (p place : ℕ) → IsHeld (e ∷ past_of h) p ⊎ IsBackAfter p place → IsCarried start.origins z (h ++ t ∷ []) net' p place
     carried_late p place (inr b) = inr (inr b)
     carried_late p place (inl x) = go (subst (λ (past : List Entry). IsHeld past p) (sym past_is) (entries_keep moves_links (λ (past : List Entry). IsHeld past p) (held_on p) first.late (e ∷ past_of h) none_links x))
       where
-        go : IsHeld (past_of (h ++ t ∷ [])) p → IsCarried z (h ++ t ∷ []) net' p place
+        go : IsHeld (past_of (h ++ t ∷ [])) p → IsCarried start.origins z (h ++ t ∷ []) net' p place
         go (inl y) = inl y
         go (inr y) = inr (inl y)
 
@@ -185,12 +185,12 @@ module _ (z : Setting) (start net net' : NetView) (h : List (Turn Entry)) (t : T
         record {
           opened = s.opened;
           few = s.few;
-          in_place = each_late (keeps_places start.opened net'.opened) (free_place start.opened net'.opened) (let wide = each_wider start.opened net.opened net'.opened s.more (past_of h) k.in_place in let now_ = s.keeps in rw (now_, wide) refl);
+          in_place = each_late (keeps_places start.net.opened net'.opened) (free_place start.net.opened net'.opened) (let wide = each_wider start.net.opened net.opened net'.opened s.more (past_of h) k.in_place in let now_ = s.keeps in rw (now_, wide) refl);
           over_links = each_late is_over_link free_over (let over = s.over in let before = k.over_links in rw (over, before) refl);
-          named = all_late (IsNamed z) (free_name z) (s.name, k.named);
+          named = all_late (IsNamed start.origins z) (free_name start.origins z) (s.name, k.named);
           met = λ place a b. ap is_some (met_after place) ∙ s.met place a b;
           somewhere = λ place a b. somewhere_late place (s.somewhere place a b);
-          missed = all_late (HasCause (greetings z.role) z (h ++ t ∷ []) net'.back) (free_cause z (h ++ t ∷ []) net'.back) (s.cause, causes);
+          missed = all_late (HasCause (run_ways z.role start.origins) z (h ++ t ∷ []) net'.back) (free_cause (run_ways z.role start.origins) z (h ++ t ∷ []) net'.back) (s.cause, causes);
           carried = λ p place is. carried_late p place (s.carried p place (sym (place_after p) ∙ is));
           others = s.others;
         }

@@ -19,7 +19,7 @@ use Rattle.cat_play.specs.Recording.{greeting}
 use Rattle.cat_play.specs.Spending.{greeting_ticks, ticks_where, has_room}
 use Rattle.cat_play.specs.Steps.{moves_ends}
 use Rattle.sp_ends.specs.declared.newcomer.Newcomer.{Newcomer}
-use Rattle.sp_ends.specs.Standing.{IsProgressing, WasGreeted, AreProgressing, places, in_order, EndsView, EndsStand}
+use Rattle.sp_ends.specs.Standing.{Beginning, IsProgressing, WasGreeted, AreProgressing, places, in_order, EndsView, EndsStand}
 use Rattle.sp_ends.specs.Turning.{EndsTicked}
 use Rattle.sp_ends.proofs.Leaving.{moves_links, NoneIn, entries_leave}
 use Rattle.sp_ends.proofs.Keeping.{kept, legal_rest, greeting_is, met_is}
@@ -33,7 +33,7 @@ drop_all : {A : Type 0} (xs : List A) → drop (length xs) xs ≡ []
 drop_all [] = refl
 drop_all (x ∷ xs) = drop_all xs
 
-module _ {L : Type 0} (seen : L → LinkView) (z : Setting) (start net : NetView) (h : List (Turn Entry)) (t : Turn Entry) (at : ℕ) (due : List OpName) (first : HasFirst (Tick at due) t) where
+module _ {L : Type 0} (seen : L → LinkView) (z : Setting) (start : Beginning) (net : NetView) (h : List (Turn Entry)) (t : Turn Entry) (at : ℕ) (due : List OpName) (first : HasFirst (Tick at due) t) where
   none : NoneIn moves_links (t ∷ [])
   none = rw first.entries (rw (none_sub moves_ends moves_links links_of first.late (settles first.late first.late_settles)) refl)
 
@@ -50,12 +50,12 @@ module _ {L : Type 0} (seen : L → LinkView) (z : Setting) (start net : NetView
       go true e = omega (arith, e)
       go false e = omega (arith, e)
 
-  next_round : (ns : List (Newcomer L)) → AreProgressing seen z (past_of h) 0 ns → AreProgressing seen z (past_of (h ++ t ∷ [])) (length ns) ns
+  next_round : (ns : List (Newcomer L)) → AreProgressing seen start.origins z (past_of h) 0 ns → AreProgressing seen start.origins z (past_of (h ++ t ∷ [])) (length ns) ns
   next_round ns a =
       record {
         within = omega arith;
-        front = subst (λ (ms : List (Newcomer L)). AllByRecursion (IsProgressing seen z (past_of (h ++ t ∷ [])) 1) ms) (sym (take_all ns)) (all_mapped (WasGreeted seen z (past_of h)) (IsProgressing seen z (past_of (h ++ t ∷ [])) 1) (λ n w. progress_later seen z (past_of h) (past_of (h ++ t ∷ [])) (met_is z h (t ∷ []) none) 0 1 one_more n w.progressing) ns a.rest);
-        rest = subst (λ (ms : List (Newcomer L)). AllByRecursion (WasGreeted seen z (past_of (h ++ t ∷ []))) ms) (sym (drop_all ns)) tt;
+        front = subst (λ (ms : List (Newcomer L)). AllByRecursion (IsProgressing seen start.origins z (past_of (h ++ t ∷ [])) 1) ms) (sym (take_all ns)) (all_mapped (WasGreeted seen start.origins z (past_of h)) (IsProgressing seen start.origins z (past_of (h ++ t ∷ [])) 1) (λ n w. progress_later seen start.origins z (past_of h) (past_of (h ++ t ∷ [])) (met_is z h (t ∷ []) none) 0 1 one_more n w.progressing) ns a.rest);
+        rest = subst (λ (ms : List (Newcomer L)). AllByRecursion (WasGreeted seen start.origins z (past_of (h ++ t ∷ []))) ms) (sym (drop_all ns)) tt;
         all = ap (places seen) (order ns) ∙ (a.all ∙ sym (greeting_is z h (t ∷ []) none));
       }
     where
@@ -69,7 +69,7 @@ module _ {L : Type 0} (seen : L → LinkView) (z : Setting) (start net : NetView
   places_long [] = refl
   places_long (n ∷ ns) = ap suc (places_long ns)
 
-  newcomers_few : (ends : EndsView L) → AreProgressing seen z (past_of h) 0 ends.newcomers → has_room (past_of h) ≡ true → length ends.newcomers ≤ 192
+  newcomers_few : (ends : EndsView L) → AreProgressing seen start.origins z (past_of h) 0 ends.newcomers → has_room (past_of h) ≡ true → length ends.newcomers ≤ 192
   newcomers_few ends a r =
       let few : length (greeting (past_of h)) ≤ 192 = leb-true (length (greeting (past_of h))) 192 r in
       let same = ap length a.all in
@@ -82,6 +82,7 @@ module _ {L : Type 0} (seen : L → LinkView) (z : Setting) (start net : NetView
         role = s.role;
         links = record { kept = kept z h (t ∷ []) none start net s.links.kept (legal_rest z h (t ∷ []) l).0 (legal_rest z h (t ∷ []) l).1; progressing = next_round ends.newcomers s.links.progressing };
         asked = rw before_is s.asked;
+        of_run = s.of_run;
         few = s.few;
         ticked = rw ticks_are (omega (arith, length-append (ticks (past_of h)) (at ∷ [])));
         room = λ r. let few : has_room (past_of h) ≡ true = rw before_is at r in newcomers_few ends s.links.progressing few;

@@ -22,7 +22,7 @@ use Rattle.cat_play.specs.Running.{has_dry_miss}
 use Rattle.cat_play.specs.Spending.{ticks_where}
 use Rattle.cat_play.specs.Steps.{AddsNone, moves_play, moves_ends}
 use Rattle.sp_ends.specs.declared.newcomer.Newcomer.{Newcomer}
-use Rattle.sp_ends.specs.Standing.{LinksStand, HandStands, IsCauseOf}
+use Rattle.sp_ends.specs.Standing.{Beginning, LinksStand, HandStands, IsCauseOf}
 use Rattle.sp_ends.specs.Turning.{Quietly, IsSound, IsNow, is_dry_for}
 use Rattle.sp_ends.proofs.Places.{left_of, right_of, inside}
 use Rattle.sp_ends.proofs.Leaving.{past_of_more, turns_leave, entries_leave}
@@ -100,7 +100,7 @@ quiet_before a b q = quiet_leaves before_last_tick before_step a b q
 pub quiet_where : (test : List Entry → Bool) (a b : SingleView) → Quietly a b → ticks_where test (past_of b.seen) ≡ ticks_where test (past_of a.seen)
 quiet_where test a b q = quiet_leaves (ticks_where test) (where_step test) a b q
 
--- ---- Want of memory
+-- ---- Out of memory
 
 pub dry_first : (e : Entry) (says : Setting → List (Turn Entry) → Turn Entry → Type 0) (a b : SingleView) (k : TookOne says a b) → HasFirst e k.turn → has_dry_miss (past_of b.seen) ≡ has_dry_miss (e ∷ past_of a.seen)
 dry_first e says a b k first =
@@ -132,12 +132,12 @@ after_one says a b k Fact f =
     let legal : Legal a.setting (a.seen ++ k.turn ∷ []) = subst (λ (z : Setting). Legal z (a.seen ++ k.turn ∷ [])) k.setting (subst (λ (h : List (Turn Entry)). Legal b.setting h) k.seen k.legal) in
     subst (λ (h : List (Turn Entry)). Fact b.setting h) (sym k.seen) (subst (λ (z : Setting). Fact z (a.seen ++ k.turn ∷ [])) (sym k.setting) (f legal))
 
-module _ {L : Type 0} (seen : L → LinkView) (start : NetView) (ns : List (Newcomer L)) (k : ℕ) where
+module _ {L : Type 0} (seen : L → LinkView) (start : Beginning) (ns : List (Newcomer L)) (k : ℕ) where
   -- one that was missed
-  pub missed_stands : (a b : SingleView) (net net' : NetView) (link : LinkView) (place : ℕ) (miss : Miss) → place ≡ link.place → TookOne (MissesAt place miss) a b → AfterGiveBack (record link { is_open = false }) net net' → IsCauseOf a.setting a.seen miss link → HandStands seen a.setting start a.seen net ns k link → LinksStand seen b.setting start b.seen net' ns k
+  pub missed_stands : (a b : SingleView) (net net' : NetView) (link : LinkView) (place : ℕ) (miss : Miss) → place ≡ link.place → TookOne (MissesAt place miss) a b → AfterGiveBack (record link { is_open = false }) net net' → IsCauseOf start.origins a.setting a.seen miss link → HandStands seen a.setting start a.seen net ns k link → LinksStand seen b.setting start b.seen net' ns k
   missed_stands a b net net' link place miss is took back cause hand =
       after_one (MissesAt place miss) a b took (λ z h. LinksStand seen z start h net' ns k) (λ l. hand_missed seen a.setting start a.seen ns k net net' took.turn link miss hand cause back (subst (λ (p : ℕ). HasFirst (NoUp p miss) took.turn) is took.said) l)
 
 -- a link in hand is one that the net handed out
-pub hand_opened : {L : Type 0} (seen : L → LinkView) (z : Setting) (h : List (Turn Entry)) (net : NetView) (link : LinkView) → (start : NetView) × (ns : List (Newcomer L)) × (k : ℕ) × HandStands seen z start h net ns k link → link.place < net.opened
-hand_opened seen z h net link (start, ns, k, s) = (inside start.opened net.opened (past_of h) link.place s.kept.in_place (hand_waits seen z start h ns k link s.hand)).1
+pub hand_opened : {L : Type 0} (seen : L → LinkView) (z : Setting) (h : List (Turn Entry)) (net : NetView) (link : LinkView) → (start : Beginning) × (ns : List (Newcomer L)) × (k : ℕ) × HandStands seen z start h net ns k link → link.place < net.opened
+hand_opened seen z h net link (start, ns, k, s) = (inside start.net.opened net.opened (past_of h) link.place s.kept.in_place (hand_waits seen z start h ns k link s.hand)).1

@@ -10,9 +10,10 @@ use Rattle.sp_history.specs.Past.{past_of}
 use Rattle.sp_single.specs.Singles.{SingleView}
 use Rattle.cat_play.specs.Running.{has_dry_miss}
 use Rattle.cat_play.specs.Spending.{has_room, ticks_where}
+use Rattle.sp_ends.specs.declared.listener.Listener.{Listener}
 use Rattle.sp_ends.specs.declared.dialer.Dialer.{Dialer}
 use Rattle.sp_ends.specs.declared.newcomer.Newcomer.{Newcomer}
-use Rattle.sp_ends.specs.Standing.{EndsView, NetStands, EndsStand, WasGreeted, IsListener, SameCounts, sum_of, tries_of}
+use Rattle.sp_ends.specs.Standing.{Beginning, EndsView, NetStands, EndsStand, WasGreeted, IsListener, SameCounts, sum_of, tries_of}
 use Rattle.sp_ends.specs.Freeing.{Frees}
 use Rattle.sp_ends.specs.Turning.{EndsTicked, Quietly, IsDry, IsNow, IsSound, SameEnds, AreSameDialers, InTurn, Serves}
 use Rattle.sp_ends.proofs.Places.{met_inside}
@@ -24,7 +25,7 @@ use Rattle.sp_ends.proofs.NewcomingAsks.{all_still, same_tries}
 
 -- ---- The net over a part that asks it for no link
 
-module _ (start net net' : NetView) (asked dialed : List Entry) (ls : List ℕ) (ds es : List Dialer) (c : SameCounts net net') (s : AreSameDialers ds es) where
+module _ (start : Beginning) (net net' : NetView) (asked dialed : List Entry) (ls : List Listener) (ds es : List Dialer) (c : SameCounts net net') (s : AreSameDialers ds es) where
   sum_same : sum_of net' ≡ sum_of net
   sum_same = let a = c.idles in let b = c.faults in let o = c.opened in omega (arith, a, b, o)
 
@@ -32,30 +33,30 @@ module _ (start net net' : NetView) (asked dialed : List Entry) (ls : List ℕ) 
   net_served n =
       record {
         few = let f = n.few in let l = dialers_long ds es s in omega (arith, f, l);
-        listens = all_mapped (IsListener net) (IsListener net') (λ at l. ap (λ m. get m at) c.listens ∙ l) ls n.listens;
-        dials = all_still (net.opened ≡ start.opened) (net'.opened ≡ start.opened) (λ x. sym c.opened ∙ x) dialed ds es s n.dials;
+        listens = all_mapped (IsListener net) (IsListener net') (λ at l. record { listens = ap (λ m. get m at.at) c.listens ∙ l.listens; linked = l.linked }) ls n.listens;
+        dials = all_still (net.opened ≡ start.net.opened) (net'.opened ≡ start.net.opened) (λ x. sym c.opened ∙ x) dialed ds es s n.dials;
         first = λ e. c.opened ∙ n.first e;
         idles = let a = n.idles in let b = c.idles in omega (arith, a, b);
         faults = let a = n.faults in let b = c.faults in omega (arith, a, b);
         rose = λ i f.
             let a = c.idles in let b = c.faults in
             let r = n.rose (omega (arith, i, a)) (omega (arith, f, b)) in
-            subst (λ (m : ℕ). sum_of start + length ls * ticks_where has_room asked + tries_of es ≤ m) (sym sum_same) (subst (λ (m : ℕ). sum_of start + length ls * ticks_where has_room asked + m ≤ sum_of net) (sym (same_tries ds es s)) r);
+            subst (λ (m : ℕ). sum_of start.net + length ls * ticks_where has_room asked + tries_of es ≤ m) (sym sum_same) (subst (λ (m : ℕ). sum_of start.net + length ls * ticks_where has_room asked + m ≤ sum_of net) (sym (same_tries ds es s)) r);
       }
 
-pub serves_net : {L : Type 0} (start : NetView) (ends ends' : EndsView L) (net net' : NetView) (s s' : SingleView) → Serves ends ends' net net' s s'
+pub serves_net : {L : Type 0} (start : Beginning) (ends ends' : EndsView L) (net net' : NetView) (s s' : SingleView) → Serves ends ends' net net' s s'
     → NetStands start (before_last_tick (past_of s.seen)) (before_last_tick (past_of s.seen)) net ends.listeners ends.dialers
     → NetStands start (before_last_tick (past_of s'.seen)) (before_last_tick (past_of s'.seen)) net' ends'.listeners ends'.dialers
 serves_net start ends ends' net net' s s' v n =
     let before = before_last_tick (past_of s.seen) in
     subst (λ (past : List Entry). NetStands start past past net' ends'.listeners ends'.dialers) (sym (quiet_before s s' v.quietly))
-    (subst (λ (ls : List ℕ). NetStands start before before net' ls ends'.dialers) (sym v.ends.listeners) (net_served start net net' before before ends.listeners ends.dialers ends'.dialers v.counts v.dialers n))
+    (subst (λ (ls : List Listener). NetStands start before before net' ls ends'.dialers) (sym v.ends.listeners) (net_served start net net' before before ends.listeners ends.dialers ends'.dialers v.counts v.dialers n))
 
 -- ---- Wires that are taken one by one
 
 -- what stands so far
 pub record StillTakes {L : Type 0} (seen : L → LinkView) (first ends : EndsView L) (net net' : NetView) (s s' : SingleView) (now : ℕ) (is_dry : Bool) : Type 0 where
-  pub in_turn : (start : NetView) → InTurn seen start first net s now (length first.newcomers) → InTurn seen start ends net' s' now (length ends.newcomers)
+  pub in_turn : (start : Beginning) → InTurn seen start first net s now (length first.newcomers) → InTurn seen start ends net' s' now (length ends.newcomers)
   pub few : length ends.newcomers ≤ length first.newcomers
   pub serves : Serves first ends net net' s s'
   pub frees : Frees now net net' first.dialers ends.dialers
@@ -73,7 +74,7 @@ module _ {L : Type 0} (seen : L → LinkView) (first : EndsView L) (net : NetVie
       }
 
   pub takes_more : (ends ends' : EndsView L) (net' net'' : NetView) (s' s'' : SingleView) → StillTakes seen first ends net net' s s' now is_dry
-      → ((start : NetView) → InTurn seen start ends net' s' now (length ends.newcomers) → InTurn seen start ends' net'' s'' now (length ends'.newcomers))
+      → ((start : Beginning) → InTurn seen start ends net' s' now (length ends.newcomers) → InTurn seen start ends' net'' s'' now (length ends'.newcomers))
       → length ends'.newcomers ≤ length ends.newcomers → Serves ends ends' net' net'' s' s'' → Frees now net' net'' ends.dialers ends'.dialers → has_dry_miss (past_of s''.seen) ≡ has_dry_miss (past_of s'.seen) → StillTakes seen first ends' net net'' s s'' now is_dry
   takes_more ends ends' net' net'' s' s'' t step few serves frees dry =
       record {
@@ -86,18 +87,18 @@ module _ {L : Type 0} (seen : L → LinkView) (first : EndsView L) (net : NetVie
 
 -- ---- The parts
 
-module _ {L : Type 0} (seen : L → LinkView) (start : NetView) (now : ℕ) where
+module _ {L : Type 0} (seen : L → LinkView) (start : Beginning) (now : ℕ) where
   pub turn_begins : (ends : EndsView L) (net : NetView) (s : SingleView) → EndsTicked seen s.setting start s.seen net ends → IsNow now s → IsSound s → InTurn seen start ends net s now (length ends.newcomers)
-  turn_begins ends net s e n o = record { role = e.role; links = e.links; now_is = n; ticked = e.ticked; few = e.few; sound = o }
+  turn_begins ends net s e n o = record { role = e.role; links = e.links; of_run = e.of_run; now_is = n; ticked = e.ticked; few = e.few; sound = o }
 
   -- before the first tick nobody is in progress
-  nobody : (ends : EndsView L) (net : NetView) (s : SingleView) → InTurn seen start ends net s now 0 → net.opened ≡ start.opened → length ends.newcomers ≡ 0
+  nobody : (ends : EndsView L) (net : NetView) (s : SingleView) → InTurn seen start ends net s now 0 → net.opened ≡ start.net.opened → length ends.newcomers ≡ 0
   nobody ends net s i same = go ends.newcomers i.links.progressing.rest
     where
-      go : (ns : List (Newcomer L)) → AllByRecursion (WasGreeted seen s.setting (past_of s.seen)) ns → length ns ≡ 0
+      go : (ns : List (Newcomer L)) → AllByRecursion (WasGreeted seen start.origins s.setting (past_of s.seen)) ns → length ns ≡ 0
       go [] w = refl
       go (n ∷ ns) w =
-          let b = met_inside start.opened net.opened (past_of s.seen) (seen n.link).place i.links.kept.in_place (ap is_some w.0.progressing.met) in
+          let b = met_inside start.net.opened net.opened (past_of s.seen) (seen n.opening.link).place i.links.kept.in_place (ap is_some w.0.progressing.met) in
           absurd (omega (arith, b.0, b.1, same))
 
   -- where there was room at the tick there is room to accept
@@ -118,4 +119,4 @@ module _ {L : Type 0} (seen : L → LinkView) (start : NetView) (now : ℕ) wher
       omega (arith, few, nil, listeners)
 
   pub turn_ends : (ends : EndsView L) (net : NetView) (s : SingleView) → InTurn seen start ends net s now 0 → NetStands start (past_of s.seen) (past_of s.seen) net ends.listeners ends.dialers → EndsStand seen s.setting start s.seen net ends
-  turn_ends ends net s i n = record { role = i.role; links = i.links; asked = n; few = i.few }
+  turn_ends ends net s i n = record { role = i.role; links = i.links; asked = n; of_run = i.of_run; few = i.few }

@@ -1,8 +1,7 @@
 -- When an address is dialed.
 use Rattle.std.specs.Prelude.{◌≡◌, ◌≤◌, ◌<◌, ◌+◌, ◌^◌, ℕ, nat_le, if◌then◌else◌, List, [], ◌∷◌, length, Some, None, true}
-use Rattle.sp_base.specs.Addresses.{is_dialable, scheme_of}
+use Rattle.sp_base.specs.Addresses.{is_dialable}
 use Rattle.sp_base.specs.declared.addr.Addr.{Addr}
-use Rattle.sp_base.specs.declared.addr.Scheme.TheVariants as schemes
 use Rattle.sp_history.specs.declared.entry.Entry.{Entry}
 use Rattle.sp_history.specs.Found.{ticks}
 use Rattle.cat_play.specs.Spending.{spaced_from}
@@ -15,14 +14,14 @@ abbrev pub next_from : ℕ → List ℕ → ℕ
 next_from from [] = from
 next_from from (t ∷ ts) = if nat_le from t then next_from (t + 100) ts else next_from from ts
 
--- an address of TCP that can be dialed
-abbrev pub IsTcpAddress : Addr → Type 0
-IsTcpAddress addr = (is_dialable addr ≡ true) × (scheme_of addr ≡ schemes.Tcp)
+-- a link to it can be asked for
+abbrev pub IsDialable : Addr → Type 0
+IsDialable addr = is_dialable addr ≡ true
 
 -- The address can be dialed. As long as no link was handed out, it was dialed at each tick at which it may have been;
 -- and it was dialed at the first tick
 pub record IsDialed (same : Type 0) (past : List Entry) (d : Dialer) : Type 0 where
-  pub dialable : IsTcpAddress d.addr
+  pub dialable : IsDialable d.addr
   pub free : same → d.place ≡ None
   pub next : same → d.next ≡ moment (next_from 0 (ticks past))
   pub tries : same → length (ticks past) < 2 ^ 64 → length (spaced_from 0 (ticks past)) ≤ d.tries

@@ -1,5 +1,4 @@
 pub mod Moments
-pub mod Newcomers
 pub mod Dialing
 pub mod Standing
 pub mod Adding

@@ -1,8 +1,13 @@
 -- What a turn of the ends does, and its parts.
-use Rattle.std.specs.Prelude.{◌≡◌, ◌≤◌, ◌<◌, ◌+◌, ◌-◌, ◌^◌, min, ◌++◌, ◌∷◌, [], ℕ, zero, suc, ⊤, true, false, Bool, List, length, drop, None}
+use Rattle.std.specs.Prelude.{◌≡◌, ◌≤◌, ◌<◌, ◌+◌, ◌-◌, ◌^◌, min, ◌++◌, ◌∷◌, [], ℕ, zero, suc, ⊤, true, false, Bool, List, length, map, drop, Option, Some, None, Result, IfOk}
 use Rattle.std.specs.List.{AllByRecursion}
 use Rattle.turn_lock.specs.declared.turn.Turn.{Turn}
 use Rattle.sp_base.specs.Views.{LinkView, NetView}
+use Rattle.sp_base.specs.Steps.{IsHandedOut}
+use Rattle.sp_base.specs.declared.error.NoMemory.{NoMemory}
+use Rattle.sp_base.specs.declared.role.Role.{Role}
+use Rattle.sp_base.specs.declared.addr.Scheme.{Scheme}
+use Rattle.sp_base.specs.declared.addr.Scheme.TheVariants as schemes
 use Rattle.sp_history.specs.declared.entry.Miss.{Miss}
 use Rattle.sp_history.specs.declared.entry.Miss.TheVariants as misses
 use Rattle.sp_history.specs.declared.entry.Entry.{Entry}
@@ -19,24 +24,30 @@ use Rattle.cat_play.specs.Steps.{AddsNone, moves_play}
 use Rattle.sp_ends.specs.declared.newcomer.Newcomer.{Newcomer}
 use Rattle.sp_ends.specs.declared.dialer.Dialer.{Dialer}
 use Rattle.sp_msg.specs.Wires.{AfterShut}
-use Rattle.sp_tcp.specs.Views.{TcpView}
-use Rattle.sp_tcp.specs.TcpWires.{Framed}
-use Rattle.sp_ends.specs.declared.newcomer.Progress.{Progress}
-use Rattle.sp_ends.specs.declared.newcomer.Progress.TheVariants as progress
+use Rattle.sp_base.specs.declared.addr.Addr.{Addr}
+use Rattle.link_opening.specs.declared.way.Way.{Way}
+use Rattle.link_opening.specs.Openings.{CanBegin, scheme_for}
+use Rattle.link_opening.specs.Origins.{Origins, IsKnown}
+use Rattle.link_opening.specs.Going.{IsFresh, IsUnderWay}
+use Rattle.link_opening.specs.declared.opening.Progress.{Progress}
+use Rattle.link_opening.specs.declared.opening.Progress.TheVariants as progress
+use Rattle.end_wire.specs.declared.wire.EndWire.{EndWire}
+use Rattle.end_wire.specs.EndWires.{shown, link_of, Stands, IsOverLanes}
 use Rattle.sp_ends.specs.declared.turn.Decision.{Decision}
 use Rattle.sp_ends.specs.declared.turn.Decision.TheVariants as decisions
-use Rattle.sp_core.specs.declared.pipes.AttachError.{AttachError}
-use Rattle.sp_core.specs.declared.pipes.AttachError.TheVariants as refused
+use Rattle.sp_core.specs.declared.attach.AttachError.{AttachError}
+use Rattle.sp_core.specs.declared.attach.AttachError.TheVariants as refused
 use Rattle.sp_ends.specs.Moments.{moment}
 use Rattle.sp_ends.specs.declared.turn.Fate.{Fate}
 use Rattle.sp_ends.specs.declared.turn.Fate.TheVariants as fates
-use Rattle.sp_ends.specs.Standing.{EndsView, LinksStand, NetStands, SameCounts, sum_of}
+use Rattle.sp_ends.specs.Standing.{EndsView, Beginning, AreOfRun, LinksStand, NetStands, SameCounts, sum_of}
 
 -- since the last tick nobody was greeted, accepted or dialed yet
-pub record EndsTicked {L : Type 0} (seen : L → LinkView) (z : Setting) (start : NetView) (h : List (Turn Entry)) (net : NetView) (ends : EndsView L) : Type 0 where
+pub record EndsTicked {L : Type 0} (seen : L → LinkView) (z : Setting) (start : Beginning) (h : List (Turn Entry)) (net : NetView) (ends : EndsView L) : Type 0 where
   pub role : ends.role ≡ z.role
   pub links : LinksStand seen z start h net ends.newcomers (length ends.newcomers)
   pub asked : NetStands start (before_last_tick (past_of h)) (before_last_tick (past_of h)) net ends.listeners ends.dialers
+  pub of_run : AreOfRun start.origins ends
   pub ticked : 0 < length (ticks (past_of h))
   pub few : length ends.newcomers ≤ 256
   -- where there was room at the tick, not more are to be greeted
@@ -56,7 +67,7 @@ pub record IsSound (s : SingleView) : Type 0 where
 abbrev pub AllTaken : SingleView → SingleView → Type 0
 AllTaken old new = (p : ℕ) → has (untaken (past_of old.seen)) p ≡ true → has (untaken (past_of new.seen)) p ≡ false
 
--- whether a link was missed for want of memory so far
+-- whether a link was missed when out of memory so far
 abbrev pub IsDry : Bool → SingleView → Type 0
 IsDry is_dry s = has_dry_miss (past_of s.seen) ≡ is_dry
 
@@ -64,11 +75,15 @@ IsDry is_dry s = has_dry_miss (past_of s.seen) ≡ is_dry
 abbrev pub IsNow : ℕ → SingleView → Type 0
 IsNow t s = t ≡ now (past_of s.seen)
 
+abbrev pub addrs_of : List Dialer → List Addr
+addrs_of ds = map (λ (d : Dialer). d.addr) ds
+
 -- the same ends, but for their links and what dialers know of theirs
 pub record SameEnds {L : Type 0} (old new : EndsView L) : Type 0 where
   pub role : new.role ≡ old.role
+  pub dice : new.dice ≡ old.dice
   pub listeners : new.listeners ≡ old.listeners
-  pub dials : length new.dialers ≡ length old.dialers
+  pub dials : addrs_of new.dialers ≡ addrs_of old.dialers
 
 -- the dialer is the same, but for the link that it has lost
 pub record IsSameDialer (old new : Dialer) : Type 0 where
@@ -83,18 +98,20 @@ AreSameDialers (d ∷ ds) (e ∷ es) = IsSameDialer d e × AreSameDialers ds es
 AreSameDialers _ _ = ⊥
 
 -- within a turn of the ends, where so many links are still to be greeted
-pub record InTurn {L : Type 0} (seen : L → LinkView) (start : NetView) (ends : EndsView L) (net : NetView) (s : SingleView) (now : ℕ) (k : ℕ) : Type 0 where
+pub record InTurn {L : Type 0} (seen : L → LinkView) (start : Beginning) (ends : EndsView L) (net : NetView) (s : SingleView) (now : ℕ) (k : ℕ) : Type 0 where
   pub role : ends.role ≡ s.setting.role
   pub links : LinksStand seen s.setting start s.seen net ends.newcomers k
+  pub of_run : AreOfRun start.origins ends
   pub now_is : IsNow now s
   pub ticked : 0 < length (ticks (past_of s.seen))
   pub few : length ends.newcomers ≤ 256
   pub sound : IsSound s
 
 -- the same with this link before the newcomers
-pub record InTurnWith {L : Type 0} (seen : L → LinkView) (start : NetView) (n : Newcomer L) (ends : EndsView L) (net : NetView) (s : SingleView) (now : ℕ) (k : ℕ) : Type 0 where
+pub record InTurnWith {L : Type 0} (seen : L → LinkView) (start : Beginning) (n : Newcomer L) (ends : EndsView L) (net : NetView) (s : SingleView) (now : ℕ) (k : ℕ) : Type 0 where
   pub role : ends.role ≡ s.setting.role
   pub links : LinksStand seen s.setting start s.seen net (n ∷ ends.newcomers) (suc k)
+  pub of_run : AreOfRun start.origins ends
   pub now_is : IsNow now s
   pub ticked : 0 < length (ticks (past_of s.seen))
   pub sound : IsSound s
@@ -116,7 +133,7 @@ is_dry_fate fates.Up = false
 is_dry_fate (fates.Missed miss) = is_dry_for miss
 
 -- what became of a link that was the first of those that are still to be greeted
-abbrev pub FateStands : {L : Type 0} → (L → LinkView) → Fate L → Setting → NetView → List (Turn Entry) → NetView → List (Newcomer L) → ℕ → Type 0
+abbrev pub FateStands : {L : Type 0} → (L → LinkView) → Fate L → Setting → Beginning → List (Turn Entry) → NetView → List (Newcomer L) → ℕ → Type 0
 FateStands seen (fates.Stays n) z start h net ns k = LinksStand seen z start h net (ns ++ n ∷ []) k
 FateStands seen fates.Up z start h net ns k = LinksStand seen z start h net ns k
 FateStands seen (fates.Missed miss) z start h net ns k = LinksStand seen z start h net ns k
@@ -152,15 +169,54 @@ DialsOne _ now same _ _ = ⊥
 abbrev pub DialsAt : ℕ → ℕ → NetView → NetView → List Dialer → List Dialer → Type 0
 DialsAt i now old new ds es = DialsOne i now (new.opened ≡ old.opened) ds es
 
+-- ---- A link that is new
+
+-- a newcomer over this link
+pub record IsNewcomer {L : Type 0} (seen : L → LinkView) (link : L) (role : Role) (way : Way) (met : ℕ) (n : Newcomer L) : Type 0 where
+  pub fresh : IsFresh seen link role way n.opening
+  pub under_way : IsUnderWay seen n.opening
+  pub met_is : n.met ≡ met
+
+-- a link that was handed out begins in a known way; this is the way, unless out of memory
+pub record Arrives (o : Origins) (link : LinkView) (way : Result Way NoMemory) (old new : NetView) : Type 0 where
+  pub begins : Way
+  pub is : IfOk way (λ w. w ≡ begins)
+  pub known : IsKnown o begins
+  pub can : CanBegin begins
+  pub handed : IsHandedOut link (Some (scheme_for begins)) old new
+
+-- how many links of WebSocket were dialed, once one of this scheme was
+abbrev pub asked_after : Scheme → ℕ → ℕ
+asked_after schemes.Tcp asked = asked
+asked_after schemes.Ws asked = min (asked + 1) (2 ^ 64 - 1)
+asked_after schemes.Inproc asked = asked
+
 -- ---- Giving back
 
--- the link of a wire, shut: what the wire shows of it stands, but that it is shut; and the wire is framed
-pub record IsLeftOf {L : Type 0} (seen : L → LinkView) (wire : TcpView) (link : L) : Type 0 where
-  pub link_is : seen link ≡ record wire.link { is_open = false }
-  pub shut : TcpView
-  pub after : AfterShut wire.wire shut.wire
-  pub over : shut.link ≡ seen link
-  pub framed : Framed shut
+-- the wire can be shut: what it shows stands, but that it is shut, and so does its link; and it is tied to that
+pub record IsShutAs {L : Type 0} (wire : EndWire L) (link : Option LinkView) : Type 0 where
+  pub shut : EndWire L
+  pub after : AfterShut (shown wire) (shown shut)
+  pub over : link_of shut ≡ link
+  pub stands : Stands shut
+  pub lanes : IsOverLanes shut
+
+-- what the link shows when it is shut
+abbrev pub shut_link : LinkView → LinkView
+shut_link link = record link { is_open = false }
+
+abbrev pub shut_under : Option LinkView → Option LinkView
+shut_under None = None
+shut_under (Some link) = Some (shut_link link)
+
+-- the link that was under a wire, shut; or it had none
+abbrev pub IsSeenAs : {L : Type 0} → (L → LinkView) → Option L → Option LinkView → Type 0
+IsSeenAs seen None link = link ≡ None
+IsSeenAs seen (Some l) link = link ≡ Some (seen l)
+
+pub record IsLeftOf {L : Type 0} (seen : L → LinkView) (wire : EndWire L) (link : Option L) : Type 0 where
+  pub link_is : IsSeenAs seen link (shut_under (link_of wire))
+  pub shut : IsShutAs wire (shut_under (link_of wire))
 
 -- its greetings began less than 10,000 milliseconds ago
 abbrev pub IsYoung : {L : Type 0} → ℕ → Newcomer L → Type 0
@@ -185,15 +241,15 @@ IsOut (fates.Missed miss) = ⊤
 -- what is to be done with a link whose greetings came so far, met and asked at these ticks
 abbrev pub DecidedFor : Decision → Progress → ℕ → ℕ → Type 0
 DecidedFor decisions.Stays p met now = (p ≡ progress.Waits) × (now < met + 10000)
-DecidedFor decisions.Attach p met now = p ≡ progress.Greeted
+DecidedFor decisions.Attach p met now = p ≡ progress.Opened
 DecidedFor (decisions.Miss misses.Bad) p met now = p ≡ progress.Bad
 DecidedFor (decisions.Miss misses.Ended) p met now = p ≡ progress.Ended
 DecidedFor (decisions.Miss misses.Failed) p met now = p ≡ progress.Failed
 DecidedFor (decisions.Miss misses.Late) p met now = (p ≡ progress.Waits) × (met + 10000 ≤ now)
 DecidedFor (decisions.Miss misses.Refused) p met now = ⊥
-DecidedFor (decisions.Miss misses.NoMemory) p met now = ⊥
+DecidedFor (decisions.Miss misses.NoMemory) p met now = p ≡ progress.NoMemory
 
--- refused for want of memory, or for another cause
+-- refused when out of memory, or for another cause
 abbrev pub MissesFor : AttachError → Miss → Type 0
 MissesFor refused.NoMemory miss = miss ≡ misses.NoMemory
 MissesFor _ miss = miss ≡ misses.Refused

@@ -1,21 +1,20 @@
 //! All ends of a run.
-ghost use Rattle.std.specs.Prelude.{◌≡◌, ◌++◌, ◌∷◌, [], true, IfOk, OnOk};
-ghost use Rattle.sp_base.specs.Addresses.{is_dialable, scheme_of};
-ghost use Rattle.sp_base.specs.declared.addr.Addr.TheVariants as addrs;
-ghost use Rattle.sp_base.specs.declared.addr.Scheme.TheVariants as schemes;
-ghost use Rattle.sp_ends.specs.declared.dialer.Dialer.{Dialer as DialerType};
+ghost use Rattle.std.specs.Prelude.{◌≡◌, [], true, IfOk};
+ghost use Rattle.sp_base.specs.Addresses.{is_dialable, is_linked};
 ghost use Rattle.sp_ends.specs.Adding.{ListensAlso, DialsAlso};
 ghost use Rattle.sp_ends.specs.Freeing.{AreFreed};
 ghost use Rattle.sp_ends.specs.Turning.{SameButPlaces};
 
 use crate::dialer::Dialer;
+use crate::listener::Listener;
 use crate::newcomer::Newcomer;
-use sp_base::{Addr, Host, Link, Listened, Net, NoMemory, Role, Tick};
+use link_opening::copy_of;
+use sp_base::{Addr, Link, Listened, Net, NoMemory, Role, Tick};
 use std::alloc::Global;
 use std::collections::VecDeque;
 use std::marker::Model;
 
-/// How many links may be greeted at once. None is accepted while so many are.
+/// How many links may be opened at once. None is accepted while so many are.
 pub(crate) const MOST_NEWCOMERS: usize = 256;
 
 /// Why an end could not be added.
@@ -23,16 +22,20 @@ pub(crate) const MOST_NEWCOMERS: usize = 256;
 pub enum EndError {
     /// The net failed to listen.
     Fault,
+    /// Out of memory.
     NoMemory,
 }
 
-/// Listeners, dialers, and the links whose greetings are under way. Its room for links is taken when it is made.
+/// Listeners, dialers, and the links that are being opened. Its room for links is taken when it is made.
 pub struct Ends<L: Link> {
     pub(crate) alloc: Global,
-    /// The own role in the greetings.
+    /// The own role in the openings.
     pub(crate) role: Role,
-    /// The numbers by which the net knows the listeners.
-    pub(crate) listeners: Vec<u32>,
+    /// The number from which the keys of WebSocket are made.
+    pub(crate) dice: u32,
+    /// How many links of WebSocket were dialed, at most 2^64 - 1.
+    pub(crate) asked: u64,
+    pub(crate) listeners: Vec<Listener>,
     pub(crate) dialers: Vec<Dialer>,
     /// Those that a turn has passed are behind the others, else in the order in which they were handed out.
     pub(crate) newcomers: VecDeque<Newcomer<L>>,
@@ -45,49 +48,56 @@ impl<L: Link> Model for Ends<L> {
 
     ghost Value = { EndsView L };
 
-    ghost view = { λ e. record { role = e.role; listeners = e.listeners.items; dialers = e.dialers.items; newcomers = e.newcomers.items } };
+    ghost view = { λ e. record { role = e.role; dice = e.dice; asked = e.asked; listeners = e.listeners.items; dialers = e.dialers.items; newcomers = e.newcomers.items } };
 
     ghost invariant = { λ e. 256 ≤ deque_capacity e.newcomers };
 }
 
 impl<L: Link> Ends<L> {
-    /// No end.
-    pub fn new(alloc: Global, role: Role) -> Result<Ends<L>, NoMemory>
-        ensures { IfOk result (λ e. e ≡ record { role = role; listeners = []; dialers = []; newcomers = [] }) }
+    /// No end. The key of the n-th opening over WebSocket that is dialed is made from `dice` + n, n from 0 on.
+    pub fn new(alloc: Global, role: Role, dice: u32) -> Result<Ends<L>, NoMemory>
+        ensures { IfOk result (λ e. e ≡ record { role = role; dice = dice; asked = 0; listeners = []; dialers = []; newcomers = [] }) }
     {
         Ok(Ends {
             alloc,
             role,
+            dice,
+            asked: 0,
             listeners: Vec::new(alloc),
             dialers: Vec::new(alloc),
             newcomers: VecDeque::with_capacity(alloc, MOST_NEWCOMERS)?,
         })
     }
 
-    /// Listens at one address of TCP more.
+    /// Listens at one address more, of TCP or of WebSocket.
     pub fn listen<N: Net<L = L>>(&mut self, net: &mut N, addr: &Addr) -> Result<(), EndError>
-        requires tcp { scheme_of addr.now ≡ schemes.Tcp }
-        ensures { ListensAlso result self.old self.new (N.seen net.old) (N.seen net.new) }
+        requires linked { is_linked addr.now ≡ true }
+        ensures { ListensAlso result addr.now self.old self.new (N.seen net.old) (N.seen net.new) }
     {
         if self.listeners.reserve(1).is_err() {
             return Err(EndError::NoMemory);
         }
+        let Ok(copy) = copy_of(self.alloc, addr) else {
+            return Err(EndError::NoMemory);
+        };
         match net.listen(addr) {
             Listened::Failed => Err(EndError::Fault),
             Listened::At(at) => {
-                self.listeners.push_reserved(at);
+                self.listeners.push_reserved(Listener { at, addr: copy });
                 Ok(())
             }
         }
     }
 
-    /// Dials one address of TCP more, from the next turn on.
-    pub fn dial(&mut self, host: Host, port: u16) -> Result<(), EndError>
-        requires dialable { is_dialable (addrs.Tcp host port) ≡ true }
-        ensures dials { DialsAlso result self.old self.new }
-        ensures addr { IfOk result (λ done. (d : DialerType) × (self.new.dialers ≡ self.old.dialers ++ d ∷ []) × (d.addr ≡ addrs.Tcp host port)) }
+    /// Dials one address more, of TCP or of WebSocket, from the next turn on.
+    pub fn dial(&mut self, addr: &Addr) -> Result<(), EndError>
+        requires dialable { is_dialable addr.now ≡ true }
+        ensures { DialsAlso result addr.now self.old self.new }
     {
-        match self.dialers.push(Dialer::new(Addr::Tcp { host, port })) {
+        let Ok(copy) = copy_of(self.alloc, addr) else {
+            return Err(EndError::NoMemory);
+        };
+        match self.dialers.push(Dialer::new(copy)) {
             Ok(()) => Ok(()),
             Err(_) => Err(EndError::NoMemory),
         }

@@ -13,6 +13,7 @@
 mod dialer;
 mod ends;
 mod leave;
+mod listener;
 mod newcomer;
 mod turn;
 

@@ -1,29 +1,33 @@
 //! What one turn of the ends does.
-ghost use Rattle.std.specs.Prelude.{◌≡◌, ◌≤◌, ◌<◌, ◌+◌, ◌||◌, ◌∷◌, ◌++◌, [], ℕ, suc, true, false, List, length, slice_get, Some};
+ghost use Rattle.std.specs.Prelude.{◌≡◌, ◌≤◌, ◌<◌, ◌+◌, ◌-◌, ◌^◌, min, ◌||◌, ◌∷◌, [], ℕ, suc, true, false, List, length, slice_get, Some, Ok, IfOk, MatchResult};
 ghost use Rattle.sp_base.specs.Addresses.{is_dialable, scheme_of};
-ghost use Rattle.sp_base.specs.Steps.{AfterShut, AfterGiveBack, IsHandedOut};
+ghost use Rattle.sp_base.specs.Steps.{AfterGiveBack, IsNew};
 ghost use Rattle.sp_base.specs.Views.{NetView};
-ghost use Rattle.sp_base.specs.declared.addr.Scheme.TheVariants as schemes;
 ghost use Rattle.sp_history.specs.Past.{past_of, untaken};
 ghost use Rattle.sp_history.specs.Found.{before_last_tick, ticks};
 ghost use Rattle.cat_play.specs.Running.{has_dry_miss};
 ghost use Rattle.cat_play.specs.Spending.{has_room};
 ghost use Rattle.sp_ends.specs.declared.dialer.Dialer.{Dialer as DialerType};
 ghost use Rattle.sp_ends.specs.declared.newcomer.Newcomer.{Newcomer as NewcomerType};
-ghost use Rattle.sp_ends.specs.Newcomers.{IsGreeted};
-ghost use Rattle.sp_ends.specs.Standing.{LinksStand, HandStands, IsCauseOf, NetStands, EndsStand, SameCounts, IsListener};
+ghost use Rattle.sp_ends.specs.declared.listener.Listener.{Listener as ListenerType};
+ghost use Rattle.link_opening.specs.Going.{IsOpened};
+ghost use Rattle.link_opening.specs.Openings.{CanBegin};
+ghost use Rattle.link_opening.specs.Origins.{serving, asking};
+ghost use Rattle.link_opening.specs.declared.way.Way.{Way as WayType};
+ghost use Rattle.sp_ends.specs.Standing.{Beginning, LinksStand, HandStands, IsOfRun, IsCauseOf, NetStands, EndsStand, SameCounts, IsListener};
 ghost use Rattle.sp_ends.specs.Freeing.{GivesOneBack, FateBack, Frees, Redials, Turns, AreWaiting, KnowsLinks, KnowsDialed};
-ghost use Rattle.sp_ends.specs.Turning.{EndsTicked, Quietly, AllTaken, IsDry, is_dry_for, is_dry_fate, FateStands, IsNow, IsSound, SameEnds, AreSameDialers, Serves, InTurn, InTurnWith, AsksNet, DialsAt, IsLeftOf, DecidedFor, MissesFor, AreYoung, FateIsYoung, IsOut};
+ghost use Rattle.sp_ends.specs.Turning.{EndsTicked, Quietly, AllTaken, IsDry, is_dry_for, is_dry_fate, FateStands, IsNow, IsSound, SameEnds, AreSameDialers, Serves, InTurn, InTurnWith, AsksNet, DialsAt, IsLeftOf, DecidedFor, MissesFor, AreYoung, FateIsYoung, IsOut, Arrives, asked_after, IsNewcomer};
 
 use crate::ends::{Ends, MOST_NEWCOMERS};
-use crate::newcomer::{Newcomer, Progress};
-use sp_base::{Link, Linked, Net, NoMemory, Tick};
+use crate::newcomer::Newcomer;
+use end_wire::EndWire;
+use link_opening::{Opening, Progress, Way};
+use sp_base::{Link, Linked, Net, NoMemory, Role, Scheme, Tick};
 use sp_history::entry::Miss;
 use sp_msg::Wire;
 use sp_proto::Proto;
 use sp_single::Single;
 use sp_socket::{AttachError, Gone};
-use sp_tcp::TcpWire;
 use std::alloc::Global;
 use std::sync::Wait;
 
@@ -38,12 +42,13 @@ const GREETING_TIME: u64 = 10_000;
 pub struct EndsTurn {
     /// Whether a link came, went, or was greeted.
     pub moved: bool,
-    /// Whether a link was given back for want of memory.
+    /// Whether a link was given back when out of memory.
     pub is_dry: bool,
 }
 
 /// What became of a newcomer.
 pub enum Fate<L: Link> {
+    /// Its greetings go on.
     Stays(Newcomer<L>),
     /// It is a pipe now.
     Up,
@@ -53,8 +58,11 @@ pub enum Fate<L: Link> {
 
 /// What is to be done with a newcomer.
 pub enum Decision {
+    /// Its greetings go on.
     Stays,
+    /// It becomes a pipe.
     Attach,
+    /// It is given back.
     Miss(Miss),
 }
 
@@ -86,14 +94,14 @@ impl<L: Link> Ends<L> {
         &mut self,
         rt: &R,
         net: &mut N,
-        single: &mut Single<P, TcpWire<L>>,
+        single: &mut Single<P, EndWire<L>>,
         now: Tick,
     ) -> EndsTurn
-        requires ticked { (start : NetView) × EndsTicked L.seen single.old.setting start single.old.seen (N.seen net.old) self.old }
+        requires ticked { (start : Beginning) × EndsTicked L.seen single.old.setting start single.old.seen (N.seen net.old) self.old }
         requires sound { IsSound single.old }
         requires now { IsNow now single.old }
         requires dry { IsDry false single.old }
-        ensures stands { (start : NetView) → EndsTicked L.seen single.old.setting start single.old.seen (N.seen net.old) self.old → EndsStand L.seen single.new.setting start single.new.seen (N.seen net.new) self.new }
+        ensures stands { (start : Beginning) → EndsTicked L.seen single.old.setting start single.old.seen (N.seen net.old) self.old → EndsStand L.seen single.new.setting start single.new.seen (N.seen net.new) self.new }
         ensures sound { IsSound single.new }
         ensures quietly { Quietly single.old single.new }
         ensures dry { IsDry result.is_dry single.new }
@@ -117,13 +125,13 @@ impl<L: Link> Ends<L> {
         &mut self,
         rt: &R,
         net: &mut N,
-        single: &mut Single<P, TcpWire<L>>,
+        single: &mut Single<P, EndWire<L>>,
         now: Tick,
         turn: &mut EndsTurn,
     )
-        requires in_turn { (start : NetView) × InTurn L.seen start self.old (N.seen net.old) single.old now (length self.old.newcomers) }
+        requires in_turn { (start : Beginning) × InTurn L.seen start self.old (N.seen net.old) single.old now (length self.old.newcomers) }
         requires dry { IsDry turn.old.is_dry single.old }
-        ensures in_turn { (start : NetView) → InTurn L.seen start self.old (N.seen net.old) single.old now (length self.old.newcomers) → InTurn L.seen start self.new (N.seen net.new) single.new now (length self.new.newcomers) }
+        ensures in_turn { (start : Beginning) → InTurn L.seen start self.old (N.seen net.old) single.old now (length self.old.newcomers) → InTurn L.seen start self.new (N.seen net.new) single.new now (length self.new.newcomers) }
         ensures few { length self.new.newcomers ≤ length self.old.newcomers }
         ensures serves { Serves self.old self.new (N.seen net.old) (N.seen net.new) single.old single.new }
         ensures frees { Frees now (N.seen net.old) (N.seen net.new) self.old.dialers self.new.dialers }
@@ -144,11 +152,11 @@ impl<L: Link> Ends<L> {
         &mut self,
         rt: &R,
         net: &mut N,
-        single: &mut Single<P, TcpWire<L>>,
+        single: &mut Single<P, EndWire<L>>,
         now: Tick,
     ) -> bool
-        requires in_turn { (start : NetView) × InTurn L.seen start self.old (N.seen net.old) single.old now (length self.old.newcomers) }
-        ensures in_turn { (start : NetView) → InTurn L.seen start self.old (N.seen net.old) single.old now (length self.old.newcomers) → InTurn L.seen start self.new (N.seen net.new) single.new now (length self.new.newcomers) }
+        requires in_turn { (start : Beginning) × InTurn L.seen start self.old (N.seen net.old) single.old now (length self.old.newcomers) }
+        ensures in_turn { (start : Beginning) → InTurn L.seen start self.old (N.seen net.old) single.old now (length self.old.newcomers) → InTurn L.seen start self.new (N.seen net.new) single.new now (length self.new.newcomers) }
         ensures few { length self.new.newcomers ≤ length self.old.newcomers }
         ensures serves { Serves self.old self.new (N.seen net.old) (N.seen net.new) single.old single.new }
         ensures frees { Frees now (N.seen net.old) (N.seen net.new) self.old.dialers self.new.dialers }
@@ -165,7 +173,9 @@ impl<L: Link> Ends<L> {
         else {
             return false;
         };
-        let link = leave_wire(wire);
+        let Some(link) = leave_wire(wire) else {
+            unreachable!()
+        };
         let place = link.place();
         net.give_back(link);
         self.lost(now, place);
@@ -177,13 +187,13 @@ impl<L: Link> Ends<L> {
         &mut self,
         rt: &R,
         net: &mut N,
-        single: &mut Single<P, TcpWire<L>>,
+        single: &mut Single<P, EndWire<L>>,
         now: Tick,
         turn: &mut EndsTurn,
     )
-        requires in_turn { (start : NetView) × InTurn L.seen start self.old (N.seen net.old) single.old now (length self.old.newcomers) }
+        requires in_turn { (start : Beginning) × InTurn L.seen start self.old (N.seen net.old) single.old now (length self.old.newcomers) }
         requires dry { IsDry turn.old.is_dry single.old }
-        ensures in_turn { (start : NetView) → InTurn L.seen start self.old (N.seen net.old) single.old now (length self.old.newcomers) → InTurn L.seen start self.new (N.seen net.new) single.new now 0 }
+        ensures in_turn { (start : Beginning) → InTurn L.seen start self.old (N.seen net.old) single.old now (length self.old.newcomers) → InTurn L.seen start self.new (N.seen net.new) single.new now 0 }
         ensures few { length self.new.newcomers ≤ length self.old.newcomers }
         ensures serves { Serves self.old self.new (N.seen net.old) (N.seen net.new) single.old single.new }
         ensures frees { Frees now (N.seen net.old) (N.seen net.new) self.old.dialers self.new.dialers }
@@ -203,22 +213,22 @@ impl<L: Link> Ends<L> {
         &mut self,
         rt: &R,
         net: &mut N,
-        single: &mut Single<P, TcpWire<L>>,
+        single: &mut Single<P, EndWire<L>>,
         newcomer: Newcomer<L>,
         now: Tick,
         turn: &mut EndsTurn,
     )
-        requires in_turn { (start : NetView) × (k : ℕ) × InTurnWith L.seen start newcomer self.old (N.seen net.old) single.old now k }
+        requires in_turn { (start : Beginning) × (k : ℕ) × InTurnWith L.seen start newcomer self.old (N.seen net.old) single.old now k }
         requires room { length self.old.newcomers < 256 }
         requires dry { IsDry turn.old.is_dry single.old }
-        ensures in_turn { (start : NetView) (k : ℕ) → InTurnWith L.seen start newcomer self.old (N.seen net.old) single.old now k → InTurn L.seen start self.new (N.seen net.new) single.new now k }
+        ensures in_turn { (start : Beginning) (k : ℕ) → InTurnWith L.seen start newcomer self.old (N.seen net.old) single.old now k → InTurn L.seen start self.new (N.seen net.new) single.new now k }
         ensures few { length self.new.newcomers ≤ length self.old.newcomers + 1 }
         ensures serves { Serves self.old self.new (N.seen net.old) (N.seen net.new) single.old single.new }
         ensures frees { Frees now (N.seen net.old) (N.seen net.new) self.old.dialers self.new.dialers }
         ensures dry { IsDry turn.new.is_dry single.new }
         ensures young { (k : ℕ) → AreYoung now k self.old.newcomers → AreYoung now k self.new.newcomers }
     {
-        let place = newcomer.link.place();
+        let place = newcomer.opening.link.place();
         match greet_one(self.alloc, rt, net, single, newcomer, now) {
             Fate::Stays(newcomer) => self.newcomers.push_back_reserved(newcomer),
             Fate::Up => turn.moved = true,
@@ -234,16 +244,16 @@ impl<L: Link> Ends<L> {
         &mut self,
         rt: &R,
         net: &mut N,
-        single: &mut Single<P, TcpWire<L>>,
+        single: &mut Single<P, EndWire<L>>,
         now: Tick,
         turn: &mut EndsTurn,
     )
-        requires in_turn { (start : NetView) × InTurn L.seen start self.old (N.seen net.old) single.old now 0 }
-        requires asked { (start : NetView) × NetStands start (before_last_tick (past_of single.old.seen)) (before_last_tick (past_of single.old.seen)) (N.seen net.old) self.old.listeners self.old.dialers }
+        requires in_turn { (start : Beginning) × InTurn L.seen start self.old (N.seen net.old) single.old now 0 }
+        requires asked { (start : Beginning) × NetStands start (before_last_tick (past_of single.old.seen)) (before_last_tick (past_of single.old.seen)) (N.seen net.old) self.old.listeners self.old.dialers }
         requires room { has_room (before_last_tick (past_of single.old.seen)) ≡ true → length self.old.newcomers ≤ 192 }
         requires dry { IsDry turn.old.is_dry single.old }
-        ensures in_turn { (start : NetView) → InTurn L.seen start self.old (N.seen net.old) single.old now 0 → InTurn L.seen start self.new (N.seen net.new) single.new now 0 }
-        ensures asked { (start : NetView) → InTurn L.seen start self.old (N.seen net.old) single.old now 0 → NetStands start (before_last_tick (past_of single.old.seen)) (before_last_tick (past_of single.old.seen)) (N.seen net.old) self.old.listeners self.old.dialers → NetStands start (past_of single.new.seen) (before_last_tick (past_of single.new.seen)) (N.seen net.new) self.new.listeners self.new.dialers }
+        ensures in_turn { (start : Beginning) → InTurn L.seen start self.old (N.seen net.old) single.old now 0 → InTurn L.seen start self.new (N.seen net.new) single.new now 0 }
+        ensures asked { (start : Beginning) → InTurn L.seen start self.old (N.seen net.old) single.old now 0 → NetStands start (before_last_tick (past_of single.old.seen)) (before_last_tick (past_of single.old.seen)) (N.seen net.old) self.old.listeners self.old.dialers → NetStands start (past_of single.new.seen) (before_last_tick (past_of single.new.seen)) (N.seen net.new) self.new.listeners self.new.dialers }
         ensures quietly { Quietly single.old single.new }
         ensures same { SameEnds self.old self.new }
         ensures dry { IsDry turn.new.is_dry single.new }
@@ -265,17 +275,17 @@ impl<L: Link> Ends<L> {
         &mut self,
         rt: &R,
         net: &mut N,
-        single: &mut Single<P, TcpWire<L>>,
+        single: &mut Single<P, EndWire<L>>,
         i: usize,
         now: Tick,
         turn: &mut EndsTurn,
     )
-        requires in_turn { (start : NetView) × InTurn L.seen start self.old (N.seen net.old) single.old now 0 }
+        requires in_turn { (start : Beginning) × InTurn L.seen start self.old (N.seen net.old) single.old now 0 }
         requires inside { i < length self.old.listeners }
-        requires listens { (at : ℕ) → slice_get self.old.listeners i ≡ Some at → IsListener (N.seen net.old) at }
+        requires listens { (l : ListenerType) → slice_get self.old.listeners i ≡ Some l → IsListener (N.seen net.old) l }
         requires room { length self.old.newcomers < 256 }
         requires dry { IsDry turn.old.is_dry single.old }
-        ensures in_turn { (start : NetView) → InTurn L.seen start self.old (N.seen net.old) single.old now 0 → InTurn L.seen start self.new (N.seen net.new) single.new now 0 }
+        ensures in_turn { (start : Beginning) → InTurn L.seen start self.old (N.seen net.old) single.old now 0 → InTurn L.seen start self.new (N.seen net.new) single.new now 0 }
         ensures few { length self.new.newcomers ≤ length self.old.newcomers + 1 }
         ensures asks { AsksNet (N.seen net.old) (N.seen net.new) }
         ensures dialers { AreSameDialers self.old.dialers self.new.dialers }
@@ -286,11 +296,22 @@ impl<L: Link> Ends<L> {
         ensures handed { (N.seen net.new).opened ≤ (N.seen net.old).opened + 1 }
         ensures young { AreYoung now 0 self.old.newcomers → AreYoung now 0 self.new.newcomers }
     {
-        match net.accept(self.listeners[i]) {
+        match net.accept(self.listeners[i].at) {
             Linked::NotYet => (),
             Linked::Failed => (),
-            Linked::Got(link) => self.welcome(rt, net, single, link, now, turn),
+            Linked::Got(link) => {
+                let way = self.serving(i);
+                self.welcome(rt, net, single, link, way, now, turn);
+            }
         }
+    }
+
+    // How the link begins that the listener at this place of the list brought.
+    fn serving(&self, i: usize) -> Result<Way, NoMemory>
+        requires inside { i < length self.now.listeners }
+        ensures { (l : ListenerType) → slice_get self.now.listeners i ≡ Some l → IfOk result (λ way. way ≡ serving l.addr) }
+    {
+        Way::serving(self.alloc, &self.listeners[i].addr)
     }
 
     // Dials each address that is due.
@@ -298,16 +319,16 @@ impl<L: Link> Ends<L> {
         &mut self,
         rt: &R,
         net: &mut N,
-        single: &mut Single<P, TcpWire<L>>,
+        single: &mut Single<P, EndWire<L>>,
         now: Tick,
         turn: &mut EndsTurn,
     )
-        requires in_turn { (start : NetView) × InTurn L.seen start self.old (N.seen net.old) single.old now 0 }
-        requires asked { (start : NetView) × InTurn L.seen start self.old (N.seen net.old) single.old now 0 × NetStands start (past_of single.old.seen) (before_last_tick (past_of single.old.seen)) (N.seen net.old) self.old.listeners self.old.dialers }
+        requires in_turn { (start : Beginning) × InTurn L.seen start self.old (N.seen net.old) single.old now 0 }
+        requires asked { (start : Beginning) × InTurn L.seen start self.old (N.seen net.old) single.old now 0 × NetStands start (past_of single.old.seen) (before_last_tick (past_of single.old.seen)) (N.seen net.old) self.old.listeners self.old.dialers }
         requires few { ticks (before_last_tick (past_of single.old.seen)) ≡ [] → length self.old.newcomers ≤ length self.old.listeners }
         requires dry { IsDry turn.old.is_dry single.old }
-        ensures in_turn { (start : NetView) → InTurn L.seen start self.old (N.seen net.old) single.old now 0 → InTurn L.seen start self.new (N.seen net.new) single.new now 0 }
-        ensures asked { (start : NetView) → InTurn L.seen start self.old (N.seen net.old) single.old now 0 → NetStands start (past_of single.old.seen) (before_last_tick (past_of single.old.seen)) (N.seen net.old) self.old.listeners self.old.dialers → NetStands start (past_of single.new.seen) (past_of single.new.seen) (N.seen net.new) self.new.listeners self.new.dialers }
+        ensures in_turn { (start : Beginning) → InTurn L.seen start self.old (N.seen net.old) single.old now 0 → InTurn L.seen start self.new (N.seen net.new) single.new now 0 }
+        ensures asked { (start : Beginning) → InTurn L.seen start self.old (N.seen net.old) single.old now 0 → NetStands start (past_of single.old.seen) (before_last_tick (past_of single.old.seen)) (N.seen net.old) self.old.listeners self.old.dialers → NetStands start (past_of single.new.seen) (past_of single.new.seen) (N.seen net.new) self.new.listeners self.new.dialers }
         ensures quietly { Quietly single.old single.new }
         ensures same { SameEnds self.old self.new }
         ensures dry { IsDry turn.new.is_dry single.new }
@@ -332,16 +353,16 @@ impl<L: Link> Ends<L> {
         &mut self,
         rt: &R,
         net: &mut N,
-        single: &mut Single<P, TcpWire<L>>,
+        single: &mut Single<P, EndWire<L>>,
         i: usize,
         now: Tick,
         turn: &mut EndsTurn,
     )
-        requires in_turn { (start : NetView) × InTurn L.seen start self.old (N.seen net.old) single.old now 0 }
-        requires dialable { (d : DialerType) × (slice_get self.old.dialers i ≡ Some d) × (is_dialable d.addr ≡ true) × (scheme_of d.addr ≡ schemes.Tcp) }
+        requires in_turn { (start : Beginning) × InTurn L.seen start self.old (N.seen net.old) single.old now 0 }
+        requires dialable { (d : DialerType) × (slice_get self.old.dialers i ≡ Some d) × (is_dialable d.addr ≡ true) }
         requires room { length self.old.newcomers < 256 }
         requires dry { IsDry turn.old.is_dry single.old }
-        ensures in_turn { (start : NetView) → InTurn L.seen start self.old (N.seen net.old) single.old now 0 → InTurn L.seen start self.new (N.seen net.new) single.new now 0 }
+        ensures in_turn { (start : Beginning) → InTurn L.seen start self.old (N.seen net.old) single.old now 0 → InTurn L.seen start self.new (N.seen net.new) single.new now 0 }
         ensures few { length self.new.newcomers ≤ length self.old.newcomers + 1 }
         ensures asks { AsksNet (N.seen net.old) (N.seen net.new) }
         ensures dialed { DialsAt i now (N.seen net.old) (N.seen net.new) self.old.dialers self.new.dialers }
@@ -357,40 +378,91 @@ impl<L: Link> Ends<L> {
             Linked::Failed => self.dialers[i].dialed(now, None),
             Linked::Got(link) => {
                 self.dialers[i].dialed(now, Some(link.place()));
-                self.welcome(rt, net, single, link, now, turn);
+                let way = self.asking(i);
+                self.welcome(rt, net, single, link, way, now, turn);
             }
         }
     }
 
-    // A link that was handed out just now is met, and greeted.
+    // How the link begins that the address at this place of the list gave just now.
+    fn asking(&mut self, i: usize) -> Result<Way, NoMemory>
+        requires inside { i < length self.old.dialers }
+        ensures way { (n : ℕ) × (n ≡ min self.old.asked (2 ^ 64 - 1 - self.old.dice)) × ((d : DialerType) → slice_get self.old.dialers i ≡ Some d → IfOk result (λ way. way ≡ asking d.addr (self.old.dice + n))) }
+        ensures asked { (d : DialerType) → slice_get self.old.dialers i ≡ Some d → self.new.asked ≡ asked_after (scheme_of d.addr) self.old.asked }
+        ensures same { self.new ≡ record self.old { asked = self.new.asked } }
+    {
+        let start = u64::from(self.dice).saturating_add(self.asked);
+        let way = Way::asking(self.alloc, &self.dialers[i].addr, start);
+        self.asked = asked_after(self.dialers[i].addr.scheme(), self.asked);
+        way
+    }
+
+    // A link that was handed out just now is met, and greeted. Its way is missing when out of memory.
     fn welcome<R: Wait, N: Net<L = L>, P: Proto>(
         &mut self,
         rt: &R,
         net: &mut N,
-        single: &mut Single<P, TcpWire<L>>,
+        single: &mut Single<P, EndWire<L>>,
         link: L,
+        way: Result<Way, NoMemory>,
         now: Tick,
         turn: &mut EndsTurn,
     )
-        requires fresh { (start : NetView) × (before : NetView) × InTurn L.seen start self.old before single.old now 0 × IsHandedOut (L.seen link) (Some schemes.Tcp) before (N.seen net.old) }
+        requires fresh { (start : Beginning) × (before : NetView) × InTurn L.seen start self.old before single.old now 0 × Arrives start.origins (L.seen link) way before (N.seen net.old) }
         requires room { length self.old.newcomers < 256 }
         requires dry { IsDry turn.old.is_dry single.old }
-        ensures in_turn { (start : NetView) (before : NetView) → InTurn L.seen start self.old before single.old now 0 → IsHandedOut (L.seen link) (Some schemes.Tcp) before (N.seen net.old) → InTurn L.seen start self.new (N.seen net.new) single.new now 0 }
+        ensures in_turn { (start : Beginning) (before : NetView) → InTurn L.seen start self.old before single.old now 0 → Arrives start.origins (L.seen link) way before (N.seen net.old) → InTurn L.seen start self.new (N.seen net.new) single.new now 0 }
         ensures few { length self.new.newcomers ≤ length self.old.newcomers + 1 }
         ensures serves { Serves self.old self.new (N.seen net.old) (N.seen net.new) single.old single.new }
         ensures frees { Frees now (N.seen net.old) (N.seen net.new) self.old.dialers self.new.dialers }
         ensures dry { IsDry turn.new.is_dry single.new }
         ensures young { AreYoung now 0 self.old.newcomers → AreYoung now 0 self.new.newcomers }
     {
-        single.met(rt, link.place());
+        let place = link.place();
+        single.met(rt, place);
         turn.moved = true;
-        let newcomer = Newcomer::new(link, self.role, now);
-        self.greet(rt, net, single, newcomer, now, turn);
+        match newcomer_over(self.alloc, link, self.role, way, now) {
+            Ok(newcomer) => self.greet(rt, net, single, newcomer, now, turn),
+            Err((NoMemory, link)) => {
+                miss(rt, net, single, link, Miss::NoMemory);
+                turn.missed(Miss::NoMemory);
+                self.lost(now, place);
+            }
+        }
     }
 }
 
-// Shuts a wire that a pipe had, and the link under it.
-pub(crate) fn leave_wire<L: Link>(mut wire: TcpWire<L>) -> L
+// How many links of WebSocket were dialed, once one of this scheme was.
+fn asked_after(scheme: Scheme, asked: u64) -> u64
+    ensures { result ≡ asked_after scheme asked }
+{
+    match scheme {
+        Scheme::Tcp => asked,
+        Scheme::Ws => asked.saturating_add(1),
+        Scheme::Inproc => asked,
+    }
+}
+
+// A link that was handed out just now. Refused only when out of memory; then the link comes back.
+fn newcomer_over<L: Link>(
+    alloc: Global,
+    link: L,
+    role: Role,
+    way: Result<Way, NoMemory>,
+    met: Tick,
+) -> Result<Newcomer<L>, (NoMemory, L)>
+    requires fresh { IsNew (L.seen link).place (L.seen link) }
+    requires can { IfOk way CanBegin }
+    ensures { MatchResult result (λ n. (begins : WayType) × (way ≡ Ok begins) × IsNewcomer L.seen link role begins met n) (λ e. e.1 ≡ link) }
+{
+    match way {
+        Ok(way) => Newcomer::new(alloc, link, role, way, met),
+        Err(NoMemory) => Err((NoMemory, link)),
+    }
+}
+
+// Shuts a wire that a pipe had, and the link under it; a wire within the process has none.
+pub(crate) fn leave_wire<L: Link>(mut wire: EndWire<L>) -> Option<L>
     ensures { IsLeftOf L.seen wire result }
 {
     wire.shut();
@@ -402,27 +474,30 @@ fn greet_one<R: Wait, N: Net, P: Proto>(
     alloc: Global,
     rt: &R,
     net: &mut N,
-    single: &mut Single<P, TcpWire<N::L>>,
+    single: &mut Single<P, EndWire<N::L>>,
     newcomer: Newcomer<N::L>,
     now: Tick,
 ) -> Fate<N::L>
-    requires stands { (start : NetView) × (ns : List (NewcomerType N.L)) × (k : ℕ) × LinksStand N.L.seen single.old.setting start single.old.seen (N.seen net.old) (newcomer ∷ ns) (suc k) }
+    requires stands { (start : Beginning) × (ns : List (NewcomerType N.L)) × (k : ℕ) × LinksStand N.L.seen single.old.setting start single.old.seen (N.seen net.old) (newcomer ∷ ns) (suc k) }
     requires now { IsNow now single.old }
     requires sound { IsSound single.old }
-    ensures stands { (start : NetView) (ns : List (NewcomerType N.L)) (k : ℕ) → LinksStand N.L.seen single.old.setting start single.old.seen (N.seen net.old) (newcomer ∷ ns) (suc k) → FateStands N.L.seen result single.new.setting start single.new.seen (N.seen net.new) ns k }
+    ensures stands { (start : Beginning) (ns : List (NewcomerType N.L)) (k : ℕ) → LinksStand N.L.seen single.old.setting start single.old.seen (N.seen net.old) (newcomer ∷ ns) (suc k) → FateStands N.L.seen result single.new.setting start single.new.seen (N.seen net.new) ns k }
     ensures sound { IsSound single.new }
     ensures quietly { Quietly single.old single.new }
     ensures counts { SameCounts (N.seen net.old) (N.seen net.new) }
     ensures dry { has_dry_miss (past_of single.new.seen) ≡ (is_dry_fate result || has_dry_miss (past_of single.old.seen)) }
-    ensures back { FateBack result (N.L.seen newcomer.link).place (N.seen net.old) (N.seen net.new) }
+    ensures back { FateBack result (N.L.seen newcomer.opening.link).place (N.seen net.old) (N.seen net.new) }
     ensures young { FateIsYoung now result }
 {
-    let mut newcomer = newcomer;
-    let progress = newcomer.greet();
-    match decide(progress, newcomer.met, now) {
-        Decision::Stays => Fate::Stays(newcomer),
-        Decision::Attach => attach(alloc, rt, net, single, newcomer.into_link()),
-        Decision::Miss(why) => miss(rt, net, single, newcomer.into_link(), why),
+    let Newcomer { mut opening, met } = newcomer;
+    let progress = opening.greet(alloc);
+    match decide(progress, met, now) {
+        Decision::Stays => Fate::Stays(Newcomer { opening, met }),
+        Decision::Attach => attach(alloc, rt, net, single, opening),
+        Decision::Miss(why) => {
+            miss(rt, net, single, opening.into_link(), why);
+            Fate::Missed(why)
+        }
     }
 }
 
@@ -431,10 +506,11 @@ fn decide(progress: Progress, met: Tick, now: Tick) -> Decision
     ensures { DecidedFor result progress met now }
 {
     match progress {
-        Progress::Greeted => Decision::Attach,
+        Progress::Opened => Decision::Attach,
         Progress::Bad => Decision::Miss(Miss::Bad),
         Progress::Ended => Decision::Miss(Miss::Ended),
         Progress::Failed => Decision::Miss(Miss::Failed),
+        Progress::NoMemory => Decision::Miss(Miss::NoMemory),
         Progress::Waits => {
             if now.0.saturating_sub(met.0) >= GREETING_TIME {
                 Decision::Miss(Miss::Late)
@@ -445,31 +521,41 @@ fn decide(progress: Progress, met: Tick, now: Tick) -> Decision
     }
 }
 
-// A link that is greeted becomes a pipe.
+// A link that is opened becomes a pipe.
 fn attach<R: Wait, N: Net, P: Proto>(
     alloc: Global,
     rt: &R,
     net: &mut N,
-    single: &mut Single<P, TcpWire<N::L>>,
-    link: N::L,
+    single: &mut Single<P, EndWire<N::L>>,
+    opening: Opening<N::L>,
 ) -> Fate<N::L>
-    requires greeted { IsGreeted single.old.setting.role (N.L.seen link) }
-    requires stands { (start : NetView) × (ns : List (NewcomerType N.L)) × (k : ℕ) × HandStands N.L.seen single.old.setting start single.old.seen (N.seen net.old) ns k (N.L.seen link) }
+    requires opened { IsOpened N.L.seen opening }
+    requires stands { (start : Beginning) × (ns : List (NewcomerType N.L)) × (k : ℕ) × HandStands N.L.seen single.old.setting start single.old.seen (N.seen net.old) ns k (N.L.seen opening.link) × IsOfRun N.L.seen start.origins single.old.setting opening }
     requires sound { IsSound single.old }
-    ensures stands { (start : NetView) (ns : List (NewcomerType N.L)) (k : ℕ) → HandStands N.L.seen single.old.setting start single.old.seen (N.seen net.old) ns k (N.L.seen link) → FateStands N.L.seen result single.new.setting start single.new.seen (N.seen net.new) ns k }
+    ensures stands { (start : Beginning) (ns : List (NewcomerType N.L)) (k : ℕ) → HandStands N.L.seen single.old.setting start single.old.seen (N.seen net.old) ns k (N.L.seen opening.link) → IsOfRun N.L.seen start.origins single.old.setting opening → FateStands N.L.seen result single.new.setting start single.new.seen (N.seen net.new) ns k }
     ensures sound { IsSound single.new }
     ensures quietly { Quietly single.old single.new }
     ensures counts { SameCounts (N.seen net.old) (N.seen net.new) }
     ensures dry { has_dry_miss (past_of single.new.seen) ≡ (is_dry_fate result || has_dry_miss (past_of single.old.seen)) }
-    ensures back { FateBack result (N.L.seen link).place (N.seen net.old) (N.seen net.new) }
+    ensures back { FateBack result (N.L.seen opening.link).place (N.seen net.old) (N.seen net.new) }
     ensures out { IsOut result }
 {
-    let place = link.place();
-    match TcpWire::new(alloc, link, &[], MAX_BODY) {
-        Err((NoMemory, link)) => miss(rt, net, single, link, Miss::NoMemory),
+    let place = opening.link.place();
+    match EndWire::over(alloc, opening, MAX_BODY) {
+        Err((NoMemory, link)) => {
+            miss(rt, net, single, link, Miss::NoMemory);
+            Fate::Missed(Miss::NoMemory)
+        }
         Ok(wire) => match single.attach(rt, wire, place) {
             Ok(_) => Fate::Up,
-            Err((why, wire)) => miss(rt, net, single, wire.into_link(), miss_for(why)),
+            Err((why, wire)) => {
+                let Some(link) = wire.into_link() else {
+                    unreachable!()
+                };
+                let why = miss_for(why);
+                miss(rt, net, single, link, why);
+                Fate::Missed(why)
+            }
         },
     }
 }
@@ -490,25 +576,22 @@ fn miss_for(why: AttachError) -> Miss
 fn miss<R: Wait, N: Net, P: Proto>(
     rt: &R,
     net: &mut N,
-    single: &mut Single<P, TcpWire<N::L>>,
+    single: &mut Single<P, EndWire<N::L>>,
     link: N::L,
     why: Miss,
-) -> Fate<N::L>
-    requires stands { (start : NetView) × (ns : List (NewcomerType N.L)) × (k : ℕ) × HandStands N.L.seen single.old.setting start single.old.seen (N.seen net.old) ns k (N.L.seen link) }
-    requires cause { IsCauseOf single.old.setting single.old.seen why (N.L.seen link) }
+)
+    requires stands { (start : Beginning) × (ns : List (NewcomerType N.L)) × (k : ℕ) × HandStands N.L.seen single.old.setting start single.old.seen (N.seen net.old) ns k (N.L.seen link) }
     requires sound { IsSound single.old }
-    ensures stands { (start : NetView) (ns : List (NewcomerType N.L)) (k : ℕ) → HandStands N.L.seen single.old.setting start single.old.seen (N.seen net.old) ns k (N.L.seen link) → LinksStand N.L.seen single.new.setting start single.new.seen (N.seen net.new) ns k }
-    ensures fate { result ≡ Fate.Missed why }
+    ensures stands { (start : Beginning) (ns : List (NewcomerType N.L)) (k : ℕ) → HandStands N.L.seen single.old.setting start single.old.seen (N.seen net.old) ns k (N.L.seen link) → IsCauseOf start.origins single.old.setting single.old.seen why (N.L.seen link) → LinksStand N.L.seen single.new.setting start single.new.seen (N.seen net.new) ns k }
     ensures sound { IsSound single.new }
     ensures quietly { Quietly single.old single.new }
     ensures counts { SameCounts (N.seen net.old) (N.seen net.new) }
-    ensures dry { has_dry_miss (past_of single.new.seen) ≡ (is_dry_fate result || has_dry_miss (past_of single.old.seen)) }
+    ensures dry { has_dry_miss (past_of single.new.seen) ≡ (is_dry_for why || has_dry_miss (past_of single.old.seen)) }
     ensures back { GivesOneBack (N.L.seen link).place (N.seen net.old) (N.seen net.new) }
 {
     let place = link.place();
     leave(net, link);
     single.missed(rt, place, why);
-    Fate::Missed(why)
 }
 
 // A link that is done with.

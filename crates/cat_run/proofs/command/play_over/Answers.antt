@@ -14,10 +14,4 @@ pub play-requires-clause-starts : goal.play-requires-clause-starts
 play-requires-clause-starts g c = (usual_kind c.args.plan.role c.args.dice, starts g c)
 
 pub play-requires-clause-setting : goal.play-requires-clause-setting
-play-requires-clause-setting g c = (c.args.dice, setting_is g.P.Proto.ties g.P.Proto.kind g.met.P.Proto.kinds c.in-Ok.machine c.args.plan.role c.args.dice (starts g c))
-
-pub returns-in-Ok-clause-runs : goal.returns-in-Ok-clause-runs
-returns-in-Ok-clause-runs g c = λ files. c.play.ensures.runs files c.args.dice (setting_is g.P.Proto.ties g.P.Proto.kind g.met.P.Proto.kinds c.in-Ok.machine c.args.plan.role c.args.dice (IfOk-at_ok (λ m. Starts g.P.Proto.ties m (usual_kind c.args.plan.role c.args.dice)) c.in-Ok.is c.requires.starts))
-
-pub returns-in-Ok-clause-in_time : goal.returns-in-Ok-clause-in_time
-returns-in-Ok-clause-in_time g c = λ files other. c.play.ensures.in_time files c.args.dice (setting_is g.P.Proto.ties g.P.Proto.kind g.met.P.Proto.kinds c.in-Ok.machine c.args.plan.role c.args.dice (IfOk-at_ok (λ m. Starts g.P.Proto.ties m (usual_kind c.args.plan.role c.args.dice)) c.in-Ok.is c.requires.starts)) other
+play-requires-clause-setting g c = setting_is g.P.Proto.ties g.P.Proto.kind g.met.P.Proto.kinds c.in-Ok.machine c.args.plan.role c.args.dice (starts g c)

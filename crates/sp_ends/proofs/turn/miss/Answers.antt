@@ -9,7 +9,7 @@ leave-requires g c =
 
 pub returns-clause-stands : goal.returns-clause-stands
 returns-clause-stands g c =
-    λ start ns k s. missed_stands g.N.L.Link.seen start ns k c.args.single.now c.missed.new.self (g.N.Net.seen c.args.net.now) (g.N.Net.seen c.leave.new.net) (g.N.L.Link.seen c.args.link) c.place-place.result c.args.why c.place-place.ensures c.missed.ensures.turn c.leave.ensures c.requires.cause s
+    λ start ns k s cause. missed_stands g.N.L.Link.seen start ns k c.args.single.now c.missed.new.self (g.N.Net.seen c.args.net.now) (g.N.Net.seen c.leave.new.net) (g.N.L.Link.seen c.args.link) c.place-place.result c.args.why c.place-place.ensures c.missed.ensures.turn c.leave.ensures cause s
 
 pub returns-clause-quietly : goal.returns-clause-quietly
 returns-clause-quietly g c =

@@ -49,6 +49,6 @@ pub returns-in-Ok-clause-late : goal.returns-in-Ok-clause-late
 returns-in-Ok-clause-late g c = c.go_round.ensures.late
 
 pub returns-in-Err-clause-late : goal.returns-in-Err-clause-late
-returns-in-Err-clause-late g c not_req =
+returns-in-Err-clause-late g c =
     let none = never_late c.subscribe_all.new.single c.args.self.now.player c.subscribe_all.ensures.prepares.before.unticked in
     omega (arith, none)

@@ -51,25 +51,25 @@ returns-then-waits-clause-went g c =
 
 pub returns-in-SendTimedOut-clause-went : goal.returns-in-SendTimedOut-clause-went
 returns-in-SendTimedOut-clause-went g c =
-    let none : has_more c.args.self.now.player.script.role c.serve-served.result ≡ false = sym c.has_more-waits.ensures ∙ c.if-waits.false in (
+    let none : has_more c.serve-served.result ≡ false = sym c.has_more-waits.ensures ∙ c.if-waits.false in (
       record {
         free = c.requires.free;
-        cleared = through c.serve-served.result c.args.self.now.single c.serve-served.new.self c.args.self.now.player c.requires.stands.0 c.serve-served.ensures.turn c.requires.stands.1 c.requires.free none;
+        cleared = through c.serve-served.result c.args.self.now.single c.serve-served.new.self c.args.self.now.player c.requires.stands.0 c.serve-served.ensures.turn c.requires.stands.1 c.requires.free c.requires.over none;
       },
       c.in-SendTimedOut.is,
     )
 
 pub returns-in-Finished-clause-went : goal.returns-in-Finished-clause-went
 returns-in-Finished-clause-went g c =
-    let none : has_more c.args.self.now.player.script.role c.serve-served.result ≡ false = sym c.has_more-waits.ensures ∙ c.if-waits.false in (
+    let none : has_more c.serve-served.result ≡ false = sym c.has_more-waits.ensures ∙ c.if-waits.false in (
       record {
         free = c.requires.free;
-        cleared = through c.serve-served.result c.args.self.now.single c.serve-served.new.self c.args.self.now.player c.requires.stands.0 c.serve-served.ensures.turn c.requires.stands.1 c.requires.free none;
+        cleared = through c.serve-served.result c.args.self.now.single c.serve-served.new.self c.args.self.now.player c.requires.stands.0 c.serve-served.ensures.turn c.requires.stands.1 c.requires.free c.requires.over none;
       },
       c.in-Finished.is,
     )
 
 pub returns-then-waits-clause-stalls : goal.returns-then-waits-clause-stalls
-returns-then-waits-clause-stalls g c not_req =
-    let more : has_more c.args.self.now.player.script.role c.serve-served.result ≡ true = sym c.has_more-waits.ensures ∙ c.if-waits.true in
-    serve_stalls _ c.serve-served.result c.args.self.now.single c.serve-served.new.self c.serve-served.ensures.turn c.serve-served.ensures.turn.said.3.1 (something_waits c.args.self.now.player.script.role c.serve-served.result not_req more)
+returns-then-waits-clause-stalls g c =
+    let more : has_more c.serve-served.result ≡ true = sym c.has_more-waits.ensures ∙ c.if-waits.true in
+    serve_stalls _ c.serve-served.result c.args.self.now.single c.serve-served.new.self c.serve-served.ensures.turn c.serve-served.ensures.turn.said.3.1 (something_waits c.serve-served.result more)

@@ -2,7 +2,7 @@ use Rattle.std.proofs.Common.{refl, sym, subst, List}
 use Rattle.turn_lock.specs.declared.turn.Turn.{Turn}
 use Rattle.sp_history.specs.declared.entry.Entry.{Entry}
 use Rattle.sp_core.specs.Collecting.{IsOpen}
-use Rattle.sp_ends.specs.Leaving.{shown_wire}
+use Rattle.end_wire.specs.EndWires.{shown}
 use Rattle.cat_rounds.specs.Lasting.{IsUnderWay}
 use Rattle.cat_rounds.proofs.Ending.{IsEnding, hand_closed, legal_record, play_closes, ends_stand, wires_are, finishes}
 use Rattle.cat_rounds.proofs.game.Game.finish.Goals as goal
@@ -39,7 +39,7 @@ give_all_back-requires g c =
         start,
         end.record_.turns,
         ends_stand c.close.result s c.close.new.self last p end.record_.turns e g.L.Link.seen start (g.N.Net.seen c.args.net.now) c.args.self.ends run.ends_stand,
-        wires_are c.close.result s c.close.new.self last p end.record_.turns e shown_wire end.wires c.finish-wires.ensures,
+        wires_are c.close.result s c.close.new.self last p end.record_.turns e shown end.wires c.finish-wires.ensures,
       );
     }
 
@@ -56,5 +56,5 @@ returns-clause-finished g c start run =
     let legal = legal_record c.close.result s c.close.new.self last p end.record_.turns e in
     let closed = (play_closes c.close.result s c.close.new.self last p end.record_.turns e).closed in
     let stands = ends_stand c.close.result s c.close.new.self last p end.record_.turns e seen start net c.args.self.ends run.ends_stand in
-    let wires = wires_are c.close.result s c.close.new.self last p end.record_.turns e shown_wire end.wires c.finish-wires.ensures in
-    finishes c.close.result s c.close.new.self last p end.record_.turns e seen shown_wire end.wires start net net' c.args.self.ends c.finish-wires.ensures (c.give_all_back.ensures.left s.setting start end.record_.turns legal closed stands wires) c.give_all_back.ensures.counts
+    let wires = wires_are c.close.result s c.close.new.self last p end.record_.turns e shown end.wires c.finish-wires.ensures in
+    finishes c.close.result s c.close.new.self last p end.record_.turns e seen shown end.wires start net net' c.args.self.ends c.finish-wires.ensures (c.give_all_back.ensures.left s.setting start end.record_.turns legal closed stands wires) c.give_all_back.ensures.counts

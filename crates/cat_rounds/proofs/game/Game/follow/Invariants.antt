@@ -1,13 +1,15 @@
 use Rattle.std.proofs.Common.{◌≡◌, ◌≤◌, ◌+◌, take, false, length}
-use Rattle.sp_base.specs.Views.{NetView}
+use Rattle.std.specs.List.{AllByRecursion}
+use Rattle.sp_ends.specs.Standing.{Beginning}
 use Rattle.cat_play.specs.Spending.{listens_of, dials_of}
 use Rattle.cat_rounds.specs.Going.{RunStands}
+use Rattle.cat_rounds.specs.Built.{IsEndOf}
 use Rattle.cat_rounds.proofs.game.Game.follow.Given as goal
 
 abbrev pub invariant-loop-end : goal.invariant-loop-end
 invariant-loop-end g l = record {
-  some : (start : NetView) × RunStands g.L.Link.seen start l.self.single l.self.ends l.self.player (g.N.Net.seen l.net) false;
-  stands : (start : NetView) → RunStands g.L.Link.seen start l.fn.self.single l.fn.self.ends l.fn.self.player (g.N.Net.seen l.fn.net) false → RunStands g.L.Link.seen start l.self.single l.self.ends l.self.player (g.N.Net.seen l.net) false;
+  some : (start : Beginning) × AllByRecursion (IsEndOf start.origins) l.ends × RunStands g.L.Link.seen start l.self.single l.self.ends l.self.player (g.N.Net.seen l.net) false;
+  stands : (start : Beginning) → AllByRecursion (IsEndOf start.origins) l.ends → RunStands g.L.Link.seen start l.fn.self.single l.fn.self.ends l.fn.self.player (g.N.Net.seen l.fn.net) false → RunStands g.L.Link.seen start l.self.single l.self.ends l.self.player (g.N.Net.seen l.net) false;
   single : l.self.single ≡ l.fn.self.single;
   player : l.self.player ≡ l.fn.self.player;
   listens : length l.self.ends.listeners ≡ listens_of (take l.end-index l.ends);

@@ -1,5 +1,4 @@
 use Rattle.std.proofs.Common.{◌∙◌, ap, sym, refl, arith}
-use Rattle.sp_history.specs.Setting.{is_req}
 use Rattle.cat_rounds.proofs.Late.{never_late}
 use Rattle.sp_history.specs.Past.{past_of}
 use Rattle.cat_rounds.proofs.Counted.{no_ticks, never, same_ends, same_then}
@@ -19,7 +18,7 @@ rounds-init g c =
       left_ = omega (arith, none);
       count = omega (arith, none);
       now_is = omega (arith, zero);
-      late = λ not_req. never_late c.args.self.now.single c.args.self.now.player c.requires.unticked;
+      late = never_late c.args.self.now.single c.args.self.now.player c.requires.unticked;
       silent = refl;
     }
 
@@ -38,9 +37,6 @@ rounds-preserved g c =
       left_ = omega (arith, i.left_, paced.0, r.ticked.ticks_are);
       count = omega (arith, i.count, r.ticked.ticks_are);
       now_is = omega (arith, r.ticked.now_is, paced.2);
-      late = λ not_req. r.late (ap (λ x. is_req x.role) i.same.1 ∙ not_req);
+      late = r.late;
       silent = paced.3 ∙ i.silent;
     }
-
-pub round-requires-clause-late : goal.round-requires-clause-late
-round-requires-clause-late g c not_req = c.rounds.invariant.late (ap (λ x. is_req x.role) (sym c.rounds.invariant.same.1) ∙ not_req)

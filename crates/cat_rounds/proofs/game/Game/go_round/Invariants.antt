@@ -1,19 +1,18 @@
 use Rattle.std.proofs.Common.{◌≡◌, ◌≤◌, ◌+◌, ℕ, List, Option, false, length}
-use Rattle.sp_base.specs.Views.{NetView}
+use Rattle.sp_ends.specs.Standing.{Beginning}
 use Rattle.sp_history.specs.Past.{past_of}
 use Rattle.sp_history.specs.Found.{ticks}
 use Rattle.sp_ends.specs.Turning.{SameEnds}
 use Rattle.cat_rounds.specs.Lasting.{HasPrinted, MayTick}
 use Rattle.cat_rounds.specs.Stepping.{SameScript}
 use Rattle.cat_rounds.specs.Going.{RunStands, past_now}
-use Rattle.sp_history.specs.Setting.{is_req}
 use Rattle.cat_rounds.specs.Late.{IsLateBy}
 use Rattle.cat_rounds.proofs.game.Game.go_round.Given as goal
 
 abbrev pub invariant-rounds : goal.invariant-rounds
 invariant-rounds g l = record {
-  some : (start : NetView) × RunStands g.L.Link.seen start l.self.single l.self.ends l.self.player (g.N.Net.seen l.net) false;
-  stands : (start : NetView) → RunStands g.L.Link.seen start l.fn.self.single l.fn.self.ends l.fn.self.player (g.N.Net.seen l.fn.net) false → RunStands g.L.Link.seen start l.self.single l.self.ends l.self.player (g.N.Net.seen l.net) false;
+  some : (start : Beginning) × RunStands g.L.Link.seen start l.self.single l.self.ends l.self.player (g.N.Net.seen l.net) false;
+  stands : (start : Beginning) → RunStands g.L.Link.seen start l.fn.self.single l.fn.self.ends l.fn.self.player (g.N.Net.seen l.fn.net) false → RunStands g.L.Link.seen start l.self.single l.self.ends l.self.player (g.N.Net.seen l.net) false;
   may_tick : MayTick l.self.single.setting l.self.single.seen l.self.player;
   printed : (before : Option (List ℕ)) → HasPrinted before (g.S.Sink.seen l.fn.out).text l.fn.self.single.seen l.fn.self.player → HasPrinted before (g.S.Sink.seen l.out).text l.self.single.seen l.self.player;
   later : (g.S.Sink.seen l.fn.out).faults ≤ (g.S.Sink.seen l.out).faults;
@@ -21,6 +20,6 @@ invariant-rounds g l = record {
   left_ : (g.Pa.Pace.seen l.fn.pace).left ≡ (g.Pa.Pace.seen l.pace).left + length (ticks (past_of l.self.single.seen));
   count : length (ticks (past_of l.self.single.seen)) ≤ l.counter;
   now_is : past_now l.self.single ≤ (g.Pa.Pace.seen l.pace).latest;
-  late : is_req l.fn.self.player.script.role ≡ false → IsLateBy 0 l.self.single l.self.player;
+  late : IsLateBy 0 l.self.single l.self.player;
   silent : (g.Pa.Pace.seen l.pace).is_over ≡ (g.Pa.Pace.seen l.fn.pace).is_over;
 }

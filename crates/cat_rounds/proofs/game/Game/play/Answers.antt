@@ -1,4 +1,4 @@
-use Rattle.std.proofs.Common.{rules, ◌≡◌}
+use Rattle.std.proofs.Common.{rules, ◌≡◌, arith}
 use Rattle.cat_rounds.specs.declared.player.Over.TheVariants as overs
 use Rattle.cat_rounds.proofs.Rounding.{free_at_end}
 use Rattle.cat_rounds.proofs.game.Game.play.Goals as goal
@@ -9,3 +9,6 @@ returns-then-ne-clause-went g c =
     let p = c.sweeps.self.player in
     let n : p.over ≡ overs.Open → ⊥ = search rules in
     (free_at_end c.sweeps.self.single.setting c.sweeps.self.single.seen p i.along.stands.play n, n)
+
+pub returns-clause-moved : goal.returns-clause-moved
+returns-clause-moved g c = omega (arith, c.sweeps.invariant.many, c.sweeps-test.false)

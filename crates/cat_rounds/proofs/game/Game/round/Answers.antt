@@ -5,10 +5,12 @@ use Rattle.std.proofs.Common.{false}
 use Rattle.sp_ends.specs.Turning.{IsDry}
 use Rattle.cat_rounds.specs.Lasting.{HasPrinted}
 use Rattle.cat_rounds.proofs.Opening.{opens, quiet_stands, quiet_texts, quiet_ticks, on_ticks, run_on, round_stands, round_prints, cut_nowhere}
-use Rattle.sp_history.specs.Setting.{is_req}
 use Rattle.cat_rounds.specs.declared.player.Player.{Player}
 use Rattle.cat_rounds.specs.declared.rounds.Going.TheVariants as goings
 use Rattle.cat_rounds.proofs.Late.{late_tick, late_quiet, late_on, late_then, ends_late, goes_early, drains_late, open_or}
+use Rattle.cat_rounds.specs.Going.{GoesTo}
+use Rattle.cat_rounds.specs.Resting.{MovesStill}
+use Rattle.cat_rounds.proofs.Resting.{before_play, round_moves, drained_moves}
 use Rattle.cat_rounds.proofs.game.Game.round.Goals as goal
 
 pub turn-turn-requires-clause-ticked : goal.turn-turn-requires-clause-ticked
@@ -64,8 +66,8 @@ returns-then-turn-clause-printed g c = λ before h.
     let st = quiet_stands s1 s2 p c.args.now t.quietly t.sound o.stands in
     cut_nowhere before (g.S.Sink.seen c.args.out.now).text s2.seen p (h ∙ ap (λ ts. grown before (joined ts)) (sym (quiet_texts s1 s2 p c.args.now t.quietly o.stands ∙ o.texts_are)))
 
-pub returns-then-moved-clause-stands : goal.returns-then-moved-clause-stands
-returns-then-moved-clause-stands g c = λ start run.
+pub returns-in-Rests-clause-stands : goal.returns-in-Rests-clause-stands
+returns-in-Rests-clause-stands g c = λ start run.
     let o = opens g.L.Link.seen start (g.N.Net.seen c.args.net.now) c.args.self.now.single c.tick.new.self c.args.self.now.ends c.args.self.now.player c.args.now c.tick.ensures.turn c.tick.ensures.open_ run c.requires.may_tick c.requires.later in
     let s1 = c.tick.new.self in
     let s2 = c.turn-turn.new.single in
@@ -76,8 +78,8 @@ returns-then-moved-clause-stands g c = λ start run.
     let dry : IsDry false s2 = t.dry ∙ c.if-turn.false in
     run_on g.L.Link.seen start (g.N.Net.seen c.turn-turn.new.net) s2 c.play.new.self.single c.turn-turn.new.self c.play.new.self.ends c.play.new.self.player c.args.now y.goes_on y.same.1 y.stands dry (t.stands start o.links)
 
-pub returns-then-moved-clause-ticked : goal.returns-then-moved-clause-ticked
-returns-then-moved-clause-ticked g c =
+pub returns-in-Rests-clause-ticked : goal.returns-in-Rests-clause-ticked
+returns-in-Rests-clause-ticked g c =
     let run = c.requires.stands in
     let o = opens g.L.Link.seen run.0 (g.N.Net.seen c.args.net.now) c.args.self.now.single c.tick.new.self c.args.self.now.ends c.args.self.now.player c.args.now c.tick.ensures.turn c.tick.ensures.open_ run.1 c.requires.may_tick c.requires.later in
     let s1 = c.tick.new.self in
@@ -88,43 +90,8 @@ returns-then-moved-clause-ticked g c =
     let y = c.play.ensures in
     record { now_is = sym y.stands.now_is; ticks_are = on_ticks s2 c.play.new.self.single y.goes_on ∙ (quiet_ticks s1 s2 t.quietly ∙ o.ticks_are) }
 
-pub returns-then-moved-clause-printed : goal.returns-then-moved-clause-printed
-returns-then-moved-clause-printed g c = λ before h.
-    let run = c.requires.stands in
-    let o = opens g.L.Link.seen run.0 (g.N.Net.seen c.args.net.now) c.args.self.now.single c.tick.new.self c.args.self.now.ends c.args.self.now.player c.args.now c.tick.ensures.turn c.tick.ensures.open_ run.1 c.requires.may_tick c.requires.later in
-    let s1 = c.tick.new.self in
-    let s2 = c.turn-turn.new.single in
-    let p = c.args.self.now.player in
-    let t = c.turn-turn.ensures in
-    let st = quiet_stands s1 s2 p c.args.now t.quietly t.sound o.stands in
-    c.in-Rests.ensures.printed before (h ∙ ap (λ ts. grown before (joined ts)) (sym (quiet_texts s1 s2 p c.args.now t.quietly o.stands ∙ o.texts_are)))
-
-pub returns-else-moved-clause-stands : goal.returns-else-moved-clause-stands
-returns-else-moved-clause-stands g c = λ start run.
-    let o = opens g.L.Link.seen start (g.N.Net.seen c.args.net.now) c.args.self.now.single c.tick.new.self c.args.self.now.ends c.args.self.now.player c.args.now c.tick.ensures.turn c.tick.ensures.open_ run c.requires.may_tick c.requires.later in
-    let s1 = c.tick.new.self in
-    let s2 = c.turn-turn.new.single in
-    let p = c.args.self.now.player in
-    let t = c.turn-turn.ensures in
-    let st = quiet_stands s1 s2 p c.args.now t.quietly t.sound o.stands in
-    let y = c.play.ensures in
-    let dry : IsDry false s2 = t.dry ∙ c.if-turn.false in
-    run_on g.L.Link.seen start (g.N.Net.seen c.turn-turn.new.net) s2 c.play.new.self.single c.turn-turn.new.self c.play.new.self.ends c.play.new.self.player c.args.now y.goes_on y.same.1 y.stands dry (t.stands start o.links)
-
-pub returns-else-moved-clause-ticked : goal.returns-else-moved-clause-ticked
-returns-else-moved-clause-ticked g c =
-    let run = c.requires.stands in
-    let o = opens g.L.Link.seen run.0 (g.N.Net.seen c.args.net.now) c.args.self.now.single c.tick.new.self c.args.self.now.ends c.args.self.now.player c.args.now c.tick.ensures.turn c.tick.ensures.open_ run.1 c.requires.may_tick c.requires.later in
-    let s1 = c.tick.new.self in
-    let s2 = c.turn-turn.new.single in
-    let p = c.args.self.now.player in
-    let t = c.turn-turn.ensures in
-    let st = quiet_stands s1 s2 p c.args.now t.quietly t.sound o.stands in
-    let y = c.play.ensures in
-    record { now_is = sym y.stands.now_is; ticks_are = on_ticks s2 c.play.new.self.single y.goes_on ∙ (quiet_ticks s1 s2 t.quietly ∙ o.ticks_are) }
-
-pub returns-else-moved-clause-printed : goal.returns-else-moved-clause-printed
-returns-else-moved-clause-printed g c = λ before h.
+pub returns-in-Rests-clause-printed : goal.returns-in-Rests-clause-printed
+returns-in-Rests-clause-printed g c = λ before h.
     let run = c.requires.stands in
     let o = opens g.L.Link.seen run.0 (g.N.Net.seen c.args.net.now) c.args.self.now.single c.tick.new.self c.args.self.now.ends c.args.self.now.player c.args.now c.tick.ensures.turn c.tick.ensures.open_ run.1 c.requires.may_tick c.requires.later in
     let s1 = c.tick.new.self in
@@ -247,17 +214,17 @@ returns-in-Over-clause-printed g c = λ before h.
     round_prints c.drain.result before (g.S.Sink.seen c.play.new.out).text c.drain.new.self.single.seen c.drain.new.self.player d.fault.0 d.fault.1 (subst (λ q. HasPrinted before (g.S.Sink.seen c.play.new.out).text c.drain.new.self.single.seen q) (sym d.same.0) (f ∙ ap (λ ts. grown before (joined ts)) (sym d.texts)))
 
 pub returns-then-turn-clause-late : goal.returns-then-turn-clause-late
-returns-then-turn-clause-late g c not_req =
+returns-then-turn-clause-late g c =
     let s0 = c.args.self.now.single in
     let s1 = c.tick.new.self in
     let s2 = c.turn-turn.new.single in
     let p = c.args.self.now.player in
     let tick = late_tick s0 s1 p c.args.now c.tick.ensures.turn c.requires.stands.1.play in
     let quiet = late_quiet s1 s2 p c.turn-turn.ensures.quietly in
-    ends_late s0 s1 s2 p p refl (c.requires.late not_req) tick quiet
+    ends_late s0 s1 s2 p p refl c.requires.late tick quiet
 
-pub returns-then-moved-clause-late : goal.returns-then-moved-clause-late
-returns-then-moved-clause-late g c not_req =
+pub returns-in-Rests-clause-late : goal.returns-in-Rests-clause-late
+returns-in-Rests-clause-late g c =
     let s0 = c.args.self.now.single in
     let s1 = c.tick.new.self in
     let s2 = c.turn-turn.new.single in
@@ -269,29 +236,12 @@ returns-then-moved-clause-late g c not_req =
     let y = c.play.ensures in
     let on = late_then s1 s2 s3 p quiet (late_on s2 s3 p y.goes_on) in
     elim (open_or p.over) [
-      | inl open_ ↦ goes_early s0 s1 s3 p q y.same.0 (c.requires.late not_req) tick on open_
-      | inr over ↦ absurd (let no : goings.Rests c.in-Rests.moved ≡ goings.Over = sym c.in-Rests.is ∙ y.over over in cc)
-    ]
-
-pub returns-else-moved-clause-late : goal.returns-else-moved-clause-late
-returns-else-moved-clause-late g c not_req =
-    let s0 = c.args.self.now.single in
-    let s1 = c.tick.new.self in
-    let s2 = c.turn-turn.new.single in
-    let p = c.args.self.now.player in
-    let tick = late_tick s0 s1 p c.args.now c.tick.ensures.turn c.requires.stands.1.play in
-    let quiet = late_quiet s1 s2 p c.turn-turn.ensures.quietly in
-    let s3 = c.play.new.self.single in
-    let q = c.play.new.self.player in
-    let y = c.play.ensures in
-    let on = late_then s1 s2 s3 p quiet (late_on s2 s3 p y.goes_on) in
-    elim (open_or p.over) [
-      | inl open_ ↦ goes_early s0 s1 s3 p q y.same.0 (c.requires.late not_req) tick on open_
+      | inl open_ ↦ goes_early s0 s1 s3 p q y.same.0 c.requires.late tick on open_
       | inr over ↦ absurd (let no : goings.Rests c.in-Rests.moved ≡ goings.Over = sym c.in-Rests.is ∙ y.over over in cc)
     ]
 
 pub returns-in-OutFault-clause-late : goal.returns-in-OutFault-clause-late
-returns-in-OutFault-clause-late g c not_req =
+returns-in-OutFault-clause-late g c =
     let s0 = c.args.self.now.single in
     let s1 = c.tick.new.self in
     let s2 = c.turn-turn.new.single in
@@ -300,10 +250,10 @@ returns-in-OutFault-clause-late g c not_req =
     let quiet = late_quiet s1 s2 p c.turn-turn.ensures.quietly in
     let s3 = c.play.new.self.single in
     let on = late_then s1 s2 s3 p quiet (late_on s2 s3 p c.play.ensures.goes_on) in
-    ends_late s0 s1 s3 p c.play.new.self.player c.play.ensures.same.0 (c.requires.late not_req) tick on
+    ends_late s0 s1 s3 p c.play.new.self.player c.play.ensures.same.0 c.requires.late tick on
 
 pub returns-in-NoMemory-clause-late : goal.returns-in-NoMemory-clause-late
-returns-in-NoMemory-clause-late g c not_req =
+returns-in-NoMemory-clause-late g c =
     let s0 = c.args.self.now.single in
     let s1 = c.tick.new.self in
     let s2 = c.turn-turn.new.single in
@@ -312,10 +262,10 @@ returns-in-NoMemory-clause-late g c not_req =
     let quiet = late_quiet s1 s2 p c.turn-turn.ensures.quietly in
     let s3 = c.play.new.self.single in
     let on = late_then s1 s2 s3 p quiet (late_on s2 s3 p c.play.ensures.goes_on) in
-    ends_late s0 s1 s3 p c.play.new.self.player c.play.ensures.same.0 (c.requires.late not_req) tick on
+    ends_late s0 s1 s3 p c.play.new.self.player c.play.ensures.same.0 c.requires.late tick on
 
 pub returns-in-Over-clause-late : goal.returns-in-Over-clause-late
-returns-in-Over-clause-late g c not_req =
+returns-in-Over-clause-late g c =
     let s0 = c.args.self.now.single in
     let s1 = c.tick.new.self in
     let s2 = c.turn-turn.new.single in
@@ -328,4 +278,17 @@ returns-in-Over-clause-late g c not_req =
     let d = c.drain.ensures in
     let on = late_then s1 s2 s3 p quiet (late_on s2 s3 p y.goes_on) in
     let script = ap (λ (x : Player). x.script) d.same.0 ∙ y.same.0 in
-    drains_late s0 s1 s3 p c.drain.new.self.player script (c.requires.late not_req) tick on c.drain.result s4 (late_on s3 s4 p d.goes_on) (d.stalls (ap (λ x. is_req x.role) y.same.0 ∙ not_req))
+    drains_late s0 s1 s3 p c.drain.new.self.player script c.requires.late tick on c.drain.result s4 (late_on s3 s4 p d.goes_on) d.stalls
+
+pub returns-in-Rests-clause-moved : goal.returns-in-Rests-clause-moved
+returns-in-Rests-clause-moved g c =
+    let s0 = c.args.self.now.single in
+    let s2 = c.turn-turn.new.single in
+    let s3 = c.play.new.self.single in
+    round_moves c.in-Rests.moved c.play.new.self.player s0 s2 s3 (before_play c.args.now s0 c.tick.new.self s2 c.tick.ensures.turn c.turn-turn.ensures.quietly) (subst (λ r. MovesStill r s2 s3) c.in-Rests.is c.play.ensures.moved)
+
+pub returns-in-Over-clause-moved : goal.returns-in-Over-clause-moved
+returns-in-Over-clause-moved g c =
+    let over = (subst (λ r. GoesTo r c.play.new.self.single c.play.new.self.player) c.in-Over.is c.play.ensures.went).1 in
+    let d = c.drain.ensures in
+    drained_moves c.drain.result c.drain.new.self.player c.args.self.now.single c.drain.new.self.single d.rests (λ open_. over (ap (λ (x : Player). x.over) (sym d.same.0) ∙ open_))

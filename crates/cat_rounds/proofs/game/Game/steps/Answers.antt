@@ -1,7 +1,8 @@
-use Rattle.std.proofs.Common.{◌≡◌, refl, true, Option, Some, None}
+use Rattle.std.proofs.Common.{◌≡◌, refl, inr, true, false, Option, Some, None}
 use Rattle.std.specs.Prelude.{is_some}
 use Rattle.sp_base.specs.declared.OpName.{OpName}
 use Rattle.cat_rounds.proofs.Rounding.{along_then, served_on}
+use Rattle.cat_rounds.proofs.Resting.{kept_then, rests_is}
 use Rattle.cat_rounds.proofs.game.Game.steps.Goals as goal
 
 none_held : (o : Option OpName) → is_some o ≡ true → o ≡ None → ⊥
@@ -23,4 +24,12 @@ steps-preserved g c =
       played = λ _. e.rested;
       pipes = λ flood body free none. elim (none_held c.step.new.self.op (e.begun refl) free) [ ];
       ends = i.ends;
+      still = λ e. cc;
     }
+
+pub returns-in-Rests-clause-kept : goal.returns-in-Rests-clause-kept
+returns-in-Rests-clause-kept g c e =
+    kept_then c.args.self.now.player.op c.steps.self.player.op c.step.new.self.op (c.steps.invariant.still (rests_is c.steps.moved false e)) (c.in-Rests.ensures.kept refl)
+
+pub returns-clause-kept : goal.returns-clause-kept
+returns-clause-kept g c e = inr (c.steps.invariant.still (rests_is c.steps.moved false e))

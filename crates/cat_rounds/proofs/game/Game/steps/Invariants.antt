@@ -1,4 +1,4 @@
-use Rattle.std.proofs.Common.{◌≡◌, ◌<◌}
+use Rattle.std.proofs.Common.{◌≡◌, ◌<◌, false}
 use Rattle.cat_rounds.specs.Lasting.{HasServed, HasPlayed}
 use Rattle.cat_rounds.specs.Stepping.{KnowsPipes}
 use Rattle.cat_rounds.proofs.Rounding.{Along}
@@ -11,4 +11,5 @@ invariant-steps g l = record {
   played : 0 < l.counter → HasPlayed l.self.single.setting l.self.single.seen l.self.player;
   pipes : KnowsPipes l.has_pipe l.self.single l.self.player;
   ends : l.self.ends ≡ l.initial.self.ends;
+  still : l.moved ≡ false → l.self.player.op ≡ l.initial.self.player.op;
 }

@@ -1,5 +1,6 @@
 use Rattle.cat_rounds.proofs.Rounding.{serve_along, goes_then}
 use Rattle.cat_rounds.proofs.Pipes.{serve_knows}
+use Rattle.cat_rounds.proofs.Resting.{at_rest, swept_more}
 use Rattle.cat_rounds.proofs.game.Game.sweep.Goals as goal
 
 pub steps-requires-clause-stands : goal.steps-requires-clause-stands
@@ -63,3 +64,23 @@ pub returns-in-NoMemory-clause-printed : goal.returns-in-NoMemory-clause-printed
 returns-in-NoMemory-clause-printed g c =
     let first = (serve_along c.serve-served.result c.args.self.now.single c.serve-served.new.self c.args.self.now.player (g.S.Sink.seen c.args.out.now) c.args.now c.serve-served.ensures.turn c.requires.stands).0 in
     λ before h. c.in-NoMemory.ensures.printed before (first.printed before h)
+
+pub returns-then-went-clause-turns : goal.returns-then-went-clause-turns
+returns-then-went-clause-turns g c =
+    swept_more c.serve-served.result c.args.self.now.single c.serve-served.new.self c.steps.new.self.single c.serve-served.ensures.turn c.steps.ensures.goes_on
+
+pub returns-else-went-clause-turns : goal.returns-else-went-clause-turns
+returns-else-went-clause-turns g c =
+    swept_more c.serve-served.result c.args.self.now.single c.serve-served.new.self c.steps.new.self.single c.serve-served.ensures.turn c.steps.ensures.goes_on
+
+pub returns-in-Over-clause-turns : goal.returns-in-Over-clause-turns
+returns-in-Over-clause-turns g c =
+    swept_more c.serve-served.result c.args.self.now.single c.serve-served.new.self c.steps.new.self.single c.serve-served.ensures.turn c.steps.ensures.goes_on
+
+pub returns-in-OutFault-clause-turns : goal.returns-in-OutFault-clause-turns
+returns-in-OutFault-clause-turns g c =
+    swept_more c.serve-served.result c.args.self.now.single c.serve-served.new.self c.steps.new.self.single c.serve-served.ensures.turn c.steps.ensures.goes_on
+
+pub returns-in-NoMemory-clause-turns : goal.returns-in-NoMemory-clause-turns
+returns-in-NoMemory-clause-turns g c =
+    swept_more c.serve-served.result c.args.self.now.single c.serve-served.new.self c.steps.new.self.single c.serve-served.ensures.turn c.steps.ensures.goes_on

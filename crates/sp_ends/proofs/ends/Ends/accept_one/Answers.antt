@@ -1,11 +1,9 @@
-use Rattle.std.proofs.Common.{◌≡◌, Some, subst, ap, slice_get, refl, arith}
-use Rattle.std.specs.FinMap.{get}
-use Rattle.sp_base.specs.Steps.{IsHandedOut}
-use Rattle.sp_base.specs.declared.addr.Scheme.TheVariants as schemes
+use Rattle.std.proofs.Common.{◌≡◌, Some, ap, slice_get, refl, arith}
 use Rattle.sp_ends.specs.Standing.{EndsView}
 use Rattle.sp_ends.proofs.NewcomingAsks.{at_index}
 use Rattle.sp_ends.proofs.Serving.{same_dialers}
 use Rattle.sp_ends.proofs.NewcomingTurn.{untouched}
+use Rattle.sp_ends.proofs.Arriving.{arrives_served}
 use Rattle.sp_ends.proofs.Freeing.{frees_none, frees_both}
 use Rattle.sp_ends.proofs.ends.Ends.accept_one.Goals as goal
 
@@ -13,9 +11,8 @@ pub welcome-requires-clause-fresh : goal.welcome-requires-clause-fresh
 welcome-requires-clause-fresh g c =
     let net = g.N.Net.seen c.args.net.now in
     let at : slice_get c.args.self.now.listeners c.args.i ≡ Some c.index.result.now = at_index c.self.inside.listeners.items c.args.self.now.listeners c.args.i c.index.result.now (ap (λ (e : EndsView g.row.L.Denot). e.listeners) c.self.view_is) c.requires.inside c.index.ensures in
-    let tcp : get net.listens c.index.result.now ≡ Some schemes.Tcp = c.requires.listens c.index.result.now at in
     let i = c.requires.in_turn in
-    (i.0, net, i.1, subst (λ (s : _). IsHandedOut (g.L.Link.seen c.in-Got.link) s net (g.N.Net.seen c.accept.new.self)) tcp c.in-Got.ensures.shows)
+    (i.0, net, i.1, arrives_served i.0.origins c.args.self.now c.args.i c.index.result.now (g.L.Link.seen c.in-Got.link) c.serving-way.result net (g.N.Net.seen c.accept.new.self) i.1.of_run at (c.serving-way.ensures c.index.result.now at) (c.requires.listens c.index.result.now at) c.in-Got.ensures.shows)
 
 pub returns-in-NotYet-clause-in_turn : goal.returns-in-NotYet-clause-in_turn
 returns-in-NotYet-clause-in_turn g c start i = untouched g.L.Link.seen start c.args.self.now (g.N.Net.seen c.args.net.now) (g.N.Net.seen c.accept.new.self) c.args.single.now c.args.now 0 c.in-NotYet.ensures.shows.0 i
@@ -33,8 +30,7 @@ pub returns-in-Got-clause-in_turn : goal.returns-in-Got-clause-in_turn
 returns-in-Got-clause-in_turn g c start i =
     let net = g.N.Net.seen c.args.net.now in
     let at : slice_get c.args.self.now.listeners c.args.i ≡ Some c.index.result.now = at_index c.self.inside.listeners.items c.args.self.now.listeners c.args.i c.index.result.now (ap (λ (e : EndsView g.row.L.Denot). e.listeners) c.self.view_is) c.requires.inside c.index.ensures in
-    let tcp : get net.listens c.index.result.now ≡ Some schemes.Tcp = c.requires.listens c.index.result.now at in
-    c.welcome.ensures.in_turn start net i (subst (λ (s : _). IsHandedOut (g.L.Link.seen c.in-Got.link) s net (g.N.Net.seen c.accept.new.self)) tcp c.in-Got.ensures.shows)
+    c.welcome.ensures.in_turn start net i (arrives_served start.origins c.args.self.now c.args.i c.index.result.now (g.L.Link.seen c.in-Got.link) c.serving-way.result net (g.N.Net.seen c.accept.new.self) i.of_run at (c.serving-way.ensures c.index.result.now at) (c.requires.listens c.index.result.now at) c.in-Got.ensures.shows)
 
 pub returns-in-NotYet-clause-frees : goal.returns-in-NotYet-clause-frees
 returns-in-NotYet-clause-frees g c =

@@ -31,7 +31,7 @@ dial_one-requires-clause-dialable g c =
     let at = at_index c.self-in-dials.inside.dialers.items c.dials.self.dialers c.dials.i c.index.result.now there below c.index.ensures in
     let asked = c.requires.asked in
     let a = dialable_here g.L.Link.seen c.dials.i c.args.self.now c.dials.self (g.N.Net.seen c.args.net.now) (g.N.Net.seen c.dials.net) c.args.single.now c.dials.single c.args.now fits c.dials.turn.is_dry c.dials.invariant asked.0 asked.1 asked.2.dials c.index.result.now at in
-    (c.index.result.now, at, a.0, a.1)
+    (c.index.result.now, at, a)
 
 pub dials-preserved-then-not-is_due : goal.dials-preserved-then-not-is_due
 dials-preserved-then-not-is_due g c =

@@ -16,7 +16,7 @@ links-init g c =
     let seen = g.L.Link.seen in
     let net = g.N.Net.seen c.args.net.now in
     let s = c.requires.stands in
-    (links_first seen c.ends.inside.newcomers.items net (subst (λ (ns : List (Newcomer g.row.L.Denot)). AllByRecursion (λ n. (seen n.link).place < net.opened) ns) (sym (ap (λ (e : EndsView g.row.L.Denot). e.newcomers) c.ends.view_is)) (newcomers_below seen s.0 s.1 s.2 net c.args.self s.3)), c.ends.invariant)
+    (links_first seen c.ends.inside.newcomers.items net (subst (λ (ns : List (Newcomer g.row.L.Denot)). AllByRecursion (λ n. (seen n.opening.link).place < net.opened) ns) (sym (ap (λ (e : EndsView g.row.L.Denot). e.newcomers) c.ends.view_is)) (newcomers_below seen s.0 s.1 s.2 net c.args.self s.3)), c.ends.invariant)
 
 pub links-preserved : goal.links-preserved
 links-preserved g c =
@@ -45,5 +45,5 @@ returns-clause-left g c z start h legal closed stands has =
     let empty : c.links.ends-inside.newcomers.items ≡ [] = none_left c.links.ends-inside.newcomers.items (deque_len c.links.ends-inside.newcomers) (omega (arith, c.links.ends-inside.newcomers.ok.0)) c.in_default.ensures.value in
     let same : c.ends.inside.newcomers.items ≡ c.args.self.newcomers = ap (λ (e : EndsView g.row.L.Denot). e.newcomers) c.ends.view_is in
     let links : net.back ≡ with_links seen first.back c.args.self.newcomers = links_all seen c.ends.inside.newcomers.items c.links.ends-inside.newcomers.items first net c.links.invariant.0 empty ∙ ap (with_links seen first.back) same in
-    links_left seen z start h first c.args.self c.args.wires legal closed stands has wires.framed last (counts_through first net last c.links.invariant.0.counts wires.counts)
+    links_left seen z start h first c.args.self c.args.wires legal closed stands has wires.shut last (counts_through first net last c.links.invariant.0.counts wires.counts)
     (wires.back ∙ ap (λ (b : FinMap nat_cmp LinkView). with_wires b c.args.wires) links)

@@ -3,7 +3,7 @@ use Rattle.std.proofs.Common.{refl, sym, ap, ◌∙◌, subst, List, [], ◌∷�
 use Rattle.sp_ends.specs.declared.newcomer.Newcomer.{Newcomer}
 use Rattle.sp_ends.specs.declared.dialer.Dialer.{Dialer}
 use Rattle.sp_ends.specs.Standing.{EndsView, LinksStand}
-use Rattle.sp_ends.specs.Turning.{AreSameDialers, AreYoung}
+use Rattle.sp_ends.specs.Turning.{AreSameDialers, AreYoung, addrs_of}
 use Rattle.sp_ends.proofs.Young.{young_more}
 use Rattle.sp_ends.proofs.ends.Ends.greet.Goals as goal
 use Rattle.sp_ends.proofs.Freeing.{frees_none, frees_lost}
@@ -19,14 +19,14 @@ returns-in-Stays-clause-in_turn g c =
     let long = ap length whole in
     let room = c.requires.room in
     turn_after g.L.Link.seen start c.args.newcomer c.args.self.now _ (g.N.Net.seen c.args.net.now) (g.N.Net.seen c.greet_one.new.net) c.args.now k k c.args.single.now c.greet_one.new.single
-    (record { role = ap (λ (e : EndsView g.row.L.Denot). e.role) c.self.view_is; listeners = ap (λ (e : EndsView g.row.L.Denot). e.listeners) c.self.view_is; dials = ap (λ (e : EndsView g.row.L.Denot). length e.dialers) c.self.view_is })
+    (record { role = ap (λ (e : EndsView g.row.L.Denot). e.role) c.self.view_is; dice = ap (λ (e : EndsView g.row.L.Denot). e.dice) c.self.view_is; listeners = ap (λ (e : EndsView g.row.L.Denot). e.listeners) c.self.view_is; dials = ap (λ (e : EndsView g.row.L.Denot). addrs_of e.dialers) c.self.view_is })
     c.in-Stays.ensures.quietly c.in-Stays.ensures.sound (omega (arith, long, room, length-append c.args.self.now.newcomers (c.in-Stays.newcomer ∷ []))) i
     (subst (λ (ns : List (Newcomer g.row.L.Denot)). LinksStand g.L.Link.seen c.greet_one.new.single.setting start c.greet_one.new.single.seen (g.N.Net.seen c.greet_one.new.net) ns k) whole (c.in-Stays.ensures.stands start c.args.self.now.newcomers k i.links))
 
 pub returns-in-Stays-clause-serves : goal.returns-in-Stays-clause-serves
 returns-in-Stays-clause-serves g c =
     record {
-      ends = record { role = ap (λ (e : EndsView g.row.L.Denot). e.role) c.self.view_is; listeners = ap (λ (e : EndsView g.row.L.Denot). e.listeners) c.self.view_is; dials = ap (λ (e : EndsView g.row.L.Denot). length e.dialers) c.self.view_is };
+      ends = record { role = ap (λ (e : EndsView g.row.L.Denot). e.role) c.self.view_is; dice = ap (λ (e : EndsView g.row.L.Denot). e.dice) c.self.view_is; listeners = ap (λ (e : EndsView g.row.L.Denot). e.listeners) c.self.view_is; dials = ap (λ (e : EndsView g.row.L.Denot). addrs_of e.dialers) c.self.view_is };
       dialers = subst (λ (ds : List Dialer). AreSameDialers c.args.self.now.dialers ds) (sym (ap (λ (e : EndsView g.row.L.Denot). e.dialers) c.self.view_is)) (same_dialers c.args.self.now.dialers);
       counts = c.in-Stays.ensures.counts;
       quietly = c.in-Stays.ensures.quietly;

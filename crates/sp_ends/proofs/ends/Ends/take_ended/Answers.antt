@@ -5,7 +5,7 @@ use Rattle.sp_ends.specs.Standing.{LinksStand}
 use Rattle.sp_ends.proofs.ends.Ends.take_ended.Goals as goal
 use Rattle.sp_ends.proofs.Turns.{quiet_one, first_play, settles_play, dry_first, dry_settles, sound_one}
 use Rattle.sp_ends.proofs.Serving.{turn_on, taken_stands, settled_stands, ends_none, ends_lost, same_dialers, counts_none, counts_back, newcomers_lost}
-use Rattle.sp_ends.proofs.Taking.{left_by}
+use Rattle.sp_ends.proofs.Taking.{left_by, never_none}
 use Rattle.sp_ends.proofs.Freeing.{frees_none, frees_lost}
 
 pub returns-in_default-clause-in_turn : goal.returns-in_default-clause-in_turn
@@ -28,15 +28,21 @@ pub give_back-requires : goal.give_back-requires
 give_back-requires g c =
     let i = c.requires.in_turn in
     let took = c.in-Some.ensures.turn in
-    (left_by g.L.Link.seen c.args.single.now.setting i.0 (g.N.Net.seen c.args.net.now) c.args.single.now.seen c.in-Some.field-0.pipe c.in-Some.field-0.why c.in-Some.field-0.wire c.leave_wire-link.result i.1.sound.legal i.1.links.kept took.said.1 c.leave_wire-link.ensures).inside
+    (left_by g.L.Link.seen c.args.single.now.setting i.0 (g.N.Net.seen c.args.net.now) c.args.single.now.seen c.in-Some.field-0.pipe c.in-Some.field-0.why c.in-Some.field-0.wire i.1.links.kept took.said.1 c.in-Some-leave_wire.link i.1.sound.legal c.in-Some-leave_wire.ensures).inside
+
+pub unreachable-requires : goal.unreachable-requires
+unreachable-requires g c =
+    let i = c.requires.in_turn in
+    let took = c.in-Some.ensures.turn in
+    never_none g.L.Link.seen c.args.single.now.setting i.0 (g.N.Net.seen c.args.net.now) c.args.single.now.seen c.in-Some.field-0.pipe c.in-Some.field-0.why c.in-Some.field-0.wire i.1.links.kept took.said.1 c.in_default-leave_wire.ensures
 
 pub returns-clause-in_turn : goal.returns-clause-in_turn
 returns-clause-in_turn g c =
     λ start i.
     let took = c.in-Some.ensures.turn in
-    let left = left_by g.L.Link.seen c.args.single.now.setting start (g.N.Net.seen c.args.net.now) c.args.single.now.seen c.in-Some.field-0.pipe c.in-Some.field-0.why c.in-Some.field-0.wire c.leave_wire-link.result i.sound.legal i.links.kept took.said.1 c.leave_wire-link.ensures in
+    let left = left_by g.L.Link.seen c.args.single.now.setting start (g.N.Net.seen c.args.net.now) c.args.single.now.seen c.in-Some.field-0.pipe c.in-Some.field-0.why c.in-Some.field-0.wire i.links.kept took.said.1 c.in-Some-leave_wire.link i.sound.legal c.in-Some-leave_wire.ensures in
     let same = newcomers_lost c.args.self.now c.lost.new.self c.lost.ensures.same in
-    let stands = taken_stands g.L.Link.seen start c.args.self.now.newcomers (length c.args.self.now.newcomers) _ c.args.single.now c.take_ended.new.self took (g.N.Net.seen c.args.net.now) (g.N.Net.seen c.give_back.new.self) c.in-Some.field-0.pipe (g.L.Link.seen c.leave_wire-link.result) c.give_back.ensures left.is_place left.off left.is_shut left.asked left.carries took.said.2 i.links in
+    let stands = taken_stands g.L.Link.seen start c.args.self.now.newcomers (length c.args.self.now.newcomers) _ c.args.single.now c.take_ended.new.self took (g.N.Net.seen c.args.net.now) (g.N.Net.seen c.give_back.new.self) c.in-Some.field-0.pipe (g.L.Link.seen c.in-Some-leave_wire.link) c.give_back.ensures left.is_place left.off left.is_shut left.asked left.carries took.said.2 i.links in
     turn_on g.L.Link.seen start c.args.self.now c.lost.new.self (g.N.Net.seen c.args.net.now) (g.N.Net.seen c.give_back.new.self) c.args.now (length c.args.self.now.newcomers) (length c.lost.new.self.newcomers) c.args.single.now c.take_ended.new.self (ends_lost c.args.self.now c.lost.new.self c.lost.ensures.same)
     (quiet_one _ c.args.single.now c.take_ended.new.self took (first_play _ took.turn took.said.2 refl)) (sound_one _ c.args.single.now c.take_ended.new.self took) (let few = i.few in let long = ap length same in omega (arith, few, long)) i
     (subst (λ (ns : List (Newcomer g.row.L.Denot)). LinksStand g.L.Link.seen c.take_ended.new.self.setting start c.take_ended.new.self.seen (g.N.Net.seen c.give_back.new.self) ns (length ns)) (sym same) stands)
@@ -47,7 +53,7 @@ returns-clause-serves g c =
     record {
       ends = ends_lost c.args.self.now c.lost.new.self c.lost.ensures.same;
       dialers = c.lost.ensures.same.dialers;
-      counts = counts_back (g.L.Link.seen c.leave_wire-link.result) (g.N.Net.seen c.args.net.now) (g.N.Net.seen c.give_back.new.self) c.give_back.ensures;
+      counts = counts_back (g.L.Link.seen c.in-Some-leave_wire.link) (g.N.Net.seen c.args.net.now) (g.N.Net.seen c.give_back.new.self) c.give_back.ensures;
       quietly = quiet_one _ c.args.single.now c.take_ended.new.self took (first_play _ took.turn took.said.2 refl);
     }
 
@@ -67,8 +73,8 @@ pub returns-clause-frees : goal.returns-clause-frees
 returns-clause-frees g c =
     let i = c.requires.in_turn in
     let took = c.in-Some.ensures.turn in
-    let left = left_by g.L.Link.seen c.args.single.now.setting i.0 (g.N.Net.seen c.args.net.now) c.args.single.now.seen c.in-Some.field-0.pipe c.in-Some.field-0.why c.in-Some.field-0.wire c.leave_wire-link.result i.1.sound.legal i.1.links.kept took.said.1 c.leave_wire-link.ensures in
-    frees_lost c.place-place.result (g.N.Net.seen c.args.net.now) (g.N.Net.seen c.give_back.new.self) (record { link = g.L.Link.seen c.leave_wire-link.result; is_place = sym c.place-place.ensures; inside = subst (λ (q : ℕ). q < (g.N.Net.seen c.args.net.now).opened) (sym c.place-place.ensures) left.inside; back = c.give_back.ensures }) c.args.now c.args.self.now.dialers c.lost.new.self.dialers c.lost.ensures.freed
+    let left = left_by g.L.Link.seen c.args.single.now.setting i.0 (g.N.Net.seen c.args.net.now) c.args.single.now.seen c.in-Some.field-0.pipe c.in-Some.field-0.why c.in-Some.field-0.wire i.1.links.kept took.said.1 c.in-Some-leave_wire.link i.1.sound.legal c.in-Some-leave_wire.ensures in
+    frees_lost c.place-place.result (g.N.Net.seen c.args.net.now) (g.N.Net.seen c.give_back.new.self) (record { link = g.L.Link.seen c.in-Some-leave_wire.link; is_place = sym c.place-place.ensures; inside = subst (λ (q : ℕ). q < (g.N.Net.seen c.args.net.now).opened) (sym c.place-place.ensures) left.inside; back = c.give_back.ensures }) c.args.now c.args.self.now.dialers c.lost.new.self.dialers c.lost.ensures.freed
 
 pub returns-in_default-clause-none : goal.returns-in_default-clause-none
 returns-in_default-clause-none g c = λ no. c.in_default.ensures.turn.said.0

@@ -1,0 +1,7 @@
+mod Laws
+mod Values
+mod Feeding
+mod Calling
+mod Finishing
+mod Sourcing
+mod Opening

@@ -1,0 +1,84 @@
+-- When a round says that something moves still.
+use Rattle.std.proofs.Common.{◌≡◌, ◌≤◌, ◌+◌, ◌++◌, ◌∷◌, inl, inr, ℕ, Bool, true, false, List, [], length, Option, Some, None, refl, sym, ap, subst, ◌∙◌, arith}
+use Rattle.std.proofs.lemmas.List.{length-append}
+use Rattle.turn_lock.specs.declared.turn.Turn.{Turn}
+use Rattle.sp_base.specs.declared.OpName.{OpName}
+use Rattle.sp_history.specs.declared.entry.Entry.{Entry}
+use Rattle.sp_history.specs.declared.setting.Setting.{Setting}
+use Rattle.sp_history.specs.Past.{past_of}
+use Rattle.sp_history.specs.Swept.{IsSwept}
+use Rattle.sp_core.specs.declared.serve.Served.{Served}
+use Rattle.sp_single.specs.Singles.{SingleView, TookOne, Ticks}
+use Rattle.sp_ends.specs.Turning.{Quietly}
+use Rattle.cat_play.specs.Scripts.{under_way}
+use Rattle.cat_play.specs.Steps.{AddsNone, moves_ends, moves_play}
+use Rattle.cat_rounds.specs.declared.player.Over.TheVariants as overs
+use Rattle.cat_rounds.specs.declared.player.Player.{Player}
+use Rattle.cat_rounds.specs.declared.rounds.Going.TheVariants as goings
+use Rattle.cat_rounds.specs.declared.rounds.Round.{Round}
+use Rattle.cat_rounds.specs.declared.rounds.Round.TheVariants as rounds
+use Rattle.cat_rounds.specs.Lasting.{IsUnderWay}
+use Rattle.cat_rounds.specs.Stepping.{Stands, GoesOnBy}
+use Rattle.cat_rounds.specs.Resting.{IsKept, IsAtRest, HasGoneFar, MovesStill, RoundMoves}
+use Rattle.cat_rounds.proofs.Rounding.{ServesSo}
+
+-- ---- At rest
+
+hand_is : (o : Option OpName) (h : List (Turn Entry)) → IsUnderWay o h → under_way (past_of h) ≡ o
+hand_is None h u = u
+hand_is (Some op) h u = u.0
+
+kept_is : (a b c d : Option OpName) → c ≡ a → d ≡ b → IsKept a b → IsKept c d
+kept_is a b c d e f (inl none) = inl (f ∙ none)
+kept_is a b c d e f (inr same) = inr (f ∙ same ∙ sym e)
+
+-- the same after something that left it
+pub kept_then : (a b c : Option OpName) → b ≡ a → IsKept b c → IsKept a c
+kept_then a b c e (inl none) = inl none
+kept_then a b c e (inr same) = inr (same ∙ e)
+
+pub rests_is : (a b : Bool) → goings.Rests a ≡ goings.Rests b → a ≡ b
+rests_is a b e = cc
+
+-- after a serve in which nothing moved, and steps that began nothing
+pub at_rest : (r : Served) (s s' s'' : SingleView) (p q : Player) (t : ℕ) → TookOne (ServesSo r) s s' → r.moved ≡ false → GoesOnBy s' s'' → Stands s p t → Stands s'' q t → IsKept p.op q.op → IsAtRest s''
+at_rest r s s' s'' p q t took still on was after kept =
+    record {
+      before = s.seen;
+      turn = took.turn;
+      since = subst (λ (h : List (Turn Entry)). AddsNone moves_ends h s''.seen) took.seen on.links;
+      swept = subst (λ (z : Setting). IsSwept z (past_of s.seen) took.turn) (sym (on.setting ∙ took.setting)) took.said.0;
+      still = sym took.said.3.2 ∙ still;
+      none_begun = kept_is p.op q.op (under_way (past_of s.seen)) (under_way (past_of s''.seen)) (hand_is p.op s.seen was.play.hand) (hand_is q.op s''.seen after.play.hand) kept;
+    }
+
+-- ---- Turns more
+
+pub longer : (moves : Entry → Bool) (h h' : List (Turn Entry)) → AddsNone moves h h' → length h ≤ length h'
+longer moves h h' (turns, is, none) = let n = ap length is ∙ length-append h turns in omega (arith, n)
+
+took_more : (says : Setting → List (Turn Entry) → Turn Entry → Type 0) (s s' : SingleView) → TookOne says s s' → length s'.seen ≡ length s.seen + 1
+took_more says s s' took = ap length took.seen ∙ length-append s.seen (took.turn ∷ [])
+
+pub swept_more : (r : Served) (s s' s'' : SingleView) → TookOne (ServesSo r) s s' → GoesOnBy s' s'' → length s.seen + 1 ≤ length s''.seen
+swept_more r s s' s'' took on =
+    let one = took_more (ServesSo r) s s' took in
+    let more = longer moves_ends s'.seen s''.seen on.links in
+    omega (arith, one, more)
+
+pub before_play : (t : ℕ) (s s' s'' : SingleView) → TookOne (λ z h u. Ticks h u t) s s' → Quietly s' s'' → length s.seen ≤ length s''.seen
+before_play t s s' s'' took quietly =
+    let one = took_more (λ z h u. Ticks h u t) s s' took in
+    let more = longer moves_play s'.seen s''.seen quietly.silent in
+    omega (arith, one, more)
+
+-- ---- Rounds
+
+pub round_moves : (m : Bool) (p : Player) (s s' s'' : SingleView) → length s.seen ≤ length s'.seen → MovesStill (goings.Rests m) s' s'' → RoundMoves (rounds.Goes m) p s s''
+round_moves false p s s' s'' more w = λ open_. w
+round_moves true p s s' s'' more w = omega (arith, more, w)
+
+pub drained_moves : (r : Round) (p : Player) (s s' : SingleView) → (r ≡ rounds.Goes true → ⊥) → (p.over ≡ overs.Open → ⊥) → RoundMoves r p s s'
+drained_moves (rounds.Goes false) p s s' rests over = λ open_. absurd (over open_)
+drained_moves (rounds.Goes true) p s s' rests over = absurd (rests refl)
+drained_moves (rounds.Ends why) p s s' rests over = tt

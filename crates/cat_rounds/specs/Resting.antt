@@ -1,0 +1,49 @@
+-- When a round says that something moves still.
+use Rattle.std.specs.Prelude.{◌≡◌, ◌⊎◌, ◌≤◌, ◌+◌, ◌++◌, ℕ, ⊤, true, false, List, [], ◌∷◌, length, Option, None}
+use Rattle.std.specs.List.{list_any}
+use Rattle.turn_lock.specs.declared.turn.Turn.{Turn}
+use Rattle.sp_base.specs.declared.OpName.{OpName}
+use Rattle.sp_history.specs.declared.entry.Entry.{Entry}
+use Rattle.sp_history.specs.Past.{past_of}
+use Rattle.sp_history.specs.Swept.{IsSwept}
+use Rattle.sp_core.specs.Tallies.{moves}
+use Rattle.sp_single.specs.Singles.{SingleView}
+use Rattle.cat_play.specs.Scripts.{under_way}
+use Rattle.cat_play.specs.Steps.{AddsNone, moves_ends}
+use Rattle.cat_rounds.specs.declared.player.Over.TheVariants as overs
+use Rattle.cat_rounds.specs.declared.player.Player.{Player}
+use Rattle.cat_rounds.specs.declared.rounds.Going.{Going}
+use Rattle.cat_rounds.specs.declared.rounds.Going.TheVariants as goings
+use Rattle.cat_rounds.specs.declared.rounds.Round.{Round}
+use Rattle.cat_rounds.specs.declared.rounds.Round.TheVariants as rounds
+
+-- nothing is under way now, or what was before
+abbrev pub IsKept : Option OpName → Option OpName → Type 0
+IsKept old new = (new ≡ None) ⊎ (new ≡ old)
+
+-- a turn since the last tick served the pipes: nothing came, went out, ended or went down in it, and nothing was begun
+-- since that is under way
+pub record IsAtRest (s : SingleView) : Type 0 where
+  pub before : List (Turn Entry)
+  pub turn : Turn Entry
+  pub since : AddsNone moves_ends (before ++ turn ∷ []) s.seen
+  pub swept : IsSwept s.setting (past_of before) turn
+  pub still : list_any moves turn.entries ≡ false
+  pub none_begun : IsKept (under_way (past_of before)) (under_way (past_of s.seen))
+
+-- 64 turns more
+abbrev pub HasGoneFar : SingleView → SingleView → Type 0
+HasGoneFar old new = length old.seen + 64 ≤ length new.seen
+
+-- what the play says of it
+abbrev pub MovesStill : Going → SingleView → SingleView → Type 0
+MovesStill (goings.Rests false) old new = IsAtRest new
+MovesStill (goings.Rests true) old new = HasGoneFar old new
+MovesStill _ old new = ⊤
+
+-- a round with which the play isn't over says that nothing moves where all is at rest, and that something does where the
+-- pipes were served so often; with the others it says that nothing does
+abbrev pub RoundMoves : Round → Player → SingleView → SingleView → Type 0
+RoundMoves (rounds.Goes false) p old new = p.over ≡ overs.Open → IsAtRest new
+RoundMoves (rounds.Goes true) p old new = HasGoneFar old new
+RoundMoves (rounds.Ends why) p old new = ⊤

@@ -1,0 +1,5 @@
+//! Worked drills.
+#![tactic(auto)]
+
+#[cfg(test)]
+mod tests;

@@ -1,0 +1,121 @@
+//! What drills print.
+ghost use Rattle.std.specs.Prelude.{◌≡◌};
+
+use cat_drill::{Gate, OpenGate, drill};
+use cat_play::ends::Status;
+use sp_fakes::MemSink;
+use std::process::Abort;
+use std::sync::Wait;
+use std::sync::atomic::{AtomicU64, Ordering};
+use std::thread::{self, Threads};
+
+/// How often a task that waits for another one looks at the most.
+const LOOKS: u32 = 1_000_000;
+
+// Whether a drill of so many messages ends Done and prints this text.
+fn prints<R: AllocGlobal + Wait + Threads + Sync, G: Gate + Sync>(
+    rt: &R,
+    gate: &G,
+    count: u32,
+    text: &[u8],
+) -> bool {
+    if count < 1 || 1_000_000 < count {
+        return false;
+    }
+    let mut out = MemSink::new(rt.alloc(), Vec::new(rt.alloc()));
+    let end = drill(rt, count, gate, &mut out);
+    end.status == Status::Done && end.record_.is_some() && out.text() == text
+}
+
+#[test]
+fn one_value_drilled(rt: HostRuntime) {
+    assert!(rt;
+        prints(
+            &rt,
+            &OpenGate,
+            1,
+            b"given 1\nsum 1442695040888963407\nopen 0\n"
+        )
+    );
+}
+
+#[test]
+fn two_values_drilled(rt: HostRuntime) {
+    assert!(rt;
+        prints(
+            &rt,
+            &OpenGate,
+            2,
+            b"given 2\nsum 3318706044697439873\nopen 0\n"
+        )
+    );
+}
+
+#[test]
+fn a_thousand_values_drilled_twice(rt: HostRuntime) {
+    let text = b"given 1000\nsum 14181103648077852572\nopen 0\n";
+    assert!(rt; prints(&rt, &OpenGate, 1000, text));
+    assert!(rt; prints(&rt, &OpenGate, 1000, text));
+}
+
+// A sink that fails at its first put.
+#[test]
+fn a_sink_that_fails(rt: HostRuntime) {
+    let mut fails = Vec::new(rt.alloc());
+    assert!(rt; fails.push(0).is_ok());
+    let mut out = MemSink::new(rt.alloc(), fails);
+    let end = drill(&rt, 2, &OpenGate, &mut out);
+    assert!(rt; end.status == Status::OutFault);
+    assert!(rt; end.record_.is_some());
+    assert!(rt; b"given 2\nsum 3318706044697439873\nopen 0\n".starts_with(out.text()));
+}
+
+/// Holds the first and the last task until each has seen the other.
+#[derive(Drop)]
+struct Held {
+    first: AtomicU64,
+    last: AtomicU64,
+    /// How many tasks did not see the other one.
+    missed: AtomicU64,
+}
+
+// Marks that it is there, and looks for the other one, yielding between two looks.
+fn meets(mine: &AtomicU64, other: &AtomicU64, missed: &AtomicU64) {
+    mine.store(1, Ordering::SeqCst);
+    for _ in 0..LOOKS {
+        if other.load(Ordering::SeqCst) == 1 {
+            return;
+        }
+        thread::yield_now();
+    }
+    missed.store(1, Ordering::SeqCst);
+}
+
+impl Gate for Held {
+    fn pass(&self, task: u32) {
+        match task {
+            1 => meets(&self.first, &self.last, &self.missed),
+            4 => meets(&self.last, &self.first, &self.missed),
+            _ => (),
+        }
+    }
+}
+
+// In one round the first and the last task run at the same time.
+#[test]
+fn held_drill(rt: HostRuntime) {
+    let held = Held {
+        first: AtomicU64::new(0),
+        last: AtomicU64::new(0),
+        missed: AtomicU64::new(0),
+    };
+    assert!(rt;
+        prints(
+            &rt,
+            &held,
+            64,
+            b"given 64\nsum 16369505803417403232\nopen 0\n"
+        )
+    );
+    assert!(rt; held.missed.load(Ordering::SeqCst) == 0);
+}

@@ -1,0 +1,31 @@
+-- A wire is shut, and its link is what is left.
+use Rattle.std.proofs.Common.{◌≡◌, ap, refl, sym, ◌∙◌, Option, Some, None}
+use Rattle.sp_base.specs.Views.{LinkView}
+use Rattle.end_wire.specs.declared.wire.EndWire.{EndWire}
+use Rattle.end_wire.specs.declared.wire.EndWire.TheVariants as wires
+use Rattle.end_wire.specs.EndWires.{link_of, Shuts, IsLinkUnder}
+use Rattle.sp_ends.specs.Turning.{IsSeenAs, shut_under}
+use Rattle.sp_ends.proofs.turn.leave_wire.Goals as goal
+
+shuts_link : {L : Type 0} (old new : EndWire L) → Shuts old new → link_of new ≡ shut_under (link_of old)
+shuts_link (wires.Tcp v) (wires.Tcp w) x = ap Some x
+shuts_link (wires.Tcp v) (wires.Ws w) x = absurd x
+shuts_link (wires.Tcp v) (wires.Lane w) x = absurd x
+shuts_link (wires.Ws v) (wires.Tcp w) x = absurd x
+shuts_link (wires.Ws v) (wires.Ws w) x = ap Some x.0
+shuts_link (wires.Ws v) (wires.Lane w) x = absurd x
+shuts_link (wires.Lane v) (wires.Tcp w) x = absurd x
+shuts_link (wires.Lane v) (wires.Ws w) x = absurd x
+shuts_link (wires.Lane v) (wires.Lane w) x = refl
+
+seen_as : {L : Type 0} (seen : L → LinkView) (w : EndWire L) (link : Option L) (o : Option LinkView) → link_of w ≡ o → IsLinkUnder seen w link → IsSeenAs seen link o
+seen_as seen w (Some l) o e x = sym e ∙ x
+seen_as seen w None o e x = sym e ∙ x
+
+pub returns : goal.returns
+returns g c =
+    let same = shuts_link c.args.wire c.shut.new.self c.shut.ensures.shuts in
+    record {
+      link_is = seen_as g.L.Link.seen c.shut.new.self c.into_link.result _ same c.into_link.ensures.link;
+      shut = record { shut = c.shut.new.self; after = c.shut.ensures.after; over = same; stands = c.shut.ensures.stands; lanes = c.shut.ensures.lanes };
+    }
