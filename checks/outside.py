@@ -506,7 +506,7 @@ def answered(*words, **more):
 # Each option of the help: how its line begins, its unit or range, and its default.
 OPTIONS = [
     ("--listen ADDRESS", "0 to 65535", None),
-    ("--dial ADDRESS", "1 to 65535", None),
+    ("--dial ADDRESS", "--dial takes neither * nor port 0", None),
     ("--data TEXT", "send TEXT", None),
     ("--file NAME", "standard input", None),
     ("--subscribe TEXT", "1,024 bytes", "Without it a sub takes all"),
@@ -519,6 +519,7 @@ OPTIONS = [
     ("--interval SECONDS", "0 to 86,400", "Default: at once"),
     ("--recv-timeout SECONDS", "0 to 86,400", "Default: never"),
     ("--send-timeout SECONDS", "0 to 86,400", "Default: never"),
+    ("--drill N", "1 to 1,000,000", None),
     ("--help, --version", "print this text", None),
 ]
 ROLES = ("push", "pull", "pub", "sub", "req", "rep", "pair", "bus", "surveyor", "respondent")
@@ -588,13 +589,11 @@ def wrong_words():
         (("",), 0, b'can\'t go on with ""'),
     ]
     unready = [
-        (("--drill", "1"), 0, b"--drill"),
-        (("--drill=1",), 0, b"--drill=1"),
         (("--pull", *listen, "--listen", "inproc://a"), 4, b"inproc://a"),
         (("--ascii", "--pull", "--dial=inproc://a"), 2, b"--dial=inproc://a"),
-        (("--push", "--data", "--drill", "--listen", "ws://*:80/a"), 4, b"ws://*:80/a"),
+        (("--push", "--data", "--drill", "--listen", "inproc://b"), 4, b"inproc://b"),
     ]
-    rows += [(words, at, b'can\'t go on with "%s"\nnngcat: this address or drill is not there yet' % word)
+    rows += [(words, at, b'can\'t go on with "%s"\nnngcat: this address is not there yet' % word)
              for words, at, word in unready]
     wrong = []
     for words, at, text in rows:

@@ -1,0 +1,355 @@
+#!/usr/bin/env python3
+"""Tries the built nngcat against sockets of NNG's own library (Debian's package `libnng1`), which stand in this process.
+
+Skips all where the library isn't there. Each check prints a line; the status is the number of checks that failed.
+"""
+import ctypes
+import ctypes.util
+import os
+import statistics
+import sys
+import threading
+import time
+
+from outside import OURS, THEIRS, address, begin, connect, free_port, said, start, stop
+
+WAIT = 20_000  # milliseconds that a call of the library may take
+
+
+def load():
+    for name in (ctypes.util.find_library("nng"), "libnng.so.1"):
+        try:
+            return ctypes.CDLL(name) if name else None
+        except OSError:
+            continue
+    return None
+
+
+NNG = load()
+
+
+class Id(ctypes.Structure):
+    """nng_socket, nng_ctx, nng_dialer, nng_listener: each is one number."""
+    _fields_ = [("id", ctypes.c_uint32)]
+
+
+class NngError(Exception):
+    pass
+
+
+def must(status):
+    if status != 0:
+        raise NngError(f"error {status} of the library")
+
+
+class Socket:
+    """A socket of the library."""
+
+    def __init__(self, role, raw=False):
+        self.socket = Id()
+        must(getattr(NNG, f"nng_{role}0_open" + ("_raw" if raw else ""))(ctypes.byref(self.socket)))
+        if not raw:
+            self.set_ms("recv-timeout", WAIT)
+            self.set_ms("send-timeout", WAIT)
+
+    def __enter__(self):
+        return self
+
+    def __exit__(self, *_):
+        self.close()
+
+    def set_ms(self, option, milliseconds):
+        must(NNG.nng_setopt_ms(self.socket, option.encode(), ctypes.c_int32(milliseconds)))
+
+    def subscribe(self, topic):
+        must(NNG.nng_setopt(self.socket, b"sub:subscribe", topic, ctypes.c_size_t(len(topic))))
+
+    def listen(self, port):
+        must(NNG.nng_listen(self.socket, address(port).encode(), None, 0))
+        return self
+
+    def dial(self, port):
+        """Dials now, or as soon as somebody listens."""
+        must(NNG.nng_dial(self.socket, address(port).encode(), None, 2))
+        return self
+
+    def send(self, body):
+        must(NNG.nng_send(self.socket, body, ctypes.c_size_t(len(body)), 0))
+
+    def receive(self):
+        room = ctypes.create_string_buffer(1 << 16)
+        size = ctypes.c_size_t(len(room))
+        must(NNG.nng_recv(self.socket, room, ctypes.byref(size), 0))
+        return room.raw[:size.value]
+
+    def close(self):
+        NNG.nng_close(self.socket)
+
+
+class Context:
+    """A context of a socket of the library."""
+
+    def __init__(self, socket):
+        self.ctx = Id()
+        must(NNG.nng_ctx_open(ctypes.byref(self.ctx), socket.socket))
+        self.aio = ctypes.c_void_p()
+        must(NNG.nng_aio_alloc(ctypes.byref(self.aio), None, None))
+        NNG.nng_aio_set_timeout(self.aio, ctypes.c_int32(WAIT))
+
+    def result(self):
+        NNG.nng_aio_wait(self.aio)
+        must(NNG.nng_aio_result(self.aio))
+
+    def send(self, body):
+        message = ctypes.c_void_p()
+        must(NNG.nng_msg_alloc(ctypes.byref(message), ctypes.c_size_t(0)))
+        must(NNG.nng_msg_append(message, body, ctypes.c_size_t(len(body))))
+        NNG.nng_aio_set_msg(self.aio, message)
+        NNG.nng_ctx_send(self.ctx, self.aio)
+        self.result()
+
+    def receive(self):
+        NNG.nng_ctx_recv(self.ctx, self.aio)
+        self.result()
+        NNG.nng_aio_get_msg.restype = NNG.nng_msg_body.restype = ctypes.c_void_p
+        NNG.nng_msg_len.restype = ctypes.c_size_t
+        message = ctypes.c_void_p(NNG.nng_aio_get_msg(self.aio))
+        body = ctypes.string_at(NNG.nng_msg_body(message), NNG.nng_msg_len(message))
+        NNG.nng_msg_free(message)
+        return body
+
+    def close(self):
+        NNG.nng_ctx_close(self.ctx)
+        NNG.nng_aio_free(self.aio)
+
+
+def device(front_role, front, back_role, back):
+    """A device between two raw sockets of the library, for the rest of this process."""
+    ends = Socket(front_role, raw=True).listen(front), Socket(back_role, raw=True).dial(back)
+    threading.Thread(target=lambda: NNG.nng_device(ends[0].socket, ends[1].socket), daemon=True).start()
+    return ends
+
+
+def contexts_ask_ours():
+    """Four contexts of one requester have a request under way at a time; each gets its reply."""
+    port = free_port()
+    run = start("--rep", "--listen", address(port), "--data", "pong", "--ascii", "--count", "4")
+    connect(port).close()
+    with Socket("req") as asker:
+        asker.dial(port)
+        contexts = [Context(asker) for _ in range(4)]
+        for number, context in enumerate(contexts):
+            context.send(b"ping%d" % number)
+        came = [context.receive() for context in reversed(contexts)]
+        for context in contexts:
+            context.close()
+    outs, well = said([run])
+    heard = sorted(outs[0].split(b"\n"))
+    return well and came == [b"pong"] * 4 and heard == [b"ping%d" % n for n in range(4)], f"{came}, {heard}"
+
+
+def echo(replier, times):
+    for _ in range(times):
+        replier.send(b"<" + replier.receive() + b">")
+
+
+def replies_to_ours():
+    """A replier of the library answers three requesters of ours, listening and dialing."""
+    results = []
+    for listens in (True, False):
+        port = free_port()
+        ask = ("--req", "--data", "ping", "--ascii", "--count", "1", "--recv-timeout", "20")
+        with Socket("rep") as replier:
+            if listens:
+                replier.listen(port)
+                runs = [start(*ask, "--dial", address(port)) for _ in range(3)]
+            else:
+                runs = [start(*ask, "--listen", address(port))]
+                replier.dial(port)
+            echo(replier, len(runs))
+            outs, well = said(runs)
+            results.append(well and outs == [b"<ping>"] * len(runs))
+    return all(results), f"{results}"
+
+
+def replier_dies():
+    """A replier of the library takes a request and is gone; the next one at its port gets the request again."""
+    port = free_port()
+    first = Socket("rep").listen(port)
+    run = start("--req", "--dial", address(port), "--data", "ping", "--ascii", "--count", "1", "--recv-timeout", "20")
+    heard = first.receive()
+    first.close()
+    with Socket("rep") as second:
+        second.listen(port)
+        echo(second, 1)
+        outs, well = said([run])
+    return well and heard == b"ping" and outs == [b"<ping>"], f"{heard}, {outs}"
+
+
+def two_devices():
+    """A request goes through two devices, in both directions: the backtrace leads the reply back."""
+    told = []
+    for asker, replier in ((OURS, None), (None, OURS)):
+        ports = [free_port() for _ in range(3)]
+        ends = device("rep", ports[0], "req", ports[1]) + device("rep", ports[1], "req", ports[2])
+        if asker:
+            with Socket("rep") as server:
+                server.listen(ports[2])
+                run = begin(asker, "--req", "--dial", address(ports[0]), "--data", "far", "--ascii", "--count", "1",
+                            "--recv-timeout", "20")
+                echo(server, 1)
+                told += said([run])[0]
+        else:
+            run = begin(replier, "--rep", "--listen", address(ports[2]), "--data", "pong", "--ascii", "--count", "1")
+            with Socket("req") as client:
+                client.dial(ports[0])
+                client.send(b"far")
+                told.append(client.receive())
+                told += said([run])[0]
+        for end in ends:
+            end.close()
+    return told == [b"<far>", b"pong", b"far"], f"{told}"
+
+
+def surveys_of_the_library():
+    """A surveyor of the library asks three of our respondents; a survey that is replaced gets no answers."""
+    port = free_port()
+    with Socket("surveyor") as asker:
+        asker.set_ms("surveyor:survey-time", 1_500)
+        asker.listen(port)
+        runs = [start("--respondent", "--dial", address(port), "--data", f"n{n}", "--ascii", "--count", "2")
+                for n in range(3)]
+        time.sleep(1)
+        asker.send(b"first")
+        time.sleep(0.2)
+        asker.send(b"second")
+        answers = []
+        try:
+            while True:
+                answers.append(asker.receive())
+        except NngError:
+            pass
+        outs, well = said(runs)
+    right = sorted(answers) == [b"n0", b"n1", b"n2"] and outs == [b"first\nsecond"] * 3
+    return well and right, f"{answers}, {outs}"
+
+
+def respondents_of_the_library():
+    """Our surveyor asks three respondents of the library: one answers, one answers twice, one never."""
+    port = free_port()
+    run = start("--surveyor", "--listen", address(port), "--data", "who", "--ascii", "--count", "3", "--interval", "1",
+                "--recv-timeout", "5")
+    connect(port).close()
+    plain, silent, twice = Socket("respondent"), Socket("respondent"), Socket("respondent", raw=True)
+    for one in (plain, silent, twice):
+        one.dial(port)
+
+    def answer_twice():
+        message = ctypes.c_void_p()
+        if NNG.nng_recvmsg(twice.socket, ctypes.byref(message), 0) != 0:
+            return
+        again = ctypes.c_void_p()
+        NNG.nng_msg_dup(ctypes.byref(again), message)
+        NNG.nng_sendmsg(twice.socket, message, 0)
+        NNG.nng_sendmsg(twice.socket, again, 0)
+
+    answering = threading.Thread(target=answer_twice, daemon=True)
+    answering.start()
+    plain.receive()
+    plain.send(b"here")
+    outs, well = said([run])
+    answering.join(timeout=5)
+    for one in (plain, silent, twice):
+        one.close()
+    return well and sorted(outs[0].split(b"\n")) == [b"here", b"who", b"who"], f"{outs}"
+
+
+def topics_of_the_library():
+    """A subscriber of the library gets what its topic begins; ours gets what its own does."""
+    port = free_port()
+    with Socket("sub") as sub:
+        sub.subscribe(b"ne")
+        sub.listen(port)
+        run = start("--pub", "--dial", address(port), "--data", "news", "--count", "3", "--interval", "1")
+        mine = [sub.receive()]
+        stop(run)
+    port = free_port()
+    with Socket("pub") as pub:
+        pub.listen(port)
+        run = start("--sub", "--subscribe", "b", "--dial", address(port), "--ascii", "--count", "2")
+        time.sleep(1)
+        for body in (b"a1", b"b1", b"c1", b"b2"):
+            pub.send(body)
+        outs, well = said([run])
+    return well and mine == [b"news"] and outs == [b"b1\nb2"], f"{mine}, {outs}"
+
+
+def pair_and_bus_of_the_library():
+    """A pair and a bus of the library and ours, both ways."""
+    told = []
+    for role in ("pair", "bus"):
+        port = free_port()
+        with Socket(role) as theirs:
+            theirs.listen(port)
+            run = start(f"--{role}", "--dial", address(port), "--data", "to", "--ascii", "--count", "1", "--interval", "1")
+            told.append(theirs.receive())
+            stop(run)
+            run = start(f"--{role}", "--dial", address(port), "--ascii", "--count", "1")
+            time.sleep(1)
+            theirs.send(b"fro")
+            told += said([run])[0]
+    return told == [b"to", b"fro"] * 2, f"{told}"
+
+
+def round_trips(program, trips=20_000):
+    """The median of a round trip of 8 bytes in microseconds, and trips a second, with this server."""
+    port = free_port()
+    run = begin(program, "--rep", "--listen", address(port), "--data", "12345678")
+    connect(port).close()
+    with Socket("req") as client:
+        client.dial(port)
+        times = []
+        for _ in range(trips):
+            begun = time.perf_counter()
+            client.send(b"abcdefgh")
+            client.receive()
+            times.append(time.perf_counter() - begun)
+    stop(run)
+    return statistics.median(times) * 1e6, trips / sum(times)
+
+
+def measure():
+    """Round trips with ours and nng's as the server, one after the other, twice."""
+    for name, program in (("ours", OURS), ("nng 1.5.2", THEIRS)) * 2:
+        if program:
+            median, rate = round_trips(program)
+            print(f"round trip of 8 bytes: {name} {median:.1f} microseconds, {rate:,.0f} a second", flush=True)
+    return 0
+
+
+def main():
+    if not os.access(OURS, os.X_OK):
+        print("skipped: crates/nngcat/out/nngcat isn't built")
+        return 0
+    if NNG is None:
+        print("skipped: the library of nng isn't installed")
+        return 0
+    if sys.argv[1:] == ["measure"]:
+        return measure()
+    checks = [contexts_ask_ours, replies_to_ours, replier_dies, two_devices, surveys_of_the_library,
+              respondents_of_the_library, topics_of_the_library, pair_and_bus_of_the_library]
+    failed = 0
+    for check in checks:
+        if sys.argv[1:] and check.__name__ not in sys.argv[1:]:
+            continue
+        try:
+            well, told = check()
+        except Exception as e:
+            well, told = False, repr(e)
+        failed += not well
+        print(f"{'ok    ' if well else 'FAILED'} {check.__name__}: {told}", flush=True)
+    return failed
+
+
+if __name__ == "__main__":
+    sys.exit(main())

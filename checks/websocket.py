@@ -1,0 +1,311 @@
+#!/usr/bin/env python3
+"""Tries the built nngcat over WebSocket: with a plain client and a plain server written here, and with Debian's nngcat.
+
+Each check prints a line; the status is the number of checks that failed.
+"""
+import base64
+import hashlib
+import os
+import socket
+import statistics
+import subprocess
+import sys
+import time
+
+from outside import OURS, THEIRS, begin, connect, free_port, read_all, said, start, stop
+
+GUID = b"258EAFA5-E914-47DA-95CA-C5AB0DC85B11"
+NONCE = b"dGhlIHNhbXBsZSBub25jZQ=="
+
+
+def address(port):
+    return f"ws://127.0.0.1:{port}/x"
+
+
+def listening(program, port, *words):
+    run = begin(program, *words, "--listen", address(port))
+    connect(port).close()
+    return run
+
+
+def request(name, port, key=NONCE, path=b"/x"):
+    """The head that a plain client sends."""
+    return (b"GET %s HTTP/1.1\r\nHost: 127.0.0.1:%d\r\nUpgrade: websocket\r\nConnection: Upgrade\r\n"
+            b"Sec-WebSocket-Key: %s\r\nSec-WebSocket-Version: 13\r\nSec-WebSocket-Protocol: %s.sp.nanomsg.org\r\n\r\n"
+            % (path, port, key, name))
+
+
+def accept_of(key):
+    return base64.b64encode(hashlib.sha1(key + GUID).digest())
+
+
+def head(peer):
+    """What comes up to the first empty line."""
+    came = b""
+    while not came.endswith(b"\r\n\r\n"):
+        piece = peer.recv(1)
+        if not piece:
+            break
+        came += piece
+    return came
+
+
+def frame(body, first=0x82, mask=b"\x37\xfa\x21\x3d"):
+    """One frame, masked unless there is no mask."""
+    size = len(body)
+    bit = 0x80 if mask else 0
+    if size < 126:
+        lead = bytes([first, bit | size])
+    elif size < 65536:
+        lead = bytes([first, bit | 126]) + size.to_bytes(2, "big")
+    else:
+        lead = bytes([first, bit | 127]) + size.to_bytes(8, "big")
+    if not mask:
+        return lead + body
+    return lead + mask + bytes(b ^ mask[i % 4] for i, b in enumerate(body))
+
+
+def read_frame(peer):
+    """The first byte of the next frame, whether it was masked, and its body."""
+    lead = read_all(peer, 2)
+    if len(lead) < 2:
+        return None
+    size = lead[1] & 127
+    if size > 125:
+        size = int.from_bytes(read_all(peer, 2 if size == 126 else 8), "big")
+    masked = lead[1] > 127
+    mask = read_all(peer, 4) if masked else b"\0\0\0\0"
+    body = read_all(peer, size)
+    return lead[0], masked, bytes(b ^ mask[i % 4] for i, b in enumerate(body))
+
+
+def client(port, name):
+    """A plain client, opened."""
+    peer = connect(port)
+    peer.settimeout(20)
+    peer.sendall(request(name, port))
+    return peer, head(peer)
+
+
+def answers_a_plain_client():
+    """A pull of ours gets whole and fragmented messages, answers a ping between fragments, and sends no mask."""
+    port = free_port()
+    run = listening(OURS, port, "--pull", "--ascii", "--count", "3")
+    peer, answer = client(port, b"pull")
+    peer.sendall(frame(b"Hello"))
+    peer.sendall(frame(b"fra", 0x02) + frame(b"hey", 0x89) + frame(b"gment", 0x80))
+    pong = read_frame(peer)
+    peer.sendall(frame(b"x" * 300))
+    outs, well = said([run])
+    peer.close()
+    right = (answer.startswith(b"HTTP/1.1 101 ") and b"Sec-WebSocket-Accept: " + accept_of(NONCE) in answer
+             and b"Sec-WebSocket-Protocol: pull.sp.nanomsg.org" in answer
+             and pong == (0x8a, False, b"hey") and outs == [b"Hello\nfragment\n" + b"x" * 300])
+    return well and right, f"{answer[:40]!r}, {pong}, {outs[0][:40]!r}"
+
+
+def asks_a_plain_server():
+    """A push of ours dials a plain server: its head, and masked frames whose masks differ."""
+    with socket.socket() as listener:
+        listener.setsockopt(socket.SOL_SOCKET, socket.SO_REUSEADDR, 1)
+        listener.bind(("127.0.0.1", 0))
+        listener.listen(8)
+        port = listener.getsockname()[1]
+        run = start("--push", "--dial", address(port), "--data", "hello", "--count", "2")
+        peer, _ = listener.accept()
+    peer.settimeout(20)
+    came = head(peer)
+    key = [line for line in came.split(b"\r\n") if line.startswith(b"Sec-WebSocket-Key: ")][0].split(b": ")[1]
+    peer.sendall(b"HTTP/1.1 101 Switching Protocols\r\nUpgrade: websocket\r\nConnection: Upgrade\r\n"
+                 b"Sec-WebSocket-Accept: " + accept_of(key) + b"\r\nSec-WebSocket-Protocol: pull.sp.nanomsg.org\r\n\r\n")
+    frames = [read_frame(peer) for _ in range(2)]
+    _, well = said([run])
+    peer.close()
+    right = (came == request(b"pull", port, key) and len(base64.b64decode(key)) == 16
+             and frames == [(0x82, True, b"hello")] * 2)
+    return well and right, f"{came[:30]!r}, {frames}"
+
+
+def broken_clients():
+    """Each of these ends its own link alone; the next client is served."""
+    wrong = [
+        frame(b"bare", mask=b""),
+        frame(b"reserved", 0xc2),
+        frame(b"text", 0x81),
+        b"\x82\xff" + (1 << 40).to_bytes(8, "big") + b"mask",
+        b"\x82\xfe\x00\x10mask" + b"cut",
+        frame(b"\x03\xe8", 0x88),
+        frame(b"part", 0x02) + frame(b"\x03\xe8", 0x88),
+        frame(b"", 0x80),
+    ]
+    port = free_port()
+    run = listening(OURS, port, "--pull", "--ascii", "--count", str(len(wrong)))
+    for number, bytes_ in enumerate(wrong):
+        peer, _ = client(port, b"pull")
+        peer.sendall(bytes_)
+        peer.shutdown(socket.SHUT_WR)
+        peer.settimeout(10)
+        while peer.recv(4096):
+            pass
+        peer.close()
+        good, _ = client(port, b"pull")
+        good.sendall(frame(b"after %d" % number))
+        if number + 1 < len(wrong):
+            time.sleep(0.1)
+        good.close()
+    outs, well = said([run])
+    return well and outs == [b"\n".join(b"after %d" % n for n in range(len(wrong)))], f"{outs}"
+
+
+def hostile_heads():
+    """Heads that are wrong get no answer and hold nobody up, also while 100 others never end theirs."""
+    port = free_port()
+    good = request(b"pull", port)
+    wrong = [
+        good.replace(b"GET", b"POST"), good.replace(b"HTTP/1.1", b"HTTP/1.0"), good.replace(b"/x", b"/y"),
+        good.replace(b"Upgrade: websocket\r\n", b""), good.replace(b"13", b"12"), good.replace(NONCE, b"dGhl"),
+        good.replace(b"pull.sp", b"push.sp"), good.replace(b"Sec-WebSocket-Key: ", b"Sec-WebSocket-Key: a\r\nSec-WebSocket-Key: "),
+        good[:-2] + b"A: b\r\n" * 64 + b"\r\n", good.replace(b"\r\n", b"\n"), b"\x16\x03\x01\x02\x00\x01" * 40,
+        b"GET /x HTTP/1.1\r\n" + b"A" * 9000, good.replace(b"Key: ", b"Key : "), good.replace(b"Connection: Upgrade", b"Connection: close"),
+    ]
+    run = listening(OURS, port, "--pull", "--ascii", "--count", "1")
+    silent = []
+    for _ in range(100):
+        peer = connect(port)
+        peer.sendall(good[:40])
+        silent.append(peer)
+    answers = []
+    for bytes_ in wrong:
+        peer = connect(port)
+        peer.settimeout(2)
+        peer.sendall(bytes_)
+        try:
+            answers.append(peer.recv(100))
+        except socket.timeout:
+            answers.append(b"")
+        except ConnectionError:
+            answers.append(b"")
+        peer.close()
+    begun = time.time()
+    peer, _ = client(port, b"pull")
+    peer.sendall(frame(b"served"))
+    outs, well = said([run])
+    took = time.time() - begun
+    peer.close()
+    for other in silent:
+        other.close()
+    return well and outs == [b"served"] and not any(answers) and took < 5, f"{outs}, {took:.2f} s, {[n for n, a in enumerate(answers) if a]}"
+
+
+PAIRS = [
+    ("push", "pull", ("--data", "m", "--interval", "1"), ("--ascii", "--count", "1")),
+    ("pub", "sub", ("--data", "m", "--interval", "1"), ("--ascii", "--count", "1", "--subscribe", "")),
+    ("pair", "pair", ("--data", "m", "--interval", "1"), ("--ascii", "--count", "1")),
+    ("bus", "bus", ("--data", "m", "--interval", "1"), ("--ascii", "--count", "1")),
+    ("rep", "req", ("--data", "m"), ("--data", "q", "--interval", "1", "--ascii", "--count", "1")),
+    ("respondent", "surveyor", ("--data", "m"), ("--data", "q", "--interval", "1", "--ascii", "--count", "1", "--recv-timeout", "1")),
+]
+
+
+def option(program, role):
+    return "--pair0" if role == "pair" and program == THEIRS else "--" + role
+
+
+def over_websocket(giver, taker, role, other, gives, takes, taker_listens):
+    """What the taker prints. It ends by itself where it is ours, else after its first line."""
+    port = free_port()
+    takes = [w for w in takes if w != ""] if taker == OURS else list(takes)
+    if "--subscribe" in takes and taker == OURS:
+        takes.remove("--subscribe")
+    one = lambda end: begin(taker, option(taker, other), *takes, end, address(port))
+    two = lambda end: begin(giver, option(giver, role), *gives, end, address(port))
+    if taker == THEIRS and other == "surveyor":
+        takes = list(takes) + ["--delay", "1"]
+    # Nng's command gives up where nobody listens yet.
+    if taker_listens:
+        one = one("--listen")
+        time.sleep(0.5)
+        two = two("--dial")
+    else:
+        two = two("--listen")
+        time.sleep(0.5)
+        one = one("--dial")
+    try:
+        out, _ = one.communicate(timeout=25)
+    except subprocess.TimeoutExpired:
+        out = b"nothing in time"
+    stop(one, two)
+    return out.strip().rstrip(b"\n").split(b"\n")[0]
+
+
+def each_role_with_theirs():
+    """Each role, ours to nng's and nng's to ours, each listening in turn."""
+    told = []
+    for role, other, gives, takes in PAIRS:
+        for giver, taker in ((OURS, THEIRS), (THEIRS, OURS)):
+            for listens in (True, False):
+                out = over_websocket(giver, taker, role, other, gives, takes, listens)
+                if out != b"m":
+                    told.append((role, "ours" if giver == OURS else "theirs", listens, out))
+    return not told, f"{4 * len(PAIRS)} runs, wrong: {told}"
+
+
+def measure():
+    """Messages a second of 1 KiB into a pull, and round trips of 8 bytes with a rep, beside nng's."""
+    for name, program in (("ours", OURS), ("nng 1.5.2", THEIRS)):
+        if not program:
+            continue
+        port = free_port()
+        count = 100_000 if program == OURS else 20_000
+        run = subprocess.Popen([program, "--pull", "--listen", address(port), "--raw", "--count", str(count)],
+                               stdout=subprocess.DEVNULL)
+        connect(port).close()
+        peer, _ = client(port, b"pull")
+        chunk = frame(b"y" * 1024) * 100
+        begun = time.time()
+        for _ in range(count // 100):
+            peer.sendall(chunk)
+        run.wait(timeout=120)
+        print(f"pull over WebSocket, 1 KiB: {name} {count / (time.time() - begun):,.0f} messages/s", flush=True)
+        peer.close()
+        port = free_port()
+        run = begin(program, "--rep", "--listen", address(port), "--data", "12345678")
+        connect(port).close()
+        peer, _ = client(port, b"rep")
+        peer.setsockopt(socket.IPPROTO_TCP, socket.TCP_NODELAY, 1)
+        times = []
+        for number in range(3000):
+            begun = time.perf_counter()
+            peer.sendall(frame((0x80000000 | number).to_bytes(4, "big") + b"abcdefgh"))
+            read_frame(peer)
+            times.append(time.perf_counter() - begun)
+        stop(run)
+        peer.close()
+        print(f"round trip over WebSocket: {name} {statistics.median(times) * 1e6:.1f} microseconds", flush=True)
+    return 0
+
+
+def main():
+    if not os.access(OURS, os.X_OK):
+        print("skipped: crates/nngcat/out/nngcat isn't built")
+        return 0
+    if sys.argv[1:] == ["measure"]:
+        return measure()
+    checks = [answers_a_plain_client, asks_a_plain_server, broken_clients, hostile_heads]
+    if THEIRS:
+        checks.append(each_role_with_theirs)
+    failed = 0
+    for check in checks:
+        if sys.argv[1:] and check.__name__ not in sys.argv[1:]:
+            continue
+        try:
+            well, told = check()
+        except Exception as e:
+            well, told = False, repr(e)
+        failed += not well
+        print(f"{'ok    ' if well else 'FAILED'} {check.__name__}: {told}", flush=True)
+    return failed
+
+
+if __name__ == "__main__":
+    sys.exit(main())
