@@ -40,7 +40,11 @@ fn text_of(alloc: Global, number: u8, body: &[u8], count: u32) -> Result<Vec<u8>
 }
 
 // Runs the words over one link that brings this text.
-fn over<R: AllocGlobal + Wait + Threads + Sync>(rt: &R, words: &[String], text: Vec<u8>) -> Result<Ran, NoMemory> {
+fn over<R: AllocGlobal + Wait + Threads + Sync>(
+    rt: &R,
+    words: &[String],
+    text: Vec<u8>,
+) -> Result<Ran, NoMemory> {
     let alloc = rt.alloc();
     let mut script = Vec::new(alloc);
     script.push(LinkStep::Bytes(Bytes::from_vec(text)))?;
@@ -86,14 +90,22 @@ fn words(
 }
 
 // A pull that prints so many messages, raw.
-fn pull<R: AllocGlobal + Wait + Threads + Sync>(rt: &R, body: &[u8], count: u32) -> Result<Ran, NoMemory> {
+fn pull<R: AllocGlobal + Wait + Threads + Sync>(
+    rt: &R,
+    body: &[u8],
+    count: u32,
+) -> Result<Ran, NoMemory> {
     let words = words(rt.alloc(), "--pull", "--raw", &[], count)?;
     let text = text_of(rt.alloc(), 0x50, body, count)?;
     over(rt, &words, text)
 }
 
 // A push that sends so many messages.
-fn push<R: AllocGlobal + Wait + Threads + Sync>(rt: &R, body: &[u8], count: u32) -> Result<Ran, NoMemory> {
+fn push<R: AllocGlobal + Wait + Threads + Sync>(
+    rt: &R,
+    body: &[u8],
+    count: u32,
+) -> Result<Ran, NoMemory> {
     let words = words(rt.alloc(), "--push", "--data=", body, count)?;
     let text = text_of(rt.alloc(), 0x51, &[], 0)?;
     over(rt, &words, text)

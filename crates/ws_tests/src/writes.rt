@@ -27,12 +27,7 @@ fn quiet(
 
 // What a wire on this side writes after it pulled all of these bytes, which are no message; nothing where the pull or
 // the flush answers otherwise.
-fn answered<R: Wait>(
-    alloc: Global,
-    rt: &R,
-    side: Side,
-    bytes: &[u8],
-) -> Result<Vec<u8>, NoMemory> {
+fn answered<R: Wait>(alloc: Global, rt: &R, side: Side, bytes: &[u8]) -> Result<Vec<u8>, NoMemory> {
     let script = pieces(alloc, bytes, 100, LinkStep::NotYet)?;
     let link = MemLink::new(alloc, script, 100, Vec::new(alloc));
     let mut w = over(alloc, link, side, &[], MAX)?;
@@ -181,7 +176,8 @@ fn each_frame_has_its_own_mask(rt: HostRuntime) -> Result<(), Fail> {
     if puts(rt.alloc(), &rt, &mut w, body)? && puts(rt.alloc(), &rt, &mut w, body)? {
         let _ = w.flush(&rt);
     }
-    let wanted: &[u8] = b"\x82\x85\x7e\x43\x28\xbc\xfe\x43\x28\xb9\x0f\x82\x85\xf4\xa6\x1a\x7f\x74\xa6\x1a\x7a\x85";
+    let wanted: &[u8] =
+        b"\x82\x85\x7e\x43\x28\xbc\xfe\x43\x28\xb9\x0f\x82\x85\xf4\xa6\x1a\x7f\x74\xa6\x1a\x7a\x85";
     assert!(rt; w.into_link().written() == wanted);
     Ok(())
 }
