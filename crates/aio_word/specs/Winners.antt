@@ -1,8 +1,9 @@
 -- The wins of the joined callers against the ends of the core.
-use Rattle.std.specs.Prelude.{◌≡◌, ◌↔◌, ℕ, ◌<◌, List, length}
+use Rattle.std.specs.Prelude.{◌≡◌, ◌↔◌, ℕ, ◌<◌, true, List, length}
 use Rattle.aio_word.specs.declared.rule.Entry.{Entry}
 use Rattle.aio_word.specs.declared.rule.Kept.{Kept}
 use Rattle.aio_word.specs.declared.rule.View.{View}
+use Rattle.aio_word.specs.Word.{is_decided}
 use Rattle.aio_word.specs.Views.{Stands}
 use Rattle.aio_word.specs.Answers.{HasSeen}
 use Rattle.aio_word.specs.OneWinner.{IsSame}
@@ -27,3 +28,5 @@ pub record HasOneWinner (v : View) : Type 0 where
   pub own : (k : ℕ) (wins : List Entry) → IsJoined v k wins → (e d : Entry) → Stands e v.ends → e.by ≡ 0 → Stands d wins → IsSame e d → ⊥
   -- once the core has seen each slot's end, each win is an end
   pub all : AllSeen v → (k : ℕ) (wins : List Entry) → IsJoined v k wins → (e : Entry) → Stands e wins → Stands e v.ends
+  -- once the core has seen each slot's end, what a joined seat has read as decided is an end
+  pub read : AllSeen v → (e : Entry) → Stands e v.reads → is_decided e.phase ≡ true → Stands e v.ends

@@ -1,15 +1,17 @@
-//! A turn that is held up by its wire: others wait for no more than that turn, and a cancel doesn't wait at all.
+//! A turn that is held up by its wire: others wait for no more than that turn, and a cancel doesn't wait at all. No socket
+//! shuts a wire.
 ghost use Rattle.std.specs.Prelude.{◌≡◌};
 
 use crate::callers::{finish, give_back, next, opened};
 use crate::marks::{Marks, shared, unmarked};
-use crate::parts::{begun, giving_x, is_gone, is_received, pull, totals};
+use crate::parts::{add, begun, giving_x, is_gone, is_received, pull, totals, wire};
 use crate::threads::do_all;
 use crate::workers::{Job, Task};
 use sp_base::{Ctx, Tick};
-use sp_fakes::MemWire;
+use sp_fakes::{MemWire, WireStep};
 use sp_msg::{Message, Room, Wire, WireFlush, WireIn};
 use sp_socket::Cause;
+use std::process::Abort;
 use std::sync::{Arc, Wait};
 
 // A wire that holds the turn up in which it is pulled first.
@@ -55,7 +57,19 @@ impl Wire for HeldWire {
     }
 
     fn shut(&mut self) {
+        self.marks.shut();
         self.wire.shut()
+    }
+}
+
+// A wire that holds nothing up.
+fn unheld(rt: &impl Abort, wire: MemWire, marks: &Arc<Marks>) -> HeldWire
+    ensures { result.wire ≡ wire }
+{
+    HeldWire {
+        wire,
+        marks: shared(rt, marks),
+        done: true,
     }
 }
 
@@ -75,10 +89,11 @@ fn a_cancel_is_answered_within_a_held_turn(rt: HostRuntime) {
     let tasks = [
         Task::new(Job::Serve(1)),
         Task::new(Job::CancelWhenHeld(a, shared(&rt, &marks))),
-        Task::new(Job::Tick(Tick(1))),
+        Task::new(Job::TickWhenHeld(Tick(1), shared(&rt, &marks))),
     ];
     do_all(&rt, alloc, &socket, &mut list, &tasks);
     assert_eq!(rt; tasks[1].ended(), 1);
+    assert_eq!(rt; tasks[2].ended(), 1);
     assert!(rt; marks.was_held());
     begun(&rt, main.begin_recv(&rt, &socket, Ctx(0), None));
     assert!(rt; main.serve(&rt, &socket).moved);
@@ -89,4 +104,24 @@ fn a_cancel_is_answered_within_a_held_turn(rt: HostRuntime) {
         totals(2, 1, 1, 1)
     );
     finish(&rt, alloc, socket, list);
+}
+
+// A wire that ends is taken as it is, and one that is up at the close comes back with the socket: neither is shut.
+#[test]
+fn a_socket_shuts_no_wire(rt: HostRuntime) {
+    let alloc = rt.alloc();
+    let marks = unmarked(&rt, alloc);
+    let (socket, mut list) = opened(&rt, alloc, pull(&rt, alloc), 4, 1);
+    let mut main = next(&rt, alloc, &socket, &mut list);
+    let mut ends = Vec::new(alloc);
+    add(&rt, &mut ends, WireStep::End);
+    let ending = unheld(&rt, wire(alloc, ends), &marks);
+    assert!(rt; main.attach(&rt, &socket, ending).is_ok());
+    let silent = unheld(&rt, wire(alloc, Vec::new(alloc)), &marks);
+    assert!(rt; main.attach(&rt, &socket, silent).is_ok());
+    main.serve(&rt, &socket);
+    assert!(rt; main.take_ended(&rt, &socket).is_some());
+    give_back(&rt, &socket, &mut list, main);
+    assert_eq!(rt; finish(&rt, alloc, socket, list).len(), 1);
+    assert!(rt; !marks.was_shut());
 }

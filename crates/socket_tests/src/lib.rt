@@ -7,11 +7,15 @@ mod callers;
 #[cfg(test)]
 mod held;
 #[cfg(test)]
+mod lanes;
+#[cfg(test)]
 mod marks;
 #[cfg(test)]
 mod one;
 #[cfg(test)]
 mod parts;
+#[cfg(test)]
+mod subs;
 #[cfg(test)]
 mod tests;
 #[cfg(test)]

@@ -8,13 +8,17 @@ use std::thread;
 // How often one who waits for a mark looks at the most.
 const LOOKS: u32 = 1_000_000;
 
-/// Three numbers that threads share, each 0 until it is set.
+/// Numbers that threads share, each 0 until it is set.
 #[derive(Drop)]
 pub struct Marks {
     // 1 while a wire holds its turn up, 2 where it gave up.
     held: AtomicU64,
+    // 1 once another caller was about to ask for a turn while one was held up.
+    entered: AtomicU64,
     // 1 once the cancel was answered.
     answered: AtomicU64,
+    // 1 once a wire was shut.
+    shut: AtomicU64,
     // The generation of the receive that has begun, in slot 0.
     begun: AtomicU64,
 }
@@ -25,7 +29,9 @@ pub fn unmarked(rt: &impl Abort, alloc: Global) -> Arc<Marks> {
         alloc,
         Marks {
             held: AtomicU64::new(0),
+            entered: AtomicU64::new(0),
             answered: AtomicU64::new(0),
+            shut: AtomicU64::new(0),
             begun: AtomicU64::new(0),
         },
     ) {
@@ -73,9 +79,29 @@ impl Marks {
         self.held.load(Ordering::SeqCst) == 1
     }
 
+    /// A caller is about to ask for a turn.
+    pub fn enter(&self) {
+        self.entered.store(1, Ordering::SeqCst)
+    }
+
+    /// Looks for a caller to be about to ask for a turn. Whether one is.
+    pub fn is_entered(&self) -> bool {
+        seen(&self.entered) == 1
+    }
+
     /// The cancel was answered.
     pub fn answer(&self) {
         self.answered.store(1, Ordering::SeqCst)
+    }
+
+    /// A wire was shut.
+    pub fn shut(&self) {
+        self.shut.store(1, Ordering::SeqCst)
+    }
+
+    /// Whether a wire was shut.
+    pub fn was_shut(&self) -> bool {
+        self.shut.load(Ordering::SeqCst) == 1
     }
 
     /// A receive of this generation has begun.

@@ -125,7 +125,7 @@ pub fn do_all<P: Proto + Send, W: Wire + Send, R: Wait + Abort + Threads + Sync>
 }
 
 #[test]
-fn two_threads_begin_serve_and_collect(rt: HostRuntime) {
+fn two_threads_begin_serve_collect_and_close(rt: HostRuntime) {
     let alloc = rt.alloc();
     let (socket, mut list) = opened(&rt, alloc, pull(&rt, alloc), 4, 3);
     let mut main = next(&rt, alloc, &socket, &mut list);
@@ -134,6 +134,10 @@ fn two_threads_begin_serve_and_collect(rt: HostRuntime) {
     do_all(&rt, alloc, &socket, &mut list, &tasks);
     assert_eq!(rt; tasks[0].ended(), 16);
     assert_eq!(rt; tasks[1].ended(), 16);
+    let closes = [Task::new(Job::Close), Task::new(Job::Close)];
+    do_all(&rt, alloc, &socket, &mut list, &closes);
+    assert_eq!(rt; closes[0].ended(), 0);
+    assert_eq!(rt; closes[1].ended(), 0);
     assert_eq!(rt;
         give_back(&rt, &socket, &mut list, main),
         totals(32, 32, 0, 32)
@@ -194,11 +198,11 @@ fn waiting_receives_what_another_thread_serves(rt: HostRuntime) {
     let mut main = next(&rt, alloc, &socket, &mut list);
     assert!(rt; main.attach(&rt, &socket, giving_x(&rt, alloc, 0)).is_ok());
     let tasks = [
-        Task::new(Job::Wait(shared(&rt, &marks))),
         Task::new(Job::ServeWhenBegun(shared(&rt, &marks))),
+        Task::new(Job::Wait(shared(&rt, &marks))),
     ];
     do_all(&rt, alloc, &socket, &mut list, &tasks);
-    assert_eq!(rt; tasks[0].ended(), 1);
+    assert_eq!(rt; tasks[1].ended(), 1);
     assert_eq!(rt;
         give_back(&rt, &socket, &mut list, main),
         totals(1, 1, 0, 1)
@@ -214,12 +218,12 @@ fn waiting_ends_where_another_thread_cancels(rt: HostRuntime) {
     let (socket, mut list) = opened::<Pull, MemWire>(&rt, alloc, pull(&rt, alloc), 1, 3);
     let main = next(&rt, alloc, &socket, &mut list);
     let tasks = [
-        Task::new(Job::Wait(shared(&rt, &marks))),
         Task::new(Job::CancelWhenBegun(shared(&rt, &marks))),
+        Task::new(Job::Wait(shared(&rt, &marks))),
     ];
     do_all(&rt, alloc, &socket, &mut list, &tasks);
-    assert_eq!(rt; tasks[0].ended(), 0);
-    assert_eq!(rt; tasks[1].ended(), 1);
+    assert_eq!(rt; tasks[0].ended(), 1);
+    assert_eq!(rt; tasks[1].ended(), 0);
     assert_eq!(rt;
         give_back(&rt, &socket, &mut list, main),
         totals(1, 0, 1, 0)

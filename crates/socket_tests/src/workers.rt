@@ -24,8 +24,10 @@ pub enum Job {
     Cancel(Vec<OpName>),
     /// Lets this moment come.
     Tick(Tick),
-    /// Cancels this one as soon as a turn is held up.
+    /// Cancels this one as soon as a turn is held up and another caller has come for its own.
     CancelWhenHeld(OpName, Arc<Marks>),
+    /// Lets this moment come, as soon as a turn is held up.
+    TickWhenHeld(Tick, Arc<Marks>),
     /// Begins a receive, says so, and waits for it.
     Wait(Arc<Marks>),
     /// Serves the pipes as soon as a receive has begun.
@@ -152,7 +154,8 @@ fn cancel_all<P: Proto, W: Wire>(
     won
 }
 
-// Once a turn is held up, cancels the operation. Answers how many operations that has ended.
+// Once a turn is held up and another caller has come, cancels the operation. Answers how many operations that has
+// ended.
 fn cancel_when_held<P: Proto, W: Wire>(
     socket: &Socket<P, W>,
     pass: &mut Pass<P, W>,
@@ -162,12 +165,31 @@ fn cancel_when_held<P: Proto, W: Wire>(
     requires { Calls socket.now pass.old [] }
     ensures { Calls socket.now pass.new [] }
 {
-    if !marks.is_held() {
+    if !marks.is_held() || !marks.is_entered() {
         return 0;
     }
     let won = cancel_one(socket, pass, op);
     marks.answer();
     won as u64
+}
+
+// Once a turn is held up, lets the moment come, after that turn. Answers 1 where it was held up.
+fn tick_when_held<P: Proto, W: Wire, R: Wait>(
+    rt: &R,
+    socket: &Socket<P, W>,
+    pass: &mut Pass<P, W>,
+    now: Tick,
+    marks: &Arc<Marks>,
+) -> u64
+    requires { Calls socket.now pass.old [] }
+    ensures { Calls socket.now pass.new [] }
+{
+    if !marks.is_held() {
+        return 0;
+    }
+    marks.enter();
+    tick_one(rt, socket, pass, now);
+    1
 }
 
 // Begins a receive, says so, and waits for it. Answers how many messages it has received.
@@ -203,7 +225,8 @@ fn serve_when_begun<P: Proto, W: Wire, R: Wait + Abort>(
 }
 
 // Once a receive has begun, cancels it. Answers how many operations that has ended.
-fn cancel_when_begun<P: Proto, W: Wire>(
+fn cancel_when_begun<P: Proto, W: Wire, R: Wait + Abort>(
+    rt: &R,
     socket: &Socket<P, W>,
     pass: &mut Pass<P, W>,
     marks: &Arc<Marks>,
@@ -211,9 +234,13 @@ fn cancel_when_begun<P: Proto, W: Wire>(
     requires { Calls socket.now pass.old [] }
     ensures { Calls socket.now pass.new [] }
 {
+    let generation = marks.begun();
+    if generation == 0 {
+        panic!(rt; "no receive began")
+    }
     let op = OpName {
         slot: 0,
-        generation: marks.begun(),
+        generation,
     };
     cancel_one(socket, pass, op) as u64
 }
@@ -265,9 +292,10 @@ fn work<P: Proto, W: Wire, R: Wait + Abort>(
         Job::Cancel(names) => cancel_all(socket, pass, names.as_slice()),
         Job::Tick(now) => tick_one(rt, socket, pass, *now),
         Job::CancelWhenHeld(op, marks) => cancel_when_held(socket, pass, *op, marks),
+        Job::TickWhenHeld(now, marks) => tick_when_held(rt, socket, pass, *now, marks),
         Job::Wait(marks) => wait_for_one(rt, socket, pass, marks),
         Job::ServeWhenBegun(marks) => serve_when_begun(rt, socket, pass, marks),
-        Job::CancelWhenBegun(marks) => cancel_when_begun(socket, pass, marks),
+        Job::CancelWhenBegun(marks) => cancel_when_begun(rt, socket, pass, marks),
         Job::Close => close_one(rt, socket, pass),
     }
 }

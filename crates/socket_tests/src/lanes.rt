@@ -1,0 +1,98 @@
+//! Sockets over lanes within the process.
+ghost use Rattle.std.specs.Prelude.{◌≡◌, [], ◌∷◌};
+ghost use Rattle.sp_core.specs.Wires.{IsUnused};
+
+use crate::callers::{finish, give_back, next, opened};
+use crate::parts::{begun, is_received, pull, push, x};
+use sp_base::Ctx;
+use sp_lane::{LaneIn, LaneOut, LaneWire, Put, PutEnd, Taken, lane};
+use sp_msg::Message;
+use sp_socket::{Outcome, Polled, Why};
+use std::alloc::Global;
+use std::process::Abort;
+use std::sync::Wait;
+
+// A lane of so many items; it aborts when out of memory.
+fn lane_of(rt: &impl Abort, alloc: Global, cap: u32) -> (LaneIn, LaneOut)
+    requires least { 1 ≤ cap }
+    requires most { cap ≤ 8192 }
+    ensures { result.0.put ≡ [] }
+{
+    match lane(alloc, cap) {
+        Ok(ends) => ends,
+        Err(_) => panic!(rt; "no memory for a lane"),
+    }
+}
+
+// A wire that puts into the one lane and takes from the other.
+fn over(out: LaneIn, inp: LaneOut) -> LaneWire
+    requires { out.put ≡ [] }
+    ensures { IsUnused result.wire }
+{
+    LaneWire::new(out, inp)
+}
+
+// Puts a message with this body.
+fn put<R: Wait + Abort>(rt: &R, alloc: Global, input: &mut LaneIn, body: &[u8]) {
+    let Ok(m) = Message::from_body(alloc, body) else {
+        panic!(rt; "no memory for a message")
+    };
+    if input.is_ended() || !matches!(input.put(rt, m), Put::Done) {
+        panic!(rt; "no room in the lane")
+    }
+}
+
+// Puts the end mark.
+fn put_end<R: Wait + Abort>(rt: &R, input: &mut LaneIn) {
+    if input.is_ended() || !matches!(input.put_end(rt), PutEnd::Done) {
+        panic!(rt; "no room in the lane")
+    }
+}
+
+// Frames come in the order in which they were put, and the pipe ends behind them.
+#[test]
+fn a_lane_gives_its_frames_in_order(rt: HostRuntime) {
+    let alloc = rt.alloc();
+    let (socket, mut list) = opened(&rt, alloc, pull(&rt, alloc), 2, 1);
+    let mut first = next(&rt, alloc, &socket, &mut list);
+    let (silent, _) = lane_of(&rt, alloc, 1);
+    let (mut input, output) = lane_of(&rt, alloc, 4);
+    put(&rt, alloc, &mut input, b"a");
+    put(&rt, alloc, &mut input, b"b");
+    put_end(&rt, &mut input);
+    assert!(rt; first.attach(&rt, &socket, over(silent, output)).is_ok());
+    begun(&rt, first.begin_recv(&rt, &socket, Ctx(0), None));
+    first.serve(&rt, &socket);
+    assert!(rt; is_received(first.collect(&rt, &socket), b"a"));
+    begun(&rt, first.begin_recv(&rt, &socket, Ctx(0), None));
+    first.serve(&rt, &socket);
+    assert!(rt; is_received(first.collect(&rt, &socket), b"b"));
+    first.serve(&rt, &socket);
+    match first.take_ended(&rt, &socket) {
+        Some(gone) => assert!(rt; gone.why == Why::Ended),
+        None => panic!(rt; "the pipe has not ended"),
+    }
+    give_back(&rt, &socket, &mut list, first);
+    finish(&rt, alloc, socket, list);
+}
+
+// A send that waits goes out as soon as the lane has room, with no other caller there.
+#[test]
+fn a_waiting_send_finds_room(rt: HostRuntime) {
+    let alloc = rt.alloc();
+    let (socket, mut list) = opened(&rt, alloc, push(&rt, alloc), 4, 1);
+    let mut first = next(&rt, alloc, &socket, &mut list);
+    let (input, mut output) = lane_of(&rt, alloc, 1);
+    let (_, silent) = lane_of(&rt, alloc, 1);
+    assert!(rt; first.attach(&rt, &socket, over(input, silent)).is_ok());
+    assert!(rt; first.begin_send(&rt, &socket, x(&rt, alloc)).is_ok());
+    assert!(rt; first.begin_send(&rt, &socket, x(&rt, alloc)).is_ok());
+    let Ok(last) = first.begin_send(&rt, &socket, x(&rt, alloc)) else {
+        panic!(rt; "no send began")
+    };
+    assert_eq!(rt; first.poll(&socket, last), Polled::Pending);
+    assert!(rt; matches!(output.take(&rt), Taken::Message(_)));
+    assert!(rt; matches!(first.wait(&rt, &socket), Outcome::Sent));
+    give_back(&rt, &socket, &mut list, first);
+    finish(&rt, alloc, socket, list);
+}

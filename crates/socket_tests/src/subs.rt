@@ -1,0 +1,51 @@
+//! What a sub's socket answers of its contexts and topics.
+ghost use Rattle.std.specs.Prelude.{◌≡◌};
+ghost use Rattle.sp_proto.specs.Kinds.{Kind, Starts};
+ghost use Rattle.proto_pubsub.specs.Subs.{Ties as SubTies};
+
+use crate::callers::{finish, give_back, next, opened};
+use crate::parts::{begun, giving_x, is_received};
+use proto_pubsub::Subscribe;
+use sp_base::{Ctx, Role};
+use sp_socket::{CtxError, Options, TopicError};
+use std::alloc::Global;
+use std::process::Abort;
+
+// The machine of a sub; it aborts when out of memory.
+fn sub(rt: &impl Abort, alloc: Global) -> Subscribe
+    ensures { (k : Kind) × Starts SubTies result k }
+{
+    match Subscribe::new(alloc, Options::usual(Role::Sub, 0), false) {
+        Ok(machine) => machine,
+        Err(_) => panic!(rt; "no memory for a sub"),
+    }
+}
+
+#[test]
+fn a_sub_has_contexts_and_topics(rt: HostRuntime) {
+    let alloc = rt.alloc();
+    let (socket, mut list) = opened(&rt, alloc, sub(&rt, alloc), 2, 1);
+    let mut first = next(&rt, alloc, &socket, &mut list);
+    assert!(rt; matches!(first.open_ctx(&rt, &socket), Ok(Ctx(1))));
+    assert!(rt; first.subscribe(&rt, &socket, b"x").is_ok());
+    assert!(rt; first.attach(&rt, &socket, giving_x(&rt, alloc, 0)).is_ok());
+    begun(&rt, first.begin_recv(&rt, &socket, Ctx(0), None));
+    assert!(rt; first.serve(&rt, &socket).moved);
+    assert!(rt; is_received(first.collect(&rt, &socket), b"x"));
+    assert!(rt; first.unsubscribe(&rt, &socket, b"x").is_ok());
+    assert!(rt;
+        matches!(
+            first.unsubscribe(&rt, &socket, b"x"),
+            Err(TopicError::NoEntry)
+        )
+    );
+    assert!(rt; first.close_ctx(&rt, &socket, Ctx(1)).is_ok());
+    assert!(rt;
+        matches!(
+            first.close_ctx(&rt, &socket, Ctx(1)),
+            Err(CtxError::NoEntry)
+        )
+    );
+    give_back(&rt, &socket, &mut list, first);
+    assert_eq!(rt; finish(&rt, alloc, socket, list).len(), 1);
+}
