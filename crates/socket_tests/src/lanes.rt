@@ -1,5 +1,5 @@
 //! Sockets over lanes within the process.
-ghost use Rattle.std.specs.Prelude.{◌≡◌, [], ◌∷◌};
+ghost use Rattle.std.specs.Prelude.{◌≡◌, ◌≤◌, []};
 ghost use Rattle.sp_core.specs.Wires.{IsUnused};
 
 use crate::callers::{finish, give_back, next, opened};
