@@ -220,8 +220,8 @@ def surveys_of_the_library():
         runs = [start("--respondent", "--dial", address(port), "--data", f"n{n}", "--ascii", "--count", "2")
                 for n in range(3)]
         time.sleep(1)
+        # The answers to the first are on their way when it is replaced.
         asker.send(b"first")
-        time.sleep(0.2)
         asker.send(b"second")
         answers = []
         try:

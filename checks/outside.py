@@ -16,6 +16,7 @@ OURS = os.environ.get("OURS", os.path.join(HERE, "..", "crates", "nngcat", "out"
 THEIRS = shutil.which("nngcat")
 LINKS = int(os.environ.get("LINKS", "100000"))
 MESSAGES = int(os.environ.get("MESSAGES", "1000000"))
+PUSHED = int(os.environ.get("PUSHED", "100000"))
 
 PAIR = 0x10
 PUSH, PULL = 0x50, 0x51
@@ -123,6 +124,24 @@ def many_messages():
     return right and run.returncode == 0, f"{MESSAGES} messages in {took:.1f} s, status {run.returncode} {err!r}"
 
 
+def many_pushed():
+    """So many messages of a push, whole: a peer that reads all."""
+    port = free_port()
+    body = b"0123456789abcdef"
+    run = start("--push", "--listen", address(port), "--data", body.decode(), "--count", str(PUSHED))
+    want = greeting(PUSH) + frame(body) * PUSHED
+    with connect(port) as peer:
+        peer.settimeout(60)
+        peer.sendall(greeting(PULL))
+        parts, came = [], 0
+        while came < len(want) and (piece := peer.recv(1 << 20)):
+            parts.append(piece)
+            came += len(piece)
+    _, err = run.communicate(timeout=60)
+    right = b"".join(parts) == want
+    return right and run.returncode == 0, f"{PUSHED} messages, {came} of {len(want)} bytes, status {run.returncode} {err!r}"
+
+
 def slow_reader():
     """An output that is full and doesn't wait is no fault: all comes once it is read."""
     port = free_port()
@@ -175,6 +194,15 @@ def theirs_to_ours():
     return out == b"hello\n" and run.returncode == 0, f"{out!r}, status {run.returncode}"
 
 
+def theirs_pulls_from_ours():
+    """Debian's pull dials our push."""
+    port = free_port()
+    run = listening(OURS, port, "--push", "--data", "hello")
+    pull = begin(THEIRS, "--pull", "--dial", address(port), "--ascii", "--count", "1")
+    outs, well = said([pull, run])
+    return well and outs == [b"hello", b""], f"{outs}, status {run.returncode}"
+
+
 def ours_to_theirs():
     """Our push dials Debian's pull."""
     port = free_port()
@@ -206,6 +234,34 @@ def slow_peer():
     peer.close()
     right = b"".join(parts) == greeting(PUSH) + frame(body.encode()) * 50
     return right and run.returncode == 0, f"{came} of {wanted} bytes, status {run.returncode}"
+
+
+def send_times_out():
+    """A push whose peer reads nothing: its send times out, and the run ends when the peer has gone."""
+    port = free_port()
+    run = start("--push", "--listen", address(port), "--data", "x" * 60_000, "--count", "0", "--send-timeout", "1")
+    with connect(port) as peer:
+        peer.sendall(greeting(PULL))
+        time.sleep(4)
+        waits = run.poll() is None
+    _, err = run.communicate(timeout=60)
+    return waits and (run.returncode, err) == (2, b"nngcat: send timed out\n"), f"status {run.returncode} {err!r}"
+
+
+def first_id(port):
+    """The number of the first request of a run that listens there."""
+    run = start("--req", "--listen", address(port), "--data", "q", "--recv-timeout", "1")
+    with connect(port) as peer:
+        peer.sendall(greeting(REP))
+        came = read_all(peer, len(greeting(REQ) + frame(b"1234q")))
+    run.communicate(timeout=60)
+    return came[16:20]
+
+
+def numbers_differ():
+    """The requests of two runs have two numbers: they come of the system's random source."""
+    numbers = [first_id(free_port()) for _ in range(2)]
+    return len(set(numbers)) == 2 and all(number[0] >= 0x80 for number in numbers), f"{numbers}"
 
 
 def peer_that_comes_back():
@@ -344,48 +400,77 @@ def requests():
     return all(well for well, _ in tried), f"{[outs for _, outs in tried]}"
 
 
-def respondent(port, seconds=None):
-    """A respondent that answers each survey with `late`, so many seconds later, or never."""
+def answers(peer, body, seconds, times):
+    """Answers each survey of a surveyor so many seconds later with this body, so many times."""
+    with peer, peer.makefile("rb") as came:
+        came.read(8)
+        while len(size := came.read(8)) == 8:
+            survey = came.read(int.from_bytes(size, "big"))
+            time.sleep(seconds)
+            try:
+                peer.sendall(frame(survey[:4] + body) * times)
+            except OSError:
+                return
+
+
+# One that answers late, one that answers twice, and one that never does.
+RESPONDENTS = ((b"late", 1.5, 1), (b"twice", 0, 2), (b"", 0, 0))
+
+
+def respondent(port, *how):
+    """A respondent that dials."""
     peer = connect(port)
     peer.sendall(greeting(RESPONDENT))
+    threading.Thread(target=answers, args=(peer, *how), daemon=True).start()
 
-    def answer():
-        with peer, peer.makefile("rb") as came:
-            came.read(8)
-            while True:
-                size = came.read(8)
-                if len(size) < 8:
-                    return
-                survey = came.read(int.from_bytes(size, "big"))
-                if seconds is not None:
-                    time.sleep(seconds)
-                    peer.sendall(frame(survey[:4] + b"late"))
 
-    threading.Thread(target=answer, daemon=True).start()
+def respondent_that_listens(*how):
+    """The port of a respondent that listens."""
+    listener = socket.socket()
+    listener.bind(("127.0.0.1", 0))
+    listener.listen(1)
+
+    def serve():
+        with listener:
+            peer, _ = listener.accept()
+        peer.sendall(greeting(RESPONDENT))
+        answers(peer, *how)
+
+    threading.Thread(target=serve, daemon=True).start()
+    return listener.getsockname()[1]
 
 
 SURVEYS = ("--surveyor", "--data", "who", "--ascii", "--interval", "2", "--count", "3")
 
 
+def has_answers(out):
+    """Those in time, each as often as it was given, and no other."""
+    out = out.replace(b"\n", b"")
+    right = out.replace(b"twice", b"").replace(b"here", b"") == b"" and b"here" in out
+    return right and out.count(b"twice") in (2, 4, 6)
+
+
 def surveys_three(surveyor, answerer):
-    """Three respondents dial a surveyor: one answers, one answers late, and one never."""
+    """Four respondents dial a surveyor: one answers once, one late, one twice, and one never."""
     port = free_port()
     run = listening(surveyor, port, *SURVEYS)
     other = begin(answerer, "--respondent", "--dial", address(port), "--data", "here")
-    respondent(port, 1.5)
-    respondent(port)
+    for how in RESPONDENTS:
+        respondent(port, *how)
     outs, well = said([run])
     stop(other)
-    return well and set(outs[0].replace(b"\n", b"").split(b"here")) == {b""} and b"here" in outs[0], outs
+    return well and has_answers(outs[0]), outs
 
 
 def surveys_by_dialing(surveyor, answerer):
-    """A surveyor dials two respondents that listen."""
+    """A surveyor dials five that listen: two answer once, one late, one twice, and one never."""
     ports = [free_port() for _ in range(2)]
     others = [listening(answerer, port, "--respondent", "--data", "here") for port in ports]
-    outs, well = said([begin(surveyor, *SURVEYS, "--dial", address(ports[0]), "--dial", address(ports[1]))])
+    ports += [respondent_that_listens(*how) for how in RESPONDENTS]
+    dials = [word for port in ports for word in ("--dial", address(port))]
+    outs, well = said([begin(surveyor, *SURVEYS, *dials)])
     stop(*others)
-    return well and set(outs[0].replace(b"\n", b"").split(b"here")) == {b""} and b"here" in outs[0], outs
+    return well and has_answers(outs[0]), outs
 
 
 def surveys():
@@ -756,6 +841,8 @@ def rows_of_counts():
         yield (role, "--data", "d", "--interval", "1", "--count", "2"), (other, [], None)
     for role, other in (("--req", REP), ("--surveyor", RESPONDENT)):
         yield (role, "--data", "d", "--raw", "--interval", "2", "--count", "2"), (other, [], echo)
+    for role, other in (("--rep", REQ), ("--respondent", SURVEYOR)):
+        yield (role, "--data", "d", "--raw", "--count", "2"), (other, [ID + b"a", ID + b"b"], None)
 
 
 def rows_of_times():
@@ -767,8 +854,13 @@ def rows_of_times():
     for role, other in (("--push", PULL), ("--pub", SUB), ("--pair0", PAIR), ("--bus", BUS)):
         yield (role, "--data", "d"), (other, [], None)
     yield ("--req", "--data", "d", "--raw", "--recv-timeout", "1"), (REP, [], None)
-    yield ("--push", "--data", "d", "--send-timeout", "1"), None
-    yield ("--pair0", "--data", "d", "--send-timeout", "1"), None
+    yield ("--surveyor", "--data", "d", "--raw", "--recv-timeout", "1"), (RESPONDENT, [], None)
+    for role in ("--push", "--pair0", "--req"):
+        yield (role, "--data", "d", "--send-timeout", "1"), None
+    for role, other in (("--pub", SUB), ("--bus", BUS), ("--surveyor", RESPONDENT)):
+        yield (role, "--data", "d", "--interval", "1", "--count", "1", "--send-timeout", "1"), (other, [], None)
+    for role, other in (("--rep", REQ), ("--respondent", SURVEYOR)):
+        yield (role, "--data", "d", "--raw", "--count", "1", "--send-timeout", "1"), (other, [ID + b"a"], None)
 
 
 def same_but_ids(mine, yours):
@@ -777,14 +869,22 @@ def same_but_ids(mine, yours):
     return cut(mine) == cut(yours)
 
 
-def is_known(words):
-    """Whether ours and Debian's differ there for a reason that docs/DECISIONS.md gives."""
-    first = words[0]
-    sends_to_all = first in ("--surveyor", "--pub", "--bus") and "--data" in words
-    gives_up = first == "--req" and "--interval" not in words
-    goes_on = first == "--pair0" and "--data" in words
-    status_of_times = first in ("--rep", "--respondent") and "--recv-timeout" in words or "--send-timeout" in words
-    return sends_to_all or gives_up or goes_on or status_of_times
+def for_theirs(words):
+    """The words with what Debian's needs to do the same: a role that sends to all waits for its peer, and a requester
+    has an interval, without which it may give up."""
+    more = ()
+    if words[0] in ("--pub", "--bus", "--surveyor") and "--data" in words:
+        more += ("--delay", "1")
+    if words[0] in ("--req", "--surveyor") and "--interval" not in words and "--recv-timeout" not in words:
+        more += ("--interval", "2")
+    return words + more
+
+
+def may_end_otherwise(words, peer):
+    """Whether the status may differ, for a reason that docs/DECISIONS.md gives; all else is the same in each row."""
+    goes_on = words[0] in ("--pair0", "--bus") and "--data" in words and "--interval" not in words
+    gives_up = words[0] in ("--rep", "--respondent", "--req") and "--recv-timeout" in words
+    return goes_on or gives_up or "--send-timeout" in words and peer is None
 
 
 def whole_table():
@@ -794,24 +894,25 @@ def whole_table():
         for words, peer in rows:
             count += 1
             out, status, heard = comes_to(OURS, words, peer)
-            out2, status2, heard2 = comes_to(THEIRS, words, peer)
+            out2, status2, heard2 = comes_to(THEIRS, for_theirs(words), peer)
             same = out.replace(b"\n", b"") == out2.replace(b"\n", b"") if "--ascii" in words else out == out2
-            if same and status == status2 and same_but_ids(heard, heard2):
-                continue
-            known += is_known(words)
-            if not is_known(words):
+            known += status != status2
+            if not (same and same_but_ids(heard, heard2)) or status != status2 and not may_end_otherwise(words, peer):
                 other.append((" ".join(words), (out, status, heard), (out2, status2, heard2)))
-    return not other, f"{count} rows, of which {known} differ for a known reason, other: {other}"
+    return not other, f"{count} rows, of which {known} end otherwise for a known reason, other: {other}"
 
 
 def main():
     if not os.access(OURS, os.X_OK):
         print("skipped: crates/nngcat/out/nngcat isn't built")
         return 0
-    checks = [help_and_version, wrong_words, faults_name_their_words, standard_input, empty_input, completion, manual_page, broken_peers, slow_reader, slow_peer, peer_that_comes_back, words_of_devices, many_links, many_messages]
+    checks = [help_and_version, wrong_words, faults_name_their_words, standard_input, empty_input, completion,
+              manual_page, broken_peers, slow_reader, slow_peer, send_times_out, numbers_differ, peer_that_comes_back,
+              words_of_devices, many_links, many_messages, many_pushed]
     if THEIRS:
-        checks += [theirs_to_ours, ours_to_theirs, four_of_theirs, theirs_is_dialed, replies_to_theirs, answers_theirs,
-                   pairs_with_theirs, pair_takes_the_next, requests, surveys, bus_of_four, publishes, formats_of_theirs, whole_table]
+        checks += [theirs_to_ours, theirs_pulls_from_ours, ours_to_theirs, four_of_theirs, theirs_is_dialed,
+                   replies_to_theirs, answers_theirs, pairs_with_theirs, pair_takes_the_next, requests, surveys,
+                   bus_of_four, publishes, formats_of_theirs, whole_table]
     else:
         print("skipped: no nngcat of nng is installed")
     wanted = sys.argv[1:]

@@ -500,11 +500,14 @@ fn is_before(now: Tick, since: Tick, pause: u64) -> bool
     }
 }
 
-// Puts a piece out.
+// Puts a piece out, if it has a byte.
 fn put<S: Sink>(out: &mut S, piece: &[u8]) -> Collecting
     ensures puts { PutsPiece result piece.now (S.seen out.old).text (S.seen out.new).text }
     ensures sinks { Sinks (result ≡ Collecting.OutFault) (S.seen out.old) (S.seen out.new) }
 {
+    if piece.is_empty() {
+        return Collecting::Free;
+    }
     match out.put(piece) {
         Sunk::Done => Collecting::Free,
         Sunk::Failed => Collecting::OutFault,

@@ -115,40 +115,6 @@ fn a_pair_with_data_sends_and_prints_nothing(rt: HostRuntime) -> Result<(), Fail
 }
 
 #[test]
-fn a_respondent_with_data_answers(rt: HostRuntime) -> Result<(), Fail> {
-    let link = link_of(
-        rt.alloc(),
-        &[
-            b"\x00SP\x00\x00\x62\x00\x00",
-            b"\x00\x00\x00\x00\x00\x00\x00\x05\x80\x00\x00\x05q",
-        ],
-        false,
-        ALL,
-    )?;
-    let came = over_one(
-        &rt,
-        &[
-            "--respondent",
-            "--listen",
-            A,
-            "--data",
-            "OK",
-            "--ascii",
-            "--count",
-            "1",
-        ],
-        link,
-    )?;
-    assert_eq!(rt; came.status, Status::Done);
-    assert_eq!(rt; came.printed.as_slice(), b"q\n".as_slice());
-    assert_eq!(rt;
-        came.written.as_slice(),
-        b"\x00SP\x00\x00\x63\x00\x00\x00\x00\x00\x00\x00\x00\x00\x06\x80\x00\x00\x05OK".as_slice()
-    );
-    Ok(())
-}
-
-#[test]
 fn a_rep_without_data_counts_what_it_receives(rt: HostRuntime) -> Result<(), Fail> {
     let link = link_of(
         rt.alloc(),

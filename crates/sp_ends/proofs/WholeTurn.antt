@@ -1,5 +1,5 @@
 -- The parts of a turn of the ends, put together.
-use Rattle.std.proofs.Common.{◌≡◌, ◌≤◌, ◌+◌, ◌*◌, ℕ, Bool, true, List, [], ◌∷◌, length, refl, sym, ap, subst, ◌∙◌, arith}
+use Rattle.std.proofs.Common.{◌≡◌, ◌≤◌, ◌+◌, ◌*◌, ℕ, true, List, [], ◌∷◌, length, refl, sym, ap, subst, ◌∙◌, arith}
 use Rattle.std.specs.Prelude.{is_some}
 use Rattle.std.specs.List.{AllByRecursion}
 use Rattle.std.specs.FinMap.{get}
@@ -15,7 +15,7 @@ use Rattle.sp_ends.specs.declared.dialer.Dialer.{Dialer}
 use Rattle.sp_ends.specs.declared.newcomer.Newcomer.{Newcomer}
 use Rattle.sp_ends.specs.Standing.{Beginning, EndsView, NetStands, EndsStand, WasGreeted, IsListener, SameCounts, sum_of, tries_of}
 use Rattle.sp_ends.specs.Freeing.{Frees}
-use Rattle.sp_ends.specs.Turning.{EndsTicked, Quietly, IsDry, IsNow, IsSound, SameEnds, AreSameDialers, InTurn, Serves}
+use Rattle.sp_ends.specs.Turning.{EndsTicked, Quietly, IsNow, IsSound, SameEnds, AreSameDialers, InTurn, Serves}
 use Rattle.sp_ends.proofs.Places.{met_inside}
 use Rattle.sp_ends.proofs.Standing.{all_mapped}
 use Rattle.sp_ends.proofs.Serving.{dialers_long, ends_none, same_dialers, counts_none, serves_both}
@@ -55,27 +55,27 @@ serves_net start ends ends' net net' s s' v n =
 -- ---- Wires that are taken one by one
 
 -- what stands so far
-pub record StillTakes {L : Type 0} (seen : L → LinkView) (first ends : EndsView L) (net net' : NetView) (s s' : SingleView) (now : ℕ) (is_dry : Bool) : Type 0 where
+pub record StillTakes {L : Type 0} (seen : L → LinkView) (first ends : EndsView L) (net net' : NetView) (s s' : SingleView) (now : ℕ) : Type 0 where
   pub in_turn : (start : Beginning) → InTurn seen start first net s now (length first.newcomers) → InTurn seen start ends net' s' now (length ends.newcomers)
   pub few : length ends.newcomers ≤ length first.newcomers
   pub serves : Serves first ends net net' s s'
   pub frees : Frees now net net' first.dialers ends.dialers
-  pub dry : IsDry is_dry s'
+  pub dry : has_dry_miss (past_of s'.seen) ≡ has_dry_miss (past_of s.seen)
 
-module _ {L : Type 0} (seen : L → LinkView) (first : EndsView L) (net : NetView) (s : SingleView) (now : ℕ) (is_dry : Bool) where
-  pub takes_none : IsDry is_dry s → StillTakes seen first first net net s s now is_dry
-  takes_none d =
+module _ {L : Type 0} (seen : L → LinkView) (first : EndsView L) (net : NetView) (s : SingleView) (now : ℕ) where
+  pub takes_none : StillTakes seen first first net net s s now
+  takes_none =
       record {
         in_turn = λ start i. i;
         few = omega arith;
         serves = record { ends = ends_none first; dialers = same_dialers first.dialers; counts = counts_none net; quietly = quiet_none s };
         frees = frees_none now net net first.dialers first.dialers (omega arith) refl refl;
-        dry = d;
+        dry = refl;
       }
 
-  pub takes_more : (ends ends' : EndsView L) (net' net'' : NetView) (s' s'' : SingleView) → StillTakes seen first ends net net' s s' now is_dry
+  pub takes_more : (ends ends' : EndsView L) (net' net'' : NetView) (s' s'' : SingleView) → StillTakes seen first ends net net' s s' now
       → ((start : Beginning) → InTurn seen start ends net' s' now (length ends.newcomers) → InTurn seen start ends' net'' s'' now (length ends'.newcomers))
-      → length ends'.newcomers ≤ length ends.newcomers → Serves ends ends' net' net'' s' s'' → Frees now net' net'' ends.dialers ends'.dialers → has_dry_miss (past_of s''.seen) ≡ has_dry_miss (past_of s'.seen) → StillTakes seen first ends' net net'' s s'' now is_dry
+      → length ends'.newcomers ≤ length ends.newcomers → Serves ends ends' net' net'' s' s'' → Frees now net' net'' ends.dialers ends'.dialers → has_dry_miss (past_of s''.seen) ≡ has_dry_miss (past_of s'.seen) → StillTakes seen first ends' net net'' s s'' now
   takes_more ends ends' net' net'' s' s'' t step few serves frees dry =
       record {
         in_turn = λ start i. step start (t.in_turn start i);

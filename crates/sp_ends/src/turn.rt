@@ -40,8 +40,6 @@ const GREETING_TIME: u64 = 10_000;
 /// What a turn of the ends came to.
 #[derive(Clone, Copy, Debug, PartialEq, Eq)]
 pub struct EndsTurn {
-    /// Whether a link came, went, or was greeted.
-    pub moved: bool,
     /// Whether a link was given back when out of memory.
     pub is_dry: bool,
 }
@@ -71,17 +69,13 @@ impl EndsTurn {
     fn new() -> EndsTurn
         ensures { result.is_dry ≡ false }
     {
-        EndsTurn {
-            moved: false,
-            is_dry: false,
-        }
+        EndsTurn { is_dry: false }
     }
 
     // A link was given back for this cause.
     fn missed(&mut self, miss: Miss)
         ensures { self.new.is_dry ≡ (is_dry_for miss || self.old.is_dry) }
     {
-        self.moved = true;
         self.is_dry = miss == Miss::NoMemory || self.is_dry;
     }
 }
@@ -113,7 +107,7 @@ impl<L: Link> Ends<L> {
         ensures known { KnowsDialed (length self.old.listeners) (N.seen net.old) (N.seen net.new) self.new.dialers }
     {
         let mut turn = EndsTurn::new();
-        self.take_all_ended(rt, net, single, now, &mut turn);
+        self.take_all_ended(rt, net, single, now);
         self.greet_all(rt, net, single, now, &mut turn);
         self.accept_all(rt, net, single, now, &mut turn);
         self.dial_all(rt, net, single, now, &mut turn);
@@ -127,22 +121,19 @@ impl<L: Link> Ends<L> {
         net: &mut N,
         single: &mut Single<P, EndWire<L>>,
         now: Tick,
-        turn: &mut EndsTurn,
     )
         requires in_turn { (start : Beginning) × InTurn L.seen start self.old (N.seen net.old) single.old now (length self.old.newcomers) }
-        requires dry { IsDry turn.old.is_dry single.old }
         ensures in_turn { (start : Beginning) → InTurn L.seen start self.old (N.seen net.old) single.old now (length self.old.newcomers) → InTurn L.seen start self.new (N.seen net.new) single.new now (length self.new.newcomers) }
         ensures few { length self.new.newcomers ≤ length self.old.newcomers }
         ensures serves { Serves self.old self.new (N.seen net.old) (N.seen net.new) single.old single.new }
         ensures frees { Frees now (N.seen net.old) (N.seen net.new) self.old.dialers self.new.dialers }
-        ensures dry { IsDry turn.new.is_dry single.new }
+        ensures dry { has_dry_miss (past_of single.new.seen) ≡ has_dry_miss (past_of single.old.seen) }
         ensures taken { AllTaken single.old single.new }
     {
         'takes: for _ in rt.forever() {
             if !self.take_ended(rt, net, single, now) {
                 return;
             }
-            turn.moved = true;
         }
         unreachable!()
     }
@@ -231,7 +222,7 @@ impl<L: Link> Ends<L> {
         let place = newcomer.opening.link.place();
         match greet_one(self.alloc, rt, net, single, newcomer, now) {
             Fate::Stays(newcomer) => self.newcomers.push_back_reserved(newcomer),
-            Fate::Up => turn.moved = true,
+            Fate::Up => (),
             Fate::Missed(miss) => {
                 turn.missed(miss);
                 self.lost(now, place);
@@ -420,7 +411,6 @@ impl<L: Link> Ends<L> {
     {
         let place = link.place();
         single.met(rt, place);
-        turn.moved = true;
         match newcomer_over(self.alloc, link, self.role, way, now) {
             Ok(newcomer) => self.greet(rt, net, single, newcomer, now, turn),
             Err((NoMemory, link)) => {

@@ -6,7 +6,7 @@ use Rattle.sp_ends.proofs.ends.Ends.take_all_ended.Goals as goal
 
 pub takes-init : goal.takes-init
 takes-init g c =
-    takes_none g.L.Link.seen c.args.self.now (g.N.Net.seen c.args.net.now) c.args.single.now c.args.now c.args.turn.now.is_dry c.requires.dry
+    takes_none g.L.Link.seen c.args.self.now (g.N.Net.seen c.args.net.now) c.args.single.now c.args.now
 
 pub take_ended-requires : goal.take_ended-requires
 take_ended-requires g c =
@@ -18,23 +18,23 @@ returns-then-not-take_ended-clause-in_turn g c =
 
 pub returns-then-not-take_ended-clause-serves : goal.returns-then-not-take_ended-clause-serves
 returns-then-not-take_ended-clause-serves g c =
-    (takes_more g.L.Link.seen c.args.self.now (g.N.Net.seen c.args.net.now) c.args.single.now c.args.now c.takes.turn.is_dry c.takes.self c.take_ended.new.self (g.N.Net.seen c.takes.net) (g.N.Net.seen c.take_ended.new.net) c.takes.single c.take_ended.new.single c.takes.invariant c.take_ended.ensures.in_turn c.take_ended.ensures.few c.take_ended.ensures.serves c.take_ended.ensures.frees c.take_ended.ensures.dry).serves
+    (takes_more g.L.Link.seen c.args.self.now (g.N.Net.seen c.args.net.now) c.args.single.now c.args.now c.takes.self c.take_ended.new.self (g.N.Net.seen c.takes.net) (g.N.Net.seen c.take_ended.new.net) c.takes.single c.take_ended.new.single c.takes.invariant c.take_ended.ensures.in_turn c.take_ended.ensures.few c.take_ended.ensures.serves c.take_ended.ensures.frees c.take_ended.ensures.dry).serves
 
 pub returns-then-not-take_ended-clause-dry : goal.returns-then-not-take_ended-clause-dry
 returns-then-not-take_ended-clause-dry g c =
-    (takes_more g.L.Link.seen c.args.self.now (g.N.Net.seen c.args.net.now) c.args.single.now c.args.now c.takes.turn.is_dry c.takes.self c.take_ended.new.self (g.N.Net.seen c.takes.net) (g.N.Net.seen c.take_ended.new.net) c.takes.single c.take_ended.new.single c.takes.invariant c.take_ended.ensures.in_turn c.take_ended.ensures.few c.take_ended.ensures.serves c.take_ended.ensures.frees c.take_ended.ensures.dry).dry
+    (takes_more g.L.Link.seen c.args.self.now (g.N.Net.seen c.args.net.now) c.args.single.now c.args.now c.takes.self c.take_ended.new.self (g.N.Net.seen c.takes.net) (g.N.Net.seen c.take_ended.new.net) c.takes.single c.take_ended.new.single c.takes.invariant c.take_ended.ensures.in_turn c.take_ended.ensures.few c.take_ended.ensures.serves c.take_ended.ensures.frees c.take_ended.ensures.dry).dry
 
 pub takes-preserved : goal.takes-preserved
 takes-preserved g c =
-    takes_more g.L.Link.seen c.args.self.now (g.N.Net.seen c.args.net.now) c.args.single.now c.args.now c.takes.turn.is_dry c.takes.self c.take_ended.new.self (g.N.Net.seen c.takes.net) (g.N.Net.seen c.take_ended.new.net) c.takes.single c.take_ended.new.single c.takes.invariant c.take_ended.ensures.in_turn c.take_ended.ensures.few c.take_ended.ensures.serves c.take_ended.ensures.frees c.take_ended.ensures.dry
+    takes_more g.L.Link.seen c.args.self.now (g.N.Net.seen c.args.net.now) c.args.single.now c.args.now c.takes.self c.take_ended.new.self (g.N.Net.seen c.takes.net) (g.N.Net.seen c.take_ended.new.net) c.takes.single c.take_ended.new.single c.takes.invariant c.take_ended.ensures.in_turn c.take_ended.ensures.few c.take_ended.ensures.serves c.take_ended.ensures.frees c.take_ended.ensures.dry
 
 pub returns-then-not-take_ended-clause-few : goal.returns-then-not-take_ended-clause-few
 returns-then-not-take_ended-clause-few g c =
-    (takes_more g.L.Link.seen c.args.self.now (g.N.Net.seen c.args.net.now) c.args.single.now c.args.now c.takes.turn.is_dry c.takes.self c.take_ended.new.self (g.N.Net.seen c.takes.net) (g.N.Net.seen c.take_ended.new.net) c.takes.single c.take_ended.new.single c.takes.invariant c.take_ended.ensures.in_turn c.take_ended.ensures.few c.take_ended.ensures.serves c.take_ended.ensures.frees c.take_ended.ensures.dry).few
+    (takes_more g.L.Link.seen c.args.self.now (g.N.Net.seen c.args.net.now) c.args.single.now c.args.now c.takes.self c.take_ended.new.self (g.N.Net.seen c.takes.net) (g.N.Net.seen c.take_ended.new.net) c.takes.single c.take_ended.new.single c.takes.invariant c.take_ended.ensures.in_turn c.take_ended.ensures.few c.take_ended.ensures.serves c.take_ended.ensures.frees c.take_ended.ensures.dry).few
 
 pub returns-then-not-take_ended-clause-frees : goal.returns-then-not-take_ended-clause-frees
 returns-then-not-take_ended-clause-frees g c =
-    (takes_more g.L.Link.seen c.args.self.now (g.N.Net.seen c.args.net.now) c.args.single.now c.args.now c.takes.turn.is_dry c.takes.self c.take_ended.new.self (g.N.Net.seen c.takes.net) (g.N.Net.seen c.take_ended.new.net) c.takes.single c.take_ended.new.single c.takes.invariant c.take_ended.ensures.in_turn c.take_ended.ensures.few c.take_ended.ensures.serves c.take_ended.ensures.frees c.take_ended.ensures.dry).frees
+    (takes_more g.L.Link.seen c.args.self.now (g.N.Net.seen c.args.net.now) c.args.single.now c.args.now c.takes.self c.take_ended.new.self (g.N.Net.seen c.takes.net) (g.N.Net.seen c.take_ended.new.net) c.takes.single c.take_ended.new.single c.takes.invariant c.take_ended.ensures.in_turn c.take_ended.ensures.few c.take_ended.ensures.serves c.take_ended.ensures.frees c.take_ended.ensures.dry).frees
 
 pub returns-then-not-take_ended-clause-taken : goal.returns-then-not-take_ended-clause-taken
 returns-then-not-take_ended-clause-taken g c p h =
