@@ -1,8 +1,7 @@
 -- A surveyor stands for its history when messages go out and operations end; and what it offers and answers.
-use Rattle.std.proofs.Common.{◌≡◌, refl, ap, sym, ◌∙◌, subst, List, [], ◌∷◌, ◌++◌, ℕ, Bool, true, false, cond, arith, Option, Some, None, map, length, inl, inr}
-use Rattle.std.specs.Prelude.{find, filter, drop, not, nat_lt, is_some, MatchOption, ◌&&◌, ◌||◌, ◌==◌}
-use Rattle.std.specs.List.{list_any, list_all, position, position_or_len}
-use Rattle.std.proofs.lemmas.Bool.Decides.{nat_tests}
+use Rattle.std.proofs.Common.{◌≡◌, refl, ap, sym, ◌∙◌, subst, List, [], ◌∷◌, ◌++◌, ℕ, Bool, true, false, cond, Option, Some, None, map, length, inl, inr}
+use Rattle.std.specs.Prelude.{find, filter, drop, not, is_some, MatchOption, ◌&&◌, ◌||◌, ◌==◌}
+use Rattle.std.specs.List.{list_any, list_all}
 use Rattle.std.specs.Option.{option_map}
 use Rattle.sp_base.specs.declared.OpName.{OpName}
 use Rattle.sp_base.specs.declared.role.Role.{Role}
@@ -52,9 +51,9 @@ use Rattle.proto_survey.specs.declared.survey.Kept.{Kept}
 use Rattle.proto_survey.specs.declared.waiting.Asking.{Asking}
 use Rattle.proto_survey.specs.declared.waiting.SurveyEnd.{SurveyEnd}
 use Rattle.proto_survey.specs.declared.waiting.SurveyEnd.TheVariants as ends
-use Rattle.proto_survey.specs.Lives.{SurveyView, view_of, survey_of, survey_ctx, survey_id, is_live_on, given_from, first_in, is_kept, keeps_at}
+use Rattle.proto_survey.specs.Lives.{SurveyView, view_of, survey_of, survey_ctx, survey_id, is_live_on, given_from, first_in, is_kept}
 use Rattle.proto_survey.specs.Askings.{act_of, begun_of, is_asked, is_sending, without_first, cause_is, how_of, how_in}
-use Rattle.proto_survey.specs.Surveys.{Ties, Asked, Floods, IsFlood, AreCopies, out_text, item_of, gets, is_given, is_any_given, survey_state}
+use Rattle.proto_survey.specs.Surveys.{Ties, Asked, Floods, IsFlood, AreCopies, out_text, item_of, gets, is_given, survey_state}
 use Rattle.proto_survey.specs.SurveyLaws.{lawful_before}
 use Rattle.proto_survey.proofs.Living.{equal_of, same_number, alone, keys_kept, map_of, find_of, any_of}
 use Rattle.proto_survey.proofs.Leaving.{find_begun, begun_found, find_own, not_orphan, all_finished}
@@ -555,15 +554,19 @@ module _ (K : ℕ → Bool) where
           ap (λ (o : Option MessageView). cond (is_recv (act_of o) && (x.ctx == w.ctx)) (Some (begun_of x)) (find (is_recv_on w.ctx) (map begun_of ws))) e
           ∙ ap (λ b. cond b (Some (begun_of x)) (find (is_recv_on w.ctx) (map begun_of ws))) (ap (λ (y : Asking). x.ctx == y.ctx) (sym is) ∙ same_number x.ctx) ∙ ap (λ (y : Asking). Some (begun_of y)) is
 
-parts : (a b : Bool) → (a && b) ≡ true → (a ≡ true) × (b ≡ true)
+pub parts : (a b : Bool) → (a && b) ≡ true → (a ≡ true) × (b ≡ true)
 parts true b h = (refl, h)
 parts false b h = absurd cc
 
-pub can_give : (m : Survey) (t : Moment) (w : Asking) → Ties m t → find lone m.waiting.items ≡ None → find (gets m) m.waiting.items ≡ Some w → (s : Begun) × (x : Message) × CanGive t w.op s x
-can_give m t w h none f = at (kept t.z (past t) w.ctx) refl (sym (given_is m t w.ctx h) ∙ both.1)
+-- a receive of these contexts
+abbrev pub is_among : (ℕ → Bool) → Asking → Bool
+is_among K w = not (is_sending w) && K w.ctx
+
+pub can_give : (m : Survey) (t : Moment) (w : Asking) (K : ℕ → Bool) → Ties m t → find lone m.waiting.items ≡ None → find (is_among K) m.waiting.items ≡ Some w → ((c : ℕ) → K c ≡ true → is_given m.raw m.kept.items m.live.items c ≡ true) → (s : Begun) × (x : Message) × CanGive t w.op s x
+can_give m t w K h none f g = at (kept t.z (past t) w.ctx) refl (sym (given_is m t w.ctx h) ∙ g w.ctx both.1)
   where
-    both : (not (is_sending w) ≡ true) × (is_given m.raw m.kept.items m.live.items w.ctx ≡ true)
-    both = parts (not (is_sending w)) (is_given m.raw m.kept.items m.live.items w.ctx) (passes (gets m) m.waiting.items w f)
+    both : (not (is_sending w) ≡ true) × (K w.ctx ≡ true)
+    both = parts (not (is_sending w)) (K w.ctx) (passes (is_among K) m.waiting.items w f)
 
     recv : is_recv (act_of w.message) ≡ true
     recv = not_sending w.message (turn (is_sending w) both.0)
@@ -573,12 +576,12 @@ can_give m t w h none f = at (kept t.z (past t) w.ctx) refl (sym (given_is m t w
         turn false q = refl
 
     not_ended : (o : Option SurveyEnd) → w.ended ≡ o → is_some o ≡ false → how_in (requests t.z (past t)).orphans w.op ≡ None
-    not_ended None e q = sym (its_how m t (gets m) w h f) ∙ ap (option_map how_of) e
+    not_ended None e q = sym (its_how m t (is_among K) w h f) ∙ ap (option_map how_of) e
     not_ended (Some x) e q = absurd cc
 
     alive : (i : Item) (rest : List Item) → kept t.z (past t) w.ctx ≡ i ∷ rest → has_requests t.z ≡ true → is_some (request_of t.z (past t) (begun_of w)) ≡ true
     alive i rest e q =
-        ap (λ b. is_some (cond {A = Option Request} b None (live_on t.z (past t) w.ctx))) (not_orphan (requests t.z (past t)).orphans w.op (not_ended w.ended refl (never lone (gets m) m.waiting.items w f none)))
+        ap (λ b. is_some (cond {A = Option Request} b None (live_on t.z (past t) w.ctx))) (not_orphan (requests t.z (past t)).orphans w.op (not_ended w.ended refl (never lone (is_among K) m.waiting.items w f none)))
         ∙ step (live_on t.z (past t) w.ctx) (sym (kept_cooked t.z (past t) w.ctx q) ∙ e)
       where
         step : (o : Option Request) → replies_of o ≡ i ∷ rest → is_some o ≡ true
@@ -591,11 +594,11 @@ can_give m t w h none f = at (kept t.z (past t) w.ctx) refl (sym (given_is m t w
       begun_of w,
       i.message,
       record {
-        pending = its_pending m t (gets m) w h f;
+        pending = its_pending m t (is_among K) w h f;
         may =
             record {
               is_receive = recv;
-              first_pending = ap (λ (ss : List Begun). option_map (λ (first : Begun). first.op) (find (is_recv_on w.ctx) ss)) (sym h.4.pending) ∙ ap (option_map (λ (first : Begun). first.op)) (first_here (λ c. is_given m.raw m.kept.items m.live.items c) m.waiting.items w f both.1);
+              first_pending = ap (λ (ss : List Begun). option_map (λ (first : Begun). first.op) (find (is_recv_on w.ctx) ss)) (sym h.4.pending) ∙ ap (option_map (λ (first : Begun). first.op)) (first_here K m.waiting.items w f both.1);
               oldest = ap (λ (l : List Item). option_map (λ (i : Item). i.message) (head_of l)) e;
               live = alive i rest e;
             };
@@ -702,40 +705,3 @@ not_sent t op s l f g = let bad : true ≡ false = sym g ∙ f in absurd cc
 
 pub lone_ended : {A : Type 0} (m : Survey) (w : Asking) → find lone m.waiting.items ≡ Some w → w.ended ≡ None → A
 lone_ended m w f n = let bad : false ≡ true = sym (ap (λ (o : Option SurveyEnd). is_some o) n) ∙ passes lone m.waiting.items w f in absurd cc
-
--- ---- Where no message is kept
-
-none_kept_at : (c : ℕ) (xs : List SurveyView) → list_any (λ (x : SurveyView). not (is_nil x.replies)) xs ≡ false → keeps_at xs c ≡ false
-none_kept_at c [] h = refl
-none_kept_at c (x ∷ xs) h = go (x.ctx == c) (not (is_nil x.replies)) refl h (none_kept_at c xs)
-  where
-    go : (a b : Bool) → not (is_nil x.replies) ≡ b → (b || list_any (λ (x : SurveyView). not (is_nil x.replies)) xs) ≡ false → (list_any (λ (x : SurveyView). not (is_nil x.replies)) xs ≡ false → keeps_at xs c ≡ false) → is_kept (cond a (Some x) (find (is_live_on c) xs)) ≡ false
-    go a true e k again = absurd cc
-    go true false e k again = e
-    go false false e k again = again k
-
-nothing_gets : (raw : Bool) (ks : List Kept) (xs : List SurveyView) (c : ℕ) → is_any_given raw ks xs ≡ false → is_given raw ks xs c ≡ false
-nothing_gets true ks xs c h = h
-nothing_gets false ks xs c h = none_kept_at c xs h
-
-nowhere : {A : Type 0} (P : A → Bool) (xs : List A) → list_any P xs ≡ false → position_or_len P xs ≡ length xs
-nowhere P [] h = refl
-nowhere P (x ∷ xs) h = go (P x) refl h (nowhere P xs)
-  where
-    go : (b : Bool) → P x ≡ b → (b || list_any P xs) ≡ false → (list_any P xs ≡ false → position_or_len P xs ≡ length xs) → position_or_len P (x ∷ xs) ≡ length (x ∷ xs)
-    go true e h again = absurd cc
-    go false e h again = let k = again h in rw e (omega (arith, k))
-
-pub none_gets : (m : Survey) (ws : List Asking) → is_any_given m.raw m.kept.items m.live.items ≡ false → None ≡ position (gets m) ws
-none_gets m ws h = sym (go (position_or_len (gets m) ws) (length ws) (nowhere (gets m) ws (none ws)))
-  where
-    go : (n l : ℕ) → n ≡ l → cond (nat_lt n l) (Some n) None ≡ None
-    go n l e = grind (arith, nat_tests)
-
-    none : (ws : List Asking) → list_any (gets m) ws ≡ false
-    none [] = refl
-    none (w ∷ ws) = rw (nothing_gets m.raw m.kept.items m.live.items w.ctx h, none ws) (never_and (not (is_sending w)))
-      where
-        never_and : (b : Bool) → (b && false || false) ≡ false
-        never_and true = refl
-        never_and false = refl

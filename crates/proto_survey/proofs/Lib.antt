@@ -6,3 +6,4 @@ pub mod Moving
 pub mod Coming
 pub mod Going
 pub mod Writing
+pub mod Receiving

@@ -33,6 +33,7 @@ use Rattle.sp_history.proofs.Requesting.{shut_makes, tick_makes, close_makes, sh
 use Rattle.sp_proto.specs.Kinds.{Kind}
 use Rattle.sp_proto.specs.Machines.{NoFlood}
 use Rattle.proto_floods.proofs.Copying.{found_full, went_down, others}
+use Rattle.proto_floods.proofs.Counting.{one_fewer, ups_apart}
 use Rattle.proto_survey.specs.declared.survey.Survey.{Survey}
 use Rattle.proto_survey.specs.declared.waiting.Asking.{Asking}
 use Rattle.proto_survey.specs.declared.waiting.SurveyEnd.TheVariants as ends
@@ -82,23 +83,6 @@ up_most (Down p why ∷ before) = omega (arith, up_most before, no_longer (up be
         go false h = omega (arith, h)
 up_most (_ ∷ before) = up_most before
 
-shorter : (us : List ℕ) (p : ℕ) → length (without us p) ≤ length us
-shorter [] p = omega arith
-shorter (u ∷ us) p = go (u == p) (shorter us p)
-  where
-    go : (b : Bool) → length (without us p) ≤ length us → length (cond (not b) (u ∷ without us p) (without us p)) ≤ length (u ∷ us)
-    go true h = omega (arith, h)
-    go false h = omega (arith, h)
-
--- one that was up is no longer
-one_fewer : (us : List ℕ) (p : ℕ) → has us p ≡ true → length (without us p) + 1 ≤ length us
-one_fewer [] p h = absurd cc
-one_fewer (u ∷ us) p h = go (u == p) h (shorter us p) (one_fewer us p)
-  where
-    go : (b : Bool) → (b || has us p) ≡ true → length (without us p) ≤ length us → (has us p ≡ true → length (without us p) + 1 ≤ length us) → length (cond (not b) (u ∷ without us p) (without us p)) + 1 ≤ length (u ∷ us)
-    go true h most again = omega (arith, most)
-    go false h most again = omega (arith, again h)
-
 append_one : (us : List ℕ) (p : ℕ) → length (us ++ p ∷ []) ≡ length us + 1
 append_one [] p = refl
 append_one (u ∷ us) p = omega (arith, append_one us p)
@@ -128,7 +112,7 @@ down_ties m n t p why l h same =
     let known = h.1 in
     subst (λ (x : Survey). Ties x (also t (Down p why))) (sym same) (
       h.0,
-      omega (arith, one_fewer (up (past t)) p l.turn.0.itself.0, known),
+      omega (arith, one_fewer (up (past t)) p (ups_apart t (lawful_before t (Down p why) l)) l.turn.0.itself.0, known),
       h.2,
       λ r. h.3 r ∙ pool_down t.z (past t) p why (is_survey m t h),
       h.4,

@@ -1,5 +1,5 @@
 -- The operations of a surveyor that wait, and which of them have no survey any more.
-use Rattle.std.specs.Prelude.{◌≡◌, ℕ, Bool, if◌then◌else◌, List, find, Option, Some, None, is_some}
+use Rattle.std.specs.Prelude.{◌≡◌, ◌==◌, ◌&&◌, not, ℕ, Bool, if◌then◌else◌, List, find, Option, Some, None, is_some}
 use Rattle.std.specs.Option.{option_map}
 use Rattle.sp_base.specs.declared.OpName.{OpName}
 use Rattle.sp_msg.specs.Views.{MessageView}
@@ -31,6 +31,10 @@ is_asked op w = same_op w.op op
 
 abbrev pub is_sending : Asking → Bool
 is_sending w = is_some w.message
+
+-- a receive of the context
+abbrev pub receives_on : ℕ → Asking → Bool
+receives_on c w = not (is_sending w) && (w.ctx == c)
 
 -- without the operation of this name
 abbrev pub without_first : OpName → List Asking → List Asking

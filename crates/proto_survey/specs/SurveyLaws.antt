@@ -1,5 +1,5 @@
 -- The laws of a surveyor as a machine.
-use Rattle.std.specs.Prelude.{◌≡◌, ◌≤◌, ℕ, true, false, Bool, Option, List, [], ◌∷◌, length}
+use Rattle.std.specs.Prelude.{◌≡◌, ℕ, true, false, Bool, Option, List, [], ◌∷◌, length}
 use Rattle.std.proofs.Common.{refl, ap, sym, subst, ◌∙◌, cond}
 use Rattle.sp_msg.specs.Views.{MessageView}
 use Rattle.sp_history.specs.declared.entry.Entry.{Entry}
@@ -52,7 +52,7 @@ silent m t _ h l k = absurd h
 pub anew : (m : Survey) (t : Moment) → past t ≡ [] → Ties m t → Starts Ties m (survey_kind m.raw m.options)
 anew m t e h slots callers caller = (
   record { kind = refl; moment = h.0.moment ∙ ap now e },
-  subst (λ before. length (up before) ≤ m.pipes) e h.1,
+  subst (λ before. m.pipes ≡ length (up before)) e h.1,
   h.2 ∙ ap ctxs e,
   λ r. h.3 r ∙ ap (λ before. pool t.z before 0) e,
   subst (λ (ss : List Begun). Asked m.live.items m.last_id m.waiting.items ss (requests (setting_of (survey_kind m.raw m.options) slots callers) [])) (ap pend e) (subst (λ (rs : Requests). Asked m.live.items m.last_id m.waiting.items (pend (past t)) rs) same h.4),

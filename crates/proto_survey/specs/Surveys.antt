@@ -1,5 +1,5 @@
 -- What a surveyor stands for.
-use Rattle.std.specs.Prelude.{◌≡◌, ◌≢◌, ◌≤◌, ◌<◌, ◌^◌, ◌==◌, ◌&&◌, ℕ, Bool, true, false, not, ⊤, List, [], ◌∷◌, ◌++◌, length, map, Option, Some, None}
+use Rattle.std.specs.Prelude.{◌≡◌, ◌≢◌, ◌<◌, ◌-◌, ◌^◌, ◌==◌, ◌&&◌, ℕ, Bool, true, false, not, ⊤, List, [], ◌∷◌, ◌++◌, length, map, Option, Some, None}
 use Rattle.sp_base.specs.declared.role.Role.TheVariants as role
 use Rattle.sp_msg.specs.Views.{MessageView, wire_text}
 use Rattle.sp_history.specs.declared.entry.Entry.{Entry}
@@ -17,7 +17,8 @@ use Rattle.sp_history.specs.Legal.{sending}
 use Rattle.sp_history.specs.Once.{AreApart, AreDistinct}
 use Rattle.sp_history.specs.Moments.{Moment, Lawful, past}
 use Rattle.sp_proto.specs.Kinds.{Kind, kind_of, text_of}
-use Rattle.std.specs.List.{list_any}
+use Rattle.std.specs.List.{list_any, position}
+use Rattle.std.specs.Vec.{vec_len, vec_capacity}
 use Rattle.sp_proto.specs.declared.Verb.{Verb}
 use Rattle.sp_proto.specs.declared.Verb.TheVariants as verbs
 use Rattle.sp_proto.specs.declared.Verdict.{Verdict}
@@ -29,10 +30,14 @@ use Rattle.proto_survey.specs.declared.survey.Kept.{Kept}
 use Rattle.proto_survey.specs.declared.waiting.Asking.{Asking}
 use Rattle.proto_survey.specs.declared.waiting.SurveyEnd.TheVariants as ends
 use Rattle.proto_survey.specs.Lives.{SurveyView, survey_of, survey_ctx, survey_id, fresh_survey, is_live_on, has_number, keeps_at, with_reply, free_number}
-use Rattle.proto_survey.specs.Askings.{begun_of, is_sending, left_by, Ends}
+use Rattle.proto_survey.specs.Askings.{begun_of, is_sending, receives_on, left_by, Ends}
 
 abbrev pub survey_kind : Bool → Options → Kind
 survey_kind raw options = record { role = role.Surveyor; raw = raw; options = options }
+
+-- how many operations more can begin
+abbrev pub places_left : Survey → ℕ
+places_left m = vec_capacity m.waiting - vec_len m.waiting
 
 -- ---- What calls do
 
@@ -86,10 +91,15 @@ is_given false ks xs c = keeps_at xs c
 abbrev pub gets : Survey → Asking → Bool
 gets m w = not (is_sending w) && is_given m.raw m.kept.items m.live.items w.ctx
 
--- a message can be given to a receive of some context
-abbrev pub is_any_given : Bool → List Kept → List SurveyView → Bool
-is_any_given true ks xs = not (is_nil ks)
-is_any_given false ks xs = list_any (λ (x : SurveyView). not (is_nil x.replies)) xs
+-- a response is kept for a receive that waits
+abbrev pub is_fed : List Asking → SurveyView → Bool
+is_fed ws x = not (is_nil x.replies) && list_any (receives_on x.ctx) ws
+
+-- it is the first receive of some contexts, for each of which a message is kept
+abbrev pub IsNext : Survey → ℕ → Type 0
+IsNext m i =
+    (among : ℕ → Bool) × (position (λ (w : Asking). not (is_sending w) && among w.ctx) m.waiting.items ≡ Some i)
+    × (AreDistinct (map survey_ctx m.live.items) → (c : ℕ) → among c ≡ true → is_given m.raw m.kept.items m.live.items c ≡ true)
 
 -- the state has no place for it: cooked, a receive wants a live survey
 abbrev pub survey_state : Bool → List SurveyView → ℕ → Verb → Bool
@@ -133,12 +143,12 @@ abbrev pub Floods : Setting → List Entry → Bool → Option ℕ → List Mess
 Floods z past raw id copies [] = ⊤
 Floods z past raw id copies (s ∷ ss) = HasCopies z past (length copies) × IsFlood raw id copies (bytes_of z past s) × (ss ≡ [])
 
--- what it is set to and the time, how many pipes are up at most, the open contexts, what it keeps, the surveys with the
--- pending operations, and the copies of a send
+-- what it is set to and the time, how many pipes are up, the open contexts, what it keeps, the surveys with the pending
+-- operations, and the copies of a send
 abbrev pub Ties : Survey → Moment → Type 0
 Ties m t =
     SetTo m.raw m.options m.tick (kind_of t.z) (now (past t))
-    × (length (up (past t)) ≤ m.pipes)
+    × (m.pipes ≡ length (up (past t)))
     × (m.homes.items ≡ ctxs (past t))
     × Keeps m.raw m.kept.items (pool t.z (past t) 0)
     × Asked m.live.items m.last_id m.waiting.items (pend (past t)) (requests t.z (past t))

@@ -49,6 +49,13 @@ impl Live {
         self.ctx.0 == c.0
     }
 
+    /// The context that it is of.
+    pub fn ctx(&self) -> Ctx
+        ensures { result ≡ self.now.ctx }
+    {
+        self.ctx
+    }
+
     /// It has this id.
     pub fn has_id(&self, id: u32) -> bool
         ensures { result ≡ has_number id self.now }

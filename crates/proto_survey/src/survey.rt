@@ -1,20 +1,28 @@
 //! The machine of surveyor.
-ghost use Rattle.std.specs.Prelude.{◌≡◌, ◌≤◌, ◌<◌, ◌+◌, ◌^◌, ◌%◌, ◌==◌, ◌++◌, ◌&&◌, ℕ, [], ◌∷◌, None, Some, IfOk, OnOk, OnErr, IfSome, IfNone, false, true, not, map, filter, find, drop, length, option_to_list, is_some};
+ghost use Rattle.std.specs.Prelude.{◌≡◌, ◌≤◌, ◌<◌, ◌+◌, ◌^◌, ◌%◌, ◌==◌, ◌++◌, ◌&&◌, ℕ, [], ◌∷◌, Option, None, Some, IfOk, IfErr, OnOk, OnErr, IfSome, IfNone, false, true, not, map, filter, find, drop, length, option_to_list, is_some};
 ghost use Rattle.std.specs.Vec.{vec_len, vec_capacity};
 ghost use Rattle.std.specs.Option.{option_map};
 ghost use Rattle.std.specs.List.{position, list_any};
 ghost use Rattle.sp_history.specs.Options.{Fits};
 ghost use Rattle.sp_history.specs.Lists.{head_of, has, first_word, is_nil};
 ghost use Rattle.sp_history.specs.Requests.{next_number};
+ghost use Rattle.sp_history.specs.Past.{up};
+ghost use Rattle.sp_history.specs.Moments.{Moment, past};
+ghost use Rattle.sp_history.specs.declared.entry.Entry.TheVariants.{Begin};
 ghost use Rattle.sp_msg.specs.Views.{wire_text};
-ghost use Rattle.sp_proto.specs.Kinds.{Starts};
+ghost use Rattle.sp_proto.specs.Kinds.{Starts, entry_act};
+ghost use Rattle.sp_proto.specs.Machines.{NoFlood, Takes};
+ghost use Rattle.proto_floods.specs.Copies.{TakesCopies};
 ghost use Rattle.proto_reqrep.specs.Reqs.{number_after, with_found};
 ghost use Rattle.proto_survey.specs.declared.survey.Kept.{Kept as KeptType};
 ghost use Rattle.proto_survey.specs.Lives.{SurveyView, is_live_on, has_number, keeps_at, first_in, given_from, with_reply, without_over, is_over, free_number};
-ghost use Rattle.proto_survey.specs.Surveys.{Ties, survey_kind, without_live, out_text, AreSame, Asks, KeepsRaw, KeepsReply, gets, is_given, is_any_given, survey_state};
+ghost use Rattle.proto_survey.specs.Surveys.{Ties, survey_kind, places_left, without_live, out_text, AreSame, Asks, KeepsRaw, KeepsReply, gets, is_given, is_fed, IsNext, survey_state};
 
 use crate::live::Live;
-use crate::waiting::{Asking, cause_of, ended_place, leave_on, leave_over, send_place, take, wait};
+use crate::waiting::{
+    Asking, cause_of, ended_place, leave_on, leave_over, receive_place, send_place, take, wait,
+    waits_on,
+};
 use sp_base::{Ctx, NoMemory, OpName, PipeId, Role, Tick};
 use sp_history::setting::Options;
 use sp_msg::Message;
@@ -99,11 +107,12 @@ fn keeps_for(live: &[Live], c: Ctx) -> bool
     }
 }
 
-// A response is kept for some context.
-fn has_reply(live: &[Live]) -> bool
-    ensures { result ≡ list_any (λ (x : SurveyView). not (is_nil x.replies)) live.now }
+// Where a survey stands that keeps a response for a receive that waits.
+fn fed_place(live: &[Live], waiting: &[Asking]) -> Option<usize>
+    ensures { result ≡ position (is_fed waiting.now) live.now }
 {
-    live.iter().any(|x| !x.is_empty())
+    live.iter()
+        .position(|x| !x.is_empty() && waits_on(waiting, x.ctx()))
 }
 
 // Ends the survey of the context.
@@ -324,11 +333,12 @@ impl Survey {
         keeps_for(&self.live, c)
     }
 
-    // Where the first receive stands that can be given a message.
-    fn give_place(&self) -> Option<usize>
+    // Raw: where the first receive stands, if a message is kept.
+    fn raw_place(&self) -> Option<usize>
+        requires { self.now.raw ≡ true }
         ensures { result ≡ position (gets self.now) self.now.waiting.items }
     {
-        if !self.has_any() {
+        if !self.gives(Ctx(0)) {
             return None;
         }
         self.waiting
@@ -336,14 +346,18 @@ impl Survey {
             .position(|w| w.message.is_none() && self.gives(w.ctx))
     }
 
-    // A message can be given to a receive of some context.
-    fn has_any(&self) -> bool
-        ensures { result ≡ is_any_given self.now.raw self.now.kept.items self.now.live.items }
+    // Where a receive stands that can be given a message, the first of its context.
+    fn give_place(&self) -> Option<usize>
+        ensures next { IfSome result (λ i. IsNext self.now i) }
+        ensures none { IfNone result (find (gets self.now) self.now.waiting.items ≡ None) }
     {
         if self.raw {
-            return !self.kept.is_empty();
+            return self.raw_place();
         }
-        has_reply(&self.live)
+        match fed_place(&self.live, &self.waiting) {
+            None => None,
+            Some(i) => receive_place(&self.waiting, self.live[i].ctx()),
+        }
     }
 
     // The state of the context has no place for it: cooked, a receive wants a live survey.
@@ -368,16 +382,15 @@ impl Survey {
 }
 
 impl Proto for Survey {
-    ghost use Rattle.std.specs.Prelude.{◌-◌};
-    ghost use Rattle.std.specs.Vec.{vec_len, vec_capacity};
-    ghost use Rattle.proto_survey.specs.Surveys.{Ties, survey_kind};
+    ghost use Rattle.std.specs.Vec.{vec_len};
+    ghost use Rattle.proto_survey.specs.Surveys.{Ties, survey_kind, places_left};
     ghost use Rattle.proto_survey.specs.SurveyLaws as laws;
 
     ghost kind = { λ m. survey_kind m.raw m.options };
 
     ghost ties = { Ties };
 
-    ghost room = { λ m. vec_capacity m.waiting - vec_len m.waiting };
+    ghost room = { places_left };
 
     ghost left = { λ m. vec_len m.waiting };
 
@@ -454,7 +467,16 @@ impl Proto for Survey {
         Ok(())
     }
 
-    fn begin(&mut self, op: OpName, c: Ctx, act: Act) -> Result<(), Message> {
+    /// A send takes a copy for each pipe that is up, and no more.
+    fn begin(&mut self, op: OpName, c: Ctx, act: Act) -> Result<(), Message>
+        requires { 0 < places_left self.old }
+        ensures begun { OnOk result ((t : Moment) (deadline : Option ℕ) → NoFlood t → Takes (Ties self.old) (Ties self.new) t (Begin op t.caller c (entry_act act) deadline)) }
+        ensures handed_back { IfErr result (λ m. act ≡ Act.Send m) }
+        ensures same { OnErr result ((t : Moment) → Ties self.old t → Ties self.new t) }
+        ensures room { places_left self.old ≤ places_left self.new + 1 }
+        ensures room_kept { OnErr result (places_left self.old ≤ places_left self.new) }
+        ensures copies { OnOk result ((t : Moment) → Ties self.old t → TakesCopies act (length (up (past t))) (length self.new.copies.items)) }
+    {
         match act {
             Act::Recv => {
                 wait(&mut self.waiting, op, c, None);

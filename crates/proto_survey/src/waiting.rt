@@ -1,11 +1,11 @@
 //! The operations of a surveyor that wait.
 ghost use Rattle.std.specs.Prelude.{◌≡◌, ◌<◌, ◌+◌, ◌++◌, ◌==◌, ◌∷◌, [], None, Some, map, find, length, option_to_list, is_some};
-ghost use Rattle.std.specs.List.{position};
+ghost use Rattle.std.specs.List.{position, list_any};
 ghost use Rattle.std.specs.Vec.{vec_len, vec_capacity};
 ghost use Rattle.proto_survey.specs.declared.waiting.Asking.{Asking as AskingType};
 ghost use Rattle.proto_survey.specs.declared.waiting.SurveyEnd.TheVariants as ends;
 ghost use Rattle.proto_survey.specs.Lives.{over_on};
-ghost use Rattle.proto_survey.specs.Askings.{is_asked, is_sending, without_first, left_by, ended_by, cause_is};
+ghost use Rattle.proto_survey.specs.Askings.{is_asked, is_sending, receives_on, without_first, left_by, ended_by, cause_is};
 
 use crate::live::Live;
 use sp_base::{Ctx, OpName, Tick};
@@ -98,6 +98,24 @@ fn is_same(a: Ctx, b: Ctx) -> bool
     ensures { result ≡ (a == b) }
 {
     a.0 == b.0
+}
+
+/// A receive of the context waits.
+pub fn waits_on(waiting: &[Asking], c: Ctx) -> bool
+    ensures { result ≡ list_any (receives_on c) waiting.now }
+{
+    waiting
+        .iter()
+        .any(|w| w.message.is_none() && is_same(w.ctx, c))
+}
+
+/// Where the first receive of the context stands.
+pub fn receive_place(waiting: &[Asking], c: Ctx) -> Option<usize>
+    ensures { result ≡ position (receives_on c) waiting.now }
+{
+    waiting
+        .iter()
+        .position(|w| w.message.is_none() && is_same(w.ctx, c))
 }
 
 /// The survey of the context is replaced, and leaves its receives behind.

@@ -1,4 +1,4 @@
-use Rattle.std.proofs.Common.{refl}
+use Rattle.std.proofs.Common.{refl, ◌∙◌}
 use Rattle.proto_survey.proofs.Coming.{recv_ties, raw_send_ties, send_ties}
 use Rattle.proto_survey.proofs.survey.SurveyProto.begin.Goals as goal
 
@@ -19,3 +19,9 @@ returns-in-Ok-ask-clause-begun c =
     let was = c.args.self.now in
     let asked = c.ask.new.self in
     send_ties was t c.args.op c.args.c c.in-Send.m d n l h asked c.if-self.false c.in-Ok-ask.ensures.asked (record asked { copies = c.in-Ok.copies; waiting = c.wait-in-Ok-ask.new.waiting }) refl c.wait-in-Ok-ask.ensures.items c.in-Ok.ensures.copies c.in-Ok.ensures.all)
+
+pub returns-then-self-clause-copies : goal.returns-then-self-clause-copies
+returns-then-self-clause-copies c = rw c.in-Send.is (λ t h. c.in-Ok.ensures.all ∙ h.1)
+
+pub returns-in-Ok-ask-clause-copies : goal.returns-in-Ok-ask-clause-copies
+returns-in-Ok-ask-clause-copies c = rw c.in-Send.is (λ t h. c.in-Ok.ensures.all ∙ h.1)

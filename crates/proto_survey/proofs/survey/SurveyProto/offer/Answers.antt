@@ -5,8 +5,8 @@ use Rattle.proto_floods.proofs.Copying.{calm}
 use Rattle.proto_reqrep.proofs.Places.{found_at, not_found}
 use Rattle.proto_survey.specs.declared.waiting.Asking.{Asking}
 use Rattle.proto_survey.specs.Askings.{is_sending}
-use Rattle.proto_survey.specs.Surveys.{gets}
-use Rattle.proto_survey.proofs.Going.{lone, can_flood, enough, can_finish, can_give, idle, lone_ended}
+use Rattle.proto_survey.specs.Surveys.{IsNext}
+use Rattle.proto_survey.proofs.Going.{lone, can_flood, enough, can_finish, can_give, is_among, idle, lone_ended}
 use Rattle.proto_survey.proofs.survey.SurveyProto.offer.Goals as goal
 
 pub returns-in-Some-clause-offered : goal.returns-in-Some-clause-offered
@@ -52,7 +52,7 @@ returns-in-None-give_place-clause-offered c =
     let m = c.args.self.now in
     let none : find is_sending m.waiting.items ≡ None = not_found is_sending m.waiting.items (ap (position is_sending) (sym c.deref.ensures.value) ∙ sym c.in_default.ensures) in
     let left : find lone m.waiting.items ≡ None = not_found lone m.waiting.items (ap (position lone) (sym c.deref-2.ensures.value) ∙ sym c.in_default-ended_place.ensures) in
-    idle m t h none left (not_found (gets m) m.waiting.items (sym c.in-None-give_place.ensures))
+    idle m t h none left c.in-None-give_place.ensures.none
 
 pub returns-in-Some-give_place-clause-offered : goal.returns-in-Some-give_place-clause-offered
 returns-in-Some-give_place-clause-offered c =
@@ -60,5 +60,6 @@ returns-in-Some-give_place-clause-offered c =
     let m = c.args.self.now in
     let w = c.index-in-Some-give_place.result.now in
     let left : find lone m.waiting.items ≡ None = not_found lone m.waiting.items (ap (position lone) (sym c.deref-2.ensures.value) ∙ sym c.in_default-ended_place.ensures) in
-    let f : find (gets m) m.waiting.items ≡ Some w = found_at (gets m) m.waiting.items c.in-Some-give_place.i w (sym c.in-Some-give_place.ensures) ∙ ap (λ (v : Asking). Some v) (sym c.index-in-Some-give_place.ensures) in
-    can_give m t w h left f
+    let next : IsNext m c.in-Some-give_place.i = c.in-Some-give_place.ensures.next in
+    let f : find (is_among next.0) m.waiting.items ≡ Some w = found_at (is_among next.0) m.waiting.items c.in-Some-give_place.i w next.1 ∙ ap (λ (v : Asking). Some v) (sym c.index-in-Some-give_place.ensures) in
+    can_give m t w next.0 h left f (next.2 h.4.places)
