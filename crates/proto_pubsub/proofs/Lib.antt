@@ -1,3 +1,4 @@
+pub mod Indexed
 pub mod Knowing
 pub mod Published
 pub mod Seating

@@ -3,3 +3,4 @@ pub mod PubLaws
 pub mod Seats
 pub mod Subs
 pub mod SubLaws
+pub mod Topics

@@ -6,7 +6,8 @@
 //! A sub has contexts, each with topics and a queue. A frame is kept once for each context of which a topic is a prefix of
 //! its body; the empty topic takes all. A full queue drops its oldest message, or, where its context prefers old ones, the
 //! new one. When a topic is taken off, what no topic matches any more is dropped. Raw, a sub has the socket's own context
-//! alone and takes every frame. `seats` has what stands for each context, `subscribe` and `publish` the two machines.
+//! alone and takes every frame. `topics` has how a context's topics are found, `seats` what stands for each context,
+//! `subscribe` and `publish` the two machines.
 #![tactic(auto)]
 
 mod publish;
@@ -14,6 +15,7 @@ mod seats;
 mod subscribe;
 #[cfg(test)]
 mod tests;
+mod topics;
 
 pub use publish::Publish;
 pub use subscribe::Subscribe;

@@ -1,12 +1,12 @@
 //! The open contexts of a sub.
 ghost use Rattle.std.specs.Prelude.{◌≡◌, ◌==◌, ◌++◌, ◌∷◌, [], true, false, not, map, filter, drop, IfOk, OnOk, OnErr, if◌then◌else◌};
 ghost use Rattle.std.specs.VecDeque.{deque_capacity};
-ghost use Rattle.sp_history.specs.Lists.{is_nil, head_of, matches, same_bytes};
+ghost use Rattle.sp_history.specs.Lists.{is_nil, head_of};
 ghost use Rattle.sp_history.specs.Kept.{is_wanted_by};
-ghost use Rattle.sp_history.specs.Legal.{has_topic};
-ghost use Rattle.proto_pubsub.specs.Seats.{kept_in, takes_frame, with_message, fresh_seat, given_from, emptied, with_topic, topics_without, without_topic, Switches};
+ghost use Rattle.proto_pubsub.specs.Seats.{kept_in, takes_frame, with_message, fresh_seat, given_from, emptied, with_topic, without_topic, Switches};
 
-use sp_base::{Bytes, Ctx, NoMemory};
+use crate::topics::Topics;
+use sp_base::{Ctx, NoMemory};
 use sp_history::setting::Options;
 use sp_msg::Message;
 use std::alloc::Global;
@@ -17,8 +17,7 @@ use std::marker::Model;
 #[derive(Drop)]
 pub struct Seat {
     ctx: Ctx,
-    /// In the order in which they were put on.
-    topics: Vec<Bytes>,
+    topics: Topics,
     /// So many messages it keeps at most.
     places: usize,
     /// The oldest first, with memory for all its places.
@@ -32,45 +31,17 @@ impl Model for Seat {
 
     ghost Value = { SeatView };
 
-    ghost view = { λ x. record { ctx = x.ctx; topics = x.topics.items; places = x.places; kept = x.kept.items } };
+    ghost view = { λ x. record { ctx = x.ctx; topics = x.topics; places = x.places; kept = x.kept.items } };
 
     ghost invariant = { λ x. (x.places ≤ deque_capacity x.kept) × (0 < deque_capacity x.kept) };
 }
 
-// The topic is a beginning of the body.
-fn matches(body: &[u8], topic: &[u8]) -> bool
-    ensures { result ≡ matches body.now topic.now }
-{
-    body.starts_with(topic)
-}
-
-// One of the topics is a beginning of the body.
-fn is_wanted(topics: &[Bytes], body: &[u8]) -> bool
-    ensures { result ≡ is_wanted_by topics.now body.now }
-{
-    topics.iter().any(|t| matches(body, t.as_slice()))
-}
-
-// The same bytes.
-fn is_same(a: &[u8], b: &[u8]) -> bool
-    ensures { result ≡ same_bytes a.now b.now }
-{
-    a == b
-}
-
-// Without this topic.
-fn drop_topic(topics: &mut Vec<Bytes>, t: &[u8])
-    ensures { topics.new.items ≡ topics_without t.now topics.old.items }
-{
-    topics.retain(|u| !is_same(u.as_slice(), t));
-}
-
 // Without what no topic matches.
-fn drop_unwanted(kept: &mut VecDeque<Message>, topics: &[Bytes])
+fn drop_unwanted(kept: &mut VecDeque<Message>, topics: &Topics)
     ensures items { kept.new.items ≡ filter (λ m. is_wanted_by topics.now m.body) kept.old.items }
     ensures capacity { deque_capacity kept.new ≡ deque_capacity kept.old }
 {
-    kept.retain(|m| is_wanted(topics, m.body()));
+    kept.retain(|m| topics.is_wanted(m.body()));
 }
 
 impl Seat {
@@ -82,7 +53,7 @@ impl Seat {
         let kept = VecDeque::with_capacity(alloc, places.max(1))?;
         Ok(Seat {
             ctx,
-            topics: Vec::new(alloc),
+            topics: Topics::new(alloc),
             places,
             kept,
         })
@@ -109,19 +80,12 @@ impl Seat {
         self.kept.is_empty()
     }
 
-    // The topic is on.
-    fn has(&self, t: &[u8]) -> bool
-        ensures { result ≡ has_topic self.now.topics t.now }
-    {
-        self.topics.iter().any(|u| is_same(u.as_slice(), t))
-    }
-
     // Whether it keeps a frame with this body: a topic matches it, or raw; and the queue isn't full, or discards its
     // oldest.
     fn takes(&self, raw: bool, options: Options, body: &[u8]) -> bool
         ensures { result ≡ takes_frame raw options body.now self.now }
     {
-        (raw || is_wanted(&self.topics, body))
+        (raw || self.topics.is_wanted(body))
             && (self.kept.len() < self.places || options.prefer_new)
     }
 
@@ -184,8 +148,7 @@ impl Seat {
         ensures on { OnOk result (self.new ≡ with_topic t.now self.old) }
         ensures same { OnErr result (self.new ≡ self.old) }
     {
-        let topic = Bytes::from_slice(alloc, t)?;
-        self.topics.push(topic)?;
+        self.topics.put(alloc, t)?;
         Ok(true)
     }
 
@@ -193,7 +156,7 @@ impl Seat {
     fn take_off(&mut self, t: &[u8])
         ensures { self.new ≡ without_topic t.now self.old }
     {
-        drop_topic(&mut self.topics, t);
+        self.topics.remove(t);
         drop_unwanted(&mut self.kept, &self.topics);
     }
 
@@ -201,7 +164,7 @@ impl Seat {
     pub fn switch(&mut self, alloc: Global, t: &[u8], on: bool) -> Result<bool, NoMemory>
         ensures { Switches result self.old self.new t.now on }
     {
-        if self.has(t) == on {
+        if self.topics.has(t) == on {
             return Ok(false);
         }
         if on {
