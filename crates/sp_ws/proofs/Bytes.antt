@@ -1,6 +1,6 @@
 -- The bytes of a stream in memory, and those that a socket wrote.
 use Rattle.std.proofs.Common.{◌≡◌, ◌≤◌, ◌+◌, ◌-◌, ◌++◌, ℕ, List, length, take, drop, sym, ap, ◌∙◌, arith}
-use Rattle.std.proofs.lemmas.List.{take_at, take-append-drop, drop-drop, length-take, length-drop}
+use Rattle.std.proofs.lemmas.List.{take_all, take_at, take-append-drop, drop-drop, length-take, length-drop}
 
 -- what a read takes stands before what is left
 pub read_front : (fed buf piece : List ℕ) (at n : ℕ) → n ≤ length fed - at → piece ≡ take (at + n - at) (drop at fed) → drop at fed ≡ take n (piece ++ drop n buf) ++ drop (at + n) fed
@@ -11,3 +11,11 @@ read_front fed buf piece at n fits is =
     sym (ap (λ (x : List ℕ). x ++ drop (at + n) fed) (take_at piece (drop n buf) n long ∙ piece_is)
     ∙ ap (λ (x : List ℕ). take n (drop at fed) ++ x) (sym (drop-drop n at fed))
     ∙ take-append-drop n (drop at fed))
+
+-- what was compared stands behind so many bytes
+pub behind : (fed d b : List ℕ) (at n : ℕ) → d ≡ fed → n ≤ length (take (length d - at) (drop at d)) → take (length (take (length d - at) (drop at d)) - n) (drop n (take (length d - at) (drop at d))) ≡ b → (n ≤ length (drop at fed)) × (drop n (drop at fed) ≡ b)
+behind fed d b at n is fits same =
+    let u : List ℕ = take (length d - at) (drop at d) in
+    let whole : u ≡ drop at fed = take_all (length d - at) (drop at d) (omega (arith, length-drop at d)) ∙ ap (λ (s : List ℕ). drop at s) is in
+    let rest : take (length u - n) (drop n u) ≡ drop n u = take_all (length u - n) (drop n u) (omega (arith, length-drop n u)) in
+    (omega (arith, ap length whole, fits), sym (ap (λ (s : List ℕ). drop n s) whole) ∙ (sym rest ∙ same))

@@ -15,7 +15,7 @@ use Rattle.websocket.specs.declared.protocol.frame.coding.Data.TheVariants as da
 use Rattle.websocket.specs.Frame.{encode_frame}
 use Rattle.websocket.specs.FrameHeader.{encode_header}
 use Rattle.websocket.specs.Connection.{whole_header}
-use Rattle.sp_ws.specs.Outlets.{passed, AreWithin, AreFrames, GaveFront, Gave, Wrote, WroteAll, FlushAnswer, FlushedFrom}
+use Rattle.sp_ws.specs.Outlets.{passed, AreWithin, AreFrames, GaveFront, Gave, Wrote, WroteAll, Written, FlushAnswer, FlushedFrom}
 use Rattle.sp_msg.specs.declared.wire.WireFlush.{WireFlush}
 use Rattle.sp_msg.specs.declared.wire.WireFlush.TheVariants as flushes
 use Rattle.sp_ws.specs.declared.frames.FrameOut.TheVariants as outs
@@ -304,7 +304,7 @@ all_gone mid o3 f f2 l m inside none w dry =
     omega (arith, ap length (w.held ∙ none), ap length ends)
 
 flush_answer : (result : WireFlush) (mid o3 : OutletView) (f0 f f2 : FramesView) (l m : LinkView) → AreWithin (length f.waiting) mid.ends → mid.held ≡ [] → f.refusals ≡ f0.refusals → Wrote mid o3 f f2 l m → WroteAll result f2 l m → 0 < count_of o3 → FlushAnswer result (count_of o3) f0 f2 l m
-flush_answer flushes.Empty mid o3 f0 f f2 l m inside none r w a some = (all_gone mid o3 f f2 l m inside none w a, ap (λ (v : FramesView). v.refusals) w.frames ∙ r)
+flush_answer flushes.Empty mid o3 f0 f f2 l m inside none r w a some = (all_gone mid o3 f f2 l m inside none w a, ap (λ (v : FramesView). v.refusals) w.frames ∙ r, inl a)
 flush_answer flushes.NotYet mid o3 f0 f f2 l m inside none r w a some = (some, a, ap (λ (v : FramesView). v.refusals) w.frames ∙ r)
 flush_answer flushes.Failed mid o3 f0 f f2 l m inside none r w a some = (some, a, ap (λ (v : FramesView). v.refusals) w.frames ∙ r)
 flush_answer flushes.Refused mid o3 f0 f f2 l m inside none r w a some = absurd a
@@ -313,5 +313,13 @@ flush_answer flushes.NoMemory mid o3 f0 f f2 l m inside none r w a some = absurd
 pub flush_wrote : (result : WireFlush) (o mid o3 : OutletView) (f0 f f2 : FramesView) (l m : LinkView) → AreWithin (length f0.waiting) o.ends → Gave o mid f0 f → mid.held ≡ [] → f.refusals ≡ f0.refusals → Wrote mid o3 f f2 l m → WroteAll result f2 l m → 0 < count_of o3 → FlushedFrom result o o3 f0 f2 l m
 flush_wrote result o mid o3 f0 f f2 l m inside g none r w a some = record { mid = mid; framed = f; gave = g; wrote = w; answer = flush_answer result mid o3 f0 f f2 l m (g.within inside) none r w a some }
 
-pub flush_empty : (o mid o3 : OutletView) (f0 f f2 : FramesView) (l m : LinkView) → Gave o mid f0 f → f.refusals ≡ f0.refusals → Wrote mid o3 f f2 l m → count_of o3 ≡ 0 → FlushedFrom flushes.Empty o o3 f0 f2 l m
-flush_empty o mid o3 f0 f f2 l m g r w none = record { mid = mid; framed = f; gave = g; wrote = w; answer = (none, ap (λ (v : FramesView). v.refusals) w.frames ∙ r) }
+-- how it ended, where nothing is left to send
+pub written : (result : WireFlush) (f : FramesView) (l m : LinkView) → WroteAll result f l m → Written f l m
+written flushes.Empty f l m a = inl a
+written flushes.NotYet f l m a = inr (inl a)
+written flushes.Failed f l m a = inr (inr a)
+written flushes.Refused f l m a = absurd a
+written flushes.NoMemory f l m a = absurd a
+
+pub flush_empty : (result : WireFlush) (o mid o3 : OutletView) (f0 f f2 : FramesView) (l m : LinkView) → Gave o mid f0 f → f.refusals ≡ f0.refusals → Wrote mid o3 f f2 l m → WroteAll result f2 l m → count_of o3 ≡ 0 → FlushedFrom flushes.Empty o o3 f0 f2 l m
+flush_empty result o mid o3 f0 f f2 l m g r w a none = record { mid = mid; framed = f; gave = g; wrote = w; answer = (none, ap (λ (v : FramesView). v.refusals) w.frames ∙ r, written result f2 l m a) }

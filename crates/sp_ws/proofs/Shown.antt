@@ -3,7 +3,6 @@ use Rattle.std.proofs.Common.{◌≡◌, ◌++◌, ℕ, List, [], ◌∷◌, Opt
 use Rattle.std.specs.Prelude.{Result}
 use Rattle.tungstenite.specs.declared.error.Error.{Error}
 use Rattle.tungstenite.specs.declared.message.Message.{Message}
-use Rattle.sp_msg.specs.Marks.{one_more}
 use Rattle.sp_ws.specs.declared.frames.Last.{Last}
 use Rattle.sp_ws.specs.Views.{FramesView}
 use Rattle.websocket.specs.declared.protocol.config.Role.{Role}
@@ -19,10 +18,6 @@ is_sent role role2 fed fed2 left left2 out out2 piece came sent sent2 last refus
   frame = e;
   rest = (λ i. made (r i) (f i) (l i) (o i) came (s i) last refusals breaks (d i));
 }
-
-pub is_refused : (role role2 : Role) (fed fed2 : List ℕ) (left left2 : ℕ) (out out2 : List ℕ) (came sent : List (List ℕ)) (last : Last) (refusals refusals2 breaks : ℕ) (reads reads2 : List (Result Message Error)) → role2 ≡ role → fed2 ≡ fed → left2 ≡ left → out2 ≡ out → refusals2 ≡ one_more refusals → reads2 ≡ reads
-    → made role2 fed2 left2 out2 came sent last refusals2 breaks reads2 ≡ made role fed left out came sent last (one_more refusals) breaks reads
-is_refused role role2 fed fed2 left left2 out out2 came sent last refusals refusals2 breaks reads reads2 r f l o n d = λ i. made (r i) (f i) (l i) (o i) came sent last (n i) breaks (d i)
 
 pub is_unsent : (role role2 : Role) (fed fed2 : List ℕ) (left left2 : ℕ) (out out2 : List ℕ) (came sent : List (List ℕ)) (last : Last) (refusals breaks : ℕ) (reads reads2 : List (Result Message Error)) → role2 ≡ role → fed2 ≡ fed → left2 ≡ left → out2 ≡ out → reads2 ≡ reads
     → made role2 fed2 left2 out2 came sent last refusals breaks reads2 ≡ made role fed left out came sent last refusals breaks reads

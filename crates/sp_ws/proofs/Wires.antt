@@ -179,13 +179,13 @@ came_kept t f e = ap (λ (x : List (List ℕ)). Some (came_in t.lost x)) e
 -- ---- room
 
 room_facts : (flush : WireFlush) (room : Room) (waits : ℕ) (f f2 : FramesView) (l l2 : LinkView) → FlushAnswer flush waits f f2 l l2 → RoomAfter flush waits room → RoomFacts room waits f f2 l l2
-room_facts flushes.Empty room waits f f2 l l2 a e = subst (λ r. RoomFacts r waits f f2 l l2) (sym e) (omega (arith, a.0), inl a.0, a.1)
+room_facts flushes.Empty room waits f f2 l l2 a e = subst (λ r. RoomFacts r waits f f2 l l2) (sym e) (omega (arith, a.0), inl (a.0, a.2), a.1)
 room_facts flushes.NotYet room waits f f2 l l2 a e = elim e [
   | inl x ↦ subst (λ r. RoomFacts r waits f f2 l l2) (sym x.1) (x.0, inr a.1, a.2)
   | inr x ↦ subst (λ r. RoomFacts r waits f f2 l l2) (sym x.1) (x.0, a.1, a.2)
 ]
 room_facts flushes.Failed room waits f f2 l l2 a e = subst (λ r. RoomFacts r waits f f2 l l2) (sym e) (a.1, a.2)
-room_facts flushes.Refused room waits f f2 l l2 a e = subst (λ r. RoomFacts r waits f f2 l l2) (sym e) a.1
+room_facts flushes.Refused room waits f f2 l l2 a e = absurd a
 room_facts flushes.NoMemory room waits f f2 l l2 a e = subst (λ r. RoomFacts r waits f f2 l l2) (sym e) a.1
 
 room_cause : (room : Room) (t : WsState) (l : LinkView) (f : FramesView) (o : OutletView) (k : WireMarks) → count_of o ≤ 16 → RoomFacts room (count_of o) t.frames f t.link l → RoomCause room (ws_view t) (ws_view (with_write t l f o k))
@@ -223,14 +223,14 @@ waits_as : (result : WireFlush) (waits : ℕ) (f f2 : FramesView) (l l2 : LinkVi
 waits_as flushes.Empty waits f f2 l l2 a = a.0
 waits_as flushes.NotYet waits f f2 l l2 a = a.0
 waits_as flushes.Failed waits f f2 l l2 a = a.0
-waits_as flushes.Refused waits f f2 l l2 a = a.0
+waits_as flushes.Refused waits f f2 l l2 a = absurd a
 waits_as flushes.NoMemory waits f f2 l l2 a = a.0
 
 flush_cause : (result : WireFlush) (t : WsState) (l : LinkView) (f : FramesView) (o : OutletView) (k : WireMarks) → FlushAnswer result (count_of o) t.frames f t.link l → FlushCause result (ws_view t) (ws_view (with_write t l f o k))
-flush_cause flushes.Empty t l f o k a = tt
+flush_cause flushes.Empty t l f o k a = a.2
 flush_cause flushes.NotYet t l f o k a = a.1
 flush_cause flushes.Failed t l f o k a = a.1
-flush_cause flushes.Refused t l f o k a = a.1
+flush_cause flushes.Refused t l f o k a = absurd a
 flush_cause flushes.NoMemory t l f o k a = tt
 
 pub record Flushed (result : WireFlush) (t t2 : WsState) : Type 0 where

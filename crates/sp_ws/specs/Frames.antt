@@ -10,6 +10,7 @@ use Rattle.tungstenite.specs.declared.message.Message.TheVariants as messages
 use Rattle.tungstenite.specs.Failure.{IsOutside}
 use Rattle.sp_base.specs.declared.error.NoMemory.{NoMemory}
 use Rattle.sp_msg.specs.Marks.{one_more}
+use Rattle.websocket.specs.declared.error.ProtocolError.TheVariants as breaches
 use Rattle.websocket.specs.declared.protocol.frame.coding.OpCode.TheVariants as codes
 use Rattle.websocket.specs.declared.protocol.frame.coding.Data.TheVariants as datas
 use Rattle.websocket.specs.Frame.{encode_frame}
@@ -53,6 +54,17 @@ IsCopied ins.NoMemory b = Unit {0}
 abbrev pub IsClosed : Error → Type 0
 IsClosed e = (e ≡ errors.ConnectionClosed) ⊎ (e ≡ errors.AlreadyClosed)
 
+-- there was no memory for it, or for what the rules of frames answer by themselves
+abbrev pub IsOutOfMemory : Error → Type 0
+IsOutOfMemory errors.OutOfMemory = Unit {0}
+IsOutOfMemory (errors.Io cause) = error_kind cause ≡ kinds.OutOfMemory
+IsOutOfMemory e = ⊥
+
+-- the stream ended
+abbrev pub IsEnd : Error → Type 0
+IsEnd (errors.Protocol cause) = cause ≡ breaches.ResetWithoutClosingHandshake
+IsEnd e = ⊥
+
 -- nothing was there to read
 abbrev pub Waits : Error → Type 0
 Waits (errors.Io cause) = error_kind cause ≡ kinds.WouldBlock
@@ -64,8 +76,8 @@ Fails (ins.Binary bytes) e is_empty = ⊥
 Fails ins.Text e is_empty = ⊥
 Fails ins.Idle e is_empty = Waits e × (is_empty ≡ true)
 Fails ins.Closed e is_empty = IsClosed e
-Fails ins.Broken e is_empty = (IsClosed e → ⊥) × (e ≡ errors.OutOfMemory → ⊥) × (Waits e → is_empty ≡ true → ⊥)
-Fails ins.NoMemory e is_empty = IsOutside e
+Fails ins.Broken e is_empty = (IsClosed e → ⊥) × (IsOutOfMemory e → ⊥) × (Waits e → is_empty ≡ true → ⊥) × (IsEnd e → is_empty ≡ true → ⊥)
+Fails ins.NoMemory e is_empty = IsOutside e ⊎ (IsEnd e × (is_empty ≡ true))
 
 -- what a read's answer is called
 abbrev pub Names : FrameIn → Result Message Error → Bool → Type 0

@@ -1,5 +1,5 @@
 -- What sending and writing do to what waits.
-use Rattle.std.specs.Prelude.{◌≡◌, ◌≤◌, ◌<◌, ◌+◌, ◌-◌, ◌++◌, ℕ, cond, nat_lt, List, [], ◌∷◌, length}
+use Rattle.std.specs.Prelude.{◌≡◌, ◌≤◌, ◌<◌, ◌+◌, ◌-◌, ◌++◌, ◌⊎◌, ℕ, cond, nat_lt, List, [], ◌∷◌, length}
 use Rattle.sp_spec.specs.Outside.{Rose}
 use Rattle.sp_base.specs.Views.{LinkView}
 use Rattle.sp_base.specs.Steps.{Went}
@@ -35,7 +35,7 @@ AreFrames role at (body ∷ bodies) (p ∷ ps) s = (frame : List ℕ) × (rest :
 -- the oldest text in hand was given to the frames
 abbrev pub GaveFront : FrameOut → OutletView → OutletView → FramesView → FramesView → Type 0
 GaveFront outs.Done old new f f' = (body : List ℕ) × (old.held ≡ body ∷ new.held) × (new.ends ≡ old.ends ++ length f'.waiting ∷ []) × AfterSend outs.Done body f f'
-GaveFront outs.Refused old new f f' = (new ≡ old) × AfterSend outs.Refused [] f f'
+GaveFront outs.Refused old new f f' = ⊥
 GaveFront outs.NoMemory old new f f' = (new ≡ old) × (f' ≡ f)
 
 -- the texts that are gone from the hand were sent, each once and in order
@@ -56,7 +56,7 @@ pub record Gave (old new : OutletView) (f f' : FramesView) : Type 0 where
 
 abbrev pub GaveAll : FrameOut → OutletView → FramesView → FramesView → Type 0
 GaveAll outs.Done new f f' = (new.held ≡ []) × (f'.refusals ≡ f.refusals)
-GaveAll outs.Refused new f f' = (0 < length new.held) × Rose f.refusals f'.refusals
+GaveAll outs.Refused new f f' = ⊥
 GaveAll outs.NoMemory new f f' = (0 < length new.held) × (f'.refusals ≡ f.refusals)
 
 -- what the link took is the prefix of what waited
@@ -75,6 +75,10 @@ WroteOnce (writes.Took n) old new f f' link link' = (wrote : Wrote old new f f' 
 WroteOnce writes.NotYet old new f f' link link' = Wrote old new f f' link link' × Rose link.stalls link'.stalls
 WroteOnce writes.Failed old new f f' link link' = Wrote old new f f' link link' × Rose link.faults link'.faults
 
+-- nothing waits for the link, or it took no more
+abbrev pub Written : FramesView → LinkView → LinkView → Type 0
+Written f' link link' = (f'.waiting ≡ []) ⊎ Rose link.stalls link'.stalls ⊎ Rose link.faults link'.faults
+
 -- how the writing ended
 abbrev pub WroteAll : WireFlush → FramesView → LinkView → LinkView → Type 0
 WroteAll flushes.Empty f' link link' = f'.waiting ≡ []
@@ -84,10 +88,10 @@ WroteAll flushes.Refused f' link link' = ⊥
 WroteAll flushes.NoMemory f' link link' = ⊥
 
 abbrev pub FlushAnswer : WireFlush → ℕ → FramesView → FramesView → LinkView → LinkView → Type 0
-FlushAnswer flushes.Empty waits f f' link link' = (waits ≡ 0) × (f'.refusals ≡ f.refusals)
+FlushAnswer flushes.Empty waits f f' link link' = (waits ≡ 0) × (f'.refusals ≡ f.refusals) × Written f' link link'
 FlushAnswer flushes.NotYet waits f f' link link' = (0 < waits) × Rose link.stalls link'.stalls × (f'.refusals ≡ f.refusals)
 FlushAnswer flushes.Failed waits f f' link link' = (0 < waits) × Rose link.faults link'.faults × (f'.refusals ≡ f.refusals)
-FlushAnswer flushes.Refused waits f f' link link' = (0 < waits) × Rose f.refusals f'.refusals
+FlushAnswer flushes.Refused waits f f' link link' = ⊥
 FlushAnswer flushes.NoMemory waits f f' link link' = (0 < waits) × (f'.refusals ≡ f.refusals)
 
 -- what was in hand was sent, and then what the link takes was written

@@ -1,14 +1,14 @@
 -- What each call does to a socket over memory and what stands beside it.
-use Rattle.std.specs.Prelude.{◌≡◌, ◌++◌, ◌⊎◌, ℕ, zero, suc, Bool, true, false, List, [], length, drop, Option, Some, None, ◌==◌, Result, Ok, Err}
+use Rattle.std.specs.Prelude.{◌≡◌, ◌≤◌, ◌++◌, ◌⊎◌, ℕ, zero, suc, Bool, true, false, List, [], length, drop, Option, Some, None, ◌==◌, Result, Ok, Err}
+use Rattle.sp_base.specs.declared.error.NoMemory.{NoMemory}
 use Rattle.tungstenite.specs.declared.error.Error.{Error}
 use Rattle.tungstenite.specs.declared.message.Message.{Message}
 use Rattle.tungstenite.specs.Socket.{Socket, Reads}
+use Rattle.websocket.specs.declared.protocol.config.WebSocketConfig.{WebSocketConfig}
 use Rattle.sp_ws.specs.declared.memory.Memory.{Memory}
 use Rattle.sp_ws.specs.declared.stream.Stream.{Stream}
 use Rattle.sp_ws.specs.declared.frames.FrameIn.{FrameIn}
 use Rattle.sp_ws.specs.declared.frames.FrameIn.TheVariants as ins
-use Rattle.sp_ws.specs.declared.frames.FrameOut.{FrameOut}
-use Rattle.sp_ws.specs.declared.frames.FrameOut.TheVariants as outs
 use Rattle.sp_ws.specs.declared.frames.Last.{Last}
 use Rattle.sp_ws.specs.Views.{FramesView}
 use Rattle.sp_ws.specs.Frames.{IsPassed, Names, ReadsTo, IsFrame}
@@ -23,19 +23,31 @@ remaining_in m = Some (unread_in m)
 abbrev pub unread_of : Stream → ℕ
 unread_of s = length (unread_in s.socket.stream)
 
--- what a socket shows of its stream and of what it counts beside it
-abbrev pub frames_view : Stream → List (List ℕ) → List (List ℕ) → Last → ℕ → ℕ → FramesView
-frames_view s came sent last refusals breaks =
-    record { role = s.role; fed = s.fed.items; left = unread_of s; waiting = s.out.items; came = came; sent = sent; last = last; refusals = refusals; breaks = breaks; reads = s.reads.all }
+-- what a socket shows of its stream and of what it counts beside it; it refuses nothing
+abbrev pub frames_view : Stream → List (List ℕ) → List (List ℕ) → Last → ℕ → FramesView
+frames_view s came sent last breaks =
+    record { role = s.role; fed = s.fed.items; left = unread_of s; waiting = s.out.items; came = came; sent = sent; last = last; refusals = 0; breaks = breaks; reads = s.reads.all }
 
--- nothing that was fed is left over, and what waits stays
+-- messages and frames have at most so many bytes, and a server takes masked frames alone
+abbrev pub HasLimits : ℕ → WebSocketConfig → Type 0
+HasLimits max c = (c.max_message_size ≡ Some max) × (c.max_frame_size ≡ Some max) × (c.accept_unmasked_frames ≡ false)
+
+-- behind so many bytes these bytes stand, and no more
+abbrev pub IsBehind : ℕ → List ℕ → List ℕ → Type 0
+IsBehind n b s = (n ≤ length s) × (drop n s ≡ b)
+
+-- what was fed stands behind as many bytes as were not read, and what waits stays
 abbrev pub Loaded : Bool → Stream → Stream → Type 0
-Loaded true old new = (new.fed.items ≡ []) × (new.out ≡ old.out) × (new.role ≡ old.role)
+Loaded true old new = (new.fed.items ≡ []) × IsBehind (unread_of old) old.fed.items (unread_in new.socket.stream) × (new.out ≡ old.out) × (new.role ≡ old.role)
 Loaded false old new = (new.out ≡ old.out) × (new.role ≡ old.role)
 
--- more waits than before, and what was fed is as it was
+-- what was fed is as it was, and as much isn't read
+abbrev pub KeptUnread : Bool → Stream → Stream → Type 0
+KeptUnread done old new = (new.fed ≡ old.fed) × (new.role ≡ old.role) × (done ≡ true → unread_of new ≡ unread_of old)
+
+-- and more waits than before
 abbrev pub Fetched : Bool → Stream → Stream → Type 0
-Fetched done old new = (new.fed ≡ old.fed) × (new.role ≡ old.role) × ((replies : List ℕ) × (new.out.items ≡ old.out.items ++ replies)) × (done ≡ true → unread_of new ≡ unread_of old)
+Fetched done old new = KeptUnread done old new × ((replies : List ℕ) × (new.out.items ≡ old.out.items ++ replies))
 
 -- ---- reading
 
@@ -79,16 +91,10 @@ pub record NextIs (answer : FrameIn) (old new : Stream) : Type 0 where
 
 -- ---- sending
 
-abbrev pub IsRefusal : FrameOut → Type 0
-IsRefusal outs.Done = ⊥
-IsRefusal outs.Refused = Unit {0}
-IsRefusal outs.NoMemory = Unit {0}
-
 -- what was fed is as it was, and so are the side and what was read
 abbrev pub IsBeside : Stream → Stream → Type 0
 IsBeside old new = (new.fed ≡ old.fed) × (new.socket ≡ old.socket) × (new.role ≡ old.role) × (new.reads ≡ old.reads)
 
-abbrev pub SendIs : FrameOut → List ℕ → Stream → Stream → Type 0
-SendIs outs.Done b old new = IsBeside old new × ((piece : List ℕ) × (new.out.items ≡ old.out.items ++ piece) × IsFrame old.role piece b)
-SendIs outs.Refused b old new = IsBeside old new × (new.out.items ≡ old.out.items)
-SendIs outs.NoMemory b old new = IsBeside old new × (new.out.items ≡ old.out.items)
+abbrev pub SendIs : Result Unit NoMemory → List ℕ → Stream → Stream → Type 0
+SendIs (Ok _) b old new = IsBeside old new × ((piece : List ℕ) × (new.out.items ≡ old.out.items ++ piece) × IsFrame old.role piece b)
+SendIs (Err _) b old new = IsBeside old new × (new.out.items ≡ old.out.items)

@@ -15,7 +15,7 @@ use Rattle.sp_msg.specs.declared.wire.WireFlush.{WireFlush}
 use Rattle.sp_msg.specs.declared.wire.WireFlush.TheVariants as flushes
 use Rattle.sp_ws.specs.Views.{FramesView, OutletView, count_of, fresh_frames}
 use Rattle.sp_ws.specs.Links.{ReadCounts, WriteCounts}
-use Rattle.sp_ws.specs.Outlets.{AreWithin, AreFrames, passed}
+use Rattle.sp_ws.specs.Outlets.{AreWithin, AreFrames, passed, Written}
 use Rattle.sp_ws.specs.Sides.{role_of}
 use Rattle.sp_ws.specs.declared.side.Side.{Side}
 use Rattle.sp_ws.specs.Pulls.{IsIdle, PullReads}
@@ -157,17 +157,17 @@ RoomAfter flushes.Refused waits room = room ≡ rooms.Refused
 RoomAfter flushes.NoMemory waits room = room ≡ rooms.NoMemory
 
 abbrev pub RoomCause : Room → WsView → WsView → Type 0
-RoomCause rooms.Yes old new = (new.wire.waits < 16) × ((new.wire.waits ≡ 0) ⊎ Rose old.link.stalls new.link.stalls)
+RoomCause rooms.Yes old new = (new.wire.waits < 16) × (((new.wire.waits ≡ 0) × Written new.frames old.link new.link) ⊎ Rose old.link.stalls new.link.stalls)
 RoomCause rooms.Full old new = (new.wire.waits ≡ 16) × Rose old.link.stalls new.link.stalls
 RoomCause rooms.Failed old new = Rose old.link.faults new.link.faults
-RoomCause rooms.Refused old new = Rose old.frames.refusals new.frames.refusals
+RoomCause rooms.Refused old new = ⊥
 RoomCause rooms.NoMemory old new = Unit {0}
 
 abbrev pub FlushCause : WireFlush → WsView → WsView → Type 0
-FlushCause flushes.Empty old new = Unit {0}
+FlushCause flushes.Empty old new = Written new.frames old.link new.link
 FlushCause flushes.NotYet old new = Rose old.link.stalls new.link.stalls
 FlushCause flushes.Failed old new = Rose old.link.faults new.link.faults
-FlushCause flushes.Refused old new = Rose old.frames.refusals new.frames.refusals
+FlushCause flushes.Refused old new = ⊥
 FlushCause flushes.NoMemory old new = Unit {0}
 
 -- nothing was pulled or put, every call is lawful, and these bytes were fed

@@ -16,6 +16,7 @@ mod log;
 mod memory;
 mod outlet;
 mod reads;
+mod replies;
 mod side;
 mod socket;
 mod spent;

@@ -2,6 +2,7 @@
 ghost use Rattle.std.specs.Prelude.{◌≡◌, ◌≤◌, ◌++◌, ℕ, List, [], length, drop};
 ghost use Rattle.sp_ws.specs.Sides.{role_of};
 ghost use Rattle.sp_ws.specs.Views.{fresh_frames};
+ghost use Rattle.sp_ws.specs.declared.frames.FrameOut.TheVariants as outs;
 ghost use Rattle.sp_ws.specs.Frames.{AfterFeed, AfterNext, AfterSend, last_of, came_with, breaks_with};
 
 use crate::frames::{FrameIn, FrameOut, Frames, Last};
@@ -20,7 +21,6 @@ pub struct Socket {
     came: Log,
     sent: Log,
     last: Last,
-    refusals: u64,
     breaks: u64,
 }
 
@@ -30,7 +30,7 @@ impl Model for Socket {
 
     ghost Value = { FramesView };
 
-    ghost view = { λ s. frames_view s.stream s.came.texts s.sent.texts s.last s.refusals s.breaks };
+    ghost view = { λ s. frames_view s.stream s.came.texts s.sent.texts s.last s.breaks };
 }
 
 fn kind(answer: &FrameIn) -> Last
@@ -76,7 +76,6 @@ impl Socket {
             came: Log::none(),
             sent: Log::none(),
             last: Last::Nothing,
-            refusals: 0,
             breaks: 0,
         }
     }
@@ -103,18 +102,15 @@ impl Frames for Socket {
     }
 
     fn send(&mut self, b: &[u8]) -> FrameOut
-        ensures { AfterSend result b.now self.old self.new }
+        ensures after { AfterSend result b.now self.old self.new }
+        ensures never { result ≡ outs.Refused → ⊥ }
     {
         match self.stream.send(b) {
-            FrameOut::Done => {
+            Ok(()) => {
                 self.sent = self.sent.and(&Piece { bytes: b });
                 FrameOut::Done
             }
-            FrameOut::Refused => {
-                self.refusals = self.refusals.saturating_add(1);
-                FrameOut::Refused
-            }
-            FrameOut::NoMemory => FrameOut::NoMemory,
+            Err(_) => FrameOut::NoMemory,
         }
     }
 
@@ -129,5 +125,6 @@ impl Frames for Socket {
         ensures { self.new ≡ record self.old { waiting = drop n self.old.waiting } }
     {
         self.stream.out.drain(..n);
+        self.stream.replies = self.stream.replies.after(n);
     }
 }

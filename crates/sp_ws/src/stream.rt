@@ -1,17 +1,22 @@
 //! A `tungstenite` socket over memory, with what goes into it and what came out of it beside.
 ghost use Rattle.std.specs.Prelude.{◌≡◌, ◌≤◌, ◌++◌, ℕ, List, [], length, drop, IsTrue, IfOk, true};
 ghost use Rattle.std.specs.Prelude.{◌∷◌};
-ghost use Rattle.sp_ws.specs.Streams.{remaining_in, unread_of, Fetched, Loaded, ReadTo, IsNamed, Noted, NextIs, SendIs, IsRefusal};
+ghost use Rattle.sp_ws.specs.Streams.{remaining_in, unread_of, Fetched, Loaded, ReadTo, IsNamed, Noted, NextIs, SendIs, HasLimits, KeptUnread};
 ghost use Rattle.sp_ws.specs.Frames.{IsFrame, IsCopied, Fails};
 ghost use Rattle.tungstenite.specs.Socket.{Reads};
 
-use crate::frames::{FrameIn, FrameOut};
+use crate::frames::FrameIn;
 use crate::memory::{Keys, Memory};
 use crate::reads::{Given, ReadLog};
-use sp_base::{Bytes, next_value};
+use crate::replies::Replies;
+use sp_base::{Bytes, NoMemory, next_value};
 use std::alloc::Global;
 use std::io::ErrorKind;
 use tungstenite::{Error, Message, Role, WebSocket, WebSocketConfig};
+use websocket::error::ProtocolError;
+
+/// How many bytes the socket asks for in one read of its stream.
+const READ_BYTES: usize = 4_096;
 
 /// The socket; what was fed and not handed over to it; and what it wrote.
 #[derive(Drop)]
@@ -24,8 +29,9 @@ pub(crate) struct Stream {
     /// What reads.
     pub socket: WebSocket<Memory, Keys>,
     pub fed: Vec<u8>,
-    /// What waits for the link.
+    /// What waits for the link, and the replies among it.
     pub out: Vec<u8>,
+    pub replies: Replies,
     /// What each read of the socket gave. It takes no memory.
     pub reads: ReadLog,
 }
@@ -57,31 +63,21 @@ fn name_failure(error: Error, is_empty: bool) -> FrameIn
                 FrameIn::Broken
             }
         }
+        // A stream in memory doesn't end.
+        Error::Protocol(cause) => {
+            if cause == ProtocolError::ResetWithoutClosingHandshake && is_empty {
+                FrameIn::NoMemory
+            } else {
+                FrameIn::Broken
+            }
+        }
         _ => FrameIn::Broken,
     }
 }
 
-/// Why a message was not framed.
-#[derive(Clone, Copy)]
-enum Refusal {
-    Full,
-    NoMemory,
-}
-
-impl Refusal {
-    fn answer(self) -> FrameOut
-        ensures { IsRefusal result }
-    {
-        match self {
-            Refusal::Full => FrameOut::Refused,
-            Refusal::NoMemory => FrameOut::NoMemory,
-        }
-    }
-}
-
 // The frame of one binary message. Each message has a socket of its own, of which all is known: no other bytes wait in
-// it, and it was not closed.
-fn framed(alloc: Global, role: Role, seed: u64, b: &[u8]) -> Result<Vec<u8>, Refusal>
+// it, and it was not closed. Its buffer has no limit, so it is never full.
+fn framed(alloc: Global, role: Role, seed: u64, b: &[u8]) -> Result<Vec<u8>, NoMemory>
     ensures { IfOk result (λ v. IsFrame role v.items b.now) }
 {
     let memory = Memory {
@@ -90,7 +86,7 @@ fn framed(alloc: Global, role: Role, seed: u64, b: &[u8]) -> Result<Vec<u8>, Ref
         out: Vec::new(alloc),
     };
     let Ok(message) = Message::binary(alloc, b) else {
-        return Err(Refusal::NoMemory);
+        return Err(NoMemory);
     };
     let mut socket = WebSocket::from_raw_socket(alloc, memory, Keys { state: seed }, role, None);
     match socket.send(message) {
@@ -98,8 +94,7 @@ fn framed(alloc: Global, role: Role, seed: u64, b: &[u8]) -> Result<Vec<u8>, Ref
             let Memory { fed: _, at: _, out } = socket.into_inner();
             Ok(out)
         }
-        Err(Error::WriteBufferFull) => Err(Refusal::Full),
-        Err(_) => Err(Refusal::NoMemory),
+        Err(_) => Err(NoMemory),
     }
 }
 
@@ -124,6 +119,7 @@ impl Stream {
         ensures unread { unread_of result ≡ 0 }
         ensures role { result.role ≡ role }
         ensures reads { result.reads.all ≡ [] }
+        ensures limits { HasLimits max result.socket.conn.config }
     {
         let memory = Memory {
             fed: Vec::new(alloc),
@@ -131,6 +127,7 @@ impl Stream {
             out: Vec::new(alloc),
         };
         let config = WebSocketConfig::default()
+            .read_buffer_size(READ_BYTES)
             .max_message_size(Some(max as usize))
             .max_frame_size(Some(max as usize));
         // Its keys mask what the rules of frames answer by themselves.
@@ -142,6 +139,7 @@ impl Stream {
             socket: WebSocket::from_raw_socket(alloc, memory, keys, role, Some(config)),
             fed: Vec::new(alloc),
             out: Vec::new(alloc),
+            replies: Replies::none(),
             reads: ReadLog::none(),
         }
     }
@@ -155,28 +153,29 @@ impl Stream {
         if self.fed.is_empty() {
             return true;
         }
-        let wanted = self
-            .socket
-            .get_ref()
-            .unread()
-            .saturating_add(self.fed.len());
+        let before = self.socket.get_ref().unread();
         let taken = self.socket.get_mut().hand_over(&self.fed);
-        if !taken || self.socket.get_ref().unread() != wanted {
+        if !taken || !self.socket.get_ref().has_behind(before, &self.fed) {
             return false;
         }
         self.fed.clear();
         true
     }
 
-    /// Puts what the socket wrote behind what waits.
-    fn fetch(&mut self) -> bool
+    /// Puts what the socket wrote behind what waits; the first `late` bytes of it were written before this call. Where
+    /// many replies wait, those of this call stay in the socket's stream, in place of those before: the last pong may
+    /// stand for all (RFC 6455 section 5.5.3).
+    fn fetch(&mut self, late: usize) -> bool
         ensures fetched { Fetched result self.old self.new }
         ensures reads { self.new.reads ≡ self.old.reads }
     {
-        if self.socket.get_ref().out.is_empty() {
+        let written = self.socket.get_ref().out.len();
+        if written == 0 {
             return true;
         }
-        let unread = self.socket.get_ref().unread();
+        if self.replies.are_many() {
+            return written == late || self.forget(late);
+        }
         if self
             .out
             .extend_from_slice(&self.socket.get_ref().out)
@@ -184,9 +183,21 @@ impl Stream {
         {
             return false;
         }
-        self.socket.get_mut().clear_out();
+        self.replies = self.replies.and(written, self.out.len());
+        self.forget(written)
+    }
+
+    /// Forgets the first `n` bytes that the socket wrote.
+    fn forget(&mut self, n: usize) -> bool
+        ensures kept { KeptUnread result self.old self.new }
+        ensures out { self.new.out ≡ self.old.out }
+        ensures reads { self.new.reads ≡ self.old.reads }
+    {
+        let unread = self.socket.get_ref().unread();
+        let left = self.socket.get_ref().out.len().saturating_sub(n);
+        self.socket.get_mut().forget(n);
         let memory = self.socket.get_ref();
-        memory.out.is_empty() && memory.unread() == unread
+        memory.unread() == unread && memory.out.len() == left
     }
 
     /// One read of the socket, which is noted. No other function reads it.
@@ -228,26 +239,21 @@ impl Stream {
         if !self.load() {
             return FrameIn::NoMemory;
         }
+        let late = self.socket.get_ref().out.len();
         let answer = self.read_next();
-        if !self.fetch() {
+        if !self.fetch(late) {
             return FrameIn::NoMemory;
         }
         answer
     }
 
-    /// Frames one binary message.
-    pub(crate) fn send(&mut self, b: &[u8]) -> FrameOut
+    /// Frames one binary message. Refused only when out of memory.
+    pub(crate) fn send(&mut self, b: &[u8]) -> Result<(), NoMemory>
         ensures { SendIs result b.now self.old self.new }
     {
-        match framed(self.alloc, self.role, self.seed, b) {
-            Ok(frame) => {
-                if self.out.extend_from_slice(&frame).is_err() {
-                    return FrameOut::NoMemory;
-                }
-                self.seed = next_value(self.seed);
-                FrameOut::Done
-            }
-            Err(refusal) => refusal.answer(),
-        }
+        let frame = framed(self.alloc, self.role, self.seed, b)?;
+        self.out.extend_from_slice(&frame)?;
+        self.seed = next_value(self.seed);
+        Ok(())
     }
 }

@@ -1,19 +1,14 @@
 use Rattle.std.proofs.Common.{ap, length}
 use Rattle.sp_ws.specs.Streams.{unread_in}
-use Rattle.sp_ws.proofs.Shown.{is_sent, is_refused, is_unsent}
+use Rattle.sp_ws.proofs.Shown.{is_sent, is_unsent}
 use Rattle.sp_ws.proofs.socket.SocketFrames.send.Goals as goal
 
-pub returns-in-Done : goal.returns-in-Done
-returns-in-Done c =
-    let s = c.in-Done.ensures in
+pub returns-in-Ok-clause-after : goal.returns-in-Ok-clause-after
+returns-in-Ok-clause-after c =
+    let s = c.in-Ok.ensures in
     rw (← c.self.view_is) (is_sent _ _ _ _ _ _ _ _ s.1.0 _ _ _ _ _ _ _ _ c.args.b.now s.0.2 (ap (λ v. v.items) s.0.0) (ap (λ v. length (unread_in v.stream)) s.0.1) s.1.1 s.1.2 c.and-self-inside.ensures (ap (λ v. v.all) s.0.3))
 
-pub returns-in-Refused : goal.returns-in-Refused
-returns-in-Refused c =
-    let s = c.in-Refused.ensures in
-    rw (← c.self.view_is) (is_refused _ _ _ _ _ _ _ _ _ _ _ _ _ _ _ _ s.0.2 (ap (λ v. v.items) s.0.0) (ap (λ v. length (unread_in v.stream)) s.0.1) s.1 c.saturating_add-self-inside.ensures (ap (λ v. v.all) s.0.3))
-
-pub returns-in-NoMemory : goal.returns-in-NoMemory
-returns-in-NoMemory c =
-    let s = c.in-NoMemory.ensures in
+pub returns-in-Err-clause-after : goal.returns-in-Err-clause-after
+returns-in-Err-clause-after c =
+    let s = c.in-Err.ensures in
     rw (← c.self.view_is) (is_unsent _ _ _ _ _ _ _ _ _ _ _ _ _ _ _ s.0.2 (ap (λ v. v.items) s.0.0) (ap (λ v. length (unread_in v.stream)) s.0.1) s.1 (ap (λ v. v.all) s.0.3))
