@@ -127,6 +127,13 @@ module _ {L : Type 0} (seen : L → LinkView) (old n : Opening L) (link : L) whe
     all_came : Told (seen link).came (λ s. s ≡ n.came ++ piece)
     all_came = subst (λ (o : Option (List ℕ)). Told o (λ s. s ≡ n.came ++ piece)) (sym x.shows.2.came) (told_grown (λ s. s ≡ n.came) (λ s. s ≡ n.came ++ piece) (seen n.link).came (take k buf) (λ s e. ap (λ (v : List ℕ). v ++ take k buf) e ∙ ap (λ (v : List ℕ). n.came ++ v) (sym is)) h.hearing.stands.came)
 
+    begins_by : (u : Option ℕ) → u ≡ None → IsOwn n.role n.way n.own n.came u → Begins n.role n.way n.own
+    begins_by None e o = o.0
+    begins_by (Some u) e o = absurd (cc e)
+
+    begins : Begins n.role n.way n.own
+    begins = begins_by n.used h.hearing.unheard h.hearing.stands.own
+
     as_written : Told (seen link).written (λ w. w ≡ take n.said n.own)
     as_written = subst (λ (o : Option (List ℕ)). Told o (λ t. t ≡ take n.said n.own)) (sym x.shows.2.written) h.hearing.stands.written
 
@@ -148,10 +155,6 @@ module _ {L : Type 0} (seen : L → LinkView) (old n : Opening L) (link : L) whe
       same = record { role = h.same.role; way = h.same.way };
     })
       where
-        begins : (u : Option ℕ) → u ≡ None → IsOwn n.role n.way n.own n.came u → Begins n.role n.way n.own
-        begins None e o = o.0
-        begins (Some u) e o = absurd (cc e)
-
         own_by : (u : Option ℕ) → u ≡ None → IsOwn n.role n.way n.own n.came u → IsOwn n.role n.way n.own (n.came ++ piece) u
         own_by None e o = (o.0, t.1)
         own_by (Some u) e o = absurd (cc e)
@@ -168,30 +171,33 @@ module _ {L : Type 0} (seen : L → LinkView) (old n : Opening L) (link : L) whe
           came = all_came;
           written = subst (λ (v : List ℕ). Told (seen link).written (λ t. t ≡ v)) shorter as_written;
           few = omega (arith, h.hearing.stands.few, length-append n.own answer);
-          own = (n.own, answer, begins n.used h.hearing.unheard h.hearing.stands.own, opens, refl);
+          own = (n.own, answer, begins, opens, refl);
         },
         (used, refl),
       );
       same = record { role = h.same.role; way = h.same.way };
     })
       where
-        begins : (u : Option ℕ) → u ≡ None → IsOwn n.role n.way n.own n.came u → Begins n.role n.way n.own
-        begins None e o = o.0
-        begins (Some u) e o = absurd (cc e)
-
         shorter : take n.said n.own ≡ take n.said (n.own ++ answer)
         shorter = sym (take-append-le n.said n.own answer h.hearing.stands.few)
 
     -- and it is wrong
     pub hears_wrong : (m : Opening L) → TakenIn heard.Bad piece (record n { link = link }) m → HeardTo seen progress.Bad old m
     hears_wrong m t = subst (λ (q : Opening L). HeardTo seen progress.Bad old q) (sym t.0) (record {
-      so = wrong (seen link).came all_came;
+      so = (wrong (seen link).came all_came, unanswered (seen link).written as_written);
       same = record { role = h.same.role; way = h.same.way };
     })
       where
         wrong : (o : Option (List ℕ)) → Told o (λ s. s ≡ n.came ++ piece) → Told o (IsBad n.role n.way)
         wrong None y = tt
         wrong (Some s) y = subst (λ (v : List ℕ). IsBad n.role n.way v) (sym y) t.1
+
+        all : take n.said n.own ≡ n.own
+        all = take_all n.said n.own (omega (arith, h.hearing.said))
+
+        unanswered : (o : Option (List ℕ)) → Told o (λ w. w ≡ take n.said n.own) → Told o (λ w. Begins n.role n.way w)
+        unanswered None y = tt
+        unanswered (Some w) y = subst (λ (v : List ℕ). Begins n.role n.way v) (sym (y ∙ all)) begins
 
     pub hears_too_much : (m : Opening L) → TakenIn heard.NoMemory piece (record n { link = link }) m → HeardTo seen progress.NoMemory old m
     hears_too_much m t = record { so = tt; same = same_after old (record n { link = link }) m (record { role = h.same.role; way = h.same.way }) t.1 }

@@ -77,6 +77,10 @@ module _ {L : Type 0} (seen : L → LinkView) (n : Opening L) where
   abbrev pub HasTried : Type 0
   HasTried = WroteOrStalled (openings n.role (λ way. ⊤)) n.way (seen n.link)
 
+  -- nothing is written but what is owed before anything came
+  abbrev pub IsUnanswered : Type 0
+  IsUnanswered = Told (seen n.link).written (λ w. Begins n.role n.way w)
+
   -- what came is wrong
   abbrev pub IsWrong : Type 0
   IsWrong = IsSpoilt (openings n.role (λ way. ⊤)) n.way (seen n.link)
@@ -84,7 +88,7 @@ module _ {L : Type 0} (seen : L → LinkView) (n : Opening L) where
 abbrev pub CameTo : {L : Type 0} → (L → LinkView) → Progress → LinkView → Opening L → Type 0
 CameTo seen progress.Waits old new = IsUnderWay seen new × IsUndone seen new × HasTried seen new × HasWaited old (seen new.link)
 CameTo seen progress.Opened old new = IsOpened seen new
-CameTo seen progress.Bad old new = IsWrong seen new
+CameTo seen progress.Bad old new = IsWrong seen new × IsUnanswered seen new
 CameTo seen progress.Ended old new = ((seen new.link).ended ≡ true) × IsUndone seen new × HasTried seen new
 CameTo seen progress.Failed old new = (1 ≤ (seen new.link).faults) × IsUndone seen new
 CameTo seen progress.NoMemory old new = ⊤
@@ -118,7 +122,7 @@ pub record SaidTo {L : Type 0} (seen : L → LinkView) (result : Progress) (old 
 abbrev pub HeardSo : {L : Type 0} → (L → LinkView) → Progress → LinkView → Opening L → Type 0
 HeardSo seen progress.Waits old new = IsHearing seen new × Rose old.idles (seen new.link).idles
 HeardSo seen progress.Opened old new = Stands seen new × ((used : ℕ) × (new.used ≡ Some used))
-HeardSo seen progress.Bad old new = IsWrong seen new
+HeardSo seen progress.Bad old new = IsWrong seen new × IsUnanswered seen new
 HeardSo seen progress.Ended old new = IsHearing seen new × ((seen new.link).ended ≡ true)
 HeardSo seen progress.Failed old new = IsHearing seen new × (1 ≤ (seen new.link).faults)
 HeardSo seen progress.NoMemory old new = ⊤
