@@ -42,7 +42,7 @@ module _ {L : Type 0} (seen : L → LinkView) (o : Origins) (z : Setting) (h : L
   late at is long = (at, ap (λ (q : ℕ). met_at (past_of h) q) later.place ∙ is, long)
 
   pub cause_of : (why : Miss) (p : Progress) (at time : ℕ) → DecidedFor (decisions.Miss why) p at time → CameTo seen p (seen n.link) m → met_at (past_of h) (seen n.link).place ≡ Some at → time ≡ now (past_of h) → IsCauseOf o z h why (seen m.link)
-  cause_of misses.Bad p at time d g is t = (m.way, (run.scheme, run.known), spoilt seen o z m run (subst (λ (x : Progress). CameTo seen x (seen n.link) m) d g))
+  cause_of misses.Bad p at time d g is t = (m.way, (run.scheme, run.known), spoilt seen o z m run (subst (λ (x : Progress). CameTo seen x (seen n.link) m) d g).0)
   cause_of misses.Ended p at time d g is t =
       let e = subst (λ (x : Progress). CameTo seen x (seen n.link) m) d g in
       (m.way, (run.scheme, run.known), (e.0, incomplete seen o z m run e.1, wrote seen o z m run e.2))
