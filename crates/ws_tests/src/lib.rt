@@ -8,4 +8,6 @@ mod hostile;
 #[cfg(test)]
 mod opening;
 #[cfg(test)]
+mod sockets;
+#[cfg(test)]
 mod writes;
