@@ -8,8 +8,8 @@ use Rattle.crossbeam_queue.proofs.Lists.{at_set, at_snoc}
 use Rattle.sp_lane.specs.declared.rule.Side.{Side}
 use Rattle.sp_lane.specs.declared.item.Item.{Item}
 use Rattle.sp_lane.specs.Prefixes.{IsPrefix}
-use Rattle.sp_lane.specs.Order.{both_ends, spent, putting, taking, joined, marked, with_put, with_taken, HasPut, HasTaken, IsHeld, IsWaiting, IsLeft, Fits, IsInOrder}
-use Rattle.sp_lane.proofs.Prefixes.{front_nil, front_self, front_more}
+use Rattle.sp_lane.specs.Order.{both_ends, spent, putting, taking, joined, marked, told, hearing, with_put, with_taken, HasPut, HasTaken, IsHeld, IsWaiting, IsLeft, Knows, Fits, IsInOrder}
+use Rattle.sp_lane.proofs.Prefixes.{front_nil, front_self, front_more, front_is}
 
 at_end : (l : List Side) (a b : Side) (j : ℕ) → get_elem? l j ≢ some b → get_elem? (l ++ a ∷ []) j ≡ some b → j ≡ length l
 at_end [] a b zero n e = refl
@@ -24,27 +24,42 @@ all_set : (F : ℕ → Side → Type 0) (views : List Side) (port : ℕ) (w : Si
 all_set F views port w mine others j u e = ⊎_elim (λ (x : (j ≡ port) × (w ≡ u)). subst (λ (y : ℕ × Side). F y.0 y.1) (λ i. (sym x.0 i, x.1 i)) mine)
     (λ (x : (j ≢ port) × (get_elem? views j ≡ some u)). others j u x.0 x.1) (at_set views port j w u e)
 
+-- nothing is known
+none : (put taken : List Item) → Knows put taken spent
+none put taken = record { put = front_nil put; taken = front_nil taken; seen_taken = front_nil taken; seen_put = front_nil put }
+
+knows_put : (put taken : List Item) (x : Item) (v : Side) → Knows put taken v → Knows (put ++ x ∷ []) taken v
+knows_put put taken x v k = record { put = front_more v.put put (x ∷ []) k.put; taken = k.taken; seen_taken = k.seen_taken; seen_put = front_more v.seen_put put (x ∷ []) k.seen_put }
+
+knows_taken : (put taken : List Item) (x : Item) (v : Side) → Knows put taken v → Knows put (taken ++ x ∷ []) v
+knows_taken put taken x v k = record { put = k.put; taken = front_more v.taken taken (x ∷ []) k.taken; seen_taken = front_more v.seen_taken taken (x ∷ []) k.seen_taken; seen_put = k.seen_put }
+
 -- a pass that may do nothing fits anywhere
 idle : (writer reader : ℕ) (put taken : List Item) (port : ℕ) → Fits writer reader put taken port spent
-idle writer reader put taken port = record { writes = (λ p. absurd (true≢false (sym p))); reads = (λ p. absurd (true≢false (sym p))) }
+idle writer reader put taken port = record { writes = (λ p. absurd (true≢false (sym p))); reads = (λ p. absurd (true≢false (sym p))); knows = none put taken }
 
 pub begins : IsInOrder [] (both_ends ∷ [])
-begins = record {
-  writer = 0;
-  reader = 0;
-  put = [];
-  taken = [];
-  rest = refl;
-  most = omega arith;
-  fits = all_set (Fits 0 0 [] []) (both_ends ∷ []) 0 both_ends (record { writes = (λ _. (refl, refl, front_nil [])); reads = (λ _. (refl, refl, front_nil [])) })
-      (λ j u other e. absurd (other (at_end [] both_ends u j (λ x. some-ne-none u (sym x)) e)));
-}
+begins =
+    let k : Knows [] [] both_ends = record { put = front_nil []; taken = front_nil []; seen_taken = front_nil []; seen_put = front_nil [] } in
+    record {
+      writer = 0;
+      reader = 0;
+      put = [];
+      taken = [];
+      rest = refl;
+      most = omega arith;
+      fits = all_set (Fits 0 0 [] []) (both_ends ∷ []) 0 both_ends (record { writes = (λ _. (refl, refl)); reads = (λ _. (refl, refl)); knows = k })
+          (λ j u other e. absurd (other (at_end [] both_ends u j (λ x. some-ne-none u (sym x)) e)));
+    }
 
 pub puts : (n port : ℕ) (v : Side) (x : Item) → n ≤ 8192 → v.puts ≡ true → Pushes IsInOrder n port v x (HasPut v x)
 puts n port v x few may items views room h at =
     let w : Side = with_put v x h.taken in
     let mine = (h.fits port v at).writes may in
-    let sent = h.put ++ x ∷ [] in (
+    let k = (h.fits port v at).knows in
+    let sent = h.put ++ x ∷ [] in
+    let more : v.put ++ x ∷ [] ≡ sent = ap (λ l. l ++ x ∷ []) mine.1 in
+    let kw : Knows sent h.taken w = record { put = front_is w.put sent more; taken = k.taken; seen_taken = front_self h.taken; seen_put = front_more v.seen_put h.put (x ∷ []) k.seen_put } in (
       w,
       record {
         writer = h.writer;
@@ -54,18 +69,21 @@ puts n port v x few may items views room h at =
         rest = ap (λ l. l ++ x ∷ []) h.rest ∙ append_assoc h.taken items (x ∷ []);
         most = omega (arith, room, few, length-append items (x ∷ []));
         fits = all_set (Fits h.writer h.reader sent h.taken) views port w
-            (record { writes = (λ _. (mine.0, ap (λ l. l ++ x ∷ []) mine.1, front_self h.taken)); reads = (λ p. let r = (h.fits port v at).reads p in (r.0, r.1, front_more v.seen_put h.put (x ∷ []) r.2)) })
-            (λ j u other e. record { writes = (λ p. absurd (other (((h.fits j u e).writes p).0 ∙ sym mine.0))); reads = (λ p. let r = (h.fits j u e).reads p in (r.0, r.1, front_more u.seen_put h.put (x ∷ []) r.2)) });
+            (record { writes = (λ _. (mine.0, more)); reads = (h.fits port v at).reads; knows = kw })
+            (λ j u other e. record { writes = (λ p. absurd (other (((h.fits j u e).writes p).0 ∙ sym mine.0))); reads = (h.fits j u e).reads; knows = knows_put h.put h.taken x u (h.fits j u e).knows });
       },
-      (h.taken, refl, mine.2, (items, mine.1 ∙ h.rest)),
+      (h.taken, refl, k.seen_taken, (items, mine.1 ∙ h.rest)),
     )
 
 pub takes : (port : ℕ) (v : Side) → v.takes ≡ true → Pops IsInOrder port v (HasTaken v)
 takes port v may x items views h at =
     let w : Side = with_taken v x h.put in
     let mine = (h.fits port v at).reads may in
+    let k = (h.fits port v at).knows in
     let got = h.taken ++ x ∷ [] in
-    let whole : h.put ≡ got ++ items = h.rest ∙ sym (append_assoc h.taken (x ∷ []) items) in (
+    let more : v.taken ++ x ∷ [] ≡ got = ap (λ l. l ++ x ∷ []) mine.1 in
+    let whole : h.put ≡ got ++ items = h.rest ∙ sym (append_assoc h.taken (x ∷ []) items) in
+    let kw : Knows h.put got w = record { put = k.put; taken = front_is w.taken got more; seen_taken = front_more v.seen_taken h.taken (x ∷ []) k.seen_taken; seen_put = front_self h.put } in (
       w,
       record {
         writer = h.writer;
@@ -75,10 +93,10 @@ takes port v may x items views h at =
         rest = whole;
         most = omega (arith, h.most);
         fits = all_set (Fits h.writer h.reader h.put got) views port w
-            (record { writes = (λ p. let r = (h.fits port v at).writes p in (r.0, r.1, front_more v.seen_taken h.taken (x ∷ []) r.2)); reads = (λ _. (mine.0, ap (λ l. l ++ x ∷ []) mine.1, front_self h.put)) })
-            (λ j u other e. record { writes = (λ p. let r = (h.fits j u e).writes p in (r.0, r.1, front_more u.seen_taken h.taken (x ∷ []) r.2)); reads = (λ p. absurd (other (((h.fits j u e).reads p).0 ∙ sym mine.0))) });
+            (record { writes = (h.fits port v at).writes; reads = (λ _. (mine.0, more)); knows = kw })
+            (λ j u other e. record { writes = (h.fits j u e).writes; reads = (λ p. absurd (other (((h.fits j u e).reads p).0 ∙ sym mine.0))); knows = knows_taken h.put h.taken x u (h.fits j u e).knows });
       },
-      (h.put, refl, mine.2, (items, whole ∙ ap (λ l. (l ++ x ∷ []) ++ items) (sym mine.1))),
+      (h.put, refl, k.seen_put, (items, whole ∙ ap (λ l. l ++ items) (sym more))),
     )
 
 pub forks : (port : ℕ) (v : Side) → v.puts ≡ true → v.takes ≡ true → Forks IsInOrder port v (putting v) (taking v)
@@ -87,9 +105,12 @@ forks port v a b items views h at =
     let r : Side = taking v in
     let first = (h.fits port v at).writes a in
     let second = (h.fits port v at).reads b in
+    let k = (h.fits port v at).knows in
+    let kl : Knows h.put h.taken l = record { put = k.put; taken = front_nil h.taken; seen_taken = front_nil h.taken; seen_put = front_nil h.put } in
+    let kr : Knows h.put h.taken r = record { put = front_nil h.put; taken = k.taken; seen_taken = front_nil h.taken; seen_put = front_nil h.put } in
     let vs : List Side = set views port l in
-    let Old : ℕ → Side → Type 0 = λ j u. (u.puts ≡ true → (j ≡ h.writer) × (u.put ≡ h.put) × IsPrefix u.seen_taken h.taken) × (u.takes ≢ true) in
-    let old : All Old vs = all_set Old views port l ((λ _. (first.0, first.1, front_nil h.taken)), λ p. true≢false (sym p)) (λ j u other e. ((h.fits j u e).writes, λ p. other (((h.fits j u e).reads p).0 ∙ sym second.0))) in
+    let Old : ℕ → Side → Type 0 = λ j u. (u.puts ≡ true → (j ≡ h.writer) × (u.put ≡ h.put)) × (u.takes ≢ true) × Knows h.put h.taken u in
+    let old : All Old vs = all_set Old views port l ((λ _. first), (λ p. true≢false (sym p)), kl) (λ j u other e. ((h.fits j u e).writes, (λ p. other (((h.fits j u e).reads p).0 ∙ sym second.0)), (h.fits j u e).knows)) in
     record {
       writer = h.writer;
       reader = length vs;
@@ -97,10 +118,11 @@ forks port v a b items views h at =
       taken = h.taken;
       rest = h.rest;
       most = h.most;
-      fits = (λ j u e. ⊎_elim (λ x. record { writes = (old j u x).0; reads = (λ p. absurd ((old j u x).1 p)) })
+      fits = (λ j u e. ⊎_elim (λ x. record { writes = (old j u x).0; reads = (λ p. absurd ((old j u x).1 p)); knows = (old j u x).2 })
           (λ (is : r ≡ u). record {
             writes = (λ p. absurd (true≢false (sym (ap (λ (y : Side). y.puts) is ∙ p))));
-            reads = (λ p. (at_end vs r u j (λ x. (old j u x).1 p) e, ap (λ (y : Side). y.taken) (sym is) ∙ second.1, subst (λ (y : Side). IsPrefix y.seen_put h.put) is (front_nil h.put)));
+            reads = (λ p. (at_end vs r u j (λ x. (old j u x).1 p) e, ap (λ (y : Side). y.taken) (sym is) ∙ second.1));
+            knows = subst (Knows h.put h.taken) is kr;
           })
           (at_snoc vs r u j e));
     }
@@ -110,9 +132,10 @@ pub marks : (port : ℕ) (v : Side) → Forks IsInOrder port v (marked v) spent
 marks port v items views h at =
     let l : Side = marked v in
     let mine = h.fits port v at in
+    let k : Knows h.put h.taken l = record { put = mine.knows.put; taken = mine.knows.taken; seen_taken = mine.knows.seen_taken; seen_put = mine.knows.seen_put } in
     let vs : List Side = set views port l in
     let F : ℕ → Side → Type 0 = Fits h.writer h.reader h.put h.taken in
-    let old : All F vs = all_set F views port l (record { writes = mine.writes; reads = mine.reads }) (λ j u _ e. h.fits j u e) in
+    let old : All F vs = all_set F views port l (record { writes = mine.writes; reads = mine.reads; knows = k }) (λ j u _ e. h.fits j u e) in
     record {
       writer = h.writer;
       reader = h.reader;
@@ -123,16 +146,60 @@ marks port v items views h at =
       fits = (λ j u e. ⊎_elim (λ x. old j u x) (λ (is : spent ≡ u). subst (F j) is (idle h.writer h.reader h.put h.taken j)) (at_snoc vs spent u j e));
     }
 
+-- what one end has done may be told
+pub tells : (port : ℕ) (v : Side) → Forks IsInOrder port v v (told v)
+tells port v items views h at =
+    let r : Side = told v in
+    let mine = h.fits port v at in
+    let k : Knows h.put h.taken r = record { put = front_nil h.put; taken = front_nil h.taken; seen_taken = mine.knows.taken; seen_put = mine.knows.put } in
+    let vs : List Side = set views port v in
+    let F : ℕ → Side → Type 0 = Fits h.writer h.reader h.put h.taken in
+    let fr : (j : ℕ) → F j r = λ j. record { writes = (λ p. absurd (true≢false (sym p))); reads = (λ p. absurd (true≢false (sym p))); knows = k } in
+    let old : All F vs = all_set F views port v mine (λ j u _ e. h.fits j u e) in
+    record {
+      writer = h.writer;
+      reader = h.reader;
+      put = h.put;
+      taken = h.taken;
+      rest = h.rest;
+      most = h.most;
+      fits = (λ j u e. ⊎_elim (λ x. old j u x) (λ (is : r ≡ u). subst (F j) is (fr j)) (at_snoc vs r u j e));
+    }
+
+-- and the other end may hear it
+pub hears : (port : ℕ) (v : Side) (other : ℕ) (u : Side) → Merges IsInOrder port v other u (hearing v u) spent
+hears port v other u items views h at two at' =
+    let both : Side = hearing v u in
+    let mine = h.fits port v at in
+    let vs : List Side = set views port both in
+    let was : get_elem? views other ≡ some u = ⊎_elim (λ x. absurd (two x.0)) (λ x. x.1) (at_set views port other both u at') in
+    let theirs = (h.fits other u was).knows in
+    let k : Knows h.put h.taken both = record { put = mine.knows.put; taken = mine.knows.taken; seen_taken = theirs.seen_taken; seen_put = theirs.seen_put } in
+    let F : ℕ → Side → Type 0 = Fits h.writer h.reader h.put h.taken in
+    let now : All F vs = all_set F views port both (record { writes = mine.writes; reads = mine.reads; knows = k }) (λ j y _ e. h.fits j y e) in
+    record {
+      writer = h.writer;
+      reader = h.reader;
+      put = h.put;
+      taken = h.taken;
+      rest = h.rest;
+      most = h.most;
+      fits = all_set F vs other spent (idle h.writer h.reader h.put h.taken other) (λ j y _ e. now j y e);
+    }
+
 pub merges : (port : ℕ) (v : Side) (other : ℕ) (u : Side) → v.puts ≡ true → u.takes ≡ true → Merges IsInOrder port v other u (joined v u) spent
 merges port v other u a b items views h at two at' =
     let both : Side = joined v u in
     let mine = (h.fits port v at).writes a in
+    let kv = (h.fits port v at).knows in
     let vs : List Side = set views port both in
     let was : get_elem? views other ≡ some u = ⊎_elim (λ x. absurd (two x.0)) (λ x. x.1) (at_set views port other both u at') in
     let theirs = (h.fits other u was).reads b in
+    let ku = (h.fits other u was).knows in
+    let k : Knows h.put h.taken both = record { put = kv.put; taken = ku.taken; seen_taken = kv.seen_taken; seen_put = ku.seen_put } in
     let Now : ℕ → Side → Type 0 = λ j y. j ≢ other → Fits h.writer port h.put h.taken j y in
-    let now : All Now vs = all_set Now views port both (λ _. record { writes = (λ _. mine); reads = (λ _. (refl, theirs.1, theirs.2)) })
-    (λ j y _ e apart. record { writes = (h.fits j y e).writes; reads = (λ p. absurd (apart (((h.fits j y e).reads p).0 ∙ sym theirs.0))) }) in
+    let now : All Now vs = all_set Now views port both (λ _. record { writes = (λ _. mine); reads = (λ _. (refl, theirs.1)); knows = k })
+    (λ j y _ e apart. record { writes = (h.fits j y e).writes; reads = (λ p. absurd (apart (((h.fits j y e).reads p).0 ∙ sym theirs.0))); knows = (h.fits j y e).knows }) in
     record {
       writer = h.writer;
       reader = port;
@@ -147,19 +214,20 @@ pub left : (port : ℕ) (v : Side) → v.puts ≡ true → v.takes ≡ true → 
 left port v a b items views h at =
     let put = (h.fits port v at).writes a in
     let taken = (h.fits port v at).reads b in
+    let k = (h.fits port v at).knows in
     record {
       rest = put.1 ∙ h.rest ∙ ap (λ l. l ++ items) (sym taken.1);
       most = h.most;
-      seen_taken = subst (IsPrefix v.seen_taken) (sym taken.1) put.2;
-      seen_put = subst (IsPrefix v.seen_put) (sym put.1) taken.2;
+      seen_taken = subst (IsPrefix v.seen_taken) (sym taken.1) k.seen_taken;
+      seen_put = subst (IsPrefix v.seen_put) (sym put.1) k.seen_put;
     }
 
 pub held : (port : ℕ) (v : Side) → v.puts ≡ true → Learns IsInOrder port v (IsHeld v)
 held port v a items views h at =
     let put = (h.fits port v at).writes a in
-    (h.taken, put.1 ∙ h.rest, put.2)
+    (h.taken, put.1 ∙ h.rest, (h.fits port v at).knows.seen_taken)
 
 pub waiting : (port : ℕ) (v : Side) → v.takes ≡ true → Learns IsInOrder port v (IsWaiting v)
 waiting port v b items views h at =
     let taken = (h.fits port v at).reads b in
-    subst (IsPrefix v.seen_put) (h.rest ∙ ap (λ l. l ++ items) (sym taken.1)) taken.2
+    subst (IsPrefix v.seen_put) (h.rest ∙ ap (λ l. l ++ items) (sym taken.1)) (h.fits port v at).knows.seen_put

@@ -1,6 +1,5 @@
 -- What each call of a wire over two lanes leaves, and what it shows.
 use Rattle.std.proofs.Common.{◌≡◌, ◌≤◌, ◌-◌, ◌++◌, ◌&&◌, inl, inr, ℕ, Bool, true, false, not, true≢false, List, [], ◌∷◌, length, take, Option, Some, None, IfSome, is_none, refl, sym, ap, ◌∙◌, subst, append-nil, arith}
-use Rattle.std.proofs.lemmas.List.{length-append, take_at}
 use Rattle.sp_msg.specs.Views.{MessageView, OverLanes, wire_text}
 use Rattle.sp_msg.specs.Marks.{marks_pulled, marks_roomed, marks_flushed}
 use Rattle.sp_msg.specs.Wires.{AfterPull, AfterRoom, AfterFlush, came_after, IsBare}
@@ -15,13 +14,10 @@ use Rattle.sp_lane.specs.declared.item.Item.TheVariants as items
 use Rattle.sp_lane.specs.Items.{texts}
 use Rattle.sp_lane.specs.Lanes.{InView, OutView, has_end, DidTake}
 use Rattle.sp_lane.specs.LaneWires.{came_of, hand_texts, hand_count, lane_wire, IsLaneWire, is_lost, PulledFrom, Pushed, TriedEnd, Drained, room_of, flush_of}
-use Rattle.sp_lane.proofs.Counts.{end_snoc, texts_message, texts_end}
+use Rattle.sp_lane.proofs.Counts.{end_snoc, without_last, texts_message, texts_end}
 
 since_taken : (x : Item) (old new : OutView) → DidTake x old new → new.since ≡ old.since ++ x ∷ []
 since_taken x old new did = ap (λ (v : OutView). v.since) did.is
-
-without_last : (l : List Item) (x : Item) → take (length (l ++ x ∷ []) - 1) (l ++ x ∷ []) ≡ l
-without_last l x = take_at l (x ∷ []) (length (l ++ x ∷ []) - 1) (omega (arith, length-append l (x ∷ [])))
 
 pulled_name : (r : WireIn) (old new : OutView) → PulledFrom r old new → new.name ≡ old.name
 pulled_name (ins.Message b) old new p = ap (λ (v : OutView). v.name) p.1.is

@@ -14,7 +14,7 @@ mod rule;
 mod tests;
 mod wire;
 
-pub use ends::{LaneEnd, LaneIn, LaneOut, finish, lane};
+pub use ends::{LaneEnd, LaneIn, LaneOut, finish, lane, tell};
 pub use inproc::{Inproc, InprocError};
 pub use item::{Item, Put, PutEnd, Taken};
 pub use wire::LaneWire;
