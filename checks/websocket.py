@@ -104,20 +104,33 @@ def answers_a_plain_client():
     return well and right, f"{answer[:40]!r}, {pong}, {outs[0][:40]!r}"
 
 
-def asks_a_plain_server():
-    """A push of ours dials a plain server: its head, and masked frames whose masks differ."""
-    with socket.socket() as listener:
-        listener.setsockopt(socket.SOL_SOCKET, socket.SO_REUSEADDR, 1)
-        listener.bind(("127.0.0.1", 0))
-        listener.listen(8)
-        port = listener.getsockname()[1]
-        run = start("--push", "--dial", address(port), "--data", "hello", "--count", "2")
-        peer, _ = listener.accept()
+def serving():
+    """A plain server, and its port."""
+    listener = socket.socket()
+    listener.setsockopt(socket.SOL_SOCKET, socket.SO_REUSEADDR, 1)
+    listener.settimeout(20)
+    listener.bind(("127.0.0.1", 0))
+    listener.listen(8)
+    return listener, listener.getsockname()[1]
+
+
+def served(listener, name):
+    """The next link of a plain server, opened; the head that came, and its key."""
+    peer, _ = listener.accept()
     peer.settimeout(20)
     came = head(peer)
     key = [line for line in came.split(b"\r\n") if line.startswith(b"Sec-WebSocket-Key: ")][0].split(b": ")[1]
     peer.sendall(b"HTTP/1.1 101 Switching Protocols\r\nUpgrade: websocket\r\nConnection: Upgrade\r\n"
-                 b"Sec-WebSocket-Accept: " + accept_of(key) + b"\r\nSec-WebSocket-Protocol: pull.sp.nanomsg.org\r\n\r\n")
+                 b"Sec-WebSocket-Accept: " + accept_of(key) + b"\r\nSec-WebSocket-Protocol: " + name + b".sp.nanomsg.org\r\n\r\n")
+    return peer, came, key
+
+
+def asks_a_plain_server():
+    """A push of ours dials a plain server: its head, and masked frames whose masks differ."""
+    listener, port = serving()
+    with listener:
+        run = start("--push", "--dial", address(port), "--data", "hello", "--count", "2")
+        peer, came, key = served(listener, b"pull")
     frames = [read_frame(peer) for _ in range(2)]
     _, well = said([run])
     peer.close()
@@ -126,35 +139,118 @@ def asks_a_plain_server():
     return well and right, f"{came[:30]!r}, {frames}"
 
 
+def ends(peer, bytes_):
+    """Whether the other side ends the link after these bytes, while this one keeps its own half open."""
+    peer.settimeout(10)
+    try:
+        peer.sendall(bytes_)
+        while peer.recv(4096):
+            pass
+        return True
+    except socket.timeout:
+        return False
+    except ConnectionError:
+        return True
+
+
+LONGEST = 1_048_576
+
+
 def broken_clients():
-    """Each of these ends its own link alone; the next client is served."""
+    """Each of these ends its own link alone, the last but one since it is cut; the next client is served."""
     wrong = [
         frame(b"bare", mask=b""),
         frame(b"reserved", 0xc2),
         frame(b"text", 0x81),
         b"\x82\xff" + (1 << 40).to_bytes(8, "big") + b"mask",
-        b"\x82\xfe\x00\x10mask" + b"cut",
+        frame(b"z" * (LONGEST + 1)),
+        frame(b"z" * LONGEST, 0x02) + frame(b"z", 0x80),
         frame(b"\x03\xe8", 0x88),
         frame(b"part", 0x02) + frame(b"\x03\xe8", 0x88),
         frame(b"", 0x80),
     ]
+    cut = b"\x82\xfe\x00\x10mask" + b"cut"
     port = free_port()
-    run = listening(OURS, port, "--pull", "--ascii", "--count", str(len(wrong)))
-    for number, bytes_ in enumerate(wrong):
+    run = listening(OURS, port, "--pull", "--ascii", "--count", str(len(wrong) + 1))
+    kept = []
+    for number, bytes_ in enumerate(wrong + [cut]):
         peer, _ = client(port, b"pull")
-        peer.sendall(bytes_)
-        peer.shutdown(socket.SHUT_WR)
-        peer.settimeout(10)
-        while peer.recv(4096):
-            pass
+        if bytes_ == cut:
+            peer.sendall(cut)
+            peer.shutdown(socket.SHUT_WR)
+            bytes_ = b""
+        if not ends(peer, bytes_):
+            kept.append(number)
         peer.close()
         good, _ = client(port, b"pull")
         good.sendall(frame(b"after %d" % number))
-        if number + 1 < len(wrong):
+        if number < len(wrong):
             time.sleep(0.1)
         good.close()
     outs, well = said([run])
-    return well and outs == [b"\n".join(b"after %d" % n for n in range(len(wrong)))], f"{outs}"
+    right = outs == [b"\n".join(b"after %d" % n for n in range(len(wrong) + 1))]
+    return well and right and not kept, f"{outs}, not ended: {kept}"
+
+
+def broken_servers():
+    """A pull of ours dials a plain server: fragments with a ping between them are one message, and the pong is masked. Each
+    of the others ends its own link, and ours dials again."""
+    wrong = [
+        frame(b"masked"),
+        frame(b"reserved", 0xc2, b""),
+        frame(b"text", 0x81, b""),
+        b"\x82\x7f" + (1 << 40).to_bytes(8, "big"),
+        frame(b"z" * (LONGEST + 1), mask=b""),
+        frame(b"z" * LONGEST, 0x02, b"") + frame(b"z", 0x80, b""),
+        frame(b"\x03\xe8", 0x88, b""),
+        frame(b"part", 0x02, b"") + frame(b"\x03\xe8", 0x88, b""),
+        frame(b"", 0x80, b""),
+    ]
+    listener, port = serving()
+    kept = []
+    with listener:
+        run = start("--pull", "--dial", address(port), "--ascii", "--count", "3")
+        peer, _, first = served(listener, b"push")
+        peer.sendall(frame(b"fra", 0x02, b"") + frame(b"hey", 0x89, b"") + frame(b"gment", 0x80, b""))
+        pong = read_frame(peer)
+        peer.sendall(frame(b"y" * LONGEST, mask=b""))
+        keys = {first}
+        for number, bytes_ in enumerate(wrong):
+            if not ends(peer, bytes_):
+                kept.append(number)
+            peer.close()
+            peer, _, key = served(listener, b"push")
+            keys.add(key)
+        peer.sendall(frame(b"last", mask=b""))
+        outs, well = said([run])
+        peer.close()
+    right = outs == [b"fragment\n" + b"y" * LONGEST + b"\nlast"] and pong == (0x8a, True, b"hey")
+    return well and right and not kept and len(keys) == len(wrong) + 1, f"{len(outs[0])} bytes, {pong}, {len(keys)} keys, not ended: {kept}"
+
+
+def most_memory(pid):
+    """The most KiB of memory that the process had so far; 0 where the machine doesn't tell."""
+    try:
+        with open(f"/proc/{pid}/status") as status:
+            return next((int(line.split()[1]) for line in status if line.startswith("VmHWM:")), 0)
+    except OSError:
+        return 0
+
+
+def pings_that_nobody_reads():
+    """A peer that pings and reads nothing takes little memory: 40 MB of pings, of which no pong is read."""
+    port = free_port()
+    run = listening(OURS, port, "--pull", "--ascii", "--count", "1")
+    peer, _ = client(port, b"pull")
+    before = most_memory(run.pid)
+    chunk = frame(b"p" * 100, 0x89) * 1000
+    for _ in range(400):
+        peer.sendall(chunk)
+    grown = most_memory(run.pid) - before
+    peer.sendall(frame(b"after"))
+    outs, well = said([run])
+    peer.close()
+    return well and outs == [b"after"] and grown < 8192, f"{outs}, {grown} KiB"
 
 
 def hostile_heads():
@@ -291,7 +387,7 @@ def main():
         return 0
     if sys.argv[1:] == ["measure"]:
         return measure()
-    checks = [answers_a_plain_client, asks_a_plain_server, broken_clients, hostile_heads]
+    checks = [answers_a_plain_client, asks_a_plain_server, broken_clients, broken_servers, pings_that_nobody_reads, hostile_heads]
     if THEIRS:
         checks.append(each_role_with_theirs)
     failed = 0
