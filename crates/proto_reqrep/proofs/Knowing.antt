@@ -1,6 +1,7 @@
 -- Which pipes a req knows.
-use Rattle.std.proofs.Common.{◌≡◌, refl, ap, ◌∙◌, List, ℕ, Bool, true, false, arith, map, ◌<◌, ◌≤◌}
+use Rattle.std.proofs.Common.{◌≡◌, refl, ap, ◌∙◌, List, [], ◌∷◌, ◌++◌, ℕ, ◌+◌, Bool, true, false, arith, map, ◌<◌, ◌≤◌}
 use Rattle.std.specs.Prelude.{filter, not, ◌||◌, ◌==◌}
+use Rattle.std.specs.List.{list_all}
 use Rattle.std.proofs.lemmas.Bool.Decides.{nat_tests}
 use Rattle.sp_history.specs.declared.entry.Entry.TheVariants.{Full}
 use Rattle.sp_history.specs.declared.entry.Why.{Why}
@@ -8,10 +9,22 @@ use Rattle.sp_history.specs.Lists.{has, without}
 use Rattle.sp_history.specs.Past.{up, ups}
 use Rattle.sp_history.specs.Settled.{has_full}
 use Rattle.sp_history.specs.Moments.{Moment, Lawful, past, also}
-use Rattle.proto_reqrep.specs.declared.ports.Port.{Port}
-use Rattle.proto_reqrep.specs.Ports.{port_of, marked, cleared, free_count}
+use Rattle.proto_reqrep.specs.Ports.{Port}
+use Rattle.proto_reqrep.specs.Ports.{port_of, marked, cleared, is_below, free_count}
 use Rattle.proto_reqrep.specs.Reqs.{Knows}
-use Rattle.proto_reqrep.proofs.Piping.{ports_without, has_without, fewer_free, ports_marked, marks_fewer, ports_cleared}
+use Rattle.proto_reqrep.proofs.Piping.{ports_without, has_without, fewer_free, ports_marked, marks_fewer, ports_cleared, ports_more, known_more, below_all}
+
+pub up_knows : (ps qs : List Port) (us : List ℕ) (last p : ℕ) (full : ℕ → Bool) → Knows qs us last full → p ≡ last + 1 → ps ≡ qs ++ record { pipe = p; is_full = false } ∷ [] → Knows ps (us ++ p ∷ []) (last + 1) full
+up_knows ps qs us last p full h n e =
+    record {
+      ports = e ∙ ap (λ (xs : List Port). xs ++ record { pipe = p; is_full = false } ∷ []) h.ports ∙ ports_more full us p (h.unmet p (omega (arith, n)));
+      known = known_more us last p h.known n;
+      unmet = λ q g. h.unmet q (omega (arith, g));
+    }
+
+-- all that are known have numbers below that of the new one
+pub known_below : (qs : List Port) (us : List ℕ) (last p : ℕ) (full : ℕ → Bool) → Knows qs us last full → p ≡ last + 1 → list_all (is_below p) qs ≡ true
+known_below qs us last p full h n = ap (list_all (is_below p)) h.ports ∙ below_all full us last p h.known n
 
 pub fresh_knows : (ps qs : List Port) (us : List ℕ) (last : ℕ) (full : ℕ → Bool) → Knows qs us last full → ps ≡ map cleared qs → Knows ps us last (λ q. false)
 fresh_knows ps qs us last full h e = record { ports = e ∙ ap (map cleared) h.ports ∙ ports_cleared full us; known = h.known; unmet = λ q g. refl }

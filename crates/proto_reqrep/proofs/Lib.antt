@@ -1,5 +1,6 @@
 pub mod Prefixes
 pub mod Places
+pub mod Rising
 pub mod Piping
 pub mod Taking
 pub mod Homes

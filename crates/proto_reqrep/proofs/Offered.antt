@@ -26,7 +26,7 @@ use Rattle.proto_reqrep.specs.declared.rep.Reply.{Reply}
 use Rattle.proto_reqrep.specs.declared.rep.Kept.{Kept}
 use Rattle.proto_reqrep.specs.declared.rep.Answer.{Answer}
 use Rattle.proto_reqrep.specs.declared.rep.Waiting.{Waiting}
-use Rattle.proto_reqrep.specs.declared.ports.Port.{Port}
+use Rattle.proto_reqrep.specs.Ports.{Port}
 use Rattle.proto_reqrep.specs.declared.ports.Way.{Way}
 use Rattle.proto_reqrep.specs.declared.ports.Way.TheVariants as ways
 use Rattle.proto_reqrep.specs.Ports.{port_of}

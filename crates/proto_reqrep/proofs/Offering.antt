@@ -33,7 +33,7 @@ use Rattle.sp_proto.specs.Machines.{CanGive, CanSend, CanFinish, CanAgain, IsIdl
 use Rattle.sp_proto.specs.declared.Offer.{Offer}
 use Rattle.sp_proto.specs.declared.Offer.TheVariants as offers
 use Rattle.proto_reqrep.specs.Ports.{port_of, is_free, is_free_behind, next_port, or_else, next_number as next_pipe}
-use Rattle.proto_reqrep.specs.declared.ports.Port.{Port}
+use Rattle.proto_reqrep.specs.Ports.{Port}
 use Rattle.proto_reqrep.specs.declared.req.Request.{Request as Machine}
 use Rattle.proto_reqrep.specs.declared.req.Live.{Live}
 use Rattle.proto_reqrep.specs.declared.req.Asking.{Asking}

@@ -1,17 +1,18 @@
 -- A rep stands for its history after each call.
-use Rattle.std.proofs.Common.{◌≡◌, ◌≢◌, refl, ap, sym, ◌∙◌, subst, List, [], ◌∷◌, ◌++◌, ℕ, Bool, true, false, cond, arith, Option, Some, None, length, map, ◌<◌, ◌≤◌}
+use Rattle.std.proofs.Common.{◌≡◌, ◌≢◌, refl, ap, sym, ◌∙◌, subst, List, [], ◌∷◌, ◌++◌, ℕ, ◌+◌, Bool, true, false, cond, arith, Option, Some, None, length, map, ◌<◌, ◌≤◌}
 use Rattle.std.specs.Prelude.{filter, not, ◌&&◌, ◌||◌, ◌==◌}
-use Rattle.std.specs.List.{list_any}
+use Rattle.std.specs.List.{list_any, list_all}
 use Rattle.std.specs.Option.{option_map}
 use Rattle.std.proofs.lemmas.Bool.Decides.{nat_tests}
 use Rattle.std.proofs.lemmas.List.{map-append}
 use Rattle.sp_base.specs.declared.OpName.{OpName}
 use Rattle.sp_history.specs.declared.setting.Setting.{Setting}
 use Rattle.sp_history.specs.declared.entry.Entry.{Entry}
-use Rattle.sp_history.specs.declared.entry.Entry.TheVariants.{Begin, Down, Full, Ctx}
+use Rattle.sp_history.specs.declared.entry.Entry.TheVariants.{Begin, Up, Down, Full, Ctx}
 use Rattle.sp_history.specs.declared.entry.Gate.TheVariants.{Open, Shut}
 use Rattle.sp_history.specs.declared.entry.Act.{Act}
 use Rattle.sp_history.specs.declared.entry.Why.{Why}
+use Rattle.sp_history.specs.declared.entry.WireName.{WireName}
 use Rattle.sp_history.specs.declared.parts.Begun.{Begun}
 use Rattle.sp_history.specs.declared.parts.Item.{Item}
 use Rattle.sp_history.specs.declared.parts.Origin.{Origin}
@@ -31,11 +32,10 @@ use Rattle.proto_reqrep.specs.declared.rep.Source.{Source}
 use Rattle.proto_reqrep.specs.declared.rep.Place.{Place}
 use Rattle.proto_reqrep.specs.declared.rep.Answer.{Answer}
 use Rattle.proto_reqrep.specs.declared.rep.Waiting.{Waiting}
-use Rattle.proto_reqrep.specs.declared.ports.Port.{Port}
-use Rattle.proto_reqrep.specs.Ports.{port_of, marked, cleared, free_count}
+use Rattle.proto_reqrep.specs.Ports.{Port, port_of, marked, cleared, is_below, free_count}
 use Rattle.proto_reqrep.specs.Reps.{Ties, item_of, origin_of, origin_at, begun_of, act_of, ctx_of, Routed, AreHome}
 use Rattle.proto_reqrep.proofs.Taking.{apart_more}
-use Rattle.proto_reqrep.proofs.Piping.{ports_without, has_without, fewer_free, ports_marked, marks_fewer, ports_cleared}
+use Rattle.proto_reqrep.proofs.Piping.{ports_without, has_without, fewer_free, ports_marked, marks_fewer, ports_cleared, ports_more, known_more, below_all}
 use Rattle.proto_reqrep.proofs.Homes.{opens_none, shut_ctxs, shut_origins}
 use Rattle.proto_reqrep.specs.Reps.{role_of}
 use Rattle.proto_reqrep.specs.declared.rep.ReplyRole.{ReplyRole}
@@ -88,6 +88,28 @@ kept_without p (k ∷ ks) = go (k.pipe == p) (kept_without p ks)
 
 pool_down : (y : ReplyRole) (z : Setting) (before : List Entry) (p : ℕ) (why : Why) → z.role ≡ role_of y → pool z (Down p why ∷ before) 0 ≡ filter (λ i. not (is_from p i)) (pool z before 0)
 pool_down y z before p why h = ap (λ b. cond b (filter (λ i. not (is_from p i)) (pool z before 0)) (pool z before 0)) (replies y z h)
+
+pub up_below : (m : Reply) (t : Moment) (p place : ℕ) (name : WireName) → Lawful (also t (Up p place name)) → Ties m t → list_all (is_below p) m.ports.items ≡ true
+up_below m t p place name l h = ap (list_all (is_below p)) h.ports ∙ below_all (λ q. has_full t.turn q) (up (past t)) (ups (past t)) p h.known l.turn.0.itself.0
+
+pub up_ties : (m n : Reply) (t : Moment) (p place : ℕ) (name : WireName) → Lawful (also t (Up p place name)) → Ties m t → n.ports.items ≡ m.ports.items ++ record { pipe = p; is_full = false } ∷ [] → n.kept ≡ m.kept → n.waiting ≡ m.waiting → n.places ≡ m.places
+    → (n.raw ≡ m.raw) × (n.options ≡ m.options) × (n.role ≡ m.role) → Ties n (also t (Up p place name))
+up_ties m n t p place name l h e f w g same =
+    let number : p ≡ ups (past t) + 1 = l.turn.0.itself.0 in
+    record {
+      kind = rw (same.0, same.1, same.2) h.kind;
+      most = rw same.1 h.most;
+      ports = e ∙ ap (λ (xs : List Port). xs ++ record { pipe = p; is_full = false } ∷ []) h.ports ∙ ports_more (λ q. has_full t.turn q) (up (past t)) p (h.unmet p (omega (arith, number)));
+      known = known_more (up (past t)) (ups (past t)) p h.known number;
+      unmet = λ q k. h.unmet q (omega (arith, k));
+      items = rw f h.items;
+      pending = rw w h.pending;
+      apart = h.apart;
+      contexts = rw g h.contexts;
+      homes = h.homes;
+      stored = rw g h.stored;
+      routed = rw w h.routed;
+    }
 
 pub down_ties : (m n : Reply) (t : Moment) (p : ℕ) (why : Why) → Ties m t → n.ports.items ≡ filter (λ (x : Port). not (x.pipe == p)) m.ports.items → n.kept.items ≡ filter (λ (k : Kept). not (k.pipe == p)) m.kept.items
     → n.waiting ≡ m.waiting → n.places ≡ m.places → (n.raw ≡ m.raw) × (n.options ≡ m.options) × (n.role ≡ m.role) → Ties n (also t (Down p why))

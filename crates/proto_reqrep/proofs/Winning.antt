@@ -30,7 +30,7 @@ use Rattle.proto_reqrep.specs.declared.req.Live.{Live}
 use Rattle.proto_reqrep.specs.declared.req.Kept.{Kept}
 use Rattle.proto_reqrep.specs.declared.req.Asking.{Asking}
 use Rattle.proto_reqrep.specs.declared.req.Seat.{Seat}
-use Rattle.proto_reqrep.specs.declared.ports.Port.{Port}
+use Rattle.proto_reqrep.specs.Ports.{Port}
 use Rattle.proto_reqrep.specs.Reqs.{Ties, item_of, is_asked, is_live_on, without_first, without_live, with_found, sent_at, reply_in, work_left, is_due, live_ctx, request_of, dried, dry_at, items_of, is_late_in, due_count, out_last, SetTo, Knows, Keeps, Asked, Opened}
 use Rattle.proto_reqrep.proofs.Standing.{given_raw, given_cooked, given_items, given_oldest, given_message}
 use Rattle.proto_reqrep.proofs.Reaching.{sent_raw, sent_raw_bytes, sent_cooked, sent_bytes, ctxs_sent, opened_as, opened_less, again_asked, again_live, again_cooked, dried_opened}

@@ -5,7 +5,7 @@ use Rattle.std.specs.List.{list_any}
 use Rattle.std.proofs.lemmas.Bool.Decides.{nat_tests}
 use Rattle.std.proofs.lemmas.Nat.{row_fits, mul-le}
 use Rattle.sp_history.specs.Lists.{has}
-use Rattle.proto_reqrep.specs.declared.ports.Port.{Port}
+use Rattle.proto_reqrep.specs.Ports.{Port}
 use Rattle.proto_reqrep.specs.declared.req.Live.{Live}
 use Rattle.proto_reqrep.specs.declared.req.Asking.{Asking}
 use Rattle.std.proofs.lemmas.List.{length-map}

@@ -24,7 +24,7 @@ use Rattle.sp_proto.specs.declared.Verb.{Verb}
 use Rattle.sp_proto.specs.declared.Verb.TheVariants as verbs
 use Rattle.sp_proto.specs.declared.Offer.TheVariants as offers
 use Rattle.proto_reqrep.specs.Ports.{port_of, where_is}
-use Rattle.proto_reqrep.specs.declared.ports.Port.{Port}
+use Rattle.proto_reqrep.specs.Ports.{Port}
 use Rattle.proto_reqrep.specs.declared.ports.Way.{Way}
 use Rattle.proto_reqrep.specs.declared.ports.Way.TheVariants as ways
 use Rattle.proto_reqrep.specs.declared.rep.Reply.{Reply}

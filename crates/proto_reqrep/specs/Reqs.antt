@@ -31,7 +31,7 @@ use Rattle.sp_proto.specs.declared.Verb.TheVariants as verbs
 use Rattle.sp_proto.specs.declared.Verdict.{Verdict}
 use Rattle.sp_proto.specs.declared.Verdict.TheVariants as verdict
 use Rattle.proto_reqrep.specs.Ports.{port_of, is_pipe, free_count, next_number as next_pipe}
-use Rattle.proto_reqrep.specs.declared.ports.Port.{Port}
+use Rattle.proto_reqrep.specs.Ports.{Port}
 use Rattle.proto_reqrep.specs.declared.req.Request.{Request as Machine}
 use Rattle.proto_reqrep.specs.declared.req.Live.{Live}
 use Rattle.proto_reqrep.specs.declared.req.Kept.{Kept}

@@ -15,7 +15,7 @@ ghost use Rattle.proto_reqrep.specs.declared.rep.Waiting.{Waiting as WaitingType
 ghost use Rattle.proto_reqrep.specs.declared.rep.Answer.{Answer as AnswerType};
 ghost use Rattle.proto_reqrep.specs.Reps.{Ties, reply_kind, role_of, item_of, origin_of, origin_at, is_for, is_home, is_receive, is_ready, way_of, out_text, without_first, ctx_of, send_offer, Gives, act_of, state_at};
 
-use crate::ports::{Port, Way, clear, forget, mark, way_to};
+use crate::ports::{Ports, Way};
 use crate::trail::{Trail, Words, first_word, scan};
 use sp_base::{Ctx, NoMemory, OpName, PipeId, Role, Tick};
 use sp_history::setting::Options;
@@ -75,8 +75,7 @@ pub struct Reply {
     role: ReplyRole,
     raw: bool,
     options: Options,
-    /// In the order in which they came up.
-    ports: Vec<Port>,
+    ports: Ports,
     /// The oldest first, at most one of each pipe.
     kept: VecDeque<Kept>,
     /// In the order of their begins.
@@ -133,24 +132,24 @@ fn unstore(places: &mut [Place], c: Ctx) -> Option<Source>
 }
 
 // Where a send may go.
-fn way_of(raw: bool, ports: &[Port], answer: &Answer) -> Way
-    ensures { result ≡ way_of raw ports.now answer.now }
+fn way_of(raw: bool, ports: &Ports, answer: &Answer) -> Way
+    ensures { result ≡ way_of raw ports.now.items answer.now }
 {
     if raw {
         return match first_word(answer.message.header()) {
-            None => way_to(ports, None),
-            Some(p) => way_to(ports, Some(PipeId(p))),
+            None => ports.way_to(None),
+            Some(p) => ports.way_to(Some(PipeId(p))),
         };
     }
     match &answer.source {
-        None => way_to(ports, None),
-        Some(s) => way_to(ports, Some(s.pipe)),
+        None => ports.way_to(None),
+        Some(s) => ports.way_to(Some(s.pipe)),
     }
 }
 
 // Whether it is a send whose pipe isn't up and full.
-fn is_ready(raw: bool, ports: &[Port], w: &Waiting) -> bool
-    ensures { result ≡ is_ready raw ports.now w.now }
+fn is_ready(raw: bool, ports: &Ports, w: &Waiting) -> bool
+    ensures { result ≡ is_ready raw ports.now.items w.now }
 {
     match &w.answer {
         None => false,
@@ -159,8 +158,8 @@ fn is_ready(raw: bool, ports: &[Port], w: &Waiting) -> bool
 }
 
 // Where the first such send stands.
-fn ready_place(raw: bool, ports: &[Port], waiting: &VecDeque<Waiting>) -> Option<usize>
-    ensures { result ≡ position (is_ready raw ports.now) waiting.now.items }
+fn ready_place(raw: bool, ports: &Ports, waiting: &VecDeque<Waiting>) -> Option<usize>
+    ensures { result ≡ position (is_ready raw ports.now.items) waiting.now.items }
 {
     waiting.iter().position(|w| is_ready(raw, ports, w))
 }
@@ -278,7 +277,7 @@ fn unused(alloc: Global, role: ReplyRole, options: Options, raw: bool) -> Result
             role,
             raw,
             options,
-            ports: Vec::new(alloc),
+            ports: Ports::new(alloc),
             kept: VecDeque::new(alloc),
             waiting: VecDeque::new(alloc),
             places,
@@ -417,17 +416,14 @@ impl Proto for Reply {
     }
 
     fn up(&mut self, p: PipeId) -> Result<(), UpFault> {
-        match self.ports.push(Port {
-            pipe: p,
-            is_full: false,
-        }) {
+        match self.ports.push(p) {
             Ok(()) => Ok(()),
             Err(_) => Err(UpFault::NoMemory),
         }
     }
 
     fn down(&mut self, p: PipeId) {
-        forget(&mut self.ports, p);
+        self.ports.forget(p);
         self.kept.retain(|k| k.pipe.0 != p.0);
     }
 
@@ -481,7 +477,7 @@ impl Proto for Reply {
     }
 
     fn fresh(&mut self) {
-        clear(&mut self.ports);
+        self.ports.clear();
     }
 
     fn offer(&mut self) -> Offer {
@@ -499,7 +495,7 @@ impl Proto for Reply {
     }
 
     fn full(&mut self, p: PipeId) {
-        mark(&mut self.ports, p);
+        self.ports.mark(p);
     }
 
     fn goes_to(&self, op: OpName, p: PipeId) -> bool {

@@ -20,7 +20,7 @@ ghost use Rattle.proto_reqrep.specs.declared.req.Asking.{Asking as AskingType};
 ghost use Rattle.proto_reqrep.specs.declared.req.Seat.{Seat as SeatType};
 ghost use Rattle.proto_reqrep.specs.Reqs.{Ties, req_kind, is_live_on, is_asked, without_first, without_live, orphaned, waits_for, with_reply, with_found, sent_at, keeps_reply, is_sending, is_due, dry_at, dried, wetted, number_after, free_number, reply_in, Asks, KeepsRaw, is_given, is_any_given, is_late, out_offer, ask_state, is_receiving_on, work_left, IsNextPipe};
 
-use crate::ports::{Port, clear, forget, free_port, is_up, mark};
+use crate::ports::Ports;
 use crate::trail::first_word;
 use sp_base::{Ctx, NoMemory, OpName, PipeId, Role, Tick};
 use sp_history::entry::Cause;
@@ -80,8 +80,7 @@ pub struct Request {
     last_id: Option<u32>,
     /// Of the last Out, or 0. The next goes to one behind it.
     last_pipe: PipeId,
-    /// In the order in which they came up.
-    ports: Vec<Port>,
+    ports: Ports,
     /// Raw: the oldest first, at most one of each pipe.
     kept: VecDeque<Kept>,
     /// Cooked: at most one of each context, in the order of their begins.
@@ -395,7 +394,7 @@ impl Request {
                 tick: Tick(0),
                 last_id: None,
                 last_pipe: PipeId(0),
-                ports: Vec::new(alloc),
+                ports: Ports::new(alloc),
                 kept: VecDeque::new(alloc),
                 live: Vec::new(alloc),
                 waiting: Vec::new(alloc),
@@ -539,7 +538,7 @@ impl Request {
     fn is_late(&self, out: LastOut) -> bool
         ensures { result ≡ is_late self.now.options.resend self.now.tick self.now.ports.items out }
     {
-        !is_up(&self.ports, out.pipe)
+        !self.ports.is_up(out.pipe)
             || (out.when.0 <= self.tick.0 && self.tick.0 - out.when.0 >= self.options.resend)
     }
 
@@ -634,17 +633,14 @@ impl Proto for Request {
     }
 
     fn up(&mut self, p: PipeId) -> Result<(), UpFault> {
-        match self.ports.push(Port {
-            pipe: p,
-            is_full: false,
-        }) {
+        match self.ports.push(p) {
             Ok(()) => Ok(()),
             Err(_) => Err(UpFault::NoMemory),
         }
     }
 
     fn down(&mut self, p: PipeId) {
-        forget(&mut self.ports, p);
+        self.ports.forget(p);
     }
 
     fn wants(&self, p: PipeId) -> bool {
@@ -706,7 +702,7 @@ impl Proto for Request {
     }
 
     fn fresh(&mut self) {
-        clear(&mut self.ports);
+        self.ports.clear();
     }
 
     /// What goes out goes to the next pipe behind that of the last Out, in the round of their numbers.
@@ -730,14 +726,14 @@ impl Proto for Request {
                 op: self.waiting[i].op,
             };
         }
-        match free_port(&self.ports, self.last_pipe) {
+        match self.ports.free_port(self.last_pipe) {
             None => Offer::Idle,
             Some(pipe) => self.next_out(pipe),
         }
     }
 
     fn full(&mut self, p: PipeId) {
-        mark(&mut self.ports, p);
+        self.ports.mark(p);
     }
 
     fn goes_to(&self, op: OpName, p: PipeId) -> bool {

@@ -11,7 +11,7 @@ pub returns-clause-down : goal.returns-clause-down
 returns-clause-down c =
     λ t why l h.
     let was = c.args.self.now in
-    let is : Reply = record { alloc = was.alloc; role = was.role; raw = was.raw; options = was.options; ports = c.forget.new.ports; kept = c.retain.new.self; waiting = was.waiting; places = was.places } in
+    let is : Reply = record { alloc = was.alloc; role = was.role; raw = was.raw; options = was.options; ports = c.forget.new.self; kept = c.retain.new.self; waiting = was.waiting; places = was.places } in
     let rest : c.retain.new.self.items ≡ filter (λ (k : Kept). not (k.pipe == c.args.p)) was.kept.items = filter_same _ (λ (k : Kept). not (k.pipe == c.args.p)) _ (λ x b f' k. search rules) _ _ c.retain.ensures.filtered in
     down_ties was is t c.args.p why h c.forget.ensures rest refl refl (refl, refl, refl)
 
@@ -19,5 +19,5 @@ pub returns-clause-left : goal.returns-clause-left
 returns-clause-left c =
     λ t op s b l h k.
     let was = c.args.self.now in
-    let less : free_count c.forget.new.ports.items < free_count was.ports.items = down_left was t op c.args.p s b c.forget.new.ports.items h k c.forget.ensures in
+    let less : free_count c.forget.new.self.items < free_count was.ports.items = down_left was t op c.args.p s b c.forget.new.self.items h k c.forget.ensures in
     omega (arith, less)

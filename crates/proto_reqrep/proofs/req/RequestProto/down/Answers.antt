@@ -4,12 +4,12 @@ use Rattle.proto_reqrep.proofs.Coming.{down_items}
 use Rattle.proto_reqrep.proofs.req.RequestProto.down.Goals as goal
 
 pub returns-clause-down : goal.returns-clause-down
-returns-clause-down c = λ t why l h. (h.0, down_knows c.forget.new.ports.items c.args.self.now.ports.items t c.args.p why h.1 c.forget.ensures, λ r. down_items c.args.self.now t c.args.p why h r, h.3, h.4)
+returns-clause-down c = λ t why l h. (h.0, down_knows c.forget.new.self.items c.args.self.now.ports.items t c.args.p why h.1 c.forget.ensures, λ r. down_items c.args.self.now t c.args.p why h r, h.3, h.4)
 
 pub returns-clause-left : goal.returns-clause-left
 returns-clause-left c =
-    λ t op s b l h k. less_free _ _ _ _ _ _ (down_free c.forget.new.ports.items c.args.self.now.ports.items t c.args.p h.1 c.forget.ensures k.not_full k.is_up) (count_most _ c.args.self.now.live.items)
+    λ t op s b l h k. less_free _ _ _ _ _ _ (down_free c.forget.new.self.items c.args.self.now.ports.items t c.args.p h.1 c.forget.ensures k.not_full k.is_up) (count_most _ c.args.self.now.live.items)
 
 pub returns-clause-left_again : goal.returns-clause-left_again
 returns-clause-left_again c =
-    λ t d r l h k. less_free _ _ _ _ _ _ (down_free c.forget.new.ports.items c.args.self.now.ports.items t c.args.p h.1 c.forget.ensures k.not_full k.is_up) (count_most _ c.args.self.now.live.items)
+    λ t d r l h k. less_free _ _ _ _ _ _ (down_free c.forget.new.self.items c.args.self.now.ports.items t c.args.p h.1 c.forget.ensures k.not_full k.is_up) (count_most _ c.args.self.now.live.items)
