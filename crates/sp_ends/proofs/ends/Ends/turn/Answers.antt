@@ -9,10 +9,10 @@ use Rattle.sp_ends.proofs.Freeing.{frees_both, turns_all}
 use Rattle.sp_ends.proofs.WholeTurn.{turn_begins, serves_net, room_left, few_accepted, turn_ends}
 use Rattle.sp_ends.proofs.ends.Ends.turn.Goals as goal
 
-pub take_all_ended-requires-clause-in_turn : goal.take_all_ended-requires-clause-in_turn
-take_all_ended-requires-clause-in_turn g c =
+pub take_all_ended-requires : goal.take_all_ended-requires
+take_all_ended-requires g c =
     let t = c.requires.ticked in
-    (t.0, turn_begins g.L.Link.seen t.0 c.args.now c.args.self.now (g.N.Net.seen c.args.net.now) c.args.single.now t.1 c.requires.now c.requires.sound)
+    record { in_turn = (t.0, turn_begins g.L.Link.seen t.0 c.args.now c.args.self.now (g.N.Net.seen c.args.net.now) c.args.single.now t.1 c.requires.now c.requires.sound) }
 
 pub greet_all-requires-clause-in_turn : goal.greet_all-requires-clause-in_turn
 greet_all-requires-clause-in_turn g c =
