@@ -143,6 +143,46 @@ fn each_context_has_its_survey(rt: HostRuntime) -> Result<(), Fail> {
 }
 
 #[test]
+fn a_response_goes_to_the_first_receive_of_its_context(rt: HostRuntime) -> Result<(), Fail> {
+    let alloc = rt.alloc();
+    let mut survey = Survey::new(alloc, Options::usual(Role::Surveyor, 0), false)?;
+    survey.reserve(8)?;
+    assert!(rt; survey.up(ONE).is_ok());
+    survey.open_ctx(Ctx(1))?;
+    assert!(rt; sends(&mut survey, alloc, 0, Ctx(0), b"s"));
+    assert!(rt; floods(&mut survey, op(0), &[128, 0, 0, 0, 115]));
+    assert!(rt; sends(&mut survey, alloc, 3, Ctx(1), b"t"));
+    assert!(rt; floods(&mut survey, op(3), &[128, 0, 0, 1, 116]));
+    assert!(rt; asks(&mut survey, 1, Ctx(1)));
+    assert!(rt; asks(&mut survey, 2, Ctx(1)));
+    // No receive waits for this one.
+    assert!(rt; comes(&mut survey, alloc, ONE, &[128, 0, 0, 0, 97], Verdict::Fine));
+    assert!(rt; survey.offer() == Offer::Idle);
+    assert!(rt; comes(&mut survey, alloc, ONE, &[128, 0, 0, 1, 98], Verdict::Fine));
+    assert!(rt; is_given(&mut survey, op(1), b"b"));
+    assert!(rt; survey.offer() == Offer::Idle);
+    assert!(rt; asks(&mut survey, 4, Ctx(0)));
+    assert!(rt; is_given(&mut survey, op(4), b"a"));
+    assert!(rt; comes(&mut survey, alloc, ONE, &[128, 0, 0, 1, 99], Verdict::Fine));
+    assert!(rt; is_given(&mut survey, op(2), b"c"));
+    Ok(())
+}
+
+#[test]
+fn a_survey_has_a_copy_for_each_pipe_that_is_up(rt: HostRuntime) -> Result<(), Fail> {
+    let alloc = rt.alloc();
+    let mut survey = Survey::new(alloc, Options::usual(Role::Surveyor, 0), false)?;
+    survey.reserve(2)?;
+    assert!(rt; survey.up(ONE).is_ok());
+    assert!(rt; survey.up(TWO).is_ok());
+    survey.down(TWO);
+    assert!(rt; sends(&mut survey, alloc, 0, Ctx(0), b"s"));
+    assert!(rt; goes(&mut survey, op(0), ONE, &[128, 0, 0, 0, 115]));
+    assert!(rt; survey.flood(op(0), TWO).is_none());
+    Ok(())
+}
+
+#[test]
 fn a_raw_surveyor_keeps_its_header(rt: HostRuntime) -> Result<(), Fail> {
     let alloc = rt.alloc();
     let mut survey = Survey::new(alloc, Options::usual(Role::Surveyor, 0), true)?;
