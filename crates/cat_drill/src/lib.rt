@@ -9,6 +9,7 @@
 mod calls;
 mod ending;
 mod feed;
+pub mod parts;
 mod rounds;
 mod run;
 mod source;

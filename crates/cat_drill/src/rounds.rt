@@ -83,8 +83,8 @@ fn begin_next<P: Proto, W: Wire, R: Wait>(
     }
 }
 
-// Begins the receives of a round. Whether all were begun.
-fn begin_all<P: Proto, W: Wire, R: Wait>(
+/// Begins the receives of a round: 96, the odd ones with the deadline, the even ones named. Whether all were begun.
+pub fn begin_all<P: Proto, W: Wire, R: Wait>(
     rt: &R,
     socket: &Socket<P, W>,
     pass: &mut Pass<P, W>,
@@ -122,8 +122,8 @@ fn collect_last<P: Proto, W: Wire, R: Wait>(
     }
 }
 
-// Collects all that are held. How many messages they got.
-fn collect_all<P: Proto, W: Wire, R: Wait>(
+/// Collects all that are held. How many messages they got.
+pub fn collect_all<P: Proto, W: Wire, R: Wait>(
     rt: &R,
     socket: &Socket<P, W>,
     pass: &mut Pass<P, W>,

@@ -40,8 +40,8 @@ pub struct DrillEnd {
     pub record_: Option<Record>,
 }
 
-// The lane of a drill, and the wire that is fed from it.
-fn lanes(alloc: Global) -> Result<(Source, Feed), NoMemory>
+/// The lane of a drill, and the wire that is fed from it.
+pub fn lanes(alloc: Global) -> Result<(Source, Feed), NoMemory>
     ensures source { IfOk result (λ made. IsSource made.0) }
     ensures unused { IfOk result (λ made. IsUnused made.1) }
     ensures name { IfOk result (λ made. (out : List ℕ) × (made.1.name ≡ OverLanes out made.0.lane.name)) }
@@ -69,8 +69,11 @@ fn take_last<P: Proto, W: Wire>(list: &mut SocketPasses<P, W>) -> Pass<P, W>
     }
 }
 
-// All passes of a new list.
-fn crew_of<P: Proto, W: Wire>(list: &mut SocketPasses<P, W>, socket: &Socket<P, W>) -> Crew<P, W>
+/// All passes of a new list.
+pub fn crew_of<P: Proto, W: Wire>(
+    list: &mut SocketPasses<P, W>,
+    socket: &Socket<P, W>,
+) -> Crew<P, W>
     requires list { list.old ≡ new_list socket.now drill_setting }
     requires words { (socket.now.words.slots ≡ 256) × (socket.now.words.callers ≡ 4) }
     ensures list { IsOut socket.now list.new }

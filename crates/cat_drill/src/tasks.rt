@@ -35,8 +35,9 @@ fn task_at(i: usize) -> u32 {
     }
 }
 
-// The task at this place: the first two serve, the third cancels, the last lets the moment come.
-fn work<P: Proto, W: Wire, G: Gate, R: Wait>(
+/// The task at this place, from 0: the first two serve, the third cancels, the last lets the moment come. It passes the
+/// gate first.
+pub fn work<P: Proto, W: Wire, G: Gate, R: Wait>(
     rt: &R,
     socket: &Socket<P, W>,
     gate: &G,
