@@ -1,9 +1,11 @@
 #!/usr/bin/env python3
-"""Measures the built nngcat beside Debian's on loopback, in one run: messages a second, latency, memory, idle time.
+"""Measures the built nngcat beside Debian's on loopback, in one run: messages a second, latency, memory, idle time;
+and a drill of ours.
 
 The other end is a raw peer written here, which floods or drains, so that it isn't the limit. Prints a table.
 """
 import os
+import resource
 import shutil
 import socket
 import statistics
@@ -15,6 +17,7 @@ HERE = os.path.dirname(os.path.abspath(__file__))
 OURS = os.environ.get("OURS", os.path.join(HERE, "..", "crates", "nngcat", "out", "nngcat"))
 THEIRS = shutil.which("nngcat")
 SIZES = [(16, 200_000), (1024, 200_000), (65536, 8_000)]
+DRILLS = [100_000]
 
 
 def free_port():
@@ -138,6 +141,19 @@ def idle(program):
     return share, memory
 
 
+def drill_rate(program, count):
+    """Seconds that a drill of so many messages takes, its processor seconds, and the receives that it begins and races.
+
+    Each round of 64 messages begins 96 receives; those that main begins alone, afterwards, aren't counted."""
+    before = resource.getrusage(resource.RUSAGE_CHILDREN)
+    begun = time.time()
+    subprocess.run([program, "--drill", str(count)], stdout=subprocess.DEVNULL, check=True, timeout=300)
+    took = time.time() - begun
+    after = resource.getrusage(resource.RUSAGE_CHILDREN)
+    used = after.ru_utime + after.ru_stime - before.ru_utime - before.ru_stime
+    return took, used, 96 * -(-count // 64)
+
+
 def main():
     if not os.access(OURS, os.X_OK):
         print("skipped: crates/nngcat/out/nngcat isn't built")
@@ -150,6 +166,9 @@ def main():
         rates = [(name, push_rate(p, size, count if p == OURS else count // 10)) for name, p in programs]
         print(f"push {size}: " + ", ".join(f"{name} {rate:,.0f} messages/s" for name, rate in rates), flush=True)
     print("latency: " + ", ".join(f"{name} {latency(p):.3f} ms" for name, p in programs), flush=True)
+    for count in DRILLS:
+        took, used, raced = drill_rate(OURS, count)
+        print(f"drill of {count:,}: {took:.2f} s, {used:.2f} s of processor time, {raced / took:,.0f} receives/s", flush=True)
     for name, p in programs:
         share, memory = idle(p)
         print(f"idle: {name} {share:.2f} % of a processor, {memory} KiB", flush=True)
