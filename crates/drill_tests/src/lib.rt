@@ -1,5 +1,9 @@
-//! Worked drills.
+//! Worked drills and lanes.
 #![tactic(auto)]
 
+#[cfg(test)]
+mod lanes;
+#[cfg(test)]
+mod race;
 #[cfg(test)]
 mod tests;

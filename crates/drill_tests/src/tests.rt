@@ -70,32 +70,79 @@ fn a_sink_that_fails(rt: HostRuntime) {
     assert!(rt; b"given 2\nsum 3318706044697439873\nopen 0\n".starts_with(out.text()));
 }
 
+// One more.
+fn count_up(n: &AtomicU64) {
+    n.fetch_add(1, Ordering::SeqCst);
+}
+
+/// Counts how often each task passes.
+#[derive(Drop)]
+struct Counted {
+    passed: [AtomicU64; 4],
+}
+
+impl Gate for Counted {
+    fn pass(&self, task: u32) {
+        match task {
+            1 => count_up(&self.passed[0]),
+            2 => count_up(&self.passed[1]),
+            3 => count_up(&self.passed[2]),
+            4 => count_up(&self.passed[3]),
+            _ => (),
+        }
+    }
+}
+
+// 130 messages go in rounds of 64, 64 and 2.
+#[test]
+fn each_task_passes_its_gate_once_a_round(rt: HostRuntime) {
+    let counted = Counted {
+        passed: [
+            AtomicU64::new(0),
+            AtomicU64::new(0),
+            AtomicU64::new(0),
+            AtomicU64::new(0),
+        ],
+    };
+    assert!(rt;
+        prints(
+            &rt,
+            &counted,
+            130,
+            b"given 130\nsum 7217736577016058945\nopen 0\n"
+        )
+    );
+    for i in 0..4 {
+        assert_eq!(rt; counted.passed[i].load(Ordering::SeqCst), 3);
+    }
+}
+
 /// Holds the first and the last task until each has seen the other.
 #[derive(Drop)]
 struct Held {
     first: AtomicU64,
     last: AtomicU64,
-    /// How many tasks did not see the other one.
-    missed: AtomicU64,
+    /// How many tasks saw the other one.
+    met: AtomicU64,
 }
 
 // Marks that it is there, and looks for the other one, yielding between two looks.
-fn meets(mine: &AtomicU64, other: &AtomicU64, missed: &AtomicU64) {
+fn meets(mine: &AtomicU64, other: &AtomicU64, met: &AtomicU64) {
     mine.store(1, Ordering::SeqCst);
     for _ in 0..LOOKS {
         if other.load(Ordering::SeqCst) == 1 {
+            count_up(met);
             return;
         }
         thread::yield_now();
     }
-    missed.store(1, Ordering::SeqCst);
 }
 
 impl Gate for Held {
     fn pass(&self, task: u32) {
         match task {
-            1 => meets(&self.first, &self.last, &self.missed),
-            4 => meets(&self.last, &self.first, &self.missed),
+            1 => meets(&self.first, &self.last, &self.met),
+            4 => meets(&self.last, &self.first, &self.met),
             _ => (),
         }
     }
@@ -107,7 +154,7 @@ fn held_drill(rt: HostRuntime) {
     let held = Held {
         first: AtomicU64::new(0),
         last: AtomicU64::new(0),
-        missed: AtomicU64::new(0),
+        met: AtomicU64::new(0),
     };
     assert!(rt;
         prints(
@@ -117,5 +164,5 @@ fn held_drill(rt: HostRuntime) {
             b"given 64\nsum 16369505803417403232\nopen 0\n"
         )
     );
-    assert!(rt; held.missed.load(Ordering::SeqCst) == 0);
+    assert_eq!(rt; held.met.load(Ordering::SeqCst), 2);
 }
