@@ -1,5 +1,10 @@
 use Rattle.drill_tests.proofs.Telling.{has_left}
 use Rattle.drill_tests.proofs.lanes.takes_what_is_left.Goals as goal
+use Rattle.drill_tests.proofs.lanes.takes_what_is_left.Goals.{in-Message, in-End, in-Empty}
 
-pub returns-in-Empty : goal.returns-in-Empty
-returns-in-Empty g c = absurd (has_left c.args.output.now c.tell.new.output c.args.input.now.put c.tell.ensures.output c.requires.left c.in-Empty.ensures.1)
+pub returns : goal.returns
+returns g c = elim c.match-take.branch [
+  | in-Message w ↦ w.result-is
+  | in-End w ↦ w.result-is
+  | in-Empty w ↦ absurd (has_left c.args.output.now c.tell.new.output c.args.input.now.put c.tell.ensures.output c.requires.left w.in-Empty.ensures.1)
+]
