@@ -1,13 +1,19 @@
--- A run ends in time.
+-- A run ends in time, and comes to its end where nothing stops it.
 use Rattle.std.specs.Prelude.{ℕ, ⊤, List, Option}
 use Rattle.turn_lock.specs.declared.turn.Turn.{Turn}
 use Rattle.sp_history.specs.declared.entry.Entry.{Entry}
 use Rattle.cat_text.specs.declared.plan.Plan.{Plan}
 use Rattle.cat_text.specs.declared.plan.Plan.TheVariants as plans
 use Rattle.cat_play.specs.declared.ends.Status.{Status}
-use Rattle.cat_play.specs.Running.{World, EndsPlan}
+use Rattle.sp_spec.specs.Outside.{Rose}
+use Rattle.cat_play.specs.Running.{World, EndsPlan, IsSpared, ComesToEnd}
 
 -- the rounds after the end of the plan's play have their excuse
 abbrev pub EndsAs : Status → Plan → ℕ → Option (List (Turn Entry)) → World → World → Type 0
 EndsAs s (plans.Cat plan) dice record_ old new = EndsPlan s plan dice record_ old new
 EndsAs s (plans.Drill count) dice record_ old new = ⊤
+
+-- where nothing failed and rounds are left, the status is done, a send that timed out, or out of memory
+abbrev pub CompletesAs : Status → Plan → World → World → Type 0
+CompletesAs s (plans.Cat plan) old new = IsSpared plan old new → ComesToEnd s
+CompletesAs s (plans.Drill count) old new = (Rose old.sink.faults new.sink.faults → ⊥) → ComesToEnd s

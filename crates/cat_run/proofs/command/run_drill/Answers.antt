@@ -3,6 +3,7 @@ use Rattle.std.specs.Option.{option_map}
 use Rattle.sp_base.specs.Views.{FilesView, PaceView}
 use Rattle.cat_play.specs.Running.{world}
 use Rattle.cat_run.specs.Real.{unasked_net}
+use Rattle.cat_run.proofs.Completing.{drill_completes}
 use Rattle.cat_run.proofs.Loaded.{drill_no_usage}
 use Rattle.cat_run.proofs.command.run_drill.Goals as goal
 
@@ -14,3 +15,12 @@ returns-clause-no_usage g c at is =
     (world unasked_net files pace (g.S.Sink.seen c.args.out.now))
     (world unasked_net files pace (g.S.Sink.seen c.drill-status.new.out))
     (c.drill-status.ensures unasked_net files pace) at is
+
+pub returns-clause-completes : goal.returns-clause-completes
+returns-clause-completes g c =
+    let files : FilesView = record { holds = None; faults = 0 } in
+    let pace : PaceView = record { left = 0; latest = 0; is_over = false } in
+    drill_completes c.drill-status.result.status c.args.count (option_map (λ r. r.turns) c.drill-status.result.record_)
+    (world unasked_net files pace (g.S.Sink.seen c.args.out.now))
+    (world unasked_net files pace (g.S.Sink.seen c.drill-status.new.out))
+    (c.drill-status.ensures unasked_net files pace)
