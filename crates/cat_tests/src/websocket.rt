@@ -1,17 +1,10 @@
 //! Runs over WebSocket, byte for byte.
-ghost use Rattle.std.specs.Prelude.{◌≡◌, true, IfOk};
-ghost use Rattle.sp_base.specs.declared.addr.Scheme.TheVariants as schemes;
-ghost use Rattle.sp_fakes.specs.MemLinks.{link_view, unread_at};
-
 use crate::TURNS;
 use crate::play::{ALL, Outside, incoming, link_of, over_one, play, trickle};
 use cat_run::Status;
 use sp_base::{Addr, Bytes, Host, NoMemory};
 use sp_fakes::{LinkStep, MemLink};
-use sp_msg::{Message, Room, Wire, WireIn};
-use sp_ws::{Side, WsWire};
 use std::alloc::Global;
-use std::sync::Wait;
 use std::test::Fail;
 
 // The sample head of the standard, of a req that asks a rep.
@@ -89,108 +82,12 @@ fn a_rep_answers_over_websocket(rt: HostRuntime) -> Result<(), Fail> {
     Ok(())
 }
 
-// A wire of a client over a link that gives these pieces.
-fn client(alloc: Global, pieces: &[&[u8]]) -> Result<WsWire<MemLink>, NoMemory>
-    ensures { IfOk result (λ w. w.wire.is_open ≡ true) }
-{
-    let link = link_of(alloc, pieces, false, ALL)?;
-    match WsWire::new(alloc, link, Side::Client { seed: 7 }, &[], 1_048_576) {
-        Ok(wire) => Ok(wire),
-        Err((e, link)) => {
-            let _ = link;
-            Err(e)
-        }
-    }
-}
-
-// What a client writes that sends the request.
-fn asked<R: Wait>(alloc: Global, rt: &R) -> Result<Vec<u8>, NoMemory> {
-    let mut wire = client(alloc, &[])?;
-    if let Room::Yes = wire.room(rt) {
-        let mut m = Message::from_body(alloc, b"q")?;
-        let _ = m.header_append_u32(0x8000_0005);
-        wire.put(rt, m);
-        let _ = wire.flush(rt);
-    }
-    let link = wire.into_link();
-    Ok(Vec::from_slice(alloc, link.written())?)
-}
-
-// Whether a client pulls this message of these bytes.
-fn pulls<R: Wait>(alloc: Global, rt: &R, bytes: &[u8], wanted: &[u8]) -> Result<bool, NoMemory> {
-    let mut wire = client(alloc, &[bytes])?;
-    match wire.pull(rt) {
-        WireIn::Message(m) => Ok(m.body() == wanted),
-        _ => Ok(false),
-    }
-}
-
-// The request comes of a wire of this project, and the reply goes to one.
-#[test]
-fn a_rep_answers_a_wire_of_a_client(rt: HostRuntime) -> Result<(), Fail> {
-    let asks = asked(rt.alloc(), &rt)?;
-    assert_eq!(rt; asks.len(), 11);
-    let came = over_one(&rt, REP, link_of(rt.alloc(), &[HEAD, &asks], false, ALL)?)?;
-    assert_eq!(rt; came.status, Status::Done);
-    assert_eq!(rt; came.printed.as_slice(), b"q\n".as_slice());
-    let (head, frames) = came
-        .written
-        .as_slice()
-        .split_at(ANSWER.len().min(came.written.len()));
-    assert_eq!(rt; head, ANSWER);
-    assert!(rt; pulls(rt.alloc(), &rt, frames, b"\x80\x00\x00\x05OK")?);
-    Ok(())
-}
-
 #[test]
 fn a_text_message_closes_its_pipe(rt: HostRuntime) -> Result<(), Fail> {
     let came = over_one(&rt, REP, link_of(rt.alloc(), &[HEAD, TEXT], false, ALL)?)?;
     assert_eq!(rt; came.status, Status::Over);
     assert_eq!(rt; came.printed.len(), 0);
     assert_eq!(rt; came.written.as_slice(), ANSWER);
-    // The message behind it isn't read.
-    let came = over_one(
-        &rt,
-        REP,
-        link_of(rt.alloc(), &[HEAD, TEXT, REQUEST], false, ALL)?,
-    )?;
-    assert_eq!(rt; came.status, Status::Over);
-    assert_eq!(rt; came.printed.len(), 0);
-    assert_eq!(rt; came.written.as_slice(), ANSWER);
-    Ok(())
-}
-
-// A link that brings nothing in so many turns, and then the head and the request.
-fn late(alloc: Global, turns: u32) -> Result<MemLink, NoMemory>
-    ensures { IfOk result (λ link. link_view link ≡ unread_at 0 schemes.Tcp) }
-{
-    let mut script = Vec::new(alloc);
-    for _ in 0..turns {
-        script.push(LinkStep::NotYet)?;
-    }
-    script.push(LinkStep::Bytes(Bytes::from_slice(alloc, HEAD)?))?;
-    script.push(LinkStep::Bytes(Bytes::from_slice(alloc, REQUEST)?))?;
-    Ok(MemLink::new(alloc, script, ALL, Vec::new(alloc)))
-}
-
-// A turn is 100 milliseconds. A head that comes after ten seconds finds no link any more.
-#[test]
-fn a_late_head_is_not_answered(rt: HostRuntime) -> Result<(), Fail> {
-    let mut links = Vec::new(rt.alloc());
-    links.push(late(rt.alloc(), 80)?)?;
-    let mut outside = incoming(rt.alloc(), links)?;
-    outside.step = 100;
-    let came = play(&rt, REP, outside)?;
-    assert_eq!(rt; came.status, Status::Done);
-    assert_eq!(rt; came.written.as_slice(), REPLIED);
-    let mut links = Vec::new(rt.alloc());
-    links.push(late(rt.alloc(), 120)?)?;
-    let mut outside = incoming(rt.alloc(), links)?;
-    outside.step = 100;
-    let came = play(&rt, REP, outside)?;
-    assert_eq!(rt; came.status, Status::Over);
-    assert_eq!(rt; came.printed.len(), 0);
-    assert_eq!(rt; came.written.len(), 0);
     Ok(())
 }
 

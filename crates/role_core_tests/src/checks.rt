@@ -76,7 +76,7 @@ pub fn totals(counts: [u64; 6]) -> Totals {
 }
 
 /// The number of the pipe.
-pub fn up<W: Drop>(rt: &impl Abort, answer: Result<PipeId, (AttachError, W)>) -> u32 {
+pub fn up(rt: &impl Abort, answer: Result<PipeId, (AttachError, MemWire)>) -> u32 {
     match answer {
         Ok(p) => p.0,
         Err(_) => panic!(rt; "the wire came back"),

@@ -18,8 +18,7 @@ use sp_history::setting::Options;
 use std::alloc::Global;
 use std::process::Abort;
 
-/// A pub; it aborts when out of memory.
-pub fn publisher(rt: &impl Abort, alloc: Global) -> Publish
+fn publisher(rt: &impl Abort, alloc: Global) -> Publish
     ensures { (k : Kind) × Starts PubTies result k }
 {
     match Publish::new(alloc, Options::usual(Role::Pub, 0), false) {

@@ -8,8 +8,6 @@ mod checks;
 #[cfg(test)]
 mod closing;
 #[cfg(test)]
-mod failing;
-#[cfg(test)]
 mod floods;
 #[cfg(test)]
 mod pairs;

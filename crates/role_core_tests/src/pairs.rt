@@ -15,8 +15,7 @@ use sp_history::setting::Options;
 use std::alloc::Global;
 use std::process::Abort;
 
-/// A pair; it aborts when out of memory.
-pub fn pair(rt: &impl Abort, alloc: Global, raw: bool) -> Pair
+fn pair(rt: &impl Abort, alloc: Global, raw: bool) -> Pair
     ensures { (k : Kind) × Starts PairTies result k }
 {
     match Pair::new(alloc, Options::usual(Role::Pair0, 0), raw) {
