@@ -213,7 +213,6 @@ def broken_servers():
         peer, _, first = served(listener, b"push")
         peer.sendall(frame(b"fra", 0x02, b"") + frame(b"hey", 0x89, b"") + frame(b"gment", 0x80, b""))
         pong = read_frame(peer)
-        peer.sendall(frame(b"y" * LONGEST, mask=b""))
         keys = {first}
         for number, bytes_ in enumerate(wrong):
             if not ends(peer, bytes_):
@@ -221,7 +220,8 @@ def broken_servers():
             peer.close()
             peer, _, key = served(listener, b"push")
             keys.add(key)
-        peer.sendall(frame(b"last", mask=b""))
+        # The longest one comes late: until then nobody reads what ours prints.
+        peer.sendall(frame(b"y" * LONGEST, mask=b"") + frame(b"last", mask=b""))
         outs, well = said([run])
         peer.close()
     right = outs == [b"fragment\n" + b"y" * LONGEST + b"\nlast"] and pong == (0x8a, True, b"hey")
