@@ -43,7 +43,7 @@ pub fn add(rt: &impl Abort, script: &mut Vec<WireStep>, step: WireStep) {
     }
 }
 
-// A frame of these bytes.
+/// A frame of these bytes.
 pub fn frame(rt: &impl Abort, alloc: Global, body: &[u8]) -> WireStep {
     match Bytes::from_slice(alloc, body) {
         Ok(bytes) => WireStep::Bytes(bytes),
@@ -51,14 +51,14 @@ pub fn frame(rt: &impl Abort, alloc: Global, body: &[u8]) -> WireStep {
     }
 }
 
-// A wire that gives what the script has, and takes nothing.
+/// A wire that gives what the script has, and takes nothing.
 pub fn wire(alloc: Global, script: Vec<WireStep>) -> MemWire
     ensures { IsUnused result.wire }
 {
     MemWire::new(alloc, script, 0, Vec::new(alloc))
 }
 
-// A wire that gives the frame `x`, after so many times nothing.
+/// A wire that gives the frame `x`, after so many times nothing.
 pub fn giving_x(rt: &impl Abort, alloc: Global, empty: u32) -> MemWire
     ensures { IsUnused result.wire }
 {
@@ -70,7 +70,7 @@ pub fn giving_x(rt: &impl Abort, alloc: Global, empty: u32) -> MemWire
     wire(alloc, script)
 }
 
-// A wire that gives the frames 0, 1 and so on, of one byte each.
+/// A wire that gives the frames 0, 1 and so on, of one byte each.
 pub fn counting(rt: &impl Abort, alloc: Global, frames: u8) -> MemWire
     ensures { IsUnused result.wire }
 {
@@ -81,7 +81,7 @@ pub fn counting(rt: &impl Abort, alloc: Global, frames: u8) -> MemWire
     wire(alloc, script)
 }
 
-// The message `x`.
+/// The message `x`.
 pub fn x(rt: &impl Abort, alloc: Global) -> Message {
     match Message::from_body(alloc, b"x") {
         Ok(m) => m,
@@ -91,6 +91,7 @@ pub fn x(rt: &impl Abort, alloc: Global) -> Message {
 
 // ---- What is answered
 
+/// What a close answers of a socket that sent nothing.
 pub fn totals(begun: u64, won: u64, gone: u64, frames: u64) -> Totals {
     Totals {
         begun,
@@ -102,7 +103,7 @@ pub fn totals(begun: u64, won: u64, gone: u64, frames: u64) -> Totals {
     }
 }
 
-// The name of the receive that began.
+/// The name of the receive that began.
 pub fn begun(rt: &impl Abort, answer: Result<OpName, BeginError>) -> OpName {
     match answer {
         Ok(op) => op,
@@ -110,7 +111,7 @@ pub fn begun(rt: &impl Abort, answer: Result<OpName, BeginError>) -> OpName {
     }
 }
 
-// The number of the error, 0 where a receive began.
+/// The number of the error, 0 where a receive began.
 pub fn code(answer: Result<OpName, BeginError>) -> u32 {
     match answer {
         Ok(_) => 0,
@@ -118,7 +119,7 @@ pub fn code(answer: Result<OpName, BeginError>) -> u32 {
     }
 }
 
-// Whether a receive got this body.
+/// Whether a receive got this body.
 pub fn is_received(outcome: Option<Outcome>, body: &[u8]) -> bool {
     match outcome {
         Some(Outcome::Received(m)) => m.body() == body,
@@ -126,7 +127,7 @@ pub fn is_received(outcome: Option<Outcome>, body: &[u8]) -> bool {
     }
 }
 
-// Whether it ended without a message, so and by this one.
+/// Whether it ended without a message, so and by this one.
 pub fn is_gone(outcome: Option<Outcome>, as_: Cause, by_: u32) -> bool {
     match outcome {
         Some(Outcome::Gone { cause, by, back }) => cause == as_ && by == by_ && back.is_none(),
@@ -134,7 +135,7 @@ pub fn is_gone(outcome: Option<Outcome>, as_: Cause, by_: u32) -> bool {
     }
 }
 
-// Begins so many receives; the first half of them are due at 1.
+/// Begins so many receives; the first half of them are due at 1.
 pub fn begin_many<R: Wait + Abort>(
     rt: &R,
     alloc: Global,
