@@ -10,6 +10,8 @@
 //! it to every call but `shut`. `WireMarks` is the part of that record that every wire keeps in the same way.
 #![tactic(auto)]
 
+mod body;
+mod header;
 mod marks;
 mod message;
 #[cfg(test)]
