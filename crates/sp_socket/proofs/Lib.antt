@@ -17,4 +17,3 @@ pub mod Finishes
 pub mod Opens
 pub mod Ticks
 pub mod Joins
-mod Fieldless

@@ -15,9 +15,12 @@ pub(crate) trait Told<X> {
     ghost told: { X → List (Turn Entry) };
 }
 
-/// What a socket did, from its first turn to its last. It has no bytes: contracts alone see it, as its turns.
+/// What a socket did, from its first turn to its last. It has no bytes: contracts alone see it, as its turns. Only a
+/// socket that ends makes one.
 #[derive(Drop)]
 pub struct Record {
+    // Private, so that no other crate can make a record.
+    made: (),
     pub ghost turns: { List (Turn Entry) },
 }
 
@@ -36,6 +39,6 @@ impl Record {
         ensures { result.turns ≡ T.told value.now }
     {
         let _ = value;
-        Record {}
+        Record { made: () }
     }
 }

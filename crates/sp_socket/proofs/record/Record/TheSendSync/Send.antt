@@ -1,6 +1,6 @@
 -- A record is owned by nobody, so it may go to any thread.
-use denote.Param.Send.{IsSend, owning_send}
+use denote.Param.Send.{IsSend, owning_send, sendable}
 use Rattle.sp_socket.specs.contracts.record.Record.{the_row, the_type}
 
 pub send : IsSend the_row
-send = owning_send the_type tt (λ d. tt) (λ k x w. tt)
+send = owning_send the_type (search sendable, tt) (λ d. tt) (λ k x w. tt)

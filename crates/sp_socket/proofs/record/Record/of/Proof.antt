@@ -1,15 +1,16 @@
 -- `of` makes a value of no bytes, whose turns are read off the argument. Assumes `Logic`.
 use Rattle.std.proofs.Common.{◌≡◌, List, [], ◌∷◌, refl}
 use mir.Syntax.{a_type, dcons, dnil, named}
-use mir.Val.{Val, vptr}
+use mir.Val.{Val, vptr, vstruct, vcons, vunit, vnil}
 use mir.MapTy.{inst_fn}
 use base.Logic.{SProp, emp}
 use types.Kit.{‵, raw, ◌⊛◌, ◌$◌, ◌∵◌, !, qed, by, keep, use0, split, fjoin}
-use types.Run.{enter, returns, no_more}
+use types.Run.{enter, returns, and_then, unit_lit, no_more}
 use types.ByLocal.{alloc_all, pass_all, free_all, look_at, sets}
 use types.Part.{agg}
 use contract.Running.{tables}
 use contract.Monad.{fact, fact_i}
+use denote.Shadow.{pure_i}
 use denote.Exit.{yes}
 use denote.RattleType.{RattleType, owns}
 use denote.Signature.{types_at, plain}
@@ -24,7 +25,6 @@ use Rattle.sp_history.specs.declared.entry.Entry.{Entry}
 use Rattle.sp_socket.specs.contracts.record.Record as Made
 use Rattle.sp_socket.specs.contracts.record.Record.of.{ended, clauses}
 use Rattle.sp_socket.specs.contracts.record.Record.of.Key.{name as #self}
-use Rattle.sp_socket.proofs.Fieldless.{none, none_made}
 use Rattle.sp_socket.proofs.record.Record.of.Statement.{statement}
 use Rattle.sp_socket.proofs.record.Record.of.Code as code
 
@@ -35,10 +35,10 @@ of_spec 𝓤 𝓛 𝓜 𝓡 wired T Y L LY g d _ =
     let arg = RefOf (0 ∷ []) tt (plain (λ _. R)) (λ _. tt) in let hs : Stays En.signature.params En.kept = (stay_dropped arg yes, tt) in
     proved 𝓛 En hs c 𝓜 𝓡 (Goes-dropped 𝓛 3 arg yes (λ κs x f. refl), tt) (#self inst) fn (code.unfolded 𝓤 H 𝓜 𝓡 wired (T, (Y, tt)) d)
     (λ κs. (shr_vals, tt)) (λ κs. (shr_Tells (named 0) κs.0 R, tt)) (λ κs qs bounds a gh are.
-    let p : Val = vptr a.0.ref_ptr.0 a.0.ref_ptr.1 in let ns : List (Turn Entry) = g.told a.0.now in let r : Made.the_row.Denot = record { turns = ns } in
+    let p : Val = vptr a.0.ref_ptr.0 a.0.ref_ptr.1 in let ns : List (Turn Entry) = g.told a.0.now in let r : Made.the_row.Denot = record { made = tt; turns = ns } in let one : Val = vstruct (vcons vunit vnil) in
     let y : (walk_of 𝓛 En hs c).Ghost = ((κs, qs, bounds, a, (p ∷ [], tt)), gh) in let Post : Val → SProp 𝓤 = (walk_of 𝓛 En hs c).post y in
     qed 𝓛 ((raw (denote.Triple.Entry.alive 𝓛 En.signature κs qs) ⊛ ‵ (owns (types_at En.signature.params κs) a y.0.4)) ∷ raw ((c κs a).requires gh) ∷ []) ∵ split ! $ keep ! (0 ∷ []) $
     enter ! 𝓣.C 𝓣.Λ fn (p ∷ []) Post $ alloc_all ! (λ l. pass_all ! refl ((tt, tt), tt) $
-    sets ! (agg ! (no_more !)) refl (tt, tt) $
-    use0 𝓛 (raw (fact 𝓤 (ns ≡ ns))) (fact_i 𝓤 (ns ≡ ns) (emp 𝓤) refl) $ nothing ! $ none_made ! $ fjoin ! $ nothing ! $ nothing ! $ fjoin ! $
-    returns ! (look_at ! 0 refl) $ free_all ! refl $ keep ! (3 ∷ 0 ∷ 1 ∷ 2 ∷ []) $ by ! (leaves 𝓛 En hs c y none r (tt, tt) (tt, tt))))
+    sets ! (agg ! (and_then ! (unit_lit !) (no_more !))) refl (tt, (tt, tt)) $
+    use0 𝓛 (raw (fact 𝓤 (ns ≡ ns))) (fact_i 𝓤 (ns ≡ ns) (emp 𝓤) refl) $ pure_i ! (Made.the_row.own_val r (one ∷ [])) ((λ vss. (tt, (tt, tt))), tt) (((vunit ∷ [], tt), (refl, (refl, tt))), tt) $ nothing ! $ nothing ! $ fjoin ! $
+    returns ! (look_at ! 0 refl) $ free_all ! refl $ keep ! (3 ∷ 0 ∷ 1 ∷ 2 ∷ []) $ by ! (leaves 𝓛 En hs c y one r (tt, tt) (tt, tt))))
