@@ -43,7 +43,7 @@ use Rattle.sp_core.specs.declared.owner.Core.{Core}
 use Rattle.sp_core.specs.declared.operations.Operations.{Operations}
 use Rattle.sp_core.specs.declared.ops.Outcome.TheVariants as out
 use Rattle.sp_core.specs.Ends.{outcome_of, view_of}
-use Rattle.sp_core.specs.OperationsStand.{OperationsStand, AllTaken}
+use Rattle.sp_core.specs.OperationsStand.{OperationsStand, done_count, AllTaken}
 use Rattle.sp_core.proofs.Lawfuls.{by_steps, counted}
 use Rattle.sp_core.specs.Immediate.{IsGiven, IsCallersEnd, IsLost, AreLost, HasLost, HasReceived, RefusedNow, ReceivedNow, LostTo, TriedTo, NowTo, tried}
 use Rattle.sp_core.specs.Moving.{AreSettling, Later}
@@ -214,7 +214,7 @@ slot_left t op n all = elim (all op.slot n.inside) [
 
 module _ {P W : Type 0} (ties : P → Moment → Type 0) (room : P → ℕ) (shown : W → WireView) where
   -- the slot that was drawn goes back
-  pub goes_back : (c : Core P W) (s : Operations) (slot : ℕ) (t : Moment) → Owns ties room shown (slot ∷ []) c t → OperationsStand [] s t → (length s.free.items ≡ length c.operations.free.items + 1) × (length s.done.items ≡ length c.operations.done.items) → Owns ties room shown [] (record c { operations = s }) t
+  pub goes_back : (c : Core P W) (s : Operations) (slot : ℕ) (t : Moment) → Owns ties room shown (slot ∷ []) c t → OperationsStand [] s t → (length s.free.items ≡ length c.operations.free.items + 1) × (done_count s ≡ done_count c.operations) → Owns ties room shown [] (record c { operations = s }) t
   goes_back c s slot t g sh same = record { lawful = g.lawful; calm = g.calm; proto = g.proto; op_words = g.op_words; operations = sh; pipes = g.pipes; tally = g.tally; closed = g.closed; room_is = omega (arith, g.room_is, same.0, same.1) }
 
 -- ---- What it came to

@@ -1,8 +1,9 @@
 -- The lists of operations go with a history.
-use Rattle.std.specs.Prelude.{◌≡◌, ◌⊎◌, ℕ, zero, suc, ◌+◌, ◌-◌, ◌^◌, ◌<◌, ◌≤◌, Bool, true, false, if◌then◌else◌, List, [], ◌∷◌, map, length, vec_capacity}
+use Rattle.std.specs.Prelude.{◌≡◌, ◌⊎◌, ◌↔◌, ℕ, zero, suc, ◌+◌, ◌-◌, ◌^◌, ◌<◌, ◌≤◌, Bool, true, false, if◌then◌else◌, Option, Some, None, is_some, List, [], ◌∷◌, map, filter, length, slice_index_or, vec_capacity}
 use Rattle.std.specs.List.{All}
 use Rattle.std.specs.VecDeque.{deque_capacity}
 use Rattle.aio_expire.specs.declared.deadlines.Deadline.{Deadline}
+use Rattle.aio_word.specs.Views.{Stands}
 use Rattle.sp_history.specs.declared.parts.Begun.{Begun}
 use Rattle.sp_history.specs.declared.parts.Ended.{Ended}
 use Rattle.sp_history.specs.declared.parts.Timer.{Timer}
@@ -15,6 +16,7 @@ use Rattle.sp_history.specs.Legal.{is_free}
 use Rattle.sp_history.specs.Moments.{Moment, past}
 use Rattle.sp_core.specs.declared.operations.Operations.{Operations}
 use Rattle.sp_core.specs.declared.operations.Pending.{Pending}
+use Rattle.sp_core.specs.declared.operations.Done.{Done}
 use Rattle.sp_core.specs.Ends.{done_of}
 
 -- none stands there twice
@@ -41,19 +43,40 @@ abbrev pub count_of : OpName → List Pending → ℕ
 count_of op [] = 0
 count_of op (x ∷ xs) = if same_op x.op op then count_of op xs + 1 else count_of op xs
 
--- The lists show these pending operations, the oldest first, and these that ended and were not collected. A slot that
--- is free by the history is on the list of free ones, is drawn, or is worn
+-- what stands at the slot's place
+abbrev pub done_at : List (Option Done) → ℕ → Option Done
+done_at xs slot = slice_index_or xs slot None
+
+-- it is the operation's
+abbrev pub is_done_of : OpName → Option Done → Bool
+is_done_of op None = false
+is_done_of op (Some d) = same_op d.op op
+
+-- how many operations ended and were not collected
+abbrev pub done_count : Operations → ℕ
+done_count s = length (filter is_some s.done.items)
+
+-- an operation of the slot ended so, and was not collected
+abbrev pub HasDone : List Ended → ℕ → Done → Type 0
+HasDone es slot d = (e : Ended) × Stands e es × (e.begun.op.slot ≡ slot) × (d ≡ done_of e)
+
+-- exactly what ended and was not collected stands at its slot's place
+abbrev pub AreBySlot : List (Option Done) → List Ended → Type 0
+AreBySlot xs es = (slot : ℕ) (d : Done) → (done_at xs slot ≡ Some d) ↔ HasDone es slot d
+
+-- The lists show these pending operations, the oldest first, and these that ended and were not collected, by slot. A
+-- slot that is free by the history is on the list of free ones, is drawn, or is worn
 pub record Holds (drawn : List ℕ) (s : Operations) (slots : ℕ) (ss : List Begun) (es : List Ended) (ds : List Timer) (free : ℕ → Bool) (gens : ℕ → ℕ) : Type 0 where
   pub pending_is : s.pending.items ≡ map pending_of ss
-  pub done_is : s.done.items ≡ map done_of es
+  pub done_is : AreBySlot s.done.items es
   pub deadlines_are : s.deadlines ≡ record { slots = slots; entries = deadlines_of ds }
   pub free_is : All (λ i. (i < slots) × (free i ≡ true)) s.free.items
   pub drawn_is : All (λ i. (i < slots) × (free i ≡ true) × (has s.free.items i ≡ false)) drawn
   pub free_apart : Apart s.free.items
   pub every : (i : ℕ) → i < slots → free i ≡ true → (has s.free.items i ≡ true) ⊎ (has drawn i ≡ true) ⊎ IsWornOut (gens i)
-  pub fits : length drawn + length s.free.items + length s.pending.items + length s.done.items ≤ slots
+  pub fits : length drawn + length s.free.items + length s.pending.items + done_count s ≤ slots
   pub pending_room : slots ≤ deque_capacity s.pending
-  pub done_room : slots ≤ deque_capacity s.done
+  pub done_places : length s.done.items ≡ slots
   pub free_room : slots ≤ vec_capacity s.free
 
 abbrev pub OperationsStand : List ℕ → Operations → Moment → Type 0

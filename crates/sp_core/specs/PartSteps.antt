@@ -1,11 +1,11 @@
 -- What the calls of the parts lead to: the words, the lists of operations, the pipes and the counts.
 use Rattle.sp_base.specs.declared.OpName.{OpName}
-use Rattle.sp_core.specs.Collecting.{IsDoneAt, IsOutcomeOf}
+use Rattle.sp_core.specs.Collecting.{IsOutcomeOf}
 use Rattle.sp_core.specs.OpWordsStand.{OpWordsStand, DecidedAs}
 use Rattle.sp_core.specs.Ends.{outcome_of}
 use Rattle.sp_core.specs.Pipes.{PipesStand, IsPipeAt}
 use Rattle.sp_core.specs.Owning.{IsNext}
-use Rattle.sp_core.specs.OperationsStand.{IsWornOut, OperationsStand}
+use Rattle.sp_core.specs.OperationsStand.{IsWornOut, OperationsStand, done_count}
 use Rattle.sp_core.specs.Tallies.{Tallies}
 use Rattle.sp_core.specs.Wires.{IsUnused, numbers_of}
 use Rattle.sp_core.specs.declared.op_words.OpWords.{OpWords}
@@ -27,7 +27,7 @@ use Rattle.sp_history.specs.declared.entry.Why.{Why}
 use Rattle.sp_history.specs.declared.parts.Begun.{Begun}
 use Rattle.sp_history.specs.declared.parts.Ended.{Ended}
 use Rattle.sp_msg.specs.Views.{MessageView, WireView, wire_text}
-use Rattle.std.specs.Prelude.{List, MatchOption, Option, Some, [], false, length, slice_index_or, true, ℕ, ◌++◌, ◌+◌, ◌<◌, ◌^◌, ◌∷◌, ◌≡◌, ◌≢◌}
+use Rattle.std.specs.Prelude.{Bool, List, MatchOption, Option, Some, [], false, length, slice_index_or, true, ℕ, ◌++◌, ◌+◌, ◌<◌, ◌^◌, ◌∷◌, ◌≡◌, ◌≢◌}
 use Rattle.sp_history.specs.declared.entry.Entry.TheVariants as entries
 use Rattle.sp_history.specs.declared.entry.Gate.TheVariants as gate
 
@@ -59,15 +59,15 @@ BeginsWord op old new =
 
 -- as many slots are free, and as many operations ended and were not collected
 abbrev pub KeepsLengths : Operations → Operations → Type 0
-KeepsLengths old new = (length new.free.items ≡ length old.free.items) × (length new.done.items ≡ length old.done.items)
+KeepsLengths old new = (length new.free.items ≡ length old.free.items) × (done_count new ≡ done_count old)
 
 -- one slot more is free
 abbrev pub HasOneMoreFree : Operations → Operations → Type 0
-HasOneMoreFree old new = (length new.free.items ≡ length old.free.items + 1) × (length new.done.items ≡ length old.done.items)
+HasOneMoreFree old new = (length new.free.items ≡ length old.free.items + 1) × (done_count new ≡ done_count old)
 
 -- one operation more ended and was not collected
 abbrev pub HasOneMoreEnded : Operations → Operations → Type 0
-HasOneMoreEnded old new = (length new.free.items ≡ length old.free.items) × (length new.done.items ≡ length old.done.items + 1)
+HasOneMoreEnded old new = (length new.free.items ≡ length old.free.items) × (done_count new ≡ done_count old + 1)
 
 -- the operation may begin in the slot that was drawn
 abbrev pub MayStart : OpName → ℕ → Option ℕ → Operations → Type 0
@@ -92,17 +92,20 @@ DrawsFree r old new =
 -- a slot that is drawn is one free slot less
 abbrev pub DrawsOne : Option ℕ → Operations → Operations → Type 0
 DrawsOne r old new =
-    (i : ℕ) → r ≡ Some i → (length new.free.items + 1 ≡ length old.free.items) × (length new.done.items ≡ length old.done.items)
+    (i : ℕ) → r ≡ Some i → (length new.free.items + 1 ≡ length old.free.items) × (done_count new ≡ done_count old)
 
 -- an operation of this name is pending
 abbrev pub TellsPending : Option OpName → Operations → Type 0
 TellsPending r x =
     (op : OpName) → r ≡ Some op → (t : Moment) → OperationsStand [] x t → Lawful t → (s : Begun) × (pending (past t) op ≡ Some s)
 
--- where the operation stands among those that ended, or that it does not
-abbrev pub FindsEnded : Option ℕ → OpName → Operations → Type 0
-FindsEnded r op x =
-    MatchOption r ((t : Moment) → OperationsStand [] x t → is_uncollected (past t) op ≡ false) (λ i. IsDoneAt x op i × ((t : Moment) → OperationsStand [] x t → is_uncollected (past t) op ≡ true))
+-- whether the operation ended and was not collected
+abbrev pub TellsEnded : Bool → OpName → Operations → Type 0
+TellsEnded r op x = (t : Moment) → OperationsStand [] x t → is_uncollected (past t) op ≡ r
+
+-- the operation ended and was not collected at a moment for which the lists stand
+abbrev pub HasUncollected : OpName → Operations → Type 0
+HasUncollected op x = (t : Moment) × Lawful t × OperationsStand [] x t × (is_uncollected (past t) op ≡ true)
 
 -- an operation that is pending on the context, or that none is
 abbrev pub FindsOn : Option OpName → ℕ → Operations → Type 0

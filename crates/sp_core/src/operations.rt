@@ -3,12 +3,12 @@
 ghost use Rattle.std.specs.VecDeque.{deque_capacity};
 ghost use Rattle.std.specs.List.{position};
 ghost use Rattle.sp_history.specs.Lists.{same_op};
-ghost use Rattle.std.specs.Prelude.{◌≡◌, ◌≢◌, not, filter, slice_index_or, MatchOption, ◌<◌, ◌≤◌, Some, None, [], ◌∷◌, length, vec_capacity, IfOk};
+ghost use Rattle.std.specs.Prelude.{◌≡◌, ◌≢◌, not, filter, slice_index_or, MatchOption, ◌<◌, ◌≤◌, Some, None, [], ◌∷◌, length, replicate, vec_capacity, IfOk};
 ghost use Rattle.sp_history.specs.declared.parts.Begun.{Begun};
 ghost use Rattle.sp_history.specs.Past.{pending};
 ghost use Rattle.sp_history.specs.Moments.{Moment, Lawful, past};
 ghost use Rattle.sp_core.specs.declared.operations.Pending.{Pending as PendingType};
-ghost use Rattle.sp_core.specs.OperationsStand.{OperationsStand, count_of, AllTaken, AreAllSlots};
+ghost use Rattle.sp_core.specs.OperationsStand.{OperationsStand, count_of, done_count, AllTaken, AreAllSlots};
 ghost use Rattle.sp_core.specs.PartSteps.{MayStart, StartsOp, FinishesOp, DrawsFree, DrawsOne, TellsPending, KeepsLengths, HasOneMoreFree, HasOneMoreEnded};
 
 use crate::ops::Outcome;
@@ -40,8 +40,8 @@ pub struct Done {
 pub struct Operations {
     /// In the order of their begins. Most end in that order, at the front.
     pub pending: VecDeque<Pending>,
-    /// In the order of their ends. Most are collected in that order, at the front.
-    pub done: VecDeque<Done>,
+    /// By slot: the slot's operation that ended and was not collected.
+    pub done: Vec<Option<Done>>,
     /// The slots that are free and not known to be worn. The last is drawn next.
     pub free: Vec<u32>,
     /// Those of the pending operations that were not due.
@@ -58,6 +58,17 @@ fn all_slots(alloc: Global, slots: u32) -> Result<Vec<u32>, NoMemory>
         free.push(slots - 1 - i)?;
     }
     Ok(free)
+}
+
+// A place for each slot, with nothing there.
+fn no_outcomes(alloc: Global, slots: u32) -> Result<Vec<Option<Done>>, NoMemory>
+    ensures { IfOk result (λ v. v.items ≡ replicate slots None) }
+{
+    let mut done = Vec::with_capacity(alloc, slots as usize)?;
+    for _ in 0..slots {
+        done.push(None)?;
+    }
+    Ok(done)
 }
 
 // Where the operation stands among those that are pending.
@@ -86,11 +97,11 @@ impl Operations {
     pub fn with_slots(alloc: Global, slots: u32) -> Result<Operations, NoMemory>
         requires { (0 < slots) × (slots ≤ 4096) }
         ensures holds { IfOk result (λ s. (t : Moment) → past t ≡ [] → t.z.slots ≡ slots → OperationsStand [] s t) }
-        ensures all { IfOk result (λ s. (length s.free.items ≡ slots) × (length s.done.items ≡ 0)) }
+        ensures all { IfOk result (λ s. (length s.free.items ≡ slots) × (done_count s ≡ 0)) }
     {
         Ok(Operations {
             pending: VecDeque::with_capacity(alloc, slots as usize)?,
-            done: VecDeque::with_capacity(alloc, slots as usize)?,
+            done: no_outcomes(alloc, slots)?,
             free: all_slots(alloc, slots)?,
             deadlines: Deadlines::new(alloc, slots)?,
         })
@@ -142,9 +153,7 @@ impl Operations {
         ensures fewer { length self.new.pending.items < length self.old.pending.items }
     {
         take_out(&mut self.pending, op);
-        if self.done.push_back(Done { op, outcome }).is_err() {
-            unreachable!()
-        }
+        self.done[op.slot as usize] = Some(Done { op, outcome });
         self.deadlines.remove(op.slot);
     }
 
