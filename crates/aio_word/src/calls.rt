@@ -83,7 +83,7 @@ impl Words {
         Ok(OpName { slot, generation })
     }
 
-    /// The name of the slot's next operation, as `begin` will give it. `Worn` where `begin` answers it. No step.
+    /// The name of the slot's next operation, as `begin` will give it. `Worn` where `begin` returns it. No step.
     pub fn next(&self, core: &CoreSeat, slot: u32) -> Result<OpName, Worn>
         requires own { core.now.words ≡ self.now.id }
         requires slot { slot < self.now.slots }

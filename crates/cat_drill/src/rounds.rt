@@ -39,7 +39,7 @@ fn hold<P: Proto, W: Wire, R: Wait>(
     }
 }
 
-// Begins a receive, and holds it; answers its name.
+// Begins a receive, and holds it; returns its name.
 fn begin_held<P: Proto, W: Wire, R: Wait>(
     rt: &R,
     socket: &Socket<P, W>,

@@ -31,7 +31,7 @@ use std::thread::Threads;
 /// How many messages the lane holds.
 const LANE: u32 = 64;
 
-/// What a drill answers.
+/// What a drill returns.
 #[derive(Drop)]
 pub struct DrillEnd {
     /// Why it ended: `Done`, `OutFault` or `NoMemory`.

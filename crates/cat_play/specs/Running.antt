@@ -99,7 +99,7 @@ EndedFor status.OutFault z plan play past old new = Rose old.sink.faults new.sin
 EndedFor status.FileFault z plan play past old new = ⊥
 EndedFor status.NoMemory z plan play past old new = ⊤
 
--- why no socket was opened for a plan: the file can't be read, or memory is wanting
+-- why no socket was opened for a plan: the file can't be read, or the run is out of memory
 abbrev pub UnopenedFor : Status → World → World → Type 0
 UnopenedFor status.FileFault old new = Rose old.files.faults new.files.faults
 UnopenedFor status.NoMemory old new = ⊤
@@ -129,7 +129,7 @@ abbrev pub IsCutShort : List (List ℕ) → List ℕ → Type 0
 IsCutShort ts piece = (piece ≡ joined ts)
     ⊎ ((before : List (List ℕ)) × (last : List ℕ) × (front : List ℕ) × (ts ≡ before ++ last ∷ []) × IsPrefix front last × (piece ≡ joined before ++ front))
 
--- the sink's text grew by these; where a put failed or memory was wanting, the last may be cut short
+-- the sink's text grew by these; where a put failed or the run was out of memory, the last may be cut short
 abbrev pub Printed : Status → List (List ℕ) → World → World → Type 0
 Printed status.OutFault ts old new = (piece : List ℕ) × IsCutShort ts piece × (new.sink.text ≡ grown old.sink.text piece)
 Printed status.NoMemory ts old new = (piece : List ℕ) × IsCutShort ts piece × (new.sink.text ≡ grown old.sink.text piece)
@@ -165,7 +165,7 @@ abbrev pub RunsPlan : Ways → Status → CatPlan → ℕ → Option (List (Turn
 RunsPlan ways s plan dice None old new = UnopenedFor s old new × Untried old new
 RunsPlan ways s plan dice (Some record_) old new = (play : Play) × IsPlayOf plan old.files play × Runs ways s plan play dice record_ old new
 
--- the run was called off with rounds or memory wanting
+-- the run was called off: the pace was over, or it was out of memory
 abbrev pub is_called_off : Status → Bool
 is_called_off status.Over = true
 is_called_off status.NoMemory = true
@@ -177,8 +177,8 @@ EndsPlan s plan dice None old new = ⊤
 EndsPlan s plan dice (Some record_) old new =
     (play : Play) → IsPlayOf plan old.files play → EndsInTime (is_called_off s) (run_setting plan.role dice) play record_ old.net new.net
 
--- what became of a drill: the three lines at its end, a prefix of them where a put failed or memory was wanting, and no
--- other status
+-- what became of a drill: the three lines at its end, a prefix of them where a put failed or it was out of memory, and
+-- no other status
 abbrev pub DrillsTo : Status → ℕ → List (Turn Entry) → World → World → Type 0
 DrillsTo status.Done n record_ old new = (new.sink.text ≡ grown old.sink.text (lines n)) × GivesAll n record_
 DrillsTo status.OutFault n record_ old new = Printed status.OutFault (lines n ∷ []) old new × Rose old.sink.faults new.sink.faults
@@ -210,7 +210,7 @@ pub record IsSpared (plan : CatPlan) (old new : World) : Type 0 where
   pub sink : Rose old.sink.faults new.sink.faults → ⊥
   pub turns : new.pace.left ≡ 0 → ⊥
 
--- the play came to its end, or memory was wanting
+-- the play came to its end, or it was out of memory
 abbrev pub ComesToEnd : Status → Type 0
 ComesToEnd status.Done = ⊤
 ComesToEnd status.SendTimedOut = ⊤

@@ -10,7 +10,7 @@ use Rattle.sp_base.specs.declared.addr.Addr.TheVariants as addrs
 use Rattle.sp_base.specs.declared.addr.Host.TheVariants as hosts
 use Rattle.sp_base.specs.declared.addr.Scheme.TheVariants as schemes
 use Rattle.sp_history.specs.declared.entry.Act.TheVariants.{Recv}
-use Rattle.sp_history.specs.declared.entry.Outcome.TheVariants.{Received}
+use Rattle.sp_history.specs.declared.entry.Completion.TheVariants.{Received}
 use Rattle.sp_history.specs.declared.entry.Ending.TheVariants.{Won}
 use Rattle.sp_history.specs.declared.entry.Why.TheVariants as whys
 use Rattle.sp_history.specs.declared.entry.Entry.{Entry}

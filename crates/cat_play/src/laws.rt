@@ -67,7 +67,7 @@ pub fn tries_are_spaced()
     ensures { (past : List Entry) → AreOrdered (ticks (before_last_tick past)) → AreTries past (spaced_from 0 (ticks (before_last_tick past))) }
 {}
 
-/// A run of a plan without a drill that nothing stops comes to its end, or wants memory: by the causes of the
+/// A run of a plan without a drill that nothing stops comes to its end, or is out of memory: by the causes of the
 /// statuses alone.
 pub fn a_run_completes()
     ensures opened { (s : Status) (z : Setting) (plan : CatPlan) (play : Play) (past : List Entry) (old new : World) → EndedFor s z plan play past old new → IsSpared plan old new → ComesToEnd s }

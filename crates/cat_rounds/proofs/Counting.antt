@@ -8,7 +8,7 @@ use Rattle.sp_history.specs.declared.entry.Ending.{Ending}
 use Rattle.sp_history.specs.declared.entry.Ending.TheVariants.{Won, Gone}
 use Rattle.sp_history.specs.declared.entry.Cause.{Cause}
 use Rattle.sp_history.specs.declared.entry.Cause.TheVariants.{Closed, SurveyOver}
-use Rattle.sp_history.specs.declared.entry.Outcome.TheVariants.{Received, Sent}
+use Rattle.sp_history.specs.declared.entry.Completion.TheVariants.{Received, Sent}
 use Rattle.sp_history.specs.Setting.{is_req}
 use Rattle.sp_core.proofs.Steps.{same_bytes-refl}
 use Rattle.cat_text.specs.Drafts.{needs_data}

@@ -9,7 +9,7 @@ use Rattle.sp_history.specs.declared.entry.Cause.TheVariants.{SurveyOver}
 use Rattle.sp_history.specs.declared.entry.Entry.{Entry}
 use Rattle.sp_history.specs.declared.entry.Ending.{Ending as EndingType}
 use Rattle.sp_history.specs.declared.entry.Ending.TheVariants.{Won, Gone}
-use Rattle.sp_history.specs.declared.entry.Outcome.TheVariants.{Received, Sent}
+use Rattle.sp_history.specs.declared.entry.Completion.TheVariants.{Received, Sent}
 use Rattle.sp_history.specs.declared.setting.Setting.{Setting}
 use Rattle.sp_history.specs.Legal.{has_topic}
 use Rattle.sp_history.specs.Past.{past_of, is_closed, now, topics}

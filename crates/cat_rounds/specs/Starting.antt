@@ -32,7 +32,7 @@ pub record Prepares (old new : SingleView) (p : Player) : Type 0 where
   pub texts_are : texts (play_of p.script) (past_of new.seen) ≡ texts (play_of p.script) (past_of old.seen)
   pub stays_on : (t : List ℕ) → has_topic (topics (past_of old.seen) 0) t ≡ true → has_topic (topics (past_of new.seen) 0) t ≡ true
 
--- the topic is on, but where memory was wanting
+-- the topic is on, unless out of memory
 abbrev pub IsOnFor : {E : Type 0} → Result (Unit {0}) E → List ℕ → SingleView → Type 0
 IsOnFor (Ok done) t s = has_topic (topics (past_of s.seen) 0) t ≡ true
 IsOnFor (Err e) t s = ⊤

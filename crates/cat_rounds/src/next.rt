@@ -3,7 +3,7 @@ ghost use Rattle.std.specs.Prelude.{◌≡◌};
 ghost use Rattle.sp_history.specs.declared.entry.Ending.{Ending as EndingType};
 ghost use Rattle.std.specs.Prelude.{Option, Some};
 ghost use Rattle.sp_history.specs.declared.entry.Ending.TheVariants.{Won};
-ghost use Rattle.sp_history.specs.declared.entry.Outcome.TheVariants.{Received, Sent};
+ghost use Rattle.sp_history.specs.declared.entry.Completion.TheVariants.{Received, Sent};
 ghost use Rattle.sp_history.specs.declared.entry.Message.{Message as MessageType};
 ghost use Rattle.sp_history.specs.Setting.{floods};
 ghost use Rattle.cat_play.specs.Scripts as scripts;

@@ -29,7 +29,7 @@ use Rattle.sp_proto.specs.Kinds.{text_of}
 use Rattle.sp_history.specs.declared.entry.Act.TheVariants.{Recv}
 use Rattle.sp_history.specs.declared.entry.Ending.{Ending}
 use Rattle.sp_history.specs.declared.entry.Ending.TheVariants.{Won, Gone as GoneEnd}
-use Rattle.sp_history.specs.declared.entry.Outcome.TheVariants.{Received}
+use Rattle.sp_history.specs.declared.entry.Completion.TheVariants.{Received}
 use Rattle.sp_core.specs.declared.immediate.NowError.{NowError}
 use Rattle.sp_core.specs.Immediate.{AreLost, HasLost, ReceivedNow}
 use Rattle.sp_core.specs.Attaching.{AttachedBy, TookWire}

@@ -7,8 +7,8 @@ use Rattle.sp_history.specs.declared.setting.Setting.{Setting}
 use Rattle.sp_history.specs.Legal.{LegalFrom}
 use Rattle.sp_history.specs.Settled.{SettledFrom}
 use Rattle.history_judge.specs.declared.faults.Fault.{Fault}
-use Rattle.history_judge.specs.declared.faults.Verdict.{Verdict}
-use Rattle.history_judge.specs.declared.faults.Verdict.TheVariants.{Right, Illegal, Unsettled}
+use Rattle.history_judge.specs.declared.faults.Judgement.{Judgement}
+use Rattle.history_judge.specs.declared.faults.Judgement.TheVariants.{Right, Illegal, Unsettled}
 
 -- no fault where the fact holds, and one where it doesn't
 abbrev pub Finds : Option Fault → Type 0 → Type 0
@@ -16,17 +16,17 @@ Finds None P = P
 Finds (Some f) P = P → ⊥
 
 -- what the verdict says, where these are the facts that the history is legal and that it is settled
-abbrev pub JudgesAs : Verdict → Type 0 → Type 0 → Type 0
+abbrev pub JudgesAs : Judgement → Type 0 → Type 0 → Type 0
 JudgesAs Right L S = L × S
 JudgesAs (Illegal f) L S = L → ⊥
 JudgesAs (Unsettled f) L S = L × (S → ⊥)
 
 -- of a history that goes on from this past
-abbrev pub JudgesFrom : Verdict → Setting → List Entry → List (Turn Entry) → Type 0
+abbrev pub JudgesFrom : Judgement → Setting → List Entry → List (Turn Entry) → Type 0
 JudgesFrom v z past turns = JudgesAs v (LegalFrom z past turns) (SettledFrom z past turns)
 
 -- what the verdict says of a history
-abbrev pub Judges : Verdict → Setting → List (Turn Entry) → Type 0
+abbrev pub Judges : Judgement → Setting → List (Turn Entry) → Type 0
 Judges v z history = JudgesFrom v z [] history
 
 -- the pipes that were found full, for the entries of a turn, the newest first
@@ -36,7 +36,7 @@ full_pipes (Full p ∷ turn) = p ∷ full_pipes turn
 full_pipes (_ ∷ turn) = full_pipes turn
 
 -- the verdict on a turn and on the turns after it
-abbrev pub verdict_of : Option Fault → Option Fault → Verdict → Verdict
+abbrev pub verdict_of : Option Fault → Option Fault → Judgement → Judgement
 verdict_of (Some f) u rest = Illegal f
 verdict_of None (Some f) (Illegal g) = Illegal g
 verdict_of None (Some f) _ = Unsettled f

@@ -2,7 +2,7 @@
 
 /// What a history is found to be.
 #[derive(Clone, Copy, Debug, PartialEq, Eq)]
-pub enum Verdict {
+pub enum Judgement {
     /// It is legal, and each of its turns leaves the socket settled.
     Right,
     /// It is not legal. The fault is the first that is found.

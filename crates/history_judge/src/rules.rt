@@ -21,7 +21,7 @@ use history_judge_past::requests::{how_ended, live_on, request_of};
 use history_judge_past::sends::{is_due_again, is_sent, unclaimed};
 use history_judge_past::story::Past;
 use sp_base::{Bytes, Ctx, NoMemory, OpName, PipeId, Role};
-use sp_history::entry::{Act, Cause, Ending, Entry, Gate, Message, Outcome, Why};
+use sp_history::entry::{Act, Cause, Completion, Ending, Entry, Gate, Message, Why};
 use sp_history::parts::{Begun, Ended, How, Item, Request};
 use sp_history::setting::Setting;
 use std::alloc::Global;
@@ -265,7 +265,7 @@ fn is_part_of_send(z: Setting, e: &Entry) -> bool
 {
     match e {
         Entry::Out(_, _) | Entry::Full(_) | Entry::Down(_, _) => floods(z.role),
-        Entry::End(_, Ending::Won(Outcome::Sent)) => true,
+        Entry::End(_, Ending::Won(Completion::Sent)) => true,
         _ => false,
     }
 }
@@ -549,8 +549,8 @@ fn may_end_as(
     ensures { IfOk result (λ f. Finds f (MayEndAs z (entries_of past.now) ending.now s.now)) }
 {
     match ending {
-        Ending::Won(Outcome::Received(m)) => may_receive(alloc, z, past, s, m),
-        Ending::Won(Outcome::Sent) => {
+        Ending::Won(Completion::Received(m)) => may_receive(alloc, z, past, s, m),
+        Ending::Won(Completion::Sent) => {
             if is_recv(&s.act) {
                 return Ok(Some(Fault::NotSend));
             }

@@ -15,7 +15,7 @@ ghost use Rattle.sp_history.specs.Settled.{is_dry, receive_settled, send_settled
 ghost use Rattle.history_judge_past.specs.Story.{entries_of};
 ghost use Rattle.history_judge.specs.Faults.{Finds, Judges, JudgesFrom, full_pipes, verdict_of};
 
-use crate::faults::{Fault, Verdict};
+use crate::faults::{Fault, Judgement};
 use crate::rules::{
     comes_after_close, condemned, goes_on, has_topic, is_after_frame, is_pending_on, is_recv,
     is_uncollected, is_up, may_begin, may_dry, may_end, may_finish,
@@ -648,18 +648,18 @@ fn judge_turn(
 }
 
 /// The verdict on a turn and on what follows it.
-fn together(illegal: Option<Fault>, undone: Option<Fault>, rest: Verdict) -> Verdict
+fn together(illegal: Option<Fault>, undone: Option<Fault>, rest: Judgement) -> Judgement
     ensures { result ≡ verdict_of illegal undone rest }
 {
     if let Some(fault) = illegal {
-        return Verdict::Illegal(fault);
+        return Judgement::Illegal(fault);
     }
     let Some(fault) = undone else {
         return rest;
     };
     match rest {
-        Verdict::Illegal(other) => Verdict::Illegal(other),
-        _ => Verdict::Unsettled(fault),
+        Judgement::Illegal(other) => Judgement::Illegal(other),
+        _ => Judgement::Unsettled(fault),
     }
 }
 
@@ -669,12 +669,12 @@ fn judge_from(
     z: Setting,
     past: Past,
     turns: LinkedList<Turn<Entry>>,
-) -> Result<Verdict, NoMemory>
+) -> Result<Judgement, NoMemory>
     ensures { IfOk result (λ v. JudgesFrom v z (entries_of past) turns) }
 {
     let mut turns = turns;
     match turns.pop_front() {
-        None => Ok(Verdict::Right),
+        None => Ok(Judgement::Right),
         Some(Turn { number, entries }) => {
             let judged = judge_turn(alloc, z, past, number, entries)?;
             let rest = judge_from(alloc, z, judged.past, turns)?;
@@ -688,7 +688,7 @@ pub fn judge(
     alloc: Global,
     z: Setting,
     history: LinkedList<Turn<Entry>>,
-) -> Result<Verdict, NoMemory>
+) -> Result<Judgement, NoMemory>
     ensures { IfOk result (λ v. Judges v z history) }
 {
     judge_from(alloc, z, Past::Start, history)

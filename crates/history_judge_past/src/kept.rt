@@ -15,7 +15,7 @@ use crate::past::{ctxs, now, pending, topics};
 use crate::requests::{live_on, requests};
 use crate::story::Past;
 use sp_base::{Bytes, Ctx, NoMemory, OpName, PipeId, Role};
-use sp_history::entry::{Ending, Entry, Gate, Outcome, Switch};
+use sp_history::entry::{Completion, Ending, Entry, Gate, Switch};
 use sp_history::parts::{Begun, Item, Keeping, Origin, Request};
 use sp_history::setting::Setting;
 use std::alloc::Global;
@@ -285,7 +285,7 @@ fn pool_keeping(
             let items = pool_keeping(alloc, z, Keeping::Everywhere, before, c)?;
             if_kept(alloc, z, how, before, c, *p, b.as_slice(), items)
         }
-        Past::After(Entry::End(op, Ending::Won(Outcome::Received(_))), before) => {
+        Past::After(Entry::End(op, Ending::Won(Completion::Received(_))), before) => {
             let items = pool_keeping(alloc, z, Keeping::Everywhere, before, c)?;
             given(alloc, z, before, c, *op, items)
         }
@@ -394,7 +394,7 @@ fn given_from(alloc: Global, z: Setting, past: &Past, c: Ctx) -> Result<Option<O
 {
     match past {
         Past::Start => Ok(None),
-        Past::After(Entry::End(op, Ending::Won(Outcome::Received(_))), before) => {
+        Past::After(Entry::End(op, Ending::Won(Completion::Received(_))), before) => {
             if is_on_ctx(c, pending(alloc, before, *op)?) {
                 Ok(first_origin(kept(alloc, z, before, c)?))
             } else {

@@ -13,7 +13,7 @@ use crate::one_request::{is_on, is_over, next_id, with_frame, with_out, with_tak
 use crate::past::{now, pend, pending};
 use crate::story::{Past, copy_bytes};
 use sp_base::{Bytes, Ctx, NoMemory, OpName, PipeId, Tick};
-use sp_history::entry::{Act, Ending, Entry, Gate, Message, Outcome};
+use sp_history::entry::{Act, Completion, Ending, Entry, Gate, Message};
 use sp_history::parts::{Begun, How, Item, Orphan, Request, Requests};
 use sp_history::setting::Setting;
 use std::alloc::Global;
@@ -235,8 +235,8 @@ fn after_end(
         return Ok(rs);
     };
     match ending {
-        Ending::Won(Outcome::Sent) => Ok(rs),
-        Ending::Won(Outcome::Received(_)) => {
+        Ending::Won(Completion::Sent) => Ok(rs),
+        Ending::Won(Completion::Received(_)) => {
             if is_req(z.role) {
                 end_on(&one_ctx(alloc, s.ctx)?, How::Answered, ss, rs)
             } else {

@@ -3,7 +3,7 @@
 ghost use Rattle.std.specs.Prelude.{◌≡◌, IfOk};
 
 use sp_base::{Bytes, NoMemory};
-use sp_history::entry::{Act, Ending, Entry, Message, Outcome};
+use sp_history::entry::{Act, Completion, Ending, Entry, Message};
 use std::alloc::Global;
 
 /// The entries of a history so far, the newest first.
@@ -42,12 +42,12 @@ pub fn copy_act(alloc: Global, act: &Act) -> Result<Act, NoMemory>
 }
 
 /// The same outcome, in memory of its own.
-pub fn copy_outcome(alloc: Global, r: &Outcome) -> Result<Outcome, NoMemory>
+pub fn copy_outcome(alloc: Global, r: &Completion) -> Result<Completion, NoMemory>
     ensures { IfOk result (λ copy. copy ≡ r.now) }
 {
     match r {
-        Outcome::Received(m) => Ok(Outcome::Received(copy_message(alloc, m)?)),
-        Outcome::Sent => Ok(Outcome::Sent),
+        Completion::Received(m) => Ok(Completion::Received(copy_message(alloc, m)?)),
+        Completion::Sent => Ok(Completion::Sent),
     }
 }
 

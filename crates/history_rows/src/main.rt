@@ -9,7 +9,7 @@
 mod text;
 
 use anyhow::Result;
-use history_judge::faults::Verdict;
+use history_judge::faults::Judgement;
 use history_judge::turns::judge;
 use sp_history::entry::Entry;
 use sp_history::setting::Setting;
@@ -47,17 +47,17 @@ fn begin_row(alloc: Global, line: &str) -> Result<Row> {
     })
 }
 
-fn counted(tally: Tally, verdict: Verdict) -> Tally {
+fn counted(tally: Tally, verdict: Judgement) -> Tally {
     match verdict {
-        Verdict::Right => Tally {
+        Judgement::Right => Tally {
             right: tally.right.saturating_add(1),
             ..tally
         },
-        Verdict::Illegal(_) => Tally {
+        Judgement::Illegal(_) => Tally {
             illegal: tally.illegal.saturating_add(1),
             ..tally
         },
-        Verdict::Unsettled(_) => Tally {
+        Judgement::Unsettled(_) => Tally {
             unsettled: tally.unsettled.saturating_add(1),
             ..tally
         },

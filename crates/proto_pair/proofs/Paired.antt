@@ -16,7 +16,7 @@ use Rattle.sp_history.specs.declared.entry.Act.{Act}
 use Rattle.sp_history.specs.declared.entry.Act.TheVariants.{Recv, Send}
 use Rattle.sp_history.specs.declared.entry.Cause.{Cause}
 use Rattle.sp_history.specs.declared.entry.Ending.TheVariants.{Won, Gone}
-use Rattle.sp_history.specs.declared.entry.Outcome.TheVariants.{Received, Sent}
+use Rattle.sp_history.specs.declared.entry.Completion.TheVariants.{Received, Sent}
 use Rattle.sp_history.specs.declared.entry.Message.{Message}
 use Rattle.sp_history.specs.declared.parts.Begun.{Begun}
 use Rattle.sp_history.specs.declared.parts.Item.{Item}
@@ -31,7 +31,7 @@ use Rattle.sp_history.specs.Settled.{receive_settled, send_settled, has_full}
 use Rattle.sp_history.specs.Legal.{is_recv}
 use Rattle.sp_history.specs.Moments.{Moment, Lawful, past, also, next}
 use Rattle.sp_proto.specs.Kinds.{Kind, text_of}
-use Rattle.sp_proto.specs.Machines.{CanGive, CanSend, IsIdle, Offers}
+use Rattle.sp_proto.specs.Machines.{CanGive, CanSend, IsIdle, IsOffered}
 use Rattle.sp_proto.specs.declared.Offer.{Offer}
 use Rattle.sp_proto.specs.declared.Offer.TheVariants as offer
 use Rattle.proto_pending.specs.Waits.{Holds, is_receive, is_send, first_name}
@@ -219,8 +219,8 @@ can_send m t x s h e room first =
       },
     )
 
-pub sends : (m : Pair) (t : Moment) (r : Offer) → Ties m t → None ≡ receiver_of m.kept (pend (past t)) → r ≡ send_offer m.port (pend (past t)) → Offers r t
-sends m t r h wait e = subst (λ (o : Offer). Offers o t) (sym e) (go m.port refl)
+pub sends : (m : Pair) (t : Moment) (r : Offer) → Ties m t → None ≡ receiver_of m.kept (pend (past t)) → r ≡ send_offer m.port (pend (past t)) → IsOffered r t
+sends m t r h wait e = subst (λ (o : Offer). IsOffered o t) (sym e) (go m.port refl)
   where
     settled : list_all (receive_settled t.z (past t)) (pend (past t)) ≡ true
     settled = receives_wait m t h wait
@@ -228,18 +228,18 @@ sends m t r h wait e = subst (λ (o : Offer). Offers o t) (sym e) (go m.port ref
     no_room : list_all (has_full t.turn) (up (past t)) ≡ true → IsIdle t
     no_room full = idle m t h settled (all_full t.z (past t) (has_full t.turn) (is_pair m t h) full (pend (past t)))
 
-    go : (o : Option Port) → m.port ≡ o → Offers (send_offer o (pend (past t))) t
+    go : (o : Option Port) → m.port ≡ o → IsOffered (send_offer o (pend (past t))) t
     go None k = no_room (rw (none_up (λ q. has_full t.turn q) m.port (up (past t)) h.port k) refl)
     go (Some x) k = full x.is_full refl
       where
-        offered : (f : Option OpName) → f ≡ first_name (filter is_send (pend (past t))) → x.is_full ≡ false → Offers (to_pipe x.pipe f) t
+        offered : (f : Option OpName) → f ≡ first_name (filter is_send (pend (past t))) → x.is_full ≡ false → IsOffered (to_pipe x.pipe f) t
         offered None q free = idle m t h settled (no_sends t.z (past t) (has_full t.turn) (pend (past t)) (none_first (filter is_send (pend (past t))) q))
         offered (Some op) q free =
             let s = first_is (filter is_send (pend (past t))) op q in
             let can = can_send m t x s.0 h k free s.1 in
             (s.0, can.0, subst (λ (o : OpName). CanSend t o x.pipe s.0 can.0) s.2 can.1)
 
-        full : (b : Bool) → x.is_full ≡ b → Offers (cond b offer.Idle (to_pipe x.pipe (first_name (filter is_send (pend (past t)))))) t
+        full : (b : Bool) → x.is_full ≡ b → IsOffered (cond b offer.Idle (to_pipe x.pipe (first_name (filter is_send (pend (past t)))))) t
         full true f =
             let one = one_up (λ q. has_full t.turn q) m.port (up (past t)) h.port x k in
             no_room (rw one.0 (both _ _ (one.1 ∙ f) refl))

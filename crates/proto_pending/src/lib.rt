@@ -140,7 +140,7 @@ impl Pending {
         let _ = take(&mut self.receives, op);
     }
 
-    /// The send ends: answers its message, as it was begun.
+    /// The send ends: returns its message, as it was begun.
     pub fn end_send(&mut self, op: OpName) -> Option<Message>
         ensures ended { (ss : List Begun) (s : Begun) (m : Text) → Holds self.old ss → find (is_of op) ss ≡ Some s → s.act ≡ Send m → (option_map text_of result ≡ Some m) × Ends self.old self.new ss op }
         ensures room { room self.old ≤ room self.new }

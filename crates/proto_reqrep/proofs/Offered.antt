@@ -39,7 +39,7 @@ use Rattle.std.specs.List.{position}
 use Rattle.std.proofs.Common.{slice_index_or, inl, inr}
 use Rattle.proto_reqrep.proofs.Places.{found_at, not_found}
 use Rattle.proto_reqrep.proofs.Ended.{targets_are, route_of, out_bytes}
-use Rattle.sp_proto.specs.Machines.{Offers}
+use Rattle.sp_proto.specs.Machines.{IsOffered}
 use Rattle.sp_proto.specs.declared.Offer.{Offer}
 use Rattle.sp_history.specs.Sends.{targets_of, bytes_of_act}
 use Rattle.proto_reqrep.proofs.Replied.{is_rep, is_raw, kept_rep}
@@ -278,8 +278,8 @@ can_drop m t w r q h f e g =
     all x us b h k n = rw (h, k, n) refl
 
 -- what is left to offer where no receive can be given anything
-pub sends_right : (m : Reply) (t : Moment) (x : Offer) → Calm t.z (past t) → Ties m t → (m.kept.items ≡ []) ⊎ (find is_receive m.waiting.items ≡ None) → x ≡ send_offer m.raw m.ports.items (find (is_ready m.raw m.ports.items) m.waiting.items) → Offers x t
-sends_right m t x q h r e = subst (λ (y : Offer). Offers y t) (sym e) (go (find (is_ready m.raw m.ports.items) m.waiting.items) refl)
+pub sends_right : (m : Reply) (t : Moment) (x : Offer) → Calm t.z (past t) → Ties m t → (m.kept.items ≡ []) ⊎ (find is_receive m.waiting.items ≡ None) → x ≡ send_offer m.raw m.ports.items (find (is_ready m.raw m.ports.items) m.waiting.items) → IsOffered x t
+sends_right m t x q h r e = subst (λ (y : Offer). IsOffered y t) (sym e) (go (find (is_ready m.raw m.ports.items) m.waiting.items) refl)
   where
     ready : (w : Waiting) (ws : List Waiting) → find (is_ready m.raw m.ports.items) ws ≡ Some w → can_go m.raw m.ports.items w.answer ≡ true
     ready w [] f = absurd cc
@@ -292,15 +292,15 @@ sends_right m t x q h r e = subst (λ (y : Offer). Offers y t) (sym e) (go (find
         step true k f again = ap (λ (u : Waiting). can_go m.raw m.ports.items u.answer) (sym (some_inj f)) ∙ k
         step false k f again = again f
 
-    ways_right : (w : Waiting) (p : Answer) (y : Way) → find (is_ready m.raw m.ports.items) m.waiting.items ≡ Some w → w.answer ≡ Some p → way_of m.raw m.ports.items p ≡ y → isnt_full y ≡ true → Offers (way_offer w.op y) t
+    ways_right : (w : Waiting) (p : Answer) (y : Way) → find (is_ready m.raw m.ports.items) m.waiting.items ≡ Some w → w.answer ≡ Some p → way_of m.raw m.ports.items p ≡ y → isnt_full y ≡ true → IsOffered (way_offer w.op y) t
     ways_right w p ways.Full f g k n = absurd cc
     ways_right w p ways.Nowhere f g k n = (begun_of w, can_drop m t w p q h f g k)
     ways_right w p (ways.To u) f g k n = (begun_of w, out_text m.raw p, can_send m t w p u h f g k)
 
-    replies_right : (w : Waiting) (y : Option Answer) → find (is_ready m.raw m.ports.items) m.waiting.items ≡ Some w → w.answer ≡ y → can_go m.raw m.ports.items y ≡ true → Offers (answer_offer m.raw m.ports.items w.op y) t
+    replies_right : (w : Waiting) (y : Option Answer) → find (is_ready m.raw m.ports.items) m.waiting.items ≡ Some w → w.answer ≡ y → can_go m.raw m.ports.items y ≡ true → IsOffered (answer_offer m.raw m.ports.items w.op y) t
     replies_right w None f g n = absurd cc
     replies_right w (Some p) f g n = ways_right w p (way_of m.raw m.ports.items p) f g refl n
 
-    go : (o : Option Waiting) → find (is_ready m.raw m.ports.items) m.waiting.items ≡ o → Offers (send_offer m.raw m.ports.items o) t
+    go : (o : Option Waiting) → find (is_ready m.raw m.ports.items) m.waiting.items ≡ o → IsOffered (send_offer m.raw m.ports.items o) t
     go None f = idle m t h r f
     go (Some w) f = replies_right w w.answer f refl (ready w m.waiting.items f)

@@ -29,7 +29,7 @@ use Rattle.sp_history.specs.Once.{AreApart, AreDistinct, occurs}
 use Rattle.sp_history.specs.Moments.{Moment, past}
 use Rattle.sp_history.proofs.OnceHolds.{same_op-refl, occurs-find}
 use Rattle.sp_proto.specs.Kinds.{text_of}
-use Rattle.sp_proto.specs.Machines.{CanGive, CanSend, CanFinish, CanAgain, IsIdle, Offers}
+use Rattle.sp_proto.specs.Machines.{CanGive, CanSend, CanFinish, CanAgain, IsIdle, IsOffered}
 use Rattle.sp_proto.specs.declared.Offer.{Offer}
 use Rattle.sp_proto.specs.declared.Offer.TheVariants as offers
 use Rattle.proto_reqrep.specs.Ports.{port_of, is_free, is_free_behind, next_port, or_else, next_number as next_pipe}
@@ -548,13 +548,13 @@ can_again m t x p h f u n =
         nothing (v ∷ vs) e k = absurd cc
 
 pub out_right : (m : Machine) (t : Moment) (q : Port) (y : Offer) → Ties m t → find (λ (v : Asking). v.is_orphan) m.waiting.items ≡ None → find (gets m) m.waiting.items ≡ None → next_port m.last_pipe m.ports.items ≡ Some q
-    → y ≡ out_offer q.pipe (find is_sending m.waiting.items) (find (is_due m.options.resend m.tick m.ports.items m.seats.items) m.live.items) → Offers y t
-out_right m t q y h o g f e = subst (λ (z : Offer). Offers z t) (sym e) (go (find is_sending m.waiting.items) refl (find (is_due m.options.resend m.tick m.ports.items m.seats.items) m.live.items) refl)
+    → y ≡ out_offer q.pipe (find is_sending m.waiting.items) (find (is_due m.options.resend m.tick m.ports.items m.seats.items) m.live.items) → IsOffered y t
+out_right m t q y h o g f e = subst (λ (z : Offer). IsOffered z t) (sym e) (go (find is_sending m.waiting.items) refl (find (is_due m.options.resend m.tick m.ports.items m.seats.items) m.live.items) refl)
   where
     free : (has (up (past t)) q.pipe ≡ true) × (has_full t.turn q.pipe ≡ false)
     free = next_is (λ p. has_full t.turn p) m.last_pipe (up (past t)) q (ap (next_port m.last_pipe) (sym h.1.ports) ∙ f)
 
-    go : (a : Option Asking) → find is_sending m.waiting.items ≡ a → (b : Option Live) → find (is_due m.options.resend m.tick m.ports.items m.seats.items) m.live.items ≡ b → Offers (out_offer q.pipe a b) t
+    go : (a : Option Asking) → find is_sending m.waiting.items ≡ a → (b : Option Live) → find (is_due m.options.resend m.tick m.ports.items m.seats.items) m.live.items ≡ b → IsOffered (out_offer q.pipe a b) t
     go (Some w) k b l = let z = can_send m t w q.pipe h (none_any (λ (v : Asking). v.is_orphan) m.waiting.items o) k free.0 free.1 in (begun_of w, z.0, z.1)
     go None k None l = idle m t h o g (inr k) (inr l)
     go None k (Some x) l = (request_of x, can_again m t x q.pipe h l free.0 free.1)

@@ -15,7 +15,7 @@ use Rattle.sp_history.specs.declared.entry.Entry.TheVariants.{End, Out, Ctx}
 use Rattle.sp_history.specs.declared.entry.Gate.TheVariants.{Open, Shut}
 use Rattle.sp_history.specs.declared.entry.Act.TheVariants.{Send}
 use Rattle.sp_history.specs.declared.entry.Ending.TheVariants.{Won}
-use Rattle.sp_history.specs.declared.entry.Outcome.TheVariants.{Sent}
+use Rattle.sp_history.specs.declared.entry.Completion.TheVariants.{Sent}
 use Rattle.sp_history.specs.declared.parts.Begun.{Begun}
 use Rattle.sp_history.specs.declared.parts.Request.{Request}
 use Rattle.sp_history.specs.declared.parts.Requests.{Requests}

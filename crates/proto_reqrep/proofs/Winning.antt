@@ -9,7 +9,7 @@ use Rattle.sp_base.specs.declared.OpName.{OpName}
 use Rattle.sp_msg.specs.Views.{MessageView, wire_text}
 use Rattle.sp_history.specs.declared.entry.Entry.TheVariants.{End, Out, Dry}
 use Rattle.sp_history.specs.declared.entry.Ending.TheVariants.{Won}
-use Rattle.sp_history.specs.declared.entry.Outcome.TheVariants.{Received, Sent}
+use Rattle.sp_history.specs.declared.entry.Completion.TheVariants.{Received, Sent}
 use Rattle.sp_history.specs.declared.entry.Message.{Message}
 use Rattle.sp_history.specs.declared.parts.Begun.{Begun}
 use Rattle.sp_history.specs.declared.parts.LastOut.{LastOut}

@@ -8,7 +8,7 @@ ghost use Rattle.sp_base.specs.declared.OpName.{OpName};
 ghost use Rattle.sp_history.specs.Past.{up};
 ghost use Rattle.sp_history.specs.Legal.{Calm};
 ghost use Rattle.sp_history.specs.Moments.{Moment, Lawful, past};
-ghost use Rattle.sp_proto.specs.Machines.{Offers};
+ghost use Rattle.sp_proto.specs.Machines.{IsOffered};
 ghost use Rattle.sp_history.specs.Options.{Fits};
 ghost use Rattle.sp_history.specs.Lists.{word, head_of};
 ghost use Rattle.sp_history.specs.Requests.{next_number};
@@ -708,7 +708,7 @@ impl Proto for Request {
     /// What goes out goes to the next pipe behind that of the last Out, in the round of their numbers.
     fn offer(&mut self) -> Offer
         ensures same { (t : Moment) → Ties self.old t → Ties self.new t }
-        ensures offered { (t : Moment) → Lawful t → Calm t.z (past t) → Ties self.old t → Offers result t }
+        ensures offered { (t : Moment) → Lawful t → Calm t.z (past t) → Ties self.old t → IsOffered result t }
         ensures copies { (op : OpName) → result ≡ Offer.Flood op → (t : Moment) → Lawful t → Calm t.z (past t) → Ties self.old t → length (up (past t)) ≤ 0 }
         ensures left { work_left self.new ≤ work_left self.old }
         ensures room { vec_capacity self.old.waiting - vec_len self.old.waiting ≤ vec_capacity self.new.waiting - vec_len self.new.waiting }

@@ -136,7 +136,7 @@ fn cancel_one<P: Proto, W: Wire>(socket: &Socket<P, W>, pass: &mut Pass<P, W>, o
     socket.cancel(pass, op) == Raced::Won
 }
 
-// Cancels each of these; answers how many it has ended.
+// Cancels each of these; returns how many it has ended.
 fn cancel_all<P: Proto, W: Wire>(
     socket: &Socket<P, W>,
     pass: &mut Pass<P, W>,
@@ -245,7 +245,7 @@ fn cancel_when_begun<P: Proto, W: Wire, R: Wait + Abort>(
     cancel_one(socket, pass, op) as u64
 }
 
-// Lets the moment come; answers how many operations that has ended.
+// Lets the moment come; returns how many operations that has ended.
 fn tick_one<P: Proto, W: Wire, R: Wait>(
     rt: &R,
     socket: &Socket<P, W>,

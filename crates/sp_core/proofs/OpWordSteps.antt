@@ -18,7 +18,7 @@ use Rattle.sp_history.specs.declared.entry.Entry.{Entry}
 use Rattle.sp_history.specs.declared.entry.Entry.TheVariants.{Begin, End}
 use Rattle.sp_history.specs.declared.entry.Ending.{Ending}
 use Rattle.sp_history.specs.declared.entry.Ending.TheVariants.{Won, Gone}
-use Rattle.sp_history.specs.declared.entry.Outcome.{Outcome}
+use Rattle.sp_history.specs.declared.entry.Completion.{Completion}
 use Rattle.sp_history.specs.declared.entry.Cause.{Cause}
 use Rattle.sp_history.specs.declared.entry.Cause.TheVariants as cause
 use Rattle.sp_history.specs.declared.setting.Setting.{Setting}
@@ -157,7 +157,7 @@ pub open_is : (d : OpWords) (t : Moment) (op : OpName) (s : Begun) → OpWordsSt
 open_is d t op s h l p = rw h.ends_are (unended t op s l p)
 
 -- the core has won it
-pub took_ended : (d e : OpWords) (t : Moment) (op : OpName) (r : Outcome) → OpWordsStand d t → e.words ≡ d.words → e.seat.words ≡ d.seat.words → CoreTook d.seat.view op WonPhase e.seat.view → OpWordsStand e (also t (End op (Won r)))
+pub took_ended : (d e : OpWords) (t : Moment) (op : OpName) (r : Completion) → OpWordsStand d t → e.words ≡ d.words → e.seat.words ≡ d.seat.words → CoreTook d.seat.view op WonPhase e.seat.view → OpWordsStand e (also t (End op (Won r)))
 took_ended d e t op r h w sw k =
     let v = k.1 in
     op_words_ended d e t op (Won r) h w sw (ap (λ x. x.ends) v) (ap (λ x. x.generations) v) (ap (λ x. x.made) v)

@@ -7,7 +7,7 @@ use Rattle.sp_history.specs.declared.entry.Act.TheVariants.{Recv}
 use Rattle.sp_history.specs.declared.entry.Cause.{Cause}
 use Rattle.sp_history.specs.declared.entry.Ending.{Ending}
 use Rattle.sp_history.specs.declared.entry.Ending.TheVariants.{Won, Gone}
-use Rattle.sp_history.specs.declared.entry.Outcome.TheVariants.{Received}
+use Rattle.sp_history.specs.declared.entry.Completion.TheVariants.{Received}
 use Rattle.sp_history.specs.declared.entry.Entry.{Entry}
 use Rattle.sp_history.specs.declared.entry.Entry.TheVariants.{Begin, End, Took}
 use Rattle.sp_history.specs.declared.entry.Message.{Message}

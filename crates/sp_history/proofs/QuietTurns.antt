@@ -4,7 +4,7 @@ use Rattle.std.specs.Prelude.{filter, find, map, not, ◌&&◌, ◌||◌}
 use Rattle.std.specs.List.{list_any}
 use Rattle.sp_base.specs.declared.OpName.{OpName}
 use Rattle.turn_lock.specs.declared.turn.Turn.{Turn}
-use Rattle.sp_history.specs.declared.entry.Outcome.TheVariants.{Received, Sent}
+use Rattle.sp_history.specs.declared.entry.Completion.TheVariants.{Received, Sent}
 use Rattle.sp_history.specs.declared.entry.Ending.{Ending}
 use Rattle.sp_history.specs.declared.entry.Ending.TheVariants.{Won, Gone}
 use Rattle.sp_history.specs.declared.entry.Gate.TheVariants.{Shut}
