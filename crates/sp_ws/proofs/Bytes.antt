@@ -1,5 +1,7 @@
 -- The bytes of a stream in memory, and those that a socket wrote.
-use Rattle.std.proofs.Common.{◌≡◌, ◌≤◌, ◌+◌, ◌-◌, ◌++◌, ℕ, List, length, take, drop, sym, ap, ◌∙◌, arith}
+use Rattle.std.proofs.Common.{◌≡◌, ◌≤◌, ◌+◌, ◌-◌, ◌++◌, ◌∷◌, [], ℕ, List, length, take, drop, sym, ap, ◌∙◌, append-nil, arith}
+use Rattle.std.specs.List.{concat}
+use Rattle.std.proofs.lemmas.List.Folds.{concat-append}
 use Rattle.std.proofs.lemmas.List.{take_all, take_at, take-append-drop, drop-drop, length-take, length-drop}
 
 -- what a read takes stands before what is left
@@ -11,6 +13,13 @@ read_front fed buf piece at n fits is =
     sym (ap (λ (x : List ℕ). x ++ drop (at + n) fed) (take_at piece (drop n buf) n long ∙ piece_is)
     ∙ ap (λ (x : List ℕ). take n (drop at fed) ++ x) (sym (drop-drop n at fed))
     ∙ take-append-drop n (drop at fed))
+
+-- one piece more was handed over
+pub handed_more : (texts new : List (List ℕ)) (piece b : List ℕ) → new ≡ texts ++ piece ∷ [] → piece ≡ b → concat new ≡ concat texts ++ b
+handed_more texts new piece b is same =
+    ap concat is
+    ∙ concat-append texts (piece ∷ [])
+    ∙ ap (λ (x : List ℕ). concat texts ++ x) (append-nil piece ∙ same)
 
 -- what was compared stands behind so many bytes
 pub behind : (fed d b : List ℕ) (at n : ℕ) → d ≡ fed → n ≤ length (take (length d - at) (drop at d)) → take (length (take (length d - at) (drop at d)) - n) (drop n (take (length d - at) (drop at d))) ≡ b → (n ≤ length (drop at fed)) × (drop n (drop at fed) ≡ b)

@@ -138,11 +138,18 @@ gave_none o f = record {
   frames = refl;
   within = (λ w. w);
   sent = sym (append-nil f.sent);
-  came = refl;
-  last = refl;
-  role = refl;
-  reads = refl;
+  kept = refl;
 }
+
+-- what stays, step by step
+kept_more : (f f2 f3 : FramesView) (waiting : List ℕ) (sent : List (List ℕ)) → f2 ≡ record f { waiting = f2.waiting; sent = f2.sent } → f3 ≡ record f2 { waiting = waiting; sent = sent } → f3 ≡ record f { waiting = f3.waiting; sent = f3.sent }
+kept_more f f2 f3 waiting sent before after =
+    let w : f3.waiting ≡ waiting = ap (λ (v : FramesView). v.waiting) after in
+    let s : f3.sent ≡ sent = ap (λ (v : FramesView). v.sent) after in
+    after ∙ ap (λ (v : FramesView). record v { waiting = waiting; sent = sent }) before ∙ (λ i. record f { waiting = sym w i; sent = sym s i })
+
+role_of : (f f2 : FramesView) → f2 ≡ record f { waiting = f2.waiting; sent = f2.sent } → f2.role ≡ f.role
+role_of f f2 kept = ap (λ (v : FramesView). v.role) kept
 
 piece_some : (role : Role) (piece body : List ℕ) → IsFrame role piece body → 0 < length piece
 piece_some role piece body e = omega (arith, ap length e.is, frame_some e.mask body)
@@ -153,7 +160,7 @@ gave_more o o2 o3 f f2 f3 g one =
     let s = one.3 in
     let body : List ℕ = one.0 in
     let here : f3.waiting ≡ f2.waiting ++ s.piece = ap (λ (v : FramesView). v.waiting) s.rest in
-    let frame : IsFrame f.role s.piece body = subst (λ (r : Role). IsFrame r s.piece body) g.role s.frame in
+    let frame : IsFrame f.role s.piece body = subst (λ (r : Role). IsFrame r s.piece body) (role_of f f2 g.kept) s.frame in
     let waits : f3.waiting ≡ f.waiting ++ (g.bytes ++ s.piece) = here ∙ ap (λ (x : List ℕ). x ++ s.piece) g.waiting ∙ append_assoc f.waiting g.bytes s.piece in
     let long : length f3.waiting ≡ length f2.waiting + length s.piece = omega (arith, ap length here, length-append f2.waiting s.piece) in
     let place : length f3.waiting ≡ length f.waiting + length g.bytes + length s.piece = omega (arith, long, ap length g.waiting, length-append f.waiting g.bytes) in
@@ -168,15 +175,12 @@ gave_more o o2 o3 f f2 f3 g one =
       frames = frames_add f.role (length f.waiting) g.gone g.places g.bytes s.piece body (length f3.waiting) g.frames frame place;
       within = (λ w. subst (AreWithin (length f3.waiting)) (sym one.2) (within_add (length f3.waiting) (length f3.waiting) o2.ends (within_more (length f2.waiting) (length f3.waiting) o2.ends (omega (arith, long)) (g.within w)) some (omega arith)));
       sent = ap (λ (v : FramesView). v.sent) s.rest ∙ ap (λ (x : List (List ℕ)). x ++ body ∷ []) g.sent ∙ append_assoc f.sent g.gone (body ∷ []);
-      came = ap (λ (v : FramesView). v.came) s.rest ∙ g.came;
-      last = ap (λ (v : FramesView). v.last) s.rest ∙ g.last;
-      role = ap (λ (v : FramesView). v.role) s.rest ∙ g.role;
-      reads = ap (λ (v : FramesView). v.reads) s.rest ∙ g.reads;
+      kept = kept_more f f2 f3 (f2.waiting ++ s.piece) (f2.sent ++ body ∷ []) g.kept s.rest;
     }
 
--- nothing was sent, and only the count of refusals may differ
-pub gave_same : (o o2 o3 : OutletView) (f f2 f3 : FramesView) (n : ℕ) → Gave o o2 f f2 → o3 ≡ o2 → f3 ≡ record f2 { refusals = n } → Gave o o3 f f3
-gave_same o o2 o3 f f2 f3 n g e s = record {
+-- nothing was sent
+pub gave_same : (o o2 o3 : OutletView) (f f2 f3 : FramesView) → Gave o o2 f f2 → o3 ≡ o2 → f3 ≡ f2 → Gave o o3 f f3
+gave_same o o2 o3 f f2 f3 g e s = record {
   gone = g.gone;
   places = g.places;
   bytes = g.bytes;
@@ -186,10 +190,7 @@ gave_same o o2 o3 f f2 f3 n g e s = record {
   frames = g.frames;
   within = (λ h. subst (λ (v : OutletView). AreWithin (length f3.waiting) v.ends) (sym e) (subst (λ (x : List ℕ). AreWithin (length x) o2.ends) (sym (ap (λ (v : FramesView). v.waiting) s)) (g.within h)));
   sent = ap (λ (v : FramesView). v.sent) s ∙ g.sent;
-  came = ap (λ (v : FramesView). v.came) s ∙ g.came;
-  last = ap (λ (v : FramesView). v.last) s ∙ g.last;
-  role = ap (λ (v : FramesView). v.role) s ∙ g.role;
-  reads = ap (λ (v : FramesView). v.reads) s ∙ g.reads;
+  kept = subst (λ (v : FramesView). v ≡ record f { waiting = v.waiting; sent = v.sent }) (sym s) g.kept;
 }
 
 -- ---- writing

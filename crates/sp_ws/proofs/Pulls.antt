@@ -11,10 +11,10 @@ use Rattle.sp_base.specs.Views.{LinkView}
 use Rattle.sp_base.specs.Steps.{Came, Quiet}
 use Rattle.sp_msg.specs.declared.wire.WireIn.{WireIn}
 use Rattle.sp_msg.specs.declared.wire.WireIn.TheVariants as ins
-use Rattle.sp_ws.specs.Views.{FramesView}
+use Rattle.sp_ws.specs.Views.{FramesView, all_fed, IsFed}
 use Rattle.sp_ws.specs.Links.{ReadCounts}
 use Rattle.sp_ws.specs.Frames.{IsPassed, Names, came_with, AfterNext}
-use Rattle.sp_ws.specs.Pulls.{IsIdle, PullAnswer, PullGoing, GoesOn, ReadOn, ReadLast, PullReads, PulledFrom, IsTaken}
+use Rattle.sp_ws.specs.Pulls.{IsIdle, PullAnswer, PullGoing, GoesOn, ReadOn, ReadLast, PullReads, WasFed, PulledFrom, IsTaken}
 use Rattle.sp_ws.specs.declared.frames.FrameIn.{FrameIn}
 use Rattle.sp_ws.specs.declared.frames.FrameIn.TheVariants as frames
 use Rattle.sp_ws.proofs.Outlets.{grown-grown, grown-nil}
@@ -43,10 +43,10 @@ came_more p q l m n a b = record {
 pub came_quiet : (p : List ℕ) (l m n : LinkView) → Came p l m → Quiet m n → Came p l n
 came_quiet p l m n a b = record { place = b.place ∙ a.place; scheme = b.scheme ∙ a.scheme; came = b.came ∙ a.came; written = b.written ∙ a.written; is_open = b.is_open ∙ a.is_open }
 
-pub going_start : (f : FramesView) (l : LinkView) → PullGoing f f l l
+abbrev pub going_start : (f : FramesView) (l : LinkView) → PullGoing f f l l
 going_start f l = record { piece = []; came = came_none l; counts = counts_refl l; replies = []; waiting = sym (append-nil f.waiting); sent = refl; refusals = refl; role = refl }
 
-pub going_next : (answer : FrameIn) (f f2 f3 : FramesView) (l m : LinkView) → PullGoing f f2 l m → AfterNext answer f2 f3 → PullGoing f f3 l m
+abbrev pub going_next : (answer : FrameIn) (f f2 f3 : FramesView) (l m : LinkView) → PullGoing f f2 l m → AfterNext answer f2 f3 → PullGoing f f3 l m
 going_next answer f f2 f3 l m g a = record {
   piece = g.piece;
   came = g.came;
@@ -58,7 +58,7 @@ going_next answer f f2 f3 l m g a = record {
   role = a.role ∙ g.role;
 }
 
-pub going_read : (piece : List ℕ) (f f2 f3 : FramesView) (l m n : LinkView) → PullGoing f f2 l m → Came piece m n → f3 ≡ record f2 { fed = f2.fed ++ piece } → ReadCounts m n → PullGoing f f3 l n
+abbrev pub going_read : (piece : List ℕ) (f f2 f3 : FramesView) (l m n : LinkView) → PullGoing f f2 l m → Came piece m n → f3 ≡ record f2 { fed = f2.fed ++ piece } → ReadCounts m n → PullGoing f f3 l n
 going_read piece f f2 f3 l m n g c e counts = record {
   piece = g.piece ++ piece;
   came = came_more g.piece piece l m n g.came c;
@@ -71,7 +71,7 @@ going_read piece f f2 f3 l m n g c e counts = record {
 }
 
 -- bytes came that could not be fed
-pub going_lost : (piece : List ℕ) (f f2 f3 : FramesView) (l m n : LinkView) → PullGoing f f2 l m → Came piece m n → f3 ≡ f2 → ReadCounts m n → PullGoing f f3 l n
+abbrev pub going_lost : (piece : List ℕ) (f f2 f3 : FramesView) (l m n : LinkView) → PullGoing f f2 l m → Came piece m n → f3 ≡ f2 → ReadCounts m n → PullGoing f f3 l n
 going_lost piece f f2 f3 l m n g c e counts = record {
   piece = g.piece ++ piece;
   came = came_more g.piece piece l m n g.came c;
@@ -83,7 +83,7 @@ going_lost piece f f2 f3 l m n g c e counts = record {
   role = ap (λ (v : FramesView). v.role) e ∙ g.role;
 }
 
-pub going_quiet : (f f2 f3 : FramesView) (l m n : LinkView) → PullGoing f f2 l m → f3 ≡ f2 → Quiet m n → ReadCounts m n → PullGoing f f3 l n
+abbrev pub going_quiet : (f f2 f3 : FramesView) (l m n : LinkView) → PullGoing f f2 l m → f3 ≡ f2 → Quiet m n → ReadCounts m n → PullGoing f f3 l n
 going_quiet f f2 f3 l m n g e q counts = record {
   piece = g.piece;
   came = came_quiet g.piece l m n g.came q;
@@ -94,6 +94,28 @@ going_quiet f f2 f3 l m n g e q counts = record {
   refusals = ap (λ (v : FramesView). v.refusals) e ∙ g.refusals;
   role = ap (λ (v : FramesView). v.role) e ∙ g.role;
 }
+
+-- ---- what was fed
+
+pub fed_start : (f : FramesView) → IsFed [] f f
+fed_start f = sym (append-nil (all_fed f))
+
+pub fed_next : (answer : FrameIn) (piece : List ℕ) (f f2 f3 : FramesView) → IsFed piece f f2 → AfterNext answer f2 f3 → IsFed piece f f3
+fed_next answer piece f f2 f3 h a = a.fed ∙ h
+
+pub fed_same : (piece : List ℕ) (f f2 f3 : FramesView) → IsFed piece f f2 → f3 ≡ f2 → IsFed piece f f3
+fed_same piece f f2 f3 h e = ap all_fed e ∙ h
+
+pub fed_more : (piece more : List ℕ) (f f2 f3 : FramesView) → IsFed piece f f2 → f3 ≡ record f2 { fed = f2.fed ++ more } → IsFed (piece ++ more) f f3
+fed_more piece more f f2 f3 h e =
+    ap all_fed e
+    ∙ sym (append_assoc f2.handed f2.fed more)
+    ∙ ap (λ (x : List ℕ). x ++ more) h
+    ∙ append_assoc (all_fed f) piece more
+
+-- where nothing is lost it is so too
+all_of_it : (piece : List ℕ) (f f2 : FramesView) → IsFed piece f f2 → WasFed ins.NoMemory piece f f2
+all_of_it piece f f2 h = (piece, [], sym (append-nil piece), h)
 
 -- ---- what was read
 
@@ -178,6 +200,16 @@ body_reads max ins.Failed lost body f f2 f3 g c a t = absurd t
 body_reads max ins.Refused lost body f f2 f3 g c a t = absurd t
 body_reads max ins.NoMemory lost body f f2 f3 g c a t = read_more (frames.Binary body) f f2 f3 g a
 
+-- what was fed in a pull that gave a body
+body_fed : (max : ℕ) (result : WireIn) (lost : Bool) (body piece : List ℕ) (f f2 : FramesView) → IsFed piece f f2 → IsTaken max result lost body → WasFed result piece f f2
+body_fed max (ins.Message m) lost body piece f f2 h t = h
+body_fed max ins.NotYet lost body piece f f2 h t = absurd t
+body_fed max ins.Ended lost body piece f f2 h t = absurd t
+body_fed max ins.Malformed lost body piece f f2 h t = h
+body_fed max ins.Failed lost body piece f f2 h t = absurd t
+body_fed max ins.Refused lost body piece f f2 h t = absurd t
+body_fed max ins.NoMemory lost body piece f f2 h t = all_of_it piece f f2 h
+
 -- ---- a body that came
 
 taken_answer : (max : ℕ) (result : WireIn) (lost : Bool) (came : List (List ℕ)) (f : FramesView) (l m : LinkView) (body : List ℕ) → f.came ≡ came ++ body ∷ [] → IsTaken max result lost body → PullAnswer max result lost came f l m
@@ -189,11 +221,12 @@ taken_answer max ins.Failed lost came f l m body e t = absurd t
 taken_answer max ins.Refused lost came f l m body e t = absurd t
 taken_answer max ins.NoMemory lost came f l m body e t = inr (body, (e, t))
 
-pub pulled_body : (max : ℕ) (result : WireIn) (lost : Bool) (body : List ℕ) (f f2 f3 : FramesView) (l m : LinkView) → PullGoing f f2 l m → ReadOn f f2 → f2.came ≡ f.came → AfterNext (frames.Binary body) f2 f3 → IsTaken max result lost body → PulledFrom max result lost f f3 l m
-pulled_body max result lost body f f2 f3 l m g on c a t = record {
+pub pulled_body : (max : ℕ) (result : WireIn) (lost : Bool) (body : List ℕ) (f f2 f3 : FramesView) (l m : LinkView) (g : PullGoing f f2 l m) → ReadOn f f2 → f2.came ≡ f.came → IsFed g.piece f f2 → AfterNext (frames.Binary body) f2 f3 → IsTaken max result lost body → PulledFrom max result lost f f3 l m
+pulled_body max result lost body f f2 f3 l m g on c h a t = record {
   going = going_next (frames.Binary body) f f2 f3 l m g a;
   answer = taken_answer max result lost f.came f3 l m body (a.came ∙ ap (λ (x : List (List ℕ)). x ++ body ∷ []) c) t;
   reads = body_reads max result lost body f f2 f3 on c a t;
+  fed = body_fed max result lost body g.piece f f3 (fed_next (frames.Binary body) g.piece f f2 f3 h a) t;
 }
 
 -- the frames are idle still
@@ -214,25 +247,28 @@ not_broken e = cc e
 not_closed : frames.Closed ≡ frames.NoMemory → ⊥
 not_closed e = cc e
 
-pub pulled_text : (max : ℕ) (f f2 f3 : FramesView) (l m : LinkView) → PullGoing f f2 l m → ReadOn f f2 → f2.came ≡ f.came → AfterNext frames.Text f2 f3 → PulledFrom max ins.Malformed false f f3 l m
-pulled_text max f f2 f3 l m g on c a = record {
+pub pulled_text : (max : ℕ) (f f2 f3 : FramesView) (l m : LinkView) (g : PullGoing f f2 l m) → ReadOn f f2 → f2.came ≡ f.came → IsFed g.piece f f2 → AfterNext frames.Text f2 f3 → PulledFrom max ins.Malformed false f f3 l m
+pulled_text max f f2 f3 l m g on c h a = record {
   going = going_next frames.Text f f2 f3 l m g a;
   answer = inl ((came_none_of frames.Text f f2 f3 refl c a, refl), inl a.last);
   reads = read_last frames.Text f f2 f3 on c a not_text;
+  fed = fed_next frames.Text g.piece f f2 f3 h a;
 }
 
-pub pulled_broken : (max : ℕ) (f f2 f3 : FramesView) (l m : LinkView) → PullGoing f f2 l m → ReadOn f f2 → f2.came ≡ f.came → AfterNext frames.Broken f2 f3 → PulledFrom max ins.Malformed false f f3 l m
-pulled_broken max f f2 f3 l m g on c a = record {
+pub pulled_broken : (max : ℕ) (f f2 f3 : FramesView) (l m : LinkView) (g : PullGoing f f2 l m) → ReadOn f f2 → f2.came ≡ f.came → IsFed g.piece f f2 → AfterNext frames.Broken f2 f3 → PulledFrom max ins.Malformed false f f3 l m
+pulled_broken max f f2 f3 l m g on c h a = record {
   going = going_next frames.Broken f f2 f3 l m g a;
   answer = inl ((came_none_of frames.Broken f f2 f3 refl c a, refl), inr a.last);
   reads = read_last frames.Broken f f2 f3 on c a not_broken;
+  fed = fed_next frames.Broken g.piece f f2 f3 h a;
 }
 
-pub pulled_closed : (max : ℕ) (f f2 f3 : FramesView) (l m : LinkView) → PullGoing f f2 l m → ReadOn f f2 → f2.came ≡ f.came → AfterNext frames.Closed f2 f3 → PulledFrom max ins.Ended false f f3 l m
-pulled_closed max f f2 f3 l m g on c a = record {
+pub pulled_closed : (max : ℕ) (f f2 f3 : FramesView) (l m : LinkView) (g : PullGoing f f2 l m) → ReadOn f f2 → f2.came ≡ f.came → IsFed g.piece f f2 → AfterNext frames.Closed f2 f3 → PulledFrom max ins.Ended false f f3 l m
+pulled_closed max f f2 f3 l m g on c h a = record {
   going = going_next frames.Closed f f2 f3 l m g a;
   answer = ((came_none_of frames.Closed f f2 f3 refl c a, refl), inl a.last);
   reads = read_last frames.Closed f f2 f3 on c a not_closed;
+  fed = fed_next frames.Closed g.piece f f2 f3 h a;
 }
 
 idle_last : (f f2 f3 f4 : FramesView) → ReadOn f f2 → f2.came ≡ f.came → AfterNext frames.Idle f2 f3 → f4 ≡ f3 → ReadLast f f4
@@ -241,23 +277,49 @@ idle_last f f2 f3 f4 on c a e = subst (λ (v : FramesView). ReadLast f v) (sym e
 idle_came : (f f2 f3 f4 : FramesView) → f2.came ≡ f.came → AfterNext frames.Idle f2 f3 → f4 ≡ f3 → f4.came ≡ f.came
 idle_came f f2 f3 f4 c a e = ap (λ (v : FramesView). v.came) e ∙ came_none_of frames.Idle f f2 f3 refl c a
 
-pub pulled_not_yet : (max : ℕ) (f f2 f3 f4 : FramesView) (l m n : LinkView) → PullGoing f f2 l m → ReadOn f f2 → f2.came ≡ f.came → AfterNext frames.Idle f2 f3 → f4 ≡ f3 → Quiet m n → ReadCounts m n → Rose m.idles n.idles → PulledFrom max ins.NotYet false f f4 l n
-pulled_not_yet max f f2 f3 f4 l m n g on c a e q counts rose = record {
+pub pulled_not_yet : (max : ℕ) (f f2 f3 f4 : FramesView) (l m n : LinkView) (g : PullGoing f f2 l m) → ReadOn f f2 → f2.came ≡ f.came → IsFed g.piece f f2 → AfterNext frames.Idle f2 f3 → f4 ≡ f3 → Quiet m n → ReadCounts m n → Rose m.idles n.idles → PulledFrom max ins.NotYet false f f4 l n
+pulled_not_yet max f f2 f3 f4 l m n g on c h a e q counts rose = record {
   going = going_quiet f f3 f4 l m n (going_next frames.Idle f f2 f3 l m g a) e q counts;
   answer = ((idle_came f f2 f3 f4 c a e, refl), idle_still f2 f3 a f4 e, rose_later l.idles m.idles n.idles g.counts.idles rose);
   reads = idle_last f f2 f3 f4 on c a e;
+  fed = fed_same g.piece f f3 f4 (fed_next frames.Idle g.piece f f2 f3 h a) e;
 }
 
-pub pulled_ended : (max : ℕ) (f f2 f3 f4 : FramesView) (l m n : LinkView) → PullGoing f f2 l m → ReadOn f f2 → f2.came ≡ f.came → AfterNext frames.Idle f2 f3 → f4 ≡ f3 → Quiet m n → ReadCounts m n → n.ended ≡ true → PulledFrom max ins.Ended false f f4 l n
-pulled_ended max f f2 f3 f4 l m n g on c a e q counts ended = record {
+pub pulled_ended : (max : ℕ) (f f2 f3 f4 : FramesView) (l m n : LinkView) (g : PullGoing f f2 l m) → ReadOn f f2 → f2.came ≡ f.came → IsFed g.piece f f2 → AfterNext frames.Idle f2 f3 → f4 ≡ f3 → Quiet m n → ReadCounts m n → n.ended ≡ true → PulledFrom max ins.Ended false f f4 l n
+pulled_ended max f f2 f3 f4 l m n g on c h a e q counts ended = record {
   going = going_quiet f f3 f4 l m n (going_next frames.Idle f f2 f3 l m g a) e q counts;
   answer = ((idle_came f f2 f3 f4 c a e, refl), inr (ended, idle_still f2 f3 a f4 e));
   reads = idle_last f f2 f3 f4 on c a e;
+  fed = fed_same g.piece f f3 f4 (fed_next frames.Idle g.piece f f2 f3 h a) e;
 }
 
-pub pulled_failed : (max : ℕ) (f f2 f3 f4 : FramesView) (l m n : LinkView) → PullGoing f f2 l m → ReadOn f f2 → f2.came ≡ f.came → AfterNext frames.Idle f2 f3 → f4 ≡ f3 → Quiet m n → ReadCounts m n → Rose m.faults n.faults → PulledFrom max ins.Failed false f f4 l n
-pulled_failed max f f2 f3 f4 l m n g on c a e q counts rose = record {
+pub pulled_failed : (max : ℕ) (f f2 f3 f4 : FramesView) (l m n : LinkView) (g : PullGoing f f2 l m) → ReadOn f f2 → f2.came ≡ f.came → IsFed g.piece f f2 → AfterNext frames.Idle f2 f3 → f4 ≡ f3 → Quiet m n → ReadCounts m n → Rose m.faults n.faults → PulledFrom max ins.Failed false f f4 l n
+pulled_failed max f f2 f3 f4 l m n g on c h a e q counts rose = record {
   going = going_quiet f f3 f4 l m n (going_next frames.Idle f f2 f3 l m g a) e q counts;
   answer = ((idle_came f f2 f3 f4 c a e, refl), idle_still f2 f3 a f4 e, rose_later l.faults m.faults n.faults g.counts.faults rose);
   reads = idle_last f f2 f3 f4 on c a e;
+  fed = fed_same g.piece f f3 f4 (fed_next frames.Idle g.piece f f2 f3 h a) e;
 }
+
+-- ---- pulls that are out of memory
+
+-- what the link gave last could not be fed
+pub pulled_unfed : (max : ℕ) (piece : List ℕ) (f f2 f3 f4 : FramesView) (l m n : LinkView) (g : PullGoing f f2 l m) → ReadOn f f2 → f2.came ≡ f.came → IsFed g.piece f f2 → AfterNext frames.Idle f2 f3 → f4 ≡ f3 → Came piece m n → ReadCounts m n → PulledFrom max ins.NoMemory false f f4 l n
+pulled_unfed max piece f f2 f3 f4 l m n g on c h a e came counts = record {
+  going = going_lost piece f f3 f4 l m n (going_next frames.Idle f f2 f3 l m g a) came e counts;
+  answer = inl (idle_came f f2 f3 f4 c a e, refl);
+  reads = more_same f f3 f4 (read_more frames.Idle f f2 f3 on a) e;
+  fed = (g.piece, piece, refl, fed_same g.piece f f3 f4 (fed_next frames.Idle g.piece f f2 f3 h a) e);
+}
+
+pub pulled_short : (max : ℕ) (f f2 f3 : FramesView) (l m : LinkView) (g : PullGoing f f2 l m) → ReadOn f f2 → f2.came ≡ f.came → IsFed g.piece f f2 → AfterNext frames.NoMemory f2 f3 → PulledFrom max ins.NoMemory false f f3 l m
+pulled_short max f f2 f3 l m g on c h a = record {
+  going = going_next frames.NoMemory f f2 f3 l m g a;
+  answer = inl (came_none_of frames.NoMemory f f2 f3 refl c a, refl);
+  reads = read_more frames.NoMemory f f2 f3 on a;
+  fed = all_of_it g.piece f f3 (fed_next frames.NoMemory g.piece f f2 f3 h a);
+}
+
+-- it went on for too long
+pub pulled_long : (max : ℕ) (f f2 : FramesView) (l m : LinkView) (g : PullGoing f f2 l m) → ReadOn f f2 → f2.came ≡ f.came → IsFed g.piece f f2 → PulledFrom max ins.NoMemory false f f2 l m
+pulled_long max f f2 l m g on c h = record { going = g; answer = inl (c, refl); reads = (on.before, on.reads); fed = all_of_it g.piece f f2 h }

@@ -114,7 +114,7 @@ pulled result lost t l f h o p =
     record {
       holds = h2;
       after = after_pull result (wire_name t.link t.max t.spent) (wire_name l t.max t.spent) (Some (came_in t.lost t.frames.came)) (Some (came_in lost f.came)) (Some (t.frames.sent ++ t.outlet.held)) (Some (f.sent ++ t.outlet.held)) (count_of t.outlet) (count_of t.outlet) false t.marks (bare_of result t.max lost t.frames.came f t.link l p.answer) (name_at t l g.came.place g.came.scheme) came outs refl;
-      ws = record { cause = pull_cause result lost t l f p.answer; piece = g.piece; came = g.came; counts = g.counts; replies = g.replies; waiting = g.waiting; sent = g.sent; outlet = refl; max = refl; reads = p.reads; role = g.role };
+      ws = record { cause = pull_cause result lost t l f p.answer; piece = g.piece; came = g.came; fed = p.fed; counts = g.counts; replies = g.replies; waiting = g.waiting; sent = g.sent; outlet = refl; max = refl; reads = p.reads; role = g.role };
       is_tied = tied (pulled_state result lost t l f) h2;
     }
 
@@ -141,7 +141,7 @@ kept result t l f o h p =
           ∙ ap (λ (x : List (List ℕ)). Some x) (append_assoc t.frames.sent g.gone o.held)
           ∙ ap (λ (x : List (List ℕ)). Some (t.frames.sent ++ (g.gone ++ x))) w.held
           ∙ ap (λ (x : List (List ℕ)). Some (t.frames.sent ++ x)) (sym g.held);
-      came = ap (λ (v : FramesView). v.came) w.frames ∙ g.came;
+      came = ap (λ (v : FramesView). v.came) w.frames ∙ ap (λ (v : FramesView). v.came) g.kept;
       within = wrote_within p.mid o p.framed f t.link l w (g.within h.within);
     }
 
@@ -149,6 +149,7 @@ ws_wrote : (result : WireFlush) (t : WsState) (l : LinkView) (f : FramesView) (o
 ws_wrote result t l f o k p =
     let g = p.gave in
     let w = p.wrote in
+    let same : p.framed.sent ≡ f.sent = sym (ap (λ (v : FramesView). v.sent) w.frames) in
     record {
       gone = g.gone;
       places = g.places;
@@ -161,10 +162,8 @@ ws_wrote result t l f o k p =
       waiting = sym g.waiting ∙ w.waiting;
       went = w.went;
       counts = w.counts;
-      came = ap (λ (v : FramesView). v.came) w.frames ∙ g.came;
+      kept = w.frames ∙ ap (λ (v : FramesView). record v { waiting = f.waiting }) g.kept ∙ (λ i. record t.frames { waiting = f.waiting; sent = same i });
       max = refl;
-      reads = ap (λ (v : FramesView). v.reads) w.frames ∙ g.reads;
-      role = ap (λ (v : FramesView). v.role) w.frames ∙ g.role;
     }
 
 write_holds : (t : WsState) (l : LinkView) (f : FramesView) (o : OutletView) (k : WireMarks) → Holds t → Kept t l f o → (k.is_ready ≡ true → count_of o < 16) → WriteCounts t.link l → MarksHold t.max l f t.lost k → Holds (with_write t l f o k)

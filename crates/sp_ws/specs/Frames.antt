@@ -16,7 +16,7 @@ use Rattle.websocket.specs.declared.protocol.frame.coding.Data.TheVariants as da
 use Rattle.websocket.specs.Frame.{encode_frame}
 use Rattle.websocket.specs.Connection.{whole_header, IsMaskOf}
 use Rattle.websocket.specs.declared.protocol.config.Role.{Role}
-use Rattle.sp_ws.specs.Views.{FramesView}
+use Rattle.sp_ws.specs.Views.{FramesView, all_fed}
 use Rattle.sp_ws.specs.declared.frames.FrameIn.{FrameIn}
 use Rattle.sp_ws.specs.declared.frames.FrameIn.TheVariants as ins
 use Rattle.sp_ws.specs.declared.frames.FrameOut.{FrameOut}
@@ -130,7 +130,7 @@ AllRead ins.Closed new = Unit {0}
 AllRead ins.Broken new = Unit {0}
 AllRead ins.NoMemory new = Unit {0}
 
--- more may wait than before: what the rules of frames answer by themselves
+-- more may wait than before: what the rules of frames answer by themselves; nothing that was fed is lost
 pub record AfterNext (answer : FrameIn) (old new : FramesView) : Type 0 where
   pub replies : List ℕ
   pub waiting : new.waiting ≡ old.waiting ++ replies
@@ -140,6 +140,7 @@ pub record AfterNext (answer : FrameIn) (old new : FramesView) : Type 0 where
   pub refusals : new.refusals ≡ old.refusals
   pub breaks : new.breaks ≡ breaks_with answer old.breaks
   pub read : AllRead answer new
+  pub fed : all_fed new ≡ all_fed old
   pub role : new.role ≡ old.role
   pub reads : ReadsTo answer old.reads new.reads (new.left == 0)
 

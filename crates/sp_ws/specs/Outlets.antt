@@ -38,7 +38,7 @@ GaveFront outs.Done old new f f' = (body : List ℕ) × (old.held ≡ body ∷ n
 GaveFront outs.Refused old new f f' = ⊥
 GaveFront outs.NoMemory old new f f' = (new ≡ old) × (f' ≡ f)
 
--- the texts that are gone from the hand were sent, each once and in order
+-- the texts that are gone from the hand were sent, each once and in order; nothing else of the frames changes
 pub record Gave (old new : OutletView) (f f' : FramesView) : Type 0 where
   pub gone : List (List ℕ)
   pub places : List ℕ
@@ -49,10 +49,7 @@ pub record Gave (old new : OutletView) (f f' : FramesView) : Type 0 where
   pub frames : AreFrames f.role (length f.waiting) gone places bytes
   pub within : AreWithin (length f.waiting) old.ends → AreWithin (length f'.waiting) new.ends
   pub sent : f'.sent ≡ f.sent ++ gone
-  pub came : f'.came ≡ f.came
-  pub last : f'.last ≡ f.last
-  pub role : f'.role ≡ f.role
-  pub reads : f'.reads ≡ f.reads
+  pub kept : f' ≡ record f { waiting = f'.waiting; sent = f'.sent }
 
 abbrev pub GaveAll : FrameOut → OutletView → FramesView → FramesView → Type 0
 GaveAll outs.Done new f f' = (new.held ≡ []) × (f'.refusals ≡ f.refusals)

@@ -1,5 +1,6 @@
 -- What each call does to a socket over memory and what stands beside it.
 use Rattle.std.specs.Prelude.{◌≡◌, ◌≤◌, ◌++◌, ◌⊎◌, ℕ, zero, suc, Bool, true, false, List, [], length, drop, Option, Some, None, ◌==◌, Result, Ok, Err}
+use Rattle.std.specs.List.{concat}
 use Rattle.sp_base.specs.declared.error.NoMemory.{NoMemory}
 use Rattle.tungstenite.specs.declared.error.Error.{Error}
 use Rattle.tungstenite.specs.declared.message.Message.{Message}
@@ -20,13 +21,17 @@ unread_in m = drop m.at m.fed.items
 abbrev pub remaining_in : Memory → Option (List ℕ)
 remaining_in m = Some (unread_in m)
 
+-- what was handed over so far
+abbrev pub handed_in : Stream → List ℕ
+handed_in s = concat s.handed.texts
+
 abbrev pub unread_of : Stream → ℕ
 unread_of s = length (unread_in s.socket.stream)
 
 -- what a socket shows of its stream and of what it counts beside it; it refuses nothing
 abbrev pub frames_view : Stream → List (List ℕ) → List (List ℕ) → Last → ℕ → FramesView
 frames_view s came sent last breaks =
-    record { role = s.role; fed = s.fed.items; left = unread_of s; waiting = s.out.items; came = came; sent = sent; last = last; refusals = 0; breaks = breaks; reads = s.reads.all }
+    record { role = s.role; handed = handed_in s; fed = s.fed.items; left = unread_of s; waiting = s.out.items; came = came; sent = sent; last = last; refusals = 0; breaks = breaks; reads = s.reads.all }
 
 -- messages and frames have at most so many bytes, and a server takes masked frames alone
 abbrev pub HasLimits : ℕ → WebSocketConfig → Type 0
@@ -36,14 +41,14 @@ HasLimits max c = (c.max_message_size ≡ Some max) × (c.max_frame_size ≡ Som
 abbrev pub IsBehind : ℕ → List ℕ → List ℕ → Type 0
 IsBehind n b s = (n ≤ length s) × (drop n s ≡ b)
 
--- what was fed stands behind as many bytes as were not read, and what waits stays
+-- what was fed was handed over: it stands behind as many bytes as were not read; and what waits stays
 abbrev pub Loaded : Bool → Stream → Stream → Type 0
-Loaded true old new = (new.fed.items ≡ []) × IsBehind (unread_of old) old.fed.items (unread_in new.socket.stream) × (new.out ≡ old.out) × (new.role ≡ old.role)
-Loaded false old new = (new.out ≡ old.out) × (new.role ≡ old.role)
+Loaded true old new = (new.fed.items ≡ []) × IsBehind (unread_of old) old.fed.items (unread_in new.socket.stream) × (new.out ≡ old.out) × (new.role ≡ old.role) × (handed_in new ≡ handed_in old ++ old.fed.items)
+Loaded false old new = (new.out ≡ old.out) × (new.role ≡ old.role) × (new.handed ≡ old.handed) × (new.fed ≡ old.fed)
 
 -- what was fed is as it was, and as much isn't read
 abbrev pub KeptUnread : Bool → Stream → Stream → Type 0
-KeptUnread done old new = (new.fed ≡ old.fed) × (new.role ≡ old.role) × (done ≡ true → unread_of new ≡ unread_of old)
+KeptUnread done old new = (new.fed ≡ old.fed) × (new.role ≡ old.role) × (done ≡ true → unread_of new ≡ unread_of old) × (new.handed ≡ old.handed)
 
 -- and more waits than before
 abbrev pub Fetched : Bool → Stream → Stream → Type 0
@@ -88,12 +93,13 @@ pub record NextIs (answer : FrameIn) (old new : Stream) : Type 0 where
   pub waiting : new.out.items ≡ old.out.items ++ replies
   pub idle : IdleWhen answer new
   pub role : new.role ≡ old.role
+  pub fed : handed_in new ++ new.fed.items ≡ handed_in old ++ old.fed.items
 
 -- ---- sending
 
--- what was fed is as it was, and so are the side and what was read
+-- what was fed and handed over is as it was, and so are the side and what was read
 abbrev pub IsBeside : Stream → Stream → Type 0
-IsBeside old new = (new.fed ≡ old.fed) × (new.socket ≡ old.socket) × (new.role ≡ old.role) × (new.reads ≡ old.reads)
+IsBeside old new = (new.fed ≡ old.fed) × (new.socket ≡ old.socket) × (new.role ≡ old.role) × (new.reads ≡ old.reads) × (new.handed ≡ old.handed)
 
 abbrev pub SendIs : Result Unit NoMemory → List ℕ → Stream → Stream → Type 0
 SendIs (Ok _) b old new = IsBeside old new × ((piece : List ℕ) × (new.out.items ≡ old.out.items ++ piece) × IsFrame old.role piece b)

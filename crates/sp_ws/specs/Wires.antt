@@ -18,7 +18,7 @@ use Rattle.sp_ws.specs.Links.{ReadCounts, WriteCounts}
 use Rattle.sp_ws.specs.Outlets.{AreWithin, AreFrames, passed, Written}
 use Rattle.sp_ws.specs.Sides.{role_of}
 use Rattle.sp_ws.specs.declared.side.Side.{Side}
-use Rattle.sp_ws.specs.Pulls.{IsIdle, PullReads}
+use Rattle.sp_ws.specs.Pulls.{IsIdle, PullReads, WasFed}
 use Rattle.sp_ws.specs.declared.frames.Last.TheVariants as lasts
 
 -- the bodies that were pulled: all that came, but for the last one where it was lost
@@ -113,12 +113,13 @@ PullCause ins.Failed old new = IsIdle new.frames × Rose old.link.faults new.lin
 PullCause ins.Refused old new = ⊥
 PullCause ins.NoMemory old new = Unit {0}
 
--- a pull sends nothing and writes nothing; what the rules of frames answer by themselves waits behind the rest; what
--- came is what the crate that frames read
+-- a pull sends nothing and writes nothing; what the link gave was fed; what the rules of frames answer by themselves
+-- waits behind the rest; what came is what the crate that frames read
 pub record WsPulled (result : WireIn) (old new : WsView) : Type 0 where
   pub cause : PullCause result old new
   pub piece : List ℕ
   pub came : Came piece old.link new.link
+  pub fed : WasFed result piece old.frames new.frames
   pub counts : ReadCounts old.link new.link
   pub replies : List ℕ
   pub waiting : new.frames.waiting ≡ old.frames.waiting ++ replies
@@ -128,7 +129,7 @@ pub record WsPulled (result : WireIn) (old new : WsView) : Type 0 where
   pub reads : PullReads result old.frames new.frames
   pub role : new.frames.role ≡ old.frames.role
 
--- room and flush read nothing; what was in hand is sent, each message once, in order and as one frame behind what
+-- room and flush read nothing, and what was fed stays; what was in hand is sent, each message once, in order and as one frame behind what
 -- waited; what the link took is the prefix of what waits then; and of the places of frames those are left that it did
 -- not reach
 pub record WsWrote (old new : WsView) : Type 0 where
@@ -143,10 +144,8 @@ pub record WsWrote (old new : WsView) : Type 0 where
   pub waiting : old.frames.waiting ++ bytes ≡ piece ++ new.frames.waiting
   pub went : Went piece old.link new.link
   pub counts : WriteCounts old.link new.link
-  pub came : new.frames.came ≡ old.frames.came
+  pub kept : new.frames ≡ record old.frames { waiting = new.frames.waiting; sent = new.frames.sent }
   pub max : new.max ≡ old.max
-  pub reads : new.frames.reads ≡ old.frames.reads
-  pub role : new.frames.role ≡ old.frames.role
 
 -- the answer on room, by how the writing ended and how many messages are not wholly written after it
 abbrev pub RoomAfter : WireFlush → ℕ → Room → Type 0

@@ -54,8 +54,9 @@ pub enum Last {
 
 /// Messages of one peer in frames.
 pub trait Frames {
-    /// What was fed and not handed on, how much of what was handed on isn't read, what waits for the link, the bodies
-    /// that came and those that were sent, the last answer, and the counts of answers Refused and Broken.
+    /// What was handed over to the crate that frames, what was fed and isn't handed over, how much of what was handed
+    /// over isn't read, what waits for the link, the bodies that came and those that were sent, the last answer, the
+    /// counts of answers Refused and Broken, and what each read gave.
     ghost seen: { Self → FramesView };
 
     /// Takes bytes that came. Refused only when out of memory, and then nothing changes.

@@ -1,11 +1,12 @@
 //! A `tungstenite` socket over memory, with what goes into it and what came out of it beside.
 ghost use Rattle.std.specs.Prelude.{◌≡◌, ◌≤◌, ◌++◌, ℕ, List, [], length, drop, IsTrue, IfOk, true};
 ghost use Rattle.std.specs.Prelude.{◌∷◌};
-ghost use Rattle.sp_ws.specs.Streams.{remaining_in, unread_of, Fetched, Loaded, ReadTo, IsNamed, Noted, NextIs, SendIs, HasLimits, KeptUnread};
+ghost use Rattle.sp_ws.specs.Streams.{remaining_in, handed_in, unread_of, Fetched, Loaded, ReadTo, IsNamed, Noted, NextIs, SendIs, HasLimits, KeptUnread};
 ghost use Rattle.sp_ws.specs.Frames.{IsFrame, IsCopied, Fails};
 ghost use Rattle.tungstenite.specs.Socket.{Reads};
 
 use crate::frames::FrameIn;
+use crate::log::{Log, Piece};
 use crate::memory::{Keys, Memory};
 use crate::reads::{Given, ReadLog};
 use crate::replies::Replies;
@@ -29,6 +30,8 @@ pub(crate) struct Stream {
     /// What reads.
     pub socket: WebSocket<Memory, Keys>,
     pub fed: Vec<u8>,
+    /// What was handed over to it. It takes no memory.
+    pub handed: Log,
     /// What waits for the link, and the replies among it.
     pub out: Vec<u8>,
     pub replies: Replies,
@@ -115,6 +118,7 @@ impl Stream {
     /// Nothing was fed and nothing waits. Messages and frames have at most `max` bytes.
     pub(crate) fn new(alloc: Global, role: Role, seed: u64, max: u32) -> Stream
         ensures fed { result.fed.items ≡ [] }
+        ensures handed { handed_in result ≡ [] }
         ensures out { result.out.items ≡ [] }
         ensures unread { unread_of result ≡ 0 }
         ensures role { result.role ≡ role }
@@ -138,6 +142,7 @@ impl Stream {
             seed,
             socket: WebSocket::from_raw_socket(alloc, memory, keys, role, Some(config)),
             fed: Vec::new(alloc),
+            handed: Log::none(),
             out: Vec::new(alloc),
             replies: Replies::none(),
             reads: ReadLog::none(),
@@ -158,6 +163,7 @@ impl Stream {
         if !taken || !self.socket.get_ref().has_behind(before, &self.fed) {
             return false;
         }
+        self.handed = self.handed.and(&Piece { bytes: &self.fed });
         self.fed.clear();
         true
     }
@@ -205,6 +211,7 @@ impl Stream {
         ensures read { Reads remaining_in self.old.socket self.new.socket result }
         ensures noted { self.new.reads.all ≡ self.old.reads.all ++ result ∷ [] }
         ensures fed { self.new.fed ≡ self.old.fed }
+        ensures handed { self.new.handed ≡ self.old.handed }
         ensures out { self.new.out ≡ self.old.out }
         ensures role { self.new.role ≡ self.old.role }
     {
@@ -218,6 +225,7 @@ impl Stream {
         ensures read { ReadTo result self.old.socket self.new.socket }
         ensures noted { Noted result self.old self.new }
         ensures fed { self.new.fed ≡ self.old.fed }
+        ensures handed { self.new.handed ≡ self.old.handed }
         ensures out { self.new.out ≡ self.old.out }
         ensures role { self.new.role ≡ self.old.role }
     {
