@@ -16,7 +16,7 @@ use Rattle.sp_base.specs.declared.role.Role.TheVariants as role
 use Rattle.sp_msg.specs.Views.{MessageView}
 use Rattle.sp_history.specs.declared.setting.Setting.{Setting}
 use Rattle.sp_history.specs.declared.entry.Entry.{Entry}
-use Rattle.sp_history.specs.declared.entry.Entry.TheVariants.{Begin, Down, Frame, Ctx, Tick, Close}
+use Rattle.sp_history.specs.declared.entry.Entry.TheVariants.{Begin, Down, Frame, Unkept, Ctx, Tick, Close}
 use Rattle.sp_history.specs.declared.entry.Gate.TheVariants.{Shut}
 use Rattle.sp_history.specs.declared.entry.Act.{Act}
 use Rattle.sp_history.specs.declared.entry.Act.TheVariants.{Recv, Send}
@@ -63,7 +63,10 @@ use Rattle.sp_base.specs.Roles.{has_contexts as role_has_contexts}
 use Rattle.sp_history.specs.Setting.{has_contexts}
 use Rattle.std.specs.Prelude.{zero, suc, ◌%◌, ◌-◌}
 use Rattle.std.proofs.Math.Nat.{mod-add-mod}
-use Rattle.proto_reqrep.specs.Reqs.{Keeps, live_id, number_after, free_number, keeps_reply, is_given, raw_item, Asks}
+use Rattle.sp_proto.specs.Machines.{Frames}
+use Rattle.sp_proto.specs.declared.Verdict.{Verdict}
+use Rattle.sp_proto.specs.declared.Verdict.TheVariants as verdict
+use Rattle.proto_reqrep.specs.Reqs.{Keeps, live_id, number_after, free_number, keeps_reply, is_given, raw_item, Asks, KeepsRaw}
 use Rattle.sp_proto.specs.Kinds.{verb_of, kind_of}
 use Rattle.sp_proto.specs.declared.Verb.{Verb}
 use Rattle.sp_proto.specs.declared.Verb.TheVariants as verbs
@@ -269,6 +272,17 @@ raw_frame m t p b ks r h f e = e ∙ ap (λ (is : List Item). is ++ raw_item p b
 pub raw_short : (m : Machine) (t : Moment) (p : ℕ) (b : List ℕ) → m.raw ≡ true → Ties m t → malformed t.z (past t) p b ≡ true → map item_of m.kept.items ≡ pool t.z (Frame p b ∷ past t) 0
 raw_short m t p b r h e = h.2 r ∙ sym (ap (λ q. cond (not q && cond (has_topics t.z) (has (ctxs (past t)) 0 && is_wanted_by (topics (past t) 0) b) (0 == 0)) (add_for t.z.role t.z (item_in t.z p b) (pool t.z (past t) 0)) (pool t.z (past t) 0)) e)
 
+-- raw, what it stands for after a frame
+pub raw_frames : (m n : Machine) (t : Moment) (p : ℕ) (b : List ℕ) (v : Verdict) → m.raw ≡ true → Ties m t → n ≡ record m { kept = n.kept } → KeepsRaw v p b m.kept.items n.kept.items → Frames (Ties n) v t p b
+raw_frames m n t p b verdict.Fine r h s k =
+    (long_frame m t p b h k.0, subst (λ (y : Machine). Ties y (also t (Frame p b))) (sym s) (h.0, h.1, λ q. raw_frame m t p b n.kept.items r h k.0 k.1, raw_asked m t (Frame p b ∷ past t) r h, h.4))
+raw_frames m n t p b verdict.Malformed r h s k =
+    let bad = short_frame m t p b h k.0 in
+    (bad, subst (λ (y : Machine). Ties y (also t (Frame p b))) (sym s) (h.0, h.1, λ q. ap (map item_of) k.1 ∙ raw_short m t p b r h bad, raw_asked m t (Frame p b ∷ past t) r h, h.4))
+raw_frames m n t p b verdict.NoMemory r h s k =
+    (long_frame m t p b h k.0, subst (λ (y : Machine). Ties y (also (also t (Frame p b)) (Unkept p))) (sym s) (h.0, h.1, λ q. ap (map item_of) k.1 ∙ h.2 r, raw_asked m t (Unkept p ∷ Frame p b ∷ past t) r h, h.4))
+raw_frames m n t p b (verdict.Dry c) r h s k = absurd k
+
 -- ---- A tick, and the close
 
 pub ticked_asked : (m : Machine) (t : Moment) (n : ℕ) (due : List OpName) → Ties m t → Asked m.raw m.live.items m.last_id m.waiting.items (pend (past t)) (requests t.z (Tick n due ∷ past t))
@@ -328,6 +342,14 @@ wants_all m t p b h f g = go m.raw refl
     go true r =
         f r ∙ ap not (sym (from_same m.kept.items)) ∙ ap (has_none_of p) (h.2 r ∙ sym (kept_raw t.z (past t) 0 (is_req_role m t h) (is_raw m t h ∙ r))) ∙ raw_is t.z (is_req_role m t h) (is_raw m t h ∙ r)
     go false r = g r ∙ cooked_is t.z (is_req_role m t h) (is_raw m t h ∙ r)
+
+-- none of the pipe is kept when a frame of it comes
+pub none_kept : (m : Machine) (t : Moment) (p : ℕ) (b : List ℕ) → Lawful (also t (Frame p b)) → Ties m t → m.raw ≡ true → list_any (λ (k : Kept). k.pipe == p) m.kept.items ≡ false
+none_kept m t p b l h r = no _ (wants_all m t p _ h (λ e. refl) (λ e. let bad : true ≡ false = sym r ∙ e in absurd cc) ∙ l.turn.0.itself.1)
+  where
+    no : (b : Bool) → not b ≡ true → b ≡ false
+    no true e = absurd cc
+    no false e = refl
 
 -- a message is there for the context
 pub given_is : (m : Machine) (t : Moment) (c : ℕ) → Ties m t → is_given m.raw m.kept.items m.live.items c ≡ not (is_nil (kept t.z (past t) c))

@@ -1,6 +1,7 @@
 -- A rep stands for its history after a frame.
 use Rattle.std.proofs.Common.{◌≡◌, refl, ap, sym, ◌∙◌, List, [], ◌∷◌, ◌++◌, ℕ, Bool, true, false, cond, arith, Option, Some, length, map, ◌≤◌}
 use Rattle.std.specs.Prelude.{not, ◌&&◌, ◌==◌, Result, Ok, Err}
+use Rattle.std.specs.List.{list_any}
 use Rattle.std.proofs.lemmas.List.{map-append}
 use Rattle.sp_base.specs.declared.role.Role.{Role}
 use Rattle.sp_msg.specs.Views.{MessageView}
@@ -19,14 +20,14 @@ use Rattle.sp_history.specs.Backtrace.{back, is_short}
 use Rattle.sp_history.specs.Frames.{malformed, malformed_for, traced_item, item_for, item_of as item_in}
 use Rattle.sp_history.specs.Past.{ctxs, topics}
 use Rattle.sp_history.specs.Kept.{pool, takes, is_wanted_by, add_item, add_for}
-use Rattle.sp_history.specs.Moments.{Moment, past, also}
+use Rattle.sp_history.specs.Moments.{Moment, Lawful, past, also}
 use Rattle.sp_proto.specs.Kinds.{Kind, text_of}
 use Rattle.proto_reqrep.specs.declared.rep.Reply.{Reply}
 use Rattle.proto_reqrep.specs.declared.rep.Kept.{Kept}
 use Rattle.proto_reqrep.specs.declared.trail.Trail.TheVariants as trails
 use Rattle.proto_reqrep.specs.Trails.{trail_of}
 use Rattle.proto_reqrep.specs.Reps.{Ties, item_of}
-use Rattle.proto_reqrep.proofs.Replied.{is_rep, is_raw}
+use Rattle.proto_reqrep.proofs.Replied.{is_rep, is_raw, wants_means}
 use Rattle.proto_reqrep.specs.Reps.{role_of}
 use Rattle.proto_reqrep.specs.declared.rep.ReplyRole.{ReplyRole}
 use Rattle.proto_reqrep.specs.declared.rep.ReplyRole.TheVariants as sides
@@ -70,6 +71,14 @@ pool_frame y z before p b h k =
     added : (y : ReplyRole) → add_for (role_of y) z (item_in z p b) (pool z before 0) ≡ add_item (item_in z p b) (pool z before 0)
     added sides.Rep = refl
     added sides.Respondent = refl
+
+-- none of the pipe is kept when a frame of it comes
+pub none_kept : (m : Reply) (t : Moment) (p : ℕ) (b : List ℕ) → Lawful (also t (Frame p b)) → Ties m t → list_any (λ (k : Kept). k.pipe == p) m.kept.items ≡ false
+none_kept m t p b l h = no _ (wants_means m.role t.z (past t) p m.kept.items (is_rep m t h) h.items ∙ l.turn.0.itself.1)
+  where
+    no : (b : Bool) → not b ≡ true → b ≡ false
+    no true e = absurd cc
+    no false e = refl
 
 module _ (m n : Reply) (t : Moment) (p : ℕ) (b x : List ℕ) (k : Kept) where
   pub frame_kept : Ties m t → x ≡ b → trails.Whole ≡ trail_of (back m.options.ttl x) → ((words rest : List ℕ) → back m.options.ttl b ≡ Found words rest → Some (item_of k) ≡ traced_item m.raw p (Found words rest))

@@ -1,4 +1,5 @@
 pub mod Prefixes
+pub mod Backlogged
 pub mod Places
 pub mod Rising
 pub mod Piping

@@ -6,7 +6,7 @@ use Rattle.std.specs.List.Sorted.{IsPartitionedBy}
 use Rattle.std.specs.Option.{option_map}
 use Rattle.std.proofs.lemmas.Bool.Decides.{nat_tests}
 use Rattle.proto_reqrep.specs.declared.ports.Held.{Held}
-use Rattle.proto_reqrep.specs.Ports.{Port, port_in, marked, cleared, is_pipe, is_held, is_under, is_below, is_free, is_free_behind, is_free_from, is_full_in, unmarked, marked_in, number, begin_at, reached, AreAbove, IsRising, AreUpTo, AreFull, AreKnown}
+use Rattle.proto_reqrep.specs.Ports.{Port, port_in, marked, cleared, is_pipe, is_held, is_under, is_below, is_free, is_free_behind, is_free_from, unmarked, marked_in, number, begin_at, reached, AreAbove, IsRising, AreUpTo, AreFull, AreKnown}
 use Rattle.proto_reqrep.specs.Reqs.{with_found, without_found}
 
 equal_of : (m n : ℕ) → (m == n) ≡ true → m ≡ n

@@ -1,7 +1,7 @@
 -- A req stands for its history after an operation was won, or a request went out again.
 use Rattle.std.proofs.Common.{◌≡◌, refl, ap, sym, ◌∙◌, subst, List, ◌∷◌, ◌++◌, ℕ, ◌<◌, Bool, true, false, arith, Option, Some, None, map, length}
 use Rattle.std.specs.Prelude.{Vec, find, drop, not, is_some, nat_le, ◌+◌, ◌*◌, ◌&&◌, ◌||◌, ◌==◌}
-use Rattle.std.specs.declared.collections.VecDeque.{VecDeque}
+use Rattle.proto_reqrep.specs.Backlogs.{BacklogView}
 use Rattle.std.specs.List.{list_any}
 use Rattle.std.specs.Option.{option_map}
 use Rattle.std.specs.declared.alloc.Global.{Global}
@@ -95,7 +95,7 @@ module _ (m n : Machine) (ws : Vec Asking Global) (t : Moment) (op : OpName) (s 
       go true q =
           let k = raw q in
           let live = ap (λ (v : Vec Live Global). v.items) k.1 in
-          let ties : Ties is (also (also t (Out p b)) (End op (Won Sent))) = (set_on pipe h.0, h.1, λ v. ap (λ (y : VecDeque Kept Global). map item_of y.items) kept ∙ h.2 v, asked_live live (asked_ops e (sent_raw m t op p s b w x h g f some q)), opened_live live h.4) in
+          let ties : Ties is (also (also t (Out p b)) (End op (Won Sent))) = (set_on pipe h.0, h.1, λ v. ap (λ (y : BacklogView Kept). map item_of y.items) kept ∙ h.2 v, asked_live live (asked_ops e (sent_raw m t op p s b w x h g f some q)), opened_live live h.4) in
           let ops = fewer_ops (is_asked op) m.waiting.items ws.items w f e in
           let less : work_left is < work_left m = rw k.1 (less_waiting _ _ _ _ _ _ _ (omega arith) (omega arith) ops) in (
             ap wire_text k.0 ∙ sent_raw_bytes m t op p s b w x h g f some q,

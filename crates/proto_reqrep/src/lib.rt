@@ -11,6 +11,7 @@
 //! context. Raw, the pipe and the words of the backtrace stand in the header.
 #![tactic(auto)]
 
+mod backlog;
 mod ports;
 mod rep;
 mod req;

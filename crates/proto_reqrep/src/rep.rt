@@ -15,6 +15,7 @@ ghost use Rattle.proto_reqrep.specs.declared.rep.Waiting.{Waiting as WaitingType
 ghost use Rattle.proto_reqrep.specs.declared.rep.Answer.{Answer as AnswerType};
 ghost use Rattle.proto_reqrep.specs.Reps.{Ties, reply_kind, role_of, item_of, origin_of, origin_at, is_for, is_home, is_receive, is_ready, way_of, out_text, without_first, ctx_of, send_offer, Gives, act_of, state_at};
 
+use crate::backlog::{Backlog, FromPipe};
 use crate::ports::{Ports, Way};
 use crate::trail::{Trail, Words, first_word, scan};
 use sp_base::{Ctx, NoMemory, OpName, PipeId, Role, Tick};
@@ -30,6 +31,14 @@ struct Kept {
     pipe: PipeId,
     words: Words,
     message: Message,
+}
+
+impl FromPipe for Kept {
+    ghost pipe_of = { λ k. k.pipe };
+
+    fn pipe(&self) -> PipeId {
+        self.pipe
+    }
 }
 
 /// Where a request came from.
@@ -76,8 +85,8 @@ pub struct Reply {
     raw: bool,
     options: Options,
     ports: Ports,
-    /// The oldest first, at most one of each pipe.
-    kept: VecDeque<Kept>,
+    /// Requests.
+    kept: Backlog<Kept>,
     /// In the order of their begins.
     waiting: VecDeque<Waiting>,
     /// In the order in which they were opened.
@@ -227,7 +236,8 @@ fn outward(raw: bool, answer: Answer) -> Message
 // A frame with a whole backtrace, as it is kept.
 fn traced(alloc: Global, raw: bool, ttl: u8, p: PipeId, m: Message) -> Result<Kept, NoMemory>
     requires header { m.header ≡ [] }
-    ensures { IfOk result (λ k. (words rest : List ℕ) → back ttl m.body ≡ Found words rest → Some (item_of k) ≡ traced_item raw p (Found words rest)) }
+    ensures pipe { IfOk result (λ k. k.pipe ≡ p) }
+    ensures kept { IfOk result (λ k. (words rest : List ℕ) → back ttl m.body ≡ Found words rest → Some (item_of k) ≡ traced_item raw p (Found words rest)) }
 {
     let mut message = m;
     match Words::take(alloc, &mut message, ttl) {
@@ -278,7 +288,7 @@ fn unused(alloc: Global, role: ReplyRole, options: Options, raw: bool) -> Result
             raw,
             options,
             ports: Ports::new(alloc),
-            kept: VecDeque::new(alloc),
+            kept: Backlog::new(alloc),
             waiting: VecDeque::new(alloc),
             places,
         }),
@@ -307,12 +317,6 @@ impl Reply {
         unused(alloc, ReplyRole::Rep, options, raw)
     }
 
-    fn keeps_of(&self, p: PipeId) -> bool
-        ensures { result ≡ list_any (λ k. k.pipe == p) self.now.kept.items }
-    {
-        self.kept.iter().any(|k| k.pipe.0 == p.0)
-    }
-
     // The first send that can go, or is to go nowhere.
     fn next_send(&self) -> Offer
         ensures { result ≡ send_offer self.now.raw self.now.ports.items (find (is_ready self.now.raw self.now.ports.items) self.now.waiting.items) }
@@ -338,7 +342,7 @@ impl Reply {
         ensures same { (self.new.raw ≡ self.old.raw) × (self.new.options ≡ self.old.options) × (self.new.role ≡ self.old.role) × (self.new.ports ≡ self.old.ports) × (self.new.waiting ≡ self.old.waiting) }
         ensures given { Gives c result self.old self.new }
     {
-        match self.kept.pop_front() {
+        match self.kept.pop() {
             None => None,
             Some(
                 Kept {
@@ -424,11 +428,11 @@ impl Proto for Reply {
 
     fn down(&mut self, p: PipeId) {
         self.ports.forget(p);
-        self.kept.retain(|k| k.pipe.0 != p.0);
+        self.kept.forget(p);
     }
 
     fn wants(&self, p: PipeId) -> bool {
-        !self.keeps_of(p)
+        !self.kept.has(p)
     }
 
     fn frame(&mut self, p: PipeId, m: Message) -> Verdict {
@@ -437,7 +441,7 @@ impl Proto for Reply {
             Trail::TooFar => Verdict::Fine,
             Trail::Whole => match traced(self.alloc, self.raw, self.options.ttl, p, m) {
                 Err(_) => Verdict::NoMemory,
-                Ok(k) => match self.kept.push_back(k) {
+                Ok(k) => match self.kept.push(k) {
                     Ok(()) => Verdict::Fine,
                     Err(_) => Verdict::NoMemory,
                 },

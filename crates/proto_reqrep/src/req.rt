@@ -1,14 +1,14 @@
 //! The machine of req.
-ghost use Rattle.std.specs.Prelude.{◌≡◌, ◌≤◌, ◌<◌, ◌+◌, ◌-◌, ◌^◌, ◌%◌, ◌==◌, ◌++◌, ◌&&◌, ℕ, [], ◌∷◌, None, Some, IfOk, OnOk, OnErr, false, true, not, map, filter, find, drop, length, option_to_list, is_some};
+ghost use Rattle.std.specs.Prelude.{◌≡◌, ◌≢◌, ◌≤◌, ◌<◌, ◌+◌, ◌-◌, ◌^◌, ◌%◌, ◌==◌, ◌++◌, ◌&&◌, ℕ, [], ◌∷◌, None, Some, IfOk, OnOk, OnErr, false, true, not, map, filter, find, drop, length, option_to_list, is_some};
 ghost use Rattle.std.specs.Vec.{vec_len, vec_capacity};
-ghost use Rattle.std.specs.VecDeque.{deque_len, deque_capacity};
 ghost use Rattle.std.specs.Option.{option_map};
 ghost use Rattle.std.specs.List.{position, list_any};
 ghost use Rattle.sp_base.specs.declared.OpName.{OpName};
+ghost use Rattle.sp_history.specs.declared.entry.Entry.TheVariants.{Frame};
 ghost use Rattle.sp_history.specs.Past.{up};
 ghost use Rattle.sp_history.specs.Legal.{Calm};
-ghost use Rattle.sp_history.specs.Moments.{Moment, Lawful, past};
-ghost use Rattle.sp_proto.specs.Machines.{IsOffered};
+ghost use Rattle.sp_history.specs.Moments.{Moment, Lawful, past, also};
+ghost use Rattle.sp_proto.specs.Machines.{IsOffered, Frames};
 ghost use Rattle.sp_history.specs.Options.{Fits};
 ghost use Rattle.sp_history.specs.Lists.{word, head_of};
 ghost use Rattle.sp_history.specs.Requests.{next_number};
@@ -20,6 +20,7 @@ ghost use Rattle.proto_reqrep.specs.declared.req.Asking.{Asking as AskingType};
 ghost use Rattle.proto_reqrep.specs.declared.req.Seat.{Seat as SeatType};
 ghost use Rattle.proto_reqrep.specs.Reqs.{Ties, req_kind, is_live_on, is_asked, without_first, without_live, orphaned, waits_for, with_reply, with_found, sent_at, keeps_reply, is_sending, is_due, dry_at, dried, wetted, number_after, free_number, reply_in, Asks, KeepsRaw, is_given, is_any_given, is_late, out_offer, ask_state, is_receiving_on, work_left, IsNextPipe};
 
+use crate::backlog::{Backlog, FromPipe};
 use crate::ports::Ports;
 use crate::trail::first_word;
 use sp_base::{Ctx, NoMemory, OpName, PipeId, Role, Tick};
@@ -29,7 +30,6 @@ use sp_history::setting::Options;
 use sp_msg::Message;
 use sp_proto::{Act, CheckError, Offer, Proto, UpFault, Verb, Verdict};
 use std::alloc::Global;
-use std::collections::VecDeque;
 
 /// So many requests can be live.
 const MOST_LIVE: usize = 2_147_483_647;
@@ -39,6 +39,14 @@ const MOST_LIVE: usize = 2_147_483_647;
 struct Kept {
     pipe: PipeId,
     message: Message,
+}
+
+impl FromPipe for Kept {
+    ghost pipe_of = { λ k. k.pipe };
+
+    fn pipe(&self) -> PipeId {
+        self.pipe
+    }
 }
 
 /// A live request.
@@ -81,8 +89,8 @@ pub struct Request {
     /// Of the last Out, or 0. The next goes to one behind it.
     last_pipe: PipeId,
     ports: Ports,
-    /// Raw: the oldest first, at most one of each pipe.
-    kept: VecDeque<Kept>,
+    /// Raw: replies.
+    kept: Backlog<Kept>,
     /// Cooked: at most one of each context, in the order of their begins.
     live: Vec<Live>,
     /// In the order of their begins.
@@ -370,11 +378,11 @@ fn next_id(live: &[Live], dice: u32, last: Option<u32>) -> u32
 // ---- Raw messages
 
 // Takes the oldest.
-fn oldest(kept: &mut VecDeque<Kept>) -> Option<Message>
+fn oldest(kept: &mut Backlog<Kept>) -> Option<Message>
     ensures first { result ≡ option_map (λ (k : KeptType). k.message) (head_of kept.old.items) }
     ensures rest { kept.new.items ≡ drop 1 kept.old.items }
 {
-    match kept.pop_front() {
+    match kept.pop() {
         None => None,
         Some(k) => Some(k.message),
     }
@@ -395,7 +403,7 @@ impl Request {
                 last_id: None,
                 last_pipe: PipeId(0),
                 ports: Ports::new(alloc),
-                kept: VecDeque::new(alloc),
+                kept: Backlog::new(alloc),
                 live: Vec::new(alloc),
                 waiting: Vec::new(alloc),
                 seats,
@@ -438,14 +446,15 @@ impl Request {
     // Raw, its first word goes to the header.
     fn keep_raw(&mut self, p: PipeId, m: Message) -> Verdict
         requires { m.header ≡ [] }
-        ensures { (self.new ≡ record self.old { kept = self.new.kept }) × KeepsRaw result p m.body self.old.kept.items self.new.kept.items }
+        ensures same { self.new ≡ record self.old { kept = self.new.kept } }
+        ensures kept { list_any (λ (k : KeptType). k.pipe == p) self.old.kept.items ≡ false → KeepsRaw result p m.body self.old.kept.items self.new.kept.items }
     {
         let mut message = m;
         match message.trim_u32() {
             Err(_) => Verdict::Malformed,
             Ok(word) => {
                 let _ = message.header_append_u32(word);
-                match self.kept.push_back(Kept { pipe: p, message }) {
+                match self.kept.push(Kept { pipe: p, message }) {
                     Ok(()) => Verdict::Fine,
                     Err(_) => Verdict::NoMemory,
                 }
@@ -586,13 +595,6 @@ impl Request {
             Verb::Send => false,
         }
     }
-
-    // A message of the pipe is kept.
-    fn keeps_of(&self, p: PipeId) -> bool
-        ensures { result ≡ list_any (λ (k : KeptType). k.pipe == p) self.now.kept.items }
-    {
-        self.kept.iter().any(|k| k.pipe.0 == p.0)
-    }
 }
 
 impl Proto for Request {
@@ -644,10 +646,16 @@ impl Proto for Request {
     }
 
     fn wants(&self, p: PipeId) -> bool {
-        !self.raw || !self.keeps_of(p)
+        !self.raw || !self.kept.has(p)
     }
 
-    fn frame(&mut self, p: PipeId, m: Message) -> Verdict {
+    /// Cooked, it takes no memory.
+    fn frame(&mut self, p: PipeId, m: Message) -> Verdict
+        requires { m.header ≡ [] }
+        ensures kept { (t : Moment) → Lawful (also t (Frame p m.body)) → Ties self.old t → Frames (Ties self.new) result t p m.body }
+        ensures room { vec_capacity self.old.waiting - vec_len self.old.waiting ≤ vec_capacity self.new.waiting - vec_len self.new.waiting }
+        ensures memory { self.old.raw ≡ false → result ≢ Verdict.NoMemory }
+    {
         if self.raw {
             return self.keep_raw(p, m);
         }

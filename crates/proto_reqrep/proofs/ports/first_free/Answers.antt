@@ -1,5 +1,5 @@
-use Rattle.std.proofs.Common.{rules, ◌≡◌, ◌∙◌, ◌<◌, ◌≤◌, ℕ, Bool, true, false, ap, sym, length, slice_index_or, arith, cond, drop, Option, Some, None}
-use Rattle.std.specs.Prelude.{◌==◌, nat_lt, find, filter, not}
+use Rattle.std.proofs.Common.{rules, ◌≡◌, ◌∙◌, ap, sym, arith, drop, Some}
+use Rattle.std.specs.Prelude.{nat_lt, find, filter, not}
 use Rattle.std.specs.List.{position}
 use Rattle.std.specs.Option.{option_map}
 use Rattle.std.proofs.lemmas.List.Sorted.{IsPartitionPoint-from_clause}

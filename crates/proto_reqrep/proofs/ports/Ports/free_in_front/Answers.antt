@@ -1,7 +1,7 @@
-use Rattle.std.proofs.Common.{◌≡◌, ◌∙◌, ◌+◌, ap, sym, subst, List, ℕ, Option, find, arith}
+use Rattle.std.proofs.Common.{◌≡◌, ◌∙◌, ap, sym, subst, List, find, arith}
 use Rattle.std.specs.Option.{option_map}
 use Rattle.proto_reqrep.specs.declared.ports.Held.{Held}
-use Rattle.proto_reqrep.specs.Ports.{Port, PortsView, AreFull, AreKnown, IsRising, is_free, is_free_from, number, reached}
+use Rattle.proto_reqrep.specs.Ports.{Port, PortsView, AreFull, IsRising, is_free, is_free_from, number, reached}
 use Rattle.proto_reqrep.proofs.Rising.{passed, filled, free_ports, numbers_of}
 use Rattle.proto_reqrep.proofs.ports.Ports.free_in_front.Goals as goal
 

@@ -1,4 +1,4 @@
-use Rattle.std.proofs.Common.{◌≡◌, ◌∙◌, ap, sym, subst, map, Some, None, find, slice_set, slice_index_or}
+use Rattle.std.proofs.Common.{◌≡◌, ◌∙◌, ap, sym, subst, map, Some, None, find, slice_set}
 use Rattle.std.specs.List.{position}
 use Rattle.proto_reqrep.specs.declared.ports.Held.{Held}
 use Rattle.proto_reqrep.specs.Ports.{PortsView, AreKnown, IsRising, port_in, is_held, marked, marked_in}

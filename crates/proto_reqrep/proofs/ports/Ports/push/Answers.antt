@@ -1,4 +1,4 @@
-use Rattle.std.proofs.Common.{rules, ◌≡◌, ◌∙◌, ◌++◌, ◌∷◌, [], map, ap, sym, subst, Bool, true, false}
+use Rattle.std.proofs.Common.{rules, ◌≡◌, ◌∙◌, ◌++◌, ◌∷◌, [], map, ap, sym, subst, true, false}
 use Rattle.std.specs.List.{list_all}
 use Rattle.proto_reqrep.specs.Ports.{PortsView, AreKnown, IsRising, is_under, is_below, port_in}
 use Rattle.proto_reqrep.proofs.Rising.{more_known, more_view, under_ports}

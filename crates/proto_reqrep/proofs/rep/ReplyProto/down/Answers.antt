@@ -1,8 +1,5 @@
-use Rattle.std.proofs.Common.{rules, refl, ◌<◌, ◌≡◌, arith, filter}
-use Rattle.std.specs.Prelude.{not, ◌==◌}
-use Rattle.std.proofs.lemmas.Fn.{filter_same}
+use Rattle.std.proofs.Common.{refl, ◌<◌, arith}
 use Rattle.proto_reqrep.specs.declared.rep.Reply.{Reply}
-use Rattle.proto_reqrep.specs.declared.rep.Kept.{Kept}
 use Rattle.proto_reqrep.specs.Ports.{free_count}
 use Rattle.proto_reqrep.proofs.Replied.{down_ties, down_left}
 use Rattle.proto_reqrep.proofs.rep.ReplyProto.down.Goals as goal
@@ -11,9 +8,8 @@ pub returns-clause-down : goal.returns-clause-down
 returns-clause-down c =
     λ t why l h.
     let was = c.args.self.now in
-    let is : Reply = record { alloc = was.alloc; role = was.role; raw = was.raw; options = was.options; ports = c.forget.new.self; kept = c.retain.new.self; waiting = was.waiting; places = was.places } in
-    let rest : c.retain.new.self.items ≡ filter (λ (k : Kept). not (k.pipe == c.args.p)) was.kept.items = filter_same _ (λ (k : Kept). not (k.pipe == c.args.p)) _ (λ x b f' k. search rules) _ _ c.retain.ensures.filtered in
-    down_ties was is t c.args.p why h c.forget.ensures rest refl refl (refl, refl, refl)
+    let is : Reply = record { alloc = was.alloc; role = was.role; raw = was.raw; options = was.options; ports = c.forget.new.self; kept = c.forget-2.new.self; waiting = was.waiting; places = was.places } in
+    down_ties was is t c.args.p why h c.forget.ensures c.forget-2.ensures refl refl (refl, refl, refl)
 
 pub returns-clause-left : goal.returns-clause-left
 returns-clause-left c =

@@ -10,4 +10,4 @@ returns c =
     λ t l h.
     let m = c.args.self.now in
     let k : Ties m t = h in
-    ap not c.keeps_of.ensures ∙ wants_means m.role t.z (past t) c.args.p m.kept.items (is_rep m t k) k.items
+    ap not c.has.ensures ∙ wants_means m.role t.z (past t) c.args.p m.kept.items (is_rep m t k) k.items

@@ -2,9 +2,19 @@ use Rattle.std.proofs.Common.{◌≡◌, ◌∙◌, sym, ap, None, Some}
 use Rattle.proto_reqrep.specs.Reqs.{waits_for, with_kept}
 use Rattle.sp_history.specs.Lists.{first_word}
 use Rattle.proto_reqrep.specs.declared.req.Kept.{Kept}
-use Rattle.proto_reqrep.proofs.Coming.{short_frame, long_frame, short_asked, reply_asked, asked_live, found_written, ctxs_replied, not_both, some_word, trimmed_is}
+use Rattle.proto_reqrep.proofs.Coming.{none_kept, raw_frames, short_frame, long_frame, short_asked, reply_asked, asked_live, found_written, ctxs_replied, not_both, some_word, trimmed_is}
 use Rattle.proto_reqrep.proofs.Reaching.{opened_as}
 use Rattle.proto_reqrep.proofs.req.RequestProto.frame.Goals as goal
+
+pub returns-then-self-clause-kept : goal.returns-then-self-clause-kept
+returns-then-self-clause-kept c =
+    λ t l h.
+    let was = c.args.self.now in
+    raw_frames was c.keep_raw.new.self t c.args.p c.args.m.body c.keep_raw.result c.if-self.true h c.keep_raw.ensures.same
+    (c.keep_raw.ensures.kept (none_kept was t c.args.p c.args.m.body l h c.if-self.true))
+
+pub returns-then-self-clause-memory : goal.returns-then-self-clause-memory
+returns-then-self-clause-memory c = λ r. not_both c.if-self.true r
 
 pub returns-in-None-clause-kept : goal.returns-in-None-clause-kept
 returns-in-None-clause-kept c =

@@ -4,4 +4,4 @@ use Rattle.proto_reqrep.proofs.Coming.{wants_all, not_both}
 use Rattle.proto_reqrep.proofs.req.RequestProto.wants.Goals as goal
 
 pub returns-else-not-self : goal.returns-else-not-self
-returns-else-not-self c = λ t l h. wants_all c.args.self.now t c.args.p _ h (λ r. ap not c.keeps_of.ensures) (λ r. not_both c.if-not-self.false r)
+returns-else-not-self c = λ t l h. wants_all c.args.self.now t c.args.p _ h (λ r. ap not c.has.ensures) (λ r. not_both c.if-not-self.false r)

@@ -2,8 +2,7 @@ use Rattle.std.proofs.Common.{◌∙◌, ℕ, sym, ap, arith, ◌++◌}
 use Rattle.sp_msg.specs.Views.{MessageView}
 use Rattle.sp_history.specs.Lists.{word}
 use Rattle.std.specs.Vec.{vec_len, vec_capacity}
-use Rattle.std.specs.declared.alloc.Global.{Global}
-use Rattle.std.specs.declared.collections.VecDeque.{VecDeque}
+use Rattle.proto_reqrep.specs.Backlogs.{BacklogView}
 use Rattle.proto_reqrep.specs.declared.req.Kept.{Kept}
 use Rattle.proto_reqrep.specs.declared.req.Request.{Request as Machine}
 use Rattle.proto_reqrep.proofs.Winning.{given_all, sent_all}
@@ -37,7 +36,7 @@ returns-in-Some-message-clause-sent c =
     λ t p s b o l h k.
     let was = c.args.self.now in
     let f = c.in-Some.ensures.found in
-    let all = sent_all was c.send.new.self c.take.new.waiting t c.args.op s c.in-Some.w h f c.take.ensures.rest (c.send.ensures.same ∙ ap (λ (k : VecDeque Kept Global). record { raw = was.raw; options = was.options; tick = was.tick; last_id = was.last_id; last_pipe = c.send.new.self.last_pipe; ports = was.ports; kept = k; live = c.send.new.self.live; waiting = c.take.new.waiting; seats = was.seats }) (sym (ap (λ (x : Machine). x.kept) c.send.ensures.same))) p b c.in-Some-message.m c.send.result k c.in-Some-message.is (ap (λ (x : Machine). x.kept) c.send.ensures.same) (c.send.ensures.pipe p o) (λ r. let v = c.send.ensures.raw r in (v.0 ∙ c.in-Some-message.m-is, v.1)) (λ r. c.send.ensures.cooked r p o) (λ r y g. c.send.ensures.message r p o y g ∙ ap (λ (v : MessageView). word y.id ++ v.body) c.in-Some-message.m-is) in
+    let all = sent_all was c.send.new.self c.take.new.waiting t c.args.op s c.in-Some.w h f c.take.ensures.rest (c.send.ensures.same ∙ ap (λ (k : BacklogView Kept). record { raw = was.raw; options = was.options; tick = was.tick; last_id = was.last_id; last_pipe = c.send.new.self.last_pipe; ports = was.ports; kept = k; live = c.send.new.self.live; waiting = c.take.new.waiting; seats = was.seats }) (sym (ap (λ (x : Machine). x.kept) c.send.ensures.same))) p b c.in-Some-message.m c.send.result k c.in-Some-message.is (ap (λ (x : Machine). x.kept) c.send.ensures.same) (c.send.ensures.pipe p o) (λ r. let v = c.send.ensures.raw r in (v.0 ∙ c.in-Some-message.m-is, v.1)) (λ r. c.send.ensures.cooked r p o) (λ r y g. c.send.ensures.message r p o y g ∙ ap (λ (v : MessageView). word y.id ++ v.body) c.in-Some-message.m-is) in
     let long = ap (λ (x : Machine). vec_len x.waiting) c.send.ensures.same in
     let wide = ap (λ (x : Machine). vec_capacity x.waiting) c.send.ensures.same in
     (all.0, all.1, (all.2, omega (arith, long, wide, c.in-Some.ensures.len, c.take.ensures.capacity, was.waiting.ok.1)))
