@@ -4,6 +4,7 @@
 Skips what is missing. Each check prints a line; the status is the number of checks that failed.
 """
 import os
+import select
 import shutil
 import socket
 import subprocess
@@ -59,8 +60,13 @@ def read_all(peer, size):
     return came
 
 
+BEGUN = []
+
+
 def begin(program, *words, **more):
-    return subprocess.Popen([program, *words], stdout=subprocess.PIPE, stderr=subprocess.PIPE, **more)
+    run = subprocess.Popen([program, *words], stdout=subprocess.PIPE, stderr=subprocess.PIPE, **more)
+    BEGUN.append(run)
+    return run
 
 
 def start(*words, **more):
@@ -70,7 +76,25 @@ def start(*words, **more):
 def stop(*runs):
     for run in runs:
         run.kill()
-        run.communicate()
+        run.communicate(timeout=60)
+
+
+def reads(run, wanted, seconds=20):
+    """Whether a run that goes on prints these bytes next, in so many seconds."""
+    came, until = b"", time.time() + seconds
+    while len(came) < len(wanted):
+        ready, _, _ = select.select([run.stdout], [], [], max(0, until - time.time()))
+        piece = os.read(run.stdout.fileno(), len(wanted) - len(came)) if ready else b""
+        if not piece:
+            break
+        came += piece
+    return came == wanted
+
+
+def stop_all():
+    """Stops what a check that failed left behind."""
+    stop(*(run for run in BEGUN if run.returncode is None))
+    BEGUN.clear()
 
 
 def listening(program, port, *words):
@@ -90,18 +114,32 @@ def address(port):
     return f"tcp://127.0.0.1:{port}"
 
 
+def memory(run):
+    """The memory of a run that is in use, in KiB."""
+    with open(f"/proc/{run.pid}/status") as lines:
+        return next(int(line.split()[1]) for line in lines if line.startswith("VmRSS"))
+
+
 def many_links():
-    """Links that come and go leave no trace: a message is printed after so many, with status 0."""
+    """Links that come and go leave no trace: a message is printed after so many, with status 0, and the memory in use
+    grew by at most 1 MiB."""
     port = free_port()
     run = start("--pull", "--listen", address(port), "--ascii", "--count", "1")
     held = connect(port)
     held.sendall(greeting(PUSH))
+    time.sleep(1)
+    before = memory(run)
+    begun = time.time()
     for _ in range(LINKS):
         connect(port).close()
+    took = time.time() - begun
+    time.sleep(1)
+    grown = memory(run) - before
     held.sendall(frame(b"last"))
     out, err = run.communicate(timeout=120)
     held.close()
-    return out == b"last\n" and run.returncode == 0, f"{LINKS} links, status {run.returncode} {err!r}"
+    right = out == b"last\n" and run.returncode == 0 and grown <= 1024
+    return right, f"{LINKS} links in {took:.0f} s, status {run.returncode} {err!r}, {before} KiB and {grown} more"
 
 
 def many_messages():
@@ -140,6 +178,26 @@ def many_pushed():
     _, err = run.communicate(timeout=60)
     right = b"".join(parts) == want
     return right and run.returncode == 0, f"{PUSHED} messages, {came} of {len(want)} bytes, status {run.returncode} {err!r}"
+
+
+def many_between(pusher, puller, puller_listens):
+    """Whether so many messages that one pushes are printed by the other, by their bytes: all have the same body."""
+    port = free_port()
+    body = b"0123456789abcdef"
+    push = ("--push", "--data", body.decode(), "--count", str(PUSHED), "--interval", "0")
+    pull = ("--pull", "--raw", "--count", str(PUSHED))
+    server, dialer = ((puller, pull), (pusher, push)) if puller_listens else ((pusher, push), (puller, pull))
+    runs = [listening(server[0], port, *server[1]), begin(dialer[0], *dialer[1], "--dial", address(port))]
+    taker, sender = runs if puller_listens else reversed(runs)
+    out, _ = taker.communicate(timeout=120)
+    well = said([sender]) == ([b""], True) and taker.returncode == 0
+    return well and out == body * PUSHED, len(out)
+
+
+def many_with_theirs():
+    """So many messages from our push to Debian's pull, and from Debian's push to ours, each side listening in turn."""
+    tried = [many_between(*pair, listens) for pair in ((OURS, THEIRS), (THEIRS, OURS)) for listens in (False, True)]
+    return all(well for well, _ in tried), f"{PUSHED} messages of 16 bytes, {[size for _, size in tried]} bytes"
 
 
 def slow_reader():
@@ -234,6 +292,39 @@ def slow_peer():
     peer.close()
     right = b"".join(parts) == greeting(PUSH) + frame(body.encode()) * 50
     return right and run.returncode == 0, f"{came} of {wanted} bytes, status {run.returncode}"
+
+
+def longest_message():
+    """A message of 1,048,576 bytes is printed whole; one of one byte more ends its link, and the next one is served."""
+    port = free_port()
+    run = start("--pull", "--listen", address(port), "--raw", "--count", "2")
+    longest = bytes(range(256)) * 4096
+    with connect(port) as peer:
+        peer.settimeout(20)
+        peer.sendall(greeting(PUSH) + frame(longest))
+        greeted = read_all(peer, 8) == greeting(PULL) and reads(run, longest)
+        peer.sendall((len(longest) + 1).to_bytes(8, "big"))
+        try:
+            ended = peer.recv(1) == b""
+        except ConnectionResetError:
+            ended = True
+    with connect(port) as peer:
+        peer.sendall(greeting(PUSH) + frame(b"next"))
+        outs, well = said([run])
+    return well and greeted and ended and outs == [b"next"], f"printed: {greeted}, ended: {ended}, then {outs}"
+
+
+def full_output():
+    """A standard output that takes nothing ends a run with status 5 at the first message."""
+    if not os.path.exists("/dev/full"):
+        return True, "skipped, no /dev/full"
+    port = free_port()
+    with open("/dev/full", "wb") as full:
+        run = subprocess.Popen([OURS, "--pull", "--listen", address(port), "--ascii"], stdout=full, stderr=subprocess.PIPE)
+    with connect(port) as peer:
+        peer.sendall(greeting(PUSH) + frame(b"hello"))
+        _, err = run.communicate(timeout=60)
+    return (run.returncode, err) == (5, b"nngcat: output fault\n"), f"status {run.returncode} {err!r}"
 
 
 def send_times_out():
@@ -331,23 +422,26 @@ def answers_theirs():
     return right and run.returncode == 0, f"{out!r}, {asked.stdout!r}, status {run.returncode}"
 
 
-def pairs_with_theirs():
-    """A pair of Debian's and ours, in both directions."""
+def brings_a_pair(server, dialer, server_sends):
+    """Whether one message of a pair comes from the side that sends, and what the other one prints."""
     port = free_port()
-    run = start("--pair", "--listen", address(port), "--ascii", "--count", "1")
-    connect(port).close()
-    sender = subprocess.Popen([THEIRS, "--pair0", "--dial", address(port), "--data", "hello"])
-    out, _ = run.communicate(timeout=60)
-    sender.kill()
-    sender.wait()
-    other = free_port()
-    theirs = subprocess.Popen([THEIRS, "--pair0", "--listen", address(other), "--ascii", "--count", "1"],
-                              stdout=subprocess.PIPE)
-    back = start("--pair", "--dial", address(other), "--data", "hi", "--count", "1")
-    came, _ = theirs.communicate(timeout=60)
-    back.communicate(timeout=60)
-    right = out == b"hello\n" and came.strip() == b"hi"
-    return right and run.returncode == 0 and back.returncode == 0, f"{out!r}, {came!r}"
+    sends, takes = ("--pair0", "--data", "hello"), ("--pair0", "--ascii", "--count", "1")
+    run = listening(server, port, *(sends if server_sends else takes))
+    other = begin(dialer, *(takes if server_sends else sends), "--dial", address(port))
+    taker, sender = (other, run) if server_sends else (run, other)
+    outs, well = said([taker])
+    if (server if server_sends else dialer) == OURS:
+        # Theirs goes on and prints what comes.
+        well = well and said([sender]) == ([b""], True)
+    else:
+        stop(sender)
+    return well and outs == [b"hello"], outs
+
+
+def pairs_with_theirs():
+    """A pair of ours and one of Debian's: each listens in turn, and each of the two sends."""
+    tried = [brings_a_pair(*pair, sends) for pair in ((OURS, THEIRS), (THEIRS, OURS)) for sends in (False, True)]
+    return all(well for well, _ in tried), f"{[outs for _, outs in tried]}"
 
 
 # Without an interval Debian's requester gives up where it had to wait for its first peer.
@@ -880,11 +974,20 @@ def for_theirs(words):
     return words + more
 
 
-def may_end_otherwise(words, peer):
-    """Whether the status may differ, for a reason that docs/DECISIONS.md gives; all else is the same in each row."""
-    goes_on = words[0] in ("--pair0", "--bus") and "--data" in words and "--interval" not in words
-    gives_up = words[0] in ("--rep", "--respondent", "--req") and "--recv-timeout" in words
-    return goes_on or gives_up or "--send-timeout" in words and peer is None
+# How many rows of the whole table end otherwise; docs/DECISIONS.md gives the reasons.
+END_OTHERWISE = 7
+
+
+def ends_otherwise(words, peer):
+    """The two statuses of a row that docs/DECISIONS.md lets differ, ours first (None: it doesn't end); None for all
+    other rows."""
+    if words[0] in ("--pair0", "--bus") and "--data" in words and not {"--interval", "--send-timeout"} & set(words):
+        return 0, None
+    if words[0] in ("--rep", "--respondent") and "--recv-timeout" in words:
+        return 0, 1
+    if "--send-timeout" in words and peer is None:
+        return 2, 1
+    return None
 
 
 def whole_table():
@@ -897,9 +1000,10 @@ def whole_table():
             out2, status2, heard2 = comes_to(THEIRS, for_theirs(words), peer)
             same = out.replace(b"\n", b"") == out2.replace(b"\n", b"") if "--ascii" in words else out == out2
             known += status != status2
-            if not (same and same_but_ids(heard, heard2)) or status != status2 and not may_end_otherwise(words, peer):
+            wanted = ends_otherwise(words, peer) or (status, status)
+            if not (same and same_but_ids(heard, heard2)) or (status, status2) != wanted:
                 other.append((" ".join(words), (out, status, heard), (out2, status2, heard2)))
-    return not other, f"{count} rows, of which {known} end otherwise for a known reason, other: {other}"
+    return not other and known == END_OTHERWISE, f"{count} rows, of which {known} end otherwise, other: {other}"
 
 
 def main():
@@ -907,12 +1011,12 @@ def main():
         print("skipped: crates/nngcat/out/nngcat isn't built")
         return 0
     checks = [help_and_version, wrong_words, faults_name_their_words, standard_input, empty_input, completion,
-              manual_page, broken_peers, slow_reader, slow_peer, send_times_out, numbers_differ, peer_that_comes_back,
-              words_of_devices, many_links, many_messages, many_pushed]
+              manual_page, broken_peers, slow_reader, slow_peer, longest_message, full_output, send_times_out,
+              numbers_differ, peer_that_comes_back, words_of_devices, many_links, many_messages, many_pushed]
     if THEIRS:
         checks += [theirs_to_ours, theirs_pulls_from_ours, ours_to_theirs, four_of_theirs, theirs_is_dialed,
                    replies_to_theirs, answers_theirs, pairs_with_theirs, pair_takes_the_next, requests, surveys,
-                   bus_of_four, publishes, formats_of_theirs, whole_table]
+                   bus_of_four, publishes, formats_of_theirs, many_with_theirs, whole_table]
     else:
         print("skipped: no nngcat of nng is installed")
     wanted = sys.argv[1:]
@@ -925,6 +1029,7 @@ def main():
         except Exception as e:
             well, told = False, repr(e)
         failed += not well
+        stop_all()
         print(f"{'ok    ' if well else 'FAILED'} {check.__name__}: {told}", flush=True)
     return failed
 
