@@ -11,7 +11,7 @@ import sys
 import threading
 import time
 
-from outside import OURS, THEIRS, address, begin, connect, free_port, said, start, stop
+from outside import OURS, PUSHED, THEIRS, address, begin, connect, free_port, listening, said, start, stop, stop_all
 
 WAIT = 20_000  # milliseconds that a call of the library may take
 
@@ -211,57 +211,144 @@ def two_devices():
     return told == [b"<far>", b"pong", b"far"], f"{told}"
 
 
-def surveys_of_the_library():
-    """A surveyor of the library asks three of our respondents; a survey that is replaced gets no answers."""
-    port = free_port()
+def all_answers(asker):
+    """What comes until the survey is over."""
+    answers = []
+    try:
+        while True:
+            answers.append(asker.receive())
+    except NngError:
+        return answers
+
+
+def surveys_by_the_library(listens):
+    """A surveyor of the library and four of our respondents, each side listening in turn."""
+    ports = [free_port()] * 4 if listens else [free_port() for _ in range(4)]
+    answer = ("--respondent", "--ascii", "--count", "2")
+    # The interval holds the answer to the second survey back for three seconds.
+    words = [(*answer, "--data", f"n{n}") for n in range(3)] + [(*answer, "--data", "late", "--interval", "3")]
     with Socket("surveyor") as asker:
         asker.set_ms("surveyor:survey-time", 1_500)
-        asker.listen(port)
-        runs = [start("--respondent", "--dial", address(port), "--data", f"n{n}", "--ascii", "--count", "2")
-                for n in range(3)]
+        if listens:
+            asker.listen(ports[0])
+            runs = [start(*more, "--dial", address(port)) for port, more in zip(ports, words)]
+        else:
+            runs = [listening(OURS, port, *more) for port, more in zip(ports, words)]
+            for port in ports:
+                asker.dial(port)
         time.sleep(1)
         # The answers to the first are on their way when it is replaced.
         asker.send(b"first")
         asker.send(b"second")
-        answers = []
-        try:
-            while True:
-                answers.append(asker.receive())
-        except NngError:
-            pass
+        answers = all_answers(asker)
         outs, well = said(runs)
-    right = sorted(answers) == [b"n0", b"n1", b"n2"] and outs == [b"first\nsecond"] * 3
-    return well and right, f"{answers}, {outs}"
+        # The late one has come by now.
+        asker.send(b"third")
+        late = all_answers(asker)
+    right = sorted(answers) == [b"n0", b"n1", b"n2"] and late == [] and outs == [b"first\nsecond"] * 4
+    return well and right, (answers, late, outs)
+
+
+def surveys_of_the_library():
+    """A surveyor of the library asks four of our respondents, listening and dialing; a survey that is replaced gets no
+    answers, and one that is over gets none of the respondent that answers late."""
+    tried = [surveys_by_the_library(listens) for listens in (True, False)]
+    return all(well for well, _ in tried), f"{[told for _, told in tried]}"
+
+
+def answers_twice(respondent):
+    """One survey is answered twice, by a raw respondent."""
+    message = ctypes.c_void_p()
+    if NNG.nng_recvmsg(respondent.socket, ctypes.byref(message), 0) != 0:
+        return
+    again = ctypes.c_void_p()
+    NNG.nng_msg_dup(ctypes.byref(again), message)
+    NNG.nng_sendmsg(respondent.socket, message, 0)
+    NNG.nng_sendmsg(respondent.socket, again, 0)
+
+
+def answers_after(respondent, seconds, body, survey_of):
+    """One survey is answered so many seconds later; tells what it was."""
+    try:
+        survey_of[body] = respondent.receive()
+        time.sleep(seconds)
+        respondent.send(body)
+    except NngError as e:
+        survey_of[body] = e
+
+
+def surveys_the_library(listens):
+    """Our surveyor and four respondents of the library, each side listening in turn."""
+    ports = [free_port()] * 4 if listens else [free_port() for _ in range(4)]
+    ask = ("--surveyor", "--data", "who", "--ascii", "--count", "3", "--interval", "1", "--recv-timeout", "5")
+    plain, late, silent = (Socket("respondent") for _ in range(3))
+    twice = Socket("respondent", raw=True)
+    ends = (plain, late, silent, twice)
+    if listens:
+        run = listening(OURS, ports[0], *ask)
+        for end, port in zip(ends, ports):
+            end.dial(port)
+    else:
+        for end, port in zip(ends, ports):
+            end.listen(port)
+        run = start(*ask, *(word for port in ports for word in ("--dial", address(port))))
+    heard = {}
+    answering = [threading.Thread(target=answers_twice, args=(twice,), daemon=True),
+                 threading.Thread(target=answers_after, args=(plain, 0, b"here", heard), daemon=True),
+                 threading.Thread(target=answers_after, args=(late, 1.5, b"late", heard), daemon=True)]
+    for one in answering:
+        one.start()
+    outs, well = said([run])
+    for one in answering:
+        one.join(timeout=5)
+    for end in ends:
+        end.close()
+    right = sorted(outs[0].split(b"\n")) == [b"here", b"who", b"who"] and heard == {b"here": b"who", b"late": b"who"}
+    return well and right, (outs, heard)
 
 
 def respondents_of_the_library():
-    """Our surveyor asks three respondents of the library: one answers, one answers twice, one never."""
-    port = free_port()
-    run = start("--surveyor", "--listen", address(port), "--data", "who", "--ascii", "--count", "3", "--interval", "1",
-                "--recv-timeout", "5")
-    connect(port).close()
-    plain, silent, twice = Socket("respondent"), Socket("respondent"), Socket("respondent", raw=True)
-    for one in (plain, silent, twice):
-        one.dial(port)
+    """Our surveyor, listening and dialing, asks four respondents of the library: one answers, one answers twice, one a
+    second and a half later, when its survey is over, and one never."""
+    tried = [surveys_the_library(listens) for listens in (True, False)]
+    return all(well for well, _ in tried), f"{[told for _, told in tried]}"
 
-    def answer_twice():
-        message = ctypes.c_void_p()
-        if NNG.nng_recvmsg(twice.socket, ctypes.byref(message), 0) != 0:
-            return
-        again = ctypes.c_void_p()
-        NNG.nng_msg_dup(ctypes.byref(again), message)
-        NNG.nng_sendmsg(twice.socket, message, 0)
-        NNG.nng_sendmsg(twice.socket, again, 0)
 
-    answering = threading.Thread(target=answer_twice, daemon=True)
-    answering.start()
-    plain.receive()
-    plain.send(b"here")
-    outs, well = said([run])
-    answering.join(timeout=5)
-    for one in (plain, silent, twice):
-        one.close()
-    return well and sorted(outs[0].split(b"\n")) == [b"here", b"who", b"who"], f"{outs}"
+def numbered():
+    return [b"%015d\n" % n for n in range(PUSHED)]
+
+
+def many_of_the_library():
+    """So many messages of a push of the library, numbered, are printed by our pull in order; and those of our push, which
+    are all the same, come to a pull of the library."""
+    told = []
+    for listens in (True, False):
+        port = free_port()
+        words = ("--pull", "--raw", "--count", str(PUSHED))
+        with Socket("push") as push:
+            if listens:
+                push.listen(port)
+                run = start(*words, "--dial", address(port))
+            else:
+                run = listening(OURS, port, *words)
+                push.dial(port)
+            sending = threading.Thread(target=lambda: [push.send(body) for body in numbered()], daemon=True)
+            sending.start()
+            out, _ = run.communicate(timeout=120)
+            sending.join(timeout=5)
+            told.append(run.returncode == 0 and out == b"".join(numbered()))
+        port = free_port()
+        words = ("--push", "--data", "0123456789abcdef", "--count", str(PUSHED))
+        with Socket("pull") as pull:
+            if listens:
+                pull.listen(port)
+                run = start(*words, "--dial", address(port))
+            else:
+                run = listening(OURS, port, *words)
+                pull.dial(port)
+            came = all(pull.receive() == b"0123456789abcdef" for _ in range(PUSHED))
+            told.append(came and said([run]) == ([b""], True))
+    return all(told), f"{PUSHED} messages, {told}"
 
 
 def topics_of_the_library():
@@ -337,7 +424,7 @@ def main():
     if sys.argv[1:] == ["measure"]:
         return measure()
     checks = [contexts_ask_ours, replies_to_ours, replier_dies, two_devices, surveys_of_the_library,
-              respondents_of_the_library, topics_of_the_library, pair_and_bus_of_the_library]
+              respondents_of_the_library, topics_of_the_library, pair_and_bus_of_the_library, many_of_the_library]
     failed = 0
     for check in checks:
         if sys.argv[1:] and check.__name__ not in sys.argv[1:]:
@@ -347,6 +434,7 @@ def main():
         except Exception as e:
             well, told = False, repr(e)
         failed += not well
+        stop_all()
         print(f"{'ok    ' if well else 'FAILED'} {check.__name__}: {told}", flush=True)
     return failed
 
