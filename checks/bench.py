@@ -1,8 +1,9 @@
 #!/usr/bin/env python3
-"""Measures the built nngcat beside Debian's on loopback, in one run: messages a second, latency, memory, idle time;
-and a drill of ours.
+"""Measures the built nngcat beside Debian's on loopback, in one run: messages a second, latency, memory, idle time, the
+printing of large bodies; and a drill of ours.
 
-The other end is a raw peer written here, which floods or drains, so that it isn't the limit. Prints a table.
+The other end is a raw peer written here, which floods or drains, so that it isn't the limit; or, in `both_ends`, the same
+program. Prints a table. Words name the parts that are wanted, without one all.
 """
 import os
 import resource
@@ -11,6 +12,7 @@ import socket
 import statistics
 import subprocess
 import sys
+import threading
 import time
 
 HERE = os.path.dirname(os.path.abspath(__file__))
@@ -18,6 +20,8 @@ OURS = os.environ.get("OURS", os.path.join(HERE, "..", "crates", "nngcat", "out"
 THEIRS = shutil.which("nngcat")
 SIZES = [(16, 200_000), (1024, 200_000), (65536, 8_000)]
 DRILLS = [100_000]
+BODIES = 300
+FORMS = ("--raw", "--msgpack", "--hex", "--quoted", "--ascii")
 
 
 def free_port():
@@ -40,6 +44,10 @@ def greet(s, role):
     came = b""
     while len(came) < 8:
         came += s.recv(8 - len(came))
+
+
+def address(port):
+    return f"tcp://127.0.0.1:{port}"
 
 
 def frames(size, count):
@@ -117,28 +125,92 @@ def latency(program, count=200):
     return statistics.median(times) * 1000
 
 
-def idle(program):
-    """Share of a processor in percent, and memory in KiB, of a pull with one peer that says nothing."""
+def between_rate(program, size, count):
+    """Messages a second between a push and a pull of one program, which prints them into a file of nothing."""
     port = free_port()
-    run = subprocess.Popen([program, "--pull", "--listen", f"tcp://127.0.0.1:{port}", "--raw", "--count", "1"],
+    pull = subprocess.Popen([program, "--pull", "--listen", address(port), "--raw", "--count", str(count)],
+                            stdout=subprocess.DEVNULL)
+    connect(port).close()
+    begun = time.time()
+    push = subprocess.Popen([program, "--push", "--dial", address(port), "--data", "x" * size, "--count", str(count)])
+    pull.wait(timeout=300)
+    took = time.time() - begun
+    push.wait(timeout=60)
+    return count / took
+
+
+def trip_rate(server, count):
+    """Round trips of 16 bytes a second between a requester of ours and a replier, from the first reply that is printed to
+    the last. Debian's requester gives up after a few: `Cannot set recv timeout`."""
+    port = free_port()
+    replier = subprocess.Popen([server, "--rep", "--listen", address(port), "--data", "fedcba9876543210"])
+    connect(port).close()
+    run = subprocess.Popen([OURS, "--req", "--dial", address(port), "--data", "0123456789abcdef", "--raw",
+                            "--interval", "0", "--count", str(count)], stdout=subprocess.PIPE)
+    size, took, _ = read_at_once(run)
+    replier.kill()
+    replier.wait()
+    return (size // 16 - 1) / took
+
+
+def idle(program, peers=1):
+    """Share of a processor in percent, and memory in KiB, of a pull with so many peers that say nothing."""
+    port = free_port()
+    run = subprocess.Popen([program, "--pull", "--listen", address(port), "--raw", "--count", "1"],
                            stdout=subprocess.DEVNULL)
-    peer = connect(port)
-    greet(peer, 0x50)
-    time.sleep(1)
+    held = [connect(port) for _ in range(peers)]
+    for peer in held:
+        greet(peer, 0x50)
+    time.sleep(2)
     ticks = os.sysconf("SC_CLK_TCK")
 
     def used():
         fields = open(f"/proc/{run.pid}/stat").read().rsplit(")", 1)[1].split()
         return (int(fields[11]) + int(fields[12])) / ticks
 
-    before = used()
+    before, begun = used(), time.time()
     time.sleep(10)
-    share = (used() - before) / 10 * 100
+    share = (used() - before) / (time.time() - begun) * 100
     memory = int([line for line in open(f"/proc/{run.pid}/status") if line.startswith("VmRSS")][0].split()[1])
-    peer.sendall(frames(16, 1))
+    held[peers // 2].sendall(frames(16, 1))
     run.wait(timeout=60)
-    peer.close()
+    for peer in held:
+        peer.close()
     return share, memory
+
+
+def read_at_once(run):
+    """How many bytes a run writes into its pipe, in how many seconds from the first on, and its processor seconds."""
+    size, begun = 0, None
+    while piece := os.read(run.stdout.fileno(), 1 << 20):
+        begun = begun or time.time()
+        size += len(piece)
+    took = time.time() - begun
+    _, status, used = os.wait4(run.pid, 0)
+    run.returncode = os.waitstatus_to_exitcode(status)
+    run.stdout.close()
+    return size, took, used.ru_utime + used.ru_stime
+
+
+def large_bodies(program, form):
+    """The same of a pull that prints bodies of 1 MiB, which hold all bytes."""
+    port = free_port()
+    run = subprocess.Popen([program, "--pull", "--listen", address(port), form, "--count", str(BODIES)],
+                           stdout=subprocess.PIPE)
+    text = (1 << 20).to_bytes(8, "big") + bytes(range(256)) * 4096
+
+    def send():
+        with connect(port) as peer:
+            greet(peer, 0x50)
+            for _ in range(BODIES):
+                peer.sendall(text)
+            peer.recv(1)
+
+    sending = threading.Thread(target=send, daemon=True)
+    sending.start()
+    told = read_at_once(run)
+    sending.join(timeout=60)
+    return told
 
 
 def drill_rate(program, count):
@@ -154,24 +226,61 @@ def drill_rate(program, count):
     return took, used, 96 * -(-count // 64)
 
 
+def show_rates(name, rate, programs):
+    for size, count in SIZES:
+        rates = [(who, rate(p, size, count if p == OURS else count // 10)) for who, p in programs]
+        print(f"{name} {size}: " + ", ".join(f"{who} {found:,.0f} messages/s" for who, found in rates), flush=True)
+
+
+def both_ends(programs):
+    """Both ends are one program: messages a second. Round trips are those of a requester of ours."""
+    show_rates("both ends", between_rate, programs)
+    print("round trips of 16 bytes, ours asks: "
+          + ", ".join(f"{name} {trip_rate(p, 20_000):,.0f} a second" for name, p in programs), flush=True)
+
+
+def show_latency(programs):
+    print("latency: " + ", ".join(f"{name} {latency(p):.3f} ms" for name, p in programs), flush=True)
+
+
+def show_drill(_):
+    for count in DRILLS:
+        took, used, raced = drill_rate(OURS, count)
+        print(f"drill of {count:,}: {took:.2f} s, {used:.2f} s of processor time, {raced / took:,.0f} receives/s", flush=True)
+
+
+def show_idle(programs):
+    limit = resource.getrlimit(resource.RLIMIT_NOFILE)[1]
+    resource.setrlimit(resource.RLIMIT_NOFILE, (min(limit, 4096), limit))
+    for peers in (1, 500):
+        for name, p in programs:
+            share, memory = idle(p, peers)
+            print(f"idle with {peers}: {name} {share:.2f} % of a processor, {memory} KiB", flush=True)
+
+
+def show_large(programs):
+    def show(name, size, took, used):
+        print(f"{name}: {size / took / 1e6:,.0f} MB/s written, {BODIES * 1.048576 / took:,.0f} of bodies; by processor time "
+              f"{size / used / 1e6:,.0f} and {BODIES * 1.048576 / used:,.0f}", flush=True)
+
+    head = subprocess.Popen(["head", "-c", str(BODIES << 20), "/dev/zero"], stdout=subprocess.PIPE)
+    show("head", *read_at_once(head))
+    for form in FORMS:
+        for name, p in programs:
+            show(f"{form} of {name}", *large_bodies(p, form))
+
+
 def main():
     if not os.access(OURS, os.X_OK):
         print("skipped: crates/nngcat/out/nngcat isn't built")
         return 0
     programs = [("ours", OURS)] + ([("nng 1.5.2", THEIRS)] if THEIRS else [])
-    for size, count in SIZES:
-        rates = [(name, pull_rate(p, size, count if p == OURS else count // 10)) for name, p in programs]
-        print(f"pull {size}: " + ", ".join(f"{name} {rate:,.0f} messages/s" for name, rate in rates), flush=True)
-    for size, count in SIZES:
-        rates = [(name, push_rate(p, size, count if p == OURS else count // 10)) for name, p in programs]
-        print(f"push {size}: " + ", ".join(f"{name} {rate:,.0f} messages/s" for name, rate in rates), flush=True)
-    print("latency: " + ", ".join(f"{name} {latency(p):.3f} ms" for name, p in programs), flush=True)
-    for count in DRILLS:
-        took, used, raced = drill_rate(OURS, count)
-        print(f"drill of {count:,}: {took:.2f} s, {used:.2f} s of processor time, {raced / took:,.0f} receives/s", flush=True)
-    for name, p in programs:
-        share, memory = idle(p)
-        print(f"idle: {name} {share:.2f} % of a processor, {memory} KiB", flush=True)
+    parts = {"pull": lambda some: show_rates("pull", pull_rate, some), "push": lambda some: show_rates("push", push_rate, some),
+             "both_ends": both_ends, "latency": show_latency, "drill": show_drill, "idle": show_idle, "large": show_large}
+    for name, part in parts.items():
+        if name in (sys.argv[1:] or parts):
+            print(f"load {os.getloadavg()[0]:.1f}", flush=True)
+            part(programs)
     return 0
 
 
