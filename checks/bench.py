@@ -192,17 +192,17 @@ def read_at_once(run):
     return size, took, used.ru_utime + used.ru_stime
 
 
-def large_bodies(program, form):
-    """The same of a pull that prints bodies of 1 MiB, which hold all bytes."""
+def large_bodies(program, form, count):
+    """The same of a pull that prints so many bodies of 1 MiB, which hold all bytes."""
     port = free_port()
-    run = subprocess.Popen([program, "--pull", "--listen", address(port), form, "--count", str(BODIES)],
+    run = subprocess.Popen([program, "--pull", "--listen", address(port), form, "--count", str(count)],
                            stdout=subprocess.PIPE)
     text = (1 << 20).to_bytes(8, "big") + bytes(range(256)) * 4096
 
     def send():
         with connect(port) as peer:
             greet(peer, 0x50)
-            for _ in range(BODIES):
+            for _ in range(count):
                 peer.sendall(text)
             peer.recv(1)
 
@@ -259,15 +259,17 @@ def show_idle(programs):
 
 
 def show_large(programs):
-    def show(name, size, took, used):
-        print(f"{name}: {size / took / 1e6:,.0f} MB/s written, {BODIES * 1.048576 / took:,.0f} of bodies; by processor time "
-              f"{size / used / 1e6:,.0f} and {BODIES * 1.048576 / used:,.0f}", flush=True)
+    def show(name, count, size, took, used):
+        bodies = count * 1.048576
+        print(f"{name}: {size / took / 1e6:,.0f} MB/s written, {bodies / took:,.0f} of bodies; by processor time "
+              f"{size / used / 1e6:,.0f} and {bodies / used:,.0f}", flush=True)
 
-    head = subprocess.Popen(["head", "-c", str(BODIES << 20), "/dev/zero"], stdout=subprocess.PIPE)
-    show("head", *read_at_once(head))
     for form in FORMS:
+        head = subprocess.Popen(["head", "-c", str(BODIES << 20), "/dev/zero"], stdout=subprocess.PIPE)
+        show("head", BODIES, *read_at_once(head))
         for name, p in programs:
-            show(f"{form} of {name}", *large_bodies(p, form))
+            count = BODIES if p == OURS else BODIES // 10
+            show(f"{form} of {name}", count, *large_bodies(p, form, count))
 
 
 def main():
