@@ -253,44 +253,102 @@ def pings_that_nobody_reads():
     return well and outs == [b"after"] and grown < 8192, f"{outs}, {grown} KiB"
 
 
+HEADS = 250
+CHANGES = [
+    (b"GET /x HTTP/1.1", [
+        b"POST /x HTTP/1.1", b"get /x HTTP/1.1", b"HEAD /x HTTP/1.1", b"GET /x HTTP/1.0", b"GET /x HTTP/1.2", b"GET /x HTTP/2.0",
+        b"GET /x http/1.1", b"GET /x", b"GET", b"", b"GET /y HTTP/1.1", b"GET /x/ HTTP/1.1", b"GET / HTTP/1.1", b"GET /X HTTP/1.1",
+        b"GET //x HTTP/1.1", b"GET /x?a HTTP/1.1", b"GET /%78 HTTP/1.1", b"GET /x HTTP/1.1 ", b"\x00GET /x HTTP/1.1", b"G\xffT /x HTTP/1.1"]),
+    (b"Host: HERE", [None, b"Host", b"Host : HERE", b"Ho st: HERE", b"Host:\x00", b": HERE"]),
+    (b"Upgrade: websocket", [
+        None, b"Upgrade: h2c", b"Upgrade: web socket", b"Upgrade: websockets", b"Upgrade: websocket/13", b"Upgrade:", b"Upgrade: a\r\n websocket"]),
+    (b"Connection: Upgrade", [
+        None, b"Connection: close", b"Connection: keep-alive", b"Connection: Upgrades", b"Connection: Up grade", b"Connection: Upgrade;"]),
+    (b"Sec-WebSocket-Key: " + NONCE, [
+        None, b"Sec-WebSocket-Key:", b"Sec-WebSocket-Key: dGhl", b"Sec-WebSocket-Key: " + NONCE[:-2], b"Sec-WebSocket-Key: " + NONCE[:-1],
+        b"Sec-WebSocket-Key: " + NONCE + b"=", b"Sec-WebSocket-Key: dGhlIHNhbXBsZSBub25jZR==", b"Sec-WebSocket-Key: dGhlIHNhbXBsZSBub25j",
+        b"Sec-WebSocket-Key: dGhlIHNhbXBsZSBub25jZSE=", b"Sec-WebSocket-Key: dGhlIHNhbXBsZSBub25j!Q==",
+        b"Sec-WebSocket-Key: a, " + NONCE, b"Sec-WebSocket-Key: " + NONCE + b"\r\nSec-WebSocket-Key: " + NONCE,
+        b"Sec-WebSocket-Key : " + NONCE]),
+    (b"Sec-WebSocket-Version: 13", [
+        None, b"Sec-WebSocket-Version: 12", b"Sec-WebSocket-Version: 8", b"Sec-WebSocket-Version: 013", b"Sec-WebSocket-Version: 13, 8",
+        b"Sec-WebSocket-Version: +13", b"Sec-WebSocket-Version:", b"Sec-WebSocket-Version: 13\r\nSec-WebSocket-Version: 13"]),
+    (b"Sec-WebSocket-Protocol: pull.sp.nanomsg.org", [
+        None, b"Sec-WebSocket-Protocol: push.sp.nanomsg.org", b"Sec-WebSocket-Protocol: PULL.sp.nanomsg.org", b"Sec-WebSocket-Protocol: pull",
+        b"Sec-WebSocket-Protocol: pull.sp.nanomsg.org;", b"Sec-WebSocket-Protocol: pull.sp.nanomsg.com", b"Sec-WebSocket-Protocol:"]),
+]
+
+
+def changed(port, changes):
+    """The head of a plain client with these lines in place of its own, or without the line where there is none."""
+    lines = [changes.get(place, line) for place, (line, _) in enumerate(CHANGES)]
+    return b"\r\n".join(line for line in lines if line is not None).replace(b"HERE", b"127.0.0.1:%d" % port) + b"\r\n\r\n"
+
+
+def wrong_heads(port):
+    """Heads that are whole and wrong: with one line changed, and then with two."""
+    one = [{place: line} for place, (_, others) in enumerate(CHANGES) for line in others]
+    two = [{**a, **b} for a in one for b in one if max(a) < min(b)]
+    long = changed(port, {})[:-2]
+    heads = [long + b"A: b\r\n" * 64 + b"\r\n", long.replace(b"\r\n", b"\n\n") + b"\r\n\r\n", b"A" * 9000, b"\r\n\r\n"]
+    return heads + [changed(port, c) for c in one + two[:: len(two) // (HEADS - len(one) - len(heads))]][: HEADS - len(heads)]
+
+
+def unfinished_heads(port):
+    """Heads that have no blank line yet."""
+    good = changed(port, {})
+    return [good.replace(b"\r\n", b"\n"), b"\x16\x03\x01\x02\x00\x01" * 40] + [good[: 4 * n] for n in range(1, 49)]
+
+
+def answer_and_end(port, bytes_):
+    """What comes after these bytes, and whether the link ends within two seconds."""
+    peer = connect(port)
+    peer.settimeout(2)
+    came = b""
+    try:
+        peer.sendall(bytes_)
+        while piece := peer.recv(100):
+            came += piece
+        return came, True
+    except socket.timeout:
+        return came, False
+    except ConnectionError:
+        return came, True
+    finally:
+        peer.close()
+
+
+def left_alone(peer):
+    """Whether nothing came over the link."""
+    peer.setblocking(False)
+    try:
+        return not peer.recv(100)
+    except (BlockingIOError, ConnectionError):
+        return True
+    finally:
+        peer.close()
+
+
 def hostile_heads():
-    """Heads that are wrong get no answer and hold nobody up, also while 100 others never end theirs."""
+    """Each of 250 wrong heads gets no answer and ends its link within two seconds; 50 that have no end yet, and a hundred
+    links that send the beginning of a good one, get no answer and hold nobody up."""
     port = free_port()
-    good = request(b"pull", port)
-    wrong = [
-        good.replace(b"GET", b"POST"), good.replace(b"HTTP/1.1", b"HTTP/1.0"), good.replace(b"/x", b"/y"),
-        good.replace(b"Upgrade: websocket\r\n", b""), good.replace(b"13", b"12"), good.replace(NONCE, b"dGhl"),
-        good.replace(b"pull.sp", b"push.sp"), good.replace(b"Sec-WebSocket-Key: ", b"Sec-WebSocket-Key: a\r\nSec-WebSocket-Key: "),
-        good[:-2] + b"A: b\r\n" * 64 + b"\r\n", good.replace(b"\r\n", b"\n"), b"\x16\x03\x01\x02\x00\x01" * 40,
-        b"GET /x HTTP/1.1\r\n" + b"A" * 9000, good.replace(b"Key: ", b"Key : "), good.replace(b"Connection: Upgrade", b"Connection: close"),
-    ]
     run = listening(OURS, port, "--pull", "--ascii", "--count", "1")
     silent = []
-    for _ in range(100):
+    for bytes_ in unfinished_heads(port) + [request(b"pull", port)[:40]] * 100:
         peer = connect(port)
-        peer.sendall(good[:40])
-        silent.append(peer)
-    answers = []
-    for bytes_ in wrong:
-        peer = connect(port)
-        peer.settimeout(2)
         peer.sendall(bytes_)
-        try:
-            answers.append(peer.recv(100))
-        except socket.timeout:
-            answers.append(b"")
-        except ConnectionError:
-            answers.append(b"")
-        peer.close()
+        silent.append(peer)
+    heads = wrong_heads(port)
+    bad = [head_ for head_ in heads if answer_and_end(port, head_) != (b"", True)]
     begun = time.time()
     peer, _ = client(port, b"pull")
+    alone = all([left_alone(other) for other in silent])
     peer.sendall(frame(b"served"))
     outs, well = said([run])
     took = time.time() - begun
     peer.close()
-    for other in silent:
-        other.close()
-    return well and outs == [b"served"] and not any(answers) and took < 5, f"{outs}, {took:.2f} s, {[n for n, a in enumerate(answers) if a]}"
+    return well and outs == [b"served"] and alone and not bad and took < 5, f"{len(heads)} heads, {outs}, {took:.2f} s, {bad}"
 
 
 PAIRS = [
@@ -298,8 +356,8 @@ PAIRS = [
     ("pub", "sub", ("--data", "m", "--interval", "1"), ("--ascii", "--count", "1", "--subscribe", "")),
     ("pair", "pair", ("--data", "m", "--interval", "1"), ("--ascii", "--count", "1")),
     ("bus", "bus", ("--data", "m", "--interval", "1"), ("--ascii", "--count", "1")),
-    ("rep", "req", ("--data", "m"), ("--data", "q", "--interval", "1", "--ascii", "--count", "1")),
-    ("respondent", "surveyor", ("--data", "m"), ("--data", "q", "--interval", "1", "--ascii", "--count", "1", "--recv-timeout", "1")),
+    ("rep", "req", ("--data", "m", "--ascii"), ("--data", "q", "--interval", "1", "--ascii", "--count", "1")),
+    ("respondent", "surveyor", ("--data", "m", "--ascii"), ("--data", "q", "--interval", "1", "--ascii", "--count", "1", "--recv-timeout", "1")),
 ]
 
 
@@ -308,7 +366,8 @@ def option(program, role):
 
 
 def over_websocket(giver, taker, role, other, gives, takes, taker_listens):
-    """What the taker prints. It ends by itself where it is ours, else after its first line."""
+    """What the taker prints, and what the giver does. The taker ends by itself where it is ours, else after its first
+    line."""
     port = free_port()
     takes = [w for w in takes if w != ""] if taker == OURS else list(takes)
     if "--subscribe" in takes and taker == OURS:
@@ -330,19 +389,26 @@ def over_websocket(giver, taker, role, other, gives, takes, taker_listens):
         out, _ = one.communicate(timeout=25)
     except subprocess.TimeoutExpired:
         out = b"nothing in time"
-    stop(one, two)
-    return out.strip().rstrip(b"\n").split(b"\n")[0]
+    stop(one)
+    two.terminate()
+    printed, _ = two.communicate(timeout=25)
+    return first_line(out), first_line(printed)
+
+
+def first_line(out):
+    return out.strip().split(b"\n")[0]
 
 
 def each_role_with_theirs():
-    """Each role, ours to nng's and nng's to ours, each listening in turn."""
+    """Each role, ours to nng's and nng's to ours, each listening in turn; of those that answer also what they print."""
     told = []
     for role, other, gives, takes in PAIRS:
+        asked = b"q" if role in ("rep", "respondent") else b""
         for giver, taker in ((OURS, THEIRS), (THEIRS, OURS)):
             for listens in (True, False):
-                out = over_websocket(giver, taker, role, other, gives, takes, listens)
-                if out != b"m":
-                    told.append((role, "ours" if giver == OURS else "theirs", listens, out))
+                said_ = over_websocket(giver, taker, role, other, gives, takes, listens)
+                if said_ != (b"m", asked):
+                    told.append((role, "ours" if giver == OURS else "theirs", listens, said_))
     return not told, f"{4 * len(PAIRS)} runs, wrong: {told}"
 
 
