@@ -129,9 +129,9 @@ pub record WsPulled (result : WireIn) (old new : WsView) : Type 0 where
   pub reads : PullReads result old.frames new.frames
   pub role : new.frames.role ≡ old.frames.role
 
--- room and flush read nothing, and what was fed stays; what was in hand is sent, each message once, in order and as one frame behind what
--- waited; what the link took is the prefix of what waits then; and of the places of frames those are left that it did
--- not reach
+-- room and flush read nothing, and what was fed stays; what was in hand is sent, each message once, in order and as one
+-- frame behind what waited; what the link took is the prefix of what waits then; and of the places of frames those are
+-- left that it did not reach
 pub record WsWrote (old new : WsView) : Type 0 where
   pub gone : List (List ℕ)
   pub places : List ℕ
