@@ -31,7 +31,7 @@ OpWordsStand d t = Sees d t.z.slots t.z.callers (ends (past t)) (begins (past t)
 
 -- the operation ended, as its word says: the core has won it, whatever for, or a caller has ended it
 abbrev pub DecidedAs : Decision → OpName → Moment → OpWords → Type 0
-DecidedAs decision.Won op t d = (r : ending.Outcome) → OpWordsStand d (also t (End op (Won r)))
+DecidedAs decision.Won op t d = (r : ending.Completion) → OpWordsStand d (also t (End op (Won r)))
 DecidedAs (decision.Gone cause by) op t d = IsCallers cause × (1 ≤ by) × (by ≤ t.z.callers) × OpWordsStand d (also t (End op (Gone cause by)))
 
 -- the operation ended, as its word says: the core has ended it for this cause, or a caller has ended it
