@@ -21,7 +21,7 @@
 
 use sp_base::{Bytes, Ctx, NoMemory, OpName, PipeId, Role, Tick};
 use sp_history::entry::{
-    Act, Cause, Ending, Entry, Gate, Message, Miss, Outcome, Switch, Totals, Why, WireName,
+    Act, Cause, Completion, Ending, Entry, Gate, Message, Miss, Switch, Totals, Why, WireName,
 };
 use sp_history::setting::{Options, Setting};
 use std::alloc::{AllocError, AllocFailed, Global};
@@ -275,7 +275,7 @@ fn of_bytes(alloc: Global, name: &str, n: &str, bytes: &str) -> Result<Entry, Un
 
 fn received_of(alloc: Global, op: &str, m: &str) -> Result<Entry, Unread> {
     let m = message_of(alloc, m)?;
-    Ok(Entry::End(op_of(op)?, Ending::Won(Outcome::Received(m))))
+    Ok(Entry::End(op_of(op)?, Ending::Won(Completion::Received(m))))
 }
 
 fn entry_of(alloc: Global, k: u32, words: &[&str]) -> Result<Entry, Unread> {
@@ -291,7 +291,7 @@ fn entry_of(alloc: Global, k: u32, words: &[&str]) -> Result<Entry, Unread> {
             after(words, 3),
         ),
         "received" => received_of(alloc, first, word(words, 2)?),
-        "sent" => Ok(Entry::End(op_of(first)?, Ending::Won(Outcome::Sent))),
+        "sent" => Ok(Entry::End(op_of(first)?, Ending::Won(Completion::Sent))),
         "took" => Ok(Entry::Took(op_of(first)?, extras_of(k, after(words, 2))?.caller)),
         "tick" => tick_of(alloc, first, after(words, 2)),
         "close" => close_of(words),
