@@ -5,3 +5,4 @@ mod Calling
 mod Finishing
 mod Sourcing
 mod Opening
+mod Crossing
