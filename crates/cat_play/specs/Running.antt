@@ -1,5 +1,5 @@
 -- What a run of nngcat comes to: its statuses with their causes, and its record.
-use Rattle.std.specs.Prelude.{◌≡◌, ◌≢◌, ◌⊎◌, ◌≤◌, ◌<◌, ℕ, true, false, Bool, IsTrue, ⊤, List, [], ◌∷◌, ◌++◌, Option, Some, None}
+use Rattle.std.specs.Prelude.{◌≡◌, ◌⊎◌, ◌≤◌, ◌<◌, ℕ, true, false, Bool, IsTrue, ⊤, List, [], ◌∷◌, ◌++◌, Option, Some, None}
 use Rattle.std.specs.FinMap.{get}
 use Rattle.turn_lock.specs.declared.turn.Turn.{Turn}
 use Rattle.sp_spec.specs.Prefixes.{IsViableUpTo}
@@ -32,7 +32,7 @@ use Rattle.cat_play.specs.Plans.{Play, IsPlayOf}
 use Rattle.cat_play.specs.Scripts.{counted, texts, joined, has_reached, timed_out}
 use Rattle.cat_play.specs.Playing.{Plays}
 use Rattle.cat_play.specs.Openings.{Ways}
-use Rattle.cat_play.specs.Recording.{lane_place, place_of, Records}
+use Rattle.cat_play.specs.Recording.{place_of, Records}
 use Rattle.cat_play.specs.Spending.{Spends, EndsInTime}
 use Rattle.cat_play.specs.Drilling.{lines, Drills, GivesAll}
 
@@ -79,7 +79,7 @@ ListensTwice es =
 -- each told link of TCP whose pipe was up when the socket closed holds its whole text
 abbrev pub AreWhole : Setting → NetView → List Entry → Type 0
 AreWhole z net past =
-    (p place : ℕ) (link : LinkView) → down_for past p ≡ Some whys.Closed → place_of past p ≡ Some place → place ≢ lane_place → place < net.opened → get net.back place ≡ Some link → link.scheme ≡ schemes.Tcp
+    (p place : ℕ) (link : LinkView) → down_for past p ≡ Some whys.Closed → place_of past p ≡ Some place → place < net.opened → get net.back place ≡ Some link → link.scheme ≡ schemes.Tcp
     → Told link.written (λ written. written ≡ text (role_number z.role) (outs past p))
 
 -- the play came to its end: the count is reached, or a receive timed out
