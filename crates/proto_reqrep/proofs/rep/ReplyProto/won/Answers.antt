@@ -24,6 +24,9 @@ pub returns-in-Some-answer-clause-given : goal.returns-in-Some-answer-clause-giv
 returns-in-Some-answer-clause-given c =
     λ t s m o l h k. send_isnt_recv t c.args.op s m c.in-Some.w c.in-Some-answer.r k (taken c.args.self.now t c.args.op s c.in-Some.w h k.pending c.in-Some.ensures.found) c.in-Some-answer.is
 
+pub returns-in-Some-answer-clause-flooded : goal.returns-in-Some-answer-clause-flooded
+returns-in-Some-answer-clause-flooded c = λ t s o l h p f. never_floods c.args.self.now t h f
+
 pub returns-in-Some-answer-clause-dropped : goal.returns-in-Some-answer-clause-dropped
 returns-in-Some-answer-clause-dropped c =
     λ t s o l h k.
