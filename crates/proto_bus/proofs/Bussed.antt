@@ -1,9 +1,9 @@
 -- A bus stands for its history after each call.
 use Rattle.std.proofs.Common.{◌≡◌, refl, ap, sym, ◌∙◌, subst, List, [], ◌∷◌, ◌++◌, ℕ, ◌+◌, ◌-◌, Bool, true, false, cond, arith, Option, Some, None, map, length, ◌<◌, ◌≤◌}
-use Rattle.std.specs.Prelude.{find, filter, drop, option_to_list, IsSome, ◌↔◌, not, nat_lt, min, ◌^◌, IsTrue, MatchOption, ◌||◌, ◌==◌}
+use Rattle.std.specs.Prelude.{find, filter, drop, ◌↔◌, not, nat_lt, min, ◌^◌, IsTrue, MatchOption, ◌||◌, ◌==◌, slice_get, Result, Ok, Err, IsOk, OnOk, IfErr}
 use Rattle.std.specs.List.{list_all}
 use Rattle.std.specs.Option.{option_map}
-use Rattle.std.specs.VecDeque.{deque_capacity}
+use Rattle.circular_buffer.specs.Buffer.{Buffer, buffer}
 use Rattle.turn_lock.specs.declared.turn.Turn.{Turn}
 use Rattle.std.proofs.lemmas.Bool.Decides.{nat_tests}
 use Rattle.std.proofs.lemmas.List.{map-append}
@@ -408,9 +408,9 @@ flooded_ties m n t op s l h p holds same = (
 )
 
 -- a receive is given the oldest
-pub given_ties : (m n : Bus) (t : Moment) (op : OpName) (s : Begun) (text : Message) (r : Option MessageView) → Ties m t → CanGive t op s text → Holds n.pending (without_begun (pend (past t)) op) → m.kept.items ≡ option_to_list r ++ n.kept.items → IsSome r ↔ (0 < length m.kept.items)
-    → deque_capacity n.kept ≡ deque_capacity m.kept → n ≡ record m { pending = n.pending; kept = n.kept } → (option_map text_of r ≡ Some text) × Ties n (also t (End op (Won (Received text))))
-given_ties m n t op s text r h c holds items some places same = go r refl
+pub given_ties : (m n : Bus) (t : Moment) (op : OpName) (s : Begun) (text : Message) (r : Option MessageView) → Ties m t → CanGive t op s text → Holds n.pending (without_begun (pend (past t)) op) → r ≡ slice_get m.kept.items 0 → n.kept ≡ buffer (drop 1 m.kept.items) m.kept.capacity → n ≡ record m { pending = n.pending; kept = n.kept }
+    → (option_map text_of r ≡ Some text) × Ties n (also t (End op (Won (Received text))))
+given_ties m n t op s text r h c holds first rest same = go m.kept.items refl
   where
     oldest : option_map message_in (head_of (pool t.z (past t) 0)) ≡ Some text
     oldest = ap (λ (is : List Item). option_map message_in (head_of is)) (sym (kept_bus t.z (past t) s.ctx (is_bus m t h))) ∙ c.may.oldest
@@ -425,28 +425,22 @@ given_ties m n t op s text r h c holds items some places same = go r refl
     rest_of [] x xs e = absurd cc
     rest_of (i ∷ is) x xs e = cc
 
-    one : (is : List Item) → option_map message_in (head_of is) ≡ Some text → 0 < length (map message_in is)
-    one [] e = absurd cc
-    one (i ∷ is) e = omega arith
+    none : (is : List Item) → [] ≡ map message_in is → option_map message_in (head_of is) ≡ Some text → ⊥
+    none [] e k = absurd cc
+    none (i ∷ is) e k = absurd cc
 
-    long : (xs : List MessageView) → length (map text_of xs) ≡ length xs
-    long [] = refl
-    long (x ∷ xs) = omega (arith, long xs)
-
-    none : IsSome r → r ≡ None → ⊥
-    none q e = let k : IsSome {T = MessageView} None = subst (λ (o : Option MessageView). IsSome o) e q in absurd cc
-
-    go : (o : Option MessageView) → r ≡ o → (option_map text_of r ≡ Some text) × Ties n (also t (End op (Won (Received text))))
-    go None e = absurd (none (some.1 (omega (arith, one (pool t.z (past t) 0) oldest, ap length h.0.items, long m.kept.items))) e)
-    go (Some v) e =
-        let now : text_of v ∷ map text_of n.kept.items ≡ map message_in (pool t.z (past t) 0) = sym (ap (map text_of) (items ∙ ap (λ (o : Option MessageView). option_to_list o ++ n.kept.items) e)) ∙ h.0.items in (
-          ap (option_map text_of) e ∙ sym (head_map (pool t.z (past t) 0) (text_of v) (map text_of n.kept.items) now) ∙ oldest,
+    go : (ks : List MessageView) → m.kept.items ≡ ks → (option_map text_of r ≡ Some text) × Ties n (also t (End op (Won (Received text))))
+    go [] e = absurd (none (pool t.z (past t) 0) (sym (ap (map text_of) e) ∙ h.0.items) oldest)
+    go (v ∷ vs) e =
+        let now : text_of v ∷ map text_of vs ≡ map message_in (pool t.z (past t) 0) = sym (ap (map text_of) e) ∙ h.0.items in
+        let left : n.kept.items ≡ vs = ap (λ (b : Buffer MessageView). b.items) rest ∙ ap (λ (xs : List MessageView). drop 1 xs) e in (
+          ap (option_map text_of) (first ∙ ap (λ (xs : List MessageView). slice_get xs 0) e) ∙ sym (head_map (pool t.z (past t) 0) (text_of v) (map text_of vs) now) ∙ oldest,
           (
             record {
               kind = rw same h.0.kind;
               pipes = rw same h.0.pipes;
-              items = rest_of (pool t.z (past t) 0) (text_of v) (map text_of n.kept.items) now ∙ ap (map message_in) (sym less);
-              places = subst (λ (k : ℕ). n.options.queue ≤ k) (sym places) (omega (arith, ap (λ (x : Bus). x.options.queue) same, h.0.places));
+              items = ap (map text_of) left ∙ rest_of (pool t.z (past t) 0) (text_of v) (map text_of vs) now ∙ ap (map message_in) (sym less);
+              places = ap (λ (b : Buffer MessageView). b.capacity) rest ∙ h.0.places ∙ sym (ap (λ (x : Bus). x.options.queue) same);
               pending = holds;
               contexts = h.0.contexts;
             },
@@ -489,7 +483,7 @@ module _ (m : Bus) (t : Moment) (p : ℕ) (v : MessageView) (h : Ties m t) where
       many : length (pool t.z (past t) 0) ≡ length m.kept.items
       many = omega (arith, ap length h.0.items, long m.kept.items, longer (pool t.z (past t) 0))
 
-  pub discarded_ties : nat_lt (length m.kept.items) m.options.queue ≡ false → Ties m (also t (Frame p v.body))
+  discarded_ties : nat_lt (length m.kept.items) m.options.queue ≡ false → Ties m (also t (Frame p v.body))
   discarded_ties full =
       let same = discards ∙ ap (λ (b : Bool). cond b (pool t.z (past t) 0 ++ item ∷ []) (pool t.z (past t) 0)) full in (
         record {
@@ -503,20 +497,36 @@ module _ (m : Bus) (t : Moment) (p : ℕ) (v : MessageView) (h : Ties m t) where
         λ l. goes_on t (Frame p v.body) m.left_out m.copies.items (filter is_send (pend (past t))) l refl refl (h.1 (lawful_before t (Frame p v.body) l)),
       )
 
-  pub kept_ties : (n : Bus) (x : MessageView) → nat_lt (length m.kept.items) m.options.queue ≡ true → x ≡ record v { header = header_of m.raw p } → n.kept.items ≡ m.kept.items ++ x ∷ [] → deque_capacity m.kept ≤ deque_capacity n.kept → n ≡ record m { kept = n.kept } → Ties n (also t (Frame p v.body))
-  kept_ties n x room is items places same =
+  kept_ties : (k : Buffer MessageView) (x : MessageView) → nat_lt (length m.kept.items) m.options.queue ≡ true → x ≡ record v { header = header_of m.raw p } → k ≡ buffer (m.kept.items ++ x ∷ []) m.kept.capacity → Ties (record m { kept = k }) (also t (Frame p v.body))
+  kept_ties k x room is more =
       let now = discards ∙ ap (λ (b : Bool). cond b (pool t.z (past t) 0 ++ item ∷ []) (pool t.z (past t) 0)) room in
+      let items : k.items ≡ m.kept.items ++ x ∷ [] = ap (λ (b : Buffer MessageView). b.items) more in
       let text : text_of x ≡ message_in item = ap text_of is in (
         record {
-          kind = rw same h.0.kind;
-          pipes = rw same h.0.pipes;
+          kind = h.0.kind;
+          pipes = h.0.pipes;
           items = ap (map text_of) items ∙ map-append text_of m.kept.items (x ∷ []) ∙ ap (λ (y : Message). map text_of m.kept.items ++ y ∷ []) text ∙ ap (λ (ys : List Message). ys ++ message_in item ∷ []) h.0.items ∙ sym (map-append message_in (pool t.z (past t) 0) (item ∷ [])) ∙ ap (map message_in) (sym now);
-          places = omega (arith, ap (λ (y : Bus). y.options.queue) same, h.0.places, places);
-          pending = rw same h.0.pending;
+          places = ap (λ (b : Buffer MessageView). b.capacity) more ∙ h.0.places;
+          pending = h.0.pending;
           contexts = h.0.contexts;
         },
-        λ l. rw same (goes_on t (Frame p v.body) m.left_out m.copies.items (filter is_send (pend (past t))) l refl refl (h.1 (lawful_before t (Frame p v.body) l))),
+        λ l. goes_on t (Frame p v.body) m.left_out m.copies.items (filter is_send (pend (past t))) l refl refl (h.1 (lawful_before t (Frame p v.body) l)),
       )
+
+  -- it is kept where there is a place for it, else discarded
+  pub frame_ties : {U : Type 0} (k : Buffer MessageView) (x : MessageView) (r : Result U MessageView) → x ≡ record v { header = header_of m.raw p } → IsOk r ↔ (length m.kept.items < m.kept.capacity) → OnOk r (k ≡ buffer (m.kept.items ++ x ∷ []) m.kept.capacity) → IfErr r (λ y. (y ≡ x) × (k ≡ m.kept)) → Ties (record m { kept = k }) (also t (Frame p v.body))
+  frame_ties k x (Ok u) is fits ok err = kept_ties k x (less (length m.kept.items) m.kept.capacity m.options.queue (fits.0 refl) h.0.places) is ok
+    where
+      less : (n c q : ℕ) → n < c → c ≡ q → nat_lt n q ≡ true
+      less n c q a e = grind (arith, nat_tests)
+  frame_ties k x (Err y) is fits ok err = subst (λ (b : Buffer MessageView). Ties (record m { kept = b }) (also t (Frame p v.body))) (sym err.1) (discarded_ties (full (length m.kept.items) m.kept.capacity m.options.queue (λ a. let no : false ≡ true = fits.1 a in absurd cc) h.0.places))
+    where
+      full : (n c q : ℕ) → (n < c → ⊥) → c ≡ q → nat_lt n q ≡ false
+      full n c q a e = go (nat_lt n q) refl
+        where
+          go : (b : Bool) → nat_lt n q ≡ b → b ≡ false
+          go true k = absurd (a (grind (arith, nat_tests)))
+          go false k = refl
 
 pub well_formed : (m : Bus) (t : Moment) (p : ℕ) (b : List ℕ) → Ties m t → malformed t.z (past t) p b ≡ false
 well_formed m t p b h = rw (is_bus m t h) refl

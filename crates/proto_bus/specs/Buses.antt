@@ -1,6 +1,5 @@
 -- What a bus stands for.
-use Rattle.std.specs.Prelude.{◌≡◌, ◌≤◌, ℕ, Bool, true, false, ⊤, List, [], ◌∷◌, length, map, filter, Option, None}
-use Rattle.std.specs.VecDeque.{deque_capacity}
+use Rattle.std.specs.Prelude.{◌≡◌, ℕ, Bool, true, false, ⊤, List, [], ◌∷◌, length, map, filter, Option, None}
 use Rattle.sp_base.specs.declared.OpName.{OpName}
 use Rattle.sp_base.specs.declared.role.Role.TheVariants as role
 use Rattle.sp_msg.specs.Views.{MessageView}
@@ -71,7 +70,7 @@ pub record Shows (m : Bus) (k : Kind) (us : List ℕ) (is : List Item) (ss : Lis
   pub kind : k ≡ bus_kind m.raw m.options
   pub pipes : m.pipes ≡ length us
   pub items : map text_of m.kept.items ≡ map message_in is
-  pub places : m.options.queue ≤ deque_capacity m.kept
+  pub places : m.kept.capacity ≡ m.options.queue
   pub pending : Holds m.pending ss
   pub contexts : cs ≡ 0 ∷ []
 

@@ -23,13 +23,13 @@ ghost use Rattle.proto_bus.specs.Buses.{Ties, bus_kind, places_left, receiver_of
 #[cfg(test)]
 mod tests;
 
+use circular_buffer::HeapCircularBuffer;
 use proto_pending::Pending;
 use sp_base::{Ctx, NoMemory, OpName, PipeId, Role, Tick};
 use sp_history::setting::Options;
 use sp_msg::Message;
 use sp_proto::{Act, CheckError, Offer, Proto, UpFault, Verb, Verdict};
 use std::alloc::Global;
-use std::collections::VecDeque;
 
 /// A bus: it sends and receives.
 #[derive(Drop)]
@@ -40,7 +40,7 @@ pub struct Bus {
     /// How many pipes are up.
     pipes: usize,
     /// The oldest first, with places for `queue`.
-    kept: VecDeque<Message>,
+    kept: HeapCircularBuffer<Message>,
     pending: Pending,
     /// Of the send that is pending, one for each pipe that gets it.
     copies: Vec<Message>,
@@ -100,7 +100,7 @@ impl Bus {
     pub fn new(alloc: Global, options: Options, raw: bool) -> Result<Bus, NoMemory>
         ensures { IfOk result (λ m. Starts Ties m (bus_kind raw options)) }
     {
-        let kept = VecDeque::with_capacity(alloc, options.queue as usize)?;
+        let kept = HeapCircularBuffer::with_capacity(alloc, options.queue as usize)?;
         Ok(Bus {
             alloc,
             raw,
@@ -180,12 +180,7 @@ impl Proto for Bus {
         ensures room { places_left self.old ≤ places_left self.new }
         ensures fine { (t : Moment) → Lawful (also t (Frame p m.body)) → Ties self.old t → result ≡ Verdict.Fine }
     {
-        if self.kept.len() >= self.options.queue as usize {
-            return Verdict::Fine;
-        }
-        if self.kept.push_back(received(self.raw, p, m)).is_err() {
-            return Verdict::NoMemory;
-        }
+        let _discarded = self.kept.try_push_back(received(self.raw, p, m));
         Verdict::Fine
     }
 

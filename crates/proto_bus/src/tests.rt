@@ -91,3 +91,14 @@ fn a_full_bus_discards_what_comes(rt: HostRuntime) -> Result<(), Fail> {
     assert!(rt; bus.check(Ctx(5), Verb::Send) == Err(CheckError::NotSupported));
     Ok(())
 }
+
+#[test]
+fn a_bus_without_places_keeps_nothing(rt: HostRuntime) -> Result<(), Fail> {
+    let mut options = Options::usual(Role::Bus, 0);
+    options.queue = 0;
+    let mut bus = Bus::new(rt.alloc(), options, false)?;
+    assert!(rt; bus.up(PipeId(1)).is_ok());
+    assert!(rt; bus.frame(PipeId(1), Message::from_body(rt.alloc(), b"a")?) == Verdict::Fine);
+    assert!(rt; !bus.keeps(Ctx(0)));
+    Ok(())
+}

@@ -1,4 +1,4 @@
-use Rattle.std.proofs.Common.{◌≡◌, ◌∙◌, refl, sym, arith, Some, None, true, false}
+use Rattle.std.proofs.Common.{◌≡◌, ◌∙◌, refl, sym, Some, None, true, false}
 use Rattle.std.specs.Prelude.{Option, is_some}
 use Rattle.std.specs.Option.{option_map}
 use Rattle.sp_msg.specs.Views.{MessageView}
@@ -40,7 +40,7 @@ returns-clause-given c =
     λ t s m o l h k.
     let was = c.args.self.now in
     let ended = c.end-sent.ensures.ended (pend (past t)) s h.0.pending k.pending in
-    let given = given_ties was (record was { pending = c.end-sent.new.self; kept = c.pop_front.new.self }) t c.args.op s m c.pop_front.result h k ended.1.0 c.pop_front.ensures.items (λ q. omega (arith, was.kept.ok.0, c.pop_front.ensures.variant.0 q), λ q. c.pop_front.ensures.variant.1 (omega (arith, was.kept.ok.0, q))) c.pop_front.ensures.capacity refl in
+    let given = given_ties was (record was { pending = c.end-sent.new.self; kept = c.pop_front.new.self }) t c.args.op s m c.pop_front.result h k ended.1.0 c.pop_front.ensures.value c.pop_front.ensures.items refl in
     (given.0, given.1, ended.1.1)
 
 pub returns-clause-flooded : goal.returns-clause-flooded
