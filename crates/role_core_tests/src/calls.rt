@@ -5,7 +5,7 @@ ghost use Rattle.sp_core.specs.Wires.{IsUnused};
 ghost use Rattle.core_tests.specs.Plays.{Plays};
 
 use aio_expire::NameList;
-use aio_word::{CallSeat, Raced, SeatList, Words};
+use aio_word::{CallSeat, Polled, Raced, SeatList, Words};
 use sp_base::{Ctx, OpName, PipeId, Tick};
 use sp_core::{
     AttachError, BeginError, Collected, Core, CtxError, Gone, NowError, Op, Outcome, Served,
@@ -271,6 +271,39 @@ impl<P: Proto, W: Wire> Play<P, W> {
         self.words.cancel(&mut self.seat, op)
     }
 
+    /// Lets the operation expire, by caller 1.
+    pub fn expire(&mut self, op: OpName) -> Raced
+        requires { Plays P.ties P.room W.shown self.old.core self.old.words self.old.seat self.old.slots self.old.ops.items }
+        ensures { Plays P.ties P.room W.shown self.new.core self.new.words self.new.seat self.new.slots self.new.ops.items }
+    {
+        self.words.expire(&mut self.seat, op)
+    }
+
+    /// How the operation stands, as caller 1 reads it.
+    pub fn poll(&mut self, op: OpName) -> Polled
+        requires { Plays P.ties P.room W.shown self.old.core self.old.words self.old.seat self.old.slots self.old.ops.items }
+        ensures { Plays P.ties P.room W.shown self.new.core self.new.words self.new.seat self.new.slots self.new.ops.items }
+    {
+        self.words.poll(&mut self.seat, op)
+    }
+
+    /// Of the two operations that were begun last the earlier one is collected first.
+    pub fn swap(&mut self, rt: &impl Abort)
+        requires { Plays P.ties P.room W.shown self.old.core self.old.words self.old.seat self.old.slots self.old.ops.items }
+        ensures { Plays P.ties P.room W.shown self.new.core self.new.words self.new.seat self.new.slots self.new.ops.items }
+    {
+        let Some(last) = self.ops.pop() else {
+            panic!(rt; "no operation is open")
+        };
+        match self.ops.pop() {
+            None => panic!(rt; "one operation is open"),
+            Some(before) => {
+                keep(rt, &mut self.ops, last);
+                keep(rt, &mut self.ops, before);
+            }
+        }
+    }
+
     /// Collects the operation that was begun last of those that are kept. None where it has not ended.
     pub fn collect<R: Wait + Abort>(&mut self, rt: &R) -> Option<Outcome>
         requires { Plays P.ties P.room W.shown self.old.core self.old.words self.old.seat self.old.slots self.old.ops.items }
@@ -318,13 +351,13 @@ impl<P: Proto, W: Wire> Play<P, W> {
     }
 }
 
-/// The oldest pipe that is down is this one, and went down so.
+/// The oldest pipe that is down is this one, and went down so. Its wire.
 pub fn is_down<P: Proto, W: Wire + Drop, R: Wait + Abort>(
     rt: &R,
     play: &mut Play<P, W>,
     pipe: u32,
     why: Why,
-)
+) -> W
     requires { Plays P.ties P.room W.shown play.old.core play.old.words play.old.seat play.old.slots play.old.ops.items }
     ensures { Plays P.ties P.room W.shown play.new.core play.new.words play.new.seat play.new.slots play.new.ops.items }
 {
@@ -333,6 +366,7 @@ pub fn is_down<P: Proto, W: Wire + Drop, R: Wait + Abort>(
         Some(gone) => {
             assert_eq!(rt; gone.pipe.0, pipe);
             assert_eq!(rt; gone.why, why);
+            gone.wire
         }
     }
 }

@@ -19,15 +19,20 @@ pub enum Step<'a> {
     End,
 }
 
+/// The bytes of a frame.
+pub fn frame(rt: &impl Abort, alloc: Global, body: &[u8]) -> Bytes {
+    match Bytes::from_slice(alloc, body) {
+        Ok(bytes) => bytes,
+        Err(_) => panic!(rt; "no memory for a frame"),
+    }
+}
+
 // The step of a wire in memory.
 fn wire_step(rt: &impl Abort, alloc: Global, step: Step<'_>) -> WireStep {
     match step {
         Step::Pause => WireStep::NotYet,
         Step::End => WireStep::End,
-        Step::Frame(body) => match Bytes::from_slice(alloc, body) {
-            Ok(bytes) => WireStep::Bytes(bytes),
-            Err(_) => panic!(rt; "no memory for a frame"),
-        },
+        Step::Frame(body) => WireStep::Bytes(frame(rt, alloc, body)),
     }
 }
 
@@ -76,7 +81,7 @@ pub fn totals(counts: [u64; 6]) -> Totals {
 }
 
 /// The number of the pipe.
-pub fn up(rt: &impl Abort, answer: Result<PipeId, (AttachError, MemWire)>) -> u32 {
+pub fn up<W: Drop>(rt: &impl Abort, answer: Result<PipeId, (AttachError, W)>) -> u32 {
     match answer {
         Ok(p) => p.0,
         Err(_) => panic!(rt; "the wire came back"),
@@ -225,9 +230,8 @@ fn is_wire(m: &Message, bytes: &[u8]) -> bool {
     n <= bytes.len() && m.header() == &bytes[..n] && m.body() == &bytes[n..]
 }
 
-/// This was put on the wire, and nothing else.
-pub fn are_put(rt: &impl Abort, wire: &MemWire, texts: &[&[u8]]) {
-    let outs = wire.outs();
+/// These messages were put on a wire.
+pub fn are_put(rt: &impl Abort, outs: &[Message], texts: &[&[u8]]) {
     assert_eq!(rt; outs.len(), texts.len());
     for (m, bytes) in outs.iter().zip(texts.iter()) {
         assert!(rt; is_wire(m, bytes));
@@ -240,7 +244,7 @@ pub fn next_put(rt: &impl Abort, wires: &mut Vec<(PipeId, MemWire)>, pipe: u32, 
         None => panic!(rt; "no pipe"),
         Some((p, wire)) => {
             assert_eq!(rt; p.0, pipe);
-            are_put(rt, &wire, texts);
+            are_put(rt, wire.outs(), texts);
         }
     }
 }

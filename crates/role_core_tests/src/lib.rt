@@ -8,9 +8,15 @@ mod checks;
 #[cfg(test)]
 mod closing;
 #[cfg(test)]
+mod failing;
+#[cfg(test)]
 mod floods;
 #[cfg(test)]
+mod out_wire;
+#[cfg(test)]
 mod pairs;
+#[cfg(test)]
+mod races;
 #[cfg(test)]
 mod replies;
 #[cfg(test)]

@@ -15,7 +15,8 @@ use sp_history::setting::Options;
 use std::alloc::Global;
 use std::process::Abort;
 
-fn pair(rt: &impl Abort, alloc: Global, raw: bool) -> Pair
+/// A pair; it aborts when out of memory.
+pub fn pair(rt: &impl Abort, alloc: Global, raw: bool) -> Pair
     ensures { (k : Kind) × Starts PairTies result k }
 {
     match Pair::new(alloc, Options::usual(Role::Pair0, 0), raw) {

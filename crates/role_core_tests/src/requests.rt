@@ -16,7 +16,8 @@ use sp_history::setting::Options;
 use std::alloc::Global;
 use std::process::Abort;
 
-fn req(rt: &impl Abort, alloc: Global, raw: bool, dice: u32) -> Request
+/// A req; it aborts when out of memory.
+pub fn req(rt: &impl Abort, alloc: Global, raw: bool, dice: u32) -> Request
     ensures { (k : Kind) × Starts ReqTies result k }
 {
     match Request::new(alloc, Options::usual(Role::Req, dice), raw) {

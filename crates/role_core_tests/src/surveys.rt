@@ -2,16 +2,18 @@
 ghost use Rattle.sp_proto.specs.Kinds.{Kind, Starts};
 ghost use Rattle.proto_survey.specs.Surveys.{Ties as SurveyTies};
 
-use crate::calls::Play;
+use crate::calls::{Play, is_down};
 use crate::checks::{
-    Step, begun, is_gone, is_received, is_sent, message, next_put, recv_code, sent, totals, up,
-    wire,
+    Step, begun, frame, is_gone, is_received, is_sent, message, next_put, recv_code, sent, totals,
+    up, wire,
 };
+use crate::out_wire::{OutWire, next_out};
 use proto_survey::Survey;
 use sp_base::{Ctx, Role, Tick};
 use sp_fakes::MemWire;
-use sp_history::entry::Cause;
+use sp_history::entry::{Cause, Why};
 use sp_history::setting::Options;
+use sp_msg::Room;
 use std::alloc::Global;
 use std::process::Abort;
 
@@ -83,4 +85,29 @@ fn a_newer_survey_replaces_the_older(rt: HostRuntime) {
     assert_eq!(rt; play.close(&rt), totals([5, 3, 2, 2, 2, 0]));
     let mut wires = play.finish(&rt, alloc);
     next_put(&rt, &mut wires, 1, &[b"\x80\0\0\0s", b"\x80\0\0\x01t"]);
+}
+
+#[test]
+fn a_response_that_is_cut_short_closes_its_pipe_alone(rt: HostRuntime) {
+    let alloc = rt.alloc();
+    let mut play = Play::<Survey, OutWire>::new(&rt, alloc, surveyor(&rt, alloc), 16);
+    let short = OutWire::giving(alloc, Room::Yes, frame(&rt, alloc, b"\x80\0\0"));
+    assert_eq!(rt; up(&rt, play.attach(&rt, short, 0)), 1);
+    let two = OutWire::giving(alloc, Room::Yes, frame(&rt, alloc, b"\x80\0\0\0b"));
+    assert_eq!(rt; up(&rt, play.attach(&rt, two, 1)), 2);
+    let s = message(&rt, alloc, &[], b"s");
+    sent(&rt, play.begin_send(&rt, Ctx(0), s, None));
+    is_sent(&rt, play.collect(&rt));
+    begun(&rt, play.begin_recv(&rt, Ctx(0), None));
+    play.serve(&rt);
+    is_down(&rt, &mut play, 1, Why::Malformed).is_put(&rt, 1, &[b"\x80\0\0\0s"]);
+    is_received(&rt, play.collect(&rt), b"", b"b");
+    // The next survey goes to the other pipe alone.
+    let t = message(&rt, alloc, &[], b"t");
+    sent(&rt, play.begin_send(&rt, Ctx(0), t, None));
+    is_sent(&rt, play.collect(&rt));
+    assert_eq!(rt; play.close(&rt), totals([3, 3, 0, 2, 3, 0]));
+    let mut wires = play.finish(&rt, alloc);
+    next_out(&rt, &mut wires, 2, 2, &[b"\x80\0\0\0s", b"\x80\0\0\x01t"]);
+    assert!(rt; wires.is_empty());
 }
