@@ -19,6 +19,25 @@ const SEVEN_HOPS: [u8; 33] = [
     5, 113,
 ];
 
+// Eight hops and a request's id.
+const EIGHT_HOPS: [u8; 36] = [
+    0, 0, 0, 1, 0, 0, 0, 1, 0, 0, 0, 1, 0, 0, 0, 1, 0, 0, 0, 1, 0, 0, 0, 1, 0, 0, 0, 1, 0, 0, 0, 1,
+    128, 0, 0, 5,
+];
+
+// Fourteen hops, a request's id, and `q`.
+const FIFTEEN_WORDS: [u8; 61] = [
+    0, 0, 0, 1, 0, 0, 0, 2, 0, 0, 0, 3, 0, 0, 0, 4, 0, 0, 0, 5, 0, 0, 0, 6, 0, 0, 0, 7, 0, 0, 0, 8,
+    0, 0, 0, 9, 0, 0, 0, 10, 0, 0, 0, 11, 0, 0, 0, 12, 0, 0, 0, 13, 0, 0, 0, 14, 128, 0, 0, 5, 113,
+];
+
+// The number of the pipe, and these words.
+const LONGEST_HEADER: [u8; 64] = [
+    0, 0, 0, 1, 0, 0, 0, 1, 0, 0, 0, 2, 0, 0, 0, 3, 0, 0, 0, 4, 0, 0, 0, 5, 0, 0, 0, 6, 0, 0, 0, 7,
+    0, 0, 0, 8, 0, 0, 0, 9, 0, 0, 0, 10, 0, 0, 0, 11, 0, 0, 0, 12, 0, 0, 0, 13, 0, 0, 0, 14, 128,
+    0, 0, 5,
+];
+
 // Nine hops and no id.
 const NINE_HOPS: [u8; 36] = [
     0, 0, 0, 1, 0, 0, 0, 1, 0, 0, 0, 1, 0, 0, 0, 1, 0, 0, 0, 1, 0, 0, 0, 1, 0, 0, 0, 1, 0, 0, 0, 1,
@@ -100,11 +119,13 @@ fn answers_over_seven_hops(rt: &impl Abort, alloc: Global, rep: Reply) -> Result
     assert!(rt; gets(&mut rep, 0, Ctx(0), b"q"));
     assert!(rt; sends(&mut rep, alloc, 1, Ctx(0), b"q"));
     assert!(rt; wins(&mut rep, op(1), Some(ONE), &SEVEN_HOPS));
+    assert!(rt; comes(&mut rep, alloc, ONE, &EIGHT_HOPS, Verdict::Fine));
+    assert!(rt; rep.wants(ONE));
     Ok(())
 }
 
 #[test]
-fn seven_hops_are_not_too_far(rt: HostRuntime) -> Result<(), Fail> {
+fn seven_hops_are_not_too_far_and_eight_are(rt: HostRuntime) -> Result<(), Fail> {
     let alloc = rt.alloc();
     answers_over_seven_hops(&rt, alloc, rep(alloc, false)?)?;
     answers_over_seven_hops(&rt, alloc, respondent(alloc, false)?)
@@ -239,6 +260,34 @@ fn a_raw_replier_shows_its_pipe_and_the_backtrace(rt: HostRuntime) -> Result<(),
     let alloc = rt.alloc();
     shows_its_pipe_and_the_backtrace(&rt, alloc, rep(alloc, true)?)?;
     shows_its_pipe_and_the_backtrace(&rt, alloc, respondent(alloc, true)?)
+}
+
+fn has_a_header_of_64_bytes(rt: &impl Abort, alloc: Global, rep: Reply) -> Result<(), Fail> {
+    let mut rep = rep;
+    rep.reserve(2)?;
+    assert!(rt; rep.up(ONE).is_ok());
+    assert!(rt; comes(&mut rep, alloc, ONE, &FIFTEEN_WORDS, Verdict::Fine));
+    assert!(rt; asks(&mut rep, 0, Ctx(0)));
+    assert!(rt; rep.offer() == (Offer::Give { op: op(0) }));
+    let Some(message) = rep.won(op(0), None) else {
+        return Ok(assert!(rt; false));
+    };
+    assert!(rt; message.header() == LONGEST_HEADER.as_slice());
+    assert!(rt; message.body() == b"q".as_slice());
+    assert!(rt; rep.begin(op(1), Ctx(0), Act::Send(message)).is_ok());
+    assert!(rt; wins(&mut rep, op(1), Some(ONE), &FIFTEEN_WORDS));
+    Ok(())
+}
+
+#[test]
+fn fifteen_words_make_a_header_of_64_bytes(rt: HostRuntime) -> Result<(), Fail> {
+    let alloc = rt.alloc();
+    let mut options = Options::usual(Role::Rep, 0);
+    options.ttl = 15;
+    has_a_header_of_64_bytes(&rt, alloc, Reply::new(alloc, options, true)?)?;
+    let mut options = Options::usual(Role::Respondent, 0);
+    options.ttl = 15;
+    has_a_header_of_64_bytes(&rt, alloc, Respond::new(alloc, options, true)?)
 }
 
 #[test]
