@@ -294,3 +294,41 @@ fn many_receives_are_raced(rt: HostRuntime) {
     assert!(rt; t.won <= t.frames);
     finish(&rt, alloc, socket, list);
 }
+
+// So many rounds of guesses at slot 0, each from generation 1 to this one.
+fn guesses(rt: &impl Abort, alloc: Global, rounds: u32, generations: u64) -> Vec<OpName> {
+    let mut names = Vec::new(alloc);
+    for _ in 0..rounds {
+        for g in 0..generations {
+            let op = OpName {
+                slot: 0,
+                generation: g.saturating_add(1),
+            };
+            if names.push(op).is_err() {
+                panic!(rt; "no memory for a name")
+            }
+        }
+    }
+    names
+}
+
+// One caller receives at once, again and again, and another cancels what it guesses. Each message is received, in order.
+#[test]
+fn guessed_names_lose_no_message(rt: HostRuntime) {
+    let alloc = rt.alloc();
+    let (socket, mut list) = opened(&rt, alloc, pull(&rt, alloc), 1, 3);
+    let mut main = next(&rt, alloc, &socket, &mut list);
+    assert!(rt; main.attach(&rt, &socket, counting(&rt, alloc, 200)).is_ok());
+    let tasks = [
+        Task::new(Job::ReceiveNow(201)),
+        Task::new(Job::Cancel(guesses(&rt, alloc, 50, 256))),
+    ];
+    do_all(&rt, alloc, &socket, &mut list, &tasks);
+    assert_eq!(rt; tasks[0].ended(), 200);
+    let cancelled = tasks[1].ended();
+    assert_eq!(rt;
+        give_back(&rt, &socket, &mut list, main),
+        totals(200u64.saturating_add(cancelled), 200, cancelled, 200)
+    );
+    finish(&rt, alloc, socket, list);
+}

@@ -18,6 +18,8 @@ use std::thread::{self, Threads};
 pub enum Job {
     /// Receives so many messages, one after the other.
     Receive(u32),
+    /// So many times serves the pipes, and then receives at once. What comes are the bodies of one byte, 0, 1 and so on.
+    ReceiveNow(u32),
     /// Serves the pipes so many times.
     Serve(u32),
     /// Cancels each of these.
@@ -103,6 +105,47 @@ fn receive_some<P: Proto, W: Wire, R: Wait + Abort>(
     for _ in 0..times {
         receive_one(rt, socket, pass);
     }
+}
+
+// Serves, and then receives at once. Whether something was kept; then it is the body of this byte.
+fn receive_now_one<P: Proto, W: Wire, R: Wait + Abort>(
+    rt: &R,
+    socket: &Socket<P, W>,
+    pass: &mut Pass<P, W>,
+    next: u8,
+) -> bool
+    requires { Calls socket.now pass.old [] }
+    ensures { Calls socket.now pass.new [] }
+{
+    socket.serve(rt, pass);
+    match socket.try_recv(rt, pass, Ctx(0)) {
+        Err(_) => false,
+        Ok(m) => {
+            if m.body() != [next].as_slice() {
+                panic!(rt; "another message was received")
+            }
+            true
+        }
+    }
+}
+
+// So many times serves, and then receives at once; answers how many messages it has received.
+fn receive_now<P: Proto, W: Wire, R: Wait + Abort>(
+    rt: &R,
+    socket: &Socket<P, W>,
+    pass: &mut Pass<P, W>,
+    times: u32,
+) -> u64
+    requires { Calls socket.now pass.old [] }
+    ensures { Calls socket.now pass.new [] }
+{
+    let mut next: u8 = 0;
+    for _ in 0..times {
+        if receive_now_one(rt, socket, pass, next) {
+            next = next.saturating_add(1);
+        }
+    }
+    next as u64
 }
 
 // Serves once.
@@ -285,6 +328,7 @@ fn work<P: Proto, W: Wire, R: Wait + Abort>(
             receive_some(rt, socket, pass, *times);
             *times as u64
         }
+        Job::ReceiveNow(times) => receive_now(rt, socket, pass, *times),
         Job::Serve(times) => {
             serve_some(rt, socket, pass, *times);
             0
