@@ -1,8 +1,7 @@
 //! Tests of the machines of pub, sub, req, rep, surveyor and respondent, with exact messages, ids and answers.
 #![tactic(auto)]
 
-#[cfg(test)]
-mod moves;
+pub mod moves;
 #[cfg(test)]
 mod replies;
 #[cfg(test)]

@@ -1,0 +1,7 @@
+//! Tests of the machines of each role with bodies of 1 MiB, and of a sub with many topics.
+#![tactic(auto)]
+
+#[cfg(test)]
+mod large;
+#[cfg(test)]
+mod topics;

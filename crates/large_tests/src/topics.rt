@@ -1,0 +1,122 @@
+//! Many topics: what a sub keeps is what one of its topics is a prefix of, each looked at alone.
+use machine_tests::moves::{comes, gets};
+use proto_pubsub::Subscribe;
+use sp_base::{Bytes, Ctx, NoMemory, PipeId, Role, next_value};
+use sp_history::setting::Options;
+use sp_proto::{Proto, Verdict};
+use std::alloc::Global;
+use std::test::Fail;
+
+// Up to six letters, `a` and `b`, by the number's bits.
+fn word(alloc: Global, n: u64) -> Result<Bytes, NoMemory> {
+    let mut letters = Bytes::from_slice(alloc, b"")?;
+    let mut bits = n;
+    for _ in 0..(n / 64) % 7 {
+        letters.append(if bits % 2 == 0 { b"a" } else { b"b" })?;
+        bits /= 2;
+    }
+    Ok(letters)
+}
+
+// One of the topics is a prefix of the body.
+fn is_wanted(topics: &[Bytes], body: &[u8]) -> bool {
+    topics.iter().any(|t| body.starts_with(t.as_slice()))
+}
+
+// The topic is among these.
+fn is_on(topics: &[Bytes], t: &[u8]) -> bool {
+    topics.iter().any(|u| u.as_slice() == t)
+}
+
+// Puts the topic on or takes it off, in the sub and in the list. Whether both say the same of what that changes.
+fn switches(
+    sub: &mut Subscribe,
+    topics: &mut Vec<Bytes>,
+    alloc: Global,
+    t: &[u8],
+    on: bool,
+) -> Result<bool, NoMemory> {
+    let was = is_on(topics, t);
+    let changed = sub.topic(Ctx(0), t, on)?;
+    topics.retain(|u| u.as_slice() != t);
+    if on {
+        topics.push(Bytes::from_slice(alloc, t)?)?;
+    }
+    Ok(changed == (was != on))
+}
+
+// The frame comes, and is kept and received exactly where a topic of the list is its prefix.
+fn is_kept_rightly(
+    sub: &mut Subscribe,
+    topics: &[Bytes],
+    alloc: Global,
+    body: &[u8],
+) -> Result<bool, NoMemory> {
+    sub.reserve(1)?;
+    let fine = comes(sub, alloc, PipeId(1), body, Verdict::Fine);
+    if !is_wanted(topics, body) {
+        return Ok(fine && !sub.keeps(Ctx(0)));
+    }
+    Ok(fine && gets(sub, 0, Ctx(0), body) && !sub.keeps(Ctx(0)))
+}
+
+// Of so many steps some put a topic on, some take one off, and the others bring a frame.
+fn runs(alloc: Global, steps: u32) -> Result<bool, NoMemory> {
+    let mut sub = Subscribe::new(alloc, Options::usual(Role::Sub, 0), false)?;
+    let mut topics = Vec::new(alloc);
+    let mut value = 1;
+    let mut right = true;
+    for _ in 0..steps {
+        value = next_value(value);
+        let drawn = value >> 32;
+        let text = word(alloc, drawn / 4)?;
+        let step = match drawn % 4 {
+            0 => switches(&mut sub, &mut topics, alloc, text.as_slice(), true)?,
+            1 => switches(&mut sub, &mut topics, alloc, text.as_slice(), false)?,
+            _ => is_kept_rightly(&mut sub, &topics, alloc, text.as_slice())?,
+        };
+        right = right && step;
+    }
+    Ok(right)
+}
+
+#[test]
+fn a_frame_is_kept_where_a_topic_is_its_prefix(rt: HostRuntime) -> Result<(), Fail> {
+    assert!(rt; runs(rt.alloc(), 4_000)?);
+    Ok(())
+}
+
+#[test]
+fn ten_thousand_topics_of_one_length(rt: HostRuntime) -> Result<(), Fail> {
+    let alloc = rt.alloc();
+    let mut sub = Subscribe::new(alloc, Options::usual(Role::Sub, 0), false)?;
+    sub.reserve(2)?;
+    for i in 0u32..10_000 {
+        assert!(rt; sub.topic(Ctx(0), &i.to_be_bytes(), true)?);
+    }
+    assert!(rt;
+        comes(
+            &mut sub,
+            alloc,
+            PipeId(1),
+            &[0, 0, 39, 16, 1],
+            Verdict::Fine
+        )
+    );
+    assert!(rt; !sub.keeps(Ctx(0)));
+    assert!(rt;
+        comes(
+            &mut sub,
+            alloc,
+            PipeId(1),
+            &[0, 0, 39, 15, 1],
+            Verdict::Fine
+        )
+    );
+    assert!(rt; gets(&mut sub, 0, Ctx(0), &[0, 0, 39, 15, 1]));
+    // A longer body than any topic, and a shorter one.
+    assert!(rt; sub.topic(Ctx(0), b"", true)?);
+    assert!(rt; comes(&mut sub, alloc, PipeId(1), b"", Verdict::Fine));
+    assert!(rt; gets(&mut sub, 1, Ctx(0), b""));
+    Ok(())
+}
