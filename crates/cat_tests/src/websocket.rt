@@ -1,10 +1,17 @@
 //! Runs over WebSocket, byte for byte.
+ghost use Rattle.std.specs.Prelude.{◌≡◌, true, IfOk};
+ghost use Rattle.sp_base.specs.declared.addr.Scheme.TheVariants as schemes;
+ghost use Rattle.sp_fakes.specs.MemLinks.{link_view, unread_at};
+
 use crate::TURNS;
 use crate::play::{ALL, Outside, incoming, link_of, over_one, play, trickle};
 use cat_run::Status;
 use sp_base::{Addr, Bytes, Host, NoMemory};
 use sp_fakes::{LinkStep, MemLink};
+use sp_msg::{Message, Room, Wire, WireIn};
+use sp_ws::{Side, WsWire};
 use std::alloc::Global;
+use std::sync::Wait;
 use std::test::Fail;
 
 // The sample head of the standard, of a req that asks a rep.
@@ -39,23 +46,32 @@ const REP: &[&str] = &[
     "1",
 ];
 
+// The address of this path at a port of this machine.
+fn address(alloc: Global, port: u16, path: &[u8]) -> Result<Addr, NoMemory> {
+    Ok(Addr::Ws {
+        host: Host::V4(127, 0, 0, 1),
+        port,
+        path: Bytes::from_slice(alloc, path)?,
+    })
+}
+
 // Dials to the root of port 5555 of this machine get these links.
 fn dialed(alloc: Global, links: Vec<MemLink>) -> Result<Outside, NoMemory> {
-    let addr = Addr::Ws {
-        host: Host::V4(127, 0, 0, 1),
-        port: 5555,
-        path: Bytes::from_slice(alloc, b"/")?,
-    };
     let mut outgoing = Vec::new(alloc);
-    outgoing.push((addr, links))?;
-    Ok(Outside {
+    outgoing.push((address(alloc, 5555, b"/")?, links))?;
+    Ok(dials(alloc, outgoing))
+}
+
+// Nothing comes at a listen, and dials get these links.
+fn dials(alloc: Global, outgoing: Vec<(Addr, Vec<MemLink>)>) -> Outside {
+    Outside {
         incoming: Vec::new(alloc),
         outgoing,
         net_fails: Vec::new(alloc),
         sink_fails: Vec::new(alloc),
         turns: TURNS,
         step: 1,
-    })
+    }
 }
 
 #[test]
@@ -82,12 +98,108 @@ fn a_rep_answers_over_websocket(rt: HostRuntime) -> Result<(), Fail> {
     Ok(())
 }
 
+// A wire of a client over a link that gives these pieces.
+fn client(alloc: Global, pieces: &[&[u8]]) -> Result<WsWire<MemLink>, NoMemory>
+    ensures { IfOk result (λ w. w.wire.is_open ≡ true) }
+{
+    let link = link_of(alloc, pieces, false, ALL)?;
+    match WsWire::new(alloc, link, Side::Client { seed: 7 }, &[], 1_048_576) {
+        Ok(wire) => Ok(wire),
+        Err((e, link)) => {
+            let _ = link;
+            Err(e)
+        }
+    }
+}
+
+// What a client writes that sends the request.
+fn asked<R: Wait>(alloc: Global, rt: &R) -> Result<Vec<u8>, NoMemory> {
+    let mut wire = client(alloc, &[])?;
+    if let Room::Yes = wire.room(rt) {
+        let mut m = Message::from_body(alloc, b"q")?;
+        let _ = m.header_append_u32(0x8000_0005);
+        wire.put(rt, m);
+        let _ = wire.flush(rt);
+    }
+    let link = wire.into_link();
+    Ok(Vec::from_slice(alloc, link.written())?)
+}
+
+// Whether a client pulls this message of these bytes.
+fn pulls<R: Wait>(alloc: Global, rt: &R, bytes: &[u8], wanted: &[u8]) -> Result<bool, NoMemory> {
+    let mut wire = client(alloc, &[bytes])?;
+    match wire.pull(rt) {
+        WireIn::Message(m) => Ok(m.body() == wanted),
+        _ => Ok(false),
+    }
+}
+
+// The request comes of a wire of this project, and the reply goes to one.
+#[test]
+fn a_rep_answers_a_wire_of_a_client(rt: HostRuntime) -> Result<(), Fail> {
+    let asks = asked(rt.alloc(), &rt)?;
+    assert_eq!(rt; asks.len(), 11);
+    let came = over_one(&rt, REP, link_of(rt.alloc(), &[HEAD, &asks], false, ALL)?)?;
+    assert_eq!(rt; came.status, Status::Done);
+    assert_eq!(rt; came.printed.as_slice(), b"q\n".as_slice());
+    let (head, frames) = came
+        .written
+        .as_slice()
+        .split_at(ANSWER.len().min(came.written.len()));
+    assert_eq!(rt; head, ANSWER);
+    assert!(rt; pulls(rt.alloc(), &rt, frames, b"\x80\x00\x00\x05OK")?);
+    Ok(())
+}
+
 #[test]
 fn a_text_message_closes_its_pipe(rt: HostRuntime) -> Result<(), Fail> {
     let came = over_one(&rt, REP, link_of(rt.alloc(), &[HEAD, TEXT], false, ALL)?)?;
     assert_eq!(rt; came.status, Status::Over);
     assert_eq!(rt; came.printed.len(), 0);
     assert_eq!(rt; came.written.as_slice(), ANSWER);
+    // The message behind it isn't read.
+    let came = over_one(
+        &rt,
+        REP,
+        link_of(rt.alloc(), &[HEAD, TEXT, REQUEST], false, ALL)?,
+    )?;
+    assert_eq!(rt; came.status, Status::Over);
+    assert_eq!(rt; came.printed.len(), 0);
+    assert_eq!(rt; came.written.as_slice(), ANSWER);
+    Ok(())
+}
+
+// A link that brings nothing in so many turns, and then the head and the request.
+fn late(alloc: Global, turns: u32) -> Result<MemLink, NoMemory>
+    ensures { IfOk result (λ link. link_view link ≡ unread_at 0 schemes.Tcp) }
+{
+    let mut script = Vec::new(alloc);
+    for _ in 0..turns {
+        script.push(LinkStep::NotYet)?;
+    }
+    script.push(LinkStep::Bytes(Bytes::from_slice(alloc, HEAD)?))?;
+    script.push(LinkStep::Bytes(Bytes::from_slice(alloc, REQUEST)?))?;
+    Ok(MemLink::new(alloc, script, ALL, Vec::new(alloc)))
+}
+
+// A turn is 100 milliseconds. A head that comes after ten seconds finds no link any more.
+#[test]
+fn a_late_head_is_not_answered(rt: HostRuntime) -> Result<(), Fail> {
+    let mut links = Vec::new(rt.alloc());
+    links.push(late(rt.alloc(), 80)?)?;
+    let mut outside = incoming(rt.alloc(), links)?;
+    outside.step = 100;
+    let came = play(&rt, REP, outside)?;
+    assert_eq!(rt; came.status, Status::Done);
+    assert_eq!(rt; came.written.as_slice(), REPLIED);
+    let mut links = Vec::new(rt.alloc());
+    links.push(late(rt.alloc(), 120)?)?;
+    let mut outside = incoming(rt.alloc(), links)?;
+    outside.step = 100;
+    let came = play(&rt, REP, outside)?;
+    assert_eq!(rt; came.status, Status::Over);
+    assert_eq!(rt; came.printed.len(), 0);
+    assert_eq!(rt; came.written.len(), 0);
     Ok(())
 }
 
@@ -191,5 +303,125 @@ fn each_opening_has_its_own_key(rt: HostRuntime) -> Result<(), Fail> {
     assert_eq!(rt; came.opened, 2);
     assert_eq!(rt; came.written.as_slice(), FIRST);
     assert_eq!(rt; came.second.as_slice(), SECOND);
+    Ok(())
+}
+
+// One link comes at each of two listens.
+fn at_both(alloc: Global, first: MemLink, second: MemLink) -> Result<Outside, NoMemory> {
+    let mut links = Vec::new(alloc);
+    links.push(first)?;
+    let mut outside = incoming(alloc, links)?;
+    let mut links = Vec::new(alloc);
+    links.push(second)?;
+    outside.incoming.push(links)?;
+    Ok(outside)
+}
+
+// A rep of two listeners, with a path each.
+const REP_AT_TWO: &[&str] = &[
+    "--rep",
+    "--listen",
+    "ws://127.0.0.1:5555/a",
+    "--listen",
+    "ws://127.0.0.1:5556/b",
+    "--data",
+    "OK",
+    "--ascii",
+    "--count",
+    "2",
+];
+
+// The head with the path of the first listener; ELSEWHERE has that of the second.
+const FIRST_PATH: &[u8] =
+    b"GET /a HTTP/1.1\r\nHost: 127.0.0.1:5555\r\nUpgrade: websocket\r\nConnection: Upgrade\r\nSec-WebSocket-Key: dGhlIHNhbXBsZSBub25jZQ==\r\nSec-WebSocket-Version: 13\r\nSec-WebSocket-Protocol: rep.sp.nanomsg.org\r\n\r\n";
+
+#[test]
+fn each_listener_serves_its_own_path(rt: HostRuntime) -> Result<(), Fail> {
+    let alloc = rt.alloc();
+    let first = link_of(alloc, &[FIRST_PATH, REQUEST], false, ALL)?;
+    let second = link_of(alloc, &[ELSEWHERE, REQUEST], false, ALL)?;
+    let came = play(&rt, REP_AT_TWO, at_both(alloc, first, second)?)?;
+    assert_eq!(rt; came.status, Status::Done);
+    assert_eq!(rt; came.opened, 2);
+    assert_eq!(rt; came.printed.as_slice(), b"q\nq\n".as_slice());
+    assert_eq!(rt; came.written.as_slice(), REPLIED);
+    assert_eq!(rt; came.second.as_slice(), REPLIED);
+    Ok(())
+}
+
+// Each link asks for the path of the other listener.
+#[test]
+fn a_path_of_another_listener_is_not_answered(rt: HostRuntime) -> Result<(), Fail> {
+    let alloc = rt.alloc();
+    let first = link_of(alloc, &[ELSEWHERE, REQUEST], false, ALL)?;
+    let second = link_of(alloc, &[FIRST_PATH, REQUEST], false, ALL)?;
+    let came = play(&rt, REP_AT_TWO, at_both(alloc, first, second)?)?;
+    assert_eq!(rt; came.status, Status::Over);
+    assert_eq!(rt; came.opened, 2);
+    assert_eq!(rt; came.printed.len(), 0);
+    assert_eq!(rt; came.written.len(), 0);
+    assert_eq!(rt; came.second.len(), 0);
+    Ok(())
+}
+
+#[test]
+fn each_dial_asks_for_its_own_address(rt: HostRuntime) -> Result<(), Fail> {
+    const PULLS: &[&str] = &[
+        "--pull",
+        "--dial",
+        "ws://127.0.0.1:5555/a",
+        "--dial",
+        "ws://127.0.0.1:5556/b",
+        "--count",
+        "1",
+    ];
+    const FIRST: &[u8] =
+        b"GET /a HTTP/1.1\r\nHost: 127.0.0.1:5555\r\nUpgrade: websocket\r\nConnection: Upgrade\r\nSec-WebSocket-Key: FAV7fvdngU8aCO4RhLptMg==\r\nSec-WebSocket-Version: 13\r\nSec-WebSocket-Protocol: push.sp.nanomsg.org\r\n\r\n";
+    const SECOND: &[u8] =
+        b"GET /b HTTP/1.1\r\nHost: 127.0.0.1:5556\r\nUpgrade: websocket\r\nConnection: Upgrade\r\nSec-WebSocket-Key: bFdvrEP9AHyCaIazhkobGw==\r\nSec-WebSocket-Version: 13\r\nSec-WebSocket-Protocol: push.sp.nanomsg.org\r\n\r\n";
+    let alloc = rt.alloc();
+    let mut first = Vec::new(alloc);
+    first.push(link_of(alloc, &[], false, ALL)?)?;
+    let mut second = Vec::new(alloc);
+    second.push(link_of(alloc, &[], false, ALL)?)?;
+    let mut outgoing = Vec::new(alloc);
+    outgoing.push((address(alloc, 5555, b"/a")?, first))?;
+    outgoing.push((address(alloc, 5556, b"/b")?, second))?;
+    let came = play(&rt, PULLS, dials(alloc, outgoing))?;
+    assert_eq!(rt; came.status, Status::Over);
+    assert_eq!(rt; came.opened, 2);
+    assert_eq!(rt; came.written.as_slice(), FIRST);
+    assert_eq!(rt; came.second.as_slice(), SECOND);
+    Ok(())
+}
+
+// The same request over both; the reply is framed as its transport frames it.
+#[test]
+fn tcp_and_websocket_are_served_in_one_run(rt: HostRuntime) -> Result<(), Fail> {
+    const BOTH: &[&str] = &[
+        "--rep",
+        "--listen",
+        "tcp://127.0.0.1:5555",
+        "--listen",
+        "ws://127.0.0.1:5556/",
+        "--data",
+        "OK",
+        "--ascii",
+        "--count",
+        "2",
+    ];
+    const HELLO_48: &[u8] = b"\x00SP\x00\x00\x30\x00\x00";
+    const OVER_TCP: &[u8] = b"\x00\x00\x00\x00\x00\x00\x00\x05\x80\x00\x00\x05q";
+    const REPLIED_OVER_TCP: &[u8] =
+        b"\x00SP\x00\x00\x31\x00\x00\x00\x00\x00\x00\x00\x00\x00\x06\x80\x00\x00\x05OK";
+    let alloc = rt.alloc();
+    let first = link_of(alloc, &[HELLO_48, OVER_TCP], false, ALL)?;
+    let second = link_of(alloc, &[HEAD, REQUEST], false, ALL)?;
+    let came = play(&rt, BOTH, at_both(alloc, first, second)?)?;
+    assert_eq!(rt; came.status, Status::Done);
+    assert_eq!(rt; came.opened, 2);
+    assert_eq!(rt; came.printed.as_slice(), b"q\nq\n".as_slice());
+    assert_eq!(rt; came.written.as_slice(), REPLIED_OVER_TCP);
+    assert_eq!(rt; came.second.as_slice(), REPLIED);
     Ok(())
 }

@@ -4,7 +4,7 @@ ghost use Rattle.sp_fakes.specs.MemLinks.{link_view};
 
 use sp_base::{Bytes, NoMemory};
 use sp_fakes::{LinkStep, MemLink};
-use sp_msg::{Wire, WireIn};
+use sp_msg::{Room, Wire, WireFlush, WireIn};
 use sp_ws::{Side, WsWire};
 use std::alloc::Global;
 use std::sync::Wait;
@@ -300,6 +300,30 @@ fn bytes_behind_the_head_come_first(rt: HostRuntime) -> Result<(), Fail> {
     let mut w = over(rt.alloc(), link, Side::Server, &HELLO[..10], MAX)?;
     let said = pulls(rt.alloc(), &rt, &mut w)?;
     assert!(rt; said.as_slice() == b"[Hello]e".as_slice());
+    Ok(())
+}
+
+// Whether the wire has room and nothing to write, and then pulls this message.
+fn gives_after_a_flush<R: Wait>(rt: &R, w: &mut WsWire<MemLink>, wanted: &[u8]) -> bool
+    requires { w.old.wire.is_open ≡ true }
+{
+    let Room::Yes = w.room(rt) else {
+        return false;
+    };
+    let WireFlush::Empty = w.flush(rt) else {
+        return false;
+    };
+    match w.pull(rt) {
+        WireIn::Message(m) => m.body() == wanted,
+        _ => false,
+    }
+}
+
+#[test]
+fn bytes_behind_the_head_stay_while_nothing_is_pulled(rt: HostRuntime) -> Result<(), Fail> {
+    let link = MemLink::new(rt.alloc(), Vec::new(rt.alloc()), 100, Vec::new(rt.alloc()));
+    let mut w = over(rt.alloc(), link, Side::Server, HELLO, MAX)?;
+    assert!(rt; gives_after_a_flush(&rt, &mut w, b"Hello"));
     Ok(())
 }
 
