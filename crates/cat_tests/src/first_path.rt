@@ -103,9 +103,18 @@ fn a_body_of_the_limit_is_printed_and_one_above_it_is_not(rt: HostRuntime) -> Re
     let alloc = rt.alloc();
     let body = vec![in alloc; b'x'; 1_048_576]?;
     let size = b"\x00\x00\x00\x00\x00\x10\x00\x00";
-    let came = one(&rt, &[HELLO_80, size, &body], false)?;
+    const RAW: &[&str] = &[
+        "--pull",
+        "--listen",
+        "tcp://127.0.0.1:5555",
+        "--raw",
+        "--count",
+        "1",
+    ];
+    let link = link_of(alloc, &[HELLO_80, size, &body], false, ALL)?;
+    let came = over_one(&rt, RAW, link)?;
     assert_eq!(rt; came.status, Status::Done);
-    assert_eq!(rt; came.printed.len(), 1_048_577);
+    assert!(rt; came.printed.as_slice() == body.as_slice());
     let above = b"\x00\x00\x00\x00\x00\x10\x00\x01";
     let came = one(&rt, &[HELLO_80, above, &body, b"x"], false)?;
     assert_eq!(rt; came.status, Status::Over);

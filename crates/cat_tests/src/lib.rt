@@ -18,6 +18,8 @@ mod refusals;
 #[cfg(test)]
 mod roles;
 #[cfg(test)]
+mod rounds;
+#[cfg(test)]
 mod spreading;
 #[cfg(test)]
 mod surveys;

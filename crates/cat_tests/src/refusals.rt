@@ -8,9 +8,10 @@ use sp_fakes::{MemFiles, MemNet, MemPace, MemSink, NetLink};
 use std::alloc::Global;
 use std::test::Fail;
 
+const A: &str = "tcp://127.0.0.1:5555";
+
 #[test]
 fn words_without_a_plan_are_refused_at_their_place(rt: HostRuntime) -> Result<(), Fail> {
-    const A: &str = "tcp://127.0.0.1:5555";
     let wrong: &[(&[&str], u32)] = &[
         (&[], 0),
         (&["--help"], 0),
@@ -69,13 +70,34 @@ fn a_failing_output_ends_the_run(rt: HostRuntime) -> Result<(), Fail> {
     Ok(())
 }
 
+// Each message is one put, in its turn: where the second one fails, the first text stands there alone. A message whose
+// text is empty is none.
 #[test]
-fn one_message_is_one_put(rt: HostRuntime) -> Result<(), Fail> {
-    let mut outside = hello(rt.alloc())?;
-    outside.sink_fails.push(1)?;
-    let came = play(&rt, PULL, outside)?;
-    assert_eq!(rt; came.status, Status::Done);
-    assert_eq!(rt; came.printed.as_slice(), b"hello\n".as_slice());
+fn a_message_is_one_put(rt: HostRuntime) -> Result<(), Fail> {
+    let alloc = rt.alloc();
+    const ONE: &[u8] = b"\x00\x00\x00\x00\x00\x00\x00\x02ab";
+    const OTHER: &[u8] = b"\x00\x00\x00\x00\x00\x00\x00\x02cd";
+    const EMPTY: &[u8] = b"\x00\x00\x00\x00\x00\x00\x00\x00";
+    const BOTH: [&[u8]; 3] = [HELLO_80, ONE, OTHER];
+    let rows: &[(&str, [&[u8]; 3], u64, Status, &[u8])] = &[
+        ("--ascii", BOTH, 2, Status::Done, b"ab\ncd\n"),
+        ("--ascii", BOTH, 1, Status::OutFault, b"ab\n"),
+        ("--raw", BOTH, 2, Status::Done, b"abcd"),
+        ("--raw", BOTH, 1, Status::OutFault, b"ab"),
+        ("--raw", [HELLO_80, EMPTY, ONE], 1, Status::Done, b"ab"),
+        ("--raw", [HELLO_80, EMPTY, ONE], 0, Status::OutFault, b""),
+        ("--raw", [HELLO_80, EMPTY, EMPTY], 0, Status::Done, b""),
+    ];
+    for (format, pieces, fails, status, printed) in rows {
+        let texts: &[&str] = &["--pull", "--listen", A, *format, "--count", "2"];
+        let mut links = Vec::new(alloc);
+        links.push(link_of(alloc, pieces, false, ALL)?)?;
+        let mut outside = incoming(alloc, links)?;
+        outside.sink_fails.push(*fails)?;
+        let came = play(&rt, texts, outside)?;
+        assert_eq!(rt; came.status, *status);
+        assert_eq!(rt; came.printed.as_slice(), *printed);
+    }
     Ok(())
 }
 

@@ -4,7 +4,9 @@ use crate::play::{
     ALL, HELLO_80, HELLO_81, between, incoming, link_of, outgoing, over_one, play, unlinked,
 };
 use cat_run::Status;
-use sp_fakes::LinkStep;
+use sp_base::{Addr, Bytes, Host, NoMemory};
+use sp_fakes::{LinkStep, MemLink};
+use std::alloc::Global;
 use std::test::Fail;
 
 const A: &str = "tcp://127.0.0.1:5555";
@@ -82,6 +84,85 @@ fn an_address_is_not_dialed_while_its_link_stands(rt: HostRuntime) -> Result<(),
     let came = play(&rt, &["--pull", "--dial", A], outside)?;
     assert_eq!(rt; came.status, Status::Over);
     assert_eq!(rt; came.opened, 1);
+    Ok(())
+}
+
+// Two addresses are dialed, of which the second one brings a message.
+#[test]
+fn each_address_is_dialed(rt: HostRuntime) -> Result<(), Fail> {
+    let alloc = rt.alloc();
+    let mut first = Vec::new(alloc);
+    first.push(link_of(alloc, &[HELLO_80], false, ALL)?)?;
+    let mut second = Vec::new(alloc);
+    second.push(link_of(alloc, &[HELLO_80, LATER], false, ALL)?)?;
+    let mut outside = outgoing(alloc, first)?;
+    let other = Addr::Tcp {
+        host: Host::V4(127, 0, 0, 1),
+        port: 5556,
+    };
+    outside.outgoing.push((other, second))?;
+    const BOTH: &[&str] = &[
+        "--pull",
+        "--dial",
+        A,
+        "--dial",
+        "tcp://127.0.0.1:5556",
+        "--ascii",
+        "--count",
+        "1",
+    ];
+    let came = play(&rt, BOTH, outside)?;
+    assert_eq!(rt; came.status, Status::Done);
+    assert_eq!(rt; came.opened, 2);
+    assert_eq!(rt; came.printed.as_slice(), b"later\n".as_slice());
+    Ok(())
+}
+
+// A peer that takes one message of a push and ends.
+fn takes_one(alloc: Global) -> Result<MemLink, NoMemory> {
+    let mut script = Vec::new(alloc);
+    script.push(LinkStep::Bytes(Bytes::from_slice(alloc, HELLO_81)?))?;
+    script.push(LinkStep::After(17))?;
+    script.push(LinkStep::End)?;
+    Ok(MemLink::new(alloc, script, ALL, Vec::new(alloc)))
+}
+
+// The peer that takes the first message is lost. The next one at its address gets the second; where none is there, the
+// send times out.
+#[test]
+fn a_push_dials_again(rt: HostRuntime) -> Result<(), Fail> {
+    let alloc = rt.alloc();
+    const PUSH: &[&str] = &[
+        "--push",
+        "--dial",
+        A,
+        "--data",
+        "x",
+        "--count",
+        "2",
+        "--interval",
+        "1",
+        "--send-timeout",
+        "2",
+    ];
+    const SENT: &[u8] = b"\x00SP\x00\x00\x50\x00\x00\x00\x00\x00\x00\x00\x00\x00\x01x";
+    let mut links = Vec::new(alloc);
+    links.push(takes_one(alloc)?)?;
+    links.push(link_of(alloc, &[HELLO_81], false, ALL)?)?;
+    let mut outside = outgoing(alloc, links)?;
+    outside.step = 50;
+    let came = play(&rt, PUSH, outside)?;
+    assert_eq!(rt; came.status, Status::Done);
+    assert_eq!(rt; came.opened, 2);
+    assert_eq!(rt; came.written.as_slice(), SENT);
+    assert_eq!(rt; came.second.as_slice(), SENT);
+    let mut links = Vec::new(alloc);
+    links.push(takes_one(alloc)?)?;
+    let mut outside = outgoing(alloc, links)?;
+    outside.step = 50;
+    let came = play(&rt, PUSH, outside)?;
+    assert_eq!(rt; came.status, Status::SendTimedOut);
+    assert_eq!(rt; came.written.as_slice(), SENT);
     Ok(())
 }
 

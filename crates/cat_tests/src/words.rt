@@ -92,6 +92,37 @@ fn a_time_of_0_runs_out_at_once(rt: HostRuntime) -> Result<(), Fail> {
 }
 
 #[test]
+fn a_counted_run_whose_time_is_0_has_its_status(rt: HostRuntime) -> Result<(), Fail> {
+    let pull = [
+        "--pull",
+        "--listen",
+        A,
+        "--ascii",
+        "--count",
+        "1",
+        "--recv-timeout",
+        "0",
+    ];
+    let came = unlinked(&rt, &pull)?;
+    assert_eq!(rt; exit_code(came.status), 0);
+    assert_eq!(rt; came.printed.len(), 0);
+    let push = [
+        "--push",
+        "--listen",
+        A,
+        "--data",
+        "x",
+        "--count",
+        "1",
+        "--send-timeout",
+        "0",
+    ];
+    let came = unlinked(&rt, &push)?;
+    assert_eq!(rt; exit_code(came.status), 2);
+    Ok(())
+}
+
+#[test]
 fn a_pair_with_data_sends_and_prints_nothing(rt: HostRuntime) -> Result<(), Fail> {
     const HELLO_16: &[u8] = b"\x00SP\x00\x00\x10\x00\x00";
     let link = link_of(
@@ -110,40 +141,6 @@ fn a_pair_with_data_sends_and_prints_nothing(rt: HostRuntime) -> Result<(), Fail
     assert_eq!(rt;
         came.written.as_slice(),
         b"\x00SP\x00\x00\x10\x00\x00\x00\x00\x00\x00\x00\x00\x00\x02hi".as_slice()
-    );
-    Ok(())
-}
-
-#[test]
-fn a_respondent_with_data_answers(rt: HostRuntime) -> Result<(), Fail> {
-    let link = link_of(
-        rt.alloc(),
-        &[
-            b"\x00SP\x00\x00\x62\x00\x00",
-            b"\x00\x00\x00\x00\x00\x00\x00\x05\x80\x00\x00\x05q",
-        ],
-        false,
-        ALL,
-    )?;
-    let came = over_one(
-        &rt,
-        &[
-            "--respondent",
-            "--listen",
-            A,
-            "--data",
-            "OK",
-            "--ascii",
-            "--count",
-            "1",
-        ],
-        link,
-    )?;
-    assert_eq!(rt; came.status, Status::Done);
-    assert_eq!(rt; came.printed.as_slice(), b"q\n".as_slice());
-    assert_eq!(rt;
-        came.written.as_slice(),
-        b"\x00SP\x00\x00\x63\x00\x00\x00\x00\x00\x00\x00\x00\x00\x06\x80\x00\x00\x05OK".as_slice()
     );
     Ok(())
 }

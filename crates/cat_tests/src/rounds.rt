@@ -1,0 +1,139 @@
+//! What a round asks of links and listeners, how far it goes, and what the pace is told of it.
+ghost use Rattle.sp_fakes.specs.Paces.{pace_view};
+
+use crate::play::{ALL, HELLO_80, Outside, incoming, link_of, play, words};
+use cat_run::{Status, run};
+use sp_base::{Bytes, NoMemory, Pace, Paced};
+use sp_fakes::{LinkStep, MemFiles, MemLink, MemNet, MemPace, MemSink};
+use std::alloc::Global;
+use std::test::Fail;
+
+const PULL: &[&str] = &["--pull", "--listen", "tcp://127.0.0.1:5555", "--raw"];
+
+/// A message of one byte, `x`.
+const X: &[u8] = b"\x00\x00\x00\x00\x00\x00\x00\x01x";
+
+// A link that gives so many messages at once, and then nothing for ever.
+fn talker(alloc: Global, count: u32) -> Result<MemLink, NoMemory> {
+    let mut all = Vec::from_slice(alloc, HELLO_80)?;
+    for _ in 0..count {
+        all.extend_from_slice(X)?;
+    }
+    link_of(alloc, &[all.as_slice()], false, ALL)
+}
+
+/// A pace in memory that counts what it was told.
+#[derive(Drop)]
+struct Told {
+    pace: MemPace,
+    moved: u32,
+    rested: u32,
+}
+
+impl Pace for Told {
+    ghost seen = { λ p. pace_view p.pace };
+
+    fn turn(&mut self, moved: bool) -> Paced {
+        if moved {
+            self.moved = self.moved.saturating_add(1);
+        } else {
+            self.rested = self.rested.saturating_add(1);
+        }
+        self.pace.turn(moved)
+    }
+}
+
+// While a round ends with messages that wait, the pace is told that they move; on a link that is silent, that they don't.
+#[test]
+fn the_pace_is_told_whether_messages_move(rt: HostRuntime) -> Result<(), Fail> {
+    let alloc = rt.alloc();
+    let mut links = Vec::new(alloc);
+    links.push(talker(alloc, 500)?)?;
+    let mut lists = Vec::new(alloc);
+    lists.push(links)?;
+    let mut net = MemNet::new(alloc, lists, Vec::new(alloc), Vec::new(alloc))?;
+    let mut files = MemFiles::new(alloc, Vec::new(alloc), Vec::new(alloc));
+    let mut pace = Told {
+        pace: MemPace::new(200, 1),
+        moved: 0,
+        rested: 0,
+    };
+    let mut out = MemSink::new(alloc, Vec::new(alloc));
+    let list = words(alloc, PULL)?;
+    let end = run(&rt, &list, &mut net, &mut files, &mut pace, &mut out, 0);
+    assert_eq!(rt; end.status, Status::Over);
+    assert_eq!(rt; out.text().len(), 500);
+    assert!(rt; pace.moved > 3 && pace.moved < 20);
+    assert!(rt; pace.rested > 180);
+    Ok(())
+}
+
+// These links come, and the pace has so many turns.
+fn within(alloc: Global, links: Vec<MemLink>, turns: u64) -> Result<Outside, NoMemory> {
+    let mut outside = incoming(alloc, links)?;
+    outside.turns = turns;
+    Ok(outside)
+}
+
+// A round ends, however much comes.
+#[test]
+fn a_round_prints_some_messages(rt: HostRuntime) -> Result<(), Fail> {
+    let alloc = rt.alloc();
+    let mut links = Vec::new(alloc);
+    links.push(talker(alloc, 10_000)?)?;
+    let came = play(&rt, PULL, within(alloc, links, 1)?)?;
+    assert_eq!(rt; came.status, Status::Over);
+    assert!(rt; came.printed.len() >= 64 && came.printed.len() <= 64 * 65);
+    Ok(())
+}
+
+// Of more links than there are turns one is accepted a turn.
+#[test]
+fn a_listener_is_asked_once_a_round(rt: HostRuntime) -> Result<(), Fail> {
+    let alloc = rt.alloc();
+    let mut links = Vec::new(alloc);
+    for _ in 0..40 {
+        links.push(link_of(alloc, &[HELLO_80], false, ALL)?)?;
+    }
+    let came = play(&rt, PULL, within(alloc, links, 30)?)?;
+    assert_eq!(rt; came.status, Status::Over);
+    assert_eq!(rt; came.opened, 30);
+    Ok(())
+}
+
+// A link that greets, has nothing so many times, and then gives a message.
+fn late(alloc: Global, idles: u32) -> Result<MemLink, NoMemory> {
+    let mut script = Vec::new(alloc);
+    script.push(LinkStep::Bytes(Bytes::from_slice(alloc, HELLO_80)?))?;
+    for _ in 0..idles {
+        script.push(LinkStep::NotYet)?;
+    }
+    script.push(LinkStep::Bytes(Bytes::from_slice(alloc, X)?))?;
+    Ok(MemLink::new(alloc, script, ALL, Vec::new(alloc)))
+}
+
+// In 100 turns each of three silent links is read some 100 times.
+#[test]
+fn a_silent_link_is_read_once_a_round(rt: HostRuntime) -> Result<(), Fail> {
+    let alloc = rt.alloc();
+    let rows: &[(u32, usize)] = &[(95, 3), (101, 0)];
+    for (idles, printed) in rows {
+        let mut links = Vec::new(alloc);
+        for _ in 0..3 {
+            links.push(late(alloc, *idles)?)?;
+        }
+        let came = play(&rt, PULL, within(alloc, links, 100)?)?;
+        assert_eq!(rt; came.opened, 3);
+        assert_eq!(rt; came.printed.len(), *printed);
+    }
+    Ok(())
+}
+
+#[test]
+fn a_run_goes_on_for_many_rounds(rt: HostRuntime) -> Result<(), Fail> {
+    let alloc = rt.alloc();
+    let came = play(&rt, PULL, within(alloc, Vec::new(alloc), 200_000)?)?;
+    assert_eq!(rt; came.status, Status::Over);
+    assert_eq!(rt; came.left, 0);
+    Ok(())
+}
