@@ -88,7 +88,10 @@ fn comes<M: Proto>(m: &mut M, alloc: Global, head: &[u8]) -> bool
 {
     match large(alloc, head) {
         Err(_) => false,
-        Ok(message) => m.frame(ONE, message) == Verdict::Fine,
+        Ok(mut message) => {
+            message.header_clear();
+            m.frame(ONE, message) == Verdict::Fine
+        }
     }
 }
 

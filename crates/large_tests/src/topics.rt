@@ -86,37 +86,37 @@ fn a_frame_is_kept_where_a_topic_is_its_prefix(rt: HostRuntime) -> Result<(), Fa
     Ok(())
 }
 
+// The frame comes, and is received.
+fn is_found(sub: &mut Subscribe, alloc: Global, body: &[u8]) -> Result<bool, NoMemory> {
+    sub.reserve(1)?;
+    let fine = comes(sub, alloc, PipeId(1), body, Verdict::Fine);
+    Ok(fine && gets(sub, 0, Ctx(0), body))
+}
+
+// The frame comes, and nothing is kept.
+fn is_lost(sub: &mut Subscribe, alloc: Global, body: &[u8]) -> bool {
+    comes(sub, alloc, PipeId(1), body, Verdict::Fine) && !sub.keeps(Ctx(0))
+}
+
+// Puts so many topics of four bytes on, from 0 on.
+fn puts_on(sub: &mut Subscribe, count: u32) -> Result<bool, NoMemory> {
+    let mut new = true;
+    for i in 0..count {
+        let changed = sub.topic(Ctx(0), &i.to_be_bytes(), true)?;
+        new = new && changed;
+    }
+    Ok(new)
+}
+
 #[test]
 fn ten_thousand_topics_of_one_length(rt: HostRuntime) -> Result<(), Fail> {
     let alloc = rt.alloc();
     let mut sub = Subscribe::new(alloc, Options::usual(Role::Sub, 0), false)?;
-    sub.reserve(2)?;
-    for i in 0u32..10_000 {
-        assert!(rt; sub.topic(Ctx(0), &i.to_be_bytes(), true)?);
-    }
-    assert!(rt;
-        comes(
-            &mut sub,
-            alloc,
-            PipeId(1),
-            &[0, 0, 39, 16, 1],
-            Verdict::Fine
-        )
-    );
-    assert!(rt; !sub.keeps(Ctx(0)));
-    assert!(rt;
-        comes(
-            &mut sub,
-            alloc,
-            PipeId(1),
-            &[0, 0, 39, 15, 1],
-            Verdict::Fine
-        )
-    );
-    assert!(rt; gets(&mut sub, 0, Ctx(0), &[0, 0, 39, 15, 1]));
+    assert!(rt; puts_on(&mut sub, 10_000)?);
+    assert!(rt; is_lost(&mut sub, alloc, &[0, 0, 39, 16, 1]));
+    assert!(rt; is_found(&mut sub, alloc, &[0, 0, 39, 15, 1])?);
     // A longer body than any topic, and a shorter one.
     assert!(rt; sub.topic(Ctx(0), b"", true)?);
-    assert!(rt; comes(&mut sub, alloc, PipeId(1), b"", Verdict::Fine));
-    assert!(rt; gets(&mut sub, 1, Ctx(0), b""));
+    assert!(rt; is_found(&mut sub, alloc, b"")?);
     Ok(())
 }
