@@ -11,6 +11,6 @@ returns g c =
     let last = c.in-Some.last in
     let before = c.in-Some-pop.before in
     let was : x.ops.items ≡ (rest ++ before ∷ []) ++ last ∷ [] = c.in-Some.ensures.items ∙ ap (λ (l : List OpName). l ++ last ∷ []) c.in-Some-pop.ensures.items in
-    let is : c.keep-2.new.ops.items ≡ (rest ++ last ∷ []) ++ before ∷ [] = c.keep-2.ensures ∙ ap (λ (l : List OpName). l ++ before ∷ []) c.keep.ensures in
+    let is : c.keep-in-Some-pop.new.ops.items ≡ (rest ++ last ∷ []) ++ before ∷ [] = c.keep-in-Some-pop.ensures ∙ ap (λ (l : List OpName). l ++ before ∷ []) c.keep.ensures in
     let then = swapped g.P.Proto.ties g.P.Proto.room g.W.Wire.shown x.core x.words x.seat x.slots rest before last (same_ops g.P.Proto.ties g.P.Proto.room g.W.Wire.shown x.core x.words x.seat x.slots x.ops.items ((rest ++ before ∷ []) ++ last ∷ []) c.requires (sym was)) in
-    same_ops g.P.Proto.ties g.P.Proto.room g.W.Wire.shown x.core x.words x.seat x.slots ((rest ++ last ∷ []) ++ before ∷ []) c.keep-2.new.ops.items then is
+    same_ops g.P.Proto.ties g.P.Proto.room g.W.Wire.shown x.core x.words x.seat x.slots ((rest ++ last ∷ []) ++ before ∷ []) c.keep-in-Some-pop.new.ops.items then is
