@@ -1,3 +1,4 @@
 pub mod Ordered
 pub mod Counted
 pub mod Kept
+pub mod Found

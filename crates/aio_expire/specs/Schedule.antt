@@ -1,5 +1,5 @@
 -- Deadlines as a list in order.
-use Rattle.std.specs.Prelude.{◌≡◌, ℕ, ◌<◌, ◌≤◌, Bool, true, ◌==◌, nat_lt, nat_le, ◌&&◌, ◌||◌, not, List, [], ◌∷◌, ◌++◌, length, filter}
+use Rattle.std.specs.Prelude.{◌≡◌, ℕ, ◌<◌, ◌≤◌, Bool, true, false, ◌==◌, nat_lt, nat_le, ◌&&◌, ◌||◌, not, List, [], ◌∷◌, ◌++◌, length, filter, slice_index_or, take, drop, ◌+◌}
 use Rattle.sp_base.specs.declared.OpName.{OpName}
 use Rattle.aio_expire.specs.declared.deadlines.Deadline.{Deadline}
 
@@ -52,3 +52,24 @@ pub record IsSchedule (s : Schedule) : Type 0 where
   pub ordered : IsOrdered s.entries
   pub once : (slot : ℕ) → count_of slot s.entries ≤ 1
   pub inside : Each (λ d. d.op.slot < s.slots) s.entries
+
+-- ---- How the entry of a slot is found
+
+-- each entry is due when the list has it at the entry's slot
+abbrev pub AreTimed : List ℕ → List Deadline → Type 0
+AreTimed times es = Each (λ d. (d.op.slot < length times) × (slice_index_or times d.op.slot 0 ≡ d.at)) es
+
+-- as `is_before`, of a moment and a slot
+abbrev pub comes_before : ℕ → ℕ → Deadline → Bool
+comes_before at slot d = nat_lt d.at at || (d.at == at && nat_lt d.op.slot slot)
+
+-- the entries below this place are those before the moment and slot
+pub record IsPlace (at slot i : ℕ) (es : List Deadline) : Type 0 where
+  pub below : (k : ℕ) → k < i → (d : Deadline) → comes_before at slot (slice_index_or es k d) ≡ true
+  pub above : (k : ℕ) → i ≤ k → k < length es → (d : Deadline) → comes_before at slot (slice_index_or es k d) ≡ false
+
+-- the entry at this place is the only one of the slot
+pub record IsEntryOf (slot i : ℕ) (es : List Deadline) : Type 0 where
+  pub inside : i < length es
+  pub some : 0 < count_of slot es
+  pub others : take i es ++ drop (i + 1) es ≡ others_than slot es

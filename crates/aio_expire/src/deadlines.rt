@@ -1,6 +1,6 @@
 // The deadlines of the slots' operations, in order.
-ghost use Rattle.std.specs.Prelude.{◌≡◌, ◌↔◌, ◌+◌, ◌<◌, ◌≤◌, [], ◌∷◌, ◌++◌, length, map, drop, take, vec_capacity, IsTrue, IfOk};
-ghost use Rattle.aio_expire.specs.Schedule.{IsSchedule, IsOrdered, count_of, is_before, is_due, due_of, later_than, others_than, put_in, op_of};
+ghost use Rattle.std.specs.Prelude.{ℕ, ◌≡◌, ◌↔◌, ◌+◌, ◌<◌, ◌≤◌, Some, None, [], ◌∷◌, ◌++◌, length, map, drop, take, replicate, vec_capacity, IsTrue, IfOk};
+ghost use Rattle.aio_expire.specs.Schedule.{IsSchedule, IsOrdered, AreTimed, IsPlace, IsEntryOf, count_of, is_before, is_due, due_of, later_than, others_than, put_in, op_of};
 
 use crate::names::NameList;
 use sp_base::{NoMemory, OpName, Tick};
@@ -23,17 +23,30 @@ pub struct Deadlines {
     slots: u32,
     // With room for an entry of each slot.
     entries: Vec<Deadline>,
+    // By slot: when its last entry was due. With the slot, it tells where the entry stands.
+    times: Vec<Tick>,
 }
 
 impl Model for Deadlines {
-    ghost use Rattle.std.specs.Prelude.{◌≤◌, vec_capacity};
-    ghost use Rattle.aio_expire.specs.Schedule.{Schedule, IsSchedule};
+    ghost use Rattle.std.specs.Prelude.{◌≡◌, ◌≤◌, length, vec_capacity};
+    ghost use Rattle.aio_expire.specs.Schedule.{Schedule, IsSchedule, AreTimed};
 
     ghost Value = { Schedule };
 
     ghost view = { λ d. record { slots = d.slots; entries = d.entries.items } };
 
-    ghost invariant = { λ d. IsSchedule record { slots = d.slots; entries = d.entries.items } × (d.slots ≤ vec_capacity d.entries) };
+    ghost invariant = { λ d. IsSchedule record { slots = d.slots; entries = d.entries.items } × (d.slots ≤ vec_capacity d.entries) × (length d.times.items ≡ d.slots) × AreTimed d.times.items d.entries.items };
+}
+
+// A moment for each slot, the first one.
+fn no_times(alloc: Global, slots: u32) -> Result<Vec<Tick>, NoMemory>
+    ensures { IfOk result (λ v. v.items ≡ replicate slots 0) }
+{
+    let mut times = Vec::with_capacity(alloc, slots as usize)?;
+    for _ in 0..slots {
+        times.push(Tick(0))?;
+    }
+    Ok(times)
 }
 
 impl Deadlines {
@@ -43,7 +56,12 @@ impl Deadlines {
         ensures { IfOk result (λ d. d ≡ record { slots = slots; entries = [] }) }
     {
         let entries = Vec::with_capacity(alloc, slots as usize)?;
-        Ok(Deadlines { slots, entries })
+        let times = no_times(alloc, slots)?;
+        Ok(Deadlines {
+            slots,
+            entries,
+            times,
+        })
     }
 
     /// The operation expires at `at`. Its slot has no deadline yet.
@@ -58,17 +76,21 @@ impl Deadlines {
         if self.entries.insert(place, entry).is_err() {
             unreachable!()
         }
+        self.times[op.slot as usize] = at;
     }
 
-    /// Takes the slot's entry out. Returns whether it had one.
+    /// Takes the slot's entry out. Returns whether it had one. Finds it by halving; those behind it move up in one
+    /// piece, and none of them is looked at.
     pub fn remove(&mut self, slot: u32) -> bool
         ensures had { IsTrue result ↔ (0 < count_of slot self.old.entries) }
         ensures rest { self.new ≡ record self.old { entries = others_than slot self.old.entries } }
         ensures schedule { IsSchedule self.new }
     {
-        let before = self.entries.len();
-        self.entries.retain(|d| d.op.slot != slot);
-        self.entries.len() < before
+        let Some(place) = found(&self.entries, &self.times, slot) else {
+            return false;
+        };
+        self.entries.remove(place);
+        true
     }
 
     /// Takes out the entries whose deadline is `now` or earlier, and appends their names, in order of deadline,
@@ -100,6 +122,35 @@ fn place_of(entries: &[Deadline], entry: &Deadline) -> usize
     ensures place { take result entries.now ++ entry.now ∷ drop result entries.now ≡ put_in entry.now entries.now }
 {
     entries.partition_point(|d| is_before(d, entry))
+}
+
+// How many of the ordered entries are before one of this moment and slot.
+fn before_count(entries: &[Deadline], at: Tick, slot: u32) -> usize
+    requires { IsOrdered entries.now }
+    ensures bound { result ≤ length entries.now }
+    ensures point { IsPlace at slot result entries.now }
+{
+    entries.partition_point(|d| d.at.0 < at.0 || d.at.0 == at.0 && d.op.slot < slot)
+}
+
+// Where the slot's entry stands among ordered ones, if it has one. Each is due when the slot's place in `times` says.
+fn found(entries: &[Deadline], times: &[Tick], slot: u32) -> Option<usize>
+    requires ordered { IsOrdered entries.now }
+    requires timed { AreTimed times.now entries.now }
+    ensures none { result ≡ None → count_of slot entries.now ≡ 0 }
+    ensures some { (i : ℕ) → result ≡ Some i → IsEntryOf slot i entries.now }
+{
+    if slot as usize >= times.len() {
+        return None;
+    }
+    let place = before_count(entries, times[slot as usize], slot);
+    if place == entries.len() {
+        return None;
+    }
+    if entries[place].op.slot != slot {
+        return None;
+    }
+    Some(place)
 }
 
 // How many of the ordered entries are due.

@@ -68,6 +68,24 @@ fn a_slot_has_a_deadline_again(rt: HostRuntime) -> Result<(), Fail> {
     Ok(())
 }
 
+#[test]
+fn one_is_taken_from_among_others(rt: HostRuntime) -> Result<(), Fail> {
+    let mut deadlines = Deadlines::new(rt.alloc(), 4)?;
+    let mut out = NameList::with_room(rt.alloc(), 4)?;
+    deadlines.put(FIRST, Tick(8));
+    deadlines.put(SECOND, Tick(8));
+    deadlines.put(THIRD, Tick(8));
+    assert!(rt; !deadlines.remove(3));
+    assert!(rt; !deadlines.remove(4));
+    assert!(rt; deadlines.remove(1));
+    assert!(rt; !deadlines.remove(1));
+    deadlines.put(SECOND, Tick(2));
+    assert!(rt; deadlines.remove(2));
+    deadlines.due(LAST_TICK, &mut out);
+    assert_eq!(rt; out.as_slice(), [SECOND, FIRST].as_slice());
+    Ok(())
+}
+
 fn is_send<T: Send>() {}
 
 #[test]

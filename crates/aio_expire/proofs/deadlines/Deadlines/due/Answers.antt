@@ -1,7 +1,8 @@
 use Rattle.std.proofs.Common.{rules, ◌≡◌, ◌≤◌, List, length, length-take, take, sym, ap, subst, arith}
 use Rattle.aio_expire.specs.declared.deadlines.Deadline.{Deadline}
-use Rattle.aio_expire.specs.Schedule.{Schedule, IsSchedule, is_due, later_than}
+use Rattle.aio_expire.specs.Schedule.{Schedule, IsSchedule, AreTimed, is_due, later_than}
 use Rattle.aio_expire.proofs.Kept.{schedule_filter, few}
+use Rattle.aio_expire.proofs.Ordered.{Each-filter}
 use Rattle.aio_expire.proofs.deadlines.Deadlines.due.Goals as goal
 
 pub name_all-requires : goal.name_all-requires
@@ -16,8 +17,12 @@ name_all-requires c =
 pub invariant_of-self : goal.invariant_of-self
 invariant_of-self c =
     let s : Schedule = record { slots = c.self.inside.slots; entries = c.self.inside.entries.items } in
-    let left : c.drop_front.new.entries.items ≡ later_than c.args.now s.entries = search rules in
-    (subst (λ (es : List Deadline). IsSchedule record s { entries = es }) (sym left) (schedule_filter s _ c.self.invariant.0), omega (arith, c.drop_front.ensures.room, c.self.invariant.1))
+    let left : c.drop_front.new.entries.items ≡ later_than c.args.now s.entries = search rules in (
+      subst (λ (es : List Deadline). IsSchedule record s { entries = es }) (sym left) (schedule_filter s _ c.self.invariant.0),
+      omega (arith, c.drop_front.ensures.room, c.self.invariant.1),
+      c.self.invariant.2,
+      subst (λ (es : List Deadline). AreTimed c.self.inside.times.items es) (sym left) (Each-filter _ _ s.entries c.self.invariant.3),
+    )
 
 pub returns-clause-order : goal.returns-clause-order
 returns-clause-order c =

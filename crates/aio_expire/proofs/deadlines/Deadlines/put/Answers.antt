@@ -1,7 +1,9 @@
-use Rattle.std.proofs.Common.{rules, ◌≡◌, ◌<◌, List, length, vec_len, vec_capacity, sym, ap, subst, arith}
+use Rattle.std.proofs.Common.{rules, ◌≡◌, ◌<◌, List, length, vec_len, vec_capacity, set, sym, ap, subst, ◌∙◌, arith}
+use Rattle.std.proofs.lemmas.List.{length-set}
 use Rattle.aio_expire.specs.declared.deadlines.Deadline.{Deadline}
-use Rattle.aio_expire.specs.Schedule.{Schedule, IsSchedule, put_in, count_of}
+use Rattle.aio_expire.specs.Schedule.{Schedule, IsSchedule, AreTimed, put_in, count_of}
 use Rattle.aio_expire.proofs.Kept.{schedule_put, has_room}
+use Rattle.aio_expire.proofs.Found.{timed_put}
 use Rattle.aio_expire.proofs.deadlines.Deadlines.put.Goals as goal
 
 pub unreachable-requires : goal.unreachable-requires
@@ -22,7 +24,12 @@ invariant_of-self c =
     let lt : e.op.slot < s.slots = subst (λ (v : Schedule). e.op.slot < v.slots) (sym c.self.view_is) c.requires.slot in
     let free : count_of e.op.slot s.entries ≡ 0 = subst (λ (v : Schedule). count_of e.op.slot v.entries ≡ 0) (sym c.self.view_is) c.requires.free in
     let is : IsSchedule record s { entries = put_in e s.entries } = schedule_put s e c.self.invariant.0 lt free in
-    (subst (λ (es : List Deadline). IsSchedule record s { entries = es }) (sym items) is, omega (arith, c.insert.ensures.capacity, c.self.invariant.1))
+    let timed = timed_put c.self.inside.times.items e s.entries c.self.invariant.3 free (omega (arith, lt, c.self.invariant.2)) in (
+      subst (λ (es : List Deadline). IsSchedule record s { entries = es }) (sym items) is,
+      omega (arith, c.insert.ensures.capacity, c.self.invariant.1),
+      length-set c.self.inside.times.items c.args.op.slot c.args.at ∙ c.self.invariant.2,
+      subst (λ (es : List Deadline). AreTimed (set c.self.inside.times.items c.args.op.slot c.args.at) es) (sym items) timed,
+    )
 
 pub returns-clause-schedule : goal.returns-clause-schedule
 returns-clause-schedule c =

@@ -1,36 +1,37 @@
-use Rattle.std.proofs.Common.{rules, ◌≡◌, ◌+◌, List, length, refl, sym, ap, subst, arith}
-use Rattle.std.specs.Prelude.{not}
-use Rattle.std.proofs.lemmas.Fn.{filter_same}
-use Rattle.std.proofs.lemmas.List.Filters.{length-filter_both}
-use Rattle.std.proofs.lemmas.Bool.Decides.{nat_tests}
+use Rattle.std.proofs.Common.{◌≡◌, List, sym, ap, subst, ◌∙◌, arith}
 use Rattle.aio_expire.specs.declared.deadlines.Deadline.{Deadline}
-use Rattle.aio_expire.specs.Schedule.{Schedule, IsSchedule, is_of, others_than, count_of}
+use Rattle.aio_expire.specs.Schedule.{Schedule, IsSchedule, AreTimed, IsEntryOf, others_than, count_of}
 use Rattle.aio_expire.proofs.Kept.{schedule_filter}
+use Rattle.aio_expire.proofs.Ordered.{Each-filter, others}
+use Rattle.aio_expire.proofs.Found.{none_of}
 use Rattle.aio_expire.proofs.deadlines.Deadlines.remove.Goals as goal
+
+pub returns-in_default-clause-rest : goal.returns-in_default-clause-rest
+returns-in_default-clause-rest c =
+    let s : Schedule = c.args.self.now in
+    let items = c.deref.ensures.value ∙ ap (λ (v : Schedule). v.entries) c.self.view_is in
+    let none : count_of c.args.slot s.entries ≡ 0 = subst (λ (es : List Deadline). count_of c.args.slot es ≡ 0) items (c.found.ensures.none c.in_default.is) in
+    ap (λ (es : List Deadline). record s { entries = es }) (sym (none_of c.args.slot s.entries (others c.args.slot s.entries none)).1)
+
+pub remove-requires : goal.remove-requires
+remove-requires c =
+    let e : IsEntryOf c.args.slot c.in-Some.place c.self.inside.entries.items = subst (λ (es : List Deadline). IsEntryOf c.args.slot c.in-Some.place es) c.deref.ensures.value (c.found.ensures.some c.in-Some.place c.in-Some.is) in
+    omega (arith, e.inside, c.self.inside.entries.ok)
 
 pub invariant_of-self : goal.invariant_of-self
 invariant_of-self c =
     let s : Schedule = record { slots = c.self.inside.slots; entries = c.self.inside.entries.items } in
-    let kept : c.retain.new.self.items ≡ others_than c.args.slot s.entries = filter_same _ (λ (d : Deadline). not (is_of c.args.slot d)) _ (λ x b f' k. search rules) _ _ c.retain.ensures.filtered in
-    (subst (λ (es : List Deadline). IsSchedule record s { entries = es }) (sym kept) (schedule_filter s _ c.self.invariant.0), omega (arith, c.retain.ensures.capacity, c.self.invariant.1))
-
-pub returns-clause-had : goal.returns-clause-had
-returns-clause-had c =
-    let s : Schedule = record { slots = c.self.inside.slots; entries = c.self.inside.entries.items } in
-    let kept : c.retain.new.self.items ≡ others_than c.args.slot s.entries = filter_same _ (λ (d : Deadline). not (is_of c.args.slot d)) _ (λ x b f' k. search rules) _ _ c.retain.ensures.filtered in
-    let both = length-filter_both (is_of c.args.slot) (λ d. not (is_of c.args.slot d)) (λ d. refl) s.entries in
-    let all : count_of c.args.slot s.entries + length c.retain.new.self.items ≡ length s.entries = rw kept both in
-    let now : count_of c.args.slot c.args.self.now.entries ≡ count_of c.args.slot s.entries = ap (λ (v : Schedule). count_of c.args.slot v.entries) (sym c.self.view_is) in
-    grind (arith, nat_tests, all, now, c.len.ensures, c.len-before.ensures)
-
-pub returns-clause-rest : goal.returns-clause-rest
-returns-clause-rest c =
-    let s : Schedule = record { slots = c.self.inside.slots; entries = c.self.inside.entries.items } in
-    let kept : c.retain.new.self.items ≡ others_than c.args.slot s.entries = filter_same _ (λ (d : Deadline). not (is_of c.args.slot d)) _ (λ x b f' k. search rules) _ _ c.retain.ensures.filtered in
-    subst (λ (v : Schedule). (let left : Schedule = record s { entries = c.retain.new.self.items } in left) ≡ record v { entries = others_than c.args.slot v.entries }) c.self.view_is (ap (λ (es : List Deadline). record s { entries = es }) kept)
+    let e : IsEntryOf c.args.slot c.in-Some.place s.entries = subst (λ (es : List Deadline). IsEntryOf c.args.slot c.in-Some.place es) c.deref.ensures.value (c.found.ensures.some c.in-Some.place c.in-Some.is) in
+    let left : c.remove.new.self.items ≡ others_than c.args.slot s.entries = c.remove.ensures.by_index.2 ∙ e.others in (
+      subst (λ (es : List Deadline). IsSchedule record s { entries = es }) (sym left) (schedule_filter s _ c.self.invariant.0),
+      omega (arith, c.remove.ensures.capacity, c.self.invariant.1),
+      c.self.invariant.2,
+      subst (λ (es : List Deadline). AreTimed c.self.inside.times.items es) (sym left) (Each-filter _ _ s.entries c.self.invariant.3),
+    )
 
 pub returns-clause-schedule : goal.returns-clause-schedule
 returns-clause-schedule c =
     let s : Schedule = record { slots = c.self.inside.slots; entries = c.self.inside.entries.items } in
-    let kept : c.retain.new.self.items ≡ others_than c.args.slot s.entries = filter_same _ (λ (d : Deadline). not (is_of c.args.slot d)) _ (λ x b f' k. search rules) _ _ c.retain.ensures.filtered in
-    subst (λ (es : List Deadline). IsSchedule record s { entries = es }) (sym kept) (schedule_filter s _ c.self.invariant.0)
+    let e : IsEntryOf c.args.slot c.in-Some.place s.entries = subst (λ (es : List Deadline). IsEntryOf c.args.slot c.in-Some.place es) c.deref.ensures.value (c.found.ensures.some c.in-Some.place c.in-Some.is) in
+    let left : c.remove.new.self.items ≡ others_than c.args.slot s.entries = c.remove.ensures.by_index.2 ∙ e.others in
+    subst (λ (es : List Deadline). IsSchedule record s { entries = es }) (sym left) (schedule_filter s _ c.self.invariant.0)
