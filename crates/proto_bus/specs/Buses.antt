@@ -12,11 +12,11 @@ use Rattle.sp_history.specs.declared.parts.Item.{Item}
 use Rattle.sp_history.specs.declared.setting.Setting.{Setting}
 use Rattle.sp_history.specs.declared.setting.Options.{Options}
 use Rattle.sp_history.specs.Lists.{first_word, word}
-use Rattle.sp_history.specs.Kept.{pool}
-use Rattle.sp_history.specs.Past.{pend, ctxs, up}
+use Rattle.sp_history.specs.Past.{pend}
 use Rattle.sp_history.specs.Moments.{Moment, Lawful, past}
-use Rattle.sp_proto.specs.Kinds.{Kind, kind_of, text_of}
-use Rattle.proto_floods.specs.Copies.{HasCopies}
+use Rattle.sp_proto.specs.Kinds.{Kind, text_of}
+use Rattle.sp_proto.specs.Readings.{Reading, reading}
+use Rattle.proto_floods.specs.Copies.{AreCopies, IsOnlyFlood}
 use Rattle.proto_pending.specs.Waits.{Holds, is_receive, is_send, count, room, first_name}
 use Rattle.proto_bus.specs.declared.Bus.{Bus}
 
@@ -49,11 +49,6 @@ abbrev pub header_of : Bool → ℕ → List ℕ
 header_of true p = word p
 header_of false p = []
 
--- these are so many messages without a header and with this body
-abbrev pub AreCopies : List ℕ → List MessageView → Type 0
-AreCopies body [] = ⊤
-AreCopies body (x ∷ xs) = (x ≡ record { header = []; body = body }) × AreCopies body xs
-
 -- the copies are those of the send, and this pipe is left out
 abbrev pub IsFlood : Bool → Option ℕ → List MessageView → Act → Type 0
 IsFlood raw out copies Recv = ⊤
@@ -61,8 +56,7 @@ IsFlood raw out copies (Send m) = (out ≡ left_out_of raw m.header) × AreCopie
 
 -- where one of these sends is pending, it is the only one, and these are its copies
 abbrev pub Floods : Setting → List Entry → Option ℕ → List MessageView → List Begun → Type 0
-Floods z past out copies [] = ⊤
-Floods z past out copies (s ∷ ss) = HasCopies z past (length copies) × IsFlood z.raw out copies s.act × (ss ≡ [])
+Floods z past out copies ss = IsOnlyFlood z past (length copies) (λ (s : Begun). IsFlood z.raw out copies s.act) ss
 
 -- The bus is of this kind, knows how many pipes are up, keeps these items, for which it has places, and has these
 -- operations pending
@@ -74,6 +68,9 @@ pub record Shows (m : Bus) (k : Kind) (us : List ℕ) (is : List Item) (ss : Lis
   pub pending : Holds m.pending ss
   pub contexts : cs ≡ 0 ∷ []
 
+-- it shows what it reads of a moment
+abbrev pub Stands : Bus → Reading → Type 0
+Stands m r = Shows m r.kind r.up (r.pool 0) r.pend r.ctxs
+
 abbrev pub Ties : Bus → Moment → Type 0
-Ties m t =
-    Shows m (kind_of t.z) (up (past t)) (pool t.z (past t) 0) (pend (past t)) (ctxs (past t)) × (Lawful t → Floods t.z (past t) m.left_out m.copies.items (filter is_send (pend (past t))))
+Ties m t = Stands m (reading t) × (Lawful t → Floods t.z (past t) m.left_out m.copies.items (filter is_send (pend (past t))))

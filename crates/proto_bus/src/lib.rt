@@ -18,12 +18,13 @@ ghost use Rattle.sp_proto.specs.Kinds.{Starts, entry_act};
 ghost use Rattle.sp_proto.specs.Machines.{Frames, NoFlood, Takes};
 ghost use Rattle.proto_floods.specs.Copies.{TakesCopies};
 ghost use Rattle.proto_pending.specs.Waits.{Holds};
-ghost use Rattle.proto_bus.specs.Buses.{Ties, bus_kind, places_left, receiver_of, left_out_of, header_of, AreCopies};
+ghost use Rattle.proto_bus.specs.Buses.{Ties, bus_kind, places_left, receiver_of, left_out_of, header_of};
 
 #[cfg(test)]
 mod tests;
 
 use circular_buffer::HeapCircularBuffer;
+use proto_floods::copies_of;
 use proto_pending::Pending;
 use sp_base::{Ctx, NoMemory, OpName, PipeId, Role, Tick};
 use sp_history::setting::Options;
@@ -66,21 +67,6 @@ fn leaves_out(left_out: Option<PipeId>, p: PipeId) -> bool
         None => false,
         Some(other) => other.0 == p.0,
     }
-}
-
-// So many copies of the message, without its header.
-fn copies_of(alloc: Global, m: &Message, most: usize) -> Result<Vec<Message>, NoMemory>
-    ensures copies { IfOk result (λ v. AreCopies m.now.body v.items) }
-    ensures all { IfOk result (λ v. length v.items ≡ most) }
-    ensures none { most ≡ 0 → IsOk result }
-{
-    let mut copies = Vec::with_capacity(alloc, most)?;
-    for _ in 0..most {
-        let mut copy = m.copy()?;
-        copy.header_clear();
-        copies.push(copy)?;
-    }
-    Ok(copies)
 }
 
 // As it is kept: raw, with the id of its pipe.

@@ -1,16 +1,19 @@
 -- How many pipes are up: none stands twice among them.
-use Rattle.std.proofs.Common.{◌≡◌, refl, ap, sym, ◌∙◌, subst, List, [], ◌∷◌, ◌++◌, ℕ, ◌+◌, ◌≤◌, Bool, true, false, cond, arith, length}
-use Rattle.std.specs.Prelude.{not, ◌||◌, ◌==◌}
+use Rattle.std.proofs.Common.{◌≡◌, refl, ap, sym, ◌∙◌, subst, List, [], ◌∷◌, ◌++◌, ℕ, ◌+◌, ◌-◌, ◌≤◌, ◌^◌, Bool, true, false, cond, arith, length}
+use Rattle.std.specs.Prelude.{not, ◌||◌, ◌==◌, min}
 use Rattle.std.proofs.lemmas.Bool.Decides.{nat_tests}
 use Rattle.turn_lock.specs.declared.turn.Turn.{Turn}
 use Rattle.sp_history.specs.declared.setting.Setting.{Setting}
+use Rattle.sp_history.specs.declared.entry.WireName.{WireName}
+use Rattle.sp_history.specs.declared.entry.Why.{Why}
 use Rattle.sp_history.specs.declared.entry.Entry.{Entry}
 use Rattle.sp_history.specs.declared.entry.Entry.TheVariants.{Up, Down}
 use Rattle.sp_history.specs.Lists.{has, without}
 use Rattle.sp_history.specs.Past.{up, ups, onto, past_from}
 use Rattle.sp_history.specs.Once.{AreDistinct}
 use Rattle.sp_history.specs.Legal.{Allowed, Follows, LegalFrom}
-use Rattle.sp_history.specs.Moments.{Moment, Lawful, Back, past}
+use Rattle.sp_history.specs.Moments.{Moment, Lawful, Back, past, also}
+use Rattle.proto_floods.proofs.Copying.{lawful_before, no_longer}
 
 -- ---- Lists without a number twice
 
@@ -72,6 +75,10 @@ all_stay (u ∷ us) p h = go (u == p) (no_left (u == p) (has us p) h) (all_stay 
     go true e k = absurd cc
     go false e k = ap (λ (rest : List ℕ). u ∷ rest) k
 
+one_more : (us : List ℕ) (p : ℕ) → length (us ++ p ∷ []) ≡ length us + 1
+one_more [] p = refl
+one_more (u ∷ us) p = omega (arith, one_more us p)
+
 -- one that stood there is there no longer
 pub one_fewer : (us : List ℕ) (p : ℕ) → AreDistinct us → has us p ≡ true → length (without us p) + 1 ≡ length us
 one_fewer [] p h e = absurd cc
@@ -110,3 +117,23 @@ counted_back z k before (e ∷ turn) h b = counted_next z k (turn ++ before) e (
 
 pub ups_apart : (t : Moment) → Lawful t → AreDistinct (up (past t))
 ups_apart t l = (counted_back t.z t.caller t.before t.turn (subst Counted (sym l.before) (counted_all t.z [] l.history (tt, λ q h. refl) l.legal)) l.turn).0
+
+-- ---- A machine's count of the pipes that are up
+
+-- a pipe's number is at least that of how many came up
+up_most : (before : List Entry) → length (up before) ≤ ups before
+up_most [] = omega arith
+up_most (Up p place name ∷ before) = omega (arith, up_most before, one_more (up before) p)
+up_most (Down p why ∷ before) = omega (arith, up_most before, no_longer (up before) p)
+up_most (_ ∷ before) = up_most before
+
+-- a pipe comes up; that many never do that the count is full
+pub counted_up : (t : Moment) (p place : ℕ) (name : WireName) (n : ℕ) → Lawful (also t (Up p place name)) → n ≡ length (up (past t)) → min (n + 1) (2 ^ 64 - 1) ≡ length (up (past t) ++ p ∷ [])
+counted_up t p place name n l h =
+    let next = l.turn.0.itself.0 in
+    let small = l.turn.0.itself.2 in
+    omega (arith, one_more (up (past t)) p, up_most (past t), next, small, h)
+
+-- a pipe goes down
+pub counted_down : (t : Moment) (p : ℕ) (why : Why) (n : ℕ) → Lawful (also t (Down p why)) → n ≡ length (up (past t)) → n - 1 ≡ length (without (up (past t)) p)
+counted_down t p why n l h = omega (arith, one_fewer (up (past t)) p (ups_apart t (lawful_before t (Down p why) l)) l.turn.0.itself.0, h)

@@ -6,25 +6,18 @@ use Rattle.sp_history.specs.Kept.{pool}
 use Rattle.sp_history.specs.Past.{pend, up, ups}
 use Rattle.sp_history.specs.Settled.{has_full}
 use Rattle.sp_history.specs.declared.entry.Entry.{Entry}
-use Rattle.sp_history.specs.declared.entry.Entry.TheVariants.{Met, NoUp, Quiet, Stall, Clear, Taken, Took}
 use Rattle.sp_history.specs.Moments.{Moment, Lawful, past, also, IsSilent}
 use Rattle.sp_proto.specs.Kinds.{Starts, kind_of}
+use Rattle.sp_proto.specs.Readings.{stays}
 use Rattle.proto_pending.specs.Waits.{Holds}
 use Rattle.proto_pair.specs.declared.Pair.{Pair}
-use Rattle.proto_pair.specs.Pairs.{Ties, pair_kind, port_of, message_in}
+use Rattle.proto_pair.specs.Pairs.{Ties, Stands, pair_kind, port_of, message_in}
 
 pub kinds : (m : Pair) (t : Moment) → Ties m t → kind_of t.z ≡ pair_kind m.raw m.options
 kinds m t h = h.kind
 
 pub silent : (m : Pair) (t : Moment) (e : Entry) → IsSilent e → Lawful (also t e) → Ties m t → Ties m (also t e)
-silent m t (Met place) h l k = k
-silent m t (NoUp place miss) h l k = k
-silent m t (Quiet p) h l k = k
-silent m t (Stall p) h l k = k
-silent m t (Clear p) h l k = k
-silent m t (Taken p) h l k = k
-silent m t (Took op by) h l k = k
-silent m t _ h l k = absurd h
+silent m t e h l k = stays Stands m t e h k
 
 pub anew : (m : Pair) (t : Moment) → past t ≡ [] → Ties m t → Starts Ties m (pair_kind m.raw m.options)
 anew m t e h slots callers caller =

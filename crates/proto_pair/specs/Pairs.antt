@@ -9,11 +9,9 @@ use Rattle.sp_history.specs.declared.parts.Begun.{Begun}
 use Rattle.sp_history.specs.declared.parts.Item.{Item}
 use Rattle.sp_history.specs.declared.setting.Options.{Options}
 use Rattle.sp_history.specs.Lists.{has}
-use Rattle.sp_history.specs.Kept.{pool}
-use Rattle.sp_history.specs.Past.{pend, ctxs, up, ups}
-use Rattle.sp_history.specs.Settled.{has_full}
-use Rattle.sp_history.specs.Moments.{Moment, past}
-use Rattle.sp_proto.specs.Kinds.{Kind, kind_of, text_of}
+use Rattle.sp_history.specs.Moments.{Moment}
+use Rattle.sp_proto.specs.Kinds.{Kind, text_of}
+use Rattle.sp_proto.specs.Readings.{Reading, reading}
 use Rattle.sp_proto.specs.declared.Offer.{Offer}
 use Rattle.sp_proto.specs.declared.Offer.TheVariants as offer
 use Rattle.proto_pending.specs.Waits.{Holds, is_receive, is_send, count, room, first_name}
@@ -71,5 +69,9 @@ pub record Shows (m : Pair) (k : Kind) (us : List ℕ) (last : ℕ) (full : ℕ 
   pub pending : Holds m.pending ss
   pub contexts : cs ≡ 0 ∷ []
 
+-- it shows what it reads of a moment
+abbrev pub Stands : Pair → Reading → Type 0
+Stands m r = Shows m r.kind r.up r.ups r.full (r.pool 0) r.pend r.ctxs
+
 abbrev pub Ties : Pair → Moment → Type 0
-Ties m t = Shows m (kind_of t.z) (up (past t)) (ups (past t)) (λ q. has_full t.turn q) (pool t.z (past t) 0) (pend (past t)) (ctxs (past t))
+Ties m t = Stands m (reading t)

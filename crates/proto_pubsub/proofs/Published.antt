@@ -1,8 +1,7 @@
 -- A pub stands for its history after each call.
-use Rattle.std.proofs.Common.{◌≡◌, refl, ap, sym, ◌∙◌, subst, List, [], ◌∷◌, ◌++◌, ℕ, ◌+◌, ◌-◌, Bool, true, false, cond, arith, Option, Some, None, length, ◌≤◌}
-use Rattle.std.specs.Prelude.{find, filter, not, min, ◌^◌, IsTrue, MatchOption, ◌||◌, ◌==◌}
+use Rattle.std.proofs.Common.{◌≡◌, refl, ap, sym, ◌∙◌, subst, List, [], ◌∷◌, ◌++◌, ℕ, ◌+◌, ◌-◌, Bool, true, false, cond, arith, Option, Some, None, length}
+use Rattle.std.specs.Prelude.{find, filter, not, min, ◌^◌, MatchOption, ◌||◌, ◌==◌}
 use Rattle.std.specs.Option.{option_map}
-use Rattle.turn_lock.specs.declared.turn.Turn.{Turn}
 use Rattle.std.proofs.lemmas.Bool.Decides.{nat_tests}
 use Rattle.sp_base.specs.declared.OpName.{OpName}
 use Rattle.sp_base.specs.declared.role.Role.{Role}
@@ -23,26 +22,26 @@ use Rattle.sp_history.specs.declared.entry.Message.{Message}
 use Rattle.sp_history.specs.declared.parts.Begun.{Begun}
 use Rattle.sp_history.specs.declared.parts.Item.{Item}
 use Rattle.sp_history.specs.declared.parts.Origin.{Origin}
-use Rattle.sp_history.specs.Setting.{is_reply, floods}
-use Rattle.sp_history.specs.Lists.{has, without, head_of}
-use Rattle.sp_history.specs.Past.{is_of, without_begun, pend, pending, up, ups, onto, past_from}
-use Rattle.sp_history.specs.Kept.{pool, kept, route, is_from, takes, add_for}
+use Rattle.sp_history.specs.Setting.{floods}
+use Rattle.sp_history.specs.Lists.{has, head_of}
+use Rattle.sp_history.specs.Past.{is_of, without_begun, pend, pending, up}
+use Rattle.sp_history.specs.Kept.{pool, kept, route, takes, add_for}
 use Rattle.sp_history.specs.Frames.{malformed, item_of as of_frame}
 use Rattle.sp_history.specs.Sends.{may_go, targets, targets_of, bytes_of}
 use Rattle.sp_history.specs.Settled.{has_full}
-use Rattle.sp_history.specs.Legal.{is_recv, is_part_of_send, sending, MayEndAs, LegalFrom}
+use Rattle.sp_history.specs.Legal.{is_recv, is_part_of_send, MayEndAs}
 use Rattle.sp_history.specs.Moments.{Moment, Lawful, past, also, next}
 use Rattle.sp_proto.specs.Kinds.{Kind}
 use Rattle.sp_proto.specs.Machines.{CanGive, CanFlood, IsIdle, NoFlood, message_of}
-use Rattle.proto_floods.specs.Copies.{HasCopies}
-use Rattle.proto_floods.proofs.Copying.{went_out, found_full, went_down, calm}
-use Rattle.proto_floods.proofs.Counting.{one_fewer, ups_apart}
+use Rattle.proto_floods.specs.Copies.{HasCopies, AreCopies}
+use Rattle.proto_floods.proofs.Copying.{lawful_before, went_out, pool_down, calm, copies_init}
+use Rattle.proto_floods.proofs.Flooding.{goes_on, pipe_down, pipe_full, no_flood_left}
+use Rattle.proto_floods.proofs.Counting.{counted_up, counted_down}
 use Rattle.proto_pending.specs.Waits.{Holds, is_send, first_name}
 use Rattle.proto_pending.proofs.Splits.{find_passing, without_passing, other_stay}
 use Rattle.proto_pending.proofs.Firsts.{first_found, passes_first, none_kept, no_sends, first_is, none_first}
 use Rattle.proto_pubsub.specs.declared.publish.Publish.{Publish}
-use Rattle.proto_pubsub.specs.Pubs.{Ties, Floods, IsFlood, AreCopies}
-use Rattle.proto_pubsub.specs.PubLaws.{goes_on, lawful_before}
+use Rattle.proto_pubsub.specs.Pubs.{Ties, Floods, IsFlood}
 
 pub is_pub : (m : Publish) (t : Moment) → Ties m t → t.z.role ≡ role.Pub
 is_pub m t h = ap (λ (k : Kind). k.role) h.0.kind
@@ -58,72 +57,32 @@ no_sends_flood z before copies ss e = subst (λ (xs : List Begun). Floods z befo
 
 -- ---- Pipes
 
-up_most : (before : List Entry) → length (up before) ≤ ups before
-up_most [] = omega arith
-up_most (Up p place name ∷ before) = omega (arith, up_most before, one_more (up before))
-  where
-    one_more : (us : List ℕ) → length (us ++ p ∷ []) ≡ length us + 1
-    one_more [] = refl
-    one_more (u ∷ us) = omega (arith, one_more us)
-up_most (Down p why ∷ before) = omega (arith, up_most before, no_longer (up before))
-  where
-    no_longer : (us : List ℕ) → length (without us p) ≤ length us
-    no_longer [] = omega arith
-    no_longer (u ∷ us) = go (u == p) (no_longer us)
-      where
-        go : (b : Bool) → length (without us p) ≤ length us → length (cond (not b) (u ∷ without us p) (without us p)) ≤ length (u ∷ us)
-        go true h = omega (arith, h)
-        go false h = omega (arith, h)
-up_most (_ ∷ before) = up_most before
-
-append_one : (us : List ℕ) (p : ℕ) → length (us ++ p ∷ []) ≡ length us + 1
-append_one [] p = refl
-append_one (u ∷ us) p = omega (arith, append_one us p)
-
-pool_down : (z : Setting) (before : List Entry) (p : ℕ) (why : Why) → z.role ≡ role.Pub → pool z before 0 ≡ pool z (Down p why ∷ before) 0
-pool_down z before p why h = go z.role (pool z before 0) h
-  where
-    go : (r : Role) (is : List Item) → r ≡ role.Pub → is ≡ cond (is_reply r) (filter (λ (i : Item). not (is_from p i)) is) is
-    go r is h = rw h refl
-
 pub up_ties : (m n : Publish) (t : Moment) (p place : ℕ) (name : WireName) → NoFlood t → Lawful (also t (Up p place name)) → Ties m t → n ≡ record m { pipes = min (m.pipes + 1) (2 ^ 64 - 1) } → Ties n (also t (Up p place name))
-up_ties m n t p place name calm l h same =
-    let next = l.turn.0.itself.0 in
-    let small = l.turn.0.itself.2 in
-    let known = h.0.pipes in (
-      record {
-        kind = rw same h.0.kind;
-        pipes = rw same (omega (arith, append_one (up (past t)) p, up_most (past t), next, small, known));
-        items = h.0.items;
-        pending = rw same h.0.pending;
-        contexts = h.0.contexts;
-      },
-      λ now. no_sends_flood t.z (past (also t (Up p place name))) n.copies.items (filter is_send (pend (past t))) (calm (it_floods t.z (is_pub m t h))),
-    )
+up_ties m n t p place name calm l h same = (
+  record {
+    kind = rw same h.0.kind;
+    pipes = rw same (counted_up t p place name m.pipes l h.0.pipes);
+    items = h.0.items;
+    pending = rw same h.0.pending;
+    contexts = h.0.contexts;
+  },
+  λ now. no_sends_flood t.z (past (also t (Up p place name))) n.copies.items (filter is_send (pend (past t))) (calm (it_floods t.z (is_pub m t h))),
+)
 
 pub down_ties : (m n : Publish) (t : Moment) (p : ℕ) (why : Why) → Lawful (also t (Down p why)) → Ties m t → n ≡ record m { pipes = m.pipes - 1 } → Ties n (also t (Down p why))
-down_ties m n t p why l h same =
-    let known = h.0.pipes in (
-      record {
-        kind = rw same h.0.kind;
-        pipes = rw same (omega (arith, one_fewer (up (past t)) p (ups_apart t (lawful_before t (Down p why) l)) l.turn.0.itself.0, known));
-        items = sym (pool_down t.z (past t) p why (is_pub m t h)) ∙ h.0.items;
-        pending = rw same h.0.pending;
-        contexts = h.0.contexts;
-      },
-      λ now. rw same (go (filter is_send (pend (past t))) (h.1 (lawful_before t (Down p why) l))),
-    )
-  where
-    go : (ss : List Begun) → Floods t.z (past t) m.copies.items ss → Floods t.z (Down p why ∷ past t) m.copies.items ss
-    go [] k = tt
-    go (s ∷ ss) k = (went_down t.z (past t) p why (length m.copies.items) (it_floods t.z (is_pub m t h)) k.0, k.1, k.2)
+down_ties m n t p why l h same = (
+  record {
+    kind = rw same h.0.kind;
+    pipes = rw same (counted_down t p why m.pipes l h.0.pipes);
+    items = sym (pool_down t.z (past t) p why (it_floods t.z (is_pub m t h))) ∙ h.0.items;
+    pending = rw same h.0.pending;
+    contexts = h.0.contexts;
+  },
+  λ now. rw same (pipe_down t p why (length m.copies.items) (λ (s : Begun). IsFlood m.copies.items s.act) (filter is_send (pend (past t))) (it_floods t.z (is_pub m t h)) l h.1),
+)
 
 pub full_ties : (m : Publish) (t : Moment) (p : ℕ) → Ties m t → Ties m (also t (Full p))
-full_ties m t p h = (h.0, λ now. go (filter is_send (pend (past t))) (h.1 (lawful_before t (Full p) now)))
-  where
-    go : (ss : List Begun) → Floods t.z (past t) m.copies.items ss → Floods t.z (Full p ∷ past t) m.copies.items ss
-    go [] k = tt
-    go (s ∷ ss) k = (found_full t.z (past t) p (length m.copies.items) (it_floods t.z (is_pub m t h)) k.0, k.1, k.2)
+full_ties m t p h = (h.0, λ now. pipe_full t p (length m.copies.items) (λ (s : Begun). IsFlood m.copies.items s.act) (filter is_send (pend (past t))) (it_floods t.z (is_pub m t h)) now h.1)
 
 -- ---- The send that goes to many pipes
 
@@ -209,14 +168,6 @@ goes m t op s b p h c is_up =
 
 -- ---- It goes out
 
-pub copies_more : (b : List ℕ) (xs : List MessageView) (x : MessageView) → AreCopies b xs → x ≡ record { header = []; body = b } → AreCopies b (xs ++ x ∷ [])
-copies_more b [] x h e = (e, tt)
-copies_more b (y ∷ xs) x h e = (h.0, copies_more b xs x h.1 e)
-
-copies_init : (b : List ℕ) (xs : List MessageView) (x : MessageView) → AreCopies b (xs ++ x ∷ []) → AreCopies b xs × (x ≡ record { header = []; body = b })
-copies_init b [] x h = (tt, h.0)
-copies_init b (y ∷ xs) x h = let rest = copies_init b xs x h.1 in ((h.0, rest.0), rest.1)
-
 pub flood_ties : (m n : Publish) (t : Moment) (op : OpName) (p : ℕ) (s : Begun) (b : List ℕ) (copy : MessageView) → Lawful t → Ties m t → CanFlood t op s b → m.copies.items ≡ n.copies.items ++ copy ∷ [] → n ≡ record m { copies = n.copies } → (wire_text copy ≡ b) × Ties n (also t (Out p b))
 flood_ties m n t op p s b copy l h c items same =
     let sent = a_send s.act c.is_send in
@@ -299,10 +250,14 @@ is_a_receive (Send m) h = absurd cc
 no_send : (a : Bool) → a ≡ true → not a ≡ false
 no_send a h = rw h refl
 
+-- an entry that is no part of a send, and no pipe's, is nothing to the copies
+untouched : (m : Publish) (t : Moment) (e : Entry) → Lawful (also t e) → is_part_of_send t.z e ≡ false → up (e ∷ past t) ≡ up (past t) → (Lawful t → Floods t.z (past t) m.copies.items (filter is_send (pend (past t)))) → Floods t.z (e ∷ past t) m.copies.items (filter is_send (pend (past t)))
+untouched m t e = goes_on t e (length m.copies.items) (λ (s : Begun). IsFlood m.copies.items s.act) (filter is_send (pend (past t)))
+
 -- a receive that ends is nothing to a send
 stays : (m : Publish) (t : Moment) (op : OpName) (s : Begun) (ending : Ending) → Ties m t → pending (past t) op ≡ Some s → is_recv s.act ≡ true → Lawful (also t (End op ending)) → is_part_of_send t.z (End op ending) ≡ false → Floods t.z (End op ending ∷ past t) m.copies.items (filter is_send (without_begun (pend (past t)) op))
 stays m t op s ending h p is l part =
-    subst (λ (ss : List Begun). Floods t.z (End op ending ∷ past t) m.copies.items ss) (sym (other_stay is_send (pend (past t)) op s h.0.pending.apart p (no_send (is_recv s.act) is))) (goes_on t (End op ending) m.copies.items (filter is_send (pend (past t))) l part refl (h.1 (lawful_before t (End op ending) l)))
+    subst (λ (ss : List Begun). Floods t.z (End op ending ∷ past t) m.copies.items ss) (sym (other_stay is_send (pend (past t)) op s h.0.pending.apart p (no_send (is_recv s.act) is))) (untouched m t (End op ending) l part refl h.1)
 
 -- a send is lost
 pub lost_send : (m n : Publish) (t : Moment) (op : OpName) (s : Begun) (x : Message) (cause : Cause) (by : ℕ) → Lawful t → Ties m t → pending (past t) op ≡ Some s → Some x ≡ message_of s.act → Holds n.pending (without_begun (pend (past t)) op) → n ≡ record m { pending = n.pending; copies = n.copies } → Ties n (also t (End op (Gone cause by)))
@@ -368,7 +323,7 @@ module _ (m : Publish) (t : Moment) (p : ℕ) (b : List ℕ) (h : Ties m t) wher
       pending = h.0.pending;
       contexts = h.0.contexts;
     },
-    λ l. goes_on t (Frame p b) m.copies.items (filter is_send (pend (past t))) l refl refl (h.1 (lawful_before t (Frame p b) l)),
+    λ l. untouched m t (Frame p b) l refl refl h.1,
   )
     where
       not_taken : pool t.z (Frame p b ∷ past t) 0 ≡ pool t.z (past t) 0
@@ -382,11 +337,7 @@ ill_formed m t p b h = rw (is_pub m t h) refl
 
 -- ---- A turn begins
 
-no_flood_left : (z : Setting) (before : List Entry) (history : List (Turn Entry)) → LegalFrom z before history → (IsTrue (floods z.role) → sending (pend before) ≡ []) → IsTrue (floods z.role) → sending (pend (past_from before history)) ≡ []
-no_flood_left z before [] l n = n
-no_flood_left z before (t ∷ history) l n = no_flood_left z (onto t.entries before) history l.1 l.0.whole.no_flood
-
 pub fresh_ties : (m : Publish) (t : Moment) (k : ℕ) → Lawful (next t k) → Ties m t → Ties m (next t k)
 fresh_ties m t k l h =
-    let none : sending (pend (past t)) ≡ [] = subst (λ (before : List Entry). sending (pend before) ≡ []) (sym l.before) (no_flood_left t.z [] l.history l.legal (λ f. refl) (it_floods t.z (is_pub m t h))) in
+    let none = no_flood_left t k l (it_floods t.z (is_pub m t h)) in
     (h.0, λ now. no_sends_flood t.z (past t) m.copies.items (filter is_send (pend (past t))) none)

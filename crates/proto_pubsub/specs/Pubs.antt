@@ -9,11 +9,11 @@ use Rattle.sp_history.specs.declared.parts.Begun.{Begun}
 use Rattle.sp_history.specs.declared.parts.Item.{Item}
 use Rattle.sp_history.specs.declared.setting.Setting.{Setting}
 use Rattle.sp_history.specs.declared.setting.Options.{Options}
-use Rattle.sp_history.specs.Kept.{pool}
-use Rattle.sp_history.specs.Past.{pend, ctxs, up}
+use Rattle.sp_history.specs.Past.{pend}
 use Rattle.sp_history.specs.Moments.{Moment, Lawful, past}
-use Rattle.sp_proto.specs.Kinds.{Kind, kind_of}
-use Rattle.proto_floods.specs.Copies.{HasCopies}
+use Rattle.sp_proto.specs.Kinds.{Kind}
+use Rattle.sp_proto.specs.Readings.{Reading, reading}
+use Rattle.proto_floods.specs.Copies.{AreCopies, IsOnlyFlood}
 use Rattle.proto_pending.specs.Waits.{Holds, is_send, count, room}
 use Rattle.proto_pubsub.specs.declared.publish.Publish.{Publish}
 
@@ -28,11 +28,6 @@ offers_left m = count m.pending
 abbrev pub places_left : Publish → ℕ
 places_left m = room m.pending
 
--- these are so many messages without a header and with this body
-abbrev pub AreCopies : List ℕ → List MessageView → Type 0
-AreCopies body [] = ⊤
-AreCopies body (x ∷ xs) = (x ≡ record { header = []; body = body }) × AreCopies body xs
-
 -- the copies are those of the send
 abbrev pub IsFlood : List MessageView → Act → Type 0
 IsFlood copies Recv = ⊤
@@ -40,8 +35,7 @@ IsFlood copies (Send m) = AreCopies m.body copies
 
 -- where one of these sends is pending, it is the only one, and these are its copies
 abbrev pub Floods : Setting → List Entry → List MessageView → List Begun → Type 0
-Floods z past copies [] = ⊤
-Floods z past copies (s ∷ ss) = HasCopies z past (length copies) × IsFlood copies s.act × (ss ≡ [])
+Floods z past copies ss = IsOnlyFlood z past (length copies) (λ (s : Begun). IsFlood copies s.act) ss
 
 -- The pub is of this kind, knows how many pipes are up, and has these operations pending; nothing is kept
 pub record Shows (m : Publish) (k : Kind) (us : List ℕ) (is : List Item) (ss : List Begun) (cs : List ℕ) : Type 0 where
@@ -51,6 +45,9 @@ pub record Shows (m : Publish) (k : Kind) (us : List ℕ) (is : List Item) (ss :
   pub pending : Holds m.pending ss
   pub contexts : cs ≡ 0 ∷ []
 
+-- it shows what it reads of a moment
+abbrev pub Stands : Publish → Reading → Type 0
+Stands m r = Shows m r.kind r.up (r.pool 0) r.pend r.ctxs
+
 abbrev pub Ties : Publish → Moment → Type 0
-Ties m t =
-    Shows m (kind_of t.z) (up (past t)) (pool t.z (past t) 0) (pend (past t)) (ctxs (past t)) × (Lawful t → Floods t.z (past t) m.copies.items (filter is_send (pend (past t))))
+Ties m t = Stands m (reading t) × (Lawful t → Floods t.z (past t) m.copies.items (filter is_send (pend (past t))))

@@ -2,26 +2,19 @@
 use Rattle.std.specs.Prelude.{◌≡◌, [], map}
 use Rattle.std.proofs.Common.{refl, ap, ◌∙◌}
 use Rattle.sp_history.specs.declared.entry.Entry.{Entry}
-use Rattle.sp_history.specs.declared.entry.Entry.TheVariants.{Met, NoUp, Quiet, Stall, Clear, Taken, Took}
 use Rattle.sp_history.specs.Kept.{pool}
 use Rattle.sp_history.specs.Past.{pend, ctxs, topics}
 use Rattle.sp_history.specs.Moments.{Moment, Lawful, past, also, IsSilent}
 use Rattle.sp_proto.specs.Kinds.{Starts, kind_of}
+use Rattle.sp_proto.specs.Readings.{stays}
 use Rattle.proto_pubsub.specs.declared.subscribe.Subscribe.{Subscribe}
-use Rattle.proto_pubsub.specs.Subs.{Ties, sub_kind, seat_at}
+use Rattle.proto_pubsub.specs.Subs.{Ties, Stands, sub_kind, seat_at}
 
 pub kinds : (m : Subscribe) (t : Moment) → Ties m t → kind_of t.z ≡ sub_kind m.raw m.options
 kinds m t h = h.kind
 
 pub silent : (m : Subscribe) (t : Moment) (e : Entry) → IsSilent e → Lawful (also t e) → Ties m t → Ties m (also t e)
-silent m t (Met place) h l k = k
-silent m t (NoUp place miss) h l k = k
-silent m t (Quiet p) h l k = k
-silent m t (Stall p) h l k = k
-silent m t (Clear p) h l k = k
-silent m t (Taken p) h l k = k
-silent m t (Took op by) h l k = k
-silent m t _ h l k = absurd h
+silent m t e h l k = stays Stands m t e h k
 
 pub anew : (m : Subscribe) (t : Moment) → past t ≡ [] → Ties m t → Starts Ties m (sub_kind m.raw m.options)
 anew m t e h slots callers caller =

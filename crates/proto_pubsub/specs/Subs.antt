@@ -11,9 +11,10 @@ use Rattle.sp_history.specs.declared.setting.Setting.{Setting}
 use Rattle.sp_history.specs.declared.setting.Options.{Options}
 use Rattle.sp_history.specs.Lists.{has, is_nil, same_op}
 use Rattle.sp_history.specs.Kept.{pool, takes}
-use Rattle.sp_history.specs.Past.{pend, ctxs, topics}
-use Rattle.sp_history.specs.Moments.{Moment, past}
-use Rattle.sp_proto.specs.Kinds.{Kind, kind_of}
+use Rattle.sp_history.specs.Past.{ctxs}
+use Rattle.sp_history.specs.Moments.{Moment}
+use Rattle.sp_proto.specs.Kinds.{Kind}
+use Rattle.sp_proto.specs.Readings.{Reading, reading}
 use Rattle.proto_pubsub.specs.Seats.{SeatView, is_home}
 use Rattle.proto_pubsub.specs.declared.subscribe.Subscribe.{Subscribe}
 use Rattle.proto_pubsub.specs.declared.subscribe.Waiting.{Waiting}
@@ -60,9 +61,12 @@ pub record Shows (m : Subscribe) (k : Kind) (is : ℕ → List Item) (ts : ℕ �
   pub seats : m.seats.items ≡ map (seat_at m.options.queue is ts) cs
   pub pending : map begun_of m.waiting.items ≡ ss
 
+-- it shows what it reads of a moment
+abbrev pub Stands : Subscribe → Reading → Type 0
+Stands m r = Shows m r.kind r.pool r.topics r.ctxs r.pend
+
 abbrev pub Ties : Subscribe → Moment → Type 0
-Ties m t =
-    Shows m (kind_of t.z) (λ c. pool t.z (past t) c) (λ c. topics (past t) c) (ctxs (past t)) (pend (past t))
+Ties m t = Stands m (reading t)
 
 -- the open context keeps the frame by its topics, or raw, and its queue isn't full, or discards its oldest
 pub record NeedsCopy (z : Setting) (past : List Entry) (c p : ℕ) (body : List ℕ) : Type 0 where

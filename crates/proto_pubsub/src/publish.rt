@@ -9,8 +9,9 @@ ghost use Rattle.sp_history.specs.Past.{up};
 ghost use Rattle.sp_proto.specs.Kinds.{Starts, entry_act};
 ghost use Rattle.sp_proto.specs.Machines.{Frames, NoFlood, Takes};
 ghost use Rattle.proto_floods.specs.Copies.{TakesCopies};
-ghost use Rattle.proto_pubsub.specs.Pubs.{Ties, pub_kind, places_left, AreCopies};
+ghost use Rattle.proto_pubsub.specs.Pubs.{Ties, pub_kind, places_left};
 
+use proto_floods::copies_of;
 use proto_pending::Pending;
 use sp_base::{Ctx, NoMemory, OpName, PipeId, Role, Tick};
 use sp_history::setting::Options;
@@ -29,21 +30,6 @@ pub struct Publish {
     pending: Pending,
     /// Of the send that is pending, one for each pipe that gets it.
     copies: Vec<Message>,
-}
-
-// So many copies of the message, without its header.
-fn copies_of(alloc: Global, m: &Message, most: usize) -> Result<Vec<Message>, NoMemory>
-    ensures copies { IfOk result (λ v. AreCopies m.now.body v.items) }
-    ensures all { IfOk result (λ v. length v.items ≡ most) }
-    ensures none { most ≡ 0 → IsOk result }
-{
-    let mut copies = Vec::with_capacity(alloc, most)?;
-    for _ in 0..most {
-        let mut copy = m.copy()?;
-        copy.header_clear();
-        copies.push(copy)?;
-    }
-    Ok(copies)
 }
 
 impl Publish {

@@ -4,7 +4,7 @@ use Rattle.sp_history.specs.Moments.{past}
 use Rattle.sp_history.specs.declared.entry.Entry.TheVariants.{End}
 use Rattle.sp_history.specs.declared.entry.Ending.TheVariants.{Gone}
 use Rattle.sp_proto.specs.Kinds.{text_of}
-use Rattle.proto_bus.specs.BusLaws.{lawful_before}
+use Rattle.proto_floods.proofs.Copying.{lawful_before}
 use Rattle.proto_bus.proofs.Bussed.{lost_send, lost_receive}
 use Rattle.proto_bus.proofs.BusProto.lost.Goals as goal
 

@@ -2,7 +2,7 @@ use Rattle.std.proofs.Common.{◌≡◌, ◌∙◌, ◌++◌, refl, ap, Option, 
 use Rattle.std.specs.Prelude.{IfSome, option_to_list}
 use Rattle.sp_msg.specs.Views.{MessageView}
 use Rattle.sp_history.specs.declared.entry.Entry.TheVariants.{Out}
-use Rattle.proto_pubsub.specs.PubLaws.{lawful_before}
+use Rattle.proto_floods.proofs.Copying.{lawful_before}
 use Rattle.proto_pubsub.proofs.Published.{flood_ties}
 use Rattle.proto_pubsub.proofs.publish.PublishProto.flood.Goals as goal
 

@@ -1,8 +1,8 @@
 use Rattle.std.proofs.Common.{◌≡◌, ◌++◌, ◌∷◌, [], ap, arith, length, length-append, subst, sym, rules, List}
 use Rattle.sp_msg.specs.Views.{MessageView}
-use Rattle.proto_bus.specs.Buses.{AreCopies}
-use Rattle.proto_bus.proofs.Bussed.{copies_more}
-use Rattle.proto_bus.proofs.copies_of.Goals as goal
+use Rattle.proto_floods.specs.Copies.{AreCopies}
+use Rattle.proto_floods.proofs.Copying.{copies_more}
+use Rattle.proto_floods.proofs.copies_of.Goals as goal
 
 pub loop-preserved : goal.loop-preserved
 loop-preserved c =

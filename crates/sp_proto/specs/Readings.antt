@@ -1,0 +1,92 @@
+-- All that a machine reads of a moment, and that an entry of which no protocol is told leaves it as it was.
+use Rattle.std.specs.Prelude.{◌≡◌, ℕ, Bool, false, List, [], ◌∷◌, ◌++◌, Option}
+use Rattle.std.proofs.Common.{refl, subst}
+use Rattle.sp_base.specs.declared.OpName.{OpName}
+use Rattle.sp_history.specs.declared.entry.Entry.{Entry}
+use Rattle.sp_history.specs.declared.entry.Entry.TheVariants.{Up, Down, Out, Met, NoUp, Quiet, Stall, Clear, Taken, Took}
+use Rattle.sp_history.specs.declared.parts.Begun.{Begun}
+use Rattle.sp_history.specs.declared.parts.Item.{Item}
+use Rattle.sp_history.specs.declared.parts.Origin.{Origin}
+use Rattle.sp_history.specs.declared.parts.Requests.{Requests}
+use Rattle.sp_history.specs.Lists.{without}
+use Rattle.sp_history.specs.Past.{pend, ctxs, topics, up, ups, now}
+use Rattle.sp_history.specs.Kept.{pool, stored, route}
+use Rattle.sp_history.specs.Requests.{requests}
+use Rattle.sp_history.specs.Sends.{bytes_of}
+use Rattle.sp_history.specs.Settled.{has_full, is_dry}
+use Rattle.sp_history.specs.Legal.{is_part_of_send}
+use Rattle.sp_history.specs.Moments.{Moment, past, also, IsSilent}
+use Rattle.sp_proto.specs.Kinds.{Kind, kind_of}
+
+-- the pipes that are up, in the order in which they were last put to use: came up, or got a message
+abbrev pub in_turn : List Entry → List ℕ
+in_turn [] = []
+in_turn (Up p place name ∷ past) = in_turn past ++ p ∷ []
+in_turn (Down p why ∷ past) = without (in_turn past) p
+in_turn (Out p b ∷ past) = without (in_turn past) p ++ p ∷ []
+in_turn (_ ∷ past) = in_turn past
+
+-- the pipe of the last Out, or 0
+abbrev pub out_last : List Entry → ℕ
+out_last [] = 0
+out_last (Out p b ∷ past) = p
+out_last (_ ∷ past) = out_last past
+
+-- what a machine may depend on
+pub record Reading : Type 0 where
+  pub kind : Kind
+  -- the pipes that are up, in the order in which they came up, and in that in which they were last put to use; the number
+  -- of the last that came up, and that of the last Out; which were found full in this turn
+  pub up : List ℕ
+  pub in_turn : List ℕ
+  pub ups : ℕ
+  pub out_last : ℕ
+  pub full : ℕ → Bool
+  -- the open contexts; of each what is kept for it, its topics, the request stored with it, and whether it is dry
+  pub ctxs : List ℕ
+  pub pool : ℕ → List Item
+  pub topics : ℕ → List (List ℕ)
+  pub stored : ℕ → Option Origin
+  pub dry : ℕ → Bool
+  -- the pending operations; of each the request that it answers, and the bytes of a send
+  pub pend : List Begun
+  pub route : OpName → Option Origin
+  pub bytes : Begun → Option (List ℕ)
+  pub requests : Requests
+  pub now : ℕ
+
+abbrev pub reading : Moment → Reading
+reading t =
+    record {
+      kind = kind_of t.z;
+      up = up (past t);
+      in_turn = in_turn (past t);
+      ups = ups (past t);
+      out_last = out_last (past t);
+      full = λ q. has_full t.turn q;
+      ctxs = ctxs (past t);
+      pool = λ c. pool t.z (past t) c;
+      topics = λ c. topics (past t) c;
+      stored = λ c. stored t.z (past t) c;
+      dry = λ c. is_dry (past t) c;
+      pend = pend (past t);
+      route = λ op. route t.z (past t) op;
+      bytes = λ s. bytes_of t.z (past t) s;
+      requests = requests t.z (past t);
+      now = now (past t);
+    }
+
+-- it leaves all of that, and is no part of a send
+pub leaves : (t : Moment) (e : Entry) → IsSilent e → (reading t ≡ reading (also t e)) × (is_part_of_send t.z e ≡ false)
+leaves t (Met place) h = (refl, refl)
+leaves t (NoUp place miss) h = (refl, refl)
+leaves t (Quiet p) h = (refl, refl)
+leaves t (Stall p) h = (refl, refl)
+leaves t (Clear p) h = (refl, refl)
+leaves t (Taken p) h = (refl, refl)
+leaves t (Took op by) h = (refl, refl)
+leaves t _ h = absurd h
+
+-- so a machine that depends on the reading alone stands as before
+pub stays : {M : Type 0} (Stands : M → Reading → Type 0) (m : M) (t : Moment) (e : Entry) → IsSilent e → Stands m (reading t) → Stands m (reading (also t e))
+stays Stands m t e h k = subst (Stands m) (leaves t e h).0 k
