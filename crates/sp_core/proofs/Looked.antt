@@ -1,7 +1,8 @@
 -- The core looks at the pending operations of a context.
-use Rattle.std.proofs.Common.{◌≡◌, ◌≢◌, refl, ap, sym, ◌∙◌, subst, List, [], ◌∷◌, ◌++◌, ℕ, zero, suc, ◌+◌, ◌<◌, ◌≤◌, Bool, true, false, cond, arith, Option, Some, None, length, get_or, append_assoc, append-nil, inl, inr}
-use Rattle.std.specs.Prelude.{not, find, map, ◌||◌, ◌==◌, ◌⊎◌}
+use Rattle.std.proofs.Common.{◌≡◌, refl, ap, sym, ◌∙◌, subst, List, [], ◌∷◌, ◌++◌, ℕ, Bool, true, false, cond, Some, append_assoc, append-nil, inl, inr}
+use Rattle.std.specs.Prelude.{find, map, ◌||◌, ◌==◌, ◌⊎◌}
 use Rattle.std.proofs.lemmas.Bool.{or_right}
+use Rattle.std.proofs.lemmas.Option.{same_Some}
 use Rattle.sp_base.specs.declared.OpName.{OpName}
 use Rattle.aio_word.specs.declared.phase.Phase.TheVariants as phase
 use Rattle.aio_word.specs.declared.rule.Entry as word
@@ -12,14 +13,14 @@ use Rattle.sp_history.specs.declared.entry.Entry.{Entry}
 use Rattle.sp_history.specs.declared.entry.Entry.TheVariants.{End}
 use Rattle.sp_history.specs.declared.parts.Begun.{Begun}
 use Rattle.sp_history.specs.Lists.{same_op}
-use Rattle.sp_history.specs.Once.{AreApart, occurs}
-use Rattle.sp_history.specs.Past.{pend, pending, is_of, without_begun, onto}
+use Rattle.sp_history.specs.Past.{pend, is_of, onto}
 use Rattle.sp_history.specs.Moments.{Moment, past, also}
 use Rattle.sp_history.proofs.OnceHolds.{same_op-eq, same_op-refl}
-use Rattle.sp_core.specs.declared.operations.Pending.{Pending}
-use Rattle.sp_core.specs.Looking.{Grows, ends_in, HasLooked, IsAt, IsFrom, LooksTo, FoundAt}
-use Rattle.sp_core.specs.Moving.{Later}
-use Rattle.std.proofs.lemmas.List.{length-map}
+use Rattle.sp_pending.specs.declared.pending.Pending.{Pending}
+use Rattle.sp_pending.specs.Pendings.{PendingView, IsNextIn, behind, in_line, left_of, line_of}
+use Rattle.sp_pending.proofs.RingSteps.{is_same}
+use Rattle.sp_pending.proofs.Walks.{Step, line_without}
+use Rattle.sp_core.specs.Looking.{Grows, ends_in, HasLooked, IsLeft, LooksTo, ReadsPending, FoundOf, line_on}
 use Rattle.sp_core.specs.declared.operations.Operations.{Operations}
 use Rattle.sp_core.specs.OperationsStand.{OperationsStand, pending_of}
 
@@ -43,155 +44,85 @@ pub stands_right : (e : word.Entry) (xs ys : List word.Entry) → Stands e ys �
 stands_right e [] ys h = h
 stands_right e (x ∷ xs) ys h = inr (stands_right e xs ys h)
 
--- ---- Places
-
-pub at_place : (ss : List Begun) (i : ℕ) (x : Pending) → i < length ss → x ≡ get_or (map pending_of ss) i x → (s : Begun) × IsAt i s ss × (x ≡ pending_of s)
-at_place [] i x l e = absurd (omega (arith, l))
-at_place (s ∷ ss) zero x l e = (s, refl, e)
-at_place (s ∷ ss) (suc i) x l e = at_place ss i x (omega (arith, l)) e
-
-pub same_place : (ss : List Begun) (i : ℕ) (s r : Begun) → IsAt i s ss → IsAt i r ss → s ≡ r
-same_place [] i s r h k = absurd h
-same_place (x ∷ xs) zero s r h k = sym h ∙ k
-same_place (x ∷ xs) (suc i) s r h k = same_place xs i s r h k
-
-module _ (operations : Operations) (t : Moment) (i : ℕ) (x : Pending) where
-  pub stands_at : OperationsStand [] operations t → i < length operations.pending.items → x ≡ get_or operations.pending.items i x → (s : Begun) × IsAt i s (pend (past t)) × (x ≡ pending_of s)
-  stands_at h l e =
-      let n : length operations.pending.items ≡ length (pend (past t)) = ap length h.pending_is ∙ length-map (pend (past t)) pending_of in
-      at_place (pend (past t)) i x (omega (arith, n, l)) (e ∙ ap (λ (xs : List Pending). get_or xs i x) h.pending_is)
-
-  is_it : (s : Begun) → OperationsStand [] operations t → i < length operations.pending.items → x ≡ get_or operations.pending.items i x → IsAt i s (pend (past t)) → x ≡ pending_of s
-  is_it s h l e at = let q = stands_at h l e in q.2 ∙ ap pending_of (same_place (pend (past t)) i q.0 s q.1 at)
-
-  pub its_name : (s : Begun) → OperationsStand [] operations t → i < length operations.pending.items → x ≡ get_or operations.pending.items i x → IsAt i s (pend (past t)) → x.op ≡ s.op
-  its_name s h l e at = ap (λ (y : Pending). y.op) (is_it s h l e at)
-
-  pub its_ctx : (s : Begun) → OperationsStand [] operations t → i < length operations.pending.items → x ≡ get_or operations.pending.items i x → IsAt i s (pend (past t)) → x.ctx ≡ s.ctx
-  its_ctx s h l e at = ap (λ (y : Pending). y.ctx) (is_it s h l e at)
-
-first_place : (ss : List Begun) (op : OpName) (s : Begun) (c : ℕ) → find (is_of op) ss ≡ Some s → s.ctx ≡ c → IsFrom zero op c ss
-first_place [] op s c h e = absurd cc
-first_place (r ∷ ss) op s c h e = go (is_of op r) refl h (first_place ss op s c)
-  where
-    same : Some r ≡ Some s → r ≡ s
-    same q = cc
-
-    go : (b : Bool) → is_of op r ≡ b → cond b (Some r) (find (is_of op) ss) ≡ Some s → (find (is_of op) ss ≡ Some s → s.ctx ≡ c → IsFrom zero op c ss) → ((r.op ≡ op) × (r.ctx ≡ c)) ⊎ IsFrom zero op c ss
-    go true k q again = inl (same_op-eq r.op op k, ap (λ (x : Begun). x.ctx) (same q) ∙ e)
-    go false k q again = inr (again q e)
-
-none_past : (ss : List Begun) (i c : ℕ) (op : OpName) → length ss ≤ i → IsFrom i op c ss → ⊥
-none_past [] i c op l h = h
-none_past (s ∷ ss) zero c op l h = omega (arith, l)
-none_past (s ∷ ss) (suc i) c op l h = none_past ss i c op (omega (arith, l)) h
-
-next_place : (ss : List Begun) (i c : ℕ) (op : OpName) → IsFrom i op c ss → ((s : Begun) × IsAt i s ss × (s.op ≡ op) × (s.ctx ≡ c)) ⊎ IsFrom (suc i) op c ss
-next_place [] i c op h = absurd h
-next_place (s ∷ ss) zero c op (inl h) = inl (s, refl, h.0, h.1)
-next_place (s ∷ ss) zero c op (inr h) = inr h
-next_place (s ∷ ss) (suc i) c op h = next_place ss i c op h
-
--- ---- One is taken out
-
-stays : (ss : List Begun) (gone op : OpName) (c : ℕ) → same_op gone op ≡ false → IsFrom zero op c ss → IsFrom zero op c (without_begun ss gone)
-stays [] gone op c n h = h
-stays (s ∷ ss) gone op c n (inl h) = go (is_of gone s) refl
-  where
-    go : (b : Bool) → is_of gone s ≡ b → IsFrom zero op c (cond (not b) (s ∷ without_begun ss gone) (without_begun ss gone))
-    go true k =
-        let same : gone ≡ op = sym (same_op-eq s.op gone k) ∙ h.0 in
-        let q : true ≡ false = sym (subst (λ (x : OpName). same_op gone x ≡ true) same (same_op-refl gone)) ∙ n in
-        absurd cc
-    go false k = inl h
-stays (s ∷ ss) gone op c n (inr h) = go (is_of gone s) (stays ss gone op c n h)
-  where
-    go : (b : Bool) → IsFrom zero op c (without_begun ss gone) → IsFrom zero op c (cond (not b) (s ∷ without_begun ss gone) (without_begun ss gone))
-    go true k = k
-    go false k = inr k
-
-counted_at : (ss : List Begun) (i : ℕ) (s : Begun) → IsAt i s ss → 1 ≤ occurs ss s.op
-counted_at [] i s h = absurd h
-counted_at (x ∷ xs) zero s h = go (is_of s.op x) (ap (λ (y : Begun). same_op y.op s.op) h ∙ same_op-refl s.op)
-  where
-    go : (b : Bool) → b ≡ true → 1 ≤ cond b (occurs xs s.op + 1) (occurs xs s.op)
-    go true k = omega arith
-    go false k = absurd cc
-counted_at (x ∷ xs) (suc i) s h = go (is_of s.op x) (counted_at xs i s h)
-  where
-    go : (b : Bool) → 1 ≤ occurs xs s.op → 1 ≤ cond b (occurs xs s.op + 1) (occurs xs s.op)
-    go true k = omega arith
-    go false k = k
-
-apart_tail : (x : Begun) (xs : List Begun) → AreApart (x ∷ xs) → AreApart xs
-apart_tail x xs h op = go (is_of op x) (h op)
-  where
-    go : (b : Bool) → cond b (occurs xs op + 1) (occurs xs op) ≤ 1 → occurs xs op ≤ 1
-    go true k = omega (arith, k)
-    go false k = k
-
-taken_out : (ss : List Begun) (i c : ℕ) (s : Begun) (op : OpName) → AreApart ss → IsAt i s ss → same_op s.op op ≡ false → IsFrom i op c ss → IsFrom i op c (without_begun ss s.op)
-taken_out [] i c s op a at n h = absurd h
-taken_out (x ∷ xs) zero c s op a at n h = stays (x ∷ xs) s.op op c n h
-taken_out (x ∷ xs) (suc i) c s op a at n h = go (is_of s.op x) (a s.op) (counted_at xs i s at) (taken_out xs i c s op (apart_tail x xs a) at n h)
-  where
-    go : (b : Bool) → cond b (occurs xs s.op + 1) (occurs xs s.op) ≤ 1 → 1 ≤ occurs xs s.op → IsFrom i op c (without_begun xs s.op) → IsFrom (suc i) op c (cond (not b) (x ∷ without_begun xs s.op) (without_begun xs s.op))
-    go true m l k = absurd (omega (arith, m, l))
-    go false m l k = k
-
 -- ---- The loop
 
-pub looks_first : (c : ℕ) (t : Moment) (reads : List word.Entry) → LooksTo zero c t t reads reads
-looks_first c t reads = record { more = []; grew = sym (append-nil reads); each = λ op s p e. inr (inr (first_place (pend (past t)) op s c p e)) }
-
-pub looks_on : (i c : ℕ) (t u v : Moment) (old mid new : List word.Entry) → LooksTo i c t u old mid → FoundAt false i c u v mid new → LooksTo (suc i) c t v old new
-looks_on i c t u v old mid new l f =
-    let m = f.1.0 in
-    subst (λ (x : Moment). LooksTo (suc i) c t x old new) (sym f.0) (record {
-      more = l.more ++ m;
-      grew = f.1.1 ∙ ap (λ (xs : List word.Entry). xs ++ m) l.grew ∙ append_assoc old l.more m;
-      each = λ op s p e. more op (l.each op s p e);
-    })
+first_left : (ss : List Begun) (slots : ℕ) (op : OpName) (s : Begun) (c : ℕ) → find (is_of op) ss ≡ Some s → s.ctx ≡ c → IsLeft op c (in_line slots (line_of slots c) (map pending_of ss))
+first_left [] slots op s c h e = absurd cc
+first_left (r ∷ ss) slots op s c h e = go (is_of op r) refl h (first_left ss slots op s c)
   where
-    found : (op : OpName) → ((s : Begun) × IsAt i s (pend (past u)) × (s.op ≡ op) × (s.ctx ≡ c)) ⊎ IsFrom (suc i) op c (pend (past u)) → (ends_in op u.turn ≡ true) ⊎ Stands (of_op op phase.Pending 0) (l.more ++ f.1.0) ⊎ IsFrom (suc i) op c (pend (past u))
-    found op (inl k) = inr (inl (stands_right (of_op op phase.Pending 0) l.more f.1.0 (subst (λ (o : OpName). Stands (of_op o phase.Pending 0) f.1.0) k.2 (f.1.2 k.0 k.1 k.3))))
-    found op (inr k) = inr (inr k)
+    more : (b : Bool) → IsLeft op c (in_line slots (line_of slots c) (map pending_of ss)) → IsLeft op c (cond b (pending_of r ∷ in_line slots (line_of slots c) (map pending_of ss)) (in_line slots (line_of slots c) (map pending_of ss)))
+    more true k = inr k
+    more false k = k
 
-    more : (op : OpName) → (ends_in op u.turn ≡ true) ⊎ Stands (of_op op phase.Pending 0) l.more ⊎ IsFrom i op c (pend (past u)) → (ends_in op u.turn ≡ true) ⊎ Stands (of_op op phase.Pending 0) (l.more ++ f.1.0) ⊎ IsFrom (suc i) op c (pend (past u))
-    more op (inl k) = inl k
-    more op (inr (inl k)) = inr (inl (stands_left (of_op op phase.Pending 0) l.more f.1.0 k))
-    more op (inr (inr k)) = found op (next_place (pend (past u)) i c op k)
+    go : (b : Bool) → is_of op r ≡ b → cond b (Some r) (find (is_of op) ss) ≡ Some s → (find (is_of op) ss ≡ Some s → s.ctx ≡ c → IsLeft op c (in_line slots (line_of slots c) (map pending_of ss)))
+        → IsLeft op c (in_line slots (line_of slots c) (map pending_of (r ∷ ss)))
+    go true k q again =
+        let here : r.ctx ≡ c = ap (λ (x : Begun). x.ctx) (same_Some r s q) ∙ e in
+        rw (is_same (line_of slots r.ctx) (line_of slots c) (ap (line_of slots) here)) (inl (same_op-eq r.op op k, here))
+    go false k q again = more (line_of slots r.ctx == line_of slots c) (again q e)
 
-pub looks_ended : (i c : ℕ) (t u v : Moment) (old mid new : List word.Entry) → AreApart (pend (past u)) → LooksTo i c t u old mid → FoundAt true i c u v mid new → LooksTo i c t v old new
-looks_ended i c t u v old mid new a l f =
-    let g = f.0 in
-    subst (λ (x : Moment). LooksTo i c t x old new) (sym f.1.3) (record {
-      more = l.more ++ g.more;
-      grew = g.is ∙ ap (λ (xs : List word.Entry). xs ++ g.more) l.grew ∙ append_assoc old l.more g.more;
-      each = λ op s p e. more op (l.each op s p e);
-    })
+pub looks_first : (sh : Operations) (c : ℕ) (t : Moment) (reads : List word.Entry) → OperationsStand [] sh t → LooksTo (line_on c sh.pending) c t t reads reads
+looks_first sh c t reads h = record {
+  more = [];
+  grew = sym (append-nil reads);
+  each = λ op s p e. inr (inr (subst (λ (xs : List Pending). IsLeft op c (in_line sh.pending.slots (line_of sh.pending.slots c) xs)) (sym h.pending_is) (first_left (pend (past t)) sh.pending.slots op s c p e)));
+}
+
+looks_on : (x : Pending) (rest : List Pending) (c : ℕ) (t u v : Moment) (old mid new : List word.Entry) → LooksTo (x ∷ rest) c t u old mid → v ≡ u → ReadsPending x c mid new → LooksTo rest c t v old new
+looks_on x rest c t u v old mid new l e f = subst (λ (y : Moment). LooksTo rest c t y old new) (sym e) (record {
+  more = l.more ++ f.more;
+  grew = f.grew ∙ ap (λ (xs : List word.Entry). xs ++ f.more) l.grew ∙ append_assoc old l.more f.more;
+  each = λ op s p e. go op (l.each op s p e);
+})
   where
-    left : (op : OpName) (b : Bool) → same_op f.1.0.op op ≡ b → IsFrom i op c (pend (past u)) → ((b || ends_in op u.turn) ≡ true) ⊎ Stands (of_op op phase.Pending 0) (l.more ++ f.0.more) ⊎ IsFrom i op c (without_begun (pend (past u)) f.1.0.op)
-    left op true n k = inl refl
-    left op false n k = inr (inr (taken_out (pend (past u)) i c f.1.0 op a f.1.2 n k))
+    go : (op : OpName) → (ends_in op u.turn ≡ true) ⊎ Stands (of_op op phase.Pending 0) l.more ⊎ IsLeft op c (x ∷ rest) → (ends_in op u.turn ≡ true) ⊎ Stands (of_op op phase.Pending 0) (l.more ++ f.more) ⊎ IsLeft op c rest
+    go op (inl k) = inl k
+    go op (inr (inl k)) = inr (inl (stands_left (of_op op phase.Pending 0) l.more f.more k))
+    go op (inr (inr (inl k))) = inr (inl (stands_right (of_op op phase.Pending 0) l.more f.more (subst (λ (o : OpName). Stands (of_op o phase.Pending 0) f.more) k.0 (f.read k.1))))
+    go op (inr (inr (inr k))) = inr (inr k)
 
-    more : (op : OpName) → (ends_in op u.turn ≡ true) ⊎ Stands (of_op op phase.Pending 0) l.more ⊎ IsFrom i op c (pend (past u))
-        → ((same_op f.1.0.op op || ends_in op u.turn) ≡ true) ⊎ Stands (of_op op phase.Pending 0) (l.more ++ f.0.more) ⊎ IsFrom i op c (without_begun (pend (past u)) f.1.0.op)
-    more op (inl k) = inl (or_right (same_op f.1.0.op op) (ends_in op u.turn) k)
-    more op (inr (inl k)) = inr (inl (stands_left (of_op op phase.Pending 0) l.more f.0.more k))
-    more op (inr (inr k)) = left op (same_op f.1.0.op op) refl k
+looks_ended : (x : Pending) (rest : List Pending) (c : ℕ) (t u v : Moment) (old mid new : List word.Entry) → LooksTo (x ∷ rest) c t u old mid → Grows mid new → (ending : Ending) → v ≡ also u (End x.op ending) → LooksTo rest c t v old new
+looks_ended x rest c t u v old mid new l g ending e = subst (λ (y : Moment). LooksTo rest c t y old new) (sym e) (record {
+  more = l.more ++ g.more;
+  grew = g.is ∙ ap (λ (xs : List word.Entry). xs ++ g.more) l.grew ∙ append_assoc old l.more g.more;
+  each = λ op s p e. go op (l.each op s p e);
+})
+  where
+    ends : (op : OpName) → x.op ≡ op → (same_op x.op op || ends_in op u.turn) ≡ true
+    ends op e = ap (λ (b : Bool). b || ends_in op u.turn) (subst (λ (o : OpName). same_op x.op o ≡ true) e (same_op-refl x.op))
+
+    go : (op : OpName) → (ends_in op u.turn ≡ true) ⊎ Stands (of_op op phase.Pending 0) l.more ⊎ IsLeft op c (x ∷ rest) → ((same_op x.op op || ends_in op u.turn) ≡ true) ⊎ Stands (of_op op phase.Pending 0) (l.more ++ g.more) ⊎ IsLeft op c rest
+    go op (inl k) = inl (or_right (same_op x.op op) (ends_in op u.turn) k)
+    go op (inr (inl k)) = inr (inl (stands_left (of_op op phase.Pending 0) l.more g.more k))
+    go op (inr (inr (inl k))) = inl (ends op k.0)
+    go op (inr (inr (inr k))) = inr (inr k)
+
+pub looks_step : (x : Pending) (rest : List Pending) (c : ℕ) (t u v : Moment) (before after : Operations) (old mid new : List word.Entry) → LooksTo (x ∷ rest) c t u old mid → FoundOf x c u v before after mid new → LooksTo rest c t v old new
+looks_step x rest c t u v before after old mid new l (inl f) = looks_on x rest c t u v old mid new l f.0 f.2
+looks_step x rest c t u v before after old mid new l (inr f) = looks_ended x rest c t u v old mid new l f.1 f.2.0 f.2.1
+
+-- what is left of the line, and the next one in it
+pub line_then : (x : Pending) (c : ℕ) (t u : Moment) (before after : Operations) (old new : List word.Entry) (s : Step x (line_on c before.pending)) → FoundOf x c t u before after old new
+    → (left_of (behind x.op (line_on c before.pending)) (line_on c after.pending) ≡ s.rest) × IsNextIn (behind x.op (line_on c before.pending)) (line_on c after.pending)
+line_then x c t u before after old new s (inl f) =
+    subst (λ (v : PendingView). (left_of (behind x.op (line_on c before.pending)) (line_on c v) ≡ s.rest) × IsNextIn (behind x.op (line_on c before.pending)) (line_on c v)) (sym f.1) (s.stays, s.stays_in)
+line_then x c t u before after old new s (inr f) =
+    let b = before.pending in
+    let gone = line_without b.slots (line_of b.slots c) x.op b.items in
+    subst (λ (v : PendingView). (left_of (behind x.op (line_on c b)) (line_on c v) ≡ s.rest) × IsNextIn (behind x.op (line_on c b)) (line_on c v)) (sym f.0)
+    (subst (λ (xs : List Pending). (left_of (behind x.op (line_on c b)) xs ≡ s.rest) × IsNextIn (behind x.op (line_on c b)) xs) (sym gone) (s.gone, s.gone_in))
 
 -- all of them were looked at
 abbrev pub LookedAll : ℕ → Moment → Moment → List word.Entry → List word.Entry → Type 0
 LookedAll c t u old new = HasLooked c (past t) u.turn old new
 
-pub looks_all : (i c : ℕ) (t u : Moment) (old new : List word.Entry) → length (pend (past u)) ≤ i → LooksTo i c t u old new → LookedAll c t u old new
-looks_all i c t u old new n l = record { more = l.more; grew = l.grew; each = λ op s p e. go op (l.each op s p e) }
+pub looks_all : (c : ℕ) (t u : Moment) (old new : List word.Entry) → LooksTo [] c t u old new → LookedAll c t u old new
+looks_all c t u old new l = record { more = l.more; grew = l.grew; each = λ op s p e. go op (l.each op s p e) }
   where
-    go : (op : OpName) → (ends_in op u.turn ≡ true) ⊎ Stands (of_op op phase.Pending 0) l.more ⊎ IsFrom i op c (pend (past u)) → (ends_in op u.turn ≡ true) ⊎ Stands (of_op op phase.Pending 0) l.more
+    go : (op : OpName) → (ends_in op u.turn ≡ true) ⊎ Stands (of_op op phase.Pending 0) l.more ⊎ ⊥ → (ends_in op u.turn ≡ true) ⊎ Stands (of_op op phase.Pending 0) l.more
     go op (inl k) = inl k
     go op (inr (inl k)) = inr k
-    go op (inr (inr k)) = absurd (none_past (pend (past u)) i c op n k)
+    go op (inr (inr k)) = absurd k
 
 -- ---- The turn goes on
 

@@ -2,7 +2,6 @@
 use Rattle.std.proofs.Common.{◌≡◌, refl, ap, sym, ◌∙◌, subst, List, [], ◌∷◌, ◌++◌, ℕ, zero, suc, ◌<◌, ◌≤◌, Bool, true, false, arith, Option, Some, None, length, replicate, vec_capacity, length-append, inl, inr}
 use Rattle.std.specs.Prelude.{filter, is_some, ◌||◌, ◌==◌, ◌⊎◌}
 use Rattle.std.specs.List.{All, AllByRecursion as Each}
-use Rattle.std.specs.VecDeque.{deque_capacity}
 use Rattle.std.proofs.lemmas.List.{length-replicate}
 use Rattle.std.proofs.lemmas.List.Elements.{All-nil, All-cons, All-head, All-push, All-pop, All-from_recursion}
 use Rattle.std.proofs.lemmas.Bool.{or_parts}
@@ -12,7 +11,7 @@ use Rattle.sp_history.specs.declared.parts.Begun.{Begun}
 use Rattle.sp_history.specs.declared.parts.Ended.{Ended}
 use Rattle.sp_history.specs.declared.parts.Timer.{Timer}
 use Rattle.sp_core.specs.declared.operations.Operations.{Operations}
-use Rattle.sp_core.specs.declared.operations.Done.{Done}
+use Rattle.sp_core.specs.declared.operations.EndedOperation.{EndedOperation}
 use Rattle.sp_core.specs.OperationsStand.{Holds, AreBySlot, Apart, AreAllSlots, IsWornOut}
 use Rattle.sp_core.proofs.Outcomes.{none_by_slot, none_counted}
 
@@ -128,7 +127,7 @@ module _ (slots : ℕ) (free : ℕ → Bool) (gens : ℕ → ℕ) where
             free_apart = apart.0;
             every = λ i l k. now_drawn r.free.items slot i (subst (λ (xs : List ℕ). Stands xs [] i) f (h.every i l k));
             fits = omega (arith, h.fits, ap length f, length-append r.free.items (slot ∷ []), ap (λ v. length v.items) pe, ap (λ v. length (filter is_some v.items)) de);
-            pending_room = omega (arith, h.pending_room, ap (λ v. deque_capacity v) pe);
+            pending_slots = ap (λ v. v.slots) pe ∙ h.pending_slots;
             done_places = ap (λ v. length v.items) de ∙ h.done_places;
             free_room = omega (arith, h.free_room, fc);
           },
@@ -149,7 +148,7 @@ module _ (slots : ℕ) (free : ℕ → Bool) (gens : ℕ → ℕ) where
           free_apart = subst Apart (sym f) (apart_push s.free.items slot h.free_apart one.2);
           every = λ i l k. subst (λ (xs : List ℕ). Stands xs [] i) (sym f) (now_back s.free.items slot i (h.every i l k));
           fits = omega (arith, h.fits, ap length f, length-append s.free.items (slot ∷ []), ap (λ v. length v.items) pe, ap (λ v. length (filter is_some v.items)) de);
-          pending_room = omega (arith, h.pending_room, ap (λ v. deque_capacity v) pe);
+          pending_slots = ap (λ v. v.slots) pe ∙ h.pending_slots;
           done_places = ap (λ v. length v.items) de ∙ h.done_places;
           free_room = omega (arith, h.free_room, fc);
         }
@@ -168,19 +167,19 @@ module _ (slots : ℕ) (free : ℕ → Bool) (gens : ℕ → ℕ) where
         go false f = inl refl
 
 -- no operation, and every slot free
-pub made : (s : Operations) (slots : ℕ) → s.pending.items ≡ [] → s.done.items ≡ replicate slots None → s.deadlines ≡ record { slots = slots; entries = [] } → EverySlot slots s.free.items → slots ≤ deque_capacity s.pending → slots ≤ vec_capacity s.free
+pub made : (s : Operations) (slots : ℕ) → s.pending ≡ record { slots = slots; items = [] } → s.done.items ≡ replicate slots None → s.deadlines ≡ record { slots = slots; entries = [] } → EverySlot slots s.free.items → slots ≤ vec_capacity s.free
     → Holds [] s slots [] [] [] (λ i. true) (λ i. 0)
-made s slots pe de dl all pc fc =
+made s slots pe de dl all fc =
     record {
-      pending_is = pe;
-      done_is = subst (λ (xs : List (Option Done)). AreBySlot xs []) (sym de) (none_by_slot slots);
+      pending_is = ap (λ v. v.items) pe;
+      done_is = subst (λ (xs : List (Option EndedOperation)). AreBySlot xs []) (sym de) (none_by_slot slots);
       deadlines_are = dl;
       free_is = All-from_recursion (λ i. (i < slots) × (true ≡ true)) s.free.items (with_true s.free.items all.below);
       drawn_is = All-nil _;
       free_apart = all.apart;
       every = λ i l k. inl (all.every i l);
-      fits = omega (arith, all.count, ap length pe, ap (λ (xs : List (Option Done)). length (filter is_some xs)) de, none_counted slots);
-      pending_room = pc;
+      fits = omega (arith, all.count, ap (λ v. length v.items) pe, ap (λ (xs : List (Option EndedOperation)). length (filter is_some xs)) de, none_counted slots);
+      pending_slots = ap (λ v. v.slots) pe;
       done_places = ap length de ∙ length-replicate slots None;
       free_room = fc;
     }

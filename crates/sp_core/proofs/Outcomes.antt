@@ -15,7 +15,7 @@ use Rattle.sp_history.specs.Legal.{is_uncollected}
 use Rattle.sp_history.specs.Moments.{Moment, past}
 use Rattle.sp_history.proofs.OnceHolds.{same_op-refl, same_op-eq}
 use Rattle.sp_core.specs.declared.operations.Operations.{Operations}
-use Rattle.sp_core.specs.declared.operations.Done.{Done}
+use Rattle.sp_core.specs.declared.operations.EndedOperation.{EndedOperation}
 use Rattle.sp_core.specs.Ends.{done_of}
 use Rattle.sp_core.specs.OperationsStand.{OperationsStand, AreBySlot, HasDone, done_at, is_done_of}
 use Rattle.sp_core.proofs.Told.{stands-more}
@@ -86,13 +86,13 @@ named_any (r ∷ es) op e s n = go (same_op r.begun.op op) refl s (λ m. named_a
 pub told_by : (s : Operations) (op : OpName) (t : Moment) → OperationsStand [] s t → is_uncollected (past t) op ≡ is_done_of op (done_at s.done.items op.slot)
 told_by s op t h = go (done_at s.done.items op.slot) refl (is_uncollected (past t) op) refl
   where
-    named : (d : Done) → done_at s.done.items op.slot ≡ Some d → is_uncollected (past t) op ≡ true → d.op ≡ op
+    named : (d : EndedOperation) → done_at s.done.items op.slot ≡ Some d → is_uncollected (past t) op ≡ true → d.op ≡ op
     named d p u =
         let e = any_named (uncollected (past t)) op u in
         let there = (h.done_is op.slot (done_of e.0)).1 (e.0, e.1, ap (λ (o : OpName). o.slot) e.2, refl) in
-        ap (λ (x : Done). x.op) (same_Some d (done_of e.0) (sym p ∙ there)) ∙ e.2
+        ap (λ (x : EndedOperation). x.op) (same_Some d (done_of e.0) (sym p ∙ there)) ∙ e.2
 
-    go : (o : Option Done) → done_at s.done.items op.slot ≡ o → (u : Bool) → is_uncollected (past t) op ≡ u → u ≡ is_done_of op o
+    go : (o : Option EndedOperation) → done_at s.done.items op.slot ≡ o → (u : Bool) → is_uncollected (past t) op ≡ u → u ≡ is_done_of op o
     go None p false e = refl
     go None p true e =
         let k = any_named (uncollected (past t)) op e in
@@ -106,11 +106,11 @@ told_by s op t h = go (done_at s.done.items op.slot) refl (is_uncollected (past 
         at false f = refl
         at true f =
             let k = (h.done_is op.slot d).0 p in
-            let is : k.0.begun.op ≡ op = ap (λ (x : Done). x.op) (sym k.3) ∙ same_op-eq d.op op f in
+            let is : k.0.begun.op ≡ op = ap (λ (x : EndedOperation). x.op) (sym k.3) ∙ same_op-eq d.op op f in
             sym e ∙ named_any (uncollected (past t)) op k.0 k.1 is
 
 -- what stands there of an operation that was not collected
-pub has_done : (s : Operations) (op : OpName) (t : Moment) → OperationsStand [] s t → is_uncollected (past t) op ≡ true → (d : Done) × (done_at s.done.items op.slot ≡ Some d) × (d.op ≡ op)
+pub has_done : (s : Operations) (op : OpName) (t : Moment) → OperationsStand [] s t → is_uncollected (past t) op ≡ true → (d : EndedOperation) × (done_at s.done.items op.slot ≡ Some d) × (d.op ≡ op)
 has_done s op t h u =
     let e = any_named (uncollected (past t)) op u in
     (done_of e.0, (h.done_is op.slot (done_of e.0)).1 (e.0, e.1, ap (λ (o : OpName). o.slot) e.2, refl), e.2)
@@ -124,7 +124,7 @@ other_slot : (i slot : ℕ) → (i == slot) ≡ false → i ≢ slot
 other_slot i slot h e = grind (arith, nat_tests)
 
 -- an operation ended whose slot's place had nothing
-pub put_in : (xs : List (Option Done)) (es : List Ended) (slot : ℕ) (e : Ended) (d : Done) → AreBySlot xs es → slot < length xs → e.begun.op.slot ≡ slot → d ≡ done_of e → ((x : Ended) → Stands x es → x.begun.op.slot ≢ slot) → AreBySlot (set xs slot (Some d)) (es ++ e ∷ [])
+pub put_in : (xs : List (Option EndedOperation)) (es : List Ended) (slot : ℕ) (e : Ended) (d : EndedOperation) → AreBySlot xs es → slot < length xs → e.begun.op.slot ≡ slot → d ≡ done_of e → ((x : Ended) → Stands x es → x.begun.op.slot ≢ slot) → AreBySlot (set xs slot (Some d)) (es ++ e ∷ [])
 put_in xs es slot e d h l at is none i x = go (i == slot) refl
   where
     last : Stands e (es ++ e ∷ [])
@@ -152,7 +152,7 @@ put_in xs es slot e d h l at is none i x = go (i == slot) refl
         before y a (inr q) = absurd (other_slot i slot f (sym a ∙ ap (λ (z : Ended). z.begun.op.slot) (sym q) ∙ at))
 
 -- the operation at its slot's place was collected
-pub taken_from : (xs : List (Option Done)) (es : List Ended) (op : OpName) (d : Done) → AreBySlot xs es → op.slot < length xs → done_at xs op.slot ≡ Some d → d.op ≡ op → AreBySlot (set xs op.slot None) (filter (λ e. not (same_op e.begun.op op)) es)
+pub taken_from : (xs : List (Option EndedOperation)) (es : List Ended) (op : OpName) (d : EndedOperation) → AreBySlot xs es → op.slot < length xs → done_at xs op.slot ≡ Some d → d.op ≡ op → AreBySlot (set xs op.slot None) (filter (λ e. not (same_op e.begun.op op)) es)
 taken_from xs es op d h l there named i x = go (i == op.slot) refl
   where
     passes : (e : Ended) → (b : Bool) → same_op e.begun.op op ≡ b → (b ≡ true → ⊥) → not (same_op e.begun.op op) ≡ true
@@ -167,7 +167,7 @@ taken_from xs es op d h l there named i x = go (i == op.slot) refl
           λ k.
               let w = stands_kept (λ e. not (same_op e.begun.op op)) es k.0 k.1 in
               let found = (h op.slot (done_of k.0)).1 (k.0, w.0, k.2 ∙ same, refl) in
-              let is : k.0.begun.op ≡ op = ap (λ (z : Done). z.op) (same_Some (done_of k.0) d (sym found ∙ there)) ∙ named in
+              let is : k.0.begun.op ≡ op = ap (λ (z : EndedOperation). z.op) (same_Some (done_of k.0) d (sym found ∙ there)) ∙ named in
               let no : false ≡ true = sym (ap not (ap (λ (o : OpName). same_op o op) is ∙ same_op-refl op)) ∙ w.1 in
               absurd cc,
         )
@@ -183,10 +183,10 @@ taken_from xs es op d h l there named i x = go (i == op.slot) refl
 
 -- ---- How many
 
-abbrev weigh : Option Done → ℕ
+abbrev weigh : Option EndedOperation → ℕ
 weigh x = cond (is_some x) 1 0
 
-counted_by : (xs : List (Option Done)) (slot : ℕ) (y z : Option Done) → done_at xs slot ≡ z → slot < length xs → length (filter is_some (set xs slot y)) + weigh z ≡ length (filter is_some xs) + weigh y
+counted_by : (xs : List (Option EndedOperation)) (slot : ℕ) (y z : Option EndedOperation) → done_at xs slot ≡ z → slot < length xs → length (filter is_some (set xs slot y)) + weigh z ≡ length (filter is_some xs) + weigh y
 counted_by xs slot y z h l =
     let a = length-filter is_some (set xs slot y) in
     let b = length-filter is_some xs in
@@ -194,10 +194,10 @@ counted_by xs slot y z h l =
     let d : weigh (get_or xs slot None) ≡ weigh z = ap weigh h in
     omega (arith, a, b, c, d)
 
-pub one_more_counted : (xs : List (Option Done)) (slot : ℕ) (d : Done) → done_at xs slot ≡ None → slot < length xs → length (filter is_some (set xs slot (Some d))) ≡ length (filter is_some xs) + 1
+pub one_more_counted : (xs : List (Option EndedOperation)) (slot : ℕ) (d : EndedOperation) → done_at xs slot ≡ None → slot < length xs → length (filter is_some (set xs slot (Some d))) ≡ length (filter is_some xs) + 1
 one_more_counted xs slot d h l = omega (arith, counted_by xs slot (Some d) None h l)
 
-pub one_less_counted : (xs : List (Option Done)) (slot : ℕ) (d : Done) → done_at xs slot ≡ Some d → slot < length xs → length (filter is_some (set xs slot None)) + 1 ≡ length (filter is_some xs)
+pub one_less_counted : (xs : List (Option EndedOperation)) (slot : ℕ) (d : EndedOperation) → done_at xs slot ≡ Some d → slot < length xs → length (filter is_some (set xs slot None)) + 1 ≡ length (filter is_some xs)
 one_less_counted xs slot d h l = omega (arith, counted_by xs slot None (Some d) h l)
 
 -- ---- None yet
@@ -210,6 +210,6 @@ none_at (suc n) (suc i) = none_at n i
 pub none_by_slot : (n : ℕ) → AreBySlot (replicate n None) []
 none_by_slot n i x = (λ k. let no : None ≡ Some x = sym (none_at n i) ∙ k in absurd cc, λ k. absurd k.1)
 
-pub none_counted : (n : ℕ) → length (filter (is_some {T = Done}) (replicate n None)) ≡ 0
+pub none_counted : (n : ℕ) → length (filter (is_some {T = EndedOperation}) (replicate n None)) ≡ 0
 none_counted zero = refl
 none_counted (suc n) = none_counted n

@@ -1,5 +1,5 @@
 -- A receive is begun, won and collected in one turn.
-use Rattle.std.proofs.Common.{◌≡◌, ◌≢◌, refl, ap, sym, ◌∙◌, subst, List, [], ◌∷◌, ◌++◌, ℕ, zero, suc, ◌+◌, ◌<◌, ◌≤◌, Bool, true, false, cond, arith, Option, Some, None, length, append_assoc, append-nil, inl, inr}
+use Rattle.std.proofs.Common.{◌≡◌, refl, ap, sym, ◌∙◌, subst, List, [], ◌∷◌, ◌++◌, ℕ, suc, ◌+◌, ◌<◌, ◌≤◌, Bool, true, false, cond, arith, Option, Some, None, length, append_assoc, append-nil, inl, inr}
 use Rattle.std.specs.Prelude.{not, find, ◌&&◌, ◌||◌, ◌==◌, ◌⊎◌, IsTrue, Result, Ok, Err}
 use Rattle.std.specs.Option.{option_map, is_some}
 use Rattle.std.specs.List.{list_any, list_all}
@@ -22,15 +22,14 @@ use Rattle.sp_history.specs.declared.entry.Entry.TheVariants.{Begin, End, Took}
 use Rattle.sp_history.specs.declared.parts.Begun.{Begun}
 use Rattle.sp_history.specs.declared.parts.Ended.{Ended}
 use Rattle.sp_history.specs.declared.parts.Item.{Item}
-use Rattle.sp_history.specs.declared.parts.Request.{Request}
 use Rattle.sp_history.specs.declared.parts.Orphan.{Orphan}
-use Rattle.sp_history.specs.Lists.{has, is_nil, head_of, same_op}
+use Rattle.sp_history.specs.Lists.{is_nil, head_of, same_op}
 use Rattle.sp_history.specs.Setting.{has_requests}
 use Rattle.sp_history.specs.Past.{pend, pending, uncollected, is_of, caller_of, onto, past_of}
 use Rattle.sp_history.specs.Once.{took_count, begin_count}
 use Rattle.sp_history.specs.Kept.{kept}
-use Rattle.sp_history.specs.Requests.{requests, live_on, request_of}
-use Rattle.sp_history.specs.Legal.{is_recv, is_recv_on, is_at, is_free, is_state, state_for, is_uncollected, MayReceive, Allowed}
+use Rattle.sp_history.specs.Requests.{requests, live_on}
+use Rattle.sp_history.specs.Legal.{is_recv, is_recv_on, is_at, is_state, state_for, Allowed}
 use Rattle.sp_history.specs.Settled.{receive_settled}
 use Rattle.sp_history.specs.Moments.{Moment, Lawful, past, also, turn_of}
 use Rattle.sp_history.proofs.Turning.{stands_in}
@@ -45,7 +44,7 @@ use Rattle.sp_core.specs.declared.ops.Outcome.TheVariants as out
 use Rattle.sp_core.specs.Ends.{outcome_of, view_of}
 use Rattle.sp_core.specs.OperationsStand.{OperationsStand, done_count, AllTaken}
 use Rattle.sp_core.proofs.Lawfuls.{by_steps, counted}
-use Rattle.sp_core.specs.Immediate.{IsGiven, IsCallersEnd, IsLost, AreLost, HasLost, HasReceived, RefusedNow, ReceivedNow, LostTo, TriedTo, NowTo, tried}
+use Rattle.sp_core.specs.Immediate.{IsGiven, IsCallersEnd, AreLost, HasLost, RefusedNow, ReceivedNow, LostTo, TriedTo, NowTo, tried}
 use Rattle.sp_core.specs.Moving.{AreSettling, Later}
 use Rattle.aio_word.specs.declared.phase.Phase.TheVariants as phase
 use Rattle.aio_word.specs.declared.rule.Entry as word
@@ -55,7 +54,7 @@ use Rattle.sp_core.specs.Looking.{Grows, HasLooked, ends_in}
 use Rattle.sp_core.specs.Owning.{Owns, CanBegin, IsNext}
 use Rattle.sp_core.specs.Standing.{StandsFor, Turns, IsSettled}
 use Rattle.sp_core.proofs.Looked.{looked_in_order, stands_left}
-use Rattle.sp_core.proofs.Freeing.{ended_at, begun_at, weight, ended_at-append, one_at}
+use Rattle.sp_core.proofs.Freeing.{ended_at, weight, ended_at-append, one_at}
 use Rattle.sp_core.proofs.TurnEnds.{later_z, later_caller, later_before, later_turn, settling-order, goes_on, turn_ends}
 
 -- ---- The receive can be given what is kept

@@ -1,5 +1,5 @@
 -- What the core reads of its words, and how it looks at a context before an operation begins there.
-use Rattle.std.specs.Prelude.{◌≡◌, ◌⊎◌, ◌||◌, ℕ, zero, suc, Bool, true, false, List, [], ◌∷◌, ◌++◌, Option, Some, None}
+use Rattle.std.specs.Prelude.{◌≡◌, ◌⊎◌, ◌||◌, ℕ, Bool, true, false, List, [], ◌∷◌, ◌++◌, Option, Some, None}
 use Rattle.sp_base.specs.declared.OpName.{OpName}
 use Rattle.aio_word.specs.declared.phase.Phase.TheVariants as phase
 use Rattle.aio_word.specs.declared.rule.Entry as word
@@ -10,9 +10,13 @@ use Rattle.sp_history.specs.declared.entry.Entry.{Entry}
 use Rattle.sp_history.specs.declared.entry.Entry.TheVariants.{End}
 use Rattle.sp_history.specs.declared.parts.Begun.{Begun}
 use Rattle.sp_history.specs.Lists.{same_op}
-use Rattle.sp_history.specs.Past.{pend, pending}
+use Rattle.sp_history.specs.Past.{pending}
 use Rattle.sp_history.specs.Moments.{Moment, past, also}
+use Rattle.sp_pending.specs.declared.pending.Pending.{Pending}
+use Rattle.sp_pending.specs.Pendings.{PendingView, in_line, line_of}
+use Rattle.sp_core.specs.PartSteps.{LeavesPending}
 use Rattle.sp_core.specs.declared.op_words.Decision.{Decision}
+use Rattle.sp_core.specs.declared.operations.Operations.{Operations}
 use Rattle.sp_core.specs.declared.owner.Core.{Core}
 
 -- what the core has read of its words
@@ -38,32 +42,39 @@ pub record HasLooked (c : ℕ) (past entries : List Entry) (old new : List word.
 
 -- ---- On the way
 
--- it stands at this place
-abbrev pub IsAt : ℕ → Begun → List Begun → Type 0
-IsAt i s [] = ⊥
-IsAt zero s (x ∷ xs) = x ≡ s
-IsAt (suc i) s (x ∷ xs) = IsAt i s xs
+-- the pending operations in the line of the context
+abbrev pub line_on : ℕ → PendingView → List Pending
+line_on c v = in_line v.slots (line_of v.slots c) v.items
 
--- an operation of this name and context stands at this place or later
-abbrev pub IsFrom : ℕ → OpName → ℕ → List Begun → Type 0
-IsFrom i op c [] = ⊥
-IsFrom zero op c (s ∷ ss) = ((s.op ≡ op) × (s.ctx ≡ c)) ⊎ IsFrom zero op c ss
-IsFrom (suc i) op c (s ∷ ss) = IsFrom i op c ss
+-- an operation of this name and context is among these
+abbrev pub IsLeft : OpName → ℕ → List Pending → Type 0
+IsLeft op c [] = ⊥
+IsLeft op c (x ∷ xs) = ((x.op ≡ op) × (x.ctx ≡ c)) ⊎ IsLeft op c xs
 
--- the pending operations before this place were looked at
-pub record LooksTo (i c : ℕ) (t u : Moment) (old new : List word.Entry) : Type 0 where
+-- the pending operations of the context but for these were looked at
+pub record LooksTo (left : List Pending) (c : ℕ) (t u : Moment) (old new : List word.Entry) : Type 0 where
   pub more : List word.Entry
   pub grew : new ≡ old ++ more
-  pub each : (op : OpName) (s : Begun) → pending (past t) op ≡ Some s → s.ctx ≡ c
-      → (ends_in op u.turn ≡ true) ⊎ Stands (of_op op phase.Pending 0) more ⊎ IsFrom i op c (pend (past u))
+  pub each : (op : OpName) (s : Begun) → pending (past t) op ≡ Some s → s.ctx ≡ c → (ends_in op u.turn ≡ true) ⊎ Stands (of_op op phase.Pending 0) more ⊎ IsLeft op c left
 
 -- what looking at one word told
 abbrev pub LookReads : Option Decision → OpName → List word.Entry → List word.Entry → Type 0
 LookReads None op old new = new ≡ old ++ of_op op phase.Pending 0 ∷ []
 LookReads (Some decision) op old new = Grows old new
 
--- the operation at this place has ended, or it is of another context, or was read as pending
-abbrev pub FoundAt : Bool → ℕ → ℕ → Moment → Moment → List word.Entry → List word.Entry → Type 0
-FoundAt true i c t u old new = Grows old new × ((s : Begun) × (ending : Ending) × IsAt i s (pend (past t)) × (u ≡ also t (End s.op ending)))
-FoundAt false i c t u old new =
-    (u ≡ t) × ((more : List word.Entry) × (new ≡ old ++ more) × ((s : Begun) → IsAt i s (pend (past t)) → s.ctx ≡ c → Stands (of_op s.op phase.Pending 0) more))
+-- the operation was read as pending, if it is of the context
+pub record ReadsPending (x : Pending) (c : ℕ) (old new : List word.Entry) : Type 0 where
+  pub more : List word.Entry
+  pub grew : new ≡ old ++ more
+  pub read : x.ctx ≡ c → Stands (of_op x.op phase.Pending 0) more
+
+-- nothing has changed but for what was read
+abbrev pub StaysPending : Pending → ℕ → Moment → Moment → Operations → Operations → List word.Entry → List word.Entry → Type 0
+StaysPending x c t u before after old new = (u ≡ t) × (after.pending ≡ before.pending) × ReadsPending x c old new
+
+-- the operation has ended
+abbrev pub IsNoted : Pending → Moment → Moment → Operations → Operations → List word.Entry → List word.Entry → Type 0
+IsNoted x t u before after old new = LeavesPending x.op before after × Grows old new × ((ending : Ending) × (u ≡ also t (End x.op ending)))
+
+abbrev pub FoundOf : Pending → ℕ → Moment → Moment → Operations → Operations → List word.Entry → List word.Entry → Type 0
+FoundOf x c t u before after old new = StaysPending x c t u before after old new ⊎ IsNoted x t u before after old new

@@ -1,7 +1,6 @@
 -- The lists of operations go with a history.
-use Rattle.std.specs.Prelude.{◌≡◌, ◌⊎◌, ◌↔◌, ℕ, zero, suc, ◌+◌, ◌-◌, ◌^◌, ◌<◌, ◌≤◌, Bool, true, false, if◌then◌else◌, Option, Some, None, is_some, List, [], ◌∷◌, map, filter, length, slice_index_or, vec_capacity}
+use Rattle.std.specs.Prelude.{◌≡◌, ◌⊎◌, ◌↔◌, ℕ, zero, suc, ◌+◌, ◌-◌, ◌^◌, ◌<◌, ◌≤◌, Bool, true, false, Option, Some, None, is_some, List, [], ◌∷◌, map, filter, length, slice_index_or, vec_capacity}
 use Rattle.std.specs.List.{All}
-use Rattle.std.specs.VecDeque.{deque_capacity}
 use Rattle.aio_expire.specs.declared.deadlines.Deadline.{Deadline}
 use Rattle.aio_word.specs.Views.{Stands}
 use Rattle.sp_history.specs.declared.parts.Begun.{Begun}
@@ -15,8 +14,8 @@ use Rattle.sp_history.specs.Past.{pend, uncollected, begins, timers, by_deadline
 use Rattle.sp_history.specs.Legal.{is_free}
 use Rattle.sp_history.specs.Moments.{Moment, past}
 use Rattle.sp_core.specs.declared.operations.Operations.{Operations}
-use Rattle.sp_core.specs.declared.operations.Pending.{Pending}
-use Rattle.sp_core.specs.declared.operations.Done.{Done}
+use Rattle.sp_pending.specs.declared.pending.Pending.{Pending}
+use Rattle.sp_core.specs.declared.operations.EndedOperation.{EndedOperation}
 use Rattle.sp_core.specs.Ends.{done_of}
 
 -- none stands there twice
@@ -38,17 +37,12 @@ deadlines_of ds = map deadline_of (by_deadline ds)
 abbrev pub IsWornOut : ℕ → Type 0
 IsWornOut generation = generation ≡ 2 ^ 40 - 1
 
--- how often the operation stands in the list
-abbrev pub count_of : OpName → List Pending → ℕ
-count_of op [] = 0
-count_of op (x ∷ xs) = if same_op x.op op then count_of op xs + 1 else count_of op xs
-
 -- what stands at the slot's place
-abbrev pub done_at : List (Option Done) → ℕ → Option Done
+abbrev pub done_at : List (Option EndedOperation) → ℕ → Option EndedOperation
 done_at xs slot = slice_index_or xs slot None
 
 -- it is the operation's
-abbrev pub is_done_of : OpName → Option Done → Bool
+abbrev pub is_done_of : OpName → Option EndedOperation → Bool
 is_done_of op None = false
 is_done_of op (Some d) = same_op d.op op
 
@@ -57,12 +51,12 @@ abbrev pub done_count : Operations → ℕ
 done_count s = length (filter is_some s.done.items)
 
 -- an operation of the slot ended so, and was not collected
-abbrev pub HasDone : List Ended → ℕ → Done → Type 0
+abbrev pub HasDone : List Ended → ℕ → EndedOperation → Type 0
 HasDone es slot d = (e : Ended) × Stands e es × (e.begun.op.slot ≡ slot) × (d ≡ done_of e)
 
 -- exactly what ended and was not collected stands at its slot's place
-abbrev pub AreBySlot : List (Option Done) → List Ended → Type 0
-AreBySlot xs es = (slot : ℕ) (d : Done) → (done_at xs slot ≡ Some d) ↔ HasDone es slot d
+abbrev pub AreBySlot : List (Option EndedOperation) → List Ended → Type 0
+AreBySlot xs es = (slot : ℕ) (d : EndedOperation) → (done_at xs slot ≡ Some d) ↔ HasDone es slot d
 
 -- The lists show these pending operations, the oldest first, and these that ended and were not collected, by slot. A
 -- slot that is free by the history is on the list of free ones, is drawn, or is worn
@@ -75,7 +69,7 @@ pub record Holds (drawn : List ℕ) (s : Operations) (slots : ℕ) (ss : List Be
   pub free_apart : Apart s.free.items
   pub every : (i : ℕ) → i < slots → free i ≡ true → (has s.free.items i ≡ true) ⊎ (has drawn i ≡ true) ⊎ IsWornOut (gens i)
   pub fits : length drawn + length s.free.items + length s.pending.items + done_count s ≤ slots
-  pub pending_room : slots ≤ deque_capacity s.pending
+  pub pending_slots : s.pending.slots ≡ slots
   pub done_places : length s.done.items ≡ slots
   pub free_room : slots ≤ vec_capacity s.free
 

@@ -26,6 +26,7 @@ use Rattle.sp_history.specs.declared.entry.Entry.TheVariants.{Begin, End, Out, T
 use Rattle.sp_history.specs.declared.entry.Why.{Why}
 use Rattle.sp_history.specs.declared.parts.Begun.{Begun}
 use Rattle.sp_history.specs.declared.parts.Ended.{Ended}
+use Rattle.sp_pending.specs.Pendings.{others_than}
 use Rattle.sp_msg.specs.Views.{MessageView, WireView, wire_text}
 use Rattle.std.specs.Prelude.{Bool, List, MatchOption, Option, Some, [], false, length, slice_index_or, true, ℕ, ◌++◌, ◌+◌, ◌<◌, ◌^◌, ◌∷◌, ◌≡◌, ◌≢◌}
 use Rattle.sp_history.specs.declared.entry.Entry.TheVariants as entries
@@ -94,10 +95,9 @@ abbrev pub DrawsOne : Option ℕ → Operations → Operations → Type 0
 DrawsOne r old new =
     (i : ℕ) → r ≡ Some i → (length new.free.items + 1 ≡ length old.free.items) × (done_count new ≡ done_count old)
 
--- an operation of this name is pending
-abbrev pub TellsPending : Option OpName → Operations → Type 0
-TellsPending r x =
-    (op : OpName) → r ≡ Some op → (t : Moment) → OperationsStand [] x t → Lawful t → (s : Begun) × (pending (past t) op ≡ Some s)
+-- the operation is pending no more, and the others are
+abbrev pub LeavesPending : OpName → Operations → Operations → Type 0
+LeavesPending op old new = new.pending ≡ record old.pending { items = others_than op old.pending.items }
 
 -- whether the operation ended and was not collected
 abbrev pub TellsEnded : Bool → OpName → Operations → Type 0

@@ -1,9 +1,10 @@
 -- What settling leads to, within a turn.
-use Rattle.std.specs.Prelude.{ℕ, Bool, []}
+use Rattle.std.specs.Prelude.{ℕ, []}
 use Rattle.sp_msg.specs.Views.{WireView}
 use Rattle.sp_history.specs.Moments.{Moment, past}
+use Rattle.sp_pending.specs.declared.pending.Pending.{Pending}
 use Rattle.sp_core.specs.declared.owner.Core.{Core}
-use Rattle.sp_core.specs.Looking.{HasLooked, FoundAt, reads_of}
+use Rattle.sp_core.specs.Looking.{HasLooked, FoundOf, reads_of}
 use Rattle.sp_core.specs.Moving.{Later}
 use Rattle.sp_core.specs.Owning.{Owns}
 
@@ -26,6 +27,6 @@ SettlesByBoth {A = A} {B = B} ties room shown old new can =
 abbrev pub LooksOn : {P W : Type 0} → ℕ → Core P W → Core P W → Moment → Moment → Type 0
 LooksOn c old new t u = HasLooked c (past t) u.turn (reads_of old) (reads_of new)
 
--- whether the operation at this place was found ended
-abbrev pub FindsAt : {P W : Type 0} → Bool → ℕ → ℕ → Core P W → Core P W → Moment → Moment → Type 0
-FindsAt r i c old new t u = FoundAt r i c t u (reads_of old) (reads_of new)
+-- the operation was found ended or pending, or is of another context
+abbrev pub FindsOf : {P W : Type 0} → Pending → ℕ → Core P W → Core P W → Moment → Moment → Type 0
+FindsOf x c old new t u = FoundOf x c t u old.operations new.operations (reads_of old) (reads_of new)

@@ -1,34 +1,21 @@
 //! The operations: those that are pending, those that ended and were not collected, the slots that are free, and the
 //! deadlines. All memory is taken in `with_slots`.
-ghost use Rattle.std.specs.VecDeque.{deque_capacity};
-ghost use Rattle.std.specs.List.{position};
-ghost use Rattle.sp_history.specs.Lists.{same_op};
-ghost use Rattle.std.specs.Prelude.{◌≡◌, ◌≢◌, not, filter, slice_index_or, MatchOption, ◌<◌, ◌≤◌, Some, None, [], ◌∷◌, length, replicate, vec_capacity, IfOk};
+ghost use Rattle.std.specs.Prelude.{◌≡◌, ◌<◌, ◌≤◌, Some, None, [], ◌∷◌, length, replicate, vec_capacity, IfOk};
 ghost use Rattle.sp_history.specs.declared.parts.Begun.{Begun};
 ghost use Rattle.sp_history.specs.Past.{pending};
 ghost use Rattle.sp_history.specs.Moments.{Moment, Lawful, past};
-ghost use Rattle.sp_core.specs.declared.operations.Pending.{Pending as PendingType};
-ghost use Rattle.sp_core.specs.OperationsStand.{OperationsStand, count_of, done_count, AllTaken, AreAllSlots};
-ghost use Rattle.sp_core.specs.PartSteps.{MayStart, StartsOp, FinishesOp, DrawsFree, DrawsOne, TellsPending, KeepsLengths, HasOneMoreFree, HasOneMoreEnded};
+ghost use Rattle.sp_core.specs.OperationsStand.{OperationsStand, done_count, AllTaken, AreAllSlots};
+ghost use Rattle.sp_core.specs.PartSteps.{MayStart, StartsOp, FinishesOp, LeavesPending, DrawsFree, DrawsOne, KeepsLengths, HasOneMoreFree, HasOneMoreEnded};
 
 use crate::ops::Outcome;
 use aio_expire::Deadlines;
 use sp_base::{Ctx, NoMemory, OpName, Tick};
+use sp_pending::PendingOps;
 use std::alloc::Global;
-use std::collections::VecDeque;
-
-/// An operation that was begun and has not ended.
-#[derive(Clone, Copy)]
-pub struct Pending {
-    /// Its name.
-    pub op: OpName,
-    /// The context that it was begun on.
-    pub ctx: Ctx,
-}
 
 /// An operation that ended and was not collected.
 #[derive(Drop)]
-pub struct Done {
+pub struct EndedOperation {
     /// Its name.
     pub op: OpName,
     /// What its collect returns.
@@ -38,10 +25,10 @@ pub struct Done {
 /// The operations of a socket.
 #[derive(Drop)]
 pub struct Operations {
-    /// In the order of their begins. Most end in that order, at the front.
-    pub pending: VecDeque<Pending>,
+    /// Those that were begun and have not ended.
+    pub pending: PendingOps,
     /// By slot: the slot's operation that ended and was not collected.
-    pub done: Vec<Option<Done>>,
+    pub done: Vec<Option<EndedOperation>>,
     /// The slots that are free and not known to be worn. The last is drawn next.
     pub free: Vec<u32>,
     /// Those of the pending operations that were not due.
@@ -61,7 +48,7 @@ fn all_slots(alloc: Global, slots: u32) -> Result<Vec<u32>, NoMemory>
 }
 
 // A place for each slot, with nothing there.
-fn no_outcomes(alloc: Global, slots: u32) -> Result<Vec<Option<Done>>, NoMemory>
+fn no_outcomes(alloc: Global, slots: u32) -> Result<Vec<Option<EndedOperation>>, NoMemory>
     ensures { IfOk result (λ v. v.items ≡ replicate slots None) }
 {
     let mut done = Vec::with_capacity(alloc, slots as usize)?;
@@ -69,27 +56,6 @@ fn no_outcomes(alloc: Global, slots: u32) -> Result<Vec<Option<Done>>, NoMemory>
         done.push(None)?;
     }
     Ok(done)
-}
-
-// Where the operation stands among those that are pending.
-fn place_of(pending: &VecDeque<Pending>, op: OpName) -> Option<usize>
-    ensures { result ≡ position (λ x. same_op x.op op) pending.now.items }
-{
-    pending.iter().position(|x| x.op.slot == op.slot && x.op.generation == op.generation)
-}
-
-// Takes the operation out, which stands there once at most. Costs its distance from the nearer end.
-fn take_out(pending: &mut VecDeque<Pending>, op: OpName)
-    ensures left { count_of op pending.old.items ≤ 1 → pending.new.items ≡ filter (λ x. not (same_op x.op op)) pending.old.items }
-    ensures room { deque_capacity pending.new ≡ deque_capacity pending.old }
-{
-    match place_of(pending, op) {
-        None => (),
-        Some(i) => match pending.remove(i) {
-            Some(_) => (),
-            None => (),
-        },
-    }
 }
 
 impl Operations {
@@ -100,7 +66,7 @@ impl Operations {
         ensures all { IfOk result (λ s. (length s.free.items ≡ slots) × (done_count s ≡ 0)) }
     {
         Ok(Operations {
-            pending: VecDeque::with_capacity(alloc, slots as usize)?,
+            pending: PendingOps::new(alloc, slots)?,
             done: no_outcomes(alloc, slots)?,
             free: all_slots(alloc, slots)?,
             deadlines: Deadlines::new(alloc, slots)?,
@@ -137,9 +103,7 @@ impl Operations {
         ensures started { StartsOp op ctx deadline self.old self.new }
         ensures lengths { KeepsLengths self.old self.new }
     {
-        if self.pending.push_back(Pending { op, ctx }).is_err() {
-            unreachable!()
-        }
+        self.pending.add(op, ctx);
         if let Some(at) = deadline {
             self.deadlines.put(op, at);
         }
@@ -150,23 +114,11 @@ impl Operations {
         requires { (t : Moment) × (s : Begun) × OperationsStand [] self.old t × Lawful t × (pending (past t) op ≡ Some s) }
         ensures finished { FinishesOp op outcome self.old self.new }
         ensures lengths { HasOneMoreEnded self.old self.new }
+        ensures left { LeavesPending op self.old self.new }
         ensures fewer { length self.new.pending.items < length self.old.pending.items }
     {
-        take_out(&mut self.pending, op);
-        self.done[op.slot as usize] = Some(Done { op, outcome });
+        self.pending.take_out(op);
+        self.done[op.slot as usize] = Some(EndedOperation { op, outcome });
         self.deadlines.remove(op.slot);
-    }
-
-    /// The operation at this place among the pending ones, where it is one of the context.
-    pub fn pending_on(&self, i: usize, ctx: Ctx) -> Option<OpName>
-        requires { i < length self.now.pending.items }
-        ensures pending { TellsPending result self.now }
-        ensures place { (x : PendingType) × (x ≡ slice_index_or self.now.pending.items i x) × MatchOption result (x.ctx ≢ ctx) (λ op. x.op ≡ op) }
-    {
-        let found = self.pending[i];
-        if found.ctx.0 == ctx.0 {
-            return Some(found.op);
-        }
-        None
     }
 }

@@ -1,6 +1,6 @@
-use Rattle.std.proofs.Common.{◌≡◌, refl, ap, sym, ◌∙◌, ◌+◌, ◌∷◌, ◌++◌, [], Option, arith, rules, length, length-append, set}
+use Rattle.std.proofs.Common.{◌≡◌, refl, ap, sym, ◌∙◌, ◌∷◌, ◌++◌, [], Option, arith, rules, length, length-append, set}
 use Rattle.std.specs.Prelude.{filter, is_some}
-use Rattle.sp_core.specs.declared.operations.Done.{Done}
+use Rattle.sp_core.specs.declared.operations.EndedOperation.{EndedOperation}
 use Rattle.sp_core.proofs.Freeing.{collected, found, nothing_there, within}
 use Rattle.sp_core.proofs.operations.Operations.collect.Goals as goal
 
@@ -27,5 +27,5 @@ pub returns-clause-lengths : goal.returns-clause-lengths
 returns-clause-lengths c =
     let f = found c.args.self.now c.args.op c.index_mut.result.now c.in-Some.it c.requires c.index_mut.ensures.value (sym c.take.ensures.value ∙ c.in-Some.is) in
     let items : c.push.new.self.items ≡ c.args.self.now.free.items ++ c.args.op.slot ∷ [] = search rules in
-    let left = ap (λ (o : Option Done). length (filter is_some (set c.args.self.now.done.items c.args.op.slot o))) c.take.ensures.after in
+    let left = ap (λ (o : Option EndedOperation). length (filter is_some (set c.args.self.now.done.items c.args.op.slot o))) c.take.ensures.after in
     omega (arith, f.fewer, left, ap length items, length-append c.args.self.now.free.items (c.args.op.slot ∷ []))

@@ -5,7 +5,7 @@ use Rattle.sp_history.specs.Past.{pend, uncollected, begins, timers}
 use Rattle.sp_history.specs.Legal.{is_free}
 use Rattle.sp_history.specs.Moments.{Moment, past}
 use Rattle.sp_core.specs.declared.operations.Operations.{Operations}
-use Rattle.sp_core.specs.declared.operations.Done.{Done}
+use Rattle.sp_core.specs.declared.operations.EndedOperation.{EndedOperation}
 use Rattle.sp_core.specs.OperationsStand.{Holds}
 use Rattle.sp_core.proofs.OperationSteps.{every_slot, made}
 use Rattle.sp_core.proofs.Outcomes.{none_counted}
@@ -18,7 +18,7 @@ at_start s slots t none n h =
 pub returns-clause-holds : goal.returns-clause-holds
 returns-clause-holds c =
     λ t none n.
-    at_start _ c.args.slots t none n (made _ c.args.slots c.in_ok-with_capacity.ensures.items c.in_ok-no_outcomes.ensures c.in_ok-new.ensures (every_slot c.args.slots _ c.in_ok-all_slots.ensures.slots) c.in_ok-with_capacity.ensures.capacity c.in_ok-all_slots.ensures.room)
+    at_start _ c.args.slots t none n (made _ c.args.slots c.in_ok-new.ensures c.in_ok-no_outcomes.ensures c.in_ok-new-2.ensures (every_slot c.args.slots _ c.in_ok-all_slots.ensures.slots) c.in_ok-all_slots.ensures.room)
 
 pub returns-clause-all : goal.returns-clause-all
-returns-clause-all c = ((every_slot c.args.slots _ c.in_ok-all_slots.ensures.slots).count, ap (λ (xs : List (Option Done)). length (filter is_some xs)) c.in_ok-no_outcomes.ensures ∙ none_counted c.args.slots)
+returns-clause-all c = ((every_slot c.args.slots _ c.in_ok-all_slots.ensures.slots).count, ap (λ (xs : List (Option EndedOperation)). length (filter is_some xs)) c.in_ok-no_outcomes.ensures ∙ none_counted c.args.slots)

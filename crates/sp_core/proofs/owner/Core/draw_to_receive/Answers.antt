@@ -1,7 +1,6 @@
-use Rattle.std.proofs.Common.{◌≡◌, ◌∙◌, refl, sym, ap, [], Bool, true, false}
+use Rattle.std.proofs.Common.{◌≡◌, ◌∙◌, refl, sym, Bool, true, false}
 use Rattle.std.specs.Prelude.{not}
 use Rattle.sp_history.specs.declared.entry.Act.TheVariants as acts
-use Rattle.sp_history.specs.Moments.{past}
 use Rattle.sp_core.proofs.TurnEnds.{drawn_none}
 use Rattle.sp_core.proofs.Trying.{slot_left, goes_back}
 use Rattle.sp_core.proofs.owner.Core.draw_to_receive.Goals as goal

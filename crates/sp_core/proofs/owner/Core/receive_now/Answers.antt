@@ -1,10 +1,10 @@
-use Rattle.std.proofs.Common.{◌≡◌, ◌∙◌, refl, subst, rules, []}
-use Rattle.std.specs.Prelude.{Option, Some, None, Result, Ok, Err}
+use Rattle.std.proofs.Common.{◌∙◌, subst, rules}
+use Rattle.std.specs.Prelude.{Option, Result, Ok}
 use Rattle.sp_msg.specs.Views.{MessageView}
 use Rattle.sp_core.specs.declared.immediate.NowError.{NowError}
 use Rattle.sp_core.specs.Immediate.{TriedTo}
-use Rattle.sp_core.proofs.Looked.{grows_none, grows_trans}
-use Rattle.sp_core.proofs.Trying.{lost_none, lost_more}
+use Rattle.sp_core.proofs.Looked.{grows_trans}
+use Rattle.sp_core.proofs.Trying.{lost_more}
 use Rattle.sp_core.proofs.owner.Core.receive_now.Goals as goal
 
 pub returns-in-Err-clause-received : goal.returns-in-Err-clause-received

@@ -1,9 +1,9 @@
-use Rattle.std.proofs.Common.{◌≡◌, ◌∙◌, refl, sym, ap, subst, [], None, List}
+use Rattle.std.proofs.Common.{◌≡◌, ◌∙◌, refl, sym, ap, subst, None, List}
 use Rattle.aio_word.specs.declared.rule.Entry as word
 use Rattle.sp_history.specs.declared.entry.Act.TheVariants.{Recv}
 use Rattle.sp_history.specs.declared.entry.Entry.TheVariants.{Begin, End, Took}
 use Rattle.sp_history.specs.declared.parts.Ended.{Ended}
-use Rattle.sp_history.specs.Moments.{past, also}
+use Rattle.sp_history.specs.Moments.{also}
 use Rattle.sp_core.specs.Ends.{outcome_of}
 use Rattle.sp_core.specs.Looking.{Grows, reads_of}
 use Rattle.sp_core.proofs.Told.{ended_now}

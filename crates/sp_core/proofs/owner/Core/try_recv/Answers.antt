@@ -1,5 +1,4 @@
-use Rattle.std.proofs.Common.{◌≡◌, ◌∙◌, refl, sym, ap, subst, []}
-use Rattle.sp_history.specs.Moments.{Moment}
+use Rattle.std.proofs.Common.{◌∙◌, []}
 use Rattle.sp_core.specs.Looking.{reads_of}
 use Rattle.sp_core.specs.Standing.{core_setting}
 use Rattle.sp_core.proofs.TurnEnds.{setting_at}

@@ -1,4 +1,4 @@
-use Rattle.std.proofs.Common.{rules, subst, sym, ap, ◌∙◌, Bool, ℕ, List, ◌≡◌, true, false, arith, length, ◌<◌, ◌≤◌}
+use Rattle.std.proofs.Common.{rules, subst, sym, ap, ◌∙◌, ℕ, List, ◌≡◌, true, false, arith, length, ◌<◌, ◌≤◌}
 use Rattle.std.specs.Prelude.{◌==◌}
 use Rattle.std.proofs.lemmas.List.Sorted.{IsPartitionPoint-from_clause}
 use Rattle.sp_history.specs.Lists.{has}

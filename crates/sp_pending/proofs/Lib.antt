@@ -1,0 +1,3 @@
+pub mod RingSteps
+pub mod PendingSteps
+pub mod Walks

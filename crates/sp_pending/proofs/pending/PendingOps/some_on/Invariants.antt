@@ -1,0 +1,15 @@
+use Rattle.std.proofs.Common.{length}
+use Rattle.sp_pending.specs.Pendings.{IsNextIn, in_line, left_of, line_of}
+use Rattle.sp_pending.proofs.Walks.{AreLeft}
+use Rattle.sp_pending.proofs.pending.PendingOps.some_on.Given as goal
+
+-- the next one stands in the line, and those of the context are not behind it yet
+abbrev pub invariant-loop-next : goal.invariant-loop-next
+invariant-loop-next l =
+    record {
+      there : IsNextIn l.next (in_line l.fn.self.slots (line_of l.fn.self.slots l.fn.ctx) l.fn.self.items);
+      left : AreLeft l.fn.ctx l.fn.self.items (left_of l.next (in_line l.fn.self.slots (line_of l.fn.self.slots l.fn.ctx) l.fn.self.items));
+    }
+
+abbrev pub decreases-loop-next : goal.decreases-loop-next
+decreases-loop-next l = length (left_of l.next (in_line l.fn.self.slots (line_of l.fn.self.slots l.fn.ctx) l.fn.self.items))

@@ -1,0 +1,115 @@
+-- The pending operations of a core.
+use Rattle.std.specs.Prelude.{◌≡◌, ◌≢◌, ◌⊎◌, ◌<◌, ◌≤◌, ◌+◌, ◌%◌, ◌==◌, ◌&&◌, ℕ, Bool, if◌then◌else◌, Option, Some, None, List, [], ◌∷◌, map, filter, not, length, slice_index_or, MatchOption}
+use Rattle.sp_base.specs.declared.OpName.{OpName}
+use Rattle.sp_pending.specs.declared.pending.Pending.{Pending}
+use Rattle.sp_pending.specs.declared.rings.Rings.{Rings}
+use Rattle.sp_pending.specs.Rings.{IsPath, walk}
+
+-- what is seen of them: the slots are the numbers below `slots`, and the operations stand in the order of their begins
+pub record PendingView : Type 0 where
+  pub slots : ℕ
+  pub items : List Pending
+
+-- it is the operation of this name
+abbrev pub is_named : OpName → Pending → Bool
+is_named op x = (x.op.slot == op.slot) && (x.op.generation == op.generation)
+
+abbrev pub slot_of : Pending → ℕ
+slot_of x = x.op.slot
+
+-- the line of the context
+abbrev pub line_of : ℕ → ℕ → ℕ
+line_of slots c = c % slots
+
+-- those of a line
+abbrev pub in_line : ℕ → ℕ → List Pending → List Pending
+in_line slots n xs = filter (λ x. line_of slots x.ctx == n) xs
+
+abbrev pub first_of : List Pending → Option Pending
+first_of [] = None
+first_of (x ∷ xs) = Some x
+
+-- the one behind the operation
+abbrev pub behind : OpName → List Pending → Option Pending
+behind op [] = None
+behind op (x ∷ xs) = if is_named op x then first_of xs else behind op xs
+
+-- one of this name stands there
+abbrev pub IsAmong : Pending → List Pending → Type 0
+IsAmong x [] = ⊥
+IsAmong x (y ∷ ys) = (y ≡ x) ⊎ IsAmong x ys
+
+-- the operation and those behind it
+abbrev pub from_on : OpName → List Pending → List Pending
+from_on op [] = []
+from_on op (x ∷ xs) = if is_named op x then x ∷ xs else from_on op xs
+
+-- what is left of a line, from the next one on
+abbrev pub left_of : Option Pending → List Pending → List Pending
+left_of None xs = []
+left_of (Some x) xs = from_on x.op xs
+
+-- the next one, if any, stands in the line
+abbrev pub IsNextIn : Option Pending → List Pending → Type 0
+IsNextIn None xs = Unit {0}
+IsNextIn (Some x) xs = IsAmong x xs
+
+-- those that are left when the operation is taken out
+abbrev pub others_than : OpName → List Pending → List Pending
+others_than op xs = filter (λ x. not (is_named op x)) xs
+
+-- an operation of the context stands there, or none does
+abbrev pub FindsOn : Option OpName → ℕ → List Pending → Type 0
+FindsOn r c xs = MatchOption r ((x : Pending) → IsAmong x xs → x.ctx ≢ c) (λ op. (x : Pending) × IsAmong x xs × (x.op ≡ op) × (x.ctx ≡ c))
+
+-- ---- How they are kept
+
+abbrev pub IsIn : ℕ → List ℕ → Type 0
+IsIn i [] = ⊥
+IsIn i (x ∷ xs) = (x ≡ i) ⊎ IsIn i xs
+
+abbrev pub NotIn : ℕ → List ℕ → Type 0
+NotIn i [] = Unit {0}
+NotIn i (x ∷ xs) = (x ≢ i) × NotIn i xs
+
+-- none stands there twice
+abbrev pub Differ : List ℕ → Type 0
+Differ [] = Unit {0}
+Differ (x ∷ xs) = NotIn x xs × Differ xs
+
+-- what stands at the slot's place
+abbrev pub place_at : List (Option Pending) → ℕ → Option Pending
+place_at places slot = slice_index_or places slot None
+
+-- each stands at its slot's place
+abbrev pub ArePlaced : ℕ → List (Option Pending) → List Pending → Type 0
+ArePlaced slots places [] = Unit {0}
+ArePlaced slots places (x ∷ xs) = (x.op.slot < slots) × (place_at places x.op.slot ≡ Some x) × ArePlaced slots places xs
+
+abbrev pub with_one : Option Pending → List Pending → List Pending
+with_one None xs = xs
+with_one (Some x) xs = x ∷ xs
+
+-- what stands at these places
+abbrev pub placed : List (Option Pending) → List ℕ → List Pending
+placed places [] = []
+placed places (i ∷ is) = with_one (place_at places i) (placed places is)
+
+-- all of them, the oldest first
+abbrev pub shown : ℕ → List (Option Pending) → Rings → List Pending
+shown slots places order = placed places (walk order.after.items slots slots slots)
+
+-- these are kept, in rings: all of them in one, and each line in one of its own
+pub record Keeps (slots : ℕ) (places : List (Option Pending)) (order lines : Rings) (items : List Pending) : Type 0 where
+  pub some : 0 < slots
+  pub few : slots ≤ 4096
+  pub count : length items ≤ slots
+  pub differ : Differ (map slot_of items)
+  pub are_placed : ArePlaced slots places items
+  pub in_order : IsPath order.after.items order.before.items slots (map slot_of items) slots
+  pub in_lines : (n : ℕ) → n < slots → IsPath lines.after.items lines.before.items (slots + n) (map slot_of (in_line slots n items)) (slots + n)
+  pub place_count : length places ≡ slots
+  pub order_after : length order.after.items ≡ slots + 1
+  pub order_before : length order.before.items ≡ slots + 1
+  pub lines_after : length lines.after.items ≡ slots + slots
+  pub lines_before : length lines.before.items ≡ slots + slots
