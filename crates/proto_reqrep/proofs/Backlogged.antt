@@ -7,13 +7,13 @@ use Rattle.std.proofs.lemmas.Bool.Decides.{nat_tests}
 use Rattle.std.proofs.lemmas.List.Folds.{list_any-append}
 use Rattle.sp_history.specs.Lists.{has}
 use Rattle.sp_history.specs.Once.{AreDistinct}
-use Rattle.proto_reqrep.specs.Backlogs.{is_in, is_of, IsIndexed}
+use Rattle.proto_reqrep.specs.Backlogs.{is_of, IsIndexed}
 
 pub went : {A E : Type 0} (r : Result A E) (P : Type 0) → is_err r ≡ false → OnOk r P → P
 went (Ok a) P e h = h
 went (Err x) P e h = absurd cc
 
-equal_of : (m n : ℕ) → (m == n) ≡ true → m ≡ n
+pub equal_of : (m n : ℕ) → (m == n) ≡ true → m ≡ n
 equal_of m n h = grind (arith, nat_tests)
 
 clash : (a p q : ℕ) → (a == p) ≡ true → (a == q) ≡ true → (p == q) ≡ false → ⊥
@@ -31,12 +31,12 @@ or_last true false = refl
 or_last false true = refl
 or_last false false = refl
 
-both_false : (a b : Bool) → (a || b) ≡ false → (a ≡ false) × (b ≡ false)
+pub both_false : (a b : Bool) → (a || b) ≡ false → (a ≡ false) × (b ≡ false)
 both_false true b h = absurd cc
 both_false false b h = (refl, h)
 
 module _ {A : Type 0} (pipe : A → ℕ) where
-  any_has : (xs : List A) (q : ℕ) → has (map pipe xs) q ≡ list_any (is_of pipe q) xs
+  pub any_has : (xs : List A) (q : ℕ) → has (map pipe xs) q ≡ list_any (is_of pipe q) xs
   any_has [] q = refl
   any_has (x ∷ xs) q = ap (λ b. (pipe x == q) || b) (any_has xs q)
 
@@ -51,20 +51,20 @@ module _ {A : Type 0} (pipe : A → ℕ) where
       )
 
   -- one more is kept
-  pub kept_more : (ks ns : List ℕ) (xs ys : List A) (x : A) → IsIndexed pipe ks xs → is_in ks (pipe x) ≡ false → ((q : ℕ) → is_in ns q ≡ cond (pipe x == q) true (is_in ks q)) → ys ≡ xs ++ x ∷ [] → IsIndexed pipe ns ys
-  kept_more ks ns xs ys x h none u e =
+  pub kept_more : (old new : ℕ → Bool) (xs ys : List A) (x : A) → IsIndexed pipe old xs → old (pipe x) ≡ false → ((q : ℕ) → new q ≡ cond (pipe x == q) true (old q)) → ys ≡ xs ++ x ∷ [] → IsIndexed pipe new ys
+  kept_more old new xs ys x h none u e =
       rw e (λ q. u q ∙ ap (λ b. cond (pipe x == q) true b) (h.0 q) ∙ or_last (pipe x == q) (list_any (is_of pipe q) xs) ∙ sym (list_any-append (is_of pipe q) xs (x ∷ [])), distinct_more xs x h.1 (sym (h.0 (pipe x)) ∙ none))
 
   -- the oldest is taken
-  pub kept_fewer : (ks ns : List ℕ) (xs ys : List A) (x : A) → IsIndexed pipe ks xs → xs ≡ x ∷ ys → ((q : ℕ) → is_in ns q ≡ cond (pipe x == q) false (is_in ks q)) → IsIndexed pipe ns ys
-  kept_fewer ks ns xs ys x h e u = go xs e h
+  pub kept_fewer : (old new : ℕ → Bool) (xs ys : List A) (x : A) → IsIndexed pipe old xs → xs ≡ x ∷ ys → ((q : ℕ) → new q ≡ cond (pipe x == q) false (old q)) → IsIndexed pipe new ys
+  kept_fewer old new xs ys x h e u = go xs e h
     where
       left : (q : ℕ) (b : Bool) → (pipe x == q) ≡ b → has (map pipe ys) (pipe x) ≡ false → cond b false (b || list_any (is_of pipe q) ys) ≡ list_any (is_of pipe q) ys
       left q true k none = sym (sym (any_has ys q) ∙ ap (has (map pipe ys)) (sym (equal_of (pipe x) q k)) ∙ none)
       left q false k none = refl
 
-      go : (zs : List A) → zs ≡ x ∷ ys → IsIndexed pipe ks zs → IsIndexed pipe ns ys
-      go zs f i = let j : IsIndexed pipe ks (x ∷ ys) = subst (IsIndexed pipe ks) f i in
+      go : (zs : List A) → zs ≡ x ∷ ys → IsIndexed pipe old zs → IsIndexed pipe new ys
+      go zs f i = let j : IsIndexed pipe old (x ∷ ys) = subst (IsIndexed pipe old) f i in
           (λ q. u q ∙ ap (λ b. cond (pipe x == q) false b) (j.0 q) ∙ left q (pipe x == q) refl j.1.0, j.1.1)
 
   any_left : (p q : ℕ) (xs : List A) → list_any (is_of pipe q) (filter (λ x. not (is_of pipe p x)) xs) ≡ cond (p == q) false (list_any (is_of pipe q) xs)
@@ -106,8 +106,8 @@ module _ {A : Type 0} (pipe : A → ℕ) where
       go false k = (none, k)
 
   -- what is kept of a pipe is dropped
-  pub kept_left : (ks ns : List ℕ) (p : ℕ) (xs ys : List A) → IsIndexed pipe ks xs → ((q : ℕ) → is_in ns q ≡ cond (p == q) false (is_in ks q)) → ys ≡ filter (λ x. not (is_of pipe p x)) xs → IsIndexed pipe ns ys
-  kept_left ks ns p xs ys h u e = rw e (λ q. u q ∙ ap (λ b. cond (p == q) false b) (h.0 q) ∙ sym (any_left p q xs), distinct_left p xs h.1)
+  pub kept_left : (old new : ℕ → Bool) (p : ℕ) (xs ys : List A) → IsIndexed pipe old xs → ((q : ℕ) → new q ≡ cond (p == q) false (old q)) → ys ≡ filter (λ x. not (is_of pipe p x)) xs → IsIndexed pipe new ys
+  kept_left old new p xs ys h u e = rw e (λ q. u q ∙ ap (λ b. cond (p == q) false b) (h.0 q) ∙ sym (any_left p q xs), distinct_left p xs h.1)
 
   -- nothing is kept of it
   pub kept_all : (p : ℕ) (xs : List A) → list_any (is_of pipe p) xs ≡ false → xs ≡ filter (λ x. not (is_of pipe p x)) xs

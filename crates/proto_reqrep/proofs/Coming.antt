@@ -44,7 +44,7 @@ use Rattle.proto_reqrep.specs.declared.req.Request.{Request as Machine}
 use Rattle.proto_reqrep.specs.declared.req.Live.{Live}
 use Rattle.proto_reqrep.specs.declared.req.Kept.{Kept}
 use Rattle.proto_reqrep.specs.declared.req.Asking.{Asking}
-use Rattle.proto_reqrep.specs.Reqs.{Ties, Asked, begun_of, act_of, is_receiving_on, orphaned, without_live, live_ctx, is_live_on, request_of, with_found, with_reply, item_of, HasLive, HaveLive, raw_item}
+use Rattle.proto_reqrep.specs.Reqs.{Ties, IsCalm, Asked, begun_of, act_of, is_receiving_on, orphaned, without_live, live_ctx, is_live_on, request_of, with_found, with_reply, item_of, HasLive, HaveLive, raw_item}
 use Rattle.proto_reqrep.proofs.Living.{equal_of, same_number}
 use Rattle.proto_reqrep.proofs.Requested.{ended, reply_came}
 use Rattle.sp_history.specs.Legal.{is_recv_on, is_state}
@@ -55,6 +55,7 @@ use Rattle.proto_reqrep.proofs.Standing.{is_req_role, is_raw, asks, asks_nothing
 use Rattle.proto_reqrep.proofs.Requested.{begun_one, begun_new}
 use Rattle.proto_reqrep.proofs.Owning.{all_marked}
 use Rattle.proto_reqrep.proofs.Working.{length_same}
+use Rattle.proto_reqrep.proofs.Calming.{begun_calm}
 use Rattle.proto_reqrep.proofs.Outgoing.{ctxs_kept}
 use Rattle.sp_history.proofs.LiveRequests.{next_is_new}
 use Rattle.sp_history.specs.Requests.{has_id, next_number, free_from}
@@ -275,12 +276,12 @@ raw_short m t p b r h e = h.2 r ∙ sym (ap (λ q. cond (not q && cond (has_topi
 -- raw, what it stands for after a frame
 pub raw_frames : (m n : Machine) (t : Moment) (p : ℕ) (b : List ℕ) (v : Verdict) → m.raw ≡ true → Ties m t → n ≡ record m { kept = n.kept } → KeepsRaw v p b m.kept.items n.kept.items → Frames (Ties n) v t p b
 raw_frames m n t p b verdict.Fine r h s k =
-    (long_frame m t p b h k.0, subst (λ (y : Machine). Ties y (also t (Frame p b))) (sym s) (h.0, h.1, λ q. raw_frame m t p b n.kept.items r h k.0 k.1, raw_asked m t (Frame p b ∷ past t) r h, h.4))
+    (long_frame m t p b h k.0, subst (λ (y : Machine). Ties y (also t (Frame p b))) (sym s) (h.0, h.1, λ q. raw_frame m t p b n.kept.items r h k.0 k.1, raw_asked m t (Frame p b ∷ past t) r h, h.4, h.5))
 raw_frames m n t p b verdict.Malformed r h s k =
     let bad = short_frame m t p b h k.0 in
-    (bad, subst (λ (y : Machine). Ties y (also t (Frame p b))) (sym s) (h.0, h.1, λ q. ap (map item_of) k.1 ∙ raw_short m t p b r h bad, raw_asked m t (Frame p b ∷ past t) r h, h.4))
+    (bad, subst (λ (y : Machine). Ties y (also t (Frame p b))) (sym s) (h.0, h.1, λ q. ap (map item_of) k.1 ∙ raw_short m t p b r h bad, raw_asked m t (Frame p b ∷ past t) r h, h.4, h.5))
 raw_frames m n t p b verdict.NoMemory r h s k =
-    (long_frame m t p b h k.0, subst (λ (y : Machine). Ties y (also (also t (Frame p b)) (Unkept p))) (sym s) (h.0, h.1, λ q. ap (map item_of) k.1 ∙ h.2 r, raw_asked m t (Unkept p ∷ Frame p b ∷ past t) r h, h.4))
+    (long_frame m t p b h k.0, subst (λ (y : Machine). Ties y (also (also t (Frame p b)) (Unkept p))) (sym s) (h.0, h.1, λ q. ap (map item_of) k.1 ∙ h.2 r, raw_asked m t (Unkept p ∷ Frame p b ∷ past t) r h, h.4, h.5))
 raw_frames m n t p b (verdict.Dry c) r h s k = absurd k
 
 -- ---- A tick, and the close
@@ -519,10 +520,12 @@ pub all_begun : (m n : Machine) (t : Moment) (op : OpName) (c : ℕ) (x : Messag
     → ws ≡ n.waiting.items ++ record { op = op; ctx = c; message = Some x; is_orphan = false } ∷ []
     → SetTo n.raw n.options n.tick n.last_pipe (kind_of t.z) (now (past t)) (out_last (past t)) × Knows n.ports.items (up (past t)) (ups (past t)) (λ q. has_full t.turn q) × Keeps n.raw n.kept.items (pool t.z (past t) 0)
     × Asked n.raw n.live.items n.last_id ws (pend (past t) ++ record { op = op; ctx = c; act = Send (text_of x) } ∷ []) (requests t.z (Begin op t.caller c (Send (text_of x)) d ∷ past t)) × Opened n.live.items n.seats.items (ctxs (past t)) (λ q. is_dry (past t) q)
+    × IsCalm n
 all_begun m n t op c x d ws r l h a e = (
   rw (a.6, a.7, a.8, a.11) h.0,
   rw a.9 h.1,
   rw (a.6, a.10) h.2,
   asked_ops e (send_asked m n t op c x d r l h a),
   send_opened m n c x.body (ctxs (past t)) (λ q. is_dry (past t) q) a l.turn.0.itself.ctx_open h.4,
+  begun_calm m n c x.body a h.5,
 )

@@ -20,7 +20,9 @@ pub mod Requested
 pub mod Working
 pub mod Standing
 pub mod Reaching
+pub mod Calming
 pub mod Coming
 pub mod Knowing
 pub mod Winning
+pub mod Indexed
 pub mod Offering

@@ -1,9 +1,8 @@
 -- What a req offers.
-use Rattle.std.proofs.Common.{◌≡◌, refl, ap, sym, ◌∙◌, subst, List, [], ◌∷◌, ℕ, ◌+◌, ◌≤◌, Bool, true, false, cond, arith, Option, Some, None, map, length, inl, inr}
+use Rattle.std.proofs.Common.{◌≡◌, refl, ap, sym, ◌∙◌, subst, List, [], ◌∷◌, ℕ, ◌+◌, ◌≤◌, Bool, true, false, cond, arith, Option, Some, None, map, inl, inr}
 use Rattle.std.specs.Prelude.{find, filter, not, is_some, nat_lt, IsTrue, ◌⊎◌, ◌&&◌, ◌||◌, ◌==◌}
-use Rattle.std.specs.List.{list_any, list_all, position, position_or_len}
+use Rattle.std.specs.List.{list_any, list_all}
 use Rattle.std.specs.Option.{option_map}
-use Rattle.std.proofs.lemmas.Bool.Decides.{nat_tests}
 use Rattle.sp_base.specs.declared.OpName.{OpName}
 use Rattle.sp_base.specs.declared.role.Role.{Role}
 use Rattle.sp_base.specs.declared.role.Role.TheVariants as role
@@ -37,8 +36,7 @@ use Rattle.proto_reqrep.specs.Ports.{Port}
 use Rattle.proto_reqrep.specs.declared.req.Request.{Request as Machine}
 use Rattle.proto_reqrep.specs.declared.req.Live.{Live}
 use Rattle.proto_reqrep.specs.declared.req.Asking.{Asking}
-use Rattle.proto_reqrep.specs.declared.req.Kept.{Kept}
-use Rattle.proto_reqrep.specs.Reqs.{Ties, IsNextPipe, out_last, begun_of, act_of, is_sending, is_live_on, live_ctx, request_of, is_due, out_offer, is_given, is_any_given, keeps_reply, dry_at, HasLive}
+use Rattle.proto_reqrep.specs.Reqs.{Ties, IsNextPipe, out_last, begun_of, act_of, is_sending, is_live_on, live_ctx, request_of, is_due, out_offer, is_given, dry_at, HasLive}
 use Rattle.proto_reqrep.proofs.Orphaned.{orphan_found, all_finished}
 use Rattle.proto_reqrep.proofs.Living.{equal_of, same_number}
 use Rattle.proto_reqrep.proofs.Owning.{owned_at}
@@ -567,36 +565,8 @@ pub some_port : (o : Option Port) (p : ℕ) → Some p ≡ option_map (λ (x : P
 some_port None p e = absurd cc
 some_port (Some x) p e = (x, refl, sym (some_inj p x.pipe e))
 
--- ---- Where nothing is kept
-
-nowhere : {A : Type 0} (P : A → Bool) (xs : List A) → list_any P xs ≡ false → position_or_len P xs ≡ length xs
-nowhere P [] h = refl
-nowhere P (x ∷ xs) h = go (P x) refl h (nowhere P xs)
-  where
-    go : (b : Bool) → P x ≡ b → (b || list_any P xs) ≡ false → (list_any P xs ≡ false → position_or_len P xs ≡ length xs) → position_or_len P (x ∷ xs) ≡ length (x ∷ xs)
-    go true e h again = absurd cc
-    go false e h again = let k = again h in rw e (omega (arith, k))
-
-nothing_gets : (raw : Bool) (ks : List Kept) (xs : List Live) → is_any_given raw ks xs ≡ false → (c : ℕ) → is_given raw ks xs c ≡ false
-nothing_gets true ks xs h c = h
-nothing_gets false ks [] h c = refl
-nothing_gets false ks (x ∷ xs) h c = go (is_some x.reply) (x.ctx == c) h (λ k. nothing_gets false ks xs k c)
-  where
-    go : (a b : Bool) → (a || list_any (λ (x : Live). is_some x.reply) xs) ≡ false → (list_any (λ (x : Live). is_some x.reply) xs ≡ false → list_any (keeps_reply c) xs ≡ false) → (b && a || list_any (keeps_reply c) xs) ≡ false
-    go true b h again = absurd cc
-    go false true h again = again h
-    go false false h again = again h
-
-pub none_gets : (m : Machine) (ws : List Asking) → is_any_given m.raw m.kept.items m.live.items ≡ false → None ≡ position (gets m) ws
-none_gets m ws h = sym (go (position_or_len (gets m) ws) (length ws) (nowhere (gets m) ws (none ws)))
-  where
-    go : (n l : ℕ) → n ≡ l → cond (nat_lt n l) (Some n) None ≡ None
-    go n l e = grind (arith, nat_tests)
-
-    none : (ws : List Asking) → list_any (gets m) ws ≡ false
-    none [] = refl
-    none (w ∷ ws) = rw (nothing_gets m.raw m.kept.items m.live.items h w.ctx, none ws) (never (not (is_sending w)))
-      where
-        never : (b : Bool) → (b && false || false) ≡ false
-        never true = refl
-        never false = refl
+-- it never goes to all
+pub never_floods_out : {A : Type 0} (p : ℕ) (op : OpName) (w : Option Asking) (x : Option Live) → out_offer p w x ≡ offers.Flood op → A
+never_floods_out p op (Some w) x e = absurd cc
+never_floods_out p op None None e = absurd cc
+never_floods_out p op None (Some x) e = absurd cc

@@ -11,10 +11,10 @@ pub record BacklogView (A : Type 0) : Type 0 where
 abbrev pub is_in : List ℕ → ℕ → Bool
 is_in ks q = list_any (λ k. q == k) ks
 
--- it is of this pipe
+-- it has this number
 abbrev pub is_of : {A : Type 0} → (A → ℕ) → ℕ → A → Bool
-is_of pipe q x = pipe x == q
+is_of number q x = number x == q
 
--- these are the pipes of what is kept, and no two of it are of one
-abbrev pub IsIndexed : {A : Type 0} → (A → ℕ) → List ℕ → List A → Type 0
-IsIndexed pipe ks xs = ((q : ℕ) → is_in ks q ≡ list_any (is_of pipe q) xs) × AreDistinct (map pipe xs)
+-- these are the numbers of the elements, and no two have one
+abbrev pub IsIndexed : {A : Type 0} → (A → ℕ) → (ℕ → Bool) → List A → Type 0
+IsIndexed number known xs = ((q : ℕ) → known q ≡ list_any (is_of number q) xs) × AreDistinct (map number xs)

@@ -58,6 +58,7 @@ anew m t e h slots callers caller = (
     contexts = h.4.contexts ∙ ap ctxs e;
     dryness = subst (λ before. (c : ℕ) → has (ctxs before) c ≡ true → dry_at c m.seats.items ≡ is_dry before c) e h.4.dryness;
   },
+  h.5,
 )
   where
     none : (b : Bool) → cond b no_requests no_requests ≡ no_requests

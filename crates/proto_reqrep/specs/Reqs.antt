@@ -1,5 +1,5 @@
 -- What a req stands for.
-use Rattle.std.specs.Prelude.{◌≡◌, ◌≢◌, ◌≤◌, ◌<◌, ◌+◌, ◌*◌, ◌^◌, ◌%◌, ◌==◌, ◌&&◌, ◌||◌, ℕ, zero, suc, Bool, true, false, not, ⊤, nat_le, if◌then◌else◌, List, [], ◌∷◌, ◌++◌, length, map, find, take, drop, Option, Some, None, is_some}
+use Rattle.std.specs.Prelude.{◌≡◌, ◌≢◌, ◌≤◌, ◌<◌, ◌+◌, ◌-◌, ◌*◌, ◌^◌, ◌%◌, ◌==◌, ◌&&◌, ◌||◌, ℕ, zero, suc, Bool, true, false, not, ⊤, nat_le, if◌then◌else◌, List, [], ◌∷◌, ◌++◌, length, map, find, take, drop, Option, Some, None, is_some}
 use Rattle.std.specs.List.{list_any, list_all}
 use Rattle.sp_base.specs.declared.OpName.{OpName}
 use Rattle.sp_base.specs.declared.role.Role.TheVariants as role
@@ -169,11 +169,6 @@ abbrev pub is_given : Bool → List Kept → List Live → ℕ → Bool
 is_given true ks xs c = not (is_nil ks)
 is_given false ks xs c = list_any (keeps_reply c) xs
 
--- a message can be given to a receive of some context
-abbrev pub is_any_given : Bool → List Kept → List Live → Bool
-is_any_given true ks xs = not (is_nil ks)
-is_any_given false ks xs = list_any (λ (x : Live). is_some x.reply) xs
-
 -- its pipe is down, or it is too long ago
 abbrev pub is_late : ℕ → ℕ → List Port → LastOut → Bool
 is_late resend t ps o = not (list_any (is_pipe o.pipe) ps) || nat_le (o.when + resend) t
@@ -185,6 +180,18 @@ is_late_in resend t ps (Some o) = is_late resend t ps o
 -- the live request may go out again
 abbrev pub is_due : ℕ → ℕ → List Port → List Seat → Live → Bool
 is_due resend t ps ss x = not (is_some x.reply) && (is_late_in resend t ps x.last_out && not (dry_at x.ctx ss))
+
+-- no request before this place may go out again
+abbrev pub AreCalm : ℕ → ℕ → List Port → List Seat → ℕ → List Live → Type 0
+AreCalm resend t ps ss n xs = list_any (is_due resend t ps ss) (take n xs) ≡ false
+
+abbrev pub IsCalm : Machine → Type 0
+IsCalm m = AreCalm m.options.resend m.tick m.ports.items m.seats.items m.calm m.live.items
+
+-- the place that was found, or the end
+abbrev pub reached : Option ℕ → ℕ → ℕ
+reached None n = n
+reached (Some i) n = i
 
 abbrev pub out_offer : ℕ → Option Asking → Option Live → Offer
 out_offer p (Some w) x = offers.Send w.op p
@@ -222,6 +229,7 @@ Asks c body m n =
     (x : Live) × IsNew m c body x × (length (without_live c m.live.items) < 2 ^ 31) × (n.live.items ≡ without_live c m.live.items ++ x ∷ [])
     × (n.waiting.items ≡ map (orphaned c) m.waiting.items) × (n.last_id ≡ Some x.id)
     × (n.raw ≡ m.raw) × (n.options ≡ m.options) × (n.tick ≡ m.tick) × (n.ports ≡ m.ports) × (n.kept ≡ m.kept) × (n.last_pipe ≡ m.last_pipe) × (n.seats ≡ m.seats)
+    × (n.calm ≡ m.calm - 1)
 
 abbrev pub raw_item : ℕ → List ℕ → Item
 raw_item p b = record { pipe = p; words = []; message = record { header = take 4 b; body = drop 4 b } }
@@ -324,3 +332,4 @@ Ties m t =
     × Keeps m.raw m.kept.items (pool t.z (past t) 0)
     × Asked m.raw m.live.items m.last_id m.waiting.items (pend (past t)) (requests t.z (past t))
     × Opened m.live.items m.seats.items (ctxs (past t)) (λ c. is_dry (past t) c)
+    × IsCalm m

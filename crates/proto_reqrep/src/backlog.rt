@@ -93,13 +93,13 @@ pub struct Backlog<T: FromPipe> {
 }
 
 impl<T: FromPipe> Model for Backlog<T> {
-    ghost use Rattle.proto_reqrep.specs.Backlogs.{BacklogView, IsIndexed};
+    ghost use Rattle.proto_reqrep.specs.Backlogs.{BacklogView, IsIndexed, is_in};
 
     ghost Value = { BacklogView T };
 
     ghost view = { λ m. record { items = m.queue.items } };
 
-    ghost invariant = { λ m. IsIndexed T.pipe_of m.pipes m.queue.items };
+    ghost invariant = { λ m. IsIndexed T.pipe_of (is_in m.pipes) m.queue.items };
 }
 
 impl<T: FromPipe> Backlog<T> {

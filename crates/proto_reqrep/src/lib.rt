@@ -12,6 +12,8 @@
 #![tactic(auto)]
 
 mod backlog;
+mod lives;
+mod numbers;
 mod ports;
 mod rep;
 mod req;

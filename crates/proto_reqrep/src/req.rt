@@ -1,5 +1,5 @@
 //! The machine of req.
-ghost use Rattle.std.specs.Prelude.{◌≡◌, ◌≢◌, ◌≤◌, ◌<◌, ◌+◌, ◌-◌, ◌^◌, ◌%◌, ◌==◌, ◌++◌, ◌&&◌, ℕ, [], ◌∷◌, None, Some, IfOk, OnOk, OnErr, false, true, not, map, filter, find, drop, length, option_to_list, is_some};
+ghost use Rattle.std.specs.Prelude.{◌≡◌, ◌≢◌, ◌≤◌, ◌<◌, ◌+◌, ◌-◌, ◌^◌, ◌%◌, ◌==◌, ◌++◌, ◌&&◌, ℕ, [], ◌∷◌, None, Some, IfOk, IfSome, OnOk, OnErr, false, true, not, map, filter, find, drop, length, option_to_list, is_some};
 ghost use Rattle.std.specs.Vec.{vec_len, vec_capacity};
 ghost use Rattle.std.specs.Option.{option_map};
 ghost use Rattle.std.specs.List.{position, list_any};
@@ -18,9 +18,10 @@ ghost use Rattle.proto_reqrep.specs.declared.req.Kept.{Kept as KeptType};
 ghost use Rattle.proto_reqrep.specs.declared.req.Live.{Live as LiveType};
 ghost use Rattle.proto_reqrep.specs.declared.req.Asking.{Asking as AskingType};
 ghost use Rattle.proto_reqrep.specs.declared.req.Seat.{Seat as SeatType};
-ghost use Rattle.proto_reqrep.specs.Reqs.{Ties, req_kind, is_live_on, is_asked, without_first, without_live, orphaned, waits_for, with_reply, with_found, sent_at, keeps_reply, is_sending, is_due, dry_at, dried, wetted, number_after, free_number, reply_in, Asks, KeepsRaw, is_given, is_any_given, is_late, out_offer, ask_state, is_receiving_on, work_left, IsNextPipe};
+ghost use Rattle.proto_reqrep.specs.Reqs.{Ties, req_kind, is_live_on, is_asked, without_first, without_live, orphaned, with_found, sent_at, is_sending, is_due, dry_at, dried, wetted, number_after, free_number, reply_in, Asks, KeepsRaw, is_given, is_late, IsCalm, reached, out_offer, ask_state, is_receiving_on, work_left, IsNextPipe};
 
 use crate::backlog::{Backlog, FromPipe};
+use crate::lives::Lives;
 use crate::ports::Ports;
 use crate::trail::first_word;
 use sp_base::{Ctx, NoMemory, OpName, PipeId, Role, Tick};
@@ -36,9 +37,9 @@ const MOST_LIVE: usize = 2_147_483_647;
 
 /// A message that is kept, and the pipe that it came from.
 #[derive(Drop)]
-struct Kept {
-    pipe: PipeId,
-    message: Message,
+pub struct Kept {
+    pub pipe: PipeId,
+    pub message: Message,
 }
 
 impl FromPipe for Kept {
@@ -51,14 +52,14 @@ impl FromPipe for Kept {
 
 /// A live request.
 #[derive(Drop)]
-struct Live {
-    ctx: Ctx,
-    id: u32,
+pub struct Live {
+    pub ctx: Ctx,
+    pub id: u32,
     /// What goes out behind the id, with an empty header.
-    copy: Message,
-    birth: Tick,
-    last_out: Option<LastOut>,
-    reply: Option<Kept>,
+    pub copy: Message,
+    pub birth: Tick,
+    pub last_out: Option<LastOut>,
+    pub reply: Option<Kept>,
 }
 
 /// An operation that waits: a send has its message, as it was begun.
@@ -91,8 +92,10 @@ pub struct Request {
     ports: Ports,
     /// Raw: replies.
     kept: Backlog<Kept>,
-    /// Cooked: at most one of each context, in the order of their begins.
-    live: Vec<Live>,
+    /// Cooked: at most one of each context.
+    live: Lives,
+    /// No live request before this place may go out again.
+    calm: usize,
     /// In the order of their begins.
     waiting: Vec<Asking>,
     /// In the order in which they were opened.
@@ -226,85 +229,17 @@ fn send_place(waiting: &[Asking]) -> Option<usize>
 
 // ---- Live requests
 
-// Where the live request of the context stands.
-fn live_place(live: &[Live], c: Ctx) -> Option<usize>
-    ensures { result ≡ position (is_live_on c) live.now }
-{
-    live.iter().position(|x| x.ctx.0 == c.0)
-}
-
-// The context has a live request.
-fn has_live(live: &[Live], c: Ctx) -> bool
-    ensures { result ≡ list_any (is_live_on c) live.now }
-{
-    live.iter().any(|x| x.ctx.0 == c.0)
-}
-
-// A reply is kept for the context.
-fn has_reply(live: &[Live], c: Ctx) -> bool
-    ensures { result ≡ list_any (keeps_reply c) live.now }
-{
-    live.iter().any(|x| x.ctx.0 == c.0 && x.reply.is_some())
-}
-
-// A reply is kept.
-fn has_any_reply(live: &[Live]) -> bool
-    ensures { result ≡ list_any (λ (x : LiveType). is_some x.reply) live.now }
-{
-    live.iter().any(|x| x.reply.is_some())
-}
-
-// Takes the live request of the context out.
-fn take_live(live: &mut Vec<Live>, c: Ctx) -> Option<Live>
-    ensures found { result ≡ find (is_live_on c) live.old.items }
-    ensures rest { live.new.items ≡ without_live c live.old.items }
-    ensures len { vec_len live.new ≤ vec_len live.old }
-    ensures capacity { vec_capacity live.new ≡ vec_capacity live.old }
-{
-    match live_place(live, c) {
-        None => None,
-        Some(i) => Some(live.remove(i)),
-    }
-}
-
 // Takes the reply that is kept for the context, whose request it answers.
-fn answered(live: &mut Vec<Live>, c: Ctx) -> Option<Message>
+fn answered(live: &mut Lives, c: Ctx) -> Option<Message>
     ensures reply { result ≡ reply_in (find (is_live_on c) live.old.items) }
     ensures rest { live.new.items ≡ without_live c live.old.items }
 {
-    match take_live(live, c) {
+    match live.take_live(c) {
         None => None,
         Some(x) => {
             let Live { reply, .. } = x;
             reply.map(|k| k.message)
         }
-    }
-}
-
-// Where the live request stands that has this id and waits for a reply.
-fn waiting_place(live: &[Live], id: u32) -> Option<usize>
-    ensures { result ≡ position (waits_for id) live.now }
-{
-    live.iter().position(|x| x.id == id && x.last_out.is_some() && x.reply.is_none())
-}
-
-// Keeps the reply for the request that has this id and waits for one, if there is one.
-fn keep_reply(live: &mut [Live], id: u32, kept: Kept)
-    ensures { live.new ≡ with_reply id kept live.old }
-{
-    match waiting_place(live, id) {
-        None => {}
-        Some(i) => live[i].reply = Some(kept),
-    }
-}
-
-// The request of the context goes out.
-fn note_out(live: &mut [Live], c: Ctx, out: LastOut)
-    ensures { live.new ≡ with_found (is_live_on c) (sent_at out) live.old }
-{
-    match live_place(live, c) {
-        None => {}
-        Some(i) => live[i].last_out = Some(out),
     }
 }
 
@@ -319,18 +254,17 @@ fn led(message: Message, id: u32) -> Message
 }
 
 // The message of a send with the id of its request, which goes out.
-fn asked(live: &mut [Live], c: Ctx, message: Message, out: LastOut) -> Message
-    ensures live { live.new ≡ with_found (is_live_on c) (sent_at out) live.old }
-    ensures message { (x : LiveType) → find (is_live_on c) live.old ≡ Some x → wire_text result ≡ word x.id ++ message.body }
+fn asked(live: &mut Lives, c: Ctx, message: Message, out: LastOut) -> Message
+    ensures live { live.new.items ≡ with_found (is_live_on c) (sent_at out) live.old.items }
+    ensures message { (x : LiveType) → find (is_live_on c) live.old.items ≡ Some x → wire_text result ≡ word x.id ++ message.body }
 {
-    match live_place(live, c) {
+    match live.id_of(c) {
         None => {
-            note_out(live, c, out);
+            live.note_out(c, out);
             message
         }
-        Some(i) => {
-            let id = live[i].id;
-            note_out(live, c, out);
+        Some(id) => {
+            live.note_out(c, out);
             led(message, id)
         }
     }
@@ -345,33 +279,38 @@ fn number_after(id: u32) -> u32
     (id % 2_147_483_648 + 1) % 2_147_483_648 + 2_147_483_648
 }
 
-// A live request has this id.
-fn is_taken(live: &[Live], id: u32) -> bool
-    ensures { result ≡ list_any (λ (x : LiveType). x.id == id) live.now }
-{
-    live.iter().any(|x| x.id == id)
-}
-
 // The first number from this one on that no live request has.
-fn free_number(live: &[Live], tries: usize, id: u32) -> u32
-    ensures { result ≡ free_number tries live.now id }
+fn free_number(live: &Lives, tries: usize, id: u32) -> u32
+    ensures { result ≡ free_number tries live.now.items id }
 {
     if tries == 0 {
         return id;
     }
-    if !is_taken(live, id) {
+    if !live.is_taken(id) {
         return id;
     }
     free_number(live, tries - 1, number_after(id))
 }
 
 // The id of the next request.
-fn next_id(live: &[Live], dice: u32, last: Option<u32>) -> u32
-    ensures { result ≡ free_number (length live.now) live.now (next_number dice last) }
+fn next_id(live: &Lives, dice: u32, last: Option<u32>) -> u32
+    ensures { result ≡ free_number (length live.now.items) live.now.items (next_number dice last) }
 {
     match last {
         None => free_number(live, live.len(), dice % 2_147_483_648 + 2_147_483_648),
         Some(id) => free_number(live, live.len(), number_after(id)),
+    }
+}
+
+// ---- Resends
+
+// The place that was found, or the end.
+fn reached(place: Option<usize>, end: usize) -> usize
+    ensures { result ≡ reached place end }
+{
+    match place {
+        None => end,
+        Some(i) => i,
     }
 }
 
@@ -404,7 +343,8 @@ impl Request {
                 last_pipe: PipeId(0),
                 ports: Ports::new(alloc),
                 kept: Backlog::new(alloc),
-                live: Vec::new(alloc),
+                live: Lives::new(alloc),
+                calm: 0,
                 waiting: Vec::new(alloc),
                 seats,
             }),
@@ -425,14 +365,15 @@ impl Request {
             Ok(copy) => copy,
         };
         copy.header_clear();
-        if self.live.reserve(1).is_err() {
+        if self.live.reserve().is_err() {
             return Err(NoMemory);
         }
-        let _ = take_live(&mut self.live, c);
+        let _ = self.live.take_live(c);
+        self.calm = self.calm.saturating_sub(1);
         leave_behind(&mut self.waiting, c);
         let id = next_id(&self.live, self.options.dice, self.last_id);
         self.last_id = Some(id);
-        self.live.push_reserved(Live {
+        self.live.push(Live {
             ctx: c,
             id,
             copy,
@@ -505,29 +446,16 @@ impl Request {
         if self.raw {
             return !self.kept.is_empty();
         }
-        has_reply(&self.live, c)
+        self.live.has_reply(c)
     }
 
     // Where the first receive stands that can be given a message.
     fn give_place(&self) -> Option<usize>
         ensures { result ≡ position (λ (w : AskingType). not (is_sending w) && is_given self.now.raw self.now.kept.items self.now.live.items w.ctx) self.now.waiting.items }
     {
-        if !self.has_any() {
-            return None;
-        }
         self.waiting
             .iter()
             .position(|w| w.message.is_none() && self.gives(w.ctx))
-    }
-
-    // A message can be given to a receive of some context.
-    fn has_any(&self) -> bool
-        ensures { result ≡ is_any_given self.now.raw self.now.kept.items self.now.live.items }
-    {
-        if self.raw {
-            return !self.kept.is_empty();
-        }
-        has_any_reply(&self.live)
     }
 
     // The live request may go out again.
@@ -551,16 +479,45 @@ impl Request {
             || (out.when.0 <= self.tick.0 && self.tick.0 - out.when.0 >= self.options.resend)
     }
 
-    // Where the first live request stands that may go out again.
-    fn due_place(&self) -> Option<usize>
-        ensures { result ≡ position (is_due self.now.options.resend self.now.tick self.now.ports.items self.now.seats.items) self.now.live.items }
+    // Where the first of these live requests stands that may go out again.
+    fn due_among(&self, live: &[Live]) -> Option<usize>
+        ensures { result ≡ position (is_due self.now.options.resend self.now.tick self.now.ports.items self.now.seats.items) live.now }
     {
-        self.live.iter().position(|x| self.is_due(x))
+        live.iter().position(|x| self.is_due(x))
+    }
+
+    // Where the first live request stands that may go out again. Those that are calm are not looked at.
+    fn due_from(&self) -> Option<usize>
+        ensures bound { IfSome result (λ i. i < length self.now.live.items) }
+        ensures place { IsCalm self.now → result ≡ position (is_due self.now.options.resend self.now.tick self.now.ports.items self.now.seats.items) self.now.live.items }
+    {
+        let live = self.live.as_slice();
+        if self.calm >= live.len() {
+            return None;
+        }
+        match self.due_among(&live[self.calm..]) {
+            None => None,
+            Some(i) => Some(self.calm + i),
+        }
+    }
+
+    // The same. All before it are calm then.
+    fn due_place(&mut self) -> Option<usize>
+        ensures same { self.new ≡ record self.old { calm = self.new.calm } }
+        ensures calm { IsCalm self.old → IsCalm self.new }
+        ensures bound { IfSome result (λ i. i < length self.old.live.items) }
+        ensures place { IsCalm self.old → result ≡ position (is_due self.old.options.resend self.old.tick self.old.ports.items self.old.seats.items) self.old.live.items }
+    {
+        let place = self.due_from();
+        self.calm = reached(place, self.live.len());
+        place
     }
 
     // What can go out on this pipe: the first send, or a request that is due again.
-    fn next_out(&self, pipe: PipeId) -> Offer
-        ensures { result ≡ out_offer pipe (find is_sending self.now.waiting.items) (find (is_due self.now.options.resend self.now.tick self.now.ports.items self.now.seats.items) self.now.live.items) }
+    fn next_out(&mut self, pipe: PipeId) -> Offer
+        ensures same { self.new ≡ record self.old { calm = self.new.calm } }
+        ensures calm { IsCalm self.old → IsCalm self.new }
+        ensures offer { IsCalm self.old → result ≡ out_offer pipe (find is_sending self.old.waiting.items) (find (is_due self.old.options.resend self.old.tick self.old.ports.items self.old.seats.items) self.old.live.items) }
     {
         match send_place(&self.waiting) {
             Some(i) => Offer::Send {
@@ -570,7 +527,7 @@ impl Request {
             None => match self.due_place() {
                 None => Offer::Idle,
                 Some(i) => Offer::Again {
-                    ctx: self.live[i].ctx,
+                    ctx: self.live.ctx_at(i),
                     pipe,
                 },
             },
@@ -591,7 +548,7 @@ impl Request {
         ensures { result ≡ ask_state self.now.waiting.items self.now.live.items c verb }
     {
         match verb {
-            Verb::Recv => !has_live(&self.live, c) || self.is_receiving(c),
+            Verb::Recv => !self.live.has(c) || self.is_receiving(c),
             Verb::Send => false,
         }
     }
@@ -643,6 +600,7 @@ impl Proto for Request {
 
     fn down(&mut self, p: PipeId) {
         self.ports.forget(p);
+        self.calm = 0;
     }
 
     fn wants(&self, p: PipeId) -> bool {
@@ -664,7 +622,7 @@ impl Proto for Request {
             Some(id) => {
                 let mut message = m;
                 let _ = message.trim(4);
-                keep_reply(&mut self.live, id, Kept { pipe: p, message });
+                self.live.keep_reply(id, Kept { pipe: p, message });
                 Verdict::Fine
             }
         }
@@ -757,22 +715,19 @@ impl Proto for Request {
     }
 
     fn again(&mut self, c: Ctx, p: PipeId) -> Option<Message> {
-        match live_place(&self.live, c) {
-            None => None,
-            Some(i) => match self.live[i].copy.copy() {
-                Err(_) => {
-                    dry(&mut self.seats, c);
-                    None
-                }
-                Ok(copy) => {
-                    self.last_pipe = p;
-                    let out = LastOut {
-                        pipe: p,
-                        when: self.tick,
-                    };
-                    Some(asked(&mut self.live, c, copy, out))
-                }
-            },
+        match self.live.copy_of(c) {
+            None => {
+                dry(&mut self.seats, c);
+                None
+            }
+            Some(copy) => {
+                self.last_pipe = p;
+                let out = LastOut {
+                    pipe: p,
+                    when: self.tick,
+                };
+                Some(asked(&mut self.live, c, copy, out))
+            }
         }
     }
 
@@ -782,7 +737,10 @@ impl Proto for Request {
             Some(w) => {
                 let ctx = w.ctx;
                 match w.message {
-                    None => self.give(ctx),
+                    None => {
+                        self.calm = self.calm.saturating_sub(1);
+                        self.give(ctx)
+                    }
                     Some(m) => Some(self.send(ctx, m, out)),
                 }
             }
@@ -794,7 +752,8 @@ impl Proto for Request {
             None => None,
             Some(w) => {
                 if !self.raw && !w.is_orphan {
-                    let _ = take_live(&mut self.live, w.ctx);
+                    let _ = self.live.take_live(w.ctx);
+                    self.calm = self.calm.saturating_sub(1);
                     leave_behind(&mut self.waiting, w.ctx);
                 }
                 w.message
@@ -805,6 +764,7 @@ impl Proto for Request {
     fn clock(&mut self, now: Tick) {
         self.tick = now;
         wet(&mut self.seats);
+        self.calm = 0;
     }
 
     fn open_ctx(&mut self, c: Ctx) -> Result<(), NoMemory> {
@@ -818,7 +778,8 @@ impl Proto for Request {
     }
 
     fn close_ctx(&mut self, c: Ctx) {
-        let _ = take_live(&mut self.live, c);
+        let _ = self.live.take_live(c);
+        self.calm = self.calm.saturating_sub(1);
         self.seats.retain(|s| s.ctx.0 != c.0);
     }
 
@@ -831,6 +792,7 @@ impl Proto for Request {
 
     fn close(&mut self) {
         self.live.clear();
+        self.calm = 0;
         self.kept.clear();
     }
 }

@@ -73,11 +73,58 @@ fn answers<R: AllocGlobal + Clock + Eprint>(rt: &R, pipes: u32) -> Result<(), No
     Ok(())
 }
 
-// All three over so many.
+// Each of so many pipes of a rep, which keeps a request of each, is asked whether frames of it are wanted.
+fn asks<R: AllocGlobal + Clock + Eprint>(rt: &R, pipes: u32) -> Result<(), NoMemory> {
+    let mut rep = Reply::new(rt.alloc(), Options::usual(Role::Rep, 0), false)?;
+    ups(&mut rep, pipes)?;
+    for i in 0..pipes {
+        come(&mut rep, rt.alloc(), PipeId(i + 1), &reply_to(i))?;
+    }
+    let start = now(rt);
+    let mut wanted: u32 = 0;
+    for i in 0..pipes {
+        if rep.wants(PipeId(i + 1)) {
+            wanted = wanted.saturating_add(1);
+        }
+    }
+    row(
+        rt,
+        "a pipe of a rep is asked, by what is kept",
+        pipes,
+        start,
+        pipes.saturating_sub(wanted),
+    );
+    Ok(())
+}
+
+// Receives of so many contexts wait, and a reply comes to each, the last one first.
+fn waits<R: AllocGlobal + Clock + Eprint>(rt: &R, count: u32) -> Result<(), NoMemory> {
+    let mut req = Request::new(rt.alloc(), Options::usual(Role::Req, 0), false)?;
+    opens(&mut req, count)?;
+    ups(&mut req, 1)?;
+    for i in 0..count {
+        send(&mut req, rt.alloc(), i, Ctx(i), b"q")?;
+        take_offer(&mut req, 1);
+    }
+    for i in 0..count {
+        receive(&mut req, i, Ctx(i))?;
+    }
+    let start = now(rt);
+    for i in 0..count {
+        come(&mut req, rt.alloc(), PipeId(1), &reply_to(count - 1 - i))?;
+        take_offer(&mut req, 1);
+    }
+    row(rt, "a reply at a req, by receives", count, start, count);
+    Ok(())
+}
+
+// All five over so many.
 fn each<R: AllocGlobal + Clock + Eprint>(rt: &R, size: u32) -> Result<(), NoMemory> {
     trips(rt, size)?;
     contexts(rt, size)?;
+    waits(rt, size)?;
     answers(rt, size)?;
+    asks(rt, size)?;
     Ok(())
 }
 

@@ -1,4 +1,4 @@
-use Rattle.std.proofs.Common.{◌≡◌, sym, map}
+use Rattle.std.proofs.Common.{◌≡◌, refl, sym, map}
 use Rattle.std.specs.Vec.{with_items}
 use Rattle.proto_reqrep.specs.Reqs.{wetted}
 use Rattle.proto_reqrep.proofs.Reaching.{wetted_opened}
@@ -15,4 +15,5 @@ returns-clause-ticked c =
       h.2,
       ticked_asked was t c.args.now due h,
       opened_seats seats (wetted_opened was.live.items was.seats.items _ _ h.4),
+      refl,
     )

@@ -1,4 +1,4 @@
-use Rattle.std.proofs.Common.{rules, ◌≡◌, [], ap, map}
+use Rattle.std.proofs.Common.{rules, refl, ◌≡◌, [], ap, map}
 use Rattle.proto_reqrep.specs.Reqs.{item_of}
 use Rattle.proto_reqrep.proofs.Coming.{closed_asked, closed_opened, asked_live, opened_live}
 use Rattle.proto_reqrep.proofs.req.RequestProto.close.Goals as goal
@@ -9,4 +9,4 @@ returns-clause-closed c =
     let was = c.args.self.now in
     let none : c.clear.new.self.items ≡ [] = search rules in
     let bare : c.clear-2.new.self.items ≡ [] = search rules in
-    (h.0, h.1, λ r. ap (map item_of) bare, asked_live none (closed_asked was t totals l h), opened_live none (closed_opened was t h))
+    (h.0, h.1, λ r. ap (map item_of) bare, asked_live none (closed_asked was t totals l h), opened_live none (closed_opened was t h), refl)

@@ -1,10 +1,11 @@
+use Rattle.std.proofs.Common.{refl}
 use Rattle.proto_reqrep.proofs.Knowing.{down_knows, down_free}
 use Rattle.proto_reqrep.proofs.Working.{less_free, count_most}
 use Rattle.proto_reqrep.proofs.Coming.{down_items}
 use Rattle.proto_reqrep.proofs.req.RequestProto.down.Goals as goal
 
 pub returns-clause-down : goal.returns-clause-down
-returns-clause-down c = λ t why l h. (h.0, down_knows c.forget.new.self.items c.args.self.now.ports.items t c.args.p why h.1 c.forget.ensures, λ r. down_items c.args.self.now t c.args.p why h r, h.3, h.4)
+returns-clause-down c = λ t why l h. (h.0, down_knows c.forget.new.self.items c.args.self.now.ports.items t c.args.p why h.1 c.forget.ensures, λ r. down_items c.args.self.now t c.args.p why h r, h.3, h.4, refl)
 
 pub returns-clause-left : goal.returns-clause-left
 returns-clause-left c =

@@ -1,9 +1,10 @@
-use Rattle.std.proofs.Common.{◌≡◌, ◌∙◌, sym, ap, None, Some}
-use Rattle.proto_reqrep.specs.Reqs.{waits_for, with_kept}
+use Rattle.std.proofs.Common.{◌≡◌, ◌∙◌, refl, sym, ap, None, Some}
 use Rattle.sp_history.specs.Lists.{first_word}
 use Rattle.proto_reqrep.specs.declared.req.Kept.{Kept}
-use Rattle.proto_reqrep.proofs.Coming.{none_kept, raw_frames, short_frame, long_frame, short_asked, reply_asked, asked_live, found_written, ctxs_replied, not_both, some_word, trimmed_is}
+use Rattle.proto_reqrep.proofs.Coming.{none_kept, raw_frames, short_frame, long_frame, short_asked, reply_asked, asked_live, ctxs_replied, not_both, some_word, trimmed_is}
 use Rattle.proto_reqrep.proofs.Reaching.{opened_as}
+use Rattle.proto_reqrep.specs.Reqs.{is_due, waits_for, with_kept}
+use Rattle.proto_reqrep.proofs.Calming.{none_changed}
 use Rattle.proto_reqrep.proofs.req.RequestProto.frame.Goals as goal
 
 pub returns-then-self-clause-kept : goal.returns-then-self-clause-kept
@@ -22,7 +23,7 @@ returns-in-None-clause-kept c =
     let was = c.args.self.now in
     let none : first_word c.args.m.body ≡ None = sym (c.in-None.ensures ∙ ap first_word c.body.ensures) in
     let bad = short_frame was t c.args.p c.args.m.body h none in
-    (bad, (h.0, h.1, λ r. not_both r c.if-self.false, short_asked was t c.args.p c.args.m.body h bad, h.4))
+    (bad, (h.0, h.1, λ r. not_both r c.if-self.false, short_asked was t c.args.p c.args.m.body h bad, h.4, h.5))
 
 pub returns-in-Some-clause-kept : goal.returns-in-Some-clause-kept
 returns-in-Some-clause-kept c =
@@ -30,7 +31,7 @@ returns-in-Some-clause-kept c =
     let was = c.args.self.now in
     let k : Kept = record { pipe = c.args.p; message = c.trim.new.self } in
     let one : first_word c.args.m.body ≡ Some c.in-Some.id = sym (c.in-Some.ensures ∙ ap first_word c.body.ensures) in
-    let live = found_written (waits_for c.in-Some.id) (with_kept k) was.live c.keep_reply.new.live c.deref_mut.result.now c.deref_mut.ensures.value c.keep_reply.ensures in (
+    let live = c.keep_reply.ensures in (
       long_frame was t c.args.p c.args.m.body h (some_word _ c.in-Some.id one),
       (
         h.0,
@@ -38,5 +39,6 @@ returns-in-Some-clause-kept c =
         λ r. not_both r c.if-self.false,
         asked_live live (reply_asked was t c.args.p c.in-Some.id c.args.m.body k c.if-self.false h one (trimmed_is c.args.p c.args.m c.trim.new.self c.trim.result c.trim.ensures c.requires (some_word _ c.in-Some.id one))),
         opened_as was.live.items _ was.seats.items _ _ (ctxs_replied c.in-Some.id k was.live.items _ live) h.4,
+        none_changed (is_due was.options.resend was.tick was.ports.items was.seats.items) (waits_for c.in-Some.id) (with_kept k) was.calm was.live.items _ (λ x. refl) live h.5,
       ),
     )
