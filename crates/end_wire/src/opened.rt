@@ -47,6 +47,13 @@ impl<L: Link> OpenedWire<L> {
         OpenedWire { wire, role, way }
     }
 
+    /// Whether it may be pulled, asked for room and flushed.
+    pub fn is_open(&self) -> bool
+        ensures { result ≡ self.now.wire.is_open }
+    {
+        self.wire.is_open()
+    }
+
     /// The link, as it is.
     pub fn into_link(self) -> L
         ensures link { L.seen result ≡ self.ws.link }

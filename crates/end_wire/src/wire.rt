@@ -22,6 +22,17 @@ pub enum EndWire<L: Link> {
 }
 
 impl<L: Link> EndWire<L> {
+    /// Whether it may be pulled, asked for room and flushed.
+    pub fn is_open(&self) -> bool
+        ensures { result ≡ (shown self.now).is_open }
+    {
+        match self {
+            EndWire::Tcp(wire) => wire.is_open(),
+            EndWire::Ws(wire) => wire.is_open(),
+            EndWire::Lane(wire) => wire.is_open(),
+        }
+    }
+
     /// The link under it, as it is; a wire within the process has none.
     pub fn into_link(self) -> Option<L>
         ensures link { IsLinkUnder L.seen self result }

@@ -90,6 +90,13 @@ impl MemWire {
         }
     }
 
+    /// Whether it may be pulled, asked for room and flushed.
+    pub fn is_open(&self) -> bool
+        ensures { result ≡ self.now.wire.is_open }
+    {
+        self.marks.is_open
+    }
+
     /// What was put.
     pub fn outs(&self) -> &[Message]
         ensures { self.now.wire.outs ≡ Some (map wire_text result.now) }
