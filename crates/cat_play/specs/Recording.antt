@@ -1,5 +1,5 @@
 -- What stands on the links of a run, by its record.
-use Rattle.std.specs.Prelude.{◌≡◌, ◌⊎◌, ◌≤◌, ◌<◌, ◌-◌, ◌+◌, ◌^◌, ◌==◌, ℕ, nat_le, nat_lt, Bool, true, false, not, ◌&&◌, ◌||◌, IsTrue, ⊤, if◌then◌else◌, List, [], ◌∷◌, ◌++◌, length, Option, Some, None, is_some, is_none}
+use Rattle.std.specs.Prelude.{◌≡◌, ◌≢◌, ◌⊎◌, ◌≤◌, ◌<◌, ◌-◌, ◌+◌, ◌^◌, ◌==◌, ℕ, nat_le, nat_lt, Bool, true, false, not, ◌&&◌, ◌||◌, IsTrue, ⊤, if◌then◌else◌, List, [], ◌∷◌, ◌++◌, length, Option, Some, None, is_some, is_none}
 use Rattle.std.specs.List.{list_any}
 use Rattle.std.specs.FinMap.{FinMap, get}
 use Rattle.std.specs.Ordering.{nat_cmp}
@@ -166,5 +166,5 @@ pub record Records (ways : Ways) (z : Setting) (max first opened : ℕ) (back : 
   pub missed : Each (HasCause ways z record_ back) (past_of record_)
   pub left_ : (place : ℕ) → has (greeting (past_of record_)) place ≡ true → IsBack back place (IsUndone ways z record_)
   -- one that came up opened well, and carried its pipe's messages
-  pub came_up : (p place : ℕ) → place_of (past_of record_) p ≡ Some place → place < opened → IsBack back place (λ link. BeganSo ways link (λ way. HasOpened ways way link) × IsLinkOf z max (past_of record_) p link)
+  pub came_up : (p place : ℕ) → place_of (past_of record_) p ≡ Some place → place ≢ lane_place → place < opened → IsBack back place (λ link. BeganSo ways link (λ way. HasOpened ways way link) × IsLinkOf z max (past_of record_) p link)
   pub due : IsTrue (each times_out_rightly (past_of record_))

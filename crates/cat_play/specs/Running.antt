@@ -1,8 +1,7 @@
 -- What a run of nngcat comes to: its statuses with their causes, and its record.
-use Rattle.std.specs.Prelude.{◌≡◌, ◌⊎◌, ◌≤◌, ◌<◌, ℕ, true, false, Bool, IsTrue, ⊤, List, [], ◌∷◌, ◌++◌, Option, Some, None}
+use Rattle.std.specs.Prelude.{◌≡◌, ◌≢◌, ◌⊎◌, ◌≤◌, ◌<◌, ℕ, true, false, Bool, IsTrue, ⊤, List, [], ◌∷◌, ◌++◌, Option, Some, None}
 use Rattle.std.specs.FinMap.{get}
 use Rattle.turn_lock.specs.declared.turn.Turn.{Turn}
-use Rattle.sp_spec.specs.Prefixes.{IsViableUpTo}
 use Rattle.sp_spec.specs.Outside.{Rose, grown, IsPrefix, Told}
 use Rattle.sp_spec.specs.SpTcp.{text}
 use Rattle.sp_base.specs.Views.{LinkView, NetView, PaceView, SinkView, FilesView}
@@ -32,7 +31,7 @@ use Rattle.cat_play.specs.Plans.{Play, IsPlayOf}
 use Rattle.cat_play.specs.Scripts.{counted, texts, joined, has_reached, timed_out}
 use Rattle.cat_play.specs.Playing.{Plays}
 use Rattle.cat_play.specs.Openings.{Ways}
-use Rattle.cat_play.specs.Recording.{place_of, Records}
+use Rattle.cat_play.specs.Recording.{lane_place, place_of, Records}
 use Rattle.cat_play.specs.Spending.{Spends, EndsInTime}
 use Rattle.cat_play.specs.Drilling.{lines, Drills, GivesAll}
 
@@ -54,21 +53,6 @@ run_setting role dice = record { role = role; raw = false; options = usual role 
 abbrev pub max_body : ℕ
 max_body = 1048576
 
--- ---- Words
-
--- the words have this plan, in one of the sets of words that a run reads
-abbrev pub Reads : Type 1
-Reads = List (List ℕ) → Plan → Type 0
-
-abbrev pub IsPlanned : Reads → List (List ℕ) → Type 0
-IsPlanned reads words = (plan : Plan) × reads words plan
-
--- wrong words are named at the first place from which no list of the set goes on; out of memory is the one other answer
--- to them
-pub record RefusesWords (reads : Reads) (s : Status) (words : List (List ℕ)) : Type 0 where
-  pub usage : (at : ℕ) → s ≡ status.Usage at → (IsPlanned reads words → ⊥) × IsViableUpTo (IsPlanned reads) words at
-  pub wrong : (IsPlanned reads words → ⊥) → ((at : ℕ) × (s ≡ status.Usage at)) ⊎ (s ≡ status.NoMemory)
-
 -- ---- Statuses
 
 -- two listens on one name within the process
@@ -79,7 +63,7 @@ ListensTwice es =
 -- each told link of TCP whose pipe was up when the socket closed holds its whole text
 abbrev pub AreWhole : Setting → NetView → List Entry → Type 0
 AreWhole z net past =
-    (p place : ℕ) (link : LinkView) → down_for past p ≡ Some whys.Closed → place_of past p ≡ Some place → place < net.opened → get net.back place ≡ Some link → link.scheme ≡ schemes.Tcp
+    (p place : ℕ) (link : LinkView) → down_for past p ≡ Some whys.Closed → place_of past p ≡ Some place → place ≢ lane_place → place < net.opened → get net.back place ≡ Some link → link.scheme ≡ schemes.Tcp
     → Told link.written (λ written. written ≡ text (role_number z.role) (outs past p))
 
 -- the play came to its end: the count is reached, or a receive timed out

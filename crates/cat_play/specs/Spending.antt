@@ -1,5 +1,5 @@
 -- What the rounds of a run were spent on, by its record and the counts of the outside.
-use Rattle.std.specs.Prelude.{◌≡◌, ◌⊎◌, ◌≤◌, ◌<◌, ◌+◌, ◌*◌, ◌/◌, ◌-◌, ◌^◌, ◌==◌, ℕ, zero, suc, nat_le, Bool, true, false, ◌&&◌, ⊤, if◌then◌else◌, List, [], ◌∷◌, ◌++◌, length, filter, Option, Some, None}
+use Rattle.std.specs.Prelude.{◌≡◌, ◌≢◌, ◌⊎◌, ◌≤◌, ◌<◌, ◌+◌, ◌*◌, ◌/◌, ◌-◌, ◌^◌, ◌==◌, ℕ, zero, suc, nat_le, Bool, true, false, ◌&&◌, ⊤, if◌then◌else◌, List, [], ◌∷◌, ◌++◌, length, filter, Option, Some, None}
 use Rattle.std.specs.List.{list_any}
 use Rattle.std.specs.FinMap.{FinMap, get}
 use Rattle.std.specs.Ordering.{nat_cmp}
@@ -19,7 +19,7 @@ use Rattle.cat_text.specs.declared.plan.End.TheVariants as ends
 use Rattle.sp_history.specs.Found.{ticks, before_last_tick}
 use Rattle.cat_play.specs.Plans.{Play}
 use Rattle.cat_play.specs.Scripts.{over}
-use Rattle.cat_play.specs.Recording.{greeting, place_of, IsBack, HoldsAll}
+use Rattle.cat_play.specs.Recording.{greeting, lane_place, place_of, IsBack, HoldsAll}
 
 -- a count that can still rise
 abbrev pub CanRise : ℕ → Type 0
@@ -187,5 +187,5 @@ EndsInTime called_off z play record_ net net' =
 pub record Spends (es : List End) (record_ : List (Turn Entry)) (net net' : NetView) (pace pace' : PaceView) : Type 0 where
   pub turns : pace.left ≡ pace'.left + length (ticks (past_of record_))
   pub greetings : (place : ℕ) → net.opened ≤ place → place < net'.opened → IsBack net'.back place (IsAsked (past_of record_) place)
-  pub pipes : (p place : ℕ) → place_of (past_of record_) p ≡ Some place → place < net'.opened → IsBack net'.back place (IsRead record_ p)
+  pub pipes : (p place : ℕ) → place_of (past_of record_) p ≡ Some place → place ≢ lane_place → place < net'.opened → IsBack net'.back place (IsRead record_ p)
   pub ends : WereAsked es (past_of record_) net net'

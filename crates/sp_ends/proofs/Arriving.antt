@@ -14,7 +14,7 @@ use Rattle.link_opening.specs.Openings.{CanBegin, scheme_for}
 use Rattle.link_opening.specs.Origins.{Origins, IsAmong, IsKnown, serving, asking}
 use Rattle.sp_ends.specs.declared.listener.Listener.{Listener}
 use Rattle.sp_ends.specs.declared.dialer.Dialer.{Dialer}
-use Rattle.sp_ends.specs.Standing.{EndsView, AreOfRun, IsListener}
+use Rattle.sp_ends.specs.Standing.{LinkEndsView, AreOfRun, IsListener}
 use Rattle.sp_ends.specs.Turning.{Arrives}
 use Rattle.sp_ends.proofs.NewcomingAsks.{at_of}
 
@@ -35,7 +35,7 @@ scheme_served (addrs.Tcp host port) x = refl
 scheme_served (addrs.Ws host port path) x = refl
 scheme_served (addrs.Inproc name) x = cc
 
-pub arrives_served : {L : Type 0} (o : Origins) (ends : EndsView L) (i : ℕ) (l : Listener) (link : LinkView) (way : Result Way NoMemory) (a b : NetView) → AreOfRun o ends → slice_get ends.listeners i ≡ Some l → IfOk way (λ w. w ≡ serving l.addr) → IsListener a l → IsHandedOut link (get a.listens l.at) a b → Arrives o link way a b
+pub arrives_served : {L : Type 0} (o : Origins) (ends : LinkEndsView L) (i : ℕ) (l : Listener) (link : LinkView) (way : Result Way NoMemory) (a b : NetView) → AreOfRun o ends → slice_get ends.listeners i ≡ Some l → IfOk way (λ w. w ≡ serving l.addr) → IsListener a l → IsHandedOut link (get a.listens l.at) a b → Arrives o link way a b
 arrives_served o ends i l link way a b run at is listens handed =
     record {
       begins = serving l.addr;
@@ -63,7 +63,7 @@ scheme_asked (addrs.Tcp host port) start x = refl
 scheme_asked (addrs.Ws host port path) start x = refl
 scheme_asked (addrs.Inproc name) start x = cc
 
-pub arrives_asked : {L : Type 0} (o : Origins) (ends : EndsView L) (i n : ℕ) (d : Dialer) (link : LinkView) (way : Result Way NoMemory) (a b : NetView) → AreOfRun o ends → slice_get ends.dialers i ≡ Some d → IfOk way (λ w. w ≡ asking d.addr (ends.dice + n)) → is_dialable d.addr ≡ true → IsHandedOut link (Some (scheme_of d.addr)) a b → Arrives o link way a b
+pub arrives_asked : {L : Type 0} (o : Origins) (ends : LinkEndsView L) (i n : ℕ) (d : Dialer) (link : LinkView) (way : Result Way NoMemory) (a b : NetView) → AreOfRun o ends → slice_get ends.dialers i ≡ Some d → IfOk way (λ w. w ≡ asking d.addr (ends.dice + n)) → is_dialable d.addr ≡ true → IsHandedOut link (Some (scheme_of d.addr)) a b → Arrives o link way a b
 arrives_asked o ends i n d link way a b run at is can handed =
     record {
       begins = asking d.addr (ends.dice + n);
@@ -74,7 +74,7 @@ arrives_asked o ends i n d link way a b run at is can handed =
     }
 
 -- the dialer has tried, and has this address still
-pub arrives_dialed : {L : Type 0} (o : Origins) (ends : EndsView L) (i n : ℕ) (d e : Dialer) (link : LinkView) (way : Result Way NoMemory) (a b : NetView) → AreOfRun o ends → slice_get ends.dialers i ≡ Some e → e.addr ≡ d.addr → IfOk way (λ w. w ≡ asking e.addr (ends.dice + n)) → is_dialable d.addr ≡ true → IsHandedOut link (Some (scheme_of d.addr)) a b → Arrives o link way a b
+pub arrives_dialed : {L : Type 0} (o : Origins) (ends : LinkEndsView L) (i n : ℕ) (d e : Dialer) (link : LinkView) (way : Result Way NoMemory) (a b : NetView) → AreOfRun o ends → slice_get ends.dialers i ≡ Some e → e.addr ≡ d.addr → IfOk way (λ w. w ≡ asking e.addr (ends.dice + n)) → is_dialable d.addr ≡ true → IsHandedOut link (Some (scheme_of d.addr)) a b → Arrives o link way a b
 arrives_dialed o ends i n d e link way a b run at same is can handed =
     arrives_asked o ends i n e link way a b run at is (ap is_dialable same ∙ can) (subst (λ (x : Addr). IsHandedOut link (Some (scheme_of x)) a b) (sym same) handed)
 

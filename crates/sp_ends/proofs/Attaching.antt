@@ -1,5 +1,5 @@
 -- A link that is opened becomes a pipe, or is refused.
-use Rattle.std.proofs.Common.{◌≡◌, refl, ap, sym, ◌∙◌, subst, List, [], ◌∷◌, ◌++◌, ℕ, ◌+◌, ◌≤◌, ◌<◌, false, arith, drop, Option, Some, None, IfSome}
+use Rattle.std.proofs.Common.{◌≡◌, refl, ap, sym, ◌∙◌, subst, List, [], ◌∷◌, ◌++◌, ℕ, ◌+◌, ◌≤◌, ◌<◌, true, false, arith, drop, inl, Option, Some, None, IfSome}
 use Rattle.std.specs.Prelude.{◌^◌}
 use Rattle.turn_lock.specs.declared.turn.Turn.{Turn}
 use Rattle.sp_spec.specs.Outside.{Told}
@@ -27,7 +27,7 @@ use Rattle.sp_core.specs.declared.attach.AttachError.{AttachError}
 use Rattle.sp_core.specs.declared.attach.AttachError.TheVariants as refused
 use Rattle.sp_single.specs.Singles.{SingleView, TookOne}
 use Rattle.cat_play.specs.Openings.{peer_number}
-use Rattle.cat_play.specs.Recording.{WasRefused}
+use Rattle.cat_play.specs.Recording.{lane_place, greeting, WasRefused}
 use Rattle.cat_play.specs.Running.{max_body}
 use Rattle.cat_play.specs.Spending.{greeting_ticks, CanRise}
 use Rattle.link_opening.specs.declared.way.Way.{Way}
@@ -44,8 +44,10 @@ use Rattle.end_wire.specs.declared.wire.EndWire.TheVariants as wires
 use Rattle.sp_ws.specs.declared.side.Side.{Side}
 use Rattle.end_wire.proofs.OverLink.{hellos}
 use Rattle.sp_ends.specs.declared.newcomer.Newcomer.{Newcomer}
-use Rattle.sp_ends.specs.Standing.{Beginning, LinksStand, HandStands, IsOfRun, IsNamed, AreNumbers, name_number, IsNoneOr, IsCauseOf}
+use Rattle.sp_ends.specs.Standing.{Beginning, LinksStand, HandStands, IsOfRun, IsNameOver, AreNumbers, name_number, IsNoneOr, IsCauseOf}
 use Rattle.sp_ends.specs.Turning.{MissesFor}
+use Rattle.sp_history.specs.Lists.{has}
+use Rattle.sp_ends.proofs.Places.{no_lane}
 use Rattle.sp_ends.proofs.Hands.{hand_waits, hand_up, hand_stays, is_refused}
 use Rattle.sp_ends.proofs.Turns.{after_one}
 
@@ -162,8 +164,8 @@ module _ {L : Type 0} (seen : L → LinkView) (o : Origins) (z : Setting) (n : O
       subst IsUnused (sym s.is) (record { came = s.none_came; outs = s.none_outs; waits = refl; fulls = refl; idles = refl; stalls = refl; faults = refl; refusals = refl; ended = refl; malformed = refl; is_open = refl })
 
   -- it has a name
-  pub is_named : (past : List Entry) (p place : ℕ) (w : EndWire L) → place ≡ link.place → IsNewOver seen max_body n w → (CanRise link.idles → CanRise link.stalls → greeting_ticks past link.place ≤ link.idles + link.stalls + 1) → IsNamed o z past (Up p place (record { numbers = numbers_of (shown w).name }))
-  is_named past p place w is new asked =
+  pub is_named : (past : List Entry) (place : ℕ) (w : EndWire L) → place ≡ link.place → IsNewOver seen max_body n w → (CanRise link.idles → CanRise link.stalls → greeting_ticks past link.place ≤ link.idles + link.stalls + 1) → IsNameOver o z past place (numbers_of (shown w).name)
+  is_named past place w is new asked =
       let s = new_shows w new in
       record {
         scheme = link.scheme;
@@ -184,10 +186,17 @@ module _ {L : Type 0} (seen : L → LinkView) (start : Beginning) (net : NetView
   abbrev over : LinkView
   over = seen n.link
 
+  -- it isn't at the place of lanes
+  apart : HandStands seen a.setting start a.seen net ns k over → over.place ≡ lane_place → ⊥
+  apart s lane =
+      let on : has (greeting (past_of a.seen)) lane_place ≡ true = subst (λ (m : ℕ). has (greeting (past_of a.seen)) m ≡ true) lane (hand_waits seen a.setting start a.seen ns k over s.hand) in
+      let off = no_lane start.net.opened net.opened s.kept.few (past_of a.seen) s.kept.in_place in
+      let no : true ≡ false = sym on ∙ off in cc
+
   -- it came up
   pub up_stands : (p place : ℕ) (w : EndWire L) → IsOpened seen n → IsOfRun seen start.origins a.setting n → IsNewOver seen max_body n w → place ≡ over.place → p ≡ ups (past_of a.seen) + 1 → HasFirst (Up p place (record { numbers = numbers_of (shown w).name })) took.turn → HandStands seen a.setting start a.seen net ns k over → LinksStand seen b.setting start b.seen net ns k
   up_stands p place w opened run new is next first s =
-      after_one says a b took (λ z h. LinksStand seen z start h net ns k) (λ l. hand_up seen a.setting start a.seen ns k net took.turn over p (record { numbers = numbers_of (shown w).name }) s next (is_named seen start.origins a.setting n opened run (past_of a.seen) p over.place w refl new s.hand.asked) (subst (λ (q : ℕ). HasFirst (Up p q (record { numbers = numbers_of (shown w).name })) took.turn) is first) l)
+      after_one says a b took (λ z h. LinksStand seen z start h net ns k) (λ l. hand_up seen a.setting start a.seen ns k net took.turn over p (record { numbers = numbers_of (shown w).name }) s next (inl (apart s, is_named seen start.origins a.setting n opened run (past_of a.seen) over.place w refl new s.hand.asked)) (subst (λ (q : ℕ). HasFirst (Up p q (record { numbers = numbers_of (shown w).name })) took.turn) is first) l)
 
   -- it is in hand still
   pub hand_again : AreSettling took.turn.entries → HandStands seen a.setting start a.seen net ns k over → HandStands seen b.setting start b.seen net ns k over

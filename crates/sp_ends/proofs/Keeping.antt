@@ -188,7 +188,7 @@ module _ (z : Setting) (h turns : List (Turn Entry)) where
             met = λ place a b. ap is_some (met_is place) ∙ k.met place a b;
             somewhere = λ place a b. somewhere place (k.somewhere place a b);
             missed = subst (λ (x : List Entry). Each (HasCause (run_ways z.role start.origins) z (h ++ turns) net.back) x) (sym is_more) (all_goes_on moves_links (HasCause (run_ways z.role start.origins) z (h ++ turns) net.back) (free_cause (run_ways z.role start.origins) z (h ++ turns) net.back) turns (past_of h) none (each_mapped (HasCause (run_ways z.role start.origins) z h net.back) (HasCause (run_ways z.role start.origins) z (h ++ turns) net.back) (cause_still (run_ways z.role start.origins) net.back) (past_of h) k.missed));
-            carried = λ p place e. let old : place_of (past_of h) p ≡ Some place = sym (place_is p) ∙ e in carried p place old (k.carried p place old);
+            carried = λ p place e n. let old : place_of (past_of h) p ≡ Some place = sym (place_is p) ∙ e in carried p place old (k.carried p place old n);
             others = k.others;
           }
 

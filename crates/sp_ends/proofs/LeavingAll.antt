@@ -21,7 +21,7 @@ use Rattle.sp_ends.specs.Standing.{places, is_over_link}
 use Rattle.sp_ends.specs.Leaving.{with_links, with_link, with_wires}
 use Rattle.sp_ends.specs.Turning.{shut_link}
 use Rattle.sp_ends.proofs.Moves.{there, elsewhere}
-use Rattle.sp_ends.proofs.Places.{left_of, right_of, passed, inside, was_met, gone, not_without, has_append, Kept}
+use Rattle.sp_ends.proofs.Places.{left_of, right_of, passed, inside, met_inside, was_met, gone, not_without, has_append, over_of, Kept}
 
 -- ---- Maps
 
@@ -142,38 +142,6 @@ module _ (first opened : ℕ) (few : first < opened → opened ≤ lane_place) w
   abbrev Over : List Entry → Type 0
   Over past = IsTrue (each is_over_link past)
 
-  -- over a link one pipe came up
-  pub one_pipe : (past : List Entry) (p q place : ℕ) → Kept first opened past → Over past → place_of past p ≡ Some place → place_of past q ≡ Some place → p ≡ q
-  one_pipe [] p q place k o a b = cc
-  one_pipe (Up r other name ∷ past) p q place k o a b = go (r == p) (r == q) refl refl a b (one_pipe past p q place (right_of _ _ k) (right_of _ _ o))
-    where
-      before : (s : ℕ) → place_of past s ≡ Some place → other ≡ place → ⊥
-      before s e same =
-          let off : has (greeting past) place ≡ false = passed first opened past s place (right_of (keeps_places first opened past (Up r other name)) (each (keeps_places first opened) past) k) few e in
-          let on : has (greeting past) other ≡ true = left_of (has (greeting past) other) (each is_over_link past) o in
-          let no : true ≡ false = sym on ∙ ap (has (greeting past)) same ∙ off in cc
-
-      go : (t u : Bool) → (r == p) ≡ t → (r == q) ≡ u → cond t (Some other) (place_of past p) ≡ Some place → cond u (Some other) (place_of past q) ≡ Some place → (place_of past p ≡ Some place → place_of past q ≡ Some place → p ≡ q) → p ≡ q
-      go true true e f x y earlier = sym (eqb-true r p e) ∙ eqb-true r q f
-      go true false e f x y earlier = absurd (before q y (cc))
-      go false true e f x y earlier = absurd (before p x (cc))
-      go false false e f x y earlier = earlier x y
-  one_pipe (Met other ∷ past) p q place k o a b = one_pipe past p q place (right_of _ _ k) o a b
-  one_pipe (NoUp other miss ∷ past) p q place k o a b = one_pipe past p q place (right_of _ _ k) o a b
-  one_pipe (_ ∷ past) p q place k o a b = one_pipe past p q place k o a b
-
-  -- a pipe came up over a link of the run
-  pub pipe_inside : (past : List Entry) (p place : ℕ) → Kept first opened past → Over past → place_of past p ≡ Some place → (first ≤ place) × (place < opened)
-  pipe_inside [] p place k o a = cc
-  pipe_inside (Up r other name ∷ past) p place k o a = go (r == p) a (pipe_inside past p place (right_of _ _ k) (right_of _ _ o))
-    where
-      go : (t : Bool) → cond t (Some other) (place_of past p) ≡ Some place → (place_of past p ≡ Some place → (first ≤ place) × (place < opened)) → (first ≤ place) × (place < opened)
-      go true x before = let same : other ≡ place = cc in subst (λ (m : ℕ). (first ≤ m) × (m < opened)) same (inside first opened past other (right_of _ _ k) (left_of _ _ o))
-      go false x before = before x
-  pipe_inside (Met other ∷ past) p place k o a = pipe_inside past p place (right_of _ _ k) o a
-  pipe_inside (NoUp other miss ∷ past) p place k o a = pipe_inside past p place (right_of _ _ k) o a
-  pipe_inside (_ ∷ past) p place k o a = pipe_inside past p place k o a
-
   -- a link was missed
   abbrev pub was_missed : List Entry → ℕ → Bool
   was_missed [] place = false
@@ -198,11 +166,15 @@ module _ (first opened : ℕ) (few : first < opened → opened ≤ lane_place) w
   missed_met (Up r other name ∷ past) place k m = missed_met past place (right_of _ _ k) m
   missed_met (_ ∷ past) place k m = missed_met past place k m
 
+  -- it isn't that of lanes
+  pub missed_place : (past : List Entry) (place : ℕ) → Kept first opened past → was_missed past place ≡ true → place ≡ lane_place → ⊥
+  missed_place past place k m lane = let b = met_inside first opened past place k (missed_met past place k m) in let f = few (omega (arith, b.0, b.1)) in omega (arith, b.1, f, lane)
+
   -- it is in progress no more, and no pipe came up over it
-  pub missed_rests : (past : List Entry) (place : ℕ) → Kept first opened past → Over past → was_missed past place ≡ true → (has (greeting past) place ≡ false) × ((p : ℕ) → place_of past p ≡ Some place → ⊥)
-  missed_rests [] place k o m = cc
-  missed_rests (Met other ∷ past) place k o m =
-      let r = missed_rests past place (right_of _ _ k) o m in
+  pub missed_rests : (past : List Entry) (place : ℕ) → Kept first opened past → Over past → (place ≡ lane_place → ⊥) → was_missed past place ≡ true → (has (greeting past) place ≡ false) × ((p : ℕ) → place_of past p ≡ Some place → ⊥)
+  missed_rests [] place k o n m = cc
+  missed_rests (Met other ∷ past) place k o n m =
+      let r = missed_rests past place (right_of _ _ k) o n m in
       (has_append (greeting past) (other ∷ []) place ∙ go (other == place) refl r.0, r.1)
     where
       none_of_it : (q : Option ℕ) → is_none q ≡ true → is_some q ≡ true → ⊥
@@ -215,7 +187,7 @@ module _ (first opened : ℕ) (few : first < opened → opened ≤ lane_place) w
           let met = missed_met past place (right_of _ _ k) m in
           let unmet : is_none (met_at past other) ≡ true = right_of (nat_le first other && nat_lt other opened) (is_none (met_at past other)) (left_of (keeps_places first opened past (Met other)) (each (keeps_places first opened) past) k) in
           absurd (none_of_it (met_at past other) unmet (subst (λ (q : ℕ). is_some (met_at past q) ≡ true) (sym (eqb-true other place e)) met))
-  missed_rests (NoUp other miss ∷ past) place k o m = go (other == place) refl m (missed_rests past place (right_of _ _ k) o)
+  missed_rests (NoUp other miss ∷ past) place k o n m = go (other == place) refl m (missed_rests past place (right_of _ _ k) o n)
     where
       go : (t : Bool) → (other == place) ≡ t → (t || was_missed past place) ≡ true → (was_missed past place ≡ true → (has (greeting past) place ≡ false) × ((p : ℕ) → place_of past p ≡ Some place → ⊥)) → (has (without (greeting past) other) place ≡ false) × ((p : ℕ) → place_of past p ≡ Some place → ⊥)
       go true e x before =
@@ -225,17 +197,17 @@ module _ (first opened : ℕ) (few : first < opened → opened ≤ lane_place) w
             λ p up. apart_from on (passed first opened past p place (right_of (has (greeting past) other) (each (keeps_places first opened) past) k) few up),
           )
       go false e x before = let r = before x in (not_without (greeting past) other place r.0, r.1)
-  missed_rests (Up q other name ∷ past) place k o m =
-      let r = missed_rests past place (right_of _ _ k) (right_of _ _ o) m in
+  missed_rests (Up q other name ∷ past) place k o n m =
+      let r = missed_rests past place (right_of _ _ k) (right_of _ _ o) n m in
       (not_without (greeting past) other place r.0, λ p up. go p (q == p) up r.0 r.1)
     where
       go : (p : ℕ) (t : Bool) → cond t (Some other) (place_of past p) ≡ Some place → has (greeting past) place ≡ false → ((s : ℕ) → place_of past s ≡ Some place → ⊥) → ⊥
       go p true x off none =
           let same : other ≡ place = cc in
-          let on : has (greeting past) other ≡ true = left_of _ _ o in
+          let on : has (greeting past) other ≡ true = over_of past other (λ l. n (sym same ∙ l)) (left_of _ _ o) in
           let no : true ≡ false = sym on ∙ ap (has (greeting past)) same ∙ off in cc
       go p false x off none = none p x
-  missed_rests (_ ∷ past) place k o m = missed_rests past place k o m
+  missed_rests (_ ∷ past) place k o n m = missed_rests past place k o n m
 
 -- a pipe with a name came up over some link
 pub named_place : (past : List Entry) (p : ℕ) (name : List ℕ) → name_of past p ≡ Some name → (place : ℕ) × (place_of past p ≡ Some place)

@@ -25,16 +25,16 @@ use Rattle.sp_core.specs.Pipes.{down_ids}
 use Rattle.sp_core.specs.Parts.{HasWires}
 use Rattle.sp_core.specs.Wires.{IsDownWire}
 use Rattle.cat_play.specs.Playing.{each}
-use Rattle.cat_play.specs.Recording.{Records, place_of, greeting, Each, HasCause, IsBack, IsUndone, times_out_rightly}
+use Rattle.cat_play.specs.Recording.{Records, lane_place, place_of, greeting, Each, HasCause, IsBack, IsUndone, times_out_rightly}
 use Rattle.cat_play.specs.Running.{max_body, KeepsOthers, AreWhole}
 use Rattle.cat_play.specs.Spending.{IsAsked, greeting_ticks}
 use Rattle.sp_ends.specs.declared.newcomer.Newcomer.{Newcomer}
-use Rattle.sp_ends.specs.Standing.{Beginning, EndsView, places, in_order, WasGreeted, LinksKept, EndsStand, HasCarried, IsShut, IsCarried, IsSomewhere, SameCounts}
+use Rattle.sp_ends.specs.Standing.{Beginning, LinkEndsView, places, in_order, WasGreeted, LinksKept, EndsStand, HasCarried, IsShut, IsCarried, IsSomewhere, SameCounts}
 use Rattle.sp_ends.specs.Leaving.{LinksLeft, ClosedCleared, with_links, with_wires, CanShut, IsBelow, AreHandedOut}
 use Rattle.sp_ends.specs.Turning.{shut_link, shut_under}
-use Rattle.sp_ends.proofs.Places.{passed, inside, met_inside}
-use Rattle.sp_ends.proofs.LeavingWires.{NamedAt, named_at, LeftBy, carried_by, has_link}
-use Rattle.sp_ends.proofs.LeavingAll.{from_all, OneOf, IsElsewhere, NoneOf, look_wires, at_id, both_of, mapped_all, shut_of, OneCame, NoneCame, look_links, one_pipe, pipe_inside, was_missed, missed_rests, named_place}
+use Rattle.sp_ends.proofs.Places.{passed, inside, met_inside, up_inside, up_once}
+use Rattle.sp_ends.proofs.LeavingWires.{NamedAt, NamedSo, named_so, LeftBy, carried_by, at_link, at_lanes}
+use Rattle.sp_ends.proofs.LeavingAll.{from_all, OneOf, IsElsewhere, NoneOf, look_wires, at_id, both_of, mapped_all, shut_of, OneCame, NoneCame, look_links, was_missed, missed_place, missed_rests, named_place}
 use Rattle.sp_ends.proofs.Greeting.{incomplete, wrote}
 
 -- ---- A link that was left in progress
@@ -46,32 +46,32 @@ undone seen o z past n was h =
 
 -- ---- Where each link is
 
--- the link of a wire, shut, is what is left of its pipe
+-- the link of a wire, shut, is what is left of its pipe; one that has none was over lanes
 pub record WireLeft {L : Type 0} (o : Origins) (z : Setting) (h : List (Turn Entry)) (x : DownPipe (EndWire L)) : Type 0 where
-  pub has_one : (link : LinkView) × (link_of x.wire ≡ Some link)
+  pub lanes : link_of x.wire ≡ None → place_of (past_of h) x.id ≡ Some lane_place
   pub came_up : (link : LinkView) → link_of x.wire ≡ Some link → place_of (past_of h) x.id ≡ Some link.place
+  pub no_lane : (link : LinkView) → link_of x.wire ≡ Some link → link.place ≡ lane_place → ⊥
   pub left_ : (link : LinkView) → link_of x.wire ≡ Some link → LeftBy o z h x.id link.place (shut_link link)
 
 module _ {L : Type 0} (z : Setting) (start : Beginning) (h : List (Turn Entry)) (net : NetView) (kept : LinksKept z start h net) (x : DownPipe (EndWire L)) (down : IsDownWire z (past_of h) x.id x.why (shown x.wire)) (shuts : CanShut x.wire) where
   abbrev at_place : (place : ℕ) × (place_of (past_of h) x.id ≡ Some place)
   at_place = named_place (past_of h) x.id _ down.agrees.name_is
 
-  abbrev named : NamedAt start.origins z (past_of h) x.id at_place.0
-  named = named_at start.origins z start.net.opened net.opened (past_of h) x.id at_place.0 kept.in_place kept.few kept.named at_place.1
+  abbrev so : NamedSo start.origins z (past_of h) x.id at_place.0
+  so = named_so start.origins z start.net.opened net.opened (past_of h) x.id at_place.0 kept.in_place kept.few kept.named at_place.1
+
+  over_link : (link : LinkView) → link_of x.wire ≡ Some link → (at_place.0 ≡ lane_place → ⊥) × NamedAt start.origins z (past_of h) x.id at_place.0
+  over_link link e = at_link start.origins z h x.id at_place.0 so x.why (shown x.wire) down shuts.shut shuts.after shuts.stands (shut_link link) (shuts.over ∙ ap shut_under e)
 
   by_link : (link : LinkView) → link_of x.wire ≡ Some link → LeftBy start.origins z h x.id at_place.0 (shut_link link)
-  by_link link e = carried_by start.origins z h x.id at_place.0 named x.why (shown x.wire) down shuts.shut shuts.after shuts.stands (shut_link link) (shuts.over ∙ ap shut_under e)
-
-  some_under : (o : Option LinkView) (l : LinkView) → shut_under o ≡ Some l → (link : LinkView) × (o ≡ Some link)
-  some_under None l e = cc
-  some_under (Some link) l e = (link, refl)
+  by_link link e = carried_by start.origins z h x.id at_place.0 (over_link link e).1 x.why (shown x.wire) down shuts.shut shuts.after shuts.stands (shut_link link) (shuts.over ∙ ap shut_under e)
 
   wire_left : WireLeft start.origins z h x
   wire_left =
-      let has = has_link start.origins z h x.id at_place.0 named x.why (shown x.wire) down shuts.shut shuts.after shuts.lanes in
       record {
-        has_one = some_under (link_of x.wire) has.0 (sym shuts.over ∙ has.1);
+        lanes = λ e. at_place.1 ∙ ap (λ (m : ℕ). Some m) (at_lanes start.origins z h x.id at_place.0 so x.why (shown x.wire) down shuts.shut shuts.after shuts.lanes (shuts.over ∙ ap shut_under e));
         came_up = λ link e. at_place.1 ∙ ap (λ (m : ℕ). Some m) (sym (by_link link e).place_is);
+        no_lane = λ link e l. (over_link link e).0 (sym (by_link link e).place_is ∙ l);
         left_ = λ link e. subst (λ (m : ℕ). LeftBy start.origins z h x.id m (shut_link link)) (sym (by_link link e).place_is) (by_link link e);
       }
 
@@ -81,7 +81,7 @@ is_true_false b t f = let no : true ≡ false = sym t ∙ f in cc
 in_greeting : {L : Type 0} (seen : L → LinkView) (ns : List (Newcomer L)) (past : List Entry) → places seen (in_order 0 ns) ≡ greeting past → places seen ns ≡ greeting past
 in_greeting seen ns past e = ap (places seen) (sym (append-nil ns)) ∙ e
 
-module _ {L : Type 0} (seen : L → LinkView) (z : Setting) (start : Beginning) (h : List (Turn Entry)) (net : NetView) (ends : EndsView L) (ws : List (DownPipe (EndWire L))) (legal : Legal z h) (closed : is_closed (past_of h) ≡ true) (stands : EndsStand seen z start h net ends) (wires : HasWires shown ws z (past_of h)) (shuts : AllByRecursion (λ x. CanShut x.wire) ws) where
+module _ {L : Type 0} (seen : L → LinkView) (z : Setting) (start : Beginning) (h : List (Turn Entry)) (net : NetView) (ends : LinkEndsView L) (ws : List (DownPipe (EndWire L))) (legal : Legal z h) (closed : is_closed (past_of h) ≡ true) (stands : EndsStand seen z start h net ends) (wires : HasWires shown ws z (past_of h)) (shuts : AllByRecursion (λ x. CanShut x.wire) ws) where
   abbrev past : List Entry
   past = past_of h
 
@@ -137,21 +137,23 @@ module _ {L : Type 0} (seen : L → LinkView) (z : Setting) (start : Beginning) 
   none_up : (p : ℕ) → IsTrue (has (up past) p) → ⊥
   none_up p e = is_true_false (has (up past) p) e (ap (λ (xs : List ℕ). has xs p) (closed_pipes z h legal closed))
 
-  not_wired : (p place : ℕ) → Rested place → place_of past p ≡ Some place → IsTrue (has (untaken past) p) → ⊥
-  not_wired p place r e on = go (at_id _ ws p (ap (λ (xs : List ℕ). has xs p) wires.pipes ∙ on) (both_of _ _ ws all_left r.unwired.none))
+  not_wired : (p place : ℕ) → Rested place → place_of past p ≡ Some place → (place ≡ lane_place → ⊥) → IsTrue (has (untaken past) p) → ⊥
+  not_wired p place r e n on = go (at_id _ ws p (ap (λ (xs : List ℕ). has xs p) wires.pipes ∙ on) (both_of _ _ ws all_left r.unwired.none))
     where
+      some_place : (a b : ℕ) → Some a ≡ Some b → a ≡ b
+      some_place a b q = cc
+
+      by : (x : DownPipe (EndWire L)) → x.id ≡ p → WireLeft start.origins z h x → (o : Option LinkView) → link_of x.wire ≡ o → IsElsewhere place o → ⊥
+      by x same left None is other = n (some_place place lane_place (sym e ∙ (ap (place_of past) (sym same) ∙ left.lanes is)))
+      by x same left (Some link) is other = other (some_place link.place place (sym (left.came_up link is) ∙ (ap (place_of past) same ∙ e)))
+
       go : (x : DownPipe (EndWire L)) × (x.id ≡ p) × (WireLeft start.origins z h x × IsElsewhere place (link_of x.wire)) → ⊥
-      go (x, same, (left, other)) =
-          let link = left.has_one.0 in
-          let a : place_of past p ≡ Some link.place = ap (place_of past) (sym same) ∙ left.came_up link left.has_one.1 in
-          let b : Some link.place ≡ Some place = sym a ∙ e in
-          let away : ¬ (link.place ≡ place) = subst (IsElsewhere place) left.has_one.1 other in
-          away cc
+      go (x, same, (left, other)) = by x same left (link_of x.wire) refl other
 
   -- ---- Pipes
 
-  carried_at : (p place : ℕ) → place_of past p ≡ Some place → IsBack back place (HasCarried start.origins z h p)
-  carried_at p place e = go (where_is place) (kept.carried p place e)
+  carried_at : (p place : ℕ) → place_of past p ≡ Some place → (place ≡ lane_place → ⊥) → IsBack back place (HasCarried start.origins z h p)
+  carried_at p place e n = go (where_is place) (kept.carried p place e n)
     where
       off : has (greeting past) place ≡ false
       off = passed start.net.opened net.opened past p place kept.in_place kept.few e
@@ -159,10 +161,10 @@ module _ {L : Type 0} (seen : L → LinkView) (z : Setting) (start : Beginning) 
       go : Came place ⊎ Wired place ⊎ Rested place → IsCarried start.origins z h net p place → IsBack back place (HasCarried start.origins z h p)
       go (inl c) k = absurd (is_true_false _ (met_now place c) off)
       go (inr (inl x)) k =
-          let same : x.x.id ≡ p = one_pipe start.net.opened net.opened kept.few past x.x.id p place kept.in_place kept.over_links (wired_up place x) e in
+          let same : x.x.id ≡ p = up_once start.net.opened net.opened kept.few past x.x.id p place kept.in_place kept.over_links (wired_up place x) e n in
           (shut_link x.link, x.found, subst (λ (q : ℕ). HasCarried start.origins z h q (shut_link x.link)) same (wired_left place x).carried)
       go (inr (inr r)) (inl on) = absurd (none_up p on)
-      go (inr (inr r)) (inr (inl on)) = absurd (not_wired p place r e on)
+      go (inr (inr r)) (inr (inl on)) = absurd (not_wired p place r e n on)
       go (inr (inr r)) (inr (inr b)) = (b.0, r.found ∙ b.1, b.2.2)
 
   -- ---- All links
@@ -173,9 +175,12 @@ module _ {L : Type 0} (seen : L → LinkView) (z : Setting) (start : Beginning) 
   right_at : (place : ℕ) → start.net.opened ≤ place → place < net.opened → IsBack back place (IsRight place)
   right_at place low high = go (where_is place) (kept.somewhere place low high)
     where
+      n : place ≡ lane_place → ⊥
+      n lane = let f = kept.few (omega (arith, low, high)) in omega (arith, high, f, lane)
+
       pipe : Rested place → (p : ℕ) → place_of past p ≡ Some place → IsCarried start.origins z h net p place → IsBack back place (IsRight place)
       pipe r p e (inl on) = absurd (none_up p on)
-      pipe r p e (inr (inl on)) = absurd (not_wired p place r e on)
+      pipe r p e (inr (inl on)) = absurd (not_wired p place r e n on)
       pipe r p e (inr (inr b)) = (b.0, r.found ∙ b.1, (b.2.0, b.2.1))
 
       go : Came place ⊎ Wired place ⊎ Rested place → IsSomewhere net past place → IsBack back place (IsRight place)
@@ -184,7 +189,7 @@ module _ {L : Type 0} (seen : L → LinkView) (z : Setting) (start : Beginning) 
           (shut_of seen (WasGreeted seen start.origins z past) n, c.1 ∙ c.0.found, ((c.0.place_is, refl), λ few i st. let a = c.0.fact.progressing.asked i st in let same = ap (greeting_ticks past) c.0.place_is in omega (arith, a, same)))
       go (inr (inl x)) s = let l = wired_left place x in (shut_link x.link, x.found, ((l.place_is, refl), l.asked))
       go (inr (inr r)) (inl on) = absurd (is_true_false _ on r.unmet)
-      go (inr (inr r)) (inr (inl p)) = pipe r p.0 p.1 (kept.carried p.0 place p.1)
+      go (inr (inr r)) (inr (inl p)) = pipe r p.0 p.1 (kept.carried p.0 place p.1 n)
       go (inr (inr r)) (inr (inr b)) = (b.0, r.found ∙ b.1, (b.2.0, λ few. b.2.1))
 
   undone_at : (place : ℕ) → has (greeting past) place ≡ true → IsBack back place (IsUndone (run_ways z.role start.origins) z h)
@@ -196,7 +201,7 @@ module _ {L : Type 0} (seen : L → LinkView) (z : Setting) (start : Beginning) 
       go (inr (inr r)) = absurd (is_true_false _ on r.unmet)
 
   missed_at : (place : ℕ) → was_missed start.net.opened net.opened kept.few past place ≡ true → get back place ≡ get net.back place
-  missed_at place m = go (where_is place) (missed_rests start.net.opened net.opened kept.few past place kept.in_place kept.over_links m)
+  missed_at place m = go (where_is place) (missed_rests start.net.opened net.opened kept.few past place kept.in_place kept.over_links (missed_place start.net.opened net.opened kept.few past place kept.in_place m) m)
     where
       go : Came place ⊎ Wired place ⊎ Rested place → (has (greeting past) place ≡ false) × ((p : ℕ) → place_of past p ≡ Some place → ⊥) → get back place ≡ get net.back place
       go (inl c) r = absurd (is_true_false _ (met_now place c) r.0)
@@ -212,7 +217,7 @@ module _ {L : Type 0} (seen : L → LinkView) (z : Setting) (start : Beginning) 
 
       go : Came place ⊎ Wired place ⊎ Rested place → get back place ≡ get start.net.back place
       go (inl c) = absurd (outside (inside start.net.opened net.opened past place kept.in_place (met_now place c)) out)
-      go (inr (inl x)) = absurd (outside (pipe_inside start.net.opened net.opened kept.few past x.x.id place kept.in_place kept.over_links (wired_up place x)) out)
+      go (inr (inl x)) = absurd (outside (up_inside start.net.opened net.opened kept.few past x.x.id place kept.in_place kept.over_links (wired_up place x) (λ l. x.fact.no_lane x.link x.link_is (x.place_is ∙ l))) out)
       go (inr (inr r)) = r.found ∙ kept.others place out
 
   missed_still : (part : List Entry) → ((place : ℕ) → was_missed start.net.opened net.opened kept.few part place ≡ true → get back place ≡ get net.back place) → Each (HasCause (run_ways z.role start.origins) z h net.back) part → Each (HasCause (run_ways z.role start.origins) z h back) part
@@ -235,13 +240,13 @@ module _ {L : Type 0} (seen : L → LinkView) (z : Setting) (start : Beginning) 
     given_back = λ place a b. let r = right_at place a b in (r.0, r.1, r.2.0);
     missed = missed_still past missed_at kept.missed;
     left_ = undone_at;
-    came_up = λ p place e lt. let c = carried_at p place e in (c.0, c.1, (c.2.opened, record { texts = c.2.carries; fell = c.2.fell }));
+    came_up = λ p place e n lt. let c = carried_at p place e n in (c.0, c.1, (c.2.opened, record { texts = c.2.carries; fell = c.2.fell }));
     due = due;
   }
 
   whole : ClosedCleared past → AreWhole z (record net { back = back }) past
-  whole cleared p place link down e lt there tcp =
-      let c = carried_at p place e in
+  whole cleared p place link down e n lt there tcp =
+      let c = carried_at p place e n in
       let all : Some c.0 ≡ Some link = sym c.1 ∙ there in
       let same : c.0 ≡ link = some_link c.0 link all in
       subst (λ (l : LinkView). Told l.written (λ written. written ≡ text (role_number z.role) (outs past p))) same (c.2.whole (ap (λ (l : LinkView). l.scheme) same ∙ tcp) (cleared p down))
@@ -254,7 +259,7 @@ module _ {L : Type 0} (seen : L → LinkView) (z : Setting) (start : Beginning) 
     records = records;
     others = others;
     asked = λ few place a b. let r = right_at place a b in (r.0, r.1, r.2.1 few);
-    read = λ p place e lt. let c = carried_at p place e in (c.0, c.1, c.2.read);
+    read = λ p place e n lt. let c = carried_at p place e n in (c.0, c.1, c.2.read);
     whole = whole;
   }
 
@@ -270,16 +275,16 @@ module _ {L : Type 0} (seen : L → LinkView) (z : Setting) (start : Beginning) 
 
 -- ---- Before they are given back
 
-pub newcomers_below : {L : Type 0} (seen : L → LinkView) (z : Setting) (start : Beginning) (h : List (Turn Entry)) (net : NetView) (ends : EndsView L) → EndsStand seen z start h net ends → AllByRecursion (λ n. (seen n.opening.link).place < net.opened) ends.newcomers
+pub newcomers_below : {L : Type 0} (seen : L → LinkView) (z : Setting) (start : Beginning) (h : List (Turn Entry)) (net : NetView) (ends : LinkEndsView L) → EndsStand seen z start h net ends → AllByRecursion (λ n. (seen n.opening.link).place < net.opened) ends.newcomers
 newcomers_below seen z start h net ends stands =
     let kept = stands.links.kept in
     mapped_all (WasGreeted seen start.origins z (past_of h)) (λ n. (seen n.opening.link).place < net.opened) (λ n was. (met_inside start.net.opened net.opened (past_of h) (seen n.opening.link).place kept.in_place (ap is_some was.progressing.met)).1) ends.newcomers stands.links.progressing.rest
 
 below : {L : Type 0} (z : Setting) (start : Beginning) (h : List (Turn Entry)) (net : NetView) → LinksKept z start h net → (x : DownPipe (EndWire L)) → WireLeft start.origins z h x → (o : Option LinkView) → link_of x.wire ≡ o → IsBelow net.opened o
 below z start h net k x left None e = tt
-below z start h net k x left (Some link) e = (pipe_inside start.net.opened net.opened k.few (past_of h) x.id link.place k.in_place k.over_links (left.came_up link e)).1
+below z start h net k x left (Some link) e = (up_inside start.net.opened net.opened k.few (past_of h) x.id link.place k.in_place k.over_links (left.came_up link e) (left.no_lane link e)).1
 
-pub wires_below : {L : Type 0} (seen : L → LinkView) (z : Setting) (start : Beginning) (h : List (Turn Entry)) (net : NetView) (ends : EndsView L) (ws : List (DownPipe (EndWire L))) → EndsStand seen z start h net ends → HasWires shown ws z (past_of h) → AreHandedOut net.opened ws
+pub wires_below : {L : Type 0} (seen : L → LinkView) (z : Setting) (start : Beginning) (h : List (Turn Entry)) (net : NetView) (ends : LinkEndsView L) (ws : List (DownPipe (EndWire L))) → EndsStand seen z start h net ends → HasWires shown ws z (past_of h) → AreHandedOut net.opened ws
 wires_below seen z start h net ends ws stands wires =
     let kept = stands.links.kept in
     mapped_all _ (λ x. CanShut x.wire → IsBelow net.opened (link_of x.wire)) (λ x down shuts. below z start h net kept x (wire_left z start h net kept x down shuts) (link_of x.wire) refl) ws (from_all _ ws wires.wires)

@@ -39,7 +39,7 @@ use Rattle.end_wire.proofs.Numbers.{one_way}
 use Rattle.cat_play.specs.Recording.{lane_place, place_of, greeting, Each, FellFor, IsDrained}
 use Rattle.cat_play.specs.Running.{max_body}
 use Rattle.cat_play.specs.Spending.{greeting_ticks, ticks_where, idle_turns, IsRead}
-use Rattle.sp_ends.specs.Standing.{IsNoneOr, AreNumbers, name_number, IsNameOver, IsNamed, HasCarried, IsAskedIn}
+use Rattle.sp_ends.specs.Standing.{IsNoneOr, AreNumbers, name_number, IsNameOver, IsLaneName, IsNamed, HasCarried, IsAskedIn}
 use Rattle.sp_ends.proofs.Places.{passed, Kept, right_of}
 use Rattle.sp_ends.proofs.Leaving.{idle_more}
 
@@ -105,32 +105,39 @@ name_on : (o : Origins) (z : Setting) (a b : List Entry) (place : ℕ) (ns : Lis
 name_on o z a b place ns same n =
     record { scheme = n.scheme; spent = n.spent; own = n.own; peer = n.peer; is = n.is; are = n.are; rounds = λ r. let x = n.rounds r in omega (arith, x, same) }
 
-pub named_at : (o : Origins) (z : Setting) (first opened : ℕ) (past : List Entry) (p place : ℕ) → Kept first opened past → (first < opened → opened ≤ lane_place) → Each (IsNamed o z) past → place_of past p ≡ Some place → NamedAt o z past p place
-named_at o z first opened [] p place kept few all e = cc
-named_at o z first opened (Up q other name ∷ past) p place kept few all e = go (q == p) refl e (named_at o z first opened past p place (right_of _ _ kept) few all.1)
+-- the pipe came up with this name, over this link or over lanes
+pub record NamedSo (o : Origins) (z : Setting) (past : List Entry) (p place : ℕ) : Type 0 where
+  pub numbers : List ℕ
+  pub name : name_of past p ≡ Some numbers
+  pub so : (place ≡ lane_place → ⊥) × IsNameOver o z past place numbers ⊎ (place ≡ lane_place) × IsLaneName numbers
+
+-- after as many ticks
+so_on : (o : Origins) (z : Setting) (a b : List Entry) (place : ℕ) (ns : List ℕ) → greeting_ticks b place ≡ greeting_ticks a place → (place ≡ lane_place → ⊥) × IsNameOver o z a place ns ⊎ (place ≡ lane_place) × IsLaneName ns
+    → (place ≡ lane_place → ⊥) × IsNameOver o z b place ns ⊎ (place ≡ lane_place) × IsLaneName ns
+so_on o z a b place ns same (inl n) = inl (n.0, name_on o z a b place ns same n.1)
+so_on o z a b place ns same (inr n) = inr n
+
+so_later : (o : Origins) (z : Setting) (a b : List Entry) (p place : ℕ) → name_of b p ≡ name_of a p → greeting_ticks b place ≡ greeting_ticks a place → NamedSo o z a p place → NamedSo o z b p place
+so_later o z a b p place name same n = record { numbers = n.numbers; name = name ∙ n.name; so = so_on o z a b place n.numbers same n.so }
+
+pub named_so : (o : Origins) (z : Setting) (first opened : ℕ) (past : List Entry) (p place : ℕ) → Kept first opened past → (first < opened → opened ≤ lane_place) → Each (IsNamed o z) past → place_of past p ≡ Some place → NamedSo o z past p place
+named_so o z first opened [] p place kept few all e = cc
+named_so o z first opened (Up q other name ∷ past) p place kept few all e = go (q == p) refl e (named_so o z first opened past p place (right_of _ _ kept) few all.1)
   where
     more : List Entry
     more = Up q other name ∷ past
 
-    here : other ≡ place → (q == p) ≡ true → NamedAt o z more p place
-    here same t = record { numbers = name.numbers; name = rw t refl; over = name_on o z past more place name.numbers refl (subst (λ (x : ℕ). IsNameOver o z past x name.numbers) same all.0) }
+    here : other ≡ place → (q == p) ≡ true → NamedSo o z more p place
+    here same t = record { numbers = name.numbers; name = rw t refl; so = so_on o z past more place name.numbers refl (subst (λ (x : ℕ). (x ≡ lane_place → ⊥) × IsNameOver o z past x name.numbers ⊎ (x ≡ lane_place) × IsLaneName name.numbers) same all.0) }
 
-    go : (t : Bool) → (q == p) ≡ t → cond t (Some other) (place_of past p) ≡ Some place → (place_of past p ≡ Some place → NamedAt o z past p place) → NamedAt o z more p place
+    go : (t : Bool) → (q == p) ≡ t → cond t (Some other) (place_of past p) ≡ Some place → (place_of past p ≡ Some place → NamedSo o z past p place) → NamedSo o z more p place
     go true t is before = here (cc) t
-    go false t is before = let n = before is in record { numbers = n.numbers; name = rw t n.name; over = name_on o z past more place n.numbers refl n.over }
-named_at o z first opened (Tick t due ∷ past) p place kept few all e =
-    let n = named_at o z first opened past p place kept few all.1 e in
-    let off = passed first opened past p place kept few e in
-    record { numbers = n.numbers; name = n.name; over = name_on o z past (Tick t due ∷ past) place n.numbers (rw off refl) n.over }
-named_at o z first opened (Met other ∷ past) p place kept few all e =
-    let n = named_at o z first opened past p place (right_of _ _ kept) few all.1 e in
-    record { numbers = n.numbers; name = n.name; over = name_on o z past (Met other ∷ past) place n.numbers refl n.over }
-named_at o z first opened (NoUp other miss ∷ past) p place kept few all e =
-    let n = named_at o z first opened past p place (right_of _ _ kept) few all.1 e in
-    record { numbers = n.numbers; name = n.name; over = name_on o z past (NoUp other miss ∷ past) place n.numbers refl n.over }
-named_at o z first opened (x ∷ past) p place kept few all e =
-    let n = named_at o z first opened past p place kept few all.1 e in
-    record { numbers = n.numbers; name = n.name; over = name_on o z past (x ∷ past) place n.numbers refl n.over }
+    go false t is before = so_later o z past more p place (rw t refl) refl (before is)
+named_so o z first opened (Tick t due ∷ past) p place kept few all e =
+    let off = passed first opened past p place kept few e in so_later o z past (Tick t due ∷ past) p place refl (rw off refl) (named_so o z first opened past p place kept few all.1 e)
+named_so o z first opened (Met other ∷ past) p place kept few all e = so_later o z past (Met other ∷ past) p place refl refl (named_so o z first opened past p place (right_of _ _ kept) few all.1 e)
+named_so o z first opened (NoUp other miss ∷ past) p place kept few all e = so_later o z past (NoUp other miss ∷ past) p place refl refl (named_so o z first opened past p place (right_of _ _ kept) few all.1 e)
+named_so o z first opened (x ∷ past) p place kept few all e = so_later o z past (x ∷ past) p place refl refl (named_so o z first opened past p place kept few all.1 e)
 
 -- ---- Told texts
 
@@ -383,17 +390,43 @@ module _ (o : Origins) (z : Setting) (h : List (Turn Entry)) (p place : ℕ) (n 
   some_link : (a b : LinkView) → Some a ≡ Some b → a ≡ b
   some_link a b h = cc
 
-  no_lane : {A : Type 0} (v : WireView) → AfterShut w v → (out inward : List ℕ) → v.name ≡ OverLanes out inward → A
-  no_lane v after out inward e =
-      let k : 1 ≡ 0 = heads _ _ _ _ (ap numbers_of (sym e) ∙ name_is v after) in absurd (omega (arith, k))
-
-  -- it has a link
-  pub has_link : {L : Type 0} (v : EndWire L) → AfterShut w (shown v) → IsOverLanes v → (link : LinkView) × (link_of v ≡ Some link)
-  has_link (wires.Tcp v) after lanes = (v.link, refl)
-  has_link (wires.Ws v) after lanes = (v.ws.link, refl)
-  has_link (wires.Lane v) after lanes = no_lane v.wire after v.out.name v.inp.name lanes
-
   pub carried_by : {L : Type 0} (v : EndWire L) → AfterShut w (shown v) → Stands v → (link : LinkView) → link_of v ≡ Some link → LeftBy o z h p place link
   carried_by (wires.Tcp v) after stands link is = subst (λ (l : LinkView). LeftBy o z h p place l) (some_link v.link link is) (tcp_left v after stands)
   carried_by (wires.Ws v) after stands link is = subst (λ (l : LinkView). LeftBy o z h p place l) (some_link v.ws.link link is) (web_left v after stands)
   carried_by (wires.Lane v) after stands link is = let no : None ≡ Some link = is in cc
+
+-- ---- Over a link, or over lanes
+
+-- the name of a wire over a link
+link_name : {L : Type 0} (v : EndWire L) → Stands v → (link : LinkView) → link_of v ≡ Some link → (rest : List ℕ) × (numbers_of (shown v).name ≡ 0 ∷ rest)
+link_name (wires.Tcp v) stands link is = (_, ap numbers_of stands.name)
+link_name (wires.Ws v) stands link is = (_, ap (λ (x : WireView). numbers_of x.name) stands.wire ∙ ap (λ (x : WireName). numbers_of (named v.role v.way x)) stands.tied.name)
+link_name (wires.Lane v) stands link is = let no : None ≡ Some link = is in cc
+
+-- that of a wire over lanes
+lanes_name : {L : Type 0} (v : EndWire L) → IsOverLanes v → link_of v ≡ None → (rest : List ℕ) × (numbers_of (shown v).name ≡ 1 ∷ rest)
+lanes_name (wires.Tcp v) lanes is = let no : Some v.link ≡ None = is in cc
+lanes_name (wires.Ws v) lanes is = let no : Some v.ws.link ≡ None = is in cc
+lanes_name (wires.Lane v) lanes is = (_, ap numbers_of lanes)
+
+module _ (o : Origins) (z : Setting) (h : List (Turn Entry)) (p place : ℕ) (n : NamedSo o z (past_of h) p place) (why : Why) (w : WireView) (down : IsDownWire z (past_of h) p why w) {L : Type 0} (v : EndWire L) (after : AfterShut w (shown v)) where
+  named_as : numbers_of (shown v).name ≡ n.numbers
+  named_as =
+      let shows : name_of (past_of h) p ≡ Some (numbers_of (shown v).name) = down.agrees.name_is ∙ ap (λ (x : WireView). Some (numbers_of x.name)) (sym after) in
+      some_is _ _ (sym shows ∙ n.name)
+
+  -- over a link the pipe has the name of one
+  pub at_link : Stands v → (link : LinkView) → link_of v ≡ Some link → (place ≡ lane_place → ⊥) × NamedAt o z (past_of h) p place
+  at_link stands link is = go n.so
+    where
+      go : (place ≡ lane_place → ⊥) × IsNameOver o z (past_of h) place n.numbers ⊎ (place ≡ lane_place) × IsLaneName n.numbers → (place ≡ lane_place → ⊥) × NamedAt o z (past_of h) p place
+      go (inl x) = (x.0, record { numbers = n.numbers; name = n.name; over = x.1 })
+      go (inr x) = let a = link_name v stands link is in absurd (omega (arith, heads 0 1 _ _ (sym a.1 ∙ (named_as ∙ x.1.2))))
+
+  -- over lanes it is at their place
+  pub at_lanes : IsOverLanes v → link_of v ≡ None → place ≡ lane_place
+  at_lanes lanes is = go n.so
+    where
+      go : (place ≡ lane_place → ⊥) × IsNameOver o z (past_of h) place n.numbers ⊎ (place ≡ lane_place) × IsLaneName n.numbers → place ≡ lane_place
+      go (inl x) = let a = lanes_name v lanes is in absurd (omega (arith, heads 1 0 _ _ (sym a.1 ∙ (named_as ∙ x.1.is))))
+      go (inr x) = x.0

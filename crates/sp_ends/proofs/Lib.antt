@@ -24,8 +24,12 @@ pub mod NewcomingMoments
 pub mod Freeing
 pub mod Knowing
 pub mod Young
+pub mod Waited
 pub mod NewcomingAsks
 pub mod Arriving
 pub mod NewcomingDials
 pub mod NewcomingDue
 pub mod NewcomingRounds
+pub mod Lanes
+pub mod Bringing
+pub mod Calling

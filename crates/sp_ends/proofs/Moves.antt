@@ -52,7 +52,7 @@ there m k v = get-insert nat_cmp_total m k v k ∙ ap (λ b. cond b (Some v) (ge
 pub elsewhere : (m : FinMap nat_cmp LinkView) (k : ℕ) (v : LinkView) (q : ℕ) → (q ≡ k → ⊥) → get (insert m k v) q ≡ get m q
 elsewhere m k v q ne = get-insert nat_cmp_total m k v q ∙ ap (λ b. cond b (Some v) (get m q)) (other_number q k ne)
 
-unequal : (a b : ℕ) → (a == b) ≡ false → a ≡ b → ⊥
+pub unequal : (a b : ℕ) → (a == b) ≡ false → a ≡ b → ⊥
 unequal a b e same = let t : (a == b) ≡ true = eq-eqb a b same in cc
 
 -- ---- Handed out
@@ -112,7 +112,7 @@ module _ (z : Setting) (start : Beginning) (net net' : NetView) (h : List (Turn 
         somewhere = somewhere_met;
         stays = λ q n. same_back q;
         others_missed = unmet_others start.net.opened net.opened (past_of h) link.place k.in_place unmet_yet;
-        carried = λ p place is. held_after z start net net' h t (Met link.place) first refl l k p place (λ x. x) (same_back place) is;
+        carried = λ p place is n. held_after z start net net' h t (Met link.place) first refl l k p place (λ x. x) (same_back place) is n;
         others = others_met;
       })
 
@@ -141,8 +141,8 @@ module _ (z : Setting) (start : Beginning) (net : NetView) (h : List (Turn Entry
       go true e = let same : place ≡ q = eqb-true place q e in inr (inl (p, subst (λ (m : ℕ). place_of (Up p place name ∷ past_of h) p ≡ Some m) same up_here))
       go false e = inl (has_other (greeting (past_of h)) place q e ∙ g)
 
-  carried_up : (q other : ℕ) → place_of (Up p place name ∷ past_of h) q ≡ Some other → IsHeld (Up p place name ∷ past_of h) q ⊎ IsBackAfter z start net net h t (Up p place name) first refl l k q other
-  carried_up q other is = go (p == q) refl is
+  carried_up : (q other : ℕ) → place_of (Up p place name ∷ past_of h) q ≡ Some other → (other ≡ lane_place → ⊥) → IsHeld (Up p place name ∷ past_of h) q ⊎ IsBackAfter z start net net h t (Up p place name) first refl l k q other
+  carried_up q other is n = go (p == q) refl is
     where
       still : IsHeld (past_of h) q → IsHeld (Up p place name ∷ past_of h) q
       still (inl x) = inl (grown (up (past_of h)) p q x)
@@ -150,7 +150,7 @@ module _ (z : Setting) (start : Beginning) (net : NetView) (h : List (Turn Entry
 
       go : (u : Bool) → (p == q) ≡ u → cond u (Some place) (place_of (past_of h) q) ≡ Some other → IsHeld (Up p place name ∷ past_of h) q ⊎ IsBackAfter z start net net h t (Up p place name) first refl l k q other
       go true e x = let same : p ≡ q = eqb-true p q e in inl (inl (subst (λ (m : ℕ). has (up (past_of h) ++ p ∷ []) m ≡ true) same (has_at (up (past_of h)) [] p)))
-      go false e x = held_after z start net net h t (Up p place name) first refl l k q other still refl x
+      go false e x = held_after z start net net h t (Up p place name) first refl l k q other still refl x n
 
   pub kept_up : LinksKept z start (h ++ t ∷ []) net
   kept_up =
@@ -160,7 +160,7 @@ module _ (z : Setting) (start : Beginning) (net : NetView) (h : List (Turn Entry
         more = omega arith;
         few = k.few;
         keeps = rw waits (or_true (place == lane_place));
-        over = waits;
+        over = rw waits (or_true (place == lane_place));
         name = named;
         cause = tt;
         met = k.met;
@@ -218,16 +218,16 @@ module _ (z : Setting) (start : Beginning) (net net' : NetView) (h : List (Turn 
         somewhere = λ q a b. let m = back.opened in somewhere_missed q (k.somewhere q a (omega (arith, b, m)));
         stays = others_back;
         others_missed = others_missed start.net.opened net.opened (past_of h) link.place k.in_place waits;
-        carried = λ p q is. held_after z start net net' h t (NoUp link.place miss) first refl l k p q (λ x. x) (others_back q (not_here p q is)) is;
+        carried = λ p q is n. held_after z start net net' h t (NoUp link.place miss) first refl l k p q (λ x. x) (others_back q (not_here p q is)) is n;
         others = others_missed_;
       })
 
 -- ---- Taken
 
-module _ (z : Setting) (start : Beginning) (net net' : NetView) (h : List (Turn Entry)) (t : Turn Entry) (p : ℕ) (link : LinkView) (back : AfterGiveBack link net net') (is_place : place_of (past_of h) p ≡ Some link.place) (off : has (up (past_of h)) p ≡ false) (shut : link.is_open ≡ false)
+module _ (z : Setting) (start : Beginning) (net net' : NetView) (h : List (Turn Entry)) (t : Turn Entry) (p : ℕ) (link : LinkView) (back : AfterGiveBack link net net') (is_place : place_of (past_of h) p ≡ Some link.place) (no_lane : link.place ≡ lane_place → ⊥) (off : has (up (past_of h)) p ≡ false) (shut : link.is_open ≡ false)
     (asked : IsAskedIn (past_of h) link.place link) (carries : HasCarried start.origins z h p link) (first : HasFirst (Taken p) t) (l : Legal z (h ++ t ∷ [])) (k : LinksKept z start h net) where
   bound_taken : (start.net.opened ≤ link.place) × (link.place < net.opened)
-  bound_taken = up_inside start.net.opened net.opened k.few (past_of h) p link.place k.in_place k.over_links is_place
+  bound_taken = up_inside start.net.opened net.opened k.few (past_of h) p link.place k.in_place k.over_links is_place no_lane
 
   gave_taken : get net'.back link.place ≡ Some link
   gave_taken = ap (λ (b : FinMap nat_cmp LinkView). get b link.place) back.back ∙ there net.back link.place link
@@ -250,22 +250,22 @@ module _ (z : Setting) (start : Beginning) (net net' : NetView) (h : List (Turn 
   here_taken : After p link.place
   here_taken = inr (link, gave_taken, ((refl, shut), asked_in_after z start net net' h t (Taken p) first refl l k link.place link asked, carried_after z start net net' h t (Taken p) first refl l k p link.place link is_place off carries))
 
-  carried_taken : (q other : ℕ) → place_of (past_of h) q ≡ Some other → After q other
-  carried_taken q other is = go (p == q) refl
+  carried_taken : (q other : ℕ) → place_of (past_of h) q ≡ Some other → (other ≡ lane_place → ⊥) → After q other
+  carried_taken q other is n = go (p == q) refl
     where
       still : (p == q) ≡ false → IsHeld (past_of h) q → IsHeld (Taken p ∷ past_of h) q
       still e (inl x) = inl x
       still e (inr x) = inr (has_other (untaken (past_of h)) p q e ∙ x)
 
       apart : (p == q) ≡ false → other ≡ link.place → ⊥
-      apart e same = unequal p q e (up_once start.net.opened net.opened k.few (past_of h) p q link.place k.in_place k.over_links is_place (subst (λ (m : ℕ). place_of (past_of h) q ≡ Some m) same is))
+      apart e same = unequal p q e (up_once start.net.opened net.opened k.few (past_of h) p q link.place k.in_place k.over_links is_place (subst (λ (m : ℕ). place_of (past_of h) q ≡ Some m) same is) no_lane)
 
       some_same : (a b : ℕ) → Some a ≡ Some b → a ≡ b
       some_same a b e = cc
 
       go : (u : Bool) → (p == q) ≡ u → After q other
       go true e = let same : p ≡ q = eqb-true p q e in let place_same : link.place ≡ other = some_same link.place other (sym is_place ∙ (ap (λ (m : ℕ). place_of (past_of h) m) same ∙ is)) in subst (λ (m : ℕ). After m other) same (subst (λ (m : ℕ). After p m) place_same here_taken)
-      go false e = held_after z start net net' h t (Taken p) first refl l k q other (still e) (others_taken other (apart e)) is
+      go false e = held_after z start net net' h t (Taken p) first refl l k q other (still e) (others_taken other (apart e)) is n
 
   outside_taken : KeepsOthers start.net net'
   outside_taken q (inl x) = let b = bound_taken in others_taken q (λ e. omega (arith, x, b.0, e)) ∙ k.others q (inl x)
@@ -285,7 +285,50 @@ module _ (z : Setting) (start : Beginning) (net net' : NetView) (h : List (Turn 
         met = λ q a b. let m = back.opened in k.met q a (omega (arith, b, m));
         somewhere = λ q a b. let m = back.opened in somewhere_taken q (k.somewhere q a (omega (arith, b, m)));
         stays = others_taken;
-        others_missed = others_up start.net.opened net.opened k.few (past_of h) p link.place k.in_place k.over_links is_place;
+        others_missed = others_up start.net.opened net.opened k.few (past_of h) p link.place k.in_place k.over_links is_place no_lane;
         carried = carried_taken;
         others = outside_taken;
+      })
+
+-- ---- A lane is taken
+
+module _ (z : Setting) (start : Beginning) (net : NetView) (h : List (Turn Entry)) (t : Turn Entry) (p : ℕ) (is_place : place_of (past_of h) p ≡ Some lane_place) (first : HasFirst (Taken p) t) (l : Legal z (h ++ t ∷ [])) (k : LinksKept z start h net) where
+  unmet_lane : met_at (past_of h) lane_place ≡ None
+  unmet_lane = go (met_at (past_of h) lane_place) refl
+    where
+      go : (m : Option ℕ) → met_at (past_of h) lane_place ≡ m → met_at (past_of h) lane_place ≡ None
+      go None e = e
+      go (Some n) e = let b = met_inside start.net.opened net.opened (past_of h) lane_place k.in_place (rw e refl) in let f = k.few (omega (arith, b.0, b.1)) in absurd (omega (arith, b.1, f))
+
+  carried_on : (q other : ℕ) → place_of (past_of h) q ≡ Some other → (other ≡ lane_place → ⊥) → IsHeld (Taken p ∷ past_of h) q ⊎ IsBackAfter z start net net h t (Taken p) first refl l k q other
+  carried_on q other is n = go (p == q) refl
+    where
+      some_same : (a b : ℕ) → Some a ≡ Some b → a ≡ b
+      some_same a b e = cc
+
+      still : (p == q) ≡ false → IsHeld (past_of h) q → IsHeld (Taken p ∷ past_of h) q
+      still e (inl x) = inl x
+      still e (inr x) = inr (has_other (untaken (past_of h)) p q e ∙ x)
+
+      go : (u : Bool) → (p == q) ≡ u → IsHeld (Taken p ∷ past_of h) q ⊎ IsBackAfter z start net net h t (Taken p) first refl l k q other
+      go true e = let same : p ≡ q = eqb-true p q e in absurd (n (some_same other lane_place (sym is ∙ (ap (λ (m : ℕ). place_of (past_of h) m) (sym same) ∙ is_place))))
+      go false e = held_after z start net net h t (Taken p) first refl l k q other (still e) refl is n
+
+  pub kept_lane_taken : LinksKept z start (h ++ t ∷ []) net
+  kept_lane_taken =
+      stepped z start net net h t (Taken p) first refl l k (record {
+        here = lane_place;
+        opened = k.opened;
+        more = omega arith;
+        few = k.few;
+        keeps = refl;
+        over = refl;
+        name = tt;
+        cause = tt;
+        met = k.met;
+        somewhere = k.somewhere;
+        stays = λ q n. refl;
+        others_missed = unmet_others start.net.opened net.opened (past_of h) lane_place k.in_place unmet_lane;
+        carried = carried_on;
+        others = k.others;
       })

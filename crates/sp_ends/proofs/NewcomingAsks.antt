@@ -13,10 +13,11 @@ use Rattle.sp_single.specs.Singles.{SingleView}
 use Rattle.cat_play.specs.Spending.{CanRise, ticks_where, has_room}
 use Rattle.sp_ends.specs.declared.listener.Listener.{Listener}
 use Rattle.sp_ends.specs.declared.dialer.Dialer.{Dialer}
+use Rattle.sp_ends.specs.declared.newcomer.Newcomer.{Newcomer}
 use Rattle.sp_ends.specs.Dialing.{IsDialed, IsDialable}
-use Rattle.sp_ends.specs.Standing.{Beginning, EndsView, NetStands, IsListener, sum_of, tries_of}
+use Rattle.sp_ends.specs.Standing.{Beginning, LinkEndsView, NetStands, IsListener, sum_of, tries_of}
 use Rattle.sp_ends.specs.Freeing.{Frees}
-use Rattle.sp_ends.specs.Turning.{Quietly, IsDry, InTurn, SameEnds, IsSameDialer, AreSameDialers, AsksNet, AreYoung}
+use Rattle.sp_ends.specs.Turning.{Quietly, IsDry, InTurn, SameEnds, IsSameDialer, AreSameDialers, AsksNet, AreYoung, AreWaitingBehind, HasAsked}
 use Rattle.sp_ends.proofs.Serving.{same_dialers, dialers_both, dialers_long, ends_none, ends_both}
 use Rattle.sp_ends.proofs.Turns.{quiet_both, quiet_none, quiet_ticks, quiet_before, quiet_where}
 use Rattle.sp_ends.proofs.Freeing.{frees_none, frees_both}
@@ -72,26 +73,9 @@ twice m n = grind arith
 
 -- ---- The listeners
 
--- so many of the listeners were asked
-pub record Asking {L : Type 0} (seen : L → LinkView) (i : ℕ) (old new : EndsView L) (net net' : NetView) (a b : SingleView) (t : ℕ) (is_dry : Bool) : Type 0 where
-  pub in_turn : (start : Beginning) → InTurn seen start old net a t 0 → InTurn seen start new net' b t 0
-  pub ends : SameEnds old new
-  pub dialers : AreSameDialers old.dialers new.dialers
-  pub frees : Frees t net net' old.dialers new.dialers
-  pub quietly : Quietly a b
-  pub dry : IsDry is_dry b
-  pub few : length new.newcomers ≤ length old.newcomers + i
-  pub listens : net'.listens ≡ net.listens
-  pub opened : net.opened ≤ net'.opened
-  pub handed : net'.opened ≤ net.opened + i
-  pub young : AreYoung t 0 old.newcomers → AreYoung t 0 new.newcomers
-  pub idles : net.idles ≤ net'.idles
-  pub faults : net.faults ≤ net'.faults
-  pub rose : CanRise net'.idles → CanRise net'.faults → sum_of net + i ≤ sum_of net'
-
 module _ {L : Type 0} (seen : L → LinkView) where
-  pub asking_first : (ends : EndsView L) (net : NetView) (a : SingleView) (t : ℕ) (is_dry : Bool) → IsDry is_dry a → Asking seen 0 ends ends net net a a t is_dry
-  asking_first ends net a t is_dry dry = record {
+  pub asked_none : (ends : LinkEndsView L) (net : NetView) (a : SingleView) (t : ℕ) (is_dry : Bool) → IsDry is_dry a → HasAsked seen 0 0 ends ends net net a a t is_dry
+  asked_none ends net a t is_dry dry = record {
     in_turn = λ start i. i;
     ends = ends_none ends;
     dialers = same_dialers ends.dialers;
@@ -103,48 +87,126 @@ module _ {L : Type 0} (seen : L → LinkView) where
     opened = omega arith;
     handed = omega arith;
     young = λ a. a;
+    waited = λ first opened le a. a;
     idles = omega arith;
     faults = omega arith;
-    rose = λ x y. omega arith;
+    rose = λ x y. inl (omega arith);
   }
 
-  pub asking_next : (i : ℕ) (old mid new : EndsView L) (net net1 net2 : NetView) (a b c : SingleView) (t : ℕ) (d e : Bool) → Asking seen i old mid net net1 a b t d
-      → ((start : Beginning) → InTurn seen start mid net1 b t 0 → InTurn seen start new net2 c t 0) → length new.newcomers ≤ length mid.newcomers + 1 → AsksNet net1 net2 → AreSameDialers mid.dialers new.dialers → Frees t net1 net2 mid.dialers new.dialers → Quietly b c → SameEnds mid new → IsDry e c
-      → net2.opened ≤ net1.opened + 1 → (AreYoung t 0 mid.newcomers → AreYoung t 0 new.newcomers) → Asking seen (i + 1) old new net net2 a c t e
-  asking_next i old mid new net net1 net2 a b c t d e was in_turn few asks dialers frees quietly same dry handed young = record {
-    in_turn = λ start x. in_turn start (was.in_turn start x);
-    ends = ends_both old mid new was.ends same;
-    dialers = dialers_both old.dialers mid.dialers new.dialers was.dialers dialers;
-    frees = frees_both t net net1 net2 old.dialers mid.dialers new.dialers was.frees frees;
-    quietly = quiet_both a b c was.quietly quietly;
+  -- one was asked once
+  pub asked_one : (old new : LinkEndsView L) (net net' : NetView) (a b : SingleView) (t : ℕ) (e : Bool)
+      → ((start : Beginning) → InTurn seen start old net a t 0 → InTurn seen start new net' b t 0) → length new.newcomers + net.opened ≤ length old.newcomers + net'.opened → AsksNet net net' → AreSameDialers old.dialers new.dialers → Frees t net net' old.dialers new.dialers → Quietly a b → SameEnds old new → IsDry e b
+      → net'.opened ≤ net.opened + 1 → (AreYoung t 0 old.newcomers → AreYoung t 0 new.newcomers)
+      → ((first : List (Newcomer L)) (opened : ℕ) → opened ≤ net.opened → AreWaitingBehind seen first opened 0 old.newcomers → AreWaitingBehind seen first opened 0 new.newcomers) → HasAsked seen 1 1 old new net net' a b t e
+  asked_one old new net net' a b t e in_turn few asks dialers frees quietly same dry handed young waited = record {
+    in_turn = in_turn;
+    ends = same;
+    dialers = dialers;
+    frees = frees;
+    quietly = quietly;
     dry = dry;
-    few = omega (arith, few, was.few);
-    listens = asks.listens ∙ was.listens;
-    opened = omega (arith, asks.opened, was.opened);
-    handed = omega (arith, handed, was.handed);
-    young = λ a. young (was.young a);
-    idles = omega (arith, asks.idles, was.idles);
-    faults = omega (arith, asks.faults, was.faults);
-    rose = λ x y.
-        let before = was.rose (omega (arith, x, asks.idles)) (omega (arith, y, asks.faults)) in
-        let after = asks.rose x y in omega (arith, before, after);
+    few = few;
+    listens = asks.listens;
+    opened = asks.opened;
+    handed = handed;
+    young = young;
+    waited = waited;
+    idles = asks.idles;
+    faults = asks.faults;
+    rose = λ x y. inl (asks.rose x y);
+  }
+
+  pub asked_both : (i j m n : ℕ) (old mid new : LinkEndsView L) (net net1 net2 : NetView) (a b c : SingleView) (t : ℕ) (d e : Bool) → HasAsked seen i m old mid net net1 a b t d → HasAsked seen j n mid new net1 net2 b c t e → HasAsked seen (i + j) (m + n) old new net net2 a c t e
+  asked_both i j m n old mid new net net1 net2 a b c t d e x y = record {
+    in_turn = λ start k. y.in_turn start (x.in_turn start k);
+    ends = ends_both old mid new x.ends y.ends;
+    dialers = dialers_both old.dialers mid.dialers new.dialers x.dialers y.dialers;
+    frees = frees_both t net net1 net2 old.dialers mid.dialers new.dialers x.frees y.frees;
+    quietly = quiet_both a b c x.quietly y.quietly;
+    dry = y.dry;
+    few = omega (arith, x.few, y.few);
+    listens = y.listens ∙ x.listens;
+    opened = omega (arith, x.opened, y.opened);
+    handed = omega (arith, x.handed, y.handed);
+    young = λ k. y.young (x.young k);
+    waited = λ first opened le k. y.waited first opened (omega (arith, le, x.opened)) (x.waited first opened le k);
+    idles = omega (arith, x.idles, y.idles);
+    faults = omega (arith, x.faults, y.faults);
+    rose = λ r s. rose (x.rose (omega (arith, r, y.idles)) (omega (arith, s, y.faults))) (y.rose r s);
+  }
+    where
+      rose : (sum_of net + i ≤ sum_of net1) ⊎ (256 + net.opened ≤ length old.newcomers + net1.opened) → (sum_of net1 + j ≤ sum_of net2) ⊎ (256 + net1.opened ≤ length mid.newcomers + net2.opened) → (sum_of net + (i + j) ≤ sum_of net2) ⊎ (256 + net.opened ≤ length old.newcomers + net2.opened)
+      rose (inl p) (inl q) = inl (omega (arith, p, q))
+      rose (inl p) (inr q) = inr (omega (arith, q, x.few))
+      rose (inr p) q = inr (omega (arith, p, y.opened))
+
+  -- the same, of fewer that were asked, and of more links
+  pub asked_as : (i j m n : ℕ) (old new : LinkEndsView L) (net net' : NetView) (a b : SingleView) (t : ℕ) (d : Bool) → j ≤ i → m ≤ n → HasAsked seen i m old new net net' a b t d → HasAsked seen j n old new net net' a b t d
+  asked_as i j m n old new net net' a b t d less more x = record {
+    in_turn = x.in_turn;
+    ends = x.ends;
+    dialers = x.dialers;
+    frees = x.frees;
+    quietly = x.quietly;
+    dry = x.dry;
+    few = x.few;
+    listens = x.listens;
+    opened = x.opened;
+    handed = omega (arith, x.handed, more);
+    young = x.young;
+    waited = x.waited;
+    idles = x.idles;
+    faults = x.faults;
+    rose = λ r s. rose (x.rose r s);
+  }
+    where
+      rose : (sum_of net + i ≤ sum_of net') ⊎ (256 + net.opened ≤ length old.newcomers + net'.opened) → (sum_of net + j ≤ sum_of net') ⊎ (256 + net.opened ≤ length old.newcomers + net'.opened)
+      rose (inl p) = inl (omega (arith, p, less))
+      rose (inr p) = inr p
+
+  -- so many are in progress that no more is asked
+  pub asked_full : (i j m n : ℕ) (old new : LinkEndsView L) (net net' : NetView) (a b : SingleView) (t : ℕ) (d : Bool) → 256 ≤ length new.newcomers → m ≤ n → HasAsked seen i m old new net net' a b t d → HasAsked seen j n old new net net' a b t d
+  asked_full i j m n old new net net' a b t d full more x = record {
+    in_turn = x.in_turn;
+    ends = x.ends;
+    dialers = x.dialers;
+    frees = x.frees;
+    quietly = x.quietly;
+    dry = x.dry;
+    few = x.few;
+    listens = x.listens;
+    opened = x.opened;
+    handed = omega (arith, x.handed, more);
+    young = x.young;
+    waited = x.waited;
+    idles = x.idles;
+    faults = x.faults;
+    rose = λ r s. inr (omega (arith, full, x.few));
   }
 
   pub listens_still : (net net' : NetView) (xs : List Listener) → net'.listens ≡ net.listens → AllByRecursion (IsListener net) xs → AllByRecursion (IsListener net') xs
   listens_still net net' [] e all = tt
   listens_still net net' (x ∷ xs) e all = (record { listens = ap (λ m. get m x.at) e ∙ all.0.listens; linked = all.0.linked }, listens_still net net' xs e all.1)
 
-  pub listener_at : (i : ℕ) (old new : EndsView L) (net net' : NetView) (a b : SingleView) (t : ℕ) (d : Bool) (start : Beginning) (past : List Entry) → Asking seen i old new net net' a b t d → NetStands start past past net old.listeners old.dialers
-      → (j : ℕ) (at : Listener) → slice_get new.listeners j ≡ Some at → IsListener net' at
-  listener_at i old new net net' a b t d start past asking stands j at e = at_of (IsListener net') old.listeners j at (listens_still net net' old.listeners asking.listens stands.listens) (ap (λ (xs : List Listener). slice_get xs j) (sym asking.ends.listeners) ∙ e)
+  pub still_listens : (i m : ℕ) (old new : LinkEndsView L) (net net' : NetView) (a b : SingleView) (t : ℕ) (d : Bool) → HasAsked seen i m old new net net' a b t d → AllByRecursion (IsListener net) old.listeners → AllByRecursion (IsListener net') new.listeners
+  still_listens i m old new net net' a b t d asked all = subst (AllByRecursion (IsListener net')) (sym asked.ends.listeners) (listens_still net net' old.listeners asked.listens all)
 
-  -- after the last of them, or when so many are in progress that there was no room at the tick
-  pub asked_all : (i : ℕ) (old new : EndsView L) (net net' : NetView) (a b : SingleView) (t : ℕ) (d : Bool) (start : Beginning) → Asking seen i old new net net' a b t d → InTurn seen start old net a t 0
-      → (has_room (before_last_tick (past_of a.seen)) ≡ true → length old.newcomers ≤ 192) → (i ≡ length old.listeners) ⊎ ((i < length old.listeners) × (256 ≤ length new.newcomers))
+  pub listener_at : (net : NetView) (xs : List Listener) → AllByRecursion (IsListener net) xs → (j : ℕ) (at : Listener) → slice_get xs j ≡ Some at → IsListener net at
+  listener_at net xs all j at e = at_of (IsListener net) xs j at all e
+
+  -- all were asked, where there was room for it at the tick
+  pub rose_all : (m : ℕ) (old new : LinkEndsView L) (net net' : NetView) (a b : SingleView) (t : ℕ) (d : Bool) → HasAsked seen (length old.listeners) m old new net net' a b t d → length old.listeners ≤ 64 → length old.newcomers ≤ 192 → CanRise net'.idles → CanRise net'.faults → sum_of net + length old.listeners ≤ sum_of net'
+  rose_all m old new net net' a b t d asked few room x y = go (asked.rose x y)
+    where
+      go : (sum_of net + length old.listeners ≤ sum_of net') ⊎ (256 + net.opened ≤ length old.newcomers + net'.opened) → sum_of net + length old.listeners ≤ sum_of net'
+      go (inl r) = r
+      go (inr r) = omega (arith, r, room, few, asked.idles, asked.faults)
+
+  pub asked_all : (m : ℕ) (old new : LinkEndsView L) (net net' : NetView) (a b : SingleView) (t : ℕ) (d : Bool) (start : Beginning) → HasAsked seen (length old.listeners) m old new net net' a b t d → InTurn seen start old net a t 0 → (has_room (before_last_tick (past_of a.seen)) ≡ true → length old.newcomers ≤ 192)
       → NetStands start (before_last_tick (past_of a.seen)) (before_last_tick (past_of a.seen)) net old.listeners old.dialers → NetStands start (past_of b.seen) (before_last_tick (past_of b.seen)) net' new.listeners new.dialers
-  asked_all i old new net net' a b t d start asking i_in room ended stands = record {
+  asked_all m old new net net' a b t d start asking i_in room stands = record {
     few = omega (arith, stands.few, ap length asking.ends.listeners, dialers_long old.dialers new.dialers asking.dialers);
-    listens = subst (AllByRecursion (IsListener net')) (sym asking.ends.listeners) (listens_still net net' old.listeners asking.listens stands.listens);
+    listens = still_listens (length old.listeners) m old new net net' a b t d asking stands.listens;
     dials = subst (λ (past : List Entry). AllByRecursion (IsDialed (net'.opened ≡ start.net.opened) past) new.dialers) (sym (quiet_before a b asking.quietly))
         (all_still (net.opened ≡ start.net.opened) (net'.opened ≡ start.net.opened) (λ e. omega (arith, e, asking.opened, i_in.links.kept.opened)) (before_last_tick (past_of a.seen)) old.dialers new.dialers asking.dialers stands.dials);
     first = λ e. let some = subst (λ (ts : List ℕ). 0 < length ts) (sym (quiet_ticks a b asking.quietly) ∙ e) i_in.ticked in absurd (omega (arith, some));
@@ -160,17 +222,10 @@ module _ {L : Type 0} (seen : L → LinkView) where
       counted = quiet_where has_room a b asking.quietly ∙ where_last has_room (past_of a.seen) i_in.ticked
 
       most : (r : Bool) → has_room (before_last_tick (past_of a.seen)) ≡ r → CanRise net'.idles → CanRise net'.faults → sum_of start.net + length old.listeners * cond r (W + 1) W + tries_of old.dialers ≤ sum_of net'
-      most true e x y = go ended
-        where
-          before : sum_of start.net + length old.listeners * W + tries_of old.dialers ≤ sum_of net
-          before = stands.rose (omega (arith, x, asking.idles)) (omega (arith, y, asking.faults))
-
-          more : length old.listeners * (W + 1) ≡ length old.listeners * W + length old.listeners
-          more = twice (length old.listeners) W
-
-          go : (i ≡ length old.listeners) ⊎ ((i < length old.listeners) × (256 ≤ length new.newcomers)) → sum_of start.net + length old.listeners * (W + 1) + tries_of old.dialers ≤ sum_of net'
-          go (inl all) = let r = asking.rose x y in omega (arith, before, more, r, all)
-          go (inr early) = absurd (omega (arith, early.0, early.1, asking.few, room e, stands.few))
+      most true e x y =
+          let before : sum_of start.net + length old.listeners * W + tries_of old.dialers ≤ sum_of net = stands.rose (omega (arith, x, asking.idles)) (omega (arith, y, asking.faults)) in
+          let more : length old.listeners * (W + 1) ≡ length old.listeners * W + length old.listeners = twice (length old.listeners) W in
+          let r = rose_all m old new net net' a b t d asking (omega (arith, stands.few)) (room e) x y in omega (arith, before, more, r)
       most false e x y =
           let before = stands.rose (omega (arith, x, asking.idles)) (omega (arith, y, asking.faults)) in
           omega (arith, before, asking.idles, asking.faults, asking.opened)

@@ -7,7 +7,7 @@ use Rattle.sp_base.specs.declared.addr.Scheme.{Scheme}
 use Rattle.sp_single.specs.Singles.{SingleView}
 use Rattle.sp_ends.specs.declared.dialer.Dialer.{Dialer}
 use Rattle.sp_ends.specs.Moments.{moment}
-use Rattle.sp_ends.specs.Standing.{Beginning, EndsView, LinksStand, SameCounts, tries_of}
+use Rattle.sp_ends.specs.Standing.{Beginning, LinkEndsView, LinksStand, SameCounts, tries_of}
 use Rattle.sp_ends.specs.Turning.{InTurn, SameEnds, IsSameDialer, AreSameDialers, AsksNet, HasDialed, DialsOne, addrs_of}
 use Rattle.sp_ends.proofs.Serving.{same_dialers, dialers_both, dialer_both, ends_both, of_run_on}
 use Rattle.sp_ends.proofs.NewcomingAsks.{at_index, same_tries}
@@ -15,7 +15,7 @@ use Rattle.sp_ends.proofs.NewcomingAsks.{at_index, same_tries}
 -- ---- One dial
 
 -- the same but for its dialers
-pub turned_as : {L : Type 0} (seen : L → LinkView) (start : Beginning) (ends ends' : EndsView L) (net : NetView) (s : SingleView) (t k : ℕ) → SameEnds ends ends' → ends'.newcomers ≡ ends.newcomers → InTurn seen start ends net s t k → InTurn seen start ends' net s t k
+pub turned_as : {L : Type 0} (seen : L → LinkView) (start : Beginning) (ends ends' : LinkEndsView L) (net : NetView) (s : SingleView) (t k : ℕ) → SameEnds ends ends' → ends'.newcomers ≡ ends.newcomers → InTurn seen start ends net s t k → InTurn seen start ends' net s t k
 turned_as seen start ends ends' net s t k same n i = record {
   role = same.role ∙ i.role;
   of_run = of_run_on start.origins ends ends' same i.of_run;
@@ -27,13 +27,13 @@ turned_as seen start ends ends' net s t k same n i = record {
 }
 
 -- the same but for what dialers know of their links
-pub tried : {L : Type 0} (ends old : EndsView L) (ds : List Dialer) → ends ≡ old → addrs_of ds ≡ addrs_of old.dialers → SameEnds old (record ends { dialers = ds })
-tried ends old ds is addrs = record { role = ap (λ (e : EndsView _). e.role) is; dice = ap (λ (e : EndsView _). e.dice) is; listeners = ap (λ (e : EndsView _). e.listeners) is; dials = addrs }
+pub tried : {L : Type 0} (ends old : LinkEndsView L) (ds : List Dialer) → ends ≡ old → addrs_of ds ≡ addrs_of old.dialers → SameEnds old (record ends { dialers = ds })
+tried ends old ds is addrs = record { role = ap (λ (e : LinkEndsView _). e.role) is; dice = ap (λ (e : LinkEndsView _). e.dice) is; listeners = ap (λ (e : LinkEndsView _). e.listeners) is; dials = addrs }
 
 -- the same but for how many links were asked for
-pub asked_on : {L : Type 0} (old mid new : EndsView L) → SameEnds old mid → new ≡ record mid { asked = new.asked } → SameEnds old new
+pub asked_on : {L : Type 0} (old mid new : LinkEndsView L) → SameEnds old mid → new ≡ record mid { asked = new.asked } → SameEnds old new
 asked_on old mid new same is =
-    ends_both old mid new same (record { role = ap (λ (e : EndsView _). e.role) is; dice = ap (λ (e : EndsView _). e.dice) is; listeners = ap (λ (e : EndsView _). e.listeners) is; dials = ap (λ (e : EndsView _). addrs_of e.dialers) is })
+    ends_both old mid new same (record { role = ap (λ (e : LinkEndsView _). e.role) is; dice = ap (λ (e : LinkEndsView _). e.dice) is; listeners = ap (λ (e : LinkEndsView _). e.listeners) is; dials = ap (λ (e : LinkEndsView _). addrs_of e.dialers) is })
 
 -- a link was handed out, and no answer was counted then
 pub asked_got : (link : LinkView) (wanted : Option Scheme) (a b c : NetView) → IsHandedOut link wanted a b → SameCounts b c → AsksNet a c

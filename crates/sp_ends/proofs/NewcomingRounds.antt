@@ -1,37 +1,35 @@
 -- All addresses of a run are dialed that are due.
-use Rattle.std.proofs.Common.{◌≡◌, ◌≤◌, ◌<◌, ◌+◌, ◌*◌, ◌++◌, ◌∷◌, ℕ, Bool, true, List, [], length, Some, refl, sym, ap, subst, ◌∙◌, arith, inl, inr, slice_get, get_or, eq-eqb, add-one}
-use Rattle.std.specs.Prelude.{◌^◌, ◌-◌, ◌⊎◌}
+use Rattle.std.proofs.Common.{◌≡◌, ◌≤◌, ◌<◌, ◌+◌, ◌*◌, ◌++◌, ◌∷◌, ℕ, zero, suc, Bool, true, false, cond, List, [], length, Option, Some, None, refl, sym, ap, subst, ◌∙◌, arith, inl, inr, slice_get, get_or, take, add-one}
+use Rattle.std.specs.Prelude.{◌^◌, ◌-◌, is_none}
+use Rattle.std.proofs.lemmas.Bool.Decides.{nat_tests}
 use Rattle.std.specs.List.{AllByRecursion}
-use Rattle.std.proofs.lemmas.Bool.{cases_lt}
 use Rattle.sp_base.specs.Views.{LinkView, NetView}
 use Rattle.sp_history.specs.Found.{ticks, last_tick, before_last_tick}
-use Rattle.sp_history.specs.Lists.{has}
 use Rattle.sp_history.specs.Past.{past_of}
 use Rattle.sp_history.proofs.Backing.{legal_allowed}
 use Rattle.sp_history.proofs.StandingEntries.{last_is_now}
-use Rattle.cat_play.specs.Recording.{greeting}
 use Rattle.cat_play.specs.Spending.{CanRise, ticks_where, has_room, spaced_from}
 use Rattle.sp_single.specs.Singles.{SingleView}
 use Rattle.sp_ends.specs.declared.dialer.Dialer.{Dialer}
 use Rattle.sp_ends.specs.declared.newcomer.Newcomer.{Newcomer}
-use Rattle.sp_ends.specs.Moments.{moment}
+use Rattle.sp_ends.specs.Moments.{moment, IsDueAt, is_due_at, is_due}
 use Rattle.sp_ends.specs.Dialing.{IsDialed, IsDialable, next_from}
-use Rattle.sp_ends.specs.Standing.{Beginning, EndsView, NetStands, IsListener, places, in_order, sum_of, tries_of}
-use Rattle.sp_ends.specs.Freeing.{IsDue, GotBack, Redials, KnowsLinks}
-use Rattle.sp_ends.specs.Turning.{Quietly, IsDry, InTurn, SameEnds, AsksNet, DialsAt, AreYoung}
-use Rattle.sp_ends.proofs.Places.{inside}
+use Rattle.sp_ends.specs.Standing.{Beginning, LinkEndsView, NetStands, IsListener, sum_of, tries_of}
+use Rattle.sp_ends.specs.Freeing.{IsDue, FreesOne, GotBack, Redials, KnowsLinks}
+use Rattle.sp_ends.specs.Turning.{Quietly, IsDry, InTurn, SameEnds, AreSameDialers, AsksNet, AsksDue, dues_of, DialsAt, AreYoung, AreWaitingBehind}
+use Rattle.sp_ends.proofs.Places.{left_of, right_of}
 use Rattle.sp_ends.proofs.Serving.{same_dialers, dials_long, ends_none, ends_both}
 use Rattle.sp_ends.proofs.Turns.{quiet_both, quiet_none, quiet_ticks, quiet_where}
 use Rattle.sp_ends.proofs.NewcomingAsks.{at_index, ticks_last, listens_still}
 use Rattle.sp_ends.proofs.NewcomingDials.{dials_tries}
 use Rattle.sp_ends.proofs.Freeing.{got_none, got_both, same_all, TurnedTo, turned_due, turned_not_due}
 use Rattle.sp_ends.proofs.Knowing.{knows_none, knows_next}
-use Rattle.sp_ends.proofs.NewcomingDue.{DialedTo, next_dialed, next_not_due, all_dialed, rest_not_tried, dialable_at}
+use Rattle.sp_ends.proofs.NewcomingDue.{DialedTo, next_dialed, next_not_due, all_dialed, dialable_at}
 
 -- ---- All of them
 
 -- the tick of the turn is the last
-ticks_at : {L : Type 0} (seen : L → LinkView) (start : Beginning) (ends : EndsView L) (net : NetView) (s : SingleView) (t k : ℕ) → InTurn seen start ends net s t k → ticks (past_of s.seen) ≡ ticks (before_last_tick (past_of s.seen)) ++ t ∷ []
+ticks_at : {L : Type 0} (seen : L → LinkView) (start : Beginning) (ends : LinkEndsView L) (net : NetView) (s : SingleView) (t k : ℕ) → InTurn seen start ends net s t k → ticks (past_of s.seen) ≡ ticks (before_last_tick (past_of s.seen)) ++ t ∷ []
 ticks_at seen start ends net s t k i =
     let last : t ≡ last_tick (past_of s.seen) = i.now_is ∙ last_is_now s.setting (past_of s.seen) (legal_allowed s.setting s.seen i.sound.legal) in
     ticks_last (past_of s.seen) i.ticked ∙ ap (λ (m : ℕ). ticks (before_last_tick (past_of s.seen)) ++ m ∷ []) (sym last)
@@ -42,12 +40,83 @@ is_there xs ds i d q e lt is at =
     let here = at_index xs ds i d e lt is in
     let both : Some d ≡ Some q = sym here ∙ at in cc
 
-pub record Dialing {L : Type 0} (seen : L → LinkView) (i : ℕ) (old new : EndsView L) (net net' : NetView) (a b : SingleView) (t : ℕ) (is_dry : Bool) : Type 0 where
+-- ---- How many were due
+
+is_due_so : (t : ℕ) (d : Dialer) → is_due t d ≡ true → IsDue t d
+is_due_so t d e = (none_is d.place (left_of (is_none d.place) (is_due_at d.next t) e), at_is d.next (right_of (is_none d.place) (is_due_at d.next t) e))
+  where
+    none_is : (o : Option ℕ) → is_none o ≡ true → o ≡ None
+    none_is None h = refl
+    none_is (Some n) h = cc
+
+    at_is : (o : Option ℕ) → is_due_at o t ≡ true → IsDueAt o t
+    at_is None h = cc
+    at_is (Some n) h = grind (arith, nat_tests)
+
+dues_at : (t m n : ℕ) (ds : List Dialer) → m ≡ n → dues_of t (take m ds) ≡ dues_of t (take n ds)
+dues_at t m n ds e = ap (λ (k : ℕ). dues_of t (take k ds)) e
+
+dues_none : (t : ℕ) (ds : List Dialer) → dues_of t (take 0 ds) ≡ 0
+dues_none t [] = refl
+dues_none t (d ∷ ds) = refl
+
+-- one is due at most of one
+dues_one : (t i : ℕ) (ds : List Dialer) → dues_of t (take (suc i) ds) ≤ dues_of t (take i ds) + 1
+dues_one t zero [] = omega arith
+dues_one t zero (d ∷ ds) = go (is_due t d)
+  where
+    go : (b : Bool) → cond b (0 + 1) 0 ≤ 0 + 1
+    go true = omega arith
+    go false = omega arith
+dues_one t (suc i) [] = omega arith
+dues_one t (suc i) (d ∷ ds) = go (is_due t d) (dues_one t i ds)
+  where
+    go : (b : Bool) → dues_of t (take (suc i) ds) ≤ dues_of t (take i ds) + 1 → cond b (dues_of t (take (suc i) ds) + 1) (dues_of t (take (suc i) ds)) ≤ cond b (dues_of t (take i ds) + 1) (dues_of t (take i ds)) + 1
+    go true l = omega (arith, l)
+    go false l = omega (arith, l)
+
+-- none is due of one that isn't due any more, since it was not dialed
+dues_waiting : (t : ℕ) (a b : NetView) (i : ℕ) (ds es : List Dialer) → TurnedTo i t a b ds es → ((q : Dialer) → slice_get es i ≡ Some q → IsDue t q → ⊥) → dues_of t (take (suc i) ds) ≤ dues_of t (take i ds)
+dues_waiting t a b zero [] es x never = omega arith
+dues_waiting t a b zero (d ∷ ds) [] x never = absurd x
+dues_waiting t a b zero (d ∷ ds) (e ∷ es) x never = go (is_due t d) refl x.0
+  where
+    go : (u : Bool) → is_due t d ≡ u → FreesOne t a b d e → cond u (0 + 1) 0 ≤ 0
+    go false f y = omega arith
+    go true f (inl y) = absurd (never e refl (subst (IsDue t) (sym y.0) (is_due_so t d f)))
+    go true f (inr y) = let no : None ≡ Some y.0 = sym (is_due_so t d f).0 ∙ y.1 in cc
+dues_waiting t a b (suc i) [] es x never = omega arith
+dues_waiting t a b (suc i) (d ∷ ds) [] x never = absurd x
+dues_waiting t a b (suc i) (d ∷ ds) (e ∷ es) x never = go (is_due t d) (dues_waiting t a b i ds es x.2 never)
+  where
+    go : (u : Bool) → dues_of t (take (suc i) ds) ≤ dues_of t (take i ds) → cond u (dues_of t (take (suc i) ds) + 1) (dues_of t (take (suc i) ds)) ≤ cond u (dues_of t (take i ds) + 1) (dues_of t (take i ds))
+    go true l = omega (arith, l)
+    go false l = l
+
+dues_whole : (t i : ℕ) (ds : List Dialer) → length ds ≤ i → dues_of t (take i ds) ≡ dues_of t ds
+dues_whole t zero [] l = refl
+dues_whole t zero (d ∷ ds) l = absurd (omega (arith, l))
+dues_whole t (suc i) [] l = refl
+dues_whole t (suc i) (d ∷ ds) l = ap (λ (n : ℕ). cond (is_due t d) (n + 1) n) (dues_whole t i ds (omega (arith, l)))
+
+-- those that have lost their links were not due
+pub dues_same : (t : ℕ) (ds es : List Dialer) → AreSameDialers ds es → dues_of t ds ≤ dues_of t es
+dues_same t [] [] s = omega arith
+dues_same t [] (e ∷ es) s = absurd s
+dues_same t (d ∷ ds) [] s = absurd s
+dues_same t (d ∷ ds) (e ∷ es) s = go (is_due t d) refl (is_due t e) refl (dues_same t ds es s.1)
+  where
+    go : (u : Bool) → is_due t d ≡ u → (v : Bool) → is_due t e ≡ v → dues_of t ds ≤ dues_of t es → cond u (dues_of t ds + 1) (dues_of t ds) ≤ cond v (dues_of t es + 1) (dues_of t es)
+    go true f true g l = omega (arith, l)
+    go false f true g l = omega (arith, l)
+    go false f false g l = l
+    go true f false g l = let same = s.0.free (is_due_so t d f).0 in let no : true ≡ false = sym f ∙ (ap (is_due t) (sym same) ∙ g) in cc
+
+pub record Dialing {L : Type 0} (seen : L → LinkView) (i : ℕ) (old new : LinkEndsView L) (net net' : NetView) (a b : SingleView) (t : ℕ) (is_dry : Bool) : Type 0 where
   pub in_turn : (start : Beginning) → InTurn seen start old net a t 0 → InTurn seen start new net' b t 0
   pub ends : SameEnds old new
   pub quietly : Quietly a b
   pub dry : IsDry is_dry b
-  pub few : length new.newcomers ≤ length old.newcomers + i
   pub listens : net'.listens ≡ net.listens
   pub opened : net.opened ≤ net'.opened
   pub idles : net.idles ≤ net'.idles
@@ -55,19 +124,20 @@ pub record Dialing {L : Type 0} (seen : L → LinkView) (i : ℕ) (old new : End
   pub lengths : length new.dialers ≡ length old.dialers
   pub dialers : (start : Beginning) → InTurn seen start old net a t 0 → AllByRecursion (IsDialed (net.opened ≡ start.net.opened) (before_last_tick (past_of a.seen))) old.dialers → DialedTo (past_of a.seen) i (net'.opened ≡ start.net.opened) old.dialers new.dialers
   pub rose : CanRise net'.idles → CanRise net'.faults → sum_of net + tries_of new.dialers ≤ sum_of net' + tries_of old.dialers
+  pub due : CanRise net'.idles → CanRise net'.faults → sum_of net + dues_of t (take i old.dialers) ≤ sum_of net'
   pub got : GotBack net net'
   pub turned : TurnedTo i t net net' old.dialers new.dialers
   pub knows : KnowsLinks net.opened net' new.dialers
   pub young : AreYoung t 0 old.newcomers → AreYoung t 0 new.newcomers
+  pub waited : (first : List (Newcomer L)) (opened : ℕ) → opened ≤ net.opened → AreWaitingBehind seen first opened 0 old.newcomers → AreWaitingBehind seen first opened 0 new.newcomers
 
 module _ {L : Type 0} (seen : L → LinkView) where
-  pub dialing_first : (ends : EndsView L) (net : NetView) (a : SingleView) (t : ℕ) (is_dry : Bool) → IsDry is_dry a → Dialing seen 0 ends ends net net a a t is_dry
+  pub dialing_first : (ends : LinkEndsView L) (net : NetView) (a : SingleView) (t : ℕ) (is_dry : Bool) → IsDry is_dry a → Dialing seen 0 ends ends net net a a t is_dry
   dialing_first ends net a t is_dry dry = record {
     in_turn = λ start i. i;
     ends = ends_none ends;
     quietly = quiet_none a;
     dry = dry;
-    few = omega arith;
     listens = refl;
     opened = omega arith;
     idles = omega arith;
@@ -75,13 +145,15 @@ module _ {L : Type 0} (seen : L → LinkView) where
     lengths = refl;
     dialers = λ start i all. same_dialers ends.dialers;
     rose = λ x y. omega arith;
+    due = λ x y. let none = dues_none t ends.dialers in omega (arith, none);
     got = got_none net net (omega arith) refl;
     turned = same_all t net net ends.dialers refl;
     knows = knows_none net.opened net ends.dialers (omega arith);
     young = λ a. a;
+    waited = λ first opened le a. a;
   }
 
-  module _ (i : ℕ) (old mid : EndsView L) (net net1 : NetView) (a b : SingleView) (t : ℕ) (fits : t ≤ 2 ^ 64 - 1) (d : Bool) (was : Dialing seen i old mid net net1 a b t d) where
+  module _ (i : ℕ) (old mid : LinkEndsView L) (net net1 : NetView) (a b : SingleView) (t : ℕ) (fits : t ≤ 2 ^ 64 - 1) (d : Bool) (was : Dialing seen i old mid net net1 a b t d) where
     same_first : (start : Beginning) → InTurn seen start old net a t 0 → net1.opened ≡ start.net.opened → net.opened ≡ start.net.opened
     same_first start x e = omega (arith, e, was.opened, x.links.kept.opened)
 
@@ -91,7 +163,6 @@ module _ {L : Type 0} (seen : L → LinkView) where
       ends = was.ends;
       quietly = was.quietly;
       dry = was.dry;
-      few = omega (arith, was.few);
       listens = was.listens;
       opened = was.opened;
       idles = was.idles;
@@ -99,21 +170,23 @@ module _ {L : Type 0} (seen : L → LinkView) where
       lengths = was.lengths;
       dialers = λ start x all. subst (λ (k : ℕ). DialedTo (past_of a.seen) k (net1.opened ≡ start.net.opened) old.dialers mid.dialers) (sym (add-one i)) (next_not_due (past_of a.seen) (before_last_tick (past_of a.seen)) t (ticks_at seen start old net a t 0 x) fits i (net.opened ≡ start.net.opened) (net1.opened ≡ start.net.opened) old.dialers mid.dialers all (was.dialers start x all) (same_first start x) no_due);
       rose = was.rose;
+      due = λ x y. let r = was.due x y in let d = dues_waiting t net net1 i old.dialers mid.dialers was.turned no_due in let e = dues_at t (i + 1) (suc i) old.dialers (add-one i) in omega (arith, r, d, e);
       got = was.got;
       turned = subst (λ (k : ℕ). TurnedTo k t net net1 old.dialers mid.dialers) (sym (add-one i)) (turned_not_due t net net1 i old.dialers mid.dialers was.turned no_due);
       knows = was.knows;
       young = was.young;
+      waited = was.waited;
     }
 
-    pub dialing_next : (new : EndsView L) (net2 : NetView) (c : SingleView) (e : Bool) → ((q : Dialer) → slice_get mid.dialers i ≡ Some q → IsDue t q)
-        → ((start : Beginning) → InTurn seen start mid net1 b t 0 → InTurn seen start new net2 c t 0) → length new.newcomers ≤ length mid.newcomers + 1 → AsksNet net1 net2 → DialsAt i t net1 net2 mid.dialers new.dialers → Redials i t net1 net2 mid.dialers new.dialers → Quietly b c → SameEnds mid new → IsDry e c
-        → KnowsLinks net1.opened net2 new.dialers → (AreYoung t 0 mid.newcomers → AreYoung t 0 new.newcomers) → Dialing seen (i + 1) old new net net2 a c t e
-    dialing_next new net2 c e due in_turn few asks dials redials quietly same dry known young = record {
+    pub dialing_next : (new : LinkEndsView L) (net2 : NetView) (c : SingleView) (e : Bool) → ((q : Dialer) → slice_get mid.dialers i ≡ Some q → IsDue t q)
+        → ((start : Beginning) → InTurn seen start mid net1 b t 0 → InTurn seen start new net2 c t 0) → AsksNet net1 net2 → DialsAt i t net1 net2 mid.dialers new.dialers → Redials i t net1 net2 mid.dialers new.dialers → Quietly b c → SameEnds mid new → IsDry e c
+        → KnowsLinks net1.opened net2 new.dialers → (AreYoung t 0 mid.newcomers → AreYoung t 0 new.newcomers)
+        → ((first : List (Newcomer L)) (opened : ℕ) → opened ≤ net1.opened → AreWaitingBehind seen first opened 0 mid.newcomers → AreWaitingBehind seen first opened 0 new.newcomers) → Dialing seen (i + 1) old new net net2 a c t e
+    dialing_next new net2 c e due in_turn asks dials redials quietly same dry known young waited = record {
       in_turn = λ start x. in_turn start (was.in_turn start x);
       ends = ends_both old mid new was.ends same;
       quietly = quiet_both a b c was.quietly quietly;
       dry = dry;
-      few = omega (arith, few, was.few);
       listens = asks.listens ∙ was.listens;
       opened = omega (arith, asks.opened, was.opened);
       idles = omega (arith, asks.idles, was.idles);
@@ -126,33 +199,27 @@ module _ {L : Type 0} (seen : L → LinkView) where
           let before = was.rose (omega (arith, x, asks.idles)) (omega (arith, y, asks.faults)) in
           let after = asks.rose x y in
           let tr = dials_tries i t (net2.opened ≡ net1.opened) mid.dialers new.dialers dials in omega (arith, before, after, tr);
+      due = λ x y.
+          let before = was.due (omega (arith, x, asks.idles)) (omega (arith, y, asks.faults)) in
+          let after = asks.rose x y in
+          let d = dues_one t i old.dialers in let e = dues_at t (i + 1) (suc i) old.dialers (add-one i) in omega (arith, before, after, d, e);
       got = got_both net net1 net2 was.got redials.net;
       turned = subst (λ (k : ℕ). TurnedTo k t net net2 old.dialers new.dialers) (sym (add-one i)) (turned_due t net net1 net2 was.got redials.net i old.dialers mid.dialers new.dialers was.turned redials.dialers due);
       knows = knows_next net.opened i t net1 net2 mid.dialers new.dialers was.knows redials.net redials.dialers due known;
       young = λ x. young (was.young x);
+      waited = λ first opened le x. waited first opened (omega (arith, le, was.opened)) (was.waited first opened le x);
     }
 
     pub dialable_here : (start : Beginning) → InTurn seen start old net a t 0 → AllByRecursion (IsDialed (net.opened ≡ start.net.opened) (before_last_tick (past_of a.seen))) old.dialers → (e : Dialer) → slice_get mid.dialers i ≡ Some e → IsDialable e.addr
     dialable_here start x all e at = dialable_at (past_of a.seen) (before_last_tick (past_of a.seen)) t (ticks_at seen start old net a t 0 x) fits i i (net.opened ≡ start.net.opened) (net1.opened ≡ start.net.opened) old.dialers mid.dialers e all (was.dialers start x all) at
 
-    none_there : (start : Beginning) → InTurn seen start mid net1 b t 0 → 256 ≤ length mid.newcomers → net1.opened ≡ start.net.opened → ⊥
-    none_there start x many same = go mid.newcomers refl
-      where
-        go : (ns : List (Newcomer L)) → mid.newcomers ≡ ns → ⊥
-        go [] e = omega (arith, many, ap length e)
-        go (n ∷ ns) e =
-            let at : places seen (in_order 0 (n ∷ ns)) ≡ greeting (past_of b.seen) = subst (λ ms. places seen (in_order 0 ms) ≡ greeting (past_of b.seen)) e x.links.progressing.all in
-            let on : has (greeting (past_of b.seen)) (seen n.opening.link).place ≡ true = ap (λ (xs : List ℕ). has xs (seen n.opening.link).place) (sym at) ∙ rw (eq-eqb (seen n.opening.link).place (seen n.opening.link).place refl) refl in
-            let within = inside start.net.opened net1.opened (past_of b.seen) (seen n.opening.link).place x.links.kept.in_place on in
-            omega (arith, within.0, within.1, same)
-
-    -- after the last of them, or when so many are in progress
-    pub dialed_all : (start : Beginning) → InTurn seen start old net a t 0 → (ticks (before_last_tick (past_of a.seen)) ≡ [] → length old.newcomers ≤ length old.listeners) → (length old.dialers ≤ i) ⊎ ((i < length old.dialers) × (256 ≤ length mid.newcomers))
+    -- after the last of them
+    pub dialed_all : (start : Beginning) → InTurn seen start old net a t 0 → length old.dialers ≤ i
         → NetStands start (past_of a.seen) (before_last_tick (past_of a.seen)) net old.listeners old.dialers → NetStands start (past_of b.seen) (past_of b.seen) net1 mid.listeners mid.dialers
-    dialed_all start x few ended stands = record {
+    dialed_all start x ended stands = record {
       few = omega (arith, stands.few, ap length was.ends.listeners, was.lengths);
       listens = subst (AllByRecursion (IsListener net1)) (sym was.ends.listeners) (listens_still seen net net1 old.listeners was.listens stands.listens);
-      dials = dials ended;
+      dials = now_all (all_dialed (past_of a.seen) (before_last_tick (past_of a.seen)) t t_is fits i (net1.opened ≡ start.net.opened) old.dialers mid.dialers to ended);
       first = λ e. let some = subst (λ (ts : List ℕ). 0 < length ts) (sym (quiet_ticks a b was.quietly) ∙ e) x.ticked in absurd (omega (arith, some));
       idles = omega (arith, stands.idles, was.idles);
       faults = omega (arith, stands.faults, was.faults);
@@ -169,10 +236,6 @@ module _ {L : Type 0} (seen : L → LinkView) where
         to : DialedTo (past_of a.seen) i (net1.opened ≡ start.net.opened) old.dialers mid.dialers
         to = was.dialers start x stands.dials
 
-        nothing : (ts : List ℕ) → length ts ≤ 0 → ts ≡ []
-        nothing [] h = refl
-        nothing (y ∷ ts) h = absurd (omega (arith, h))
-
         now_all : AllByRecursion (IsDialed (net1.opened ≡ start.net.opened) (past_of a.seen)) mid.dialers → AllByRecursion (IsDialed (net1.opened ≡ start.net.opened) (past_of b.seen)) mid.dialers
         now_all all = mapped mid.dialers all
           where
@@ -183,10 +246,6 @@ module _ {L : Type 0} (seen : L → LinkView) where
             mapped [] h = tt
             mapped (d ∷ ds) h = (record { dialable = h.0.dialable; free = h.0.free; next = λ m. h.0.next m ∙ ap (λ ts. moment (next_from 0 ts)) (sym q); tries = λ m l. subst (λ ts. length (spaced_from 0 ts) ≤ d.tries) (sym q) (h.0.tries m (subst (λ ts. length ts < 2 ^ 64) q l)); once = λ l. h.0.once (subst (λ ts. 0 < length ts) q l); begun = λ e. h.0.begun (sym q ∙ e) }, mapped ds h.1)
 
-        dials : (length old.dialers ≤ i) ⊎ ((i < length old.dialers) × (256 ≤ length mid.newcomers)) → AllByRecursion (IsDialed (net1.opened ≡ start.net.opened) (past_of b.seen)) mid.dialers
-        dials (inl all) = now_all (all_dialed (past_of a.seen) (before_last_tick (past_of a.seen)) t t_is fits i (net1.opened ≡ start.net.opened) old.dialers mid.dialers to all)
-        dials (inr early) = now_all (rest_not_tried (past_of a.seen) (before_last_tick (past_of a.seen)) t t_is fits i (net.opened ≡ start.net.opened) (net1.opened ≡ start.net.opened) old.dialers mid.dialers stands.dials to (same_first start x) (none_there start (was.in_turn start x) early.1) (some (cases_lt 0 (length (ticks (before_last_tick (past_of a.seen)))))))
-          where
-            some : (0 < length (ticks (before_last_tick (past_of a.seen)))) ⊎ (length (ticks (before_last_tick (past_of a.seen))) ≤ 0) → 0 < length (ticks (before_last_tick (past_of a.seen)))
-            some (inl lt) = lt
-            some (inr le) = let f = few (nothing _ le) in absurd (omega (arith, f, early.0, early.1, was.few, stands.few))
+    -- each that was due was dialed
+    pub due_all : length old.dialers ≤ i → AsksDue t old.dialers net net1
+    due_all ended x y = let r = was.due x y in let e = dues_whole t i old.dialers ended in omega (arith, r, e)

@@ -19,7 +19,7 @@ use Rattle.sp_base.specs.declared.error.NoMemory.{NoMemory}
 use Rattle.sp_base.specs.declared.addr.Scheme.{Scheme}
 use Rattle.sp_history.specs.declared.entry.Miss.TheVariants as misses
 use Rattle.cat_play.specs.Recording.{met_at}
-use Rattle.sp_ends.specs.Standing.{Beginning, EndsView, IsOfRun, IsCauseOf, LinksKept, LinksStand, HandStands}
+use Rattle.sp_ends.specs.Standing.{Beginning, LinkEndsView, IsOfRun, IsCauseOf, LinksKept, LinksStand, HandStands}
 use Rattle.sp_ends.specs.Turning.{Quietly, InTurn, InTurnWith, IsNewcomer, Arrives}
 use Rattle.sp_ends.proofs.Hands.{link_met, met_then, hand_first}
 use Rattle.sp_ends.proofs.Turns.{first_play, quiet_one, quiet_now, quiet_ticks, sound_one, dry_first, after_one}
@@ -34,14 +34,14 @@ pub meets_dry : (place : ℕ) (a b : SingleView) → TookOne (MeetsAt place) a b
 meets_dry place a b took = dry_first (Met place) (MeetsAt place) a b took took.said
 
 -- a link that was handed out is in hand, once it is met
-pub met_hand : {L : Type 0} (seen : L → LinkView) (start : Beginning) (before net : NetView) (ends : EndsView L) (a b : SingleView) (t : ℕ) (link : LinkView) (place : ℕ) (scheme : Option Scheme) → place ≡ link.place → TookOne (MeetsAt place) a b → IsHandedOut link scheme before net → InTurn seen start ends before a t 0
+pub met_hand : {L : Type 0} (seen : L → LinkView) (start : Beginning) (before net : NetView) (ends : LinkEndsView L) (a b : SingleView) (t : ℕ) (link : LinkView) (place : ℕ) (scheme : Option Scheme) → place ≡ link.place → TookOne (MeetsAt place) a b → IsHandedOut link scheme before net → InTurn seen start ends before a t 0
     → HandStands seen b.setting start b.seen net ends.newcomers 0 link
 met_hand seen start before net ends a b t link place scheme at took handed i =
     let first : HasFirst (Met link.place) took.turn = subst (λ (p : ℕ). HasFirst (Met p) took.turn) at took.said in
     after_one (MeetsAt place) a b took (λ z h. HandStands seen z start h net ends.newcomers 0 link) (λ l. link_met seen a.setting start before net a.seen took.turn ends.newcomers link scheme handed first l i.links)
 
 -- it was met at this tick
-met_when : {L : Type 0} (seen : L → LinkView) (start : Beginning) (before net : NetView) (ends : EndsView L) (a b : SingleView) (t : ℕ) (link : LinkView) (place : ℕ) → place ≡ link.place → TookOne (MeetsAt place) a b → InTurn seen start ends before a t 0 → met_at (past_of b.seen) link.place ≡ Some t
+met_when : {L : Type 0} (seen : L → LinkView) (start : Beginning) (before net : NetView) (ends : LinkEndsView L) (a b : SingleView) (t : ℕ) (link : LinkView) (place : ℕ) → place ≡ link.place → TookOne (MeetsAt place) a b → InTurn seen start ends before a t 0 → met_at (past_of b.seen) link.place ≡ Some t
 met_when seen start before net ends a b t link place at took i =
     let first : HasFirst (Met link.place) took.turn = subst (λ (p : ℕ). HasFirst (Met p) took.turn) at took.said in
     after_one (MeetsAt place) a b took (λ z h. met_at (past_of h) link.place ≡ Some t) (λ l. met_then seen a.setting start before net a.seen took.turn link first l i.links.kept ∙ ap Some (sym i.now_is))
@@ -50,7 +50,7 @@ scheme_is : (a b : Scheme) → Some a ≡ Some b → a ≡ b
 scheme_is a b e = cc
 
 -- the newcomer over it stands before the others
-pub welcomed : {L : Type 0} (seen : L → LinkView) (start : Beginning) (before net : NetView) (ends : EndsView L) (a b : SingleView) (t : ℕ) (n : Newcomer L) (link : L) (place : ℕ) (role : Role) (way : Result Way NoMemory) (begins : Way) → place ≡ (seen link).place → way ≡ Ok begins → IsNewcomer seen link role begins t n → role ≡ ends.role
+pub welcomed : {L : Type 0} (seen : L → LinkView) (start : Beginning) (before net : NetView) (ends : LinkEndsView L) (a b : SingleView) (t : ℕ) (n : Newcomer L) (link : L) (place : ℕ) (role : Role) (way : Result Way NoMemory) (begins : Way) → place ≡ (seen link).place → way ≡ Ok begins → IsNewcomer seen link role begins t n → role ≡ ends.role
     → TookOne (MeetsAt place) a b → Arrives start.origins (seen link) way before net → InTurn seen start ends before a t 0 → InTurnWith seen start n ends net b t 0
 welcomed seen start before net ends a b t n link place role way begins place_is way_is newcomer role_is took r i =
     let quiet = meets_quiet place a b took in
@@ -100,5 +100,5 @@ module _ {L : Type 0} (seen : L → LinkView) (z : Setting) (start : Beginning) 
   pub same_links : (net net' : NetView) (ns : List (Newcomer L)) (k : ℕ) → Untouched net net' → LinksStand seen z start h net ns k → LinksStand seen z start h net' ns k
   same_links net net' ns k u s = record { kept = same_kept net net' u.opened u.back s.kept; progressing = s.progressing }
 
-pub untouched : {L : Type 0} (seen : L → LinkView) (start : Beginning) (ends : EndsView L) (net net' : NetView) (s : SingleView) (t k : ℕ) → Untouched net net' → InTurn seen start ends net s t k → InTurn seen start ends net' s t k
+pub untouched : {L : Type 0} (seen : L → LinkView) (start : Beginning) (ends : LinkEndsView L) (net net' : NetView) (s : SingleView) (t k : ℕ) → Untouched net net' → InTurn seen start ends net s t k → InTurn seen start ends net' s t k
 untouched seen start ends net net' s t k u i = record { role = i.role; links = same_links seen s.setting start s.seen net net' ends.newcomers k u i.links; of_run = i.of_run; now_is = i.now_is; ticked = i.ticked; few = i.few; sound = i.sound }

@@ -104,6 +104,14 @@ taken_out (y ∷ a) b x d = rw (other (y == x) refl) (ap (λ (ys : List ℕ). y 
 abbrev pub Over : List Entry → Type 0
 Over past = IsTrue (each is_over_link past)
 
+-- a pipe that isn't over lanes came up over a link in progress
+pub over_of : (past : List Entry) (place : ℕ) → (place ≡ lane_place → ⊥) → ((place == lane_place) || has (greeting past) place) ≡ true → has (greeting past) place ≡ true
+over_of past place n h = go (place == lane_place) refl h
+  where
+    go : (t : Bool) → (place == lane_place) ≡ t → (t || has (greeting past) place) ≡ true → has (greeting past) place ≡ true
+    go true e x = absurd (n (eqb-true place lane_place e))
+    go false e x = x
+
 module _ (first opened : ℕ) where
   abbrev pub Kept : List Entry → Type 0
   Kept past = IsTrue (each (keeps_places first opened) past)
@@ -249,46 +257,53 @@ module _ (first opened : ℕ) where
   others_missed (_ ∷ past) here k h = (tt, others_missed past here k h)
 
   module _ (few : first < opened → opened ≤ lane_place) where
-    -- a pipe came up over a link of the run
-    pub up_inside : (past : List Entry) (p place : ℕ) → Kept past → Over past → place_of past p ≡ Some place → (first ≤ place) × (place < opened)
-    up_inside [] p place k o h = cc
-    up_inside (Up q other name ∷ past) p place k o h = go (q == p) h (up_inside past p place (right_of _ _ k) (right_of _ _ o))
+    -- a pipe that isn't over lanes came up over a link of the run
+    pub up_inside : (past : List Entry) (p place : ℕ) → Kept past → Over past → place_of past p ≡ Some place → (place ≡ lane_place → ⊥) → (first ≤ place) × (place < opened)
+    up_inside [] p place k o h n = cc
+    up_inside (Up q other name ∷ past) p place k o h n = go (q == p) h (up_inside past p place (right_of _ _ k) (right_of _ _ o))
       where
-        go : (t : Bool) → cond t (Some other) (place_of past p) ≡ Some place → (place_of past p ≡ Some place → (first ≤ place) × (place < opened)) → (first ≤ place) × (place < opened)
-        go true e f = let same : other ≡ place = cc in subst (λ (m : ℕ). (first ≤ m) × (m < opened)) same (inside past other (right_of _ _ k) (left_of _ _ o))
-        go false e f = f e
-    up_inside (Met other ∷ past) p place k o h = up_inside past p place (right_of _ _ k) o h
-    up_inside (NoUp other miss ∷ past) p place k o h = up_inside past p place (right_of _ _ k) o h
-    up_inside (_ ∷ past) p place k o h = up_inside past p place k o h
+        go : (t : Bool) → cond t (Some other) (place_of past p) ≡ Some place → (place_of past p ≡ Some place → (place ≡ lane_place → ⊥) → (first ≤ place) × (place < opened)) → (first ≤ place) × (place < opened)
+        go true e f = let same : other ≡ place = cc in subst (λ (m : ℕ). (first ≤ m) × (m < opened)) same (inside past other (right_of _ _ k) (over_of past other (λ l. n (sym same ∙ l)) (left_of _ _ o)))
+        go false e f = f e n
+    up_inside (Met other ∷ past) p place k o h n = up_inside past p place (right_of _ _ k) o h n
+    up_inside (NoUp other miss ∷ past) p place k o h n = up_inside past p place (right_of _ _ k) o h n
+    up_inside (_ ∷ past) p place k o h n = up_inside past p place k o h n
 
     -- those that were missed are others than one that came up
-    pub others_up : (past : List Entry) (p here : ℕ) → Kept past → Over past → place_of past p ≡ Some here → Each (IsOther here) past
-    others_up [] p here k o h = tt
-    others_up (Up q other name ∷ past) p here k o h = (tt, go (q == p) h (others_up past p here (right_of _ _ k) (right_of _ _ o)))
+    pub others_up : (past : List Entry) (p here : ℕ) → Kept past → Over past → place_of past p ≡ Some here → (here ≡ lane_place → ⊥) → Each (IsOther here) past
+    others_up [] p here k o h n = tt
+    others_up (Up q other name ∷ past) p here k o h n = (tt, go (q == p) h (others_up past p here (right_of _ _ k) (right_of _ _ o)))
       where
-        go : (t : Bool) → cond t (Some other) (place_of past p) ≡ Some here → (place_of past p ≡ Some here → Each (IsOther here) past) → Each (IsOther here) past
-        go true e f = let same : other ≡ here = cc in others_missed past here (right_of _ _ k) (subst (λ (m : ℕ). has (greeting past) m ≡ true) same (left_of _ _ o))
-        go false e f = f e
-    others_up (Met other ∷ past) p here k o h = (tt, others_up past p here (right_of _ _ k) o h)
-    others_up (NoUp other miss ∷ past) p here k o h = (no_place past other here (left_of _ _ k) (passed past p here (right_of _ _ k) few h), others_up past p here (right_of _ _ k) o h)
-    others_up (_ ∷ past) p here k o h = (tt, others_up past p here k o h)
+        go : (t : Bool) → cond t (Some other) (place_of past p) ≡ Some here → (place_of past p ≡ Some here → (here ≡ lane_place → ⊥) → Each (IsOther here) past) → Each (IsOther here) past
+        go true e f = let same : other ≡ here = cc in others_missed past here (right_of _ _ k) (subst (λ (m : ℕ). has (greeting past) m ≡ true) same (over_of past other (λ l. n (sym same ∙ l)) (left_of _ _ o)))
+        go false e f = f e n
+    others_up (Met other ∷ past) p here k o h n = (tt, others_up past p here (right_of _ _ k) o h n)
+    others_up (NoUp other miss ∷ past) p here k o h n = (no_place past other here (left_of _ _ k) (passed past p here (right_of _ _ k) few h), others_up past p here (right_of _ _ k) o h n)
+    others_up (_ ∷ past) p here k o h n = (tt, others_up past p here k o h n)
 
     -- over a link one pipe comes up
-    pub up_once : (past : List Entry) (p q place : ℕ) → Kept past → Over past → place_of past p ≡ Some place → place_of past q ≡ Some place → p ≡ q
-    up_once [] p q place k o h g = cc
-    up_once (Up s other name ∷ past) p q place k o h g = go (s == p) refl (s == q) refl h g (up_once past p q place (right_of _ _ k) (right_of _ _ o))
+    pub up_once : (past : List Entry) (p q place : ℕ) → Kept past → Over past → place_of past p ≡ Some place → place_of past q ≡ Some place → (place ≡ lane_place → ⊥) → p ≡ q
+    up_once [] p q place k o h g n = cc
+    up_once (Up s other name ∷ past) p q place k o h g n = go (s == p) refl (s == q) refl h g (up_once past p q place (right_of _ _ k) (right_of _ _ o))
       where
-        there : has (greeting past) other ≡ true
-        there = left_of _ _ o
-
         clash : (r : ℕ) → other ≡ place → place_of past r ≡ Some place → ⊥
-        clash r e x = let no = passed past r place (right_of (keeps_places first opened past (Up s other name)) (each (keeps_places first opened) past) k) few x in no_place past other place there no e
+        clash r e x =
+            let there : has (greeting past) other ≡ true = over_of past other (λ l. n (sym e ∙ l)) (left_of _ _ o) in
+            let no = passed past r place (right_of (keeps_places first opened past (Up s other name)) (each (keeps_places first opened) past) k) few x in no_place past other place there no e
 
-        go : (t : Bool) → (s == p) ≡ t → (u : Bool) → (s == q) ≡ u → cond t (Some other) (place_of past p) ≡ Some place → cond u (Some other) (place_of past q) ≡ Some place → (place_of past p ≡ Some place → place_of past q ≡ Some place → p ≡ q) → p ≡ q
+        go : (t : Bool) → (s == p) ≡ t → (u : Bool) → (s == q) ≡ u → cond t (Some other) (place_of past p) ≡ Some place → cond u (Some other) (place_of past q) ≡ Some place → (place_of past p ≡ Some place → place_of past q ≡ Some place → (place ≡ lane_place → ⊥) → p ≡ q) → p ≡ q
         go true e true f x y before = sym (eqb-true s p e) ∙ eqb-true s q f
         go true e false f x y before = let same : other ≡ place = cc in absurd (clash q same y)
         go false e true f x y before = let same : other ≡ place = cc in absurd (clash p same x)
-        go false e false f x y before = before x y
-    up_once (Met other ∷ past) p q place k o h g = up_once past p q place (right_of _ _ k) o h g
-    up_once (NoUp other miss ∷ past) p q place k o h g = up_once past p q place (right_of _ _ k) o h g
-    up_once (_ ∷ past) p q place k o h g = up_once past p q place k o h g
+        go false e false f x y before = before x y n
+    up_once (Met other ∷ past) p q place k o h g n = up_once past p q place (right_of _ _ k) o h g n
+    up_once (NoUp other miss ∷ past) p q place k o h g n = up_once past p q place (right_of _ _ k) o h g n
+    up_once (_ ∷ past) p q place k o h g n = up_once past p q place k o h g n
+
+    -- no link has the place of lanes
+    pub no_lane : (past : List Entry) → Kept past → has (greeting past) lane_place ≡ false
+    no_lane past k = go (has (greeting past) lane_place) refl
+      where
+        go : (t : Bool) → has (greeting past) lane_place ≡ t → has (greeting past) lane_place ≡ false
+        go false e = e
+        go true e = let b = inside past lane_place k e in let f = few (omega (arith, b.0, b.1)) in absurd (omega (arith, b.1, f))

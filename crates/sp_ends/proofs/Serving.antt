@@ -16,19 +16,19 @@ use Rattle.sp_history.proofs.Wiring.{has_before, has_more}
 use Rattle.sp_core.specs.Moving.{AreSettling}
 use Rattle.sp_core.specs.Standing.{HasFirst}
 use Rattle.sp_single.specs.Singles.{SingleView, TookOne}
-use Rattle.cat_play.specs.Recording.{place_of}
+use Rattle.cat_play.specs.Recording.{lane_place, place_of}
 use Rattle.sp_ends.specs.declared.newcomer.Newcomer.{Newcomer}
 use Rattle.sp_ends.specs.declared.listener.Listener.{Listener}
 use Rattle.sp_ends.specs.declared.dialer.Dialer.{Dialer}
 use Rattle.sp_base.specs.declared.addr.Addr.{Addr}
 use Rattle.link_opening.specs.Origins.{Origins, IsAmong}
-use Rattle.sp_ends.specs.Standing.{Beginning, EndsView, AreOfRun, LinksStand, HasCarried, IsAskedIn, SameCounts}
+use Rattle.sp_ends.specs.Standing.{Beginning, LinkEndsView, AreOfRun, LinksStand, HasCarried, IsAskedIn, SameCounts}
 use Rattle.sp_ends.specs.Turning.{Quietly, IsSound, InTurn, InTurnWith, SameEnds, IsSameDialer, AreSameDialers, SameButPlaces, Serves, DialsOne, addrs_of}
 use Rattle.sp_ends.proofs.Places.{gone}
 use Rattle.sp_ends.proofs.Leaving.{has_other}
 use Rattle.sp_ends.proofs.Standing.{settles, links_stay, are_progressing}
 use Rattle.sp_ends.proofs.Stepping.{greeting_after, met_after, greeting_ticks_after}
-use Rattle.sp_ends.proofs.Moves.{kept_taken}
+use Rattle.sp_ends.proofs.Moves.{kept_taken, kept_lane_taken}
 use Rattle.sp_ends.proofs.Turns.{quiet_both, quiet_none, quiet_now, quiet_ticks, after_one}
 
 -- ---- The same ends
@@ -88,7 +88,7 @@ same_addrs P (c ∷ ds) (d ∷ es) e all = (subst P (sym (first_is d.addr c.addr
     rest_is a b xs ys e = cc
 
 -- the ends are the run's, later too
-pub of_run_on : {L : Type 0} (o : Origins) (old new : EndsView L) → SameEnds old new → AreOfRun o old → AreOfRun o new
+pub of_run_on : {L : Type 0} (o : Origins) (old new : LinkEndsView L) → SameEnds old new → AreOfRun o old → AreOfRun o new
 of_run_on o old new same r =
     record {
       listens = subst (AllByRecursion (λ (l : Listener). IsAmong l.addr o.listens)) (sym same.listeners) r.listens;
@@ -145,36 +145,44 @@ down_off z (Down q other ∷ past) p why a h = go (q == p) refl h (down_off z pa
 down_off z (_ ∷ past) p why a h = down_off z past p why a.1 h
 
 module _ {L : Type 0} where
-  pub ends_none : (a : EndsView L) → SameEnds a a
+  pub ends_none : (a : LinkEndsView L) → SameEnds a a
   ends_none a = record { role = refl; dice = refl; listeners = refl; dials = refl }
 
-  pub ends_both : (a b c : EndsView L) → SameEnds a b → SameEnds b c → SameEnds a c
+  pub ends_both : (a b c : LinkEndsView L) → SameEnds a b → SameEnds b c → SameEnds a c
   ends_both a b c x y = record { role = y.role ∙ x.role; dice = y.dice ∙ x.dice; listeners = y.listeners ∙ x.listeners; dials = y.dials ∙ x.dials }
 
-  pub ends_lost : (a b : EndsView L) → SameButPlaces a b → SameEnds a b
-  ends_lost a b x = record { role = ap (λ (e : EndsView L). e.role) x.ends; dice = ap (λ (e : EndsView L). e.dice) x.ends; listeners = ap (λ (e : EndsView L). e.listeners) x.ends; dials = dialers_addrs a.dialers b.dialers x.dialers }
+  pub ends_lost : (a b : LinkEndsView L) → SameButPlaces a b → SameEnds a b
+  ends_lost a b x = record { role = ap (λ (e : LinkEndsView L). e.role) x.ends; dice = ap (λ (e : LinkEndsView L). e.dice) x.ends; listeners = ap (λ (e : LinkEndsView L). e.listeners) x.ends; dials = dialers_addrs a.dialers b.dialers x.dialers }
 
-  pub newcomers_lost : (a b : EndsView L) → SameButPlaces a b → b.newcomers ≡ a.newcomers
-  newcomers_lost a b x = ap (λ (e : EndsView L). e.newcomers) x.ends
+  pub newcomers_lost : (a b : LinkEndsView L) → SameButPlaces a b → b.newcomers ≡ a.newcomers
+  newcomers_lost a b x = ap (λ (e : LinkEndsView L). e.newcomers) x.ends
 
-  pub serves_both : (a b c : EndsView L) (n m o : NetView) (s t u : SingleView) → Serves a b n m s t → Serves b c m o t u → Serves a c n o s u
+  pub serves_both : (a b c : LinkEndsView L) (n m o : NetView) (s t u : SingleView) → Serves a b n m s t → Serves b c m o t u → Serves a c n o s u
   serves_both a b c n m o s t u x y =
       record { ends = ends_both a b c x.ends y.ends; dialers = dialers_both a.dialers b.dialers c.dialers x.dialers y.dialers; counts = counts_both n m o x.counts y.counts; quietly = quiet_both s t u x.quietly y.quietly }
 
   -- ---- On in the turn
 
-  pub turn_on : (seen : L → LinkView) (start : Beginning) (old new : EndsView L) (net net' : NetView) (time k k' : ℕ) (a b : SingleView) → SameEnds old new → Quietly a b → IsSound b → length new.newcomers ≤ 256 → InTurn seen start old net a time k → LinksStand seen b.setting start b.seen net' new.newcomers k' → InTurn seen start new net' b time k'
+  pub turn_on : (seen : L → LinkView) (start : Beginning) (old new : LinkEndsView L) (net net' : NetView) (time k k' : ℕ) (a b : SingleView) → SameEnds old new → Quietly a b → IsSound b → length new.newcomers ≤ 320 → InTurn seen start old net a time k → LinksStand seen b.setting start b.seen net' new.newcomers k' → InTurn seen start new net' b time k'
   turn_on seen start old new net net' time k k' a b same quiet sound few i links =
       record { role = same.role ∙ (i.role ∙ ap (λ (z : Setting). z.role) (sym quiet.setting)); links = links; of_run = of_run_on start.origins old new same i.of_run; now_is = quiet_now time a b quiet i.now_is; ticked = subst (λ (ts : List ℕ). 0 < length ts) (sym (quiet_ticks a b quiet)) i.ticked; few = few; sound = sound }
 
   -- ---- A wire is taken
 
   module _ (seen : L → LinkView) (start : Beginning) (ns : List (Newcomer L)) (k : ℕ) (says : Setting → List (Turn Entry) → Turn Entry → Type 0) (a b : SingleView) (took : TookOne says a b) where
-    pub taken_stands : (net net' : NetView) (p : ℕ) (link : LinkView) → AfterGiveBack link net net' → place_of (past_of a.seen) p ≡ Some link.place → has (up (past_of a.seen)) p ≡ false → link.is_open ≡ false → IsAskedIn (past_of a.seen) link.place link → HasCarried start.origins a.setting a.seen p link → HasFirst (Taken p) took.turn → LinksStand seen a.setting start a.seen net ns k → LinksStand seen b.setting start b.seen net' ns k
-    taken_stands net net' p link back is off shut asked carries first s =
+    pub taken_stands : (net net' : NetView) (p : ℕ) (link : LinkView) → AfterGiveBack link net net' → place_of (past_of a.seen) p ≡ Some link.place → (link.place ≡ lane_place → ⊥) → has (up (past_of a.seen)) p ≡ false → link.is_open ≡ false → IsAskedIn (past_of a.seen) link.place link → HasCarried start.origins a.setting a.seen p link → HasFirst (Taken p) took.turn → LinksStand seen a.setting start a.seen net ns k → LinksStand seen b.setting start b.seen net' ns k
+    taken_stands net net' p link back is no_lane off shut asked carries first s =
         after_one says a b took (λ z h. LinksStand seen z start h net' ns k) (λ l. record {
-          kept = kept_taken a.setting start net net' a.seen took.turn p link back is off shut asked carries first l s.kept;
+          kept = kept_taken a.setting start net net' a.seen took.turn p link back is no_lane off shut asked carries first l s.kept;
           progressing = are_progressing seen start.origins a.setting (past_of a.seen) (past_of (a.seen ++ took.turn ∷ [])) (met_after a.setting start net net' a.seen took.turn (Taken p) first refl l s.kept) (greeting_ticks_after a.setting start net net' a.seen took.turn (Taken p) first refl l s.kept) k ns (greeting_after a.setting start net net' a.seen took.turn (Taken p) first refl l s.kept) s.progressing;
+        })
+
+    -- the wire of a lane was taken
+    pub lane_taken : (net : NetView) (p : ℕ) → place_of (past_of a.seen) p ≡ Some lane_place → HasFirst (Taken p) took.turn → LinksStand seen a.setting start a.seen net ns k → LinksStand seen b.setting start b.seen net ns k
+    lane_taken net p is first s =
+        after_one says a b took (λ z h. LinksStand seen z start h net ns k) (λ l. record {
+          kept = kept_lane_taken a.setting start net a.seen took.turn p is first l s.kept;
+          progressing = are_progressing seen start.origins a.setting (past_of a.seen) (past_of (a.seen ++ took.turn ∷ [])) (met_after a.setting start net net a.seen took.turn (Taken p) first refl l s.kept) (greeting_ticks_after a.setting start net net a.seen took.turn (Taken p) first refl l s.kept) k ns (greeting_after a.setting start net net a.seen took.turn (Taken p) first refl l s.kept) s.progressing;
         })
 
     -- nothing was taken
@@ -184,16 +192,16 @@ module _ {L : Type 0} where
   -- ---- Greetings
 
   -- the first of the newcomers is taken out
-  pub turn_with : (seen : L → LinkView) (start : Beginning) (n : Newcomer L) (rest : List (Newcomer L)) (old new : EndsView L) (net : NetView) (time k k' : ℕ) (a : SingleView) → old.newcomers ≡ n ∷ rest → new ≡ record old { newcomers = rest } → k ≡ suc k' → InTurn seen start old net a time k → InTurnWith seen start n new net a time k'
+  pub turn_with : (seen : L → LinkView) (start : Beginning) (n : Newcomer L) (rest : List (Newcomer L)) (old new : LinkEndsView L) (net : NetView) (time k k' : ℕ) (a : SingleView) → old.newcomers ≡ n ∷ rest → new ≡ record old { newcomers = rest } → k ≡ suc k' → InTurn seen start old net a time k → InTurnWith seen start n new net a time k'
   turn_with seen start n rest old new net time k k' a first is one i =
-      subst (λ (e : EndsView L). InTurnWith seen start n e net a time k') (sym is) (record { role = i.role; links = subst (λ (m : ℕ). LinksStand seen a.setting start a.seen net (n ∷ rest) m) one (subst (λ (ns : List (Newcomer L)). LinksStand seen a.setting start a.seen net ns k) first i.links); of_run = record { listens = i.of_run.listens; dials = i.of_run.dials; dice = i.of_run.dice }; now_is = i.now_is; ticked = i.ticked; sound = i.sound })
+      subst (λ (e : LinkEndsView L). InTurnWith seen start n e net a time k') (sym is) (record { role = i.role; links = subst (λ (m : ℕ). LinksStand seen a.setting start a.seen net (n ∷ rest) m) one (subst (λ (ns : List (Newcomer L)). LinksStand seen a.setting start a.seen net ns k) first i.links); of_run = record { listens = i.of_run.listens; dials = i.of_run.dials; dice = i.of_run.dice }; now_is = i.now_is; ticked = i.ticked; sound = i.sound })
 
   -- what became of it
-  pub turn_after : (seen : L → LinkView) (start : Beginning) (n : Newcomer L) (old new : EndsView L) (net net' : NetView) (time k k' : ℕ) (a b : SingleView) → SameEnds old new → Quietly a b → IsSound b → length new.newcomers ≤ 256 → InTurnWith seen start n old net a time k → LinksStand seen b.setting start b.seen net' new.newcomers k' → InTurn seen start new net' b time k'
+  pub turn_after : (seen : L → LinkView) (start : Beginning) (n : Newcomer L) (old new : LinkEndsView L) (net net' : NetView) (time k k' : ℕ) (a b : SingleView) → SameEnds old new → Quietly a b → IsSound b → length new.newcomers ≤ 320 → InTurnWith seen start n old net a time k → LinksStand seen b.setting start b.seen net' new.newcomers k' → InTurn seen start new net' b time k'
   turn_after seen start n old new net net' time k k' a b same quiet sound few i links =
       record { role = same.role ∙ (i.role ∙ ap (λ (z : Setting). z.role) (sym quiet.setting)); links = links; of_run = of_run_on start.origins old new same i.of_run; now_is = quiet_now time a b quiet i.now_is; ticked = subst (λ (ts : List ℕ). 0 < length ts) (sym (quiet_ticks a b quiet)) i.ticked; few = few; sound = sound }
 
   -- some newcomers less
-  pub serves_less : (old new : EndsView L) (net : NetView) (s : SingleView) (rest : List (Newcomer L)) → new ≡ record old { newcomers = rest } → Serves old new net net s s
+  pub serves_less : (old new : LinkEndsView L) (net : NetView) (s : SingleView) (rest : List (Newcomer L)) → new ≡ record old { newcomers = rest } → Serves old new net net s s
   serves_less old new net s rest is =
-      subst (λ (e : EndsView L). Serves old e net net s s) (sym is) (record { ends = record { role = refl; dice = refl; listeners = refl; dials = refl }; dialers = same_dialers old.dialers; counts = counts_none net; quietly = quiet_none s })
+      subst (λ (e : LinkEndsView L). Serves old e net net s s) (sym is) (record { ends = record { role = refl; dice = refl; listeners = refl; dials = refl }; dialers = same_dialers old.dialers; counts = counts_none net; quietly = quiet_none s })

@@ -22,7 +22,7 @@ use Rattle.sp_ends.specs.declared.listener.Listener.{Listener}
 use Rattle.sp_ends.specs.declared.dialer.Dialer.{Dialer}
 use Rattle.link_opening.specs.Origins.{Origins}
 use Rattle.sp_ends.specs.Dialing.{IsDialed}
-use Rattle.sp_ends.specs.Standing.{Beginning, IsProgressing, WasGreeted, AreProgressing, LinksStand, NetStands, EndsView, EndsStand}
+use Rattle.sp_ends.specs.Standing.{Beginning, IsProgressing, WasGreeted, AreProgressing, LinksStand, NetStands, LinkEndsView, EndsStand}
 use Rattle.sp_ends.proofs.Leaving.{past_of_more, NoneIn, turns_leave, moves_links}
 use Rattle.sp_ends.proofs.Places.{left_of, right_of}
 use Rattle.sp_ends.proofs.Keeping.{kept, legal_rest, greeting_is, met_is}
@@ -172,11 +172,11 @@ module _ {L : Type 0} (seen : L → LinkView) (z : Setting) (h turns : List (Tur
     net_stays listeners dialers n = net_same start net listeners dialers (past_of h) (past_of h) (past_of (h ++ turns)) (past_of (h ++ turns)) ticks_are (asked_are has_room) ticks_are n
 
     -- between two rounds
-    pub ends_stay : (ends : EndsView L) → EndsStand seen z start h net ends → EndsStand seen z start (h ++ turns) net ends
+    pub ends_stay : (ends : LinkEndsView L) → EndsStand seen z start h net ends → EndsStand seen z start (h ++ turns) net ends
     ends_stay ends s =
         record { role = s.role; links = links_stay ends.newcomers 0 s.links; asked = net_stays ends.listeners ends.dialers s.asked; of_run = s.of_run; few = s.few }
 
 -- the same, where the later history is given
-pub linkless : {L : Type 0} (seen : L → LinkView) (z : Setting) (start : Beginning) (net : NetView) (h h' : List (Turn Entry)) (ends : EndsView L) → AddsNone moves_ends h h' → Legal z h' → EndsStand seen z start h net ends → EndsStand seen z start h' net ends
+pub linkless : {L : Type 0} (seen : L → LinkView) (z : Setting) (start : Beginning) (net : NetView) (h h' : List (Turn Entry)) (ends : LinkEndsView L) → AddsNone moves_ends h h' → Legal z h' → EndsStand seen z start h net ends → EndsStand seen z start h' net ends
 linkless seen z start net h h' ends (turns, is, none) l s =
     subst (λ (g : List (Turn Entry)). EndsStand seen z start g net ends) (sym is) (ends_stay seen z h turns none start net (subst (λ (g : List (Turn Entry)). Legal z g) is l) ends s)

@@ -115,8 +115,8 @@ module _ (z : Setting) (start : Beginning) (net net' : NetView) (h : List (Turn 
       carried_over z h (t ∷ []) start.origins p link s bad cl c
 
   -- so far it is held, or back
-  pub held_after : (p place : ℕ) → (IsHeld (past_of h) p → IsHeld (e ∷ past_of h) p) → get net'.back place ≡ get net.back place → place_of (past_of h) p ≡ Some place → IsHeld (e ∷ past_of h) p ⊎ IsBackAfter p place
-  held_after p place still same is = go (k.carried p place is)
+  pub held_after : (p place : ℕ) → (IsHeld (past_of h) p → IsHeld (e ∷ past_of h) p) → get net'.back place ≡ get net.back place → place_of (past_of h) p ≡ Some place → (place ≡ lane_place → ⊥) → IsHeld (e ∷ past_of h) p ⊎ IsBackAfter p place
+  held_after p place still same is n = go (k.carried p place is n)
     where
       go : IsCarried start.origins z h net p place → IsHeld (e ∷ past_of h) p ⊎ IsBackAfter p place
       go (inl x) = inl (still (inl x))
@@ -141,7 +141,7 @@ module _ (z : Setting) (start : Beginning) (net net' : NetView) (h : List (Turn 
     pub somewhere : (place : ℕ) → start.net.opened ≤ place → place < net'.opened → IsSomewhere net' (e ∷ past_of h) place
     pub stays : (place : ℕ) → (place ≡ here → ⊥) → get net'.back place ≡ get net.back place
     pub others_missed : Each (IsOther start.net.opened net'.opened here) (past_of h)
-    pub carried : (p place : ℕ) → place_of (e ∷ past_of h) p ≡ Some place → IsHeld (e ∷ past_of h) p ⊎ IsBackAfter p place
+    pub carried : (p place : ℕ) → place_of (e ∷ past_of h) p ≡ Some place → (place ≡ lane_place → ⊥) → IsHeld (e ∷ past_of h) p ⊎ IsBackAfter p place
     pub others : KeepsOthers start.net net'
 
   module _ (s : Steps) where
@@ -191,6 +191,6 @@ module _ (z : Setting) (start : Beginning) (net net' : NetView) (h : List (Turn 
           met = λ place a b. ap is_some (met_after place) ∙ s.met place a b;
           somewhere = λ place a b. somewhere_late place (s.somewhere place a b);
           missed = all_late (HasCause (run_ways z.role start.origins) z (h ++ t ∷ []) net'.back) (free_cause (run_ways z.role start.origins) z (h ++ t ∷ []) net'.back) (s.cause, causes);
-          carried = λ p place is. carried_late p place (s.carried p place (sym (place_after p) ∙ is));
+          carried = λ p place is n. carried_late p place (s.carried p place (sym (place_after p) ∙ is) n);
           others = s.others;
         }

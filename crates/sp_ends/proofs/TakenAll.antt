@@ -66,7 +66,7 @@ module _ (z : Setting) (p : ℕ) where
   allowed_onto [] past a = a
   allowed_onto (e ∷ entries) past a = (allowed_onto entries (e ∷ past) a).1
 
-  off_onto : (t : Bool) (entries past : List Entry) → AreAllowed z (onto entries past) → IsOff t past p → IsOff t (onto entries past) p
+  pub off_onto : (t : Bool) (entries past : List Entry) → AreAllowed z (onto entries past) → IsOff t past p → IsOff t (onto entries past) p
   off_onto t [] past a x = x
   off_onto t (e ∷ entries) past a x = off_onto t entries (e ∷ past) a (off_one t e past (allowed_onto entries (e ∷ past) a) x)
 

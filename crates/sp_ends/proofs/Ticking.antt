@@ -19,7 +19,7 @@ use Rattle.cat_play.specs.Recording.{greeting}
 use Rattle.cat_play.specs.Spending.{greeting_ticks, ticks_where, has_room}
 use Rattle.cat_play.specs.Steps.{moves_ends}
 use Rattle.sp_ends.specs.declared.newcomer.Newcomer.{Newcomer}
-use Rattle.sp_ends.specs.Standing.{Beginning, IsProgressing, WasGreeted, AreProgressing, places, in_order, EndsView, EndsStand}
+use Rattle.sp_ends.specs.Standing.{Beginning, IsProgressing, WasGreeted, AreProgressing, places, in_order, LinkEndsView, EndsStand}
 use Rattle.sp_ends.specs.Turning.{EndsTicked}
 use Rattle.sp_ends.proofs.Leaving.{moves_links, NoneIn, entries_leave}
 use Rattle.sp_ends.proofs.Keeping.{kept, legal_rest, greeting_is, met_is}
@@ -69,14 +69,14 @@ module _ {L : Type 0} (seen : L → LinkView) (z : Setting) (start : Beginning) 
   places_long [] = refl
   places_long (n ∷ ns) = ap suc (places_long ns)
 
-  newcomers_few : (ends : EndsView L) → AreProgressing seen start.origins z (past_of h) 0 ends.newcomers → has_room (past_of h) ≡ true → length ends.newcomers ≤ 192
+  newcomers_few : (ends : LinkEndsView L) → AreProgressing seen start.origins z (past_of h) 0 ends.newcomers → has_room (past_of h) ≡ true → length ends.newcomers ≤ 192
   newcomers_few ends a r =
       let few : length (greeting (past_of h)) ≤ 192 = leb-true (length (greeting (past_of h))) 192 r in
       let same = ap length a.all in
       let one = places_long (ends.newcomers ++ []) in
       let two = length-append ends.newcomers (take 0 ends.newcomers) in omega (arith, few, same, one, two)
 
-  pub ticked : (ends : EndsView L) → Legal z (h ++ t ∷ []) → EndsStand seen z start h net ends → EndsTicked seen z start (h ++ t ∷ []) net ends
+  pub ticked : (ends : LinkEndsView L) → Legal z (h ++ t ∷ []) → EndsStand seen z start h net ends → EndsTicked seen z start (h ++ t ∷ []) net ends
   ticked ends l s =
       record {
         role = s.role;

@@ -1,27 +1,24 @@
 -- The parts of a turn of the ends, put together.
-use Rattle.std.proofs.Common.{◌≡◌, ◌≤◌, ◌+◌, ◌*◌, ℕ, true, List, [], ◌∷◌, length, refl, sym, ap, subst, ◌∙◌, arith}
-use Rattle.std.specs.Prelude.{is_some}
-use Rattle.std.specs.List.{AllByRecursion}
+use Rattle.std.proofs.Common.{◌≡◌, ◌≤◌, ◌+◌, ◌*◌, ℕ, Bool, true, List, [], ◌∷◌, length, refl, sym, ap, subst, ◌∙◌, arith}
 use Rattle.std.specs.FinMap.{get}
 use Rattle.sp_base.specs.Views.{LinkView, NetView}
 use Rattle.sp_history.specs.declared.entry.Entry.{Entry}
-use Rattle.sp_history.specs.Found.{before_last_tick, ticks}
+use Rattle.sp_history.specs.Found.{before_last_tick}
 use Rattle.sp_history.specs.Past.{past_of}
 use Rattle.sp_single.specs.Singles.{SingleView}
 use Rattle.cat_play.specs.Running.{has_dry_miss}
 use Rattle.cat_play.specs.Spending.{has_room, ticks_where}
 use Rattle.sp_ends.specs.declared.listener.Listener.{Listener}
 use Rattle.sp_ends.specs.declared.dialer.Dialer.{Dialer}
-use Rattle.sp_ends.specs.declared.newcomer.Newcomer.{Newcomer}
-use Rattle.sp_ends.specs.Standing.{Beginning, EndsView, NetStands, EndsStand, WasGreeted, IsListener, SameCounts, sum_of, tries_of}
+use Rattle.sp_ends.specs.Standing.{Beginning, LinkEndsView, NetStands, EndsStand, IsListener, SameCounts, sum_of, tries_of}
 use Rattle.sp_ends.specs.Freeing.{Frees}
-use Rattle.sp_ends.specs.Turning.{EndsTicked, Quietly, IsNow, IsSound, SameEnds, AreSameDialers, InTurn, Serves}
-use Rattle.sp_ends.proofs.Places.{met_inside}
+use Rattle.sp_ends.specs.Turning.{EndsTicked, Quietly, IsNow, IsSound, SameEnds, AreSameDialers, InTurn, Serves, HasAsked, AsksDue, AsksAll, dues_of}
 use Rattle.sp_ends.proofs.Standing.{all_mapped}
 use Rattle.sp_ends.proofs.Serving.{dialers_long, ends_none, same_dialers, counts_none, serves_both}
 use Rattle.sp_ends.proofs.Turns.{quiet_before, quiet_none}
 use Rattle.sp_ends.proofs.Freeing.{frees_none, frees_both}
-use Rattle.sp_ends.proofs.NewcomingAsks.{all_still, same_tries}
+use Rattle.sp_ends.proofs.NewcomingAsks.{all_still, same_tries, rose_all}
+use Rattle.sp_ends.proofs.NewcomingRounds.{dues_same}
 
 -- ---- The net over a part that asks it for no link
 
@@ -44,7 +41,7 @@ module _ (start : Beginning) (net net' : NetView) (asked dialed : List Entry) (l
             subst (λ (m : ℕ). sum_of start.net + length ls * ticks_where has_room asked + tries_of es ≤ m) (sym sum_same) (subst (λ (m : ℕ). sum_of start.net + length ls * ticks_where has_room asked + m ≤ sum_of net) (sym (same_tries ds es s)) r);
       }
 
-pub serves_net : {L : Type 0} (start : Beginning) (ends ends' : EndsView L) (net net' : NetView) (s s' : SingleView) → Serves ends ends' net net' s s'
+pub serves_net : {L : Type 0} (start : Beginning) (ends ends' : LinkEndsView L) (net net' : NetView) (s s' : SingleView) → Serves ends ends' net net' s s'
     → NetStands start (before_last_tick (past_of s.seen)) (before_last_tick (past_of s.seen)) net ends.listeners ends.dialers
     → NetStands start (before_last_tick (past_of s'.seen)) (before_last_tick (past_of s'.seen)) net' ends'.listeners ends'.dialers
 serves_net start ends ends' net net' s s' v n =
@@ -55,31 +52,34 @@ serves_net start ends ends' net net' s s' v n =
 -- ---- Wires that are taken one by one
 
 -- what stands so far
-pub record StillTakes {L : Type 0} (seen : L → LinkView) (first ends : EndsView L) (net net' : NetView) (s s' : SingleView) (now : ℕ) : Type 0 where
+pub record StillTakes {L : Type 0} (seen : L → LinkView) (first ends : LinkEndsView L) (net net' : NetView) (s s' : SingleView) (now : ℕ) : Type 0 where
   pub in_turn : (start : Beginning) → InTurn seen start first net s now (length first.newcomers) → InTurn seen start ends net' s' now (length ends.newcomers)
   pub few : length ends.newcomers ≤ length first.newcomers
+  pub newcomers : ends.newcomers ≡ first.newcomers
   pub serves : Serves first ends net net' s s'
   pub frees : Frees now net net' first.dialers ends.dialers
   pub dry : has_dry_miss (past_of s'.seen) ≡ has_dry_miss (past_of s.seen)
 
-module _ {L : Type 0} (seen : L → LinkView) (first : EndsView L) (net : NetView) (s : SingleView) (now : ℕ) where
+module _ {L : Type 0} (seen : L → LinkView) (first : LinkEndsView L) (net : NetView) (s : SingleView) (now : ℕ) where
   pub takes_none : StillTakes seen first first net net s s now
   takes_none =
       record {
         in_turn = λ start i. i;
         few = omega arith;
+        newcomers = refl;
         serves = record { ends = ends_none first; dialers = same_dialers first.dialers; counts = counts_none net; quietly = quiet_none s };
         frees = frees_none now net net first.dialers first.dialers (omega arith) refl refl;
         dry = refl;
       }
 
-  pub takes_more : (ends ends' : EndsView L) (net' net'' : NetView) (s' s'' : SingleView) → StillTakes seen first ends net net' s s' now
+  pub takes_more : (ends ends' : LinkEndsView L) (net' net'' : NetView) (s' s'' : SingleView) → StillTakes seen first ends net net' s s' now
       → ((start : Beginning) → InTurn seen start ends net' s' now (length ends.newcomers) → InTurn seen start ends' net'' s'' now (length ends'.newcomers))
-      → length ends'.newcomers ≤ length ends.newcomers → Serves ends ends' net' net'' s' s'' → Frees now net' net'' ends.dialers ends'.dialers → has_dry_miss (past_of s''.seen) ≡ has_dry_miss (past_of s'.seen) → StillTakes seen first ends' net net'' s s'' now
-  takes_more ends ends' net' net'' s' s'' t step few serves frees dry =
+      → length ends'.newcomers ≤ length ends.newcomers → ends'.newcomers ≡ ends.newcomers → Serves ends ends' net' net'' s' s'' → Frees now net' net'' ends.dialers ends'.dialers → has_dry_miss (past_of s''.seen) ≡ has_dry_miss (past_of s'.seen) → StillTakes seen first ends' net net'' s s'' now
+  takes_more ends ends' net' net'' s' s'' t step few newcomers serves frees dry =
       record {
         in_turn = λ start i. step start (t.in_turn start i);
         few = let f = t.few in omega (arith, few, f);
+        newcomers = newcomers ∙ t.newcomers;
         serves = serves_both first ends ends' net net' net'' s s' s'' t.serves serves;
         frees = frees_both now net net' net'' first.dialers ends.dialers ends'.dialers t.frees frees;
         dry = dry ∙ t.dry;
@@ -88,35 +88,31 @@ module _ {L : Type 0} (seen : L → LinkView) (first : EndsView L) (net : NetVie
 -- ---- The parts
 
 module _ {L : Type 0} (seen : L → LinkView) (start : Beginning) (now : ℕ) where
-  pub turn_begins : (ends : EndsView L) (net : NetView) (s : SingleView) → EndsTicked seen s.setting start s.seen net ends → IsNow now s → IsSound s → InTurn seen start ends net s now (length ends.newcomers)
+  pub turn_begins : (ends : LinkEndsView L) (net : NetView) (s : SingleView) → EndsTicked seen s.setting start s.seen net ends → IsNow now s → IsSound s → InTurn seen start ends net s now (length ends.newcomers)
   turn_begins ends net s e n o = record { role = e.role; links = e.links; of_run = e.of_run; now_is = n; ticked = e.ticked; few = e.few; sound = o }
 
-  -- before the first tick nobody is in progress
-  nobody : (ends : EndsView L) (net : NetView) (s : SingleView) → InTurn seen start ends net s now 0 → net.opened ≡ start.net.opened → length ends.newcomers ≡ 0
-  nobody ends net s i same = go ends.newcomers i.links.progressing.rest
-    where
-      go : (ns : List (Newcomer L)) → AllByRecursion (WasGreeted seen start.origins s.setting (past_of s.seen)) ns → length ns ≡ 0
-      go [] w = refl
-      go (n ∷ ns) w =
-          let b = met_inside start.net.opened net.opened (past_of s.seen) (seen n.opening.link).place i.links.kept.in_place (ap is_some w.0.progressing.met) in
-          absurd (omega (arith, b.0, b.1, same))
-
-  -- where there was room at the tick there is room to accept
-  pub room_left : (ends ends' ends'' : EndsView L) (net : NetView) (s s' s'' : SingleView) → EndsTicked seen s.setting start s.seen net ends → Quietly s s' → Quietly s' s'' → length ends'.newcomers ≤ length ends.newcomers → length ends''.newcomers ≤ length ends'.newcomers
-      → has_room (before_last_tick (past_of s''.seen)) ≡ true → length ends''.newcomers ≤ 192
-  room_left ends ends' ends'' net s s' s'' e q r few more room =
-      let before = quiet_before s' s'' r ∙ quiet_before s s' q in
-      let l = e.room (ap has_room (sym before) ∙ room) in omega (arith, l, few, more)
-
-  pub few_accepted : (ends ends' : EndsView L) (net : NetView) (s s' : SingleView) → InTurn seen start ends net s now 0
-      → NetStands start (before_last_tick (past_of s.seen)) (before_last_tick (past_of s.seen)) net ends.listeners ends.dialers
-      → Quietly s s' → SameEnds ends ends' → length ends'.newcomers ≤ length ends.newcomers + length ends.listeners
-      → ticks (before_last_tick (past_of s'.seen)) ≡ [] → length ends'.newcomers ≤ length ends'.listeners
-  few_accepted ends ends' net s s' i n q same few none =
-      let before : ticks (before_last_tick (past_of s.seen)) ≡ [] = ap ticks (sym (quiet_before s s' q)) ∙ none in
-      let nil = nobody ends net s i (n.first before) in
-      let listeners = ap length same.listeners in
-      omega (arith, few, nil, listeners)
-
-  pub turn_ends : (ends : EndsView L) (net : NetView) (s : SingleView) → InTurn seen start ends net s now 0 → NetStands start (past_of s.seen) (past_of s.seen) net ends.listeners ends.dialers → EndsStand seen s.setting start s.seen net ends
+  pub turn_ends : (ends : LinkEndsView L) (net : NetView) (s : SingleView) → InTurn seen start ends net s now 0 → NetStands start (past_of s.seen) (past_of s.seen) net ends.listeners ends.dialers → EndsStand seen s.setting start s.seen net ends
   turn_ends ends net s i n = record { role = i.role; links = i.links; asked = n; of_run = i.of_run; few = i.few }
+
+-- where there was room at the tick there is room to accept
+pub room_on : {L : Type 0} (ends ends' : LinkEndsView L) (s s' : SingleView) → Quietly s s' → length ends'.newcomers ≤ length ends.newcomers → (has_room (before_last_tick (past_of s.seen)) ≡ true → length ends.newcomers ≤ 192) → has_room (before_last_tick (past_of s'.seen)) ≡ true → length ends'.newcomers ≤ 192
+room_on ends ends' s s' q few was room = let l = was (ap has_room (sym (quiet_before s s' q)) ∙ room) in omega (arith, l, few)
+
+-- ---- How often the net was asked
+
+pub asks_all : {L : Type 0} (seen : L → LinkView) (now most : ℕ) (a b c : LinkEndsView L) (n m o p : NetView) (s t : SingleView) (d : Bool) → length a.listeners ≤ 64 → SameEnds a b → AreSameDialers a.dialers b.dialers → SameCounts n m → length b.newcomers ≤ length a.newcomers → HasAsked seen (length b.listeners) most b c m o s t now d → o.idles ≤ p.idles → o.faults ≤ p.faults → AsksDue now c.dialers o p → AsksAll now a n p
+asks_all seen now most a b c n m o p s t d few same dialers counts less asked idles faults due room i f =
+    let l = ap length same.listeners in
+    let first = rose_all seen most b c m o s t now d asked (omega (arith, few, l)) (omega (arith, room, less)) (omega (arith, i, idles)) (omega (arith, f, faults)) in
+    let last = due i f in
+    let x = dues_same now a.dialers b.dialers dialers in
+    let y = dues_same now b.dialers c.dialers asked.dialers in
+    omega (arith, first, last, l, x, y, counts.idles, counts.faults, counts.opened)
+
+-- first some wires were taken
+pub asks_taken : {L : Type 0} (now : ℕ) (a b : LinkEndsView L) (n m p : NetView) (s t : SingleView) → Serves a b n m s t → length b.newcomers ≤ length a.newcomers → AsksAll now b m p → AsksAll now a n p
+asks_taken now a b n m p s t v less asked room i f =
+    let r = asked (omega (arith, room, less)) i f in
+    let l = ap length v.ends.listeners in
+    let x = dues_same now a.dialers b.dialers v.dialers in
+    let c = v.counts in omega (arith, r, l, x, c.idles, c.faults, c.opened)

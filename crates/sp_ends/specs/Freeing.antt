@@ -1,5 +1,5 @@
 -- What becomes of dialers whose links come back, and of those that are dialed.
-use Rattle.std.specs.Prelude.{◌≡◌, ◌≤◌, ◌<◌, ◌+◌, ◌⊎◌, ℕ, zero, suc, ⊤, List, [], ◌∷◌, Some, None}
+use Rattle.std.specs.Prelude.{◌≡◌, ◌≤◌, ◌<◌, ◌+◌, ◌*◌, ◌⊎◌, ℕ, zero, suc, ⊤, List, [], ◌∷◌, Some, None}
 use Rattle.std.specs.List.{AllByRecursion}
 use Rattle.std.specs.FinMap.{get}
 use Rattle.sp_base.specs.Views.{LinkView, NetView}
@@ -95,9 +95,9 @@ HasLink place (d ∷ ds) = (d.place ≡ Some place) ⊎ HasLink place ds
 abbrev pub KnowsLinks : ℕ → NetView → List Dialer → Type 0
 KnowsLinks first net ds = (place : ℕ) → first ≤ place → place < net.opened → HasLink place ds ⊎ (get net.back place ≡ None → ⊥)
 
--- the listeners brought a link each at most; every other that was handed out is a dialer's, or is back
+-- the listeners brought 16 links each at most; every other that was handed out is a dialer's, or is back
 abbrev pub KnowsDialed : ℕ → NetView → NetView → List Dialer → Type 0
-KnowsDialed listeners old new ds = (first : ℕ) × (first ≤ old.opened + listeners) × KnowsLinks first new ds
+KnowsDialed listeners old new ds = (first : ℕ) × (first ≤ old.opened + 16 * listeners) × KnowsLinks first new ds
 
 -- it has no link, and may dial
 abbrev pub IsDue : ℕ → Dialer → Type 0

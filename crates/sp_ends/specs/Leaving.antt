@@ -1,5 +1,5 @@
 -- What stands on the links of a run that is over.
-use Rattle.std.specs.Prelude.{◌≡◌, ◌≤◌, ◌<◌, ◌^◌, length, ℕ, ⊤, true, IsTrue, List, [], ◌∷◌, Option, Some, None}
+use Rattle.std.specs.Prelude.{◌≡◌, ◌≢◌, ◌≤◌, ◌<◌, ◌^◌, length, ℕ, ⊤, true, IsTrue, List, [], ◌∷◌, Option, Some, None}
 use Rattle.std.specs.List.{AllByRecursion}
 use Rattle.std.specs.FinMap.{FinMap, insert}
 use Rattle.std.specs.Ordering.{nat_cmp}
@@ -14,7 +14,7 @@ use Rattle.sp_history.specs.declared.setting.Setting.{Setting}
 use Rattle.sp_history.specs.Past.{past_of, down_for, is_cleared}
 use Rattle.sp_core.specs.declared.pipes.DownPipe.{DownPipe}
 use Rattle.cat_play.specs.Playing.{each}
-use Rattle.cat_play.specs.Recording.{Records, place_of, IsBack, times_out_rightly}
+use Rattle.cat_play.specs.Recording.{Records, lane_place, place_of, IsBack, times_out_rightly}
 use Rattle.cat_play.specs.Running.{KeepsOthers, AreWhole, max_body}
 use Rattle.cat_play.specs.Spending.{IsAsked, IsRead}
 use Rattle.sp_history.specs.Found.{ticks}
@@ -31,7 +31,7 @@ pub record LinksLeft (z : Setting) (start : Beginning) (h : List (Turn Entry)) (
   pub records : IsTrue (each times_out_rightly (past_of h)) → Records (run_ways z.role start.origins) z max_body start.net.opened net.opened net.back h
   pub others : KeepsOthers start.net net
   pub asked : length (ticks (past_of h)) < 2 ^ 64 → (place : ℕ) → start.net.opened ≤ place → place < net.opened → IsBack net.back place (IsAsked (past_of h) place)
-  pub read : (p place : ℕ) → place_of (past_of h) p ≡ Some place → place < net.opened → IsBack net.back place (IsRead h p)
+  pub read : (p place : ℕ) → place_of (past_of h) p ≡ Some place → place ≢ lane_place → place < net.opened → IsBack net.back place (IsRead h p)
   pub whole : ClosedCleared (past_of h) → AreWhole z net (past_of h)
 
 -- ---- What is back

@@ -5,3 +5,4 @@ pub mod Adding
 pub mod Turning
 pub mod Freeing
 pub mod Leaving
+pub mod Calling

@@ -1,5 +1,5 @@
 -- What stands between the ends of a run, its net, and the history of its socket.
-use Rattle.std.specs.Prelude.{◌≡◌, ◌≤◌, ◌<◌, ◌+◌, ◌*◌, ◌^◌, ◌++◌, ◌⊎◌, ℕ, ⊤, Bool, true, false, IsTrue, List, [], ◌∷◌, length, map, take, drop, Option, Some, None, is_some}
+use Rattle.std.specs.Prelude.{◌≡◌, ◌≢◌, ◌≤◌, ◌<◌, ◌+◌, ◌*◌, ◌^◌, ◌++◌, ◌⊎◌, ◌==◌, ◌||◌, ℕ, ⊤, Bool, true, false, IsTrue, List, [], ◌∷◌, length, map, take, drop, Option, Some, None, is_some}
 use Rattle.std.specs.List.{AllByRecursion}
 use Rattle.std.specs.FinMap.{get}
 use Rattle.turn_lock.specs.declared.turn.Turn.{Turn}
@@ -11,7 +11,7 @@ use Rattle.sp_base.specs.declared.role.Role.{Role}
 use Rattle.sp_base.specs.declared.addr.Scheme.{Scheme}
 use Rattle.sp_base.specs.declared.addr.Scheme.TheVariants as schemes
 use Rattle.sp_base.specs.Addresses.{scheme_of, is_linked}
-use Rattle.sp_base.specs.Wires.{OverLink, scheme_number, numbers_of}
+use Rattle.sp_base.specs.Wires.{OverLink, OverLanes, scheme_number, numbers_of}
 use Rattle.sp_history.specs.declared.entry.Entry.{Entry}
 use Rattle.sp_history.specs.declared.entry.Entry.TheVariants.{Up}
 use Rattle.sp_history.specs.declared.setting.Setting.{Setting}
@@ -26,6 +26,7 @@ use Rattle.cat_play.specs.Running.{KeepsOthers, max_body}
 use Rattle.cat_play.specs.Spending.{CanRise, greeting_ticks, IsAsked, IsRead, ticks_where, has_room}
 use Rattle.sp_history.specs.Found.{ticks}
 use Rattle.sp_ends.specs.declared.newcomer.Newcomer.{Newcomer}
+use Rattle.sp_ends.specs.declared.caller.Caller.{Caller}
 use Rattle.sp_ends.specs.declared.dialer.Dialer.{Dialer}
 use Rattle.sp_ends.specs.declared.listener.Listener.{Listener}
 use Rattle.link_opening.specs.declared.way.Way.{Way}
@@ -42,15 +43,25 @@ pub record Beginning : Type 0 where
   pub net : NetView
   pub origins : Origins
 
--- what contracts see of the ends: the own role, the number from which the keys are made and how many links of WebSocket
--- were dialed, the listeners, the addresses that are dialed, and the links that are being opened
-pub record EndsView (L : Type 0) : Type 0 where
+-- what contracts see of the ends over links: the own role, the number from which the keys are made and how many links of
+-- WebSocket were dialed, the listeners, the addresses that are dialed, and the links that are being opened
+pub record LinkEndsView (L : Type 0) : Type 0 where
   pub role : Role
   pub dice : ℕ
   pub asked : ℕ
   pub listeners : List Listener
   pub dialers : List Dialer
   pub newcomers : List (Newcomer L)
+
+-- the same of the names within the process: those that are listened on, and those that are dialed
+pub record NamesView : Type 0 where
+  pub names : List (List ℕ)
+  pub callers : List Caller
+
+-- all ends of a run
+pub record EndsView (L : Type 0) : Type 0 where
+  pub links : LinkEndsView L
+  pub names : NamesView
 
 -- ---- Links in progress
 
@@ -119,9 +130,14 @@ pub record IsNameOver (o : Origins) (z : Setting) (past : List Entry) (place : �
   pub are : AreNumbers o z scheme own peer
   pub rounds : CanRise spent → greeting_ticks past place ≤ spent + 1
 
--- a pipe has the name of a wire over its link
+-- the name of a wire over two lanes
+abbrev pub IsLaneName : List ℕ → Type 0
+IsLaneName numbers = (out : List ℕ) × (inward : List ℕ) × (numbers ≡ numbers_of (OverLanes out inward))
+
+-- a pipe has the name of a wire over its link; at the place of lanes, and there alone, that of a wire over lanes
 abbrev pub IsNamed : Origins → Setting → List Entry → Entry → Type 0
-IsNamed o z past (Up p place name) = IsNameOver o z past place name.numbers
+IsNamed o z past (Up p place name) =
+    (place ≢ lane_place) × IsNameOver o z past place name.numbers ⊎ (place ≡ lane_place) × IsLaneName name.numbers
 IsNamed o z past _ = ⊤
 
 -- a link that carried this pipe
@@ -152,16 +168,16 @@ IsSomewhere net past place =
 abbrev pub IsAskedIn : List Entry → ℕ → LinkView → Type 0
 IsAskedIn past place link = length (ticks past) < 2 ^ 64 → IsAsked past place link
 
--- a pipe is up, or its wire is still to be taken, or its link is back
+-- a pipe over a link is up, or its wire is still to be taken, or its link is back
 abbrev pub IsCarried : Origins → Setting → List (Turn Entry) → NetView → ℕ → ℕ → Type 0
 IsCarried o z h net p place =
     IsTrue (has (up (past_of h)) p) ⊎ IsTrue (has (untaken (past_of h)) p) ⊎ IsBack net.back place (λ link. IsShut place link × IsAskedIn (past_of h) place link × HasCarried o z h p link)
 
 -- ---- All links
 
--- a pipe comes up over a link in progress
+-- a pipe comes up over a link in progress, or over lanes
 abbrev pub is_over_link : List Entry → Entry → Bool
-is_over_link past (Up p place name) = has (greeting past) place
+is_over_link past (Up p place name) = (place == lane_place) || has (greeting past) place
 is_over_link past _ = true
 
 -- what stands on the links of the run beside those in progress
@@ -174,7 +190,7 @@ pub record LinksKept (z : Setting) (start : Beginning) (h : List (Turn Entry)) (
   pub met : (place : ℕ) → start.net.opened ≤ place → place < net.opened → is_some (met_at (past_of h) place) ≡ true
   pub somewhere : (place : ℕ) → start.net.opened ≤ place → place < net.opened → IsSomewhere net (past_of h) place
   pub missed : Each (HasCause (run_ways z.role start.origins) z h net.back) (past_of h)
-  pub carried : (p place : ℕ) → place_of (past_of h) p ≡ Some place → IsCarried start.origins z h net p place
+  pub carried : (p place : ℕ) → place_of (past_of h) p ≡ Some place → place ≢ lane_place → IsCarried start.origins z h net p place
   pub others : KeepsOthers start.net net
 
 -- what stands on all links of the run, where so many of those in progress are still to be greeted in this round
@@ -227,18 +243,18 @@ pub record NetStands (start : Beginning) (asked dialed : List Entry) (net : NetV
 -- ---- All of it
 
 -- the addresses and the dice of the ends are the run's
-pub record AreOfRun {L : Type 0} (o : Origins) (ends : EndsView L) : Type 0 where
+pub record AreOfRun {L : Type 0} (o : Origins) (ends : LinkEndsView L) : Type 0 where
   pub listens : AllByRecursion (λ l. IsAmong l.addr o.listens) ends.listeners
   pub dials : AllByRecursion (λ d. IsAmong d.addr o.dials) ends.dialers
   pub dice : ends.dice ≡ o.dice
 
 -- between two rounds
-pub record EndsStand {L : Type 0} (seen : L → LinkView) (z : Setting) (start : Beginning) (h : List (Turn Entry)) (net : NetView) (ends : EndsView L) : Type 0 where
+pub record EndsStand {L : Type 0} (seen : L → LinkView) (z : Setting) (start : Beginning) (h : List (Turn Entry)) (net : NetView) (ends : LinkEndsView L) : Type 0 where
   pub role : ends.role ≡ z.role
   pub links : LinksStand seen z start h net ends.newcomers 0
   pub asked : NetStands start (past_of h) (past_of h) net ends.listeners ends.dialers
   pub of_run : AreOfRun start.origins ends
-  pub few : length ends.newcomers ≤ 256
+  pub few : length ends.newcomers ≤ 320
 
 -- no answer of the net was counted, and it listens as it did
 pub record SameCounts (old new : NetView) : Type 0 where

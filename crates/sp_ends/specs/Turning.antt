@@ -1,5 +1,5 @@
 -- What a turn of the ends does, and its parts.
-use Rattle.std.specs.Prelude.{◌≡◌, ◌≤◌, ◌<◌, ◌+◌, ◌-◌, ◌^◌, min, ◌++◌, ◌∷◌, [], ℕ, zero, suc, ⊤, true, false, Bool, List, length, map, drop, Option, Some, None, Result, IfOk}
+use Rattle.std.specs.Prelude.{◌≡◌, ◌≤◌, ◌<◌, ◌+◌, ◌-◌, ◌^◌, min, ◌++◌, ◌∷◌, [], ℕ, zero, suc, ⊤, true, false, Bool, if◌then◌else◌, List, length, map, take, drop, Option, Some, None, Result, Ok, IfOk, ◌⊎◌}
 use Rattle.std.specs.List.{AllByRecursion}
 use Rattle.turn_lock.specs.declared.turn.Turn.{Turn}
 use Rattle.sp_base.specs.Views.{LinkView, NetView}
@@ -28,28 +28,32 @@ use Rattle.sp_base.specs.declared.addr.Addr.{Addr}
 use Rattle.link_opening.specs.declared.way.Way.{Way}
 use Rattle.link_opening.specs.Openings.{CanBegin, scheme_for}
 use Rattle.link_opening.specs.Origins.{Origins, IsKnown}
-use Rattle.link_opening.specs.Going.{IsFresh, IsUnderWay}
+use Rattle.link_opening.specs.Going.{IsFresh, IsUnderWay, HasWaited}
 use Rattle.link_opening.specs.declared.opening.Progress.{Progress}
 use Rattle.link_opening.specs.declared.opening.Progress.TheVariants as progress
 use Rattle.end_wire.specs.declared.wire.EndWire.{EndWire}
+use Rattle.end_wire.specs.declared.wire.EndWire.TheVariants as wires
+use Rattle.sp_lane.specs.LaneWires.{LaneWireView, LaneFlushed}
+use Rattle.sp_msg.specs.declared.wire.WireFlush.{WireFlush}
+use Rattle.sp_ends.specs.Freeing.{Frees}
 use Rattle.end_wire.specs.EndWires.{shown, link_of, Stands, IsOverLanes}
 use Rattle.sp_ends.specs.declared.turn.Decision.{Decision}
 use Rattle.sp_ends.specs.declared.turn.Decision.TheVariants as decisions
 use Rattle.sp_core.specs.declared.attach.AttachError.{AttachError}
 use Rattle.sp_core.specs.declared.attach.AttachError.TheVariants as refused
-use Rattle.sp_ends.specs.Moments.{moment}
+use Rattle.sp_ends.specs.Moments.{moment, is_due}
 use Rattle.sp_ends.specs.declared.turn.Fate.{Fate}
 use Rattle.sp_ends.specs.declared.turn.Fate.TheVariants as fates
-use Rattle.sp_ends.specs.Standing.{EndsView, Beginning, AreOfRun, LinksStand, NetStands, SameCounts, sum_of}
+use Rattle.sp_ends.specs.Standing.{LinkEndsView, Beginning, AreOfRun, LinksStand, NetStands, SameCounts, sum_of}
 
 -- since the last tick nobody was greeted, accepted or dialed yet
-pub record EndsTicked {L : Type 0} (seen : L → LinkView) (z : Setting) (start : Beginning) (h : List (Turn Entry)) (net : NetView) (ends : EndsView L) : Type 0 where
+pub record EndsTicked {L : Type 0} (seen : L → LinkView) (z : Setting) (start : Beginning) (h : List (Turn Entry)) (net : NetView) (ends : LinkEndsView L) : Type 0 where
   pub role : ends.role ≡ z.role
   pub links : LinksStand seen z start h net ends.newcomers (length ends.newcomers)
   pub asked : NetStands start (before_last_tick (past_of h)) (before_last_tick (past_of h)) net ends.listeners ends.dialers
   pub of_run : AreOfRun start.origins ends
   pub ticked : 0 < length (ticks (past_of h))
-  pub few : length ends.newcomers ≤ 256
+  pub few : length ends.newcomers ≤ 320
   -- where there was room at the tick, not more are to be greeted
   pub room : has_room (before_last_tick (past_of h)) ≡ true → length ends.newcomers ≤ 192
 
@@ -79,7 +83,7 @@ abbrev pub addrs_of : List Dialer → List Addr
 addrs_of ds = map (λ (d : Dialer). d.addr) ds
 
 -- the same ends, but for their links and what dialers know of theirs
-pub record SameEnds {L : Type 0} (old new : EndsView L) : Type 0 where
+pub record SameEnds {L : Type 0} (old new : LinkEndsView L) : Type 0 where
   pub role : new.role ≡ old.role
   pub dice : new.dice ≡ old.dice
   pub listeners : new.listeners ≡ old.listeners
@@ -98,17 +102,17 @@ AreSameDialers (d ∷ ds) (e ∷ es) = IsSameDialer d e × AreSameDialers ds es
 AreSameDialers _ _ = ⊥
 
 -- within a turn of the ends, where so many links are still to be greeted
-pub record InTurn {L : Type 0} (seen : L → LinkView) (start : Beginning) (ends : EndsView L) (net : NetView) (s : SingleView) (now : ℕ) (k : ℕ) : Type 0 where
+pub record InTurn {L : Type 0} (seen : L → LinkView) (start : Beginning) (ends : LinkEndsView L) (net : NetView) (s : SingleView) (now : ℕ) (k : ℕ) : Type 0 where
   pub role : ends.role ≡ s.setting.role
   pub links : LinksStand seen s.setting start s.seen net ends.newcomers k
   pub of_run : AreOfRun start.origins ends
   pub now_is : IsNow now s
   pub ticked : 0 < length (ticks (past_of s.seen))
-  pub few : length ends.newcomers ≤ 256
+  pub few : length ends.newcomers ≤ 320
   pub sound : IsSound s
 
 -- the same with this link before the newcomers
-pub record InTurnWith {L : Type 0} (seen : L → LinkView) (start : Beginning) (n : Newcomer L) (ends : EndsView L) (net : NetView) (s : SingleView) (now : ℕ) (k : ℕ) : Type 0 where
+pub record InTurnWith {L : Type 0} (seen : L → LinkView) (start : Beginning) (n : Newcomer L) (ends : LinkEndsView L) (net : NetView) (s : SingleView) (now : ℕ) (k : ℕ) : Type 0 where
   pub role : ends.role ≡ s.setting.role
   pub links : LinksStand seen s.setting start s.seen net (n ∷ ends.newcomers) (suc k)
   pub of_run : AreOfRun start.origins ends
@@ -117,7 +121,7 @@ pub record InTurnWith {L : Type 0} (seen : L → LinkView) (start : Beginning) (
   pub sound : IsSound s
 
 -- a part of the turn that asks the net for no link
-pub record Serves {L : Type 0} (old new : EndsView L) (net net' : NetView) (s s' : SingleView) : Type 0 where
+pub record Serves {L : Type 0} (old new : LinkEndsView L) (net net' : NetView) (s s' : SingleView) : Type 0 where
   pub ends : SameEnds old new
   pub dialers : AreSameDialers old.dialers new.dialers
   pub counts : SameCounts net net'
@@ -139,7 +143,7 @@ FateStands seen fates.Up z start h net ns k = LinksStand seen z start h net ns k
 FateStands seen (fates.Missed miss) z start h net ns k = LinksStand seen z start h net ns k
 
 -- the same ends, but for the dialers that have lost their link
-pub record SameButPlaces {L : Type 0} (old new : EndsView L) : Type 0 where
+pub record SameButPlaces {L : Type 0} (old new : LinkEndsView L) : Type 0 where
   pub ends : new ≡ record old { dialers = new.dialers }
   pub dialers : AreSameDialers old.dialers new.dialers
 
@@ -168,6 +172,83 @@ DialsOne _ now same _ _ = ⊥
 
 abbrev pub DialsAt : ℕ → ℕ → NetView → NetView → List Dialer → List Dialer → Type 0
 DialsAt i now old new ds es = DialsOne i now (new.opened ≡ old.opened) ds es
+
+-- how many of the dialers are due
+abbrev pub dues_of : ℕ → List Dialer → ℕ
+dues_of now [] = 0
+dues_of now (d ∷ ds) = if is_due now d then dues_of now ds + 1 else dues_of now ds
+
+-- each listener was asked, and each dialer that was due was dialed. Where more than 192 links were in progress the listeners
+-- need not have been
+abbrev pub AsksAll : {L : Type 0} → ℕ → LinkEndsView L → NetView → NetView → Type 0
+AsksAll now ends old new =
+    length ends.newcomers ≤ 192 → CanRise new.idles → CanRise new.faults → sum_of old + length ends.listeners + dues_of now ends.dialers ≤ sum_of new
+
+-- each dialer that was due was dialed
+abbrev pub AsksDue : ℕ → List Dialer → NetView → NetView → Type 0
+AsksDue now ds old new = CanRise new.idles → CanRise new.faults → sum_of old + dues_of now ds ≤ sum_of new
+
+-- its greetings began less than 10,000 milliseconds ago
+abbrev pub IsYoung : {L : Type 0} → ℕ → Newcomer L → Type 0
+IsYoung now n = now < n.met + 10000
+
+-- the same of all, but for so many at the front
+abbrev pub AreYoung : {L : Type 0} → ℕ → ℕ → List (Newcomer L) → Type 0
+AreYoung now k ns = AllByRecursion (IsYoung now) (drop k ns)
+
+-- ---- Links that waited
+
+-- the same link later, which brought nothing or took nothing once
+pub record HasWaitedOn {L : Type 0} (seen : L → LinkView) (old new : Newcomer L) : Type 0 where
+  pub place : (seen new.opening.link).place ≡ (seen old.opening.link).place
+  pub waited : HasWaited (seen old.opening.link) (seen new.opening.link)
+
+abbrev pub IsOneOf : {L : Type 0} → List (Newcomer L) → Newcomer L → Type 0
+IsOneOf [] n = ⊥
+IsOneOf (m ∷ ms) n = (n ≡ m) ⊎ IsOneOf ms n
+
+-- it is one of those that were in progress first, or was handed out since
+abbrev pub IsFirstOrNew : {L : Type 0} → (L → LinkView) → List (Newcomer L) → ℕ → Newcomer L → Type 0
+IsFirstOrNew seen first opened n = IsOneOf first n ⊎ (opened ≤ (seen n.opening.link).place)
+
+-- since it was one of the first, or was handed out, it brought nothing or took nothing once
+abbrev pub HasWaitedSince : {L : Type 0} → (L → LinkView) → List (Newcomer L) → ℕ → Newcomer L → Type 0
+HasWaitedSince {L} seen first opened n =
+    ((m : Newcomer L) × IsOneOf first m × HasWaitedOn seen m n) ⊎ ((opened ≤ (seen n.opening.link).place) × ((1 ≤ (seen n.opening.link).idles) ⊎ (1 ≤ (seen n.opening.link).stalls)))
+
+-- so many at the front are still to be greeted; each other has waited
+pub record AreWaitingBehind {L : Type 0} (seen : L → LinkView) (first : List (Newcomer L)) (opened k : ℕ) (ns : List (Newcomer L)) : Type 0 where
+  pub within : k ≤ length ns
+  pub front : AllByRecursion (IsFirstOrNew seen first opened) (take k ns)
+  pub rest : AllByRecursion (HasWaitedSince seen first opened) (drop k ns)
+
+-- a link that stays has waited
+abbrev pub FateHasWaited : {L : Type 0} → (L → LinkView) → Newcomer L → Fate L → Type 0
+FateHasWaited seen n (fates.Stays m) = HasWaitedOn seen n m
+FateHasWaited seen n fates.Up = ⊤
+FateHasWaited seen n (fates.Missed miss) = ⊤
+
+-- So many listeners were asked, until 256 links were in progress, and brought so many links at most
+pub record HasAsked {L : Type 0} (seen : L → LinkView) (asked most : ℕ) (old new : LinkEndsView L) (net net' : NetView) (s s' : SingleView) (now : ℕ) (is_dry : Bool) : Type 0 where
+  pub in_turn : (start : Beginning) → InTurn seen start old net s now 0 → InTurn seen start new net' s' now 0
+  pub ends : SameEnds old new
+  pub dialers : AreSameDialers old.dialers new.dialers
+  pub frees : Frees now net net' old.dialers new.dialers
+  pub quietly : Quietly s s'
+  pub dry : IsDry is_dry s'
+  pub few : length new.newcomers + net.opened ≤ length old.newcomers + net'.opened
+  pub listens : net'.listens ≡ net.listens
+  pub opened : net.opened ≤ net'.opened
+  pub handed : net'.opened ≤ net.opened + most
+  pub young : AreYoung now 0 old.newcomers → AreYoung now 0 new.newcomers
+  pub waited : (first : List (Newcomer L)) (opened : ℕ) → opened ≤ net.opened → AreWaitingBehind seen first opened 0 old.newcomers → AreWaitingBehind seen first opened 0 new.newcomers
+  pub idles : net.idles ≤ net'.idles
+  pub faults : net.faults ≤ net'.faults
+  pub rose : CanRise net'.idles → CanRise net'.faults → (sum_of net + asked ≤ sum_of net') ⊎ (256 + net.opened ≤ length old.newcomers + net'.opened)
+
+-- the same way, where there is room for one link more
+abbrev pub FitsIn : {L : Type 0} → Result Way NoMemory → Result Way NoMemory → LinkEndsView L → Type 0
+FitsIn way result ends = IfOk result (λ w. (way ≡ Ok w) × (length ends.newcomers < 320))
 
 -- ---- A link that is new
 
@@ -214,19 +295,28 @@ abbrev pub IsSeenAs : {L : Type 0} → (L → LinkView) → Option L → Option 
 IsSeenAs seen None link = link ≡ None
 IsSeenAs seen (Some l) link = link ≡ Some (seen l)
 
+-- a wire within the process may tell its end
+abbrev pub MayDrain : {L : Type 0} → EndWire L → Type 0
+MayDrain (wires.Tcp v) = ⊤
+MayDrain (wires.Ws v) = ⊤
+MayDrain (wires.Lane v) = v.wire.drains ≡ true
+
+-- a lane put what was in hand and its end, if there was room for it
+abbrev pub HangsUp : LaneWireView → LaneWireView → Type 0
+HangsUp old new = (answer : WireFlush) × LaneFlushed answer old new
+
+-- a wire within the process did; any other is the same
+abbrev pub TellsEnd : {L : Type 0} → EndWire L → EndWire L → Type 0
+TellsEnd (wires.Tcp v) new = new ≡ wires.Tcp v
+TellsEnd (wires.Ws v) new = new ≡ wires.Ws v
+TellsEnd (wires.Lane v) (wires.Lane w) = HangsUp v w
+TellsEnd (wires.Lane v) _ = ⊥
+
 pub record IsLeftOf {L : Type 0} (seen : L → LinkView) (wire : EndWire L) (link : Option L) : Type 0 where
   pub link_is : IsSeenAs seen link (shut_under (link_of wire))
   pub shut : IsShutAs wire (shut_under (link_of wire))
 
--- its greetings began less than 10,000 milliseconds ago
-abbrev pub IsYoung : {L : Type 0} → ℕ → Newcomer L → Type 0
-IsYoung now n = now < n.met + 10000
-
--- the same of all, but for so many at the front
-abbrev pub AreYoung : {L : Type 0} → ℕ → ℕ → List (Newcomer L) → Type 0
-AreYoung now k ns = AllByRecursion (IsYoung now) (drop k ns)
-
--- the same of a link that stays
+-- a link that stays is as young
 abbrev pub FateIsYoung : {L : Type 0} → ℕ → Fate L → Type 0
 FateIsYoung now (fates.Stays n) = IsYoung now n
 FateIsYoung now fates.Up = ⊤

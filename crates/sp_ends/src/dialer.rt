@@ -7,7 +7,7 @@ ghost use Rattle.sp_ends.specs.Turning.{IsSameDialer};
 use sp_base::{Addr, Tick};
 
 /// How many milliseconds lie between two dials, and between the end of a link and the next dial.
-const PAUSE: u64 = 100;
+pub(crate) const PAUSE: u64 = 100;
 
 /// An address that is dialed again and again, while no link to it stands.
 #[derive(Drop)]

@@ -1,19 +1,25 @@
-//! The ends of a run: where it listens, whom it dials, and the links that these bring, until they are pipes.
+//! The ends of a run: where it listens, whom it dials, and the links and lanes that these bring, until they are pipes.
 //!
-//! A turn of the ends comes once between two ticks. It gives the links back whose pipes are down, goes on with the
-//! greetings that are under way, and then asks each listener and each dialer that is free for one link more. A link is
-//! greeted as soon as it is handed out. One that is greeted becomes a pipe; one that can't is shut and given back, with
-//! the cause noted in the history. So at every moment each link that the net handed out is in one of three places: among
-//! the newcomers, with the socket, or back.
+//! A turn of the ends comes once between two ticks. It takes the wires whose pipes are down and gives their links back,
+//! goes on with the greetings that are under way, and then asks each listener for up to 16 links and dials each address
+//! that is due. A link is greeted as soon as it is handed out. One that is greeted becomes a pipe; one that can't is shut
+//! and given back, with the cause noted in the history. So at every moment each link that the net handed out is in one of
+//! three places: among the newcomers, with the socket, or back.
 //!
-//! `newcomer` has one link and its greetings, `dialer` one address that is dialed, `ends` all of them, `turn` what one
-//! turn does, and `leave` how it ends.
+//! Names within the process are dialed and asked after that. What they bring is a lane, which needs no greeting: it
+//! becomes a pipe in the same turn, at a place that no link has, or it is shut, which tells the other half.
+//!
+//! `newcomer` has one link and its greetings, `dialer` one address that is dialed, `links` all ends over links; `caller`
+//! has one name that is dialed, `names` all names; `ends` both; `turn` what one turn does, and `leave` how it ends.
 #![tactic(auto)]
 
+mod caller;
 mod dialer;
 mod ends;
 mod leave;
+mod links;
 mod listener;
+mod names;
 mod newcomer;
 mod turn;
 

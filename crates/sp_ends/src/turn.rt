@@ -1,5 +1,6 @@
 //! What one turn of the ends does.
-ghost use Rattle.std.specs.Prelude.{◌≡◌, ◌≤◌, ◌<◌, ◌+◌, ◌-◌, ◌^◌, min, ◌||◌, ◌∷◌, [], ℕ, suc, true, false, List, length, slice_get, Some, Ok, IfOk, MatchResult};
+ghost use Rattle.std.specs.Prelude.{◌≡◌, ◌≤◌, ◌<◌, ◌+◌, ◌-◌, ◌*◌, ◌^◌, min, ◌||◌, ◌∷◌, [], ℕ, suc, true, false, List, length, slice_get, Some, Ok, IfOk, MatchResult};
+ghost use Rattle.std.specs.List.{AllByRecursion};
 ghost use Rattle.sp_base.specs.Addresses.{is_dialable, scheme_of};
 ghost use Rattle.sp_base.specs.Steps.{AfterGiveBack, IsNew};
 ghost use Rattle.sp_base.specs.Views.{NetView};
@@ -16,14 +17,19 @@ ghost use Rattle.link_opening.specs.Origins.{serving, asking};
 ghost use Rattle.link_opening.specs.declared.way.Way.{Way as WayType};
 ghost use Rattle.sp_ends.specs.Standing.{Beginning, LinksStand, HandStands, IsOfRun, IsCauseOf, NetStands, EndsStand, SameCounts, IsListener};
 ghost use Rattle.sp_ends.specs.Freeing.{GivesOneBack, FateBack, Frees, Redials, Turns, AreWaiting, KnowsLinks, KnowsDialed};
-ghost use Rattle.sp_ends.specs.Turning.{EndsTicked, Quietly, AllTaken, IsDry, is_dry_for, is_dry_fate, FateStands, IsNow, IsSound, SameEnds, AreSameDialers, Serves, InTurn, InTurnWith, AsksNet, DialsAt, IsLeftOf, DecidedFor, MissesFor, AreYoung, FateIsYoung, IsOut, Arrives, asked_after, IsNewcomer};
+ghost use Rattle.sp_ends.specs.Calling.{TurnsCallers, TurnsLanes, TakesCallers, TakesPipe, GoesOn, KeepsLinks, CameUp, Accepting, AllBring};
+ghost use Rattle.sp_lane.specs.Registry.{IsNewHalf};
+ghost use Rattle.sp_ends.specs.Turning.{EndsTicked, Quietly, AllTaken, IsDry, is_dry_for, is_dry_fate, FateStands, IsNow, IsSound, SameEnds, AreSameDialers, Serves, InTurn, InTurnWith, HasWaitedSince, IsFirstOrNew, AreWaitingBehind, FateHasWaited, AsksNet, DialsAt, IsLeftOf, DecidedFor, MissesFor, AreYoung, FateIsYoung, IsOut, Arrives, asked_after, IsNewcomer, AsksAll, AsksDue, HasAsked, FitsIn, HangsUp, MayDrain, TellsEnd};
 
-use crate::ends::{Ends, MOST_NEWCOMERS};
+use crate::ends::Ends;
+use crate::links::{LinkEnds, MOST_NEWCOMERS, ROOM};
+use crate::names::Names;
 use crate::newcomer::Newcomer;
 use end_wire::EndWire;
 use link_opening::{Opening, Progress, Way};
-use sp_base::{Link, Linked, Net, NoMemory, Role, Scheme, Tick};
+use sp_base::{Link, Linked, Net, NoMemory, PipeId, Role, Scheme, Tick};
 use sp_history::entry::Miss;
+use sp_lane::{Inproc, LaneWire};
 use sp_msg::Wire;
 use sp_proto::Proto;
 use sp_single::Single;
@@ -36,6 +42,12 @@ pub const MAX_BODY: u32 = 1_048_576;
 
 /// How many milliseconds the greetings of a link may take.
 const GREETING_TIME: u64 = 10_000;
+
+/// How many links a listener is asked for in a turn at most, and how many lanes a name.
+pub(crate) const LINKS_A_TURN: u32 = 16;
+
+/// The place of a pipe that has no link of a net.
+const LANE_PLACE: u32 = u32::MAX;
 
 /// What a turn of the ends came to.
 #[derive(Clone, Copy, Debug, PartialEq, Eq)]
@@ -81,13 +93,52 @@ impl EndsTurn {
 }
 
 impl<L: Link> Ends<L> {
-    /// One turn of the ends, at this tick, which is that of the history: gives the links back whose pipes are down, goes
-    /// on with the greetings, and asks each listener and each dialer that is free for a link. Where memory is wanting
-    /// for a link this is given back and the turn says so; the other links have their turn all the same.
+    /// One turn of the ends, at this tick, which is that of the history: takes the wires whose pipes are down and gives
+    /// their links back, goes on with the greetings, asks each listener for at most 16 links and dials each address that
+    /// is due; then it does the same with names within the process. Where memory is wanting for a link this is given
+    /// back and the turn says so; the other links have their turn all the same.
     pub fn turn<R: Wait, N: Net<L = L>, P: Proto>(
         &mut self,
         rt: &R,
         net: &mut N,
+        inproc: &mut Inproc,
+        single: &mut Single<P, EndWire<L>>,
+        now: Tick,
+    ) -> EndsTurn
+        requires ticked { (start : Beginning) × EndsTicked L.seen single.old.setting start single.old.seen (N.seen net.old) self.old.links }
+        requires sound { IsSound single.old }
+        requires now { IsNow now single.old }
+        requires dry { IsDry false single.old }
+        ensures stands { (start : Beginning) → EndsTicked L.seen single.old.setting start single.old.seen (N.seen net.old) self.old.links → EndsStand L.seen single.new.setting start single.new.seen (N.seen net.new) self.new.links }
+        ensures sound { IsSound single.new }
+        ensures quietly { Quietly single.old single.new }
+        ensures dry { IsDry result.is_dry single.new }
+        ensures same { SameEnds self.old.links self.new.links }
+        ensures names { self.new.names.names ≡ self.old.names.names }
+        ensures turns { Turns now (N.seen net.old) (N.seen net.new) self.old.links.dialers self.new.links.dialers }
+        ensures waits { AreWaiting now self.new.links.dialers }
+        ensures taken { AllTaken single.old single.new }
+        ensures young { AreYoung now 0 self.new.links.newcomers }
+        ensures waited { AllByRecursion (HasWaitedSince L.seen self.old.links.newcomers (N.seen net.old).opened) self.new.links.newcomers }
+        ensures known { KnowsDialed (length self.old.links.listeners) (N.seen net.old) (N.seen net.new) self.new.links.dialers }
+        ensures listens { (N.seen net.new).listens ≡ (N.seen net.old).listens }
+        ensures asked { AsksAll now self.old.links (N.seen net.old) (N.seen net.new) }
+        ensures callers { TurnsCallers now single.old single.new self.old.names.callers self.new.names.callers }
+        ensures lanes { TurnsLanes (length self.new.links.newcomers) self.old.names.names single.old single.new inproc.old inproc.new }
+    {
+        self.links
+            .turn(&mut self.names, rt, net, inproc, single, now)
+    }
+}
+
+impl<L: Link> LinkEnds<L> {
+    // The turn, with these names within the process.
+    fn turn<R: Wait, N: Net<L = L>, P: Proto>(
+        &mut self,
+        names: &mut Names,
+        rt: &R,
+        net: &mut N,
+        inproc: &mut Inproc,
         single: &mut Single<P, EndWire<L>>,
         now: Tick,
     ) -> EndsTurn
@@ -100,23 +151,30 @@ impl<L: Link> Ends<L> {
         ensures quietly { Quietly single.old single.new }
         ensures dry { IsDry result.is_dry single.new }
         ensures same { SameEnds self.old self.new }
+        ensures names { names.new.names ≡ names.old.names }
         ensures turns { Turns now (N.seen net.old) (N.seen net.new) self.old.dialers self.new.dialers }
-        ensures waits { length self.new.newcomers < 256 → AreWaiting now self.new.dialers }
+        ensures waits { AreWaiting now self.new.dialers }
         ensures taken { AllTaken single.old single.new }
         ensures young { AreYoung now 0 self.new.newcomers }
+        ensures waited { AllByRecursion (HasWaitedSince L.seen self.old.newcomers (N.seen net.old).opened) self.new.newcomers }
         ensures known { KnowsDialed (length self.old.listeners) (N.seen net.old) (N.seen net.new) self.new.dialers }
+        ensures listens { (N.seen net.new).listens ≡ (N.seen net.old).listens }
+        ensures asked { AsksAll now self.old (N.seen net.old) (N.seen net.new) }
+        ensures callers { TurnsCallers now single.old single.new names.old.callers names.new.callers }
+        ensures lanes { TurnsLanes (length self.new.newcomers) names.old.names single.old single.new inproc.old inproc.new }
     {
         let mut turn = EndsTurn::new();
-        self.take_all_ended(rt, net, single, now);
-        self.greet_all(rt, net, single, now, &mut turn);
-        self.accept_all(rt, net, single, now, &mut turn);
-        self.dial_all(rt, net, single, now, &mut turn);
+        self.take_all_ended(names, rt, net, single, now);
+        self.go_on(rt, net, single, now, &mut turn);
+        names.call_all(rt, inproc, single, self.role, now);
+        self.accept_names(names, rt, inproc, single);
         turn
     }
 
-    // Gives the links back whose pipes are down.
+    // Takes the wires whose pipes are down, and gives their links back.
     fn take_all_ended<R: Wait, N: Net<L = L>, P: Proto>(
         &mut self,
+        names: &mut Names,
         rt: &R,
         net: &mut N,
         single: &mut Single<P, EndWire<L>>,
@@ -125,52 +183,99 @@ impl<L: Link> Ends<L> {
         requires in_turn { (start : Beginning) × InTurn L.seen start self.old (N.seen net.old) single.old now (length self.old.newcomers) }
         ensures in_turn { (start : Beginning) → InTurn L.seen start self.old (N.seen net.old) single.old now (length self.old.newcomers) → InTurn L.seen start self.new (N.seen net.new) single.new now (length self.new.newcomers) }
         ensures few { length self.new.newcomers ≤ length self.old.newcomers }
+        ensures newcomers { self.new.newcomers ≡ self.old.newcomers }
         ensures serves { Serves self.old self.new (N.seen net.old) (N.seen net.new) single.old single.new }
         ensures frees { Frees now (N.seen net.old) (N.seen net.new) self.old.dialers self.new.dialers }
         ensures dry { has_dry_miss (past_of single.new.seen) ≡ has_dry_miss (past_of single.old.seen) }
         ensures taken { AllTaken single.old single.new }
+        ensures names { names.new.names ≡ names.old.names }
+        ensures callers { TakesCallers now single.old single.new names.old.callers names.new.callers }
     {
         'takes: for _ in rt.forever() {
-            if !self.take_ended(rt, net, single, now) {
+            let Some(pipe) = self.take_ended(rt, net, single, now) else {
                 return;
-            }
+            };
+            names.lost(now, pipe);
         }
         unreachable!()
     }
 
-    // Gives one link back whose pipe is down, if there is one.
+    // Asks each name for the lanes that were dialed, unless too many links are being opened.
+    fn accept_names<R: Wait, P: Proto>(
+        &self,
+        names: &Names,
+        rt: &R,
+        inproc: &mut Inproc,
+        single: &mut Single<P, EndWire<L>>,
+    )
+        ensures on { GoesOn single.old single.new }
+        ensures links { KeepsLinks L.seen single.old single.new }
+        ensures accepted { Accepting (16 * length names.now.names) single.old single.new inproc.old inproc.new }
+        ensures brings { length self.now.newcomers < 256 → AllBring names.now.names 0 inproc.old inproc.new }
+    {
+        if self.newcomers.len() >= MOST_NEWCOMERS {
+            return;
+        }
+        names.accept_all(rt, inproc, single);
+    }
+
+    // Goes on with the greetings, and asks each listener and each dialer that is due.
+    fn go_on<R: Wait, N: Net<L = L>, P: Proto>(
+        &mut self,
+        rt: &R,
+        net: &mut N,
+        single: &mut Single<P, EndWire<L>>,
+        now: Tick,
+        turn: &mut EndsTurn,
+    )
+        requires ticked { (start : Beginning) × InTurn L.seen start self.old (N.seen net.old) single.old now (length self.old.newcomers) × NetStands start (before_last_tick (past_of single.old.seen)) (before_last_tick (past_of single.old.seen)) (N.seen net.old) self.old.listeners self.old.dialers }
+        requires room { has_room (before_last_tick (past_of single.old.seen)) ≡ true → length self.old.newcomers ≤ 192 }
+        requires dry { IsDry turn.old.is_dry single.old }
+        ensures stands { (start : Beginning) → InTurn L.seen start self.old (N.seen net.old) single.old now (length self.old.newcomers) → NetStands start (before_last_tick (past_of single.old.seen)) (before_last_tick (past_of single.old.seen)) (N.seen net.old) self.old.listeners self.old.dialers → EndsStand L.seen single.new.setting start single.new.seen (N.seen net.new) self.new }
+        ensures sound { IsSound single.new }
+        ensures quietly { Quietly single.old single.new }
+        ensures dry { IsDry turn.new.is_dry single.new }
+        ensures same { SameEnds self.old self.new }
+        ensures turns { Turns now (N.seen net.old) (N.seen net.new) self.old.dialers self.new.dialers }
+        ensures waits { AreWaiting now self.new.dialers }
+        ensures young { AreYoung now 0 self.new.newcomers }
+        ensures waited { (opened : ℕ) → opened ≤ (N.seen net.old).opened → AreWaitingBehind L.seen self.old.newcomers opened 0 self.new.newcomers }
+        ensures known { KnowsDialed (length self.old.listeners) (N.seen net.old) (N.seen net.new) self.new.dialers }
+        ensures listens { (N.seen net.new).listens ≡ (N.seen net.old).listens }
+        ensures asked { AsksAll now self.old (N.seen net.old) (N.seen net.new) }
+    {
+        self.greet_all(rt, net, single, now, turn);
+        self.accept_all(rt, net, single, now, turn);
+        self.dial_all(rt, net, single, now, turn);
+    }
+
+    // Takes one wire whose pipe is down, if there is one, and gives its link back.
     fn take_ended<R: Wait, N: Net<L = L>, P: Proto>(
         &mut self,
         rt: &R,
         net: &mut N,
         single: &mut Single<P, EndWire<L>>,
         now: Tick,
-    ) -> bool
+    ) -> Option<PipeId>
         requires in_turn { (start : Beginning) × InTurn L.seen start self.old (N.seen net.old) single.old now (length self.old.newcomers) }
         ensures in_turn { (start : Beginning) → InTurn L.seen start self.old (N.seen net.old) single.old now (length self.old.newcomers) → InTurn L.seen start self.new (N.seen net.new) single.new now (length self.new.newcomers) }
         ensures few { length self.new.newcomers ≤ length self.old.newcomers }
+        ensures newcomers { self.new.newcomers ≡ self.old.newcomers }
         ensures serves { Serves self.old self.new (N.seen net.old) (N.seen net.new) single.old single.new }
         ensures frees { Frees now (N.seen net.old) (N.seen net.new) self.old.dialers self.new.dialers }
         ensures dry { has_dry_miss (past_of single.new.seen) ≡ has_dry_miss (past_of single.old.seen) }
-        ensures none { result ≡ false → untaken (past_of single.old.seen) ≡ [] }
+        ensures taken { TakesPipe result single.old single.new }
     {
-        let Some(
-            Gone {
-                pipe: _,
-                why: _,
-                wire,
-            },
-        ) = single.take_ended(rt)
-        else {
-            return false;
+        let Some(Gone { pipe, why: _, wire }) = single.take_ended(rt) else {
+            return None;
         };
-        let Some(link) = leave_wire(wire) else {
-            unreachable!()
+        let Some(link) = leave_wire(rt, wire) else {
+            return Some(pipe);
         };
         let place = link.place();
         net.give_back(link);
         self.lost(now, place);
-        true
+        Some(pipe)
     }
 
     // Goes on with all greetings that are under way.
@@ -190,6 +295,7 @@ impl<L: Link> Ends<L> {
         ensures frees { Frees now (N.seen net.old) (N.seen net.new) self.old.dialers self.new.dialers }
         ensures dry { IsDry turn.new.is_dry single.new }
         ensures young { AreYoung now 0 self.new.newcomers }
+        ensures waited { (opened : ℕ) → AreWaitingBehind L.seen self.old.newcomers opened 0 self.new.newcomers }
     {
         'greets: for _ in 0..self.newcomers.len() {
             let Some(newcomer) = self.newcomers.pop_front() else {
@@ -210,7 +316,7 @@ impl<L: Link> Ends<L> {
         turn: &mut EndsTurn,
     )
         requires in_turn { (start : Beginning) × (k : ℕ) × InTurnWith L.seen start newcomer self.old (N.seen net.old) single.old now k }
-        requires room { length self.old.newcomers < 256 }
+        requires room { length self.old.newcomers < 320 }
         requires dry { IsDry turn.old.is_dry single.old }
         ensures in_turn { (start : Beginning) (k : ℕ) → InTurnWith L.seen start newcomer self.old (N.seen net.old) single.old now k → InTurn L.seen start self.new (N.seen net.new) single.new now k }
         ensures few { length self.new.newcomers ≤ length self.old.newcomers + 1 }
@@ -218,6 +324,7 @@ impl<L: Link> Ends<L> {
         ensures frees { Frees now (N.seen net.old) (N.seen net.new) self.old.dialers self.new.dialers }
         ensures dry { IsDry turn.new.is_dry single.new }
         ensures young { (k : ℕ) → AreYoung now k self.old.newcomers → AreYoung now k self.new.newcomers }
+        ensures waited { (first : List (NewcomerType L)) (opened k : ℕ) → IsFirstOrNew L.seen first opened newcomer → AreWaitingBehind L.seen first opened k self.old.newcomers → AreWaitingBehind L.seen first opened k self.new.newcomers }
     {
         let place = newcomer.opening.link.place();
         match greet_one(self.alloc, rt, net, single, newcomer, now) {
@@ -230,7 +337,7 @@ impl<L: Link> Ends<L> {
         }
     }
 
-    // Asks each listener for one link.
+    // Asks each listener.
     fn accept_all<R: Wait, N: Net<L = L>, P: Proto>(
         &mut self,
         rt: &R,
@@ -240,29 +347,17 @@ impl<L: Link> Ends<L> {
         turn: &mut EndsTurn,
     )
         requires in_turn { (start : Beginning) × InTurn L.seen start self.old (N.seen net.old) single.old now 0 }
-        requires asked { (start : Beginning) × NetStands start (before_last_tick (past_of single.old.seen)) (before_last_tick (past_of single.old.seen)) (N.seen net.old) self.old.listeners self.old.dialers }
-        requires room { has_room (before_last_tick (past_of single.old.seen)) ≡ true → length self.old.newcomers ≤ 192 }
+        requires listens { AllByRecursion (IsListener (N.seen net.old)) self.old.listeners }
         requires dry { IsDry turn.old.is_dry single.old }
-        ensures in_turn { (start : Beginning) → InTurn L.seen start self.old (N.seen net.old) single.old now 0 → InTurn L.seen start self.new (N.seen net.new) single.new now 0 }
-        ensures asked { (start : Beginning) → InTurn L.seen start self.old (N.seen net.old) single.old now 0 → NetStands start (before_last_tick (past_of single.old.seen)) (before_last_tick (past_of single.old.seen)) (N.seen net.old) self.old.listeners self.old.dialers → NetStands start (past_of single.new.seen) (before_last_tick (past_of single.new.seen)) (N.seen net.new) self.new.listeners self.new.dialers }
-        ensures quietly { Quietly single.old single.new }
-        ensures same { SameEnds self.old self.new }
-        ensures dry { IsDry turn.new.is_dry single.new }
-        ensures few { length self.new.newcomers ≤ length self.old.newcomers + length self.old.listeners }
-        ensures frees { Frees now (N.seen net.old) (N.seen net.new) self.old.dialers self.new.dialers }
-        ensures handed { (N.seen net.new).opened ≤ (N.seen net.old).opened + length self.old.listeners }
-        ensures young { AreYoung now 0 self.old.newcomers → AreYoung now 0 self.new.newcomers }
+        ensures { HasAsked L.seen (length self.old.listeners) (16 * length self.old.listeners) self.old self.new (N.seen net.old) (N.seen net.new) single.old single.new now turn.new.is_dry }
     {
         'accepts: for i in 0..self.listeners.len() {
-            if self.newcomers.len() >= MOST_NEWCOMERS {
-                return;
-            }
-            self.accept_one(rt, net, single, i, now, turn);
+            self.accept_from(rt, net, single, i, now, turn);
         }
     }
 
-    // Asks the listener at this place of the list for one link.
-    fn accept_one<R: Wait, N: Net<L = L>, P: Proto>(
+    // Asks the listener at this place of the list until it has no link, or has brought as many as it may.
+    fn accept_from<R: Wait, N: Net<L = L>, P: Proto>(
         &mut self,
         rt: &R,
         net: &mut N,
@@ -273,11 +368,36 @@ impl<L: Link> Ends<L> {
     )
         requires in_turn { (start : Beginning) × InTurn L.seen start self.old (N.seen net.old) single.old now 0 }
         requires inside { i < length self.old.listeners }
+        requires listens { AllByRecursion (IsListener (N.seen net.old)) self.old.listeners }
+        requires dry { IsDry turn.old.is_dry single.old }
+        ensures { HasAsked L.seen 1 16 self.old self.new (N.seen net.old) (N.seen net.new) single.old single.new now turn.new.is_dry }
+    {
+        'links: for _ in 0..LINKS_A_TURN {
+            if self.newcomers.len() >= MOST_NEWCOMERS {
+                return;
+            }
+            if !self.accept_one(rt, net, single, i, now, turn) {
+                return;
+            }
+        }
+    }
+
+    // Asks the listener at this place of the list for one link, and says whether it brought one.
+    fn accept_one<R: Wait, N: Net<L = L>, P: Proto>(
+        &mut self,
+        rt: &R,
+        net: &mut N,
+        single: &mut Single<P, EndWire<L>>,
+        i: usize,
+        now: Tick,
+        turn: &mut EndsTurn,
+    ) -> bool
+        requires in_turn { (start : Beginning) × InTurn L.seen start self.old (N.seen net.old) single.old now 0 }
+        requires inside { i < length self.old.listeners }
         requires listens { (l : ListenerType) → slice_get self.old.listeners i ≡ Some l → IsListener (N.seen net.old) l }
-        requires room { length self.old.newcomers < 256 }
         requires dry { IsDry turn.old.is_dry single.old }
         ensures in_turn { (start : Beginning) → InTurn L.seen start self.old (N.seen net.old) single.old now 0 → InTurn L.seen start self.new (N.seen net.new) single.new now 0 }
-        ensures few { length self.new.newcomers ≤ length self.old.newcomers + 1 }
+        ensures few { length self.new.newcomers + (N.seen net.old).opened ≤ length self.old.newcomers + (N.seen net.new).opened }
         ensures asks { AsksNet (N.seen net.old) (N.seen net.new) }
         ensures dialers { AreSameDialers self.old.dialers self.new.dialers }
         ensures frees { Frees now (N.seen net.old) (N.seen net.new) self.old.dialers self.new.dialers }
@@ -286,13 +406,15 @@ impl<L: Link> Ends<L> {
         ensures dry { IsDry turn.new.is_dry single.new }
         ensures handed { (N.seen net.new).opened ≤ (N.seen net.old).opened + 1 }
         ensures young { AreYoung now 0 self.old.newcomers → AreYoung now 0 self.new.newcomers }
+        ensures waited { (first : List (NewcomerType L)) (opened : ℕ) → opened ≤ (N.seen net.old).opened → AreWaitingBehind L.seen first opened 0 self.old.newcomers → AreWaitingBehind L.seen first opened 0 self.new.newcomers }
     {
         match net.accept(self.listeners[i].at) {
-            Linked::NotYet => (),
-            Linked::Failed => (),
+            Linked::NotYet => false,
+            Linked::Failed => false,
             Linked::Got(link) => {
                 let way = self.serving(i);
                 self.welcome(rt, net, single, link, way, now, turn);
+                true
             }
         }
     }
@@ -316,7 +438,6 @@ impl<L: Link> Ends<L> {
     )
         requires in_turn { (start : Beginning) × InTurn L.seen start self.old (N.seen net.old) single.old now 0 }
         requires asked { (start : Beginning) × InTurn L.seen start self.old (N.seen net.old) single.old now 0 × NetStands start (past_of single.old.seen) (before_last_tick (past_of single.old.seen)) (N.seen net.old) self.old.listeners self.old.dialers }
-        requires few { ticks (before_last_tick (past_of single.old.seen)) ≡ [] → length self.old.newcomers ≤ length self.old.listeners }
         requires dry { IsDry turn.old.is_dry single.old }
         ensures in_turn { (start : Beginning) → InTurn L.seen start self.old (N.seen net.old) single.old now 0 → InTurn L.seen start self.new (N.seen net.new) single.new now 0 }
         ensures asked { (start : Beginning) → InTurn L.seen start self.old (N.seen net.old) single.old now 0 → NetStands start (past_of single.old.seen) (before_last_tick (past_of single.old.seen)) (N.seen net.old) self.old.listeners self.old.dialers → NetStands start (past_of single.new.seen) (past_of single.new.seen) (N.seen net.new) self.new.listeners self.new.dialers }
@@ -324,14 +445,15 @@ impl<L: Link> Ends<L> {
         ensures same { SameEnds self.old self.new }
         ensures dry { IsDry turn.new.is_dry single.new }
         ensures turns { Turns now (N.seen net.old) (N.seen net.new) self.old.dialers self.new.dialers }
-        ensures waits { length self.new.newcomers < 256 → AreWaiting now self.new.dialers }
+        ensures waits { AreWaiting now self.new.dialers }
+        ensures listens { (N.seen net.new).listens ≡ (N.seen net.old).listens }
+        ensures dialed { AsksDue now self.old.dialers (N.seen net.old) (N.seen net.new) }
+        ensures counts { ((N.seen net.old).idles ≤ (N.seen net.new).idles) × ((N.seen net.old).faults ≤ (N.seen net.new).faults) }
         ensures known { KnowsLinks (N.seen net.old).opened (N.seen net.new) self.new.dialers }
         ensures young { AreYoung now 0 self.old.newcomers → AreYoung now 0 self.new.newcomers }
+        ensures waited { (first : List (NewcomerType L)) (opened : ℕ) → opened ≤ (N.seen net.old).opened → AreWaitingBehind L.seen first opened 0 self.old.newcomers → AreWaitingBehind L.seen first opened 0 self.new.newcomers }
     {
         'dials: for i in 0..self.dialers.len() {
-            if self.newcomers.len() >= MOST_NEWCOMERS {
-                return;
-            }
             if !self.dialers[i].is_due(now) {
                 continue;
             }
@@ -351,10 +473,8 @@ impl<L: Link> Ends<L> {
     )
         requires in_turn { (start : Beginning) × InTurn L.seen start self.old (N.seen net.old) single.old now 0 }
         requires dialable { (d : DialerType) × (slice_get self.old.dialers i ≡ Some d) × (is_dialable d.addr ≡ true) }
-        requires room { length self.old.newcomers < 256 }
         requires dry { IsDry turn.old.is_dry single.old }
         ensures in_turn { (start : Beginning) → InTurn L.seen start self.old (N.seen net.old) single.old now 0 → InTurn L.seen start self.new (N.seen net.new) single.new now 0 }
-        ensures few { length self.new.newcomers ≤ length self.old.newcomers + 1 }
         ensures asks { AsksNet (N.seen net.old) (N.seen net.new) }
         ensures dialed { DialsAt i now (N.seen net.old) (N.seen net.new) self.old.dialers self.new.dialers }
         ensures redials { Redials i now (N.seen net.old) (N.seen net.new) self.old.dialers self.new.dialers }
@@ -363,6 +483,7 @@ impl<L: Link> Ends<L> {
         ensures dry { IsDry turn.new.is_dry single.new }
         ensures known { KnowsLinks (N.seen net.old).opened (N.seen net.new) self.new.dialers }
         ensures young { AreYoung now 0 self.old.newcomers → AreYoung now 0 self.new.newcomers }
+        ensures waited { (first : List (NewcomerType L)) (opened : ℕ) → opened ≤ (N.seen net.old).opened → AreWaitingBehind L.seen first opened 0 self.old.newcomers → AreWaitingBehind L.seen first opened 0 self.new.newcomers }
     {
         match net.dial(&self.dialers[i].addr) {
             Linked::NotYet => self.dialers[i].dialed(now, None),
@@ -388,6 +509,17 @@ impl<L: Link> Ends<L> {
         way
     }
 
+    // The way of a link, where there is room for one more; there always is for the links of 64 ends.
+    fn fitting(&self, way: Result<Way, NoMemory>) -> Result<Way, NoMemory>
+        ensures { FitsIn way result self.now }
+    {
+        if self.newcomers.len() < ROOM {
+            way
+        } else {
+            Err(NoMemory)
+        }
+    }
+
     // A link that was handed out just now is met, and greeted. Its way is missing when out of memory.
     fn welcome<R: Wait, N: Net<L = L>, P: Proto>(
         &mut self,
@@ -400,7 +532,6 @@ impl<L: Link> Ends<L> {
         turn: &mut EndsTurn,
     )
         requires fresh { (start : Beginning) × (before : NetView) × InTurn L.seen start self.old before single.old now 0 × Arrives start.origins (L.seen link) way before (N.seen net.old) }
-        requires room { length self.old.newcomers < 256 }
         requires dry { IsDry turn.old.is_dry single.old }
         ensures in_turn { (start : Beginning) (before : NetView) → InTurn L.seen start self.old before single.old now 0 → Arrives start.origins (L.seen link) way before (N.seen net.old) → InTurn L.seen start self.new (N.seen net.new) single.new now 0 }
         ensures few { length self.new.newcomers ≤ length self.old.newcomers + 1 }
@@ -408,9 +539,11 @@ impl<L: Link> Ends<L> {
         ensures frees { Frees now (N.seen net.old) (N.seen net.new) self.old.dialers self.new.dialers }
         ensures dry { IsDry turn.new.is_dry single.new }
         ensures young { AreYoung now 0 self.old.newcomers → AreYoung now 0 self.new.newcomers }
+        ensures waited { (first : List (NewcomerType L)) (opened : ℕ) → opened ≤ (L.seen link).place → AreWaitingBehind L.seen first opened 0 self.old.newcomers → AreWaitingBehind L.seen first opened 0 self.new.newcomers }
     {
         let place = link.place();
         single.met(rt, place);
+        let way = self.fitting(way);
         match newcomer_over(self.alloc, link, self.role, way, now) {
             Ok(newcomer) => self.greet(rt, net, single, newcomer, now, turn),
             Err((NoMemory, link)) => {
@@ -451,12 +584,55 @@ fn newcomer_over<L: Link>(
     }
 }
 
-// Shuts a wire that a pipe had, and the link under it; a wire within the process has none.
-pub(crate) fn leave_wire<L: Link>(mut wire: EndWire<L>) -> Option<L>
+// Shuts a wire that a pipe had, and the link under it. A wire within the process has none, and tells its end to the other
+// half, if there is room for it.
+pub(crate) fn leave_wire<R: Wait, L: Link>(rt: &R, mut wire: EndWire<L>) -> Option<L>
     ensures { IsLeftOf L.seen wire result }
 {
     wire.shut();
-    wire.into_link()
+    tell_end(rt, wire).into_link()
+}
+
+// A wire within the process that was shut tells its end; any other stays.
+fn tell_end<R: Wait, L: Link>(rt: &R, wire: EndWire<L>) -> EndWire<L>
+    requires { MayDrain wire }
+    ensures { TellsEnd wire result }
+{
+    match wire {
+        EndWire::Tcp(wire) => EndWire::Tcp(wire),
+        EndWire::Ws(wire) => EndWire::Ws(wire),
+        EndWire::Lane(lane) => EndWire::Lane(hang_up(rt, lane)),
+    }
+}
+
+// Tells the end of a lane that was shut to its other half, if there is room for it.
+fn hang_up<R: Wait>(rt: &R, lane: LaneWire) -> LaneWire
+    requires { lane.wire.drains ≡ true }
+    ensures { HangsUp lane result }
+{
+    let mut lane = lane;
+    let _ = lane.flush(rt);
+    lane
+}
+
+// A lane becomes a pipe. One that attach refuses is shut, which tells the other half.
+pub(crate) fn attach_lane<R: Wait, L: Link, P: Proto>(
+    rt: &R,
+    single: &mut Single<P, EndWire<L>>,
+    lane: LaneWire,
+) -> Option<PipeId>
+    requires fresh { IsNewHalf lane }
+    ensures on { GoesOn single.old single.new }
+    ensures links { KeepsLinks L.seen single.old single.new }
+    ensures came { CameUp result single.old single.new }
+{
+    match single.attach(rt, EndWire::Lane(lane), LANE_PLACE) {
+        Ok(pipe) => Some(pipe),
+        Err((_, wire)) => match leave_wire(rt, wire) {
+            None => None,
+            Some(_link) => unreachable!(),
+        },
+    }
 }
 
 // Goes on with the greetings of a link.
@@ -478,6 +654,7 @@ fn greet_one<R: Wait, N: Net, P: Proto>(
     ensures dry { has_dry_miss (past_of single.new.seen) ≡ (is_dry_fate result || has_dry_miss (past_of single.old.seen)) }
     ensures back { FateBack result (N.L.seen newcomer.opening.link).place (N.seen net.old) (N.seen net.new) }
     ensures young { FateIsYoung now result }
+    ensures waited { FateHasWaited N.L.seen newcomer result }
 {
     let Newcomer { mut opening, met } = newcomer;
     let progress = opening.greet(alloc);

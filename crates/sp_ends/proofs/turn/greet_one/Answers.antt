@@ -8,6 +8,7 @@ use Rattle.sp_ends.specs.Standing.{HandStands, IsCauseOf}
 use Rattle.sp_ends.proofs.turn.greet_one.Goals as goal
 use Rattle.sp_ends.proofs.Hands.{to_hand, of_run_later, stays_behind}
 use Rattle.sp_ends.proofs.Greeting.{cause_of}
+use Rattle.sp_ends.proofs.Waited.{out_waited}
 
 pub attach-requires-clause-opened : goal.attach-requires-clause-opened
 attach-requires-clause-opened g c =
@@ -64,3 +65,13 @@ returns-in-Miss-clause-stands g c =
 pub returns-in-Miss-clause-back : goal.returns-in-Miss-clause-back
 returns-in-Miss-clause-back g c =
     subst (λ (q : ℕ). GivesOneBack q (g.N.Net.seen c.args.net.now) (g.N.Net.seen c.miss.new.net)) (ap (λ (l : g.row.N-L.Denot). (g.N.L.Link.seen l).place) c.into_link.ensures ∙ c.greet-progress.ensures.later.place) c.miss.ensures.back
+
+pub returns-in-Stays-clause-waited : goal.returns-in-Stays-clause-waited
+returns-in-Stays-clause-waited g c =
+    let n = c.args.newcomer in
+    let e = c.greet-progress.ensures in
+    let waits = subst (λ (x : Progress). CameTo g.N.L.Link.seen x (g.N.L.Link.seen n.opening.link) c.greet-progress.new.self) c.in-Stays.ensures.0 e.opened.came_to in
+    record { place = e.later.place; waited = waits.3 }
+
+pub returns-in-Attach-clause-waited : goal.returns-in-Attach-clause-waited
+returns-in-Attach-clause-waited g c = out_waited g.N.L.Link.seen c.args.newcomer c.attach.result c.attach.ensures.out

@@ -1,0 +1,462 @@
+-- Names that are dialed and asked, one by one.
+use Rattle.std.proofs.Common.{◌≡◌, refl, ap, sym, ◌∙◌, subst, List, [], ◌∷◌, ◌++◌, ℕ, zero, suc, ◌+◌, ◌*◌, ◌≤◌, ◌<◌, Bool, true, false, cond, arith, length, Option, Some, None, Result, Ok, Err, inl, inr, append_assoc, append-nil, length-append, set, get_or, slice_get, eq-eqb, eqb-true}
+use Rattle.std.specs.Prelude.{◌==◌, ◌⊎◌, ⊤, slice_index_or, slice_set}
+use Rattle.turn_lock.specs.declared.turn.Turn.{Turn}
+use Rattle.sp_base.specs.declared.role.Role.{Role}
+use Rattle.sp_history.specs.declared.entry.Entry.{Entry}
+use Rattle.sp_history.specs.declared.entry.Entry.TheVariants.{Up, Down, Taken}
+use Rattle.sp_history.specs.declared.entry.WireName.{WireName}
+use Rattle.sp_history.specs.declared.setting.Setting.{Setting}
+use Rattle.sp_history.specs.Changes.{none_of}
+use Rattle.sp_history.specs.Lists.{has, without, head_of}
+use Rattle.sp_history.specs.Legal.{Legal, AreAllowed}
+use Rattle.sp_history.specs.Past.{onto, past_from, past_of, up, ups, untaken}
+use Rattle.sp_history.proofs.Appending.{past_of-append}
+use Rattle.sp_history.proofs.Backing.{legal_allowed}
+use Rattle.sp_core.specs.Standing.{HasFirst}
+use Rattle.sp_core.specs.Moving.{AreSettling}
+use Rattle.sp_core.specs.declared.attach.AttachError.{AttachError}
+use Rattle.sp_core.specs.Attaching.{RefusedAttach}
+use Rattle.sp_single.specs.Singles.{SingleView, TookOne}
+use Rattle.sp_lane.specs.LaneWires.{LaneWireView}
+use Rattle.sp_lane.specs.Registry.{ListenerView, Registry, names, IsAt, Dials, Accepts}
+use Rattle.cat_play.specs.Recording.{lane_place, place_of}
+use Rattle.cat_play.specs.Running.{has_dry_miss}
+use Rattle.cat_play.specs.Steps.{moves_ends}
+use Rattle.sp_ends.specs.Moments.{moment, IsDueAt}
+use Rattle.sp_ends.specs.Turning.{Quietly, IsSound}
+use Rattle.sp_ends.specs.Calling.{IsDueCaller, IsFreeCaller, IsLostCaller, AreLost, IsGone, TookPipe, IsNewLane, HasCalled, HasNewLane, TakesCaller, TakesCallers, CallsOne, CallsAll, CallsAt, TurnsCaller, TurnsCallers, Begins, WasRefusedLane, AreAttached, halves_of, TurnsLanes, Accepting, DialsLanes, GoesOn, CameUp, AllBring, HasMore}
+use Rattle.sp_ends.specs.declared.caller.Caller.{Caller}
+use Rattle.std.proofs.lemmas.Bool.{ne_eqb}
+use Rattle.std.proofs.lemmas.List.{length-set}
+use Rattle.sp_ends.proofs.Places.{gone}
+use Rattle.sp_ends.proofs.Bringing.{more_none, more_both, more_one, all_dialed}
+use Rattle.sp_ends.proofs.Moves.{unequal}
+use Rattle.sp_ends.proofs.Leaving.{entries_leave, entries_keep, has_other, grown, numbered, moves_links, past_of_more}
+use Rattle.sp_ends.proofs.Keeping.{same_place, legal_rest}
+use Rattle.sp_ends.proofs.Standing.{settles, none_sub, links_of}
+use Rattle.sp_ends.proofs.Turns.{quiet_both, quiet_none, quiet_one, settles_play, first_play, dry_first, dry_settles, sound_one, after_one}
+use Rattle.sp_ends.proofs.TakenAll.{IsOff, untaken_off, off_onto, off_stays}
+use Rattle.sp_ends.proofs.NewcomingMoments.{due_moment}
+
+-- ---- The history goes on
+
+begins_both : (a b c : List (Turn Entry)) → Begins a b → Begins b c → Begins a c
+begins_both a b c (x, e) (y, f) = (x ++ y, f ∙ (ap (λ (h : List (Turn Entry)). h ++ y) e ∙ append_assoc a x y))
+
+pub goes_none : (a : SingleView) → GoesOn a a
+goes_none a = record { quietly = quiet_none a; sound = λ s. s; dry = refl; begins = ([], sym (append-nil a.seen)); ups = omega arith; places = λ p place e. e }
+
+pub goes_both : (a b c : SingleView) → GoesOn a b → GoesOn b c → GoesOn a c
+goes_both a b c x y = record {
+  quietly = quiet_both a b c x.quietly y.quietly;
+  sound = λ s. y.sound (x.sound s);
+  dry = y.dry ∙ x.dry;
+  begins = begins_both a.seen b.seen c.seen x.begins y.begins;
+  ups = omega (arith, x.ups, y.ups);
+  places = λ p place e. y.places p place (x.places p place e);
+}
+
+same_ups : (e : Entry) (past : List Entry) → moves_links e ≡ false → ups (e ∷ past) ≡ ups past
+same_ups (Up p place name) past h = cc
+same_ups _ past h = refl
+
+module _ (says : Setting → List (Turn Entry) → Turn Entry → Type 0) (a b : SingleView) (took : TookOne says a b) where
+  past_now : past_of b.seen ≡ onto took.turn.entries (past_of a.seen)
+  past_now = ap past_of took.seen ∙ past_of-append a.seen took.turn
+
+  module _ (q : AreSettling took.turn.entries) where
+    none : none_of moves_links took.turn.entries ≡ true
+    none = none_sub moves_ends moves_links links_of took.turn.entries (settles took.turn.entries q)
+
+    pub goes_settled : GoesOn a b
+    goes_settled = record {
+      quietly = quiet_one says a b took (settles_play took.turn.entries q);
+      sound = λ s. sound_one says a b took;
+      dry = dry_settles says a b took q;
+      begins = (took.turn ∷ [], took.seen);
+      ups = let e = ap ups past_now ∙ entries_leave moves_links ups same_ups took.turn.entries (past_of a.seen) none in omega (arith, e);
+      places = λ p place e. ap (λ (x : List Entry). place_of x p) past_now ∙ (entries_leave moves_links (λ (x : List Entry). place_of x p) (same_place p) took.turn.entries (past_of a.seen) none ∙ e);
+    }
+
+  module _ (p : ℕ) (name : WireName) (next : p ≡ ups (past_of a.seen) + 1) (first : HasFirst (Up p lane_place name) took.turn) where
+    late : none_of moves_links first.late ≡ true
+    late = none_sub moves_ends moves_links links_of first.late (settles first.late first.late_settles)
+
+    past_up : past_of b.seen ≡ onto first.late (Up p lane_place name ∷ past_of a.seen)
+    past_up = past_now ∙ ap (λ (es : List Entry). onto es (past_of a.seen)) first.entries
+
+    ups_now : ups (past_of b.seen) ≡ ups (past_of a.seen) + 1
+    ups_now = ap ups past_up ∙ entries_leave moves_links ups same_ups first.late (Up p lane_place name ∷ past_of a.seen) late
+
+    place_now : (q : ℕ) → place_of (past_of b.seen) q ≡ place_of (Up p lane_place name ∷ past_of a.seen) q
+    place_now q = ap (λ (x : List Entry). place_of x q) past_up ∙ entries_leave moves_links (λ (x : List Entry). place_of x q) (same_place q) first.late (Up p lane_place name ∷ past_of a.seen) late
+
+    still : (q place : ℕ) → place_of (past_of a.seen) q ≡ Some place → place_of (past_of b.seen) q ≡ Some place
+    still q place is = place_now q ∙ go (p == q) refl
+      where
+        allowed : AreAllowed a.setting (past_of a.seen)
+        allowed = after_one says a b took (λ z h. AreAllowed a.setting (past_of a.seen)) (λ l. legal_allowed a.setting a.seen (legal_rest a.setting a.seen (took.turn ∷ []) l).0)
+
+        go : (u : Bool) → (p == q) ≡ u → cond u (Some lane_place) (place_of (past_of a.seen) q) ≡ Some place
+        go true e = let n = numbered a.setting (past_of a.seen) q place allowed is in let same : p ≡ q = eqb-true p q e in absurd (omega (arith, n, same, next))
+        go false e = is
+
+    pub goes_up : GoesOn a b
+    goes_up = record {
+      quietly = quiet_one says a b took (first_play (Up p lane_place name) took.turn first refl);
+      sound = λ s. sound_one says a b took;
+      dry = dry_first (Up p lane_place name) says a b took first;
+      begins = (took.turn ∷ [], took.seen);
+      ups = omega (arith, ups_now);
+      places = still;
+    }
+
+    pub came_up : CameUp (Some p) a b
+    came_up = ((omega (arith, next), place_now p ∙ here), omega (arith, next, ups_now))
+      where
+        here : place_of (Up p lane_place name ∷ past_of a.seen) p ≡ Some lane_place
+        here = rw (eq-eqb p p refl) refl
+
+-- ---- A wire was taken
+
+untaken_on : (p : ℕ) (e : Entry) (past : List Entry) → moves_ends e ≡ false → has (untaken past) p ≡ true → has (untaken (e ∷ past)) p ≡ true
+untaken_on p (Taken q) past h x = cc
+untaken_on p (Down q why) past h x = grown (untaken past) q p x
+untaken_on p _ past h x = x
+
+module _ (says : Setting → List (Turn Entry) → Turn Entry → Type 0) (a b : SingleView) (took : TookOne says a b) (p : ℕ) (first : HasFirst (Taken p) took.turn) (was : has (untaken (past_of a.seen)) p ≡ true) where
+  past_taken : past_of b.seen ≡ onto first.late (Taken p ∷ past_of a.seen)
+  past_taken = past_now says a b took ∙ ap (λ (es : List Entry). onto es (past_of a.seen)) first.entries
+
+  legal_now : AreAllowed a.setting (onto first.late (Taken p ∷ past_of a.seen))
+  legal_now = subst (AreAllowed a.setting) past_taken (subst (λ (z : Setting). AreAllowed z (past_of b.seen)) took.setting (legal_allowed b.setting b.seen took.legal))
+
+  taken_off : IsOff true (onto first.late (Taken p ∷ past_of a.seen)) p
+  taken_off =
+      let allowed = after_one says a b took (λ z h. AreAllowed a.setting (past_of a.seen)) (λ l. legal_allowed a.setting a.seen (legal_rest a.setting a.seen (took.turn ∷ []) l).0) in
+      let x = untaken_off a.setting p (past_of a.seen) allowed was in
+      off_onto a.setting p true first.late (Taken p ∷ past_of a.seen) legal_now (x.0, x.1, λ e. gone (untaken (past_of a.seen)) p)
+
+  pub took_pipe : TookPipe p a b
+  took_pipe = record {
+    gone = let x = subst (λ (past : List Entry). IsOff true past p) (sym past_taken) taken_off in record { numbered = x.0; down = x.1; taken = x.2 refl };
+    others = λ q ne on. subst (λ (past : List Entry). has (untaken past) q ≡ true) (sym past_taken) (entries_keep moves_ends (λ (past : List Entry). has (untaken past) q ≡ true) (untaken_on q) first.late (Taken p ∷ past_of a.seen) (settles first.late first.late_settles) (has_other (untaken (past_of a.seen)) p q (ne_eqb p q ne) ∙ on));
+  }
+
+-- the first of them is among them
+pub taken_first : (us : List ℕ) (p : ℕ) → head_of us ≡ Some p → has us p ≡ true
+taken_first [] p e = cc
+taken_first (u ∷ us) p e = let same : u ≡ p = cc in rw (eq-eqb u p same) refl
+
+pub gone_stays : (a b : SingleView) (p : ℕ) → Quietly a b → IsSound b → IsGone a p → IsGone b p
+gone_stays a b p q sound g = let x = off_stays true a b p q sound (g.numbered, g.down, λ e. g.taken) in record { numbered = x.0; down = x.1; taken = x.2 refl }
+
+-- ---- Callers that lose their pipes
+
+-- so far each is the same, and its pipe that was down is still to be taken; or it is free
+abbrev pub TakesOne : ℕ → SingleView → SingleView → Caller → Caller → Type 0
+TakesOne now a b c d =
+    (d ≡ c) × ((p : ℕ) → c.pipe ≡ Some p → has (untaken (past_of a.seen)) p ≡ true → has (untaken (past_of b.seen)) p ≡ true) ⊎ ((p : ℕ) × (c.pipe ≡ Some p) × IsGone b p × IsFreeCaller now c d)
+
+abbrev pub TakesSome : ℕ → SingleView → SingleView → List Caller → List Caller → Type 0
+TakesSome now a b [] [] = ⊤
+TakesSome now a b (c ∷ cs) (d ∷ ds) = TakesOne now a b c d × TakesSome now a b cs ds
+TakesSome now a b _ _ = ⊥
+
+pub takes_same : (now : ℕ) (a : SingleView) (cs : List Caller) → TakesSome now a a cs cs
+takes_same now a [] = tt
+takes_same now a (c ∷ cs) = (inl (refl, λ p e u. u), takes_same now a cs)
+
+some_number : (p q : ℕ) → Some p ≡ Some q → p ≡ q
+some_number p q e = cc
+
+module _ (now : ℕ) (a b c : SingleView) (q : ℕ) (took : TookPipe q b c) (quiet : Quietly b c) (sound : IsSound c) where
+  takes_then : (x y w : Caller) → TakesOne now a b x y → IsLostCaller now q y w → TakesOne now a c x w
+  takes_then x y w (inr (p, has_p, g, free)) lost =
+      let none : y.pipe ≡ None = ap (λ (k : Caller). k.pipe) free in
+      inr (p, has_p, gone_stays b c p quiet sound g, lost.others (λ e. let no : Some q ≡ None = sym e ∙ none in cc) ∙ free)
+  takes_then x y w (inl (same, u)) lost = go x.pipe refl
+    where
+      at : y.pipe ≡ x.pipe
+      at = ap (λ (k : Caller). k.pipe) same
+
+      go : (o : Option ℕ) → x.pipe ≡ o → TakesOne now a c x w
+      go None e = inl (lost.others (λ s. let no : Some q ≡ None = sym s ∙ (at ∙ e) in cc) ∙ same, λ p is on. let no : Some p ≡ None = sym is ∙ e in cc)
+      go (Some p) e = pick (p == q) refl
+        where
+          pick : (t : Bool) → (p == q) ≡ t → TakesOne now a c x w
+          pick true t = let s : p ≡ q = eqb-true p q t in inr (q, e ∙ ap Some s, took.gone, lost.lost (at ∙ (e ∙ ap Some s)) ∙ ap (λ (k : Caller). record k { next = moment (now + 100); pipe = None }) same)
+          pick false t =
+              let ne : q ≡ p → ⊥ = λ s. unequal p q t (sym s) in
+              inl (lost.others (λ s. ne (some_number q p (sym s ∙ (at ∙ e)))) ∙ same, λ r is on. took.others r (λ s. ne (s ∙ some_number r p (sym is ∙ e))) (u r is on))
+
+  pub takes_lost : (xs ys ws : List Caller) → TakesSome now a b xs ys → AreLost now q ys ws → TakesSome now a c xs ws
+  takes_lost [] [] [] x l = tt
+  takes_lost [] [] (w ∷ ws) x l = absurd l
+  takes_lost [] (y ∷ ys) ws x l = absurd x
+  takes_lost (x ∷ xs) [] ws t l = absurd t
+  takes_lost (x ∷ xs) (y ∷ ys) [] t l = absurd l
+  takes_lost (x ∷ xs) (y ∷ ys) (w ∷ ws) t l = (takes_then x y w t.0 l.0, takes_lost xs ys ws t.1 l.1)
+
+-- none is left to be taken
+pub takes_all : (now : ℕ) (a b c : SingleView) → untaken (past_of b.seen) ≡ [] → Quietly b c → IsSound c → (xs ys : List Caller) → TakesSome now a b xs ys → TakesCallers now a c xs ys
+takes_all now a b c none quiet sound [] [] t = tt
+takes_all now a b c none quiet sound [] (y ∷ ys) t = absurd t
+takes_all now a b c none quiet sound (x ∷ xs) [] t = absurd t
+takes_all now a b c none quiet sound (x ∷ xs) (y ∷ ys) t = (go t.0, takes_all now a b c none quiet sound xs ys t.1)
+  where
+    go : TakesOne now a b x y → TakesCaller now a c x y
+    go (inl (same, u)) = inl (same, λ p is on. let no : false ≡ true = ap (λ (us : List ℕ). has us p) (sym none) ∙ u p is on in cc)
+    go (inr (p, is, g, free)) = inr (p, is, gone_stays b c p quiet sound g, free)
+
+-- ---- Callers that dial
+
+-- so many had their turn
+abbrev pub CallsTo : ℕ → ℕ → SingleView → SingleView → List Caller → List Caller → Type 0
+CallsTo zero now a b cs ds = ds ≡ cs
+CallsTo (suc i) now a b [] [] = ⊤
+CallsTo (suc i) now a b (c ∷ cs) (d ∷ ds) = CallsOne now a b c d × CallsTo i now a b cs ds
+CallsTo (suc i) now a b _ _ = ⊥
+
+lane_later : (a b c : SingleView) (p : ℕ) → GoesOn b c → IsNewLane a b p → IsNewLane a c p
+lane_later a b c p g x = (x.0, g.places p lane_place x.1)
+
+calls_later : (now : ℕ) (a b c : SingleView) (x y : Caller) → GoesOn b c → CallsOne now a b x y → CallsOne now a c x y
+calls_later now a b c x y g (inr t) = inr t
+calls_later now a b c x y g (inl (due, inl free)) = inl (due, inl free)
+calls_later now a b c x y g (inl (due, inr (p, lane, is))) = inl (due, inr (p, lane_later a b c p g lane, is))
+
+pub calls_on : (i now : ℕ) (a b c : SingleView) (xs ys : List Caller) → GoesOn b c → CallsTo i now a b xs ys → CallsTo i now a c xs ys
+calls_on zero now a b c xs ys g t = t
+calls_on (suc i) now a b c [] [] g t = tt
+calls_on (suc i) now a b c [] (y ∷ ys) g t = absurd t
+calls_on (suc i) now a b c (x ∷ xs) [] g t = absurd t
+calls_on (suc i) now a b c (x ∷ xs) (y ∷ ys) g t = (calls_later now a b c x y g t.0, calls_on i now a b c xs ys g t.1)
+
+-- the next one had its turn
+calls_set : (i now : ℕ) (a b : SingleView) (xs ys : List Caller) (y w : Caller) → CallsTo i now a b xs ys → slice_get ys i ≡ Some y → CallsOne now a b y w → CallsTo (suc i) now a b xs (set ys i w)
+calls_set i now a b xs [] y w t at one = cc
+calls_set zero now a b [] (v ∷ ys) y w t at one = cc
+calls_set zero now a b (x ∷ xs) (v ∷ ys) y w t at one =
+    let head : v ≡ x = cc in let rest : ys ≡ xs = cc in let is : v ≡ y = cc in (subst (λ (k : Caller). CallsOne now a b k w) (sym is ∙ head) one, rest)
+calls_set (suc i) now a b [] (v ∷ ys) y w t at one = absurd t
+calls_set (suc i) now a b (x ∷ xs) (v ∷ ys) y w t at one = (t.0, calls_set i now a b xs ys y w t.1 at one)
+
+pub calls_kept : (i now : ℕ) (a b : SingleView) (xs ys : List Caller) → CallsTo i now a b xs ys → ((y : Caller) → slice_get ys i ≡ Some y → IsDueCaller now y → ⊥) → CallsTo (suc i) now a b xs ys
+calls_kept zero now a b [] [] t never = tt
+calls_kept zero now a b [] (y ∷ ys) t never = cc
+calls_kept zero now a b (x ∷ xs) [] t never = cc
+calls_kept zero now a b (x ∷ xs) (y ∷ ys) t never =
+    let head : y ≡ x = cc in let rest : ys ≡ xs = cc in (inr (λ due. never y refl (subst (IsDueCaller now) (sym head) due), head), rest)
+calls_kept (suc i) now a b [] [] t never = tt
+calls_kept (suc i) now a b [] (y ∷ ys) t never = absurd t
+calls_kept (suc i) now a b (x ∷ xs) [] t never = absurd t
+calls_kept (suc i) now a b (x ∷ xs) (y ∷ ys) t never = (t.0, calls_kept i now a b xs ys t.1 never)
+
+pub calls_whole : (i now : ℕ) (a b : SingleView) (xs ys : List Caller) → CallsTo i now a b xs ys → length ys ≤ i → CallsAll now a b xs ys
+calls_whole zero now a b [] [] t l = tt
+calls_whole zero now a b (x ∷ xs) [] t l = cc
+calls_whole zero now a b xs (y ∷ ys) t l = absurd (omega (arith, l))
+calls_whole (suc i) now a b [] [] t l = tt
+calls_whole (suc i) now a b [] (y ∷ ys) t l = absurd t
+calls_whole (suc i) now a b (x ∷ xs) [] t l = absurd t
+calls_whole (suc i) now a b (x ∷ xs) (y ∷ ys) t l = (t.0, calls_whole i now a b xs ys t.1 (omega (arith, l)))
+
+-- it has the pipe that the call brought
+pub called_as : (now : ℕ) (a b : SingleView) (o : Option ℕ) (x y : Caller) → HasNewLane o a b → y ≡ record x { next = moment (now + 100); pipe = o } → HasCalled now a b x y
+called_as now a b None x y lane is = inl is
+called_as now a b (Some p) x y lane is = inr (p, lane, is)
+
+one_caller : {a b : Caller} → Some a ≡ Some b → a ≡ b
+one_caller e = cc
+
+from_before : (now : ℕ) (a b c : SingleView) (x y : Caller) → GoesOn a b → HasCalled now b c x y → HasCalled now a c x y
+from_before now a b c x y g (inl free) = inl free
+from_before now a b c x y g (inr (p, lane, is)) = inr (p, (let l = lane.0 in let u = g.ups in omega (arith, l, u), lane.1), is)
+
+-- one that is due dialed
+pub calls_next : (i now : ℕ) (a b c : SingleView) (xs ys ws : List Caller) (y : Caller) → GoesOn a b → GoesOn b c → CallsTo i now a b xs ys → slice_get ys i ≡ Some y → IsDueCaller now y → CallsAt i now b c ys ws → CallsTo (suc i) now a c xs ws
+calls_next i now a b c xs ys ws y f g t at due (x, w, at', called, is) =
+    let same : x ≡ y = one_caller (sym at' ∙ at) in
+    subst (λ (vs : List Caller). CallsTo (suc i) now a c xs vs) (sym is) (calls_set i now a c xs ys y w (calls_on i now a b c xs ys g t) at (inl (due, from_before now a b c y w f (subst (λ (k : Caller). HasCalled now b c k w) same called))))
+
+pub calls_long : (i now : ℕ) (b c : SingleView) (ys ws : List Caller) → CallsAt i now b c ys ws → length ws ≡ length ys
+calls_long i now b c ys ws (x, w, at, called, is) = ap length is ∙ length-set ys i w
+
+-- ---- Lanes
+
+pub halves_more : (i : ℕ) (reg : Registry) (l : ListenerView) (other : LaneWireView) → i < length reg → ((d : ListenerView) → slice_index_or reg i d ≡ l) → halves_of (slice_set reg i (record l { halves = l.halves ++ other ∷ [] })) ≡ halves_of reg + 1
+halves_more i [] l other lt is = absurd (omega (arith, lt))
+halves_more zero (x ∷ reg) l other lt is = let e : length x.halves ≡ length l.halves = ap (λ (v : ListenerView). length v.halves) (is x) in omega (arith, e, length-append l.halves (other ∷ []))
+halves_more (suc i) (x ∷ reg) l other lt is = let e = halves_more i reg l other (omega (arith, lt)) is in omega (arith, e)
+
+pub halves_less : (i : ℕ) (reg : Registry) (l : ListenerView) (w : LaneWireView) (rest : List LaneWireView) → i < length reg → ((d : ListenerView) → slice_index_or reg i d ≡ l) → l.halves ≡ w ∷ rest → halves_of reg ≡ halves_of (slice_set reg i (record l { halves = rest })) + 1
+halves_less i [] l w rest lt is e = absurd (omega (arith, lt))
+halves_less zero (x ∷ reg) l w rest lt is e = let f : length x.halves ≡ length (w ∷ rest) = ap (λ (v : ListenerView). length v.halves) (is x) ∙ ap length e in omega (arith, f)
+halves_less (suc i) (x ∷ reg) l w rest lt is e = let f = halves_less i reg l w rest (omega (arith, lt)) is e in omega (arith, f)
+
+names_stay : (i : ℕ) (reg : Registry) (l : ListenerView) (xs : List LaneWireView) → i < length reg → ((d : ListenerView) → slice_index_or reg i d ≡ l) → names (slice_set reg i (record l { halves = xs })) ≡ names reg
+names_stay i [] l xs lt is = refl
+names_stay zero (x ∷ reg) l xs lt is = ap (λ (v : ListenerView). v.name ∷ names reg) (sym (is x))
+names_stay (suc i) (x ∷ reg) l xs lt is = ap (λ (ns : List (List ℕ)). x.name ∷ ns) (names_stay i reg l xs (omega (arith, lt)) is)
+
+pub dials_none : (reg reg' : Registry) → reg' ≡ reg → DialsLanes reg reg'
+dials_none reg reg' e = record { dialed = 0; halves = let h = ap halves_of e in omega (arith, h); names_are = ap names e; more = more_none reg reg' e }
+
+pub dials_both : (a b c : Registry) → DialsLanes a b → DialsLanes b c → DialsLanes a c
+dials_both a b c x y = record { dialed = x.dialed + y.dialed; halves = let h = x.halves in let k = y.halves in omega (arith, h, k); names_are = y.names_are ∙ x.names_are; more = more_both x.dialed y.dialed a b c x.more y.more }
+
+pub dials_one : (name : List ℕ) (role : Role) (wire : LaneWireView) (reg reg' : Registry) → Dials name role (Ok wire) reg reg' → DialsLanes reg reg'
+dials_one name role wire reg reg' (i, l, other, at, role_is, crossed, is) =
+    record { dialed = 1; halves = let h = ap halves_of is in let k = halves_more i reg l other at.within at.is in omega (arith, h, k); names_are = ap names is ∙ names_stay i reg l (l.halves ++ other ∷ []) at.within at.is; more = subst (λ (r : Registry). HasMore 1 reg r) (sym is) (more_one i reg l other at.within at.is) }
+
+-- ---- Lanes that are accepted
+
+attached_later : (a b c : SingleView) (m n : ℕ) (xs : List (Result ℕ AttachError)) → GoesOn b c → m ≤ n → AreAttached a b m xs → AreAttached a c n xs
+attached_later a b c m n [] g l x = tt
+attached_later a b c m n (Ok p ∷ xs) g l x = (let k = x.0 in omega (arith, k, l), lane_later a b c p g x.1, attached_later a b c p p xs g (omega arith) x.2)
+attached_later a b c m n (Err why ∷ xs) g l x = let r = x.0 in ((r.0, r.1, begins_both r.0 b.seen c.seen r.2 g.begins, r.3), attached_later a b c m n xs g l x.1)
+
+-- those of the later part before those of the first
+attached_both : (a b c : SingleView) (n : ℕ) (xs ys : List (Result ℕ AttachError)) → GoesOn a b → GoesOn b c → ups (past_of b.seen) < n → AreAttached a b (ups (past_of b.seen) + 1) xs → AreAttached b c n ys → AreAttached a c n (ys ++ xs)
+attached_both a b c n xs [] f g l x y = attached_later a b c (ups (past_of b.seen) + 1) n xs g (omega (arith, l)) x
+attached_both a b c n xs (Ok p ∷ ys) f g l x y = let u = f.ups in let k = y.1.0 in (y.0, (omega (arith, u, k), y.1.1), attached_both a b c p xs ys f g (omega (arith, k)) x y.2)
+attached_both a b c n xs (Err why ∷ ys) f g l x y =
+    let r = y.0 in ((r.0, begins_both a.seen b.seen r.0 f.begins r.1, r.2, subst (λ (z : Setting). RefusedAttach why z (past_of r.0)) f.quietly.setting r.3), attached_both a b c n xs ys f g l x y.1)
+
+pub accepts_none : (n : ℕ) (a : SingleView) (reg reg' : Registry) → reg' ≡ reg → Accepting n a a reg reg'
+accepts_none n a reg reg' e = record { accepted = []; attached = tt; few = omega arith; halves = let h = ap halves_of e in omega (arith, h); names_are = ap names e }
+
+pub accepts_as : (m n : ℕ) (a b : SingleView) (reg reg' : Registry) → m ≤ n → Accepting m a b reg reg' → Accepting n a b reg reg'
+accepts_as m n a b reg reg' l x = record { accepted = x.accepted; attached = x.attached; few = let f = x.few in omega (arith, f, l); halves = x.halves; names_are = x.names_are }
+
+pub accepts_both : (m n : ℕ) (a b c : SingleView) (r s t : Registry) → GoesOn a b → GoesOn b c → Accepting m a b r s → Accepting n b c s t → Accepting (m + n) a c r t
+accepts_both m n a b c r s t f g x y = record {
+  accepted = y.accepted ++ x.accepted;
+  attached = attached_both a b c (ups (past_of c.seen) + 1) x.accepted y.accepted f g (let u = g.ups in omega (arith, u)) x.attached y.attached;
+  few = let k = x.few in let l = y.few in omega (arith, k, l, length-append y.accepted x.accepted);
+  halves = let k = x.halves in let l = y.halves in omega (arith, k, l, length-append y.accepted x.accepted);
+  names_are = y.names_are ∙ x.names_are;
+}
+
+-- one was accepted, and attached or refused
+pub accepts_one : (name : List ℕ) (wire : LaneWireView) (o : Option ℕ) (a b : SingleView) (reg reg' : Registry) → Accepts name (Some wire) reg reg' → CameUp o a b → GoesOn a b → Accepting 1 a b reg reg'
+accepts_one name wire o a b reg reg' (i, l, rest, at, halves, is) came g = record {
+  accepted = fate o came;
+  attached = attached o came;
+  few = few o came;
+  halves = let h = ap halves_of is in let k = halves_less i reg l wire rest at.within at.is halves in let n = long o came in omega (arith, h, k, n);
+  names_are = ap names is ∙ names_stay i reg l rest at.within at.is;
+}
+  where
+    fate : (o : Option ℕ) → CameUp o a b → List (Result ℕ AttachError)
+    fate None c = Err c.0 ∷ []
+    fate (Some p) c = Ok p ∷ []
+
+    long : (o : Option ℕ) (c : CameUp o a b) → length (fate o c) ≡ 1
+    long None c = refl
+    long (Some p) c = refl
+
+    few : (o : Option ℕ) (c : CameUp o a b) → length (fate o c) ≤ 1
+    few o c = let n = long o c in omega (arith, n)
+
+    attached : (o : Option ℕ) (c : CameUp o a b) → AreAttached a b (ups (past_of b.seen) + 1) (fate o c)
+    attached None c = ((a.seen, ([], sym (append-nil a.seen)), g.begins, c.1), tt)
+    attached (Some p) c = (let e = c.1 in omega (arith, e), c.0, tt)
+
+-- ---- A whole turn
+
+turns_one : (now : ℕ) (a b c d e : SingleView) (x y w : Caller) → GoesOn d e → GoesOn c d → ups (past_of a.seen) ≤ ups (past_of c.seen) → Quietly b c → IsSound c → Quietly c e → IsSound e → TakesCaller now a b x y → CallsOne now c d y w → TurnsCaller now a e x w
+turns_one now a b c d e x y w on go more quiet sound quiet' sound' (inl (same, u)) (inl (due, inl free)) = inl (subst (IsDueCaller now) same due, inl (free ∙ ap (λ (k : Caller). record k { next = moment (now + 100); pipe = None }) same))
+turns_one now a b c d e x y w on go more quiet sound quiet' sound' (inl (same, u)) (inl (due, inr (p, lane, is))) =
+    inl (subst (IsDueCaller now) same due, inr (p, (let l = lane.0 in omega (arith, l, more), on.places p lane_place lane.1), is ∙ ap (λ (k : Caller). record k { next = moment (now + 100); pipe = Some p }) same))
+turns_one now a b c d e x y w on go more quiet sound quiet' sound' (inl (same, u)) (inr (never, kept)) = inr (λ due. never (subst (IsDueCaller now) (sym same) due), inl (kept ∙ same, u))
+turns_one now a b c d e x y w on go more quiet sound quiet' sound' (inr (p, has_p, g, free)) (inl (due, called)) =
+    let l = due_moment (now + 100) now (subst (λ (k : Caller). IsDueAt k.next now) free due.1) in absurd (omega (arith, l))
+turns_one now a b c d e x y w on go more quiet sound quiet' sound' (inr (p, has_p, g, free)) (inr (never, kept)) =
+    inr (λ due. let no : Some p ≡ None = sym has_p ∙ due.0 in cc, inr (p, has_p, gone_stays c e p quiet' sound' (gone_stays b c p quiet sound g), kept ∙ free))
+
+-- callers lose their pipes, then something else happens, then they dial, and then names are asked
+pub turns_callers : (now : ℕ) (a b c d e : SingleView) → GoesOn d e → GoesOn c d → ups (past_of a.seen) ≤ ups (past_of c.seen) → Quietly b c → IsSound c → Quietly c e → IsSound e → (xs ys ws : List Caller) → TakesCallers now a b xs ys → CallsAll now c d ys ws → TurnsCallers now a e xs ws
+turns_callers now a b c d e on go more quiet sound quiet' sound' [] [] [] t l = tt
+turns_callers now a b c d e on go more quiet sound quiet' sound' [] [] (w ∷ ws) t l = absurd l
+turns_callers now a b c d e on go more quiet sound quiet' sound' [] (y ∷ ys) ws t l = absurd t
+turns_callers now a b c d e on go more quiet sound quiet' sound' (x ∷ xs) [] ws t l = absurd t
+turns_callers now a b c d e on go more quiet sound quiet' sound' (x ∷ xs) (y ∷ ys) [] t l = absurd l
+turns_callers now a b c d e on go more quiet sound quiet' sound' (x ∷ xs) (y ∷ ys) (w ∷ ws) t l = (turns_one now a b c d e x y w on go more quiet sound quiet' sound' t.0 l.0, turns_callers now a b c d e on go more quiet sound quiet' sound' xs ys ws t.1 l.1)
+
+-- ---- Lanes of a whole turn
+
+one_up : (e : Entry) (past : List Entry) → ups past ≤ ups (e ∷ past)
+one_up (Up p place name) past = omega arith
+one_up _ past = omega arith
+
+ups_onto : (es past : List Entry) → ups past ≤ ups (onto es past)
+ups_onto [] past = omega arith
+ups_onto (e ∷ es) past = let a = one_up e past in let b = ups_onto es (e ∷ past) in omega (arith, a, b)
+
+ups_from : (turns : List (Turn Entry)) (past : List Entry) → ups past ≤ ups (past_from past turns)
+ups_from [] past = omega arith
+ups_from (t ∷ turns) past = let a = ups_onto t.entries past in let b = ups_from turns (onto t.entries past) in omega (arith, a, b)
+
+pub quiet_ups : (a b : SingleView) → Quietly a b → ups (past_of a.seen) ≤ ups (past_of b.seen)
+quiet_ups a b q =
+    let is : past_of b.seen ≡ past_from (past_of a.seen) q.silent.0 = ap past_of q.silent.1 ∙ past_of_more [] a.seen q.silent.0 in
+    let e = ap ups is in let g = ups_from q.silent.0 (past_of a.seen) in omega (arith, e, g)
+
+attached_from : (a d e : SingleView) (n : ℕ) (xs : List (Result ℕ AttachError)) → Quietly a d → AreAttached d e n xs → AreAttached a e n xs
+attached_from a d e n [] q x = tt
+attached_from a d e n (Ok p ∷ xs) q x = let u = quiet_ups a d q in let k = x.1.0 in (x.0, (omega (arith, u, k), x.1.1), attached_from a d e p xs q x.2)
+attached_from a d e n (Err why ∷ xs) q x =
+    let r = x.0 in ((r.0, begins_both a.seen d.seen r.0 (q.silent.0, q.silent.1) r.1, r.2, subst (λ (z : Setting). RefusedAttach why z (past_of r.0)) q.setting r.3), attached_from a d e n xs q x.1)
+
+-- names were dialed, and then asked
+pub turns_lanes : (greeting : ℕ) (listened : List (List ℕ)) (a d e : SingleView) (r s t : Registry) → Quietly a d → DialsLanes r s → Accepting (16 * length listened) d e s t → (greeting < 256 → AllBring listened 0 s t) → TurnsLanes greeting listened a e r t
+turns_lanes greeting listened a d e r s t q x y brings = record {
+  accepted = y.accepted;
+  dialed = x.dialed;
+  attached = attached_from a d e (ups (past_of e.seen) + 1) y.accepted q y.attached;
+  few = y.few;
+  halves = let h = x.halves in let k = y.halves in omega (arith, h, k);
+  names_are = y.names_are ∙ x.names_are;
+  asked = λ few. all_dialed listened x.dialed r s t x.more (brings few);
+}
+
+-- ---- The wire of a pipe was taken
+
+-- so many callers know
+abbrev pub LostTo : ℕ → ℕ → ℕ → List Caller → List Caller → Type 0
+LostTo zero now pipe cs ds = ds ≡ cs
+LostTo (suc i) now pipe [] [] = ⊤
+LostTo (suc i) now pipe (c ∷ cs) (d ∷ ds) = IsLostCaller now pipe c d × LostTo i now pipe cs ds
+LostTo (suc i) now pipe _ _ = ⊥
+
+module _ (now pipe : ℕ) where
+  pub lost_next : (i : ℕ) (cs ds : List Caller) (y z : Caller) → LostTo i now pipe cs ds → i < length ds → IsLostCaller now pipe (get_or ds i y) z → LostTo (suc i) now pipe cs (set ds i z)
+  lost_next zero cs [] y z x l f = absurd (omega (arith, l))
+  lost_next zero [] (d ∷ ds) y z x l f = cc
+  lost_next zero (c ∷ cs) (d ∷ ds) y z x l f = let same : d ≡ c = cc in let rest : ds ≡ cs = cc in (subst (λ (k : Caller). IsLostCaller now pipe k z) same f, rest)
+  lost_next (suc i) [] [] y z x l f = absurd (omega (arith, l))
+  lost_next (suc i) [] (d ∷ ds) y z x l f = absurd x
+  lost_next (suc i) (c ∷ cs) [] y z x l f = absurd x
+  lost_next (suc i) (c ∷ cs) (d ∷ ds) y z x l f = (x.0, lost_next i cs ds y z x.1 (omega (arith, l)) f)
+
+  pub lost_whole : (i : ℕ) (cs ds : List Caller) → LostTo i now pipe cs ds → length ds ≤ i → AreLost now pipe cs ds
+  lost_whole zero [] [] x l = tt
+  lost_whole zero (c ∷ cs) [] x l = cc
+  lost_whole zero cs (d ∷ ds) x l = absurd (omega (arith, l))
+  lost_whole (suc i) [] [] x l = tt
+  lost_whole (suc i) [] (d ∷ ds) x l = absurd x
+  lost_whole (suc i) (c ∷ cs) [] x l = absurd x
+  lost_whole (suc i) (c ∷ cs) (d ∷ ds) x l = (x.0, lost_whole i cs ds x.1 (omega (arith, l)))
+
+-- of as many names
+pub accepts_for : (a b : SingleView) (r t : Registry) (ms ns : List (List ℕ)) → ms ≡ ns → Accepting (16 * length ms) a b r t → Accepting (16 * length ns) a b r t
+accepts_for a b r t ms ns e x = subst (λ (xs : List (List ℕ)). Accepting (16 * length xs) a b r t) e x
+
+pub accepts_then : (m n : ℕ) (a b : SingleView) (r s t : Registry) → m ≤ n → t ≡ s → Accepting m a b r s → Accepting n a b r t
+accepts_then m n a b r s t l e x = subst (λ (q : Registry). Accepting n a b r q) (sym e) (accepts_as m n a b r s l x)
+
+pub bring_for : (r t : Registry) (greeting : ℕ) (ms ns : List (List ℕ)) → ms ≡ ns → (greeting < 256 → AllBring ms 0 r t) → greeting < 256 → AllBring ns 0 r t
+bring_for r t greeting ms ns e x few = subst (λ (xs : List (List ℕ)). AllBring xs 0 r t) e (x few)

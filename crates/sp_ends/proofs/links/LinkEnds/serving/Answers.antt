@@ -1,0 +1,15 @@
+use Rattle.std.proofs.Common.{◌≡◌, Some, sym, ap, subst, ◌∙◌, slice_get, IfOk}
+use Rattle.link_opening.specs.Origins.{serving}
+use Rattle.sp_ends.specs.declared.listener.Listener.{Listener}
+use Rattle.sp_ends.specs.Standing.{LinkEndsView}
+use Rattle.sp_ends.proofs.NewcomingAsks.{at_index}
+use Rattle.sp_ends.proofs.links.LinkEnds.serving.Goals as goal
+
+some_listener : {a b : Listener} → Some a ≡ Some b → a ≡ b
+some_listener e = cc
+
+pub returns : goal.returns
+returns g c l at =
+    let there : slice_get c.args.self.now.listeners c.args.i ≡ Some c.index.result.now = at_index c.self.inside.listeners.items c.args.self.now.listeners c.args.i c.index.result.now (ap (λ (e : LinkEndsView g.row.L.Denot). e.listeners) c.self.view_is) c.requires.inside c.index.ensures in
+    let is : c.index.result.now ≡ l = some_listener (sym there ∙ at) in
+    subst (λ (x : Listener). IfOk c.serving.result (λ w. w ≡ serving x.addr)) is c.serving.ensures
