@@ -12,7 +12,7 @@ use Rattle.link_opening.specs.Origins.{Origins, IsAmong}
 use Rattle.sp_history.specs.declared.entry.Entry.{Entry}
 use Rattle.sp_history.specs.declared.setting.Setting.{Setting}
 use Rattle.sp_single.specs.Singles.{SingleView}
-use Rattle.sp_ends.specs.Standing.{EndsView, EndsStand, Beginning}
+use Rattle.sp_ends.specs.Standing.{LinkEndsView, EndsStand, Beginning}
 use Rattle.cat_text.specs.Drafts.{needs_data}
 use Rattle.cat_text.specs.declared.plan.CatPlan.{CatPlan}
 use Rattle.cat_text.specs.declared.plan.Data.{Data}
@@ -32,7 +32,7 @@ use Rattle.cat_rounds.specs.Built.{IsBuilt, IsBuiltData, IsBody, IsEndOf, has_da
 use Rattle.cat_rounds.proofs.Silent.{append_nil}
 
 -- no end
-abbrev pub no_ends : {L : Type 0} → Role → ℕ → EndsView L
+abbrev pub no_ends : {L : Type 0} → Role → ℕ → LinkEndsView L
 no_ends role dice = record { role = role; dice = dice; asked = 0; listeners = []; dialers = []; newcomers = [] }
 
 -- a run of this plan begins
@@ -101,10 +101,10 @@ play_begins z s p n role surveys carries =
       idle = λ e. refl;
     }
 
-begins : {L : Type 0} (seen : L → LinkView) (start : Beginning) (s : SingleView) (e : EndsView L) (script : Script) (p : Player) → s.seen ≡ [] → e ≡ no_ends s.setting.role start.origins.dice → IsNewPlayer script p → s.setting.role ≡ script.role → HasSurveys s.setting
+begins : {L : Type 0} (seen : L → LinkView) (start : Beginning) (s : SingleView) (e : LinkEndsView L) (script : Script) (p : Player) → s.seen ≡ [] → e ≡ no_ends s.setting.role start.origins.dice → IsNewPlayer script p → s.setting.role ≡ script.role → HasSurveys s.setting
     → IsTrue (not (needs_data script.role) || is_some script.body) → RunStands seen start s e p start.net false
 begins seen start s e script p empty none new role surveys carries =
-    subst (λ (v : SingleView). RunStands seen start v e p start.net false) (sym single) (subst (λ (x : EndsView _). RunStands seen start (record { setting = s.setting; seen = [] }) x p start.net false) (sym none) (record {
+    subst (λ (v : SingleView). RunStands seen start v e p start.net false) (sym single) (subst (λ (x : LinkEndsView _). RunStands seen start (record { setting = s.setting; seen = [] }) x p start.net false) (sym none) (record {
       sound = record { legal = tt; settled = tt };
       play = play_begins s.setting script p new role surveys carries;
       ends_stand = ends_begin seen s.setting start;
@@ -153,7 +153,7 @@ prints_nothing text h p empty = subst (λ (g : List (Turn Entry)). HasPrinted te
     nothing (Some s) = ap (λ (s : List ℕ). Some s) (sym (append_nil s))
 
 -- the run of a plan stands before its first round
-pub plan_begins : {L : Type 0} (seen : L → LinkView) (net : NetView) (s : SingleView) (e : EndsView L) (plan : CatPlan) (body : Option (List ℕ)) (p : Player) (dice : ℕ) → s.seen ≡ [] → s.setting ≡ run_setting plan.role dice → e ≡ no_ends plan.role dice → IsNewPlayer (script_of plan body) p → IsBuilt plan
+pub plan_begins : {L : Type 0} (seen : L → LinkView) (net : NetView) (s : SingleView) (e : LinkEndsView L) (plan : CatPlan) (body : Option (List ℕ)) (p : Player) (dice : ℕ) → s.seen ≡ [] → s.setting ≡ run_setting plan.role dice → e ≡ no_ends plan.role dice → IsNewPlayer (script_of plan body) p → IsBuilt plan
     → IsBody plan.data_ body → RunStands seen (start_of net plan dice) s e p net false
 plan_begins seen net s e plan body p dice empty setting none new built is =
     begins seen (start_of net plan dice) s e (script_of plan body) p empty (none ∙ ap (λ (r : Role). no_ends r dice) (sym role)) new role (subst HasSurveys (sym setting) (record { cooked = refl; time = refl })) (has_body (not (needs_data plan.role)) plan.data_ body built.data_built is built.carries)

@@ -4,7 +4,7 @@ use Rattle.sp_history.specs.declared.entry.Entry.{Entry}
 use Rattle.sp_history.specs.declared.entry.Entry.TheVariants.{Tick}
 use Rattle.sp_history.specs.Past.{now}
 use Rattle.sp_history.specs.Found.{ticks}
-use Rattle.sp_ends.specs.Standing.{EndsView}
+use Rattle.sp_ends.specs.Standing.{LinkEndsView}
 use Rattle.sp_ends.specs.Turning.{SameEnds}
 use Rattle.cat_play.specs.Scripts.{has_ticked}
 
@@ -21,8 +21,8 @@ never [] h = refl
 never (Tick t due ∷ past) h = cc
 never (e ∷ past) h = never past h
 
-pub same_ends : {L : Type 0} (e : EndsView L) → SameEnds e e
+pub same_ends : {L : Type 0} (e : LinkEndsView L) → SameEnds e e
 same_ends e = record { role = refl; dice = refl; listeners = refl; dials = refl }
 
-pub same_then : {L : Type 0} (a b c : EndsView L) → SameEnds a b → SameEnds b c → SameEnds a c
+pub same_then : {L : Type 0} (a b c : LinkEndsView L) → SameEnds a b → SameEnds b c → SameEnds a c
 same_then a b c f g = record { role = g.role ∙ f.role; dice = g.dice ∙ f.dice; listeners = g.listeners ∙ f.listeners; dials = g.dials ∙ f.dials }

@@ -16,7 +16,7 @@ use Rattle.sp_core.specs.Collecting.{IsOpen}
 use Rattle.sp_core.specs.Parts.{HasWires}
 use Rattle.sp_single.specs.Singles.{SingleView, TookOne, AreUncancelled, FinishedAs}
 use Rattle.sp_socket.specs.Due.{AllWereDue}
-use Rattle.sp_ends.specs.Standing.{EndsView, EndsStand, SameCounts, Beginning}
+use Rattle.sp_ends.specs.Standing.{LinkEndsView, EndsStand, SameCounts, Beginning}
 use Rattle.sp_ends.specs.Leaving.{LinksLeft, ClosedCleared}
 use Rattle.sp_ends.specs.Turning.{IsSound}
 use Rattle.sp_ends.proofs.Standing.{linkless}
@@ -85,11 +85,11 @@ module _ (totals : Totals) (s s' s'' : SingleView) (p : Player) (record_ : List 
       closed_cleared s.setting totals s.setting.callers begins_or_ticks s.seen e.closing.turn record_ e.sound.legal e.play.is_open cleared e.closing.said begins_none legal_record
 
   -- what stood on the links stands
-  pub ends_stand : {L : Type 0} (seen : L → LinkView) (start : Beginning) (net : NetView) (ends : EndsView L) → EndsStand seen s.setting start s.seen net ends → EndsStand seen s.setting start record_ net ends
+  pub ends_stand : {L : Type 0} (seen : L → LinkView) (start : Beginning) (net : NetView) (ends : LinkEndsView L) → EndsStand seen s.setting start s.seen net ends → EndsStand seen s.setting start record_ net ends
   ends_stand seen start net ends was =
       linkless seen s.setting start net s.seen record_ ends links_none legal_record was
 
-  pub finishes : {L W : Type 0} (seen : L → LinkView) (shown : W → WireView) (wires : List (DownPipe W)) (start : Beginning) (net net' : NetView) (ends : EndsView L) → FinishedAs shown s'' wires record_ → LinksLeft s.setting start record_ net' → SameCounts net net'
+  pub finishes : {L W : Type 0} (seen : L → LinkView) (shown : W → WireView) (wires : List (DownPipe W)) (start : Beginning) (net net' : NetView) (ends : LinkEndsView L) → FinishedAs shown s'' wires record_ → LinksLeft s.setting start record_ net' → SameCounts net net'
       → FinishesTo seen start s ends p net net' record_
   finishes seen shown wires start net net' ends fin left counts =
       record {

@@ -38,7 +38,7 @@ use Rattle.cat_rounds.specs.Stepping.{GoesOnBy}
 use Rattle.cat_rounds.specs.Built.{IsBuilt, IsBuiltData, IsBody, FinishesTo, FinishesAs}
 use Rattle.cat_rounds.specs.Going.{has_more}
 use Rattle.cat_rounds.specs.Late.{late_at, IsLateBy, RoundIsLate, StallsMore}
-use Rattle.sp_ends.specs.Standing.{Beginning, EndsView}
+use Rattle.sp_ends.specs.Standing.{Beginning, LinkEndsView}
 use Rattle.cat_rounds.proofs.Beginning.{script_of}
 use Rattle.cat_rounds.proofs.Silent.{keeps_all}
 use Rattle.cat_rounds.proofs.Settling.{settling_silent}
@@ -225,7 +225,7 @@ play_is plan files body s play built is script of = whole ∙ ap play_of (sym sc
 excused : (a b c d m n : ℕ) → m ≤ n + 1 → n ≤ a → m ≤ a + b + 2 * c + d + 1
 excused a b c d m n le more = omega (arith, le, more)
 
-module _ {L : Type 0} (seen : L → LinkView) (st : Status) (plan : CatPlan) (s : SingleView) (e : EndsView L) (p : Player) (start : Beginning) (between net' : NetView) (files : FilesView) (dice : ℕ) (body : Option (List ℕ)) (setting : s.setting ≡ run_setting plan.role dice) (built : IsBuilt plan) (is : IsBody plan.data_ body) (script : p.script ≡ script_of plan body) (late : IsLateBy 1 s p) where
+module _ {L : Type 0} (seen : L → LinkView) (st : Status) (plan : CatPlan) (s : SingleView) (e : LinkEndsView L) (p : Player) (start : Beginning) (between net' : NetView) (files : FilesView) (dice : ℕ) (body : Option (List ℕ)) (setting : s.setting ≡ run_setting plan.role dice) (built : IsBuilt plan) (is : IsBody plan.data_ body) (script : p.script ≡ script_of plan body) (late : IsLateBy 1 s p) where
   prompt : (r : List (Turn Entry)) → FinishesTo seen start s e p between net' r → (play : Play) → IsPlayOf plan files play → IsPrompt (run_setting plan.role dice) play net'.back start.net.opened net'.opened r
   prompt r f play of =
       let same : play ≡ play_of p.script = play_is plan files body p.script play built is script of in

@@ -13,7 +13,7 @@ use Rattle.sp_history.specs.Legal.{Legal}
 use Rattle.sp_core.specs.Collecting.{IsOpen}
 use Rattle.sp_history.proofs.Appending.{past_of-append}
 use Rattle.sp_single.specs.Singles.{SingleView, TookOne, Ticks, KeepsOpen}
-use Rattle.sp_ends.specs.Standing.{EndsView, EndsStand, Beginning}
+use Rattle.sp_ends.specs.Standing.{EndsView, LinkEndsView, EndsStand, Beginning}
 use Rattle.sp_ends.specs.Turning.{EndsTicked, Quietly, IsSound, IsDry}
 use Rattle.sp_ends.proofs.Standing.{linkless}
 use Rattle.sp_ends.proofs.Ticking.{ticked}
@@ -37,7 +37,7 @@ use Rattle.cat_rounds.proofs.Ticks.{first_tick, ticked_play, ticked_now, ticked_
 -- ---- The tick
 
 -- the run behind the tick of a round
-pub record HasTicked {L : Type 0} (seen : L → LinkView) (start : Beginning) (net : NetView) (s s' : SingleView) (e : EndsView L) (p : Player) (n : ℕ) : Type 0 where
+pub record HasTicked {L : Type 0} (seen : L → LinkView) (start : Beginning) (net : NetView) (s s' : SingleView) (e : LinkEndsView L) (p : Player) (n : ℕ) : Type 0 where
   pub links : EndsTicked seen s'.setting start s'.seen net e
   pub stands : Stands s' p n
   pub dry : IsDry false s'
@@ -45,7 +45,7 @@ pub record HasTicked {L : Type 0} (seen : L → LinkView) (start : Beginning) (n
   pub texts_are : texts (play_of p.script) (past_of s'.seen) ≡ texts (play_of p.script) (past_of s.seen)
   pub ticks_are : length (ticks (past_of s'.seen)) ≡ length (ticks (past_of s.seen)) + 1
 
-pub opens : {L : Type 0} (seen : L → LinkView) (start : Beginning) (net : NetView) (s s' : SingleView) (e : EndsView L) (p : Player) (n : ℕ) → TookOne (λ z h t. Ticks h t n) s s' → KeepsOpen s s' → RunStands seen start s e p net false → MayTick s.setting s.seen p → past_now s ≤ n → HasTicked seen start net s s' e p n
+pub opens : {L : Type 0} (seen : L → LinkView) (start : Beginning) (net : NetView) (s s' : SingleView) (e : LinkEndsView L) (p : Player) (n : ℕ) → TookOne (λ z h t. Ticks h t n) s s' → KeepsOpen s s' → RunStands seen start s e p net false → MayTick s.setting s.seen p → past_now s ≤ n → HasTicked seen start net s s' e p n
 opens seen start net s s' e p n took keep run may less =
     let z = s.setting in
     let h = s.seen in
@@ -121,7 +121,7 @@ on_dry is_dry s s' g was = keeps_all moves_ends (λ h. has_dry_miss (past_of h) 
     step h t none was = ap has_dry_miss (past_of-append h t) ∙ (dry_stays t.entries (past_of h) none ∙ was)
 
 -- the run stands on after turns that move no link
-pub run_linkless : {L : Type 0} (seen : L → LinkView) (start : Beginning) (net : NetView) (s s' : SingleView) (e : EndsView L) (p : Player) → GoesOnBy s s' → PlayStands s'.setting s'.seen p → IsSound s' → IsDry false s → EndsStand seen s.setting start s.seen net e → RunStands seen start s' e p net false
+pub run_linkless : {L : Type 0} (seen : L → LinkView) (start : Beginning) (net : NetView) (s s' : SingleView) (e : LinkEndsView L) (p : Player) → GoesOnBy s s' → PlayStands s'.setting s'.seen p → IsSound s' → IsDry false s → EndsStand seen s.setting start s.seen net e → RunStands seen start s' e p net false
 run_linkless seen start net s s' e p g play sound dry ends =
     record {
       sound = sound;
@@ -131,13 +131,13 @@ run_linkless seen start net s s' e p g play sound dry ends =
     }
 
 -- the run stands on, once the play has gone on
-pub run_on : {L : Type 0} (seen : L → LinkView) (start : Beginning) (net : NetView) (s s' : SingleView) (e e' : EndsView L) (p : Player) (n : ℕ) → GoesOnBy s s' → e' ≡ e → Stands s' p n → IsDry false s → EndsStand seen s.setting start s.seen net e → RunStands seen start s' e' p net false
+pub run_on : {L : Type 0} (seen : L → LinkView) (start : Beginning) (net : NetView) (s s' : SingleView) (e e' : EndsView L) (p : Player) (n : ℕ) → GoesOnBy s s' → e' ≡ e → Stands s' p n → IsDry false s → EndsStand seen s.setting start s.seen net e.links → RunStands seen start s' e'.links p net false
 run_on seen start net s s' e e' p n g same stands dry ends =
-    subst (λ (x : EndsView _). RunStands seen start s' x p net false) (sym same) (run_linkless seen start net s s' e p g stands.play stands.sound dry ends)
+    subst (λ (x : EndsView _). RunStands seen start s' x.links p net false) (sym same) (run_linkless seen start net s s' e.links p g stands.play stands.sound dry ends)
 
 -- ---- What a round comes to
 
-pub round_stands : {L : Type 0} (seen : L → LinkView) (start : Beginning) (net : NetView) (r : Round) (s : SingleView) (e : EndsView L) (p : Player) → (r ≡ rounds.Ends status.NoMemory → ⊥) → RunStands seen start s e p net false → RoundStands seen start r s e p net
+pub round_stands : {L : Type 0} (seen : L → LinkView) (start : Beginning) (net : NetView) (r : Round) (s : SingleView) (e : LinkEndsView L) (p : Player) → (r ≡ rounds.Ends status.NoMemory → ⊥) → RunStands seen start s e p net false → RoundStands seen start r s e p net
 round_stands seen start net (rounds.Goes moved) s e p n run = run
 round_stands seen start net (rounds.Ends status.Done) s e p n run = run
 round_stands seen start net (rounds.Ends (status.Usage at)) s e p n run = run

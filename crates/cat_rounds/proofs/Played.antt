@@ -16,7 +16,7 @@ use Rattle.sp_history.proofs.Appending.{past_of-append}
 use Rattle.sp_history.proofs.Backing.{legal_allowed}
 use Rattle.sp_single.specs.Singles.{SingleView}
 use Rattle.link_opening.specs.Origins.{run_ways}
-use Rattle.sp_ends.specs.Standing.{Beginning, EndsView, NetStands}
+use Rattle.sp_ends.specs.Standing.{Beginning, LinkEndsView, NetStands}
 use Rattle.sp_ends.specs.Leaving.{LinksLeft}
 use Rattle.sp_ends.proofs.Standing.{linkless}
 use Rattle.cat_text.specs.declared.plan.CatPlan.{CatPlan}
@@ -24,7 +24,7 @@ use Rattle.cat_play.specs.declared.ends.Status.{Status}
 use Rattle.cat_play.specs.declared.ends.Status.TheVariants as status
 use Rattle.cat_play.specs.Plans.{Play, IsPlayOf}
 use Rattle.cat_play.specs.Playing.{Plays}
-use Rattle.cat_play.specs.Running.{World, world, run_setting, has_dry_miss, EndedFor, IsFinished, IsCutShort, Printed, Runs, RunsPlan}
+use Rattle.cat_play.specs.Running.{World, world, run_setting, has_dry_miss, ListensTwice, EndedFor, IsFinished, IsCutShort, Printed, Runs, RunsPlan}
 use Rattle.cat_play.specs.Scripts.{texts, counted, has_reached, timed_out}
 use Rattle.cat_play.specs.Spending.{Spends, listens_of, dials_of}
 use Rattle.cat_play.specs.Steps.{AddsNone, moves_ends}
@@ -63,7 +63,7 @@ dry_step _ past h = refl
 -- ---- A run
 
 -- a plan was followed, and then the run was finished
-pub record HasRun {L : Type 0} (seen : L → LinkView) (st : Status) (plan : CatPlan) (s : SingleView) (e : EndsView L) (p : Player) (start : Beginning) (between net' : NetView) (pace pace' : PaceView) (out out' : SinkView) (record_ : List (Turn Entry)) : Type 0 where
+pub record HasRun {L : Type 0} (seen : L → LinkView) (st : Status) (plan : CatPlan) (s : SingleView) (e : LinkEndsView L) (p : Player) (start : Beginning) (between net' : NetView) (pace pace' : PaceView) (out out' : SinkView) (record_ : List (Turn Entry)) : Type 0 where
   pub run : RunStands seen start s e p between (is_dry_at s)
   pub dry : IsDryAt st s
   pub followed : Follows st plan.ends s e p start.net between pace pace' out out'
@@ -103,7 +103,7 @@ dry_ends status.NetFault s dry is = cc
 dry_ends status.OutFault s dry is = cc
 dry_ends status.FileFault s dry is = cc
 
-module _ {L : Type 0} (seen : L → LinkView) (st : Status) (plan : CatPlan) (s : SingleView) (e : EndsView L) (p : Player) (start : Beginning) (between net' : NetView) (pace pace' : PaceView) (out out' : SinkView) (record_ : List (Turn Entry)) (r : HasRun seen st plan s e p start between net' pace pace' out out' record_) where
+module _ {L : Type 0} (seen : L → LinkView) (st : Status) (plan : CatPlan) (s : SingleView) (e : LinkEndsView L) (p : Player) (start : Beginning) (between net' : NetView) (pace pace' : PaceView) (out out' : SinkView) (record_ : List (Turn Entry)) (r : HasRun seen st plan s e p start between net' pace pace' out out' record_) where
   -- what is read of the ends in the record is what was read before it was closed
   ticks_kept : ticks (past_of record_) ≡ ticks (past_of s.seen)
   ticks_kept = kept ticks ticks_step s.seen record_ r.finished.links
@@ -140,7 +140,7 @@ module _ {L : Type 0} (seen : L → LinkView) (st : Status) (plan : CatPlan) (s 
   dry_is is = dry_ends st s r.dry (sym (kept has_dry_miss dry_step s.seen record_ r.finished.links) ∙ is)
 
 -- why it ended so
-ends_for : {L : Type 0} (seen : L → LinkView) (st : Status) (plan : CatPlan) (s : SingleView) (e : EndsView L) (p : Player) (start : Beginning) (between net' : NetView) (pace pace' : PaceView) (out out' : SinkView) (record_ : List (Turn Entry)) (files : FilesView)
+ends_for : {L : Type 0} (seen : L → LinkView) (st : Status) (plan : CatPlan) (s : SingleView) (e : LinkEndsView L) (p : Player) (start : Beginning) (between net' : NetView) (pace pace' : PaceView) (out out' : SinkView) (record_ : List (Turn Entry)) (files : FilesView)
     → HasRun seen st plan s e p start between net' pace pace' out out' record_ → EndedFor st s.setting plan (play_of p.script) (past_of record_) (world start.net files pace out) (world net' files pace' out')
 ends_for seen status.Done plan s e p start between net' pace pace' out out' record_ files r = (
   finished_is p.over s.setting (play_of p.script) (past_of record_) r.followed.why.1 (over_is seen status.Done plan s e p start between net' pace pace' out out' record_ r),
@@ -151,7 +151,7 @@ ends_for seen status.SendTimedOut plan s e p start between net' pace pace' out o
     timed_out_is p.over s.setting (play_of p.script) (past_of record_) r.followed.why.1 (over_is seen status.SendTimedOut plan s e p start between net' pace pace' out out' record_ r)
 ends_for seen status.Over plan s e p start between net' pace pace' out out' record_ files r = r.followed.why.0
 ends_for seen status.NetFault plan s e p start between net' pace pace' out out' record_ files r = (
-  inl (subst (λ n. Rose start.net.faults n) (sym r.finished.counts.faults) r.followed.why.0),
+  subst (λ n. Rose start.net.faults n ⊎ ListensTwice plan.ends) (sym r.finished.counts.faults) r.followed.why.0,
   r.followed.why.2,
   r.finished.counts.opened ∙ r.followed.why.1,
 )
@@ -159,7 +159,7 @@ ends_for seen status.OutFault plan s e p start between net' pace pace' out out' 
 ends_for seen status.FileFault plan s e p start between net' pace pace' out out' record_ files r = r.followed.why
 ends_for seen status.NoMemory plan s e p start between net' pace pace' out out' record_ files r = tt
 
-pub runs : {L : Type 0} (seen : L → LinkView) (st : Status) (plan : CatPlan) (s : SingleView) (e : EndsView L) (p : Player) (start : Beginning) (between net' : NetView) (pace pace' : PaceView) (out out' : SinkView) (record_ : List (Turn Entry)) (files : FilesView) (dice : ℕ) → s.setting ≡ run_setting plan.role dice
+pub runs : {L : Type 0} (seen : L → LinkView) (st : Status) (plan : CatPlan) (s : SingleView) (e : LinkEndsView L) (p : Player) (start : Beginning) (between net' : NetView) (pace pace' : PaceView) (out out' : SinkView) (record_ : List (Turn Entry)) (files : FilesView) (dice : ℕ) → s.setting ≡ run_setting plan.role dice
     → HasRun seen st plan s e p start between net' pace pace' out out' record_ → Runs (run_ways plan.role start.origins) st plan (play_of p.script) dice record_ (world start.net files pace out) (world net' files pace' out')
 runs seen st plan s e p start between net' pace pace' out out' record_ files dice is r =
     record {
@@ -173,14 +173,14 @@ runs seen st plan s e p start between net' pace pace' out out' record_ files dic
       spends = spends seen st plan s e p start between net' pace pace' out out' record_ r;
       ended = subst (λ (z : Setting). EndedFor st z plan (play_of p.script) (past_of record_) (world start.net files pace out) (world net' files pace' out')) is (ends_for seen st plan s e p start between net' pace pace' out out' record_ files r);
       paced = record {
-        over = λ (o : st ≡ status.Over). subst (λ (st : Status). EndsFor st s p start.net between pace pace' out out') o r.followed.why;
+        over = λ (o : st ≡ status.Over). subst (λ (st : Status). EndsFor st plan.ends s p start.net between pace pace' out out') o r.followed.why;
         not_over = r.followed.paced.not_over;
       };
       memory = dry_is seen st plan s e p start between net' pace pace' out out' record_ r;
     }
 
 -- the same of what is left of a run
-pub runs_plan : {L : Type 0} (seen : L → LinkView) (st : Status) (plan : CatPlan) (s : SingleView) (e : EndsView L) (p : Player) (start : Beginning) (between net' : NetView) (pace pace' : PaceView) (out out' : SinkView) (record_ : Option (List (Turn Entry))) (files : FilesView) (dice : ℕ) → s.setting ≡ run_setting plan.role dice → IsPlayOf plan files (play_of p.script)
+pub runs_plan : {L : Type 0} (seen : L → LinkView) (st : Status) (plan : CatPlan) (s : SingleView) (e : LinkEndsView L) (p : Player) (start : Beginning) (between net' : NetView) (pace pace' : PaceView) (out out' : SinkView) (record_ : Option (List (Turn Entry))) (files : FilesView) (dice : ℕ) → s.setting ≡ run_setting plan.role dice → IsPlayOf plan files (play_of p.script)
     → RunStands seen start s e p between (is_dry_at s) → IsDryAt st s → Follows st plan.ends s e p start.net between pace pace' out out' → PrintsTo st out.text out'.text s.seen p → FinishesAs seen start s e p between net' record_
     → RunsPlan (run_ways plan.role start.origins) st plan dice record_ (world start.net files pace out) (world net' files pace' out')
 runs_plan seen st plan s e p start between net' pace pace' out out' None files dice is play run dry followed printed finished =

@@ -25,7 +25,7 @@ use Rattle.sp_core.specs.Contexts.{SubscribedBy, RefusedTopic}
 use Rattle.sp_core.specs.Moving.{AreSettling}
 use Rattle.sp_core.specs.Standing.{HasFirst}
 use Rattle.sp_single.specs.Singles.{SingleView, TookOne}
-use Rattle.sp_ends.specs.Standing.{Beginning, EndsView}
+use Rattle.sp_ends.specs.Standing.{Beginning, LinkEndsView}
 use Rattle.sp_ends.specs.Turning.{IsSound}
 use Rattle.cat_play.specs.Plans.{Play}
 use Rattle.cat_play.specs.declared.ends.Status.TheVariants as status
@@ -272,11 +272,11 @@ fresh_before s p empty play sound =
     none (Some op) u = let bad = u.0 in cc
 
 -- the run stands on after them
-pub prepared_run : {L : Type 0} (seen : L → LinkView) (start : Beginning) (net : NetView) (s s' : SingleView) (e : EndsView L) (p : Player) → Prepares s s' p → RunStands seen start s e p net false → RunStands seen start s' e p net false
+pub prepared_run : {L : Type 0} (seen : L → LinkView) (start : Beginning) (net : NetView) (s s' : SingleView) (e : LinkEndsView L) (p : Player) → Prepares s s' p → RunStands seen start s e p net false → RunStands seen start s' e p net false
 prepared_run seen start net s s' e p g run = run_linkless seen start net s s' e p g.goes_on g.before.play g.before.sound run.dry run.ends_stand
 
 -- with what is said of being out of memory for a link, of any socket
-pub run_at : {L : Type 0} (seen : L → LinkView) (start : Beginning) (net : NetView) (s : SingleView) (e : EndsView L) (p : Player) → RunStands seen start s e p net false → RunStands seen start s e p net (is_dry_at s)
+pub run_at : {L : Type 0} (seen : L → LinkView) (start : Beginning) (net : NetView) (s : SingleView) (e : LinkEndsView L) (p : Player) → RunStands seen start s e p net false → RunStands seen start s e p net (is_dry_at s)
 run_at seen start net s e p run = record { sound = run.sound; play = run.play; ends_stand = run.ends_stand; dry = refl }
 
 -- the first tick may come

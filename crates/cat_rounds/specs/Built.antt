@@ -6,6 +6,7 @@ use Rattle.sp_spec.specs.Outside.{Rose}
 use Rattle.sp_base.specs.Addresses.{is_dialable, is_linked}
 use Rattle.sp_base.specs.Views.{LinkView, NetView, PaceView, SinkView}
 use Rattle.sp_base.specs.declared.addr.Addr.{Addr}
+use Rattle.sp_base.specs.declared.addr.Addr.TheVariants as addrs
 use Rattle.sp_base.specs.declared.role.Role.{Role}
 use Rattle.sp_history.specs.Setting.{is_sub}
 use Rattle.sp_history.specs.declared.entry.Entry.{Entry}
@@ -14,7 +15,8 @@ use Rattle.sp_history.specs.Legal.{Legal}
 use Rattle.sp_history.specs.Settled.{Settled}
 use Rattle.sp_single.specs.Singles.{SingleView}
 use Rattle.link_opening.specs.Origins.{Origins, IsAmong}
-use Rattle.sp_ends.specs.Standing.{EndsView, Beginning}
+use Rattle.sp_lane.specs.Registry.{Registry}
+use Rattle.sp_ends.specs.Standing.{EndsView, LinkEndsView, Beginning}
 use Rattle.sp_ends.specs.Adding.{ListensAlso, DialsAlso}
 use Rattle.sp_ends.specs.Leaving.{LinksLeft, ClosedCleared}
 use Rattle.sp_ends.specs.Standing.{SameCounts}
@@ -28,6 +30,7 @@ use Rattle.cat_play.specs.declared.ends.Status.{Status}
 use Rattle.cat_play.specs.declared.ends.Status.TheVariants as status
 use Rattle.cat_play.specs.Playing.{each, Plays}
 use Rattle.cat_play.specs.Recording.{times_out_rightly}
+use Rattle.cat_play.specs.Running.{ListensTwice}
 use Rattle.cat_play.specs.Scripts.{texts, counted, timed_out}
 use Rattle.cat_play.specs.Spending.{listens_of, dials_of}
 use Rattle.cat_play.specs.Steps.{AddsNone, moves_ends}
@@ -39,10 +42,10 @@ use Rattle.cat_rounds.specs.Going.{AreCleared, WentOrOver, PacedTo}
 
 -- ---- Plans
 
--- an end over TCP or WebSocket
+-- what is dialed over links has one host
 abbrev pub IsBuiltEnd : End → Type 0
-IsBuiltEnd (ends.Listen addr) = is_linked addr ≡ true
-IsBuiltEnd (ends.Dial addr) = is_dialable addr ≡ true
+IsBuiltEnd (ends.Listen addr) = ⊤
+IsBuiltEnd (ends.Dial addr) = is_linked addr ≡ true → is_dialable addr ≡ true
 
 pub record AreBuilt (es : List End) : Type 0 where
   pub each_one : AllByRecursion IsBuiltEnd es
@@ -63,7 +66,7 @@ pub record AreTopics (role : Role) (ts : List (List ℕ)) : Type 0 where
   pub supported : IsTrue (is_sub role || (length ts == 0))
   pub short : AllByRecursion (λ t. length t ≤ 1024) ts
 
--- a plan that can be played: over TCP and WebSocket, with topics that its socket takes, and with data that stand in its words
+-- a plan that can be played: its addresses can be dialed, its socket takes its topics, and its data stand in its words
 pub record IsBuilt (plan : CatPlan) : Type 0 where
   pub ends_built : AreBuilt plan.ends
   pub data_built : IsBuiltData plan.data_
@@ -102,21 +105,38 @@ IsEndOf o (ends.Dial addr) = IsAmong addr o.dials
 
 -- ---- The beginning
 
--- one end more
-abbrev pub AddsEnd : {L : Type 0} → Result (Unit {0}) EndError → End → EndsView L → EndsView L → NetView → NetView → Type 0
-AddsEnd result (ends.Listen addr) old new net net' = ListensAlso result addr old new net net'
-AddsEnd result (ends.Dial addr) old new net net' = DialsAlso result addr old new × (net' ≡ net)
+-- the names within the process on which these listen, in order
+abbrev pub listen_names : List End → List (List ℕ)
+listen_names [] = []
+listen_names (ends.Listen (addrs.Tcp host port) ∷ es) = listen_names es
+listen_names (ends.Listen (addrs.Ws host port path) ∷ es) = listen_names es
+listen_names (ends.Listen (addrs.Inproc name) ∷ es) = name ∷ listen_names es
+listen_names (ends.Dial addr ∷ es) = listen_names es
 
--- why it ended so: the net failed to listen before the first round, or the rounds ended so
-abbrev pub EndsFor : Status → SingleView → Player → NetView → NetView → PaceView → PaceView → SinkView → SinkView → Type 0
-EndsFor status.NetFault s p net net' pace pace' out out' =
-    Rose net.faults net'.faults × (net'.opened ≡ net.opened) × (pace'.left ≡ pace.left)
-EndsFor result s p net net' pace pace' out out' = WentOrOver result s p out out' pace'
+-- one end more
+abbrev pub AddsEnd : {L : Type 0} → Result (Unit {0}) EndError → End → EndsView L → EndsView L → NetView → NetView → Registry → Registry → Type 0
+AddsEnd result (ends.Listen addr) old new net net' reg reg' = ListensAlso result addr old new net net' reg reg'
+AddsEnd result (ends.Dial addr) old new net net' reg reg' = DialsAlso result addr old new × (net' ≡ net) × (reg' ≡ reg)
+
+-- why it ended so: the net failed to listen before the first round, or a name is listened on twice, or the rounds ended so
+abbrev pub EndsFor : Status → List End → SingleView → Player → NetView → NetView → PaceView → PaceView → SinkView → SinkView → Type 0
+EndsFor status.NetFault es s p net net' pace pace' out out' =
+    (Rose net.faults net'.faults ⊎ ListensTwice es) × (net'.opened ≡ net.opened) × (pace'.left ≡ pace.left)
+EndsFor result es s p net net' pace pace' out out' = WentOrOver result s p out out' pace'
+
+-- of a plan that listens twice on one name a run has no other end: the net is at fault, there is no memory, or its file
+-- can't be read
+abbrev pub ListensOnce : Status → List End → Type 0
+ListensOnce status.NetFault es = ⊤
+ListensOnce status.NoMemory es = ⊤
+ListensOnce status.FileFault es = ⊤
+ListensOnce _ es = ListensTwice es → ⊥
 
 -- the plan was followed until it ended so, with all its ends, or before the first turn of the socket
-pub record Follows {L : Type 0} (result : Status) (es : List End) (s : SingleView) (e : EndsView L) (p : Player) (net net' : NetView) (pace pace' : PaceView) (out out' : SinkView) : Type 0 where
-  pub why : EndsFor result s p net net' pace pace' out out'
+pub record Follows {L : Type 0} (result : Status) (es : List End) (s : SingleView) (e : LinkEndsView L) (p : Player) (net net' : NetView) (pace pace' : PaceView) (out out' : SinkView) : Type 0 where
+  pub why : EndsFor result es s p net net' pace pace' out out'
   pub paced : PacedTo result pace pace' (past_of s.seen)
+  pub once : ListensOnce result es
   pub asked : (s.seen ≡ []) ⊎ (length e.listeners ≡ listens_of es) × (length e.dialers ≡ dials_of es)
   pub sinks : Sinks (result ≡ status.OutFault) out out'
 
@@ -124,7 +144,7 @@ pub record Follows {L : Type 0} (result : Status) (es : List End) (s : SingleVie
 
 -- a closed, finished run: its record is the history and turns that move no link and no tick; it is a play, of which the
 -- same counts, is printed and timed out; its links are left
-pub record FinishesTo {L : Type 0} (seen : L → LinkView) (start : Beginning) (s : SingleView) (e : EndsView L) (p : Player) (net net' : NetView) (record_ : List (Turn Entry)) : Type 0 where
+pub record FinishesTo {L : Type 0} (seen : L → LinkView) (start : Beginning) (s : SingleView) (e : LinkEndsView L) (p : Player) (net net' : NetView) (record_ : List (Turn Entry)) : Type 0 where
   pub links : AddsNone moves_ends s.seen record_
   pub legal : Legal s.setting record_
   pub settled : Settled s.setting record_
@@ -138,6 +158,6 @@ pub record FinishesTo {L : Type 0} (seen : L → LinkView) (start : Beginning) (
   pub left_ : LinksLeft s.setting start record_ net'
   pub counts : SameCounts net net'
 
-abbrev pub FinishesAs : {L : Type 0} → (L → LinkView) → Beginning → SingleView → EndsView L → Player → NetView → NetView → Option (List (Turn Entry)) → Type 0
+abbrev pub FinishesAs : {L : Type 0} → (L → LinkView) → Beginning → SingleView → LinkEndsView L → Player → NetView → NetView → Option (List (Turn Entry)) → Type 0
 FinishesAs seen start s e p net net' None = ⊥
 FinishesAs seen start s e p net net' (Some record_) = FinishesTo seen start s e p net net' record_

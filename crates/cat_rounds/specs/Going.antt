@@ -7,7 +7,7 @@ use Rattle.sp_history.specs.Past.{past_of, up, now, is_cleared}
 use Rattle.sp_history.specs.Lists.{has}
 use Rattle.sp_core.specs.declared.serve.Served.{Served}
 use Rattle.sp_single.specs.Singles.{SingleView}
-use Rattle.sp_ends.specs.Standing.{EndsView, EndsStand, Beginning}
+use Rattle.sp_ends.specs.Standing.{LinkEndsView, EndsStand, Beginning}
 use Rattle.sp_ends.specs.Turning.{IsSound, IsDry}
 use Rattle.cat_play.specs.declared.ends.Status.{Status}
 use Rattle.cat_play.specs.declared.ends.Status.TheVariants as status
@@ -23,7 +23,7 @@ use Rattle.cat_rounds.specs.Lasting.{PlayStands, HasPrinted, MayTick, HasPlayed,
 use Rattle.cat_rounds.specs.Stepping.{HasPrintedCut}
 
 -- the parts of a run that is open, between two calls of a round behind the turn of the ends
-pub record RunStands {L : Type 0} (seen : L → LinkView) (start : Beginning) (s : SingleView) (ends : EndsView L) (p : Player) (net : NetView) (is_dry : Bool) : Type 0 where
+pub record RunStands {L : Type 0} (seen : L → LinkView) (start : Beginning) (s : SingleView) (ends : LinkEndsView L) (p : Player) (net : NetView) (is_dry : Bool) : Type 0 where
   pub sound : IsSound s
   pub play : PlayStands s.setting s.seen p
   pub ends_stand : EndsStand seen s.setting start s.seen net ends
@@ -74,7 +74,7 @@ PrintsRound (rounds.Ends status.NoMemory) before now h p = HasPrintedCut before 
 PrintsRound _ before now h p = HasPrinted before now h p
 
 -- a link was missed when out of memory at most where the round ends so
-abbrev pub RoundStands : {L : Type 0} → (L → LinkView) → Beginning → Round → SingleView → EndsView L → Player → NetView → Type 0
+abbrev pub RoundStands : {L : Type 0} → (L → LinkView) → Beginning → Round → SingleView → LinkEndsView L → Player → NetView → Type 0
 RoundStands seen start (rounds.Ends status.NoMemory) s ends p net = (is_dry : Bool) × RunStands seen start s ends p net is_dry
 RoundStands seen start _ s ends p net = RunStands seen start s ends p net false
 

@@ -3,12 +3,14 @@ use crate::player::Player;
 use end_wire::EndWire;
 use sp_base::Link;
 use sp_ends::Ends;
+use sp_lane::Inproc;
 use sp_proto::Proto;
 use sp_single::Single;
 
-/// The socket of a run, its ends, and its play. It must be spent.
+/// The socket of a run, its ends, its play, and the names within the process. It must be spent.
 pub(crate) struct Game<P: Proto, L: Link> {
     pub single: Single<P, EndWire<L>>,
     pub ends: Ends<L>,
     pub player: Player,
+    pub inproc: Inproc,
 }

@@ -55,16 +55,16 @@ impl<P: Proto, L: Link> Game<P, L> {
         pace: &mut Pa,
         out: &mut S,
     ) -> Status
-        requires stands { (start : Beginning) × RunStands L.seen start self.old.single self.old.ends self.old.player (N.seen net.old) false }
+        requires stands { (start : Beginning) × RunStands L.seen start self.old.single self.old.ends.links self.old.player (N.seen net.old) false }
         requires may_tick { MayTick self.old.single.setting self.old.single.seen self.old.player }
         requires unticked { has_ticked (past_of self.old.single.seen) ≡ false }
-        ensures stands { (start : Beginning) → RunStands L.seen start self.old.single self.old.ends self.old.player (N.seen net.old) false → RunStands L.seen start self.new.single self.new.ends self.new.player (N.seen net.new) (is_dry_at self.new.single) }
+        ensures stands { (start : Beginning) → RunStands L.seen start self.old.single self.old.ends.links self.old.player (N.seen net.old) false → RunStands L.seen start self.new.single self.new.ends.links self.new.player (N.seen net.new) (is_dry_at self.new.single) }
         ensures dry { IsDryAt result self.new.single }
         ensures went { WentOrOver result self.new.single self.new.player (S.seen out.old) (S.seen out.new) (Pa.seen pace.new) }
         ensures pace { PacedTo result (Pa.seen pace.old) (Pa.seen pace.new) (past_of self.new.single.seen) }
         ensures printed { (before : Option (List ℕ)) → HasPrinted before (S.seen out.old).text self.old.single.seen self.old.player → PrintsTo result before (S.seen out.new).text self.new.single.seen self.new.player }
         ensures sinks { Sinks (result ≡ Status.OutFault) (S.seen out.old) (S.seen out.new) }
-        ensures same { SameEnds self.old.ends self.new.ends × SameScript self.old.player self.new.player × (self.new.single.setting ≡ self.old.single.setting) }
+        ensures same { SameEnds self.old.ends.links self.new.ends.links × SameScript self.old.player self.new.player × (self.new.single.setting ≡ self.old.single.setting) }
         ensures late { IsLateBy 1 self.new.single self.new.player }
     {
         let mut moved = true;
@@ -89,21 +89,23 @@ impl<P: Proto, L: Link> Game<P, L> {
         out: &mut S,
         now: Tick,
     ) -> Round
-        requires stands { (start : Beginning) × RunStands L.seen start self.old.single self.old.ends self.old.player (N.seen net.old) false }
+        requires stands { (start : Beginning) × RunStands L.seen start self.old.single self.old.ends.links self.old.player (N.seen net.old) false }
         requires may_tick { MayTick self.old.single.setting self.old.single.seen self.old.player }
         requires later { past_now self.old.single ≤ now }
         requires late { IsLateBy 0 self.old.single self.old.player }
-        ensures stands { (start : Beginning) → RunStands L.seen start self.old.single self.old.ends self.old.player (N.seen net.old) false → RoundStands L.seen start result self.new.single self.new.ends self.new.player (N.seen net.new) }
+        ensures stands { (start : Beginning) → RunStands L.seen start self.old.single self.old.ends.links self.old.player (N.seen net.old) false → RoundStands L.seen start result self.new.single self.new.ends.links self.new.player (N.seen net.new) }
         ensures ticked { TicksOnce now self.old.single self.new.single }
         ensures went { RoundGoesTo result self.new.single self.new.player }
         ensures printed { (before : Option (List ℕ)) → HasPrinted before (S.seen out.old).text self.old.single.seen self.old.player → PrintsRound result before (S.seen out.new).text self.new.single.seen self.new.player }
         ensures sinks { Sinks (result ≡ Round.Ends Status.OutFault) (S.seen out.old) (S.seen out.new) }
-        ensures same { SameEnds self.old.ends self.new.ends × SameScript self.old.player self.new.player × (self.new.single.setting ≡ self.old.single.setting) }
+        ensures same { SameEnds self.old.ends.links self.new.ends.links × SameScript self.old.player self.new.player × (self.new.single.setting ≡ self.old.single.setting) }
         ensures late { RoundIsLate result self.new.single self.new.player }
         ensures moved { RoundMoves result self.new.player self.old.single self.new.single }
     {
         self.single.tick(rt, now);
-        let turn = self.ends.turn(rt, net, &mut self.single, now);
+        let turn = self
+            .ends
+            .turn(rt, net, &mut self.inproc, &mut self.single, now);
         if turn.is_dry {
             return Round::Ends(Status::NoMemory);
         }

@@ -70,16 +70,16 @@ impl<P: Proto, L: Link> Game<P, L> {
         pace: &mut Pa,
         out: &mut S,
     ) -> Status
-        requires stands { (start : Beginning) × RunStands L.seen start self.old.single self.old.ends self.old.player (N.seen net.old) false }
+        requires stands { (start : Beginning) × RunStands L.seen start self.old.single self.old.ends.links self.old.player (N.seen net.old) false }
         requires fresh { self.old.single.seen ≡ [] }
         requires can { CanSubscribe self.old.single.setting self.old.player.script.topics }
-        ensures stands { (start : Beginning) → RunStands L.seen start self.old.single self.old.ends self.old.player (N.seen net.old) false → RunStands L.seen start self.new.single self.new.ends self.new.player (N.seen net.new) (is_dry_at self.new.single) }
+        ensures stands { (start : Beginning) → RunStands L.seen start self.old.single self.old.ends.links self.old.player (N.seen net.old) false → RunStands L.seen start self.new.single self.new.ends.links self.new.player (N.seen net.new) (is_dry_at self.new.single) }
         ensures dry { IsDryAt result self.new.single }
         ensures went { WentOrOver result self.new.single self.new.player (S.seen out.old) (S.seen out.new) (Pa.seen pace.new) }
         ensures pace { PacedTo result (Pa.seen pace.old) (Pa.seen pace.new) (past_of self.new.single.seen) }
         ensures printed { (before : Option (List ℕ)) → HasPrinted before (S.seen out.old).text self.old.single.seen self.old.player → PrintsTo result before (S.seen out.new).text self.new.single.seen self.new.player }
         ensures sinks { Sinks (result ≡ Status.OutFault) (S.seen out.old) (S.seen out.new) }
-        ensures same { SameEnds self.old.ends self.new.ends × SameScript self.old.player self.new.player × (self.new.single.setting ≡ self.old.single.setting) }
+        ensures same { SameEnds self.old.ends.links self.new.ends.links × SameScript self.old.player self.new.player × (self.new.single.setting ≡ self.old.single.setting) }
         ensures late { IsLateBy 1 self.new.single self.new.player }
     {
         match subscribe_all(rt, &mut self.single, &self.player) {

@@ -12,7 +12,7 @@ ghost use Rattle.cat_rounds.specs.Stepping.{SameScript};
 ghost use Rattle.cat_rounds.specs.Going.{RunStands, PrintsTo, IsDryAt, is_dry_at};
 ghost use Rattle.cat_rounds.specs.Starting.{CanSubscribe};
 ghost use Rattle.cat_rounds.specs.Late.{IsLateBy};
-ghost use Rattle.cat_rounds.specs.Built.{IsBuilt, AreBuilt, IsBuiltEnd, IsBody, Follows, AddsEnd, FinishesAs, IsEndOf, origins_of};
+ghost use Rattle.cat_rounds.specs.Built.{IsBuilt, ListensOnce, AreBuilt, IsBuiltEnd, IsBody, Follows, AddsEnd, FinishesAs, IsEndOf, origins_of};
 
 use crate::game::Game;
 use crate::player::{Player, Script};
@@ -20,6 +20,7 @@ use cat_play::ends::Status;
 use cat_text::{CatPlan, Data, End};
 use sp_base::{Bytes, Link, Net, Pace, Sink};
 use sp_ends::{EndError, Ends};
+use sp_lane::Inproc;
 use sp_proto::Proto;
 use sp_single::{Single, SingleEnd};
 use sp_socket::Record;
@@ -49,7 +50,8 @@ fn unopened(status: Status) -> CatEnd
 }
 
 /// Plays the plan on a socket over this machine, which is one of the plan's role and as good as new: opens the socket,
-/// listens and dials in the order of the plan, puts its topics on, goes round, closes, and gives every link back.
+/// listens and dials in the order of the plan, puts its topics on, goes round, closes, and gives every link back. Names
+/// within the process are those of this run alone.
 /// Whatever it returns, the history of the socket says all that was done. `dice` is the number of which the socket was
 /// made; the keys of WebSocket openings are made from it too.
 pub fn play<R: Wait, N: Net, Pa: Pace, S: Sink, P: Proto + Drop>(
@@ -67,6 +69,7 @@ pub fn play<R: Wait, N: Net, Pa: Pace, S: Sink, P: Proto + Drop>(
     requires built { IsBuilt plan }
     ensures runs { (files : FilesView) →
         RunsPlan (run_ways plan.role (origins_of plan dice)) result.status plan dice (option_map (λ r. r.turns) result.record_) (world (N.seen net.old) files (Pa.seen pace.old) (S.seen out.old)) (world (N.seen net.new) files (Pa.seen pace.new) (S.seen out.new)) }
+    ensures once { ListensOnce result.status plan.ends }
     ensures in_time { (files : FilesView) →
         EndsPlan result.status plan dice (option_map (λ r. r.turns) result.record_) (world (N.seen net.old) files (Pa.seen pace.old) (S.seen out.old)) (world (N.seen net.new) files (Pa.seen pace.new) (S.seen out.new)) }
 {
@@ -102,6 +105,7 @@ pub fn play<R: Wait, N: Net, Pa: Pace, S: Sink, P: Proto + Drop>(
         single,
         ends: links,
         player: Player::new(alloc, script),
+        inproc: Inproc::new(alloc),
     };
     let status = game.follow(rt, ends.as_slice(), net, pace, out);
     game.finish(rt, net, status)
@@ -128,14 +132,15 @@ impl<P: Proto, L: Link> Game<P, L> {
         pace: &mut Pa,
         out: &mut S,
     ) -> Status
-        requires stands { (start : Beginning) × AllByRecursion (IsEndOf start.origins) ends.now × RunStands L.seen start self.old.single self.old.ends self.old.player (N.seen net.old) false }
+        requires stands { (start : Beginning) × AllByRecursion (IsEndOf start.origins) ends.now × RunStands L.seen start self.old.single self.old.ends.links self.old.player (N.seen net.old) false }
         requires fresh { self.old.single.seen ≡ [] }
-        requires no_ends { (self.old.ends.listeners ≡ []) × (self.old.ends.dialers ≡ []) }
+        requires no_ends { (self.old.ends.links.listeners ≡ []) × (self.old.ends.links.dialers ≡ []) }
+        requires no_names { self.old.inproc ≡ [] }
         requires built { AreBuilt ends.now }
         requires topics { CanSubscribe self.old.single.setting self.old.player.script.topics }
-        ensures stands { (start : Beginning) → AllByRecursion (IsEndOf start.origins) ends.now → RunStands L.seen start self.old.single self.old.ends self.old.player (N.seen net.old) false → RunStands L.seen start self.new.single self.new.ends self.new.player (N.seen net.new) (is_dry_at self.new.single) }
+        ensures stands { (start : Beginning) → AllByRecursion (IsEndOf start.origins) ends.now → RunStands L.seen start self.old.single self.old.ends.links self.old.player (N.seen net.old) false → RunStands L.seen start self.new.single self.new.ends.links self.new.player (N.seen net.new) (is_dry_at self.new.single) }
         ensures dry { IsDryAt result self.new.single }
-        ensures followed { Follows result ends.now self.new.single self.new.ends self.new.player (N.seen net.old) (N.seen net.new) (Pa.seen pace.old) (Pa.seen pace.new) (S.seen out.old) (S.seen out.new) }
+        ensures followed { Follows result ends.now self.new.single self.new.ends.links self.new.player (N.seen net.old) (N.seen net.new) (Pa.seen pace.old) (Pa.seen pace.new) (S.seen out.old) (S.seen out.new) }
         ensures printed { (before : Option (List ℕ)) → HasPrinted before (S.seen out.old).text self.old.single.seen self.old.player → PrintsTo result before (S.seen out.new).text self.new.single.seen self.new.player }
         ensures same { SameScript self.old.player self.new.player × (self.new.single.setting ≡ self.old.single.setting) }
         ensures late { IsLateBy 1 self.new.single self.new.player }
@@ -144,6 +149,7 @@ impl<P: Proto, L: Link> Game<P, L> {
             match self.add(net, end) {
                 Ok(()) => (),
                 Err(EndError::Fault) => return Status::NetFault,
+                Err(EndError::InUse) => return Status::NetFault,
                 Err(EndError::NoMemory) => return Status::NoMemory,
             }
         }
@@ -153,30 +159,31 @@ impl<P: Proto, L: Link> Game<P, L> {
     // One end of the plan.
     fn add<N: Net<L = L>>(&mut self, net: &mut N, end: &End) -> Result<(), EndError>
         requires built { IsBuiltEnd end.now }
-        ensures added { AddsEnd result end.now self.old.ends self.new.ends (N.seen net.old) (N.seen net.new) }
-        ensures same { self.new ≡ record self.old { ends = self.new.ends } }
+        ensures added { AddsEnd result end.now self.old.ends self.new.ends (N.seen net.old) (N.seen net.new) self.old.inproc self.new.inproc }
+        ensures same { self.new ≡ record self.old { ends = self.new.ends; inproc = self.new.inproc } }
     {
         match end {
-            End::Listen(addr) => self.ends.listen(net, addr),
+            End::Listen(addr) => self.ends.listen(net, &mut self.inproc, addr),
             End::Dial(addr) => self.ends.dial(addr),
         }
     }
 
     // Closes the socket, and gives everything back.
     fn finish<R: Wait, N: Net<L = L>>(self, rt: &R, net: &mut N, status: Status) -> CatEnd
-        requires stands { (start : Beginning) × RunStands L.seen start self.single self.ends self.player (N.seen net.old) (is_dry_at self.single) }
+        requires stands { (start : Beginning) × RunStands L.seen start self.single self.ends.links self.player (N.seen net.old) (is_dry_at self.single) }
         ensures status { result.status ≡ status }
-        ensures finished { (start : Beginning) → RunStands L.seen start self.single self.ends self.player (N.seen net.old) (is_dry_at self.single) → FinishesAs L.seen start self.single self.ends self.player (N.seen net.old) (N.seen net.new) (option_map (λ r. r.turns) result.record_) }
+        ensures finished { (start : Beginning) → RunStands L.seen start self.single self.ends.links self.player (N.seen net.old) (is_dry_at self.single) → FinishesAs L.seen start self.single self.ends.links self.player (N.seen net.old) (N.seen net.new) (option_map (λ r. r.turns) result.record_) }
     {
         let Game {
             mut single,
             ends,
             player,
+            inproc: _,
         } = self;
         let _ = single.close(rt);
         player.finish(rt, &mut single);
         let SingleEnd { wires, record_ } = single.finish(rt);
-        ends.give_all_back(net, wires);
+        ends.give_all_back(rt, net, wires);
         CatEnd {
             status,
             record_: Some(record_),

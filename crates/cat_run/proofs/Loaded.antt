@@ -18,7 +18,7 @@ use Rattle.cat_play.specs.Scripts.{texts}
 use Rattle.sp_history.specs.Past.{past_of}
 use Rattle.link_opening.specs.Origins.{run_ways}
 use Rattle.cat_rounds.specs.Built.{origins_of}
-use Rattle.cat_run.specs.Ready.{HasContent, AsksFiles}
+use Rattle.cat_run.specs.Loading.{HasContent, AsksFiles}
 
 -- no plan is refused as wrong words
 pub no_usage : (ways : Ways) (s : Status) (plan : CatPlan) (dice : ℕ) (r : Option (List (Turn Entry))) (old new : World) → RunsPlan ways s plan dice r old new → (at : ℕ) → s ≡ status.Usage at → ⊥

@@ -7,7 +7,7 @@ use Rattle.sp_history.specs.declared.setting.Options.{Options}
 use Rattle.sp_proto.specs.Kinds.{Kind, Starts, kind_of, setting_of, start}
 use Rattle.sp_base.specs.declared.role.Role.{Role}
 use Rattle.cat_play.specs.Running.{run_setting}
-use Rattle.cat_run.specs.Ready.{usual_kind}
+use Rattle.cat_run.specs.Loading.{usual_kind}
 
 -- its socket has the setting of the run
 pub setting_is : {M : Type 0} (ties : M → Moment → Type 0) (kind : M → Kind) → ((m : M) (t : Moment) → ties m t → kind_of t.z ≡ kind m) → (m : M) (role : Role) (dice : ℕ) → Starts ties m (usual_kind role dice) → setting_of (kind m) 16 1 ≡ run_setting role dice

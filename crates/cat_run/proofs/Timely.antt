@@ -15,7 +15,7 @@ use Rattle.cat_play.specs.Plans.{Play, IsPlayOf, Carries}
 use Rattle.cat_play.specs.Running.{world, run_setting, is_called_off, EndsPlan}
 use Rattle.cat_play.specs.Scripts.{open_part, asks_anew, last_result, counts_for, count_in, over, has_reached, timed_out}
 use Rattle.cat_play.specs.Spending.{EndsInTime, EndsSoon, IsPrompt, late_ticks, ticks_where, excuses}
-use Rattle.cat_run.specs.Ready.{HasContent}
+use Rattle.cat_run.specs.Loading.{HasContent}
 
 -- a play that carries these bytes
 abbrev with_body : Play → List ℕ → Play

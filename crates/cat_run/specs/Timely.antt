@@ -1,4 +1,4 @@
--- A run ends in time, and comes to its end where nothing stops it.
+-- A run ends in time, comes to its end where nothing stops it, and refuses a plan that listens twice on one name.
 use Rattle.std.specs.Prelude.{ℕ, ⊤, List, Option}
 use Rattle.turn_lock.specs.declared.turn.Turn.{Turn}
 use Rattle.sp_history.specs.declared.entry.Entry.{Entry}
@@ -6,6 +6,7 @@ use Rattle.cat_text.specs.declared.plan.Plan.{Plan}
 use Rattle.cat_text.specs.declared.plan.Plan.TheVariants as plans
 use Rattle.cat_play.specs.declared.ends.Status.{Status}
 use Rattle.sp_spec.specs.Outside.{Rose}
+use Rattle.cat_rounds.specs.Built.{ListensOnce}
 use Rattle.cat_play.specs.Running.{World, EndsPlan, IsSpared, ComesToEnd}
 
 -- the rounds after the end of the plan's play have their excuse
@@ -17,3 +18,8 @@ EndsAs s (plans.Drill count) dice record_ old new = ⊤
 abbrev pub CompletesAs : Status → Plan → World → World → Type 0
 CompletesAs s (plans.Cat plan) old new = IsSpared plan old new → ComesToEnd s
 CompletesAs s (plans.Drill count) old new = (Rose old.sink.faults new.sink.faults → ⊥) → ComesToEnd s
+
+-- a plan that listens twice on one name within the process has no end but these: a network fault, a file fault, out of memory
+abbrev pub IsOnce : Status → Plan → Type 0
+IsOnce s (plans.Cat plan) = ListensOnce s plan.ends
+IsOnce s (plans.Drill count) = ⊤

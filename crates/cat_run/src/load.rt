@@ -1,5 +1,5 @@
 //! The data of a plan that stand in a file.
-ghost use Rattle.cat_run.specs.Ready.{AsksFiles, DataLoads, PlanLoads};
+ghost use Rattle.cat_run.specs.Loading.{AsksFiles, DataLoads, PlanLoads};
 
 use cat_play::ends::Status;
 use cat_text::{CatPlan, Data};

@@ -20,6 +20,7 @@ Endpoints (1 to 64 in all):
   --dial ADDRESS          connect to ADDRESS, again 100 ms after failure or end
   ADDRESS is tcp://HOST:PORT or ws://HOST:PORT/PATH. HOST is *, localhost, or
   four numbers with dots; PORT is 0 to 65535. --dial takes neither * nor port 0.
+  Or inproc://NAME, for this command alone: NAME is 1 to 128 visible characters.
 
 Data (push, pub, req and surveyor need one of the two, pull and sub take none):
   --data TEXT             send TEXT
@@ -45,8 +46,7 @@ How often and how long:
   --recv-timeout SECONDS  end with status 0 where nothing comes for so long,
                           0 to 86,400. Default: never
   --send-timeout SECONDS  end with status 2 where nothing can be sent for so
-                          long, once what went before is written,
-                          0 to 86,400. Default: never
+                          long, 0 to 86,400, once all is written. Default: never
 
 Alone:
   --drill N               tests N messages, 1 to 1,000,000, with four threads

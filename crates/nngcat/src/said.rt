@@ -55,26 +55,6 @@ fn is_role(name: &str) -> bool {
     !has_value(name) && !is_format(name)
 }
 
-// Whether it is an address within the process.
-fn is_unready(said: &Said<'_>) -> bool {
-    is_end(said.name) && said.value.unwrap_or("").starts_with("inproc://")
-}
-
-/// The place of the word that can't be run yet, in words that have a plan: the first address within the process.
-pub fn unready_at(words: &[String]) -> usize {
-    let mut next = 0;
-    for _ in 0..words.len() {
-        let Some(said) = said_at(words, next) else {
-            break;
-        };
-        if is_unready(&said) {
-            return said.value_at;
-        }
-        next = said.value_at.saturating_add(1);
-    }
-    0
-}
-
 /// What is missing behind words with which right ones begin.
 pub fn missing(words: &[String]) -> &'static str {
     let mut next = 0;

@@ -2,7 +2,7 @@ use Rattle.std.specs.Prelude.{◌≡◌}
 use Rattle.std.proofs.lemmas.Result.{IfOk-at_ok}
 use Rattle.sp_proto.specs.Kinds.{Starts, setting_of}
 use Rattle.cat_play.specs.Running.{run_setting}
-use Rattle.cat_run.specs.Ready.{usual_kind}
+use Rattle.cat_run.specs.Loading.{usual_kind}
 use Rattle.cat_run.proofs.Machines.{setting_is}
 use Rattle.cat_run.proofs.command.play_over.Given.{Over}
 use Rattle.cat_run.proofs.command.play_over.Goals as goal

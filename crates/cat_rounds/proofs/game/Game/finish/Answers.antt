@@ -38,7 +38,7 @@ give_all_back-requires g c =
         s.setting,
         start,
         end.record_.turns,
-        ends_stand c.close.result s c.close.new.self last p end.record_.turns e g.L.Link.seen start (g.N.Net.seen c.args.net.now) c.args.self.ends run.ends_stand,
+        ends_stand c.close.result s c.close.new.self last p end.record_.turns e g.L.Link.seen start (g.N.Net.seen c.args.net.now) c.args.self.ends.links run.ends_stand,
         wires_are c.close.result s c.close.new.self last p end.record_.turns e shown end.wires c.finish-wires.ensures,
       );
     }
@@ -55,6 +55,6 @@ returns-clause-finished g c start run =
     let e : IsEnding c.close.result s c.close.new.self last p end.record_.turns = record { sound = run.sound; play = run.play; closing = c.close.ensures.turn; last = c.finish.ensures.finished; whole = c.finish-wires.ensures.whole } in
     let legal = legal_record c.close.result s c.close.new.self last p end.record_.turns e in
     let closed = (play_closes c.close.result s c.close.new.self last p end.record_.turns e).closed in
-    let stands = ends_stand c.close.result s c.close.new.self last p end.record_.turns e seen start net c.args.self.ends run.ends_stand in
+    let stands = ends_stand c.close.result s c.close.new.self last p end.record_.turns e seen start net c.args.self.ends.links run.ends_stand in
     let wires = wires_are c.close.result s c.close.new.self last p end.record_.turns e shown end.wires c.finish-wires.ensures in
-    finishes c.close.result s c.close.new.self last p end.record_.turns e seen shown end.wires start net net' c.args.self.ends c.finish-wires.ensures (c.give_all_back.ensures.left s.setting start end.record_.turns legal closed stands wires) c.give_all_back.ensures.counts
+    finishes c.close.result s c.close.new.self last p end.record_.turns e seen shown end.wires start net net' c.args.self.ends.links c.finish-wires.ensures (c.give_all_back.ensures.left s.setting start end.record_.turns legal closed stands wires) c.give_all_back.ensures.counts

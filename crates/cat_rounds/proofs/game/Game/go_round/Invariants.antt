@@ -11,12 +11,12 @@ use Rattle.cat_rounds.proofs.game.Game.go_round.Given as goal
 
 abbrev pub invariant-rounds : goal.invariant-rounds
 invariant-rounds g l = record {
-  some : (start : Beginning) × RunStands g.L.Link.seen start l.self.single l.self.ends l.self.player (g.N.Net.seen l.net) false;
-  stands : (start : Beginning) → RunStands g.L.Link.seen start l.fn.self.single l.fn.self.ends l.fn.self.player (g.N.Net.seen l.fn.net) false → RunStands g.L.Link.seen start l.self.single l.self.ends l.self.player (g.N.Net.seen l.net) false;
+  some : (start : Beginning) × RunStands g.L.Link.seen start l.self.single l.self.ends.links l.self.player (g.N.Net.seen l.net) false;
+  stands : (start : Beginning) → RunStands g.L.Link.seen start l.fn.self.single l.fn.self.ends.links l.fn.self.player (g.N.Net.seen l.fn.net) false → RunStands g.L.Link.seen start l.self.single l.self.ends.links l.self.player (g.N.Net.seen l.net) false;
   may_tick : MayTick l.self.single.setting l.self.single.seen l.self.player;
   printed : (before : Option (List ℕ)) → HasPrinted before (g.S.Sink.seen l.fn.out).text l.fn.self.single.seen l.fn.self.player → HasPrinted before (g.S.Sink.seen l.out).text l.self.single.seen l.self.player;
   later : (g.S.Sink.seen l.fn.out).faults ≤ (g.S.Sink.seen l.out).faults;
-  same : SameEnds l.fn.self.ends l.self.ends × SameScript l.fn.self.player l.self.player × (l.self.single.setting ≡ l.fn.self.single.setting);
+  same : SameEnds l.fn.self.ends.links l.self.ends.links × SameScript l.fn.self.player l.self.player × (l.self.single.setting ≡ l.fn.self.single.setting);
   left_ : (g.Pa.Pace.seen l.fn.pace).left ≡ (g.Pa.Pace.seen l.pace).left + length (ticks (past_of l.self.single.seen));
   count : length (ticks (past_of l.self.single.seen)) ≤ l.counter;
   now_is : past_now l.self.single ≤ (g.Pa.Pace.seen l.pace).latest;

@@ -16,27 +16,27 @@ use Rattle.cat_rounds.proofs.game.Game.round.Goals as goal
 pub turn-turn-requires-clause-ticked : goal.turn-turn-requires-clause-ticked
 turn-turn-requires-clause-ticked g c =
     let run = c.requires.stands in
-    (run.0, (opens g.L.Link.seen run.0 (g.N.Net.seen c.args.net.now) c.args.self.now.single c.tick.new.self c.args.self.now.ends c.args.self.now.player c.args.now c.tick.ensures.turn c.tick.ensures.open_ run.1 c.requires.may_tick c.requires.later).links)
+    (run.0, (opens g.L.Link.seen run.0 (g.N.Net.seen c.args.net.now) c.args.self.now.single c.tick.new.self c.args.self.now.ends.links c.args.self.now.player c.args.now c.tick.ensures.turn c.tick.ensures.open_ run.1 c.requires.may_tick c.requires.later).links)
 
 pub turn-turn-requires-clause-now : goal.turn-turn-requires-clause-now
 turn-turn-requires-clause-now g c =
     let run = c.requires.stands in
-    (opens g.L.Link.seen run.0 (g.N.Net.seen c.args.net.now) c.args.self.now.single c.tick.new.self c.args.self.now.ends c.args.self.now.player c.args.now c.tick.ensures.turn c.tick.ensures.open_ run.1 c.requires.may_tick c.requires.later).stands.now_is
+    (opens g.L.Link.seen run.0 (g.N.Net.seen c.args.net.now) c.args.self.now.single c.tick.new.self c.args.self.now.ends.links c.args.self.now.player c.args.now c.tick.ensures.turn c.tick.ensures.open_ run.1 c.requires.may_tick c.requires.later).stands.now_is
 
 pub turn-turn-requires-clause-dry : goal.turn-turn-requires-clause-dry
 turn-turn-requires-clause-dry g c =
     let run = c.requires.stands in
-    (opens g.L.Link.seen run.0 (g.N.Net.seen c.args.net.now) c.args.self.now.single c.tick.new.self c.args.self.now.ends c.args.self.now.player c.args.now c.tick.ensures.turn c.tick.ensures.open_ run.1 c.requires.may_tick c.requires.later).dry
+    (opens g.L.Link.seen run.0 (g.N.Net.seen c.args.net.now) c.args.self.now.single c.tick.new.self c.args.self.now.ends.links c.args.self.now.player c.args.now c.tick.ensures.turn c.tick.ensures.open_ run.1 c.requires.may_tick c.requires.later).dry
 
 pub play-requires : goal.play-requires
 play-requires g c =
     let run = c.requires.stands in
-    let o = opens g.L.Link.seen run.0 (g.N.Net.seen c.args.net.now) c.args.self.now.single c.tick.new.self c.args.self.now.ends c.args.self.now.player c.args.now c.tick.ensures.turn c.tick.ensures.open_ run.1 c.requires.may_tick c.requires.later in
+    let o = opens g.L.Link.seen run.0 (g.N.Net.seen c.args.net.now) c.args.self.now.single c.tick.new.self c.args.self.now.ends.links c.args.self.now.player c.args.now c.tick.ensures.turn c.tick.ensures.open_ run.1 c.requires.may_tick c.requires.later in
     record { stands = quiet_stands c.tick.new.self c.turn-turn.new.single c.args.self.now.player c.args.now c.turn-turn.ensures.quietly c.turn-turn.ensures.sound o.stands }
 
 pub returns-then-turn-clause-stands : goal.returns-then-turn-clause-stands
 returns-then-turn-clause-stands g c = λ start run.
-    let o = opens g.L.Link.seen start (g.N.Net.seen c.args.net.now) c.args.self.now.single c.tick.new.self c.args.self.now.ends c.args.self.now.player c.args.now c.tick.ensures.turn c.tick.ensures.open_ run c.requires.may_tick c.requires.later in
+    let o = opens g.L.Link.seen start (g.N.Net.seen c.args.net.now) c.args.self.now.single c.tick.new.self c.args.self.now.ends.links c.args.self.now.player c.args.now c.tick.ensures.turn c.tick.ensures.open_ run c.requires.may_tick c.requires.later in
     let s1 = c.tick.new.self in
     let s2 = c.turn-turn.new.single in
     let p = c.args.self.now.player in
@@ -47,7 +47,7 @@ returns-then-turn-clause-stands g c = λ start run.
 pub returns-then-turn-clause-ticked : goal.returns-then-turn-clause-ticked
 returns-then-turn-clause-ticked g c =
     let run = c.requires.stands in
-    let o = opens g.L.Link.seen run.0 (g.N.Net.seen c.args.net.now) c.args.self.now.single c.tick.new.self c.args.self.now.ends c.args.self.now.player c.args.now c.tick.ensures.turn c.tick.ensures.open_ run.1 c.requires.may_tick c.requires.later in
+    let o = opens g.L.Link.seen run.0 (g.N.Net.seen c.args.net.now) c.args.self.now.single c.tick.new.self c.args.self.now.ends.links c.args.self.now.player c.args.now c.tick.ensures.turn c.tick.ensures.open_ run.1 c.requires.may_tick c.requires.later in
     let s1 = c.tick.new.self in
     let s2 = c.turn-turn.new.single in
     let p = c.args.self.now.player in
@@ -58,7 +58,7 @@ returns-then-turn-clause-ticked g c =
 pub returns-then-turn-clause-printed : goal.returns-then-turn-clause-printed
 returns-then-turn-clause-printed g c = λ before h.
     let run = c.requires.stands in
-    let o = opens g.L.Link.seen run.0 (g.N.Net.seen c.args.net.now) c.args.self.now.single c.tick.new.self c.args.self.now.ends c.args.self.now.player c.args.now c.tick.ensures.turn c.tick.ensures.open_ run.1 c.requires.may_tick c.requires.later in
+    let o = opens g.L.Link.seen run.0 (g.N.Net.seen c.args.net.now) c.args.self.now.single c.tick.new.self c.args.self.now.ends.links c.args.self.now.player c.args.now c.tick.ensures.turn c.tick.ensures.open_ run.1 c.requires.may_tick c.requires.later in
     let s1 = c.tick.new.self in
     let s2 = c.turn-turn.new.single in
     let p = c.args.self.now.player in
@@ -68,7 +68,7 @@ returns-then-turn-clause-printed g c = λ before h.
 
 pub returns-in-Rests-clause-stands : goal.returns-in-Rests-clause-stands
 returns-in-Rests-clause-stands g c = λ start run.
-    let o = opens g.L.Link.seen start (g.N.Net.seen c.args.net.now) c.args.self.now.single c.tick.new.self c.args.self.now.ends c.args.self.now.player c.args.now c.tick.ensures.turn c.tick.ensures.open_ run c.requires.may_tick c.requires.later in
+    let o = opens g.L.Link.seen start (g.N.Net.seen c.args.net.now) c.args.self.now.single c.tick.new.self c.args.self.now.ends.links c.args.self.now.player c.args.now c.tick.ensures.turn c.tick.ensures.open_ run c.requires.may_tick c.requires.later in
     let s1 = c.tick.new.self in
     let s2 = c.turn-turn.new.single in
     let p = c.args.self.now.player in
@@ -81,7 +81,7 @@ returns-in-Rests-clause-stands g c = λ start run.
 pub returns-in-Rests-clause-ticked : goal.returns-in-Rests-clause-ticked
 returns-in-Rests-clause-ticked g c =
     let run = c.requires.stands in
-    let o = opens g.L.Link.seen run.0 (g.N.Net.seen c.args.net.now) c.args.self.now.single c.tick.new.self c.args.self.now.ends c.args.self.now.player c.args.now c.tick.ensures.turn c.tick.ensures.open_ run.1 c.requires.may_tick c.requires.later in
+    let o = opens g.L.Link.seen run.0 (g.N.Net.seen c.args.net.now) c.args.self.now.single c.tick.new.self c.args.self.now.ends.links c.args.self.now.player c.args.now c.tick.ensures.turn c.tick.ensures.open_ run.1 c.requires.may_tick c.requires.later in
     let s1 = c.tick.new.self in
     let s2 = c.turn-turn.new.single in
     let p = c.args.self.now.player in
@@ -93,7 +93,7 @@ returns-in-Rests-clause-ticked g c =
 pub returns-in-Rests-clause-printed : goal.returns-in-Rests-clause-printed
 returns-in-Rests-clause-printed g c = λ before h.
     let run = c.requires.stands in
-    let o = opens g.L.Link.seen run.0 (g.N.Net.seen c.args.net.now) c.args.self.now.single c.tick.new.self c.args.self.now.ends c.args.self.now.player c.args.now c.tick.ensures.turn c.tick.ensures.open_ run.1 c.requires.may_tick c.requires.later in
+    let o = opens g.L.Link.seen run.0 (g.N.Net.seen c.args.net.now) c.args.self.now.single c.tick.new.self c.args.self.now.ends.links c.args.self.now.player c.args.now c.tick.ensures.turn c.tick.ensures.open_ run.1 c.requires.may_tick c.requires.later in
     let s1 = c.tick.new.self in
     let s2 = c.turn-turn.new.single in
     let p = c.args.self.now.player in
@@ -103,7 +103,7 @@ returns-in-Rests-clause-printed g c = λ before h.
 
 pub returns-in-OutFault-clause-stands : goal.returns-in-OutFault-clause-stands
 returns-in-OutFault-clause-stands g c = λ start run.
-    let o = opens g.L.Link.seen start (g.N.Net.seen c.args.net.now) c.args.self.now.single c.tick.new.self c.args.self.now.ends c.args.self.now.player c.args.now c.tick.ensures.turn c.tick.ensures.open_ run c.requires.may_tick c.requires.later in
+    let o = opens g.L.Link.seen start (g.N.Net.seen c.args.net.now) c.args.self.now.single c.tick.new.self c.args.self.now.ends.links c.args.self.now.player c.args.now c.tick.ensures.turn c.tick.ensures.open_ run c.requires.may_tick c.requires.later in
     let s1 = c.tick.new.self in
     let s2 = c.turn-turn.new.single in
     let p = c.args.self.now.player in
@@ -116,7 +116,7 @@ returns-in-OutFault-clause-stands g c = λ start run.
 pub returns-in-OutFault-clause-ticked : goal.returns-in-OutFault-clause-ticked
 returns-in-OutFault-clause-ticked g c =
     let run = c.requires.stands in
-    let o = opens g.L.Link.seen run.0 (g.N.Net.seen c.args.net.now) c.args.self.now.single c.tick.new.self c.args.self.now.ends c.args.self.now.player c.args.now c.tick.ensures.turn c.tick.ensures.open_ run.1 c.requires.may_tick c.requires.later in
+    let o = opens g.L.Link.seen run.0 (g.N.Net.seen c.args.net.now) c.args.self.now.single c.tick.new.self c.args.self.now.ends.links c.args.self.now.player c.args.now c.tick.ensures.turn c.tick.ensures.open_ run.1 c.requires.may_tick c.requires.later in
     let s1 = c.tick.new.self in
     let s2 = c.turn-turn.new.single in
     let p = c.args.self.now.player in
@@ -128,7 +128,7 @@ returns-in-OutFault-clause-ticked g c =
 pub returns-in-OutFault-clause-printed : goal.returns-in-OutFault-clause-printed
 returns-in-OutFault-clause-printed g c = λ before h.
     let run = c.requires.stands in
-    let o = opens g.L.Link.seen run.0 (g.N.Net.seen c.args.net.now) c.args.self.now.single c.tick.new.self c.args.self.now.ends c.args.self.now.player c.args.now c.tick.ensures.turn c.tick.ensures.open_ run.1 c.requires.may_tick c.requires.later in
+    let o = opens g.L.Link.seen run.0 (g.N.Net.seen c.args.net.now) c.args.self.now.single c.tick.new.self c.args.self.now.ends.links c.args.self.now.player c.args.now c.tick.ensures.turn c.tick.ensures.open_ run.1 c.requires.may_tick c.requires.later in
     let s1 = c.tick.new.self in
     let s2 = c.turn-turn.new.single in
     let p = c.args.self.now.player in
@@ -138,7 +138,7 @@ returns-in-OutFault-clause-printed g c = λ before h.
 
 pub returns-in-NoMemory-clause-stands : goal.returns-in-NoMemory-clause-stands
 returns-in-NoMemory-clause-stands g c = λ start run.
-    let o = opens g.L.Link.seen start (g.N.Net.seen c.args.net.now) c.args.self.now.single c.tick.new.self c.args.self.now.ends c.args.self.now.player c.args.now c.tick.ensures.turn c.tick.ensures.open_ run c.requires.may_tick c.requires.later in
+    let o = opens g.L.Link.seen start (g.N.Net.seen c.args.net.now) c.args.self.now.single c.tick.new.self c.args.self.now.ends.links c.args.self.now.player c.args.now c.tick.ensures.turn c.tick.ensures.open_ run c.requires.may_tick c.requires.later in
     let s1 = c.tick.new.self in
     let s2 = c.turn-turn.new.single in
     let p = c.args.self.now.player in
@@ -151,7 +151,7 @@ returns-in-NoMemory-clause-stands g c = λ start run.
 pub returns-in-NoMemory-clause-ticked : goal.returns-in-NoMemory-clause-ticked
 returns-in-NoMemory-clause-ticked g c =
     let run = c.requires.stands in
-    let o = opens g.L.Link.seen run.0 (g.N.Net.seen c.args.net.now) c.args.self.now.single c.tick.new.self c.args.self.now.ends c.args.self.now.player c.args.now c.tick.ensures.turn c.tick.ensures.open_ run.1 c.requires.may_tick c.requires.later in
+    let o = opens g.L.Link.seen run.0 (g.N.Net.seen c.args.net.now) c.args.self.now.single c.tick.new.self c.args.self.now.ends.links c.args.self.now.player c.args.now c.tick.ensures.turn c.tick.ensures.open_ run.1 c.requires.may_tick c.requires.later in
     let s1 = c.tick.new.self in
     let s2 = c.turn-turn.new.single in
     let p = c.args.self.now.player in
@@ -163,7 +163,7 @@ returns-in-NoMemory-clause-ticked g c =
 pub returns-in-NoMemory-clause-printed : goal.returns-in-NoMemory-clause-printed
 returns-in-NoMemory-clause-printed g c = λ before h.
     let run = c.requires.stands in
-    let o = opens g.L.Link.seen run.0 (g.N.Net.seen c.args.net.now) c.args.self.now.single c.tick.new.self c.args.self.now.ends c.args.self.now.player c.args.now c.tick.ensures.turn c.tick.ensures.open_ run.1 c.requires.may_tick c.requires.later in
+    let o = opens g.L.Link.seen run.0 (g.N.Net.seen c.args.net.now) c.args.self.now.single c.tick.new.self c.args.self.now.ends.links c.args.self.now.player c.args.now c.tick.ensures.turn c.tick.ensures.open_ run.1 c.requires.may_tick c.requires.later in
     let s1 = c.tick.new.self in
     let s2 = c.turn-turn.new.single in
     let p = c.args.self.now.player in
@@ -173,7 +173,7 @@ returns-in-NoMemory-clause-printed g c = λ before h.
 
 pub returns-in-Over-clause-stands : goal.returns-in-Over-clause-stands
 returns-in-Over-clause-stands g c = λ start run.
-    let o = opens g.L.Link.seen start (g.N.Net.seen c.args.net.now) c.args.self.now.single c.tick.new.self c.args.self.now.ends c.args.self.now.player c.args.now c.tick.ensures.turn c.tick.ensures.open_ run c.requires.may_tick c.requires.later in
+    let o = opens g.L.Link.seen start (g.N.Net.seen c.args.net.now) c.args.self.now.single c.tick.new.self c.args.self.now.ends.links c.args.self.now.player c.args.now c.tick.ensures.turn c.tick.ensures.open_ run c.requires.may_tick c.requires.later in
     let s1 = c.tick.new.self in
     let s2 = c.turn-turn.new.single in
     let p = c.args.self.now.player in
@@ -184,12 +184,12 @@ returns-in-Over-clause-stands g c = λ start run.
     let s3 = c.play.new.self.single in
     let d = c.drain.ensures in
     let mid = run_on g.L.Link.seen start (g.N.Net.seen c.turn-turn.new.net) s2 s3 c.turn-turn.new.self c.play.new.self.ends c.play.new.self.player c.args.now y.goes_on y.same.1 y.stands dry (t.stands start o.links) in
-    round_stands g.L.Link.seen start (g.N.Net.seen c.turn-turn.new.net) c.drain.result c.drain.new.self.single c.drain.new.self.ends c.drain.new.self.player d.fault.1 (run_on g.L.Link.seen start (g.N.Net.seen c.turn-turn.new.net) s3 c.drain.new.self.single c.play.new.self.ends c.drain.new.self.ends c.drain.new.self.player c.args.now d.goes_on d.same.1 (d.stands c.args.now y.stands) mid.dry mid.ends_stand)
+    round_stands g.L.Link.seen start (g.N.Net.seen c.turn-turn.new.net) c.drain.result c.drain.new.self.single c.drain.new.self.ends.links c.drain.new.self.player d.fault.1 (run_on g.L.Link.seen start (g.N.Net.seen c.turn-turn.new.net) s3 c.drain.new.self.single c.play.new.self.ends c.drain.new.self.ends c.drain.new.self.player c.args.now d.goes_on d.same.1 (d.stands c.args.now y.stands) mid.dry mid.ends_stand)
 
 pub returns-in-Over-clause-ticked : goal.returns-in-Over-clause-ticked
 returns-in-Over-clause-ticked g c =
     let run = c.requires.stands in
-    let o = opens g.L.Link.seen run.0 (g.N.Net.seen c.args.net.now) c.args.self.now.single c.tick.new.self c.args.self.now.ends c.args.self.now.player c.args.now c.tick.ensures.turn c.tick.ensures.open_ run.1 c.requires.may_tick c.requires.later in
+    let o = opens g.L.Link.seen run.0 (g.N.Net.seen c.args.net.now) c.args.self.now.single c.tick.new.self c.args.self.now.ends.links c.args.self.now.player c.args.now c.tick.ensures.turn c.tick.ensures.open_ run.1 c.requires.may_tick c.requires.later in
     let s1 = c.tick.new.self in
     let s2 = c.turn-turn.new.single in
     let p = c.args.self.now.player in
@@ -203,7 +203,7 @@ returns-in-Over-clause-ticked g c =
 pub returns-in-Over-clause-printed : goal.returns-in-Over-clause-printed
 returns-in-Over-clause-printed g c = λ before h.
     let run = c.requires.stands in
-    let o = opens g.L.Link.seen run.0 (g.N.Net.seen c.args.net.now) c.args.self.now.single c.tick.new.self c.args.self.now.ends c.args.self.now.player c.args.now c.tick.ensures.turn c.tick.ensures.open_ run.1 c.requires.may_tick c.requires.later in
+    let o = opens g.L.Link.seen run.0 (g.N.Net.seen c.args.net.now) c.args.self.now.single c.tick.new.self c.args.self.now.ends.links c.args.self.now.player c.args.now c.tick.ensures.turn c.tick.ensures.open_ run.1 c.requires.may_tick c.requires.later in
     let s1 = c.tick.new.self in
     let s2 = c.turn-turn.new.single in
     let p = c.args.self.now.player in

@@ -1,0 +1,45 @@
+-- The data of a plan, and the machine of its role.
+use Rattle.std.specs.Prelude.{◌≡◌, ◌≤◌, ℕ, ⊤, false, List, Result, Ok, Err}
+use Rattle.sp_spec.specs.Outside.{Rose}
+use Rattle.sp_base.specs.Views.{FilesView}
+use Rattle.sp_base.specs.Steps.{Holds}
+use Rattle.sp_base.specs.declared.role.Role.{Role}
+use Rattle.sp_proto.specs.Kinds.{Kind}
+use Rattle.sp_history.specs.Options.{usual}
+use Rattle.cat_text.specs.declared.plan.CatPlan.{CatPlan}
+use Rattle.cat_text.specs.declared.plan.Data.{Data}
+use Rattle.cat_text.specs.declared.plan.Data.TheVariants as datas
+use Rattle.cat_play.specs.declared.ends.Status.{Status}
+use Rattle.cat_play.specs.declared.ends.Status.TheVariants as status
+
+-- the machine of a role, cooked and as usual
+abbrev pub usual_kind : Role → ℕ → Kind
+usual_kind role dice = record { role = role; raw = false; options = usual role dice }
+
+-- ---- What a file holds
+
+-- data with what the file of a name holds in place of the name
+abbrev pub HasContent : Data → Data → FilesView → Type 0
+HasContent datas.None loaded files = loaded ≡ datas.None
+HasContent (datas.Text text) loaded files = loaded ≡ datas.Text text
+HasContent (datas.File name) loaded files = (bytes : List ℕ) × (loaded ≡ datas.Text bytes) × Holds files name bytes
+
+-- the files hold what they held; without a name they were not asked
+pub record AsksFiles (data_ : Data) (old new : FilesView) : Type 0 where
+  pub holds : new.holds ≡ old.holds
+  pub faults : old.faults ≤ new.faults
+  pub unasked : ((name : List ℕ) → data_ ≡ datas.File name → ⊥) → new ≡ old
+
+-- why there are none
+abbrev pub LoadFails : Status → FilesView → FilesView → Type 0
+LoadFails status.FileFault old new = Rose old.faults new.faults
+LoadFails status.NoMemory old new = ⊤
+LoadFails _ old new = ⊥
+
+abbrev pub DataLoads : Result Data Status → Data → FilesView → FilesView → Type 0
+DataLoads (Ok loaded) data_ old new = HasContent data_ loaded old
+DataLoads (Err why) data_ old new = LoadFails why old new
+
+abbrev pub PlanLoads : Result CatPlan Status → CatPlan → FilesView → FilesView → Type 0
+PlanLoads (Ok loaded) plan old new = (data_ : Data) × HasContent plan.data_ data_ old × (loaded ≡ record plan { data_ = data_ })
+PlanLoads (Err why) plan old new = LoadFails why old new
