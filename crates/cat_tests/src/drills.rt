@@ -1,6 +1,5 @@
 //! A drill, as the words ask for it.
-use crate::TURNS;
-use crate::play::{incoming, play, unlinked};
+use cat_fakes::{TURNS, incoming, play, unlinked};
 use cat_run::{Status, exit_code};
 use std::test::Fail;
 

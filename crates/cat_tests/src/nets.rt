@@ -1,5 +1,4 @@
-use crate::TURNS;
-use crate::play::{ALL, HELLO_80, HELLO_81, link_of, outgoing, play};
+use cat_fakes::{ALL, HELLO_80, HELLO_81, TURNS, link_of, outgoing, play};
 use cat_run::Status;
 use sp_base::{Addr, Host, Link, LinkRead, Linked, Listened, Net};
 use sp_fakes::MemNet;

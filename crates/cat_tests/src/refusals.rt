@@ -1,7 +1,6 @@
 ghost use Rattle.sp_fakes.specs.Nets.{net_view};
 
-use crate::TURNS;
-use crate::play::{ALL, HELLO_80, Outside, PULL, incoming, link_of, play, unlinked, words};
+use cat_fakes::{ALL, HELLO_80, Outside, PULL, TURNS, incoming, link_of, play, unlinked, words};
 use cat_run::{Status, complaint, exit_code, run};
 use sp_base::{Addr, Bytes, Host, Link, Linked, Listened, Net, NoMemory};
 use sp_fakes::{MemFiles, MemNet, MemPace, MemSink, NetLink};
@@ -22,8 +21,6 @@ fn words_without_a_plan_are_refused_at_their_place(rt: HostRuntime) -> Result<()
         (&["--pull", "--listen", A, "--count", "1", "y"], 5),
         (&["--push", "--listen", A], 3),
         (&["--push", "--listen", A, "--data"], 4),
-        // An end that isn't over TCP.
-        (&["--pull", "--listen", "inproc://a"], 0),
     ];
     for (texts, at) in wrong {
         let came = unlinked(&rt, texts)?;

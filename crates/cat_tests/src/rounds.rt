@@ -1,7 +1,7 @@
 //! What a round asks of links and listeners, how far it goes, and what the pace is told of it.
 ghost use Rattle.sp_fakes.specs.Paces.{pace_view};
 
-use crate::play::{ALL, HELLO_80, Outside, incoming, link_of, play, words};
+use cat_fakes::{ALL, HELLO_80, Outside, incoming, link_of, play, words};
 use cat_run::{Status, run};
 use sp_base::{Bytes, NoMemory, Pace, Paced};
 use sp_fakes::{LinkStep, MemFiles, MemLink, MemNet, MemPace, MemSink};
@@ -87,17 +87,34 @@ fn a_round_prints_some_messages(rt: HostRuntime) -> Result<(), Fail> {
     Ok(())
 }
 
-// Of more links than there are turns one is accepted a turn.
+// A listener is asked until it has no link, or has brought 16 in this turn.
 #[test]
-fn a_listener_is_asked_once_a_round(rt: HostRuntime) -> Result<(), Fail> {
+fn a_listener_brings_16_links_a_turn(rt: HostRuntime) -> Result<(), Fail> {
+    let alloc = rt.alloc();
+    let rows: &[(u64, u32)] = &[(1, 16), (2, 32), (3, 40), (30, 40)];
+    for (turns, opened) in rows {
+        let mut links = Vec::new(alloc);
+        for _ in 0..40 {
+            links.push(link_of(alloc, &[HELLO_80], false, ALL)?)?;
+        }
+        let came = play(&rt, PULL, within(alloc, links, *turns)?)?;
+        assert_eq!(rt; came.status, Status::Over);
+        assert_eq!(rt; came.opened, *opened);
+    }
+    Ok(())
+}
+
+// While 256 links are in their greetings nobody is accepted.
+#[test]
+fn nothing_is_accepted_behind_256_greetings(rt: HostRuntime) -> Result<(), Fail> {
     let alloc = rt.alloc();
     let mut links = Vec::new(alloc);
-    for _ in 0..40 {
-        links.push(link_of(alloc, &[HELLO_80], false, ALL)?)?;
+    for _ in 0..300 {
+        links.push(link_of(alloc, &[b"\x00SP"], false, ALL)?)?;
     }
-    let came = play(&rt, PULL, within(alloc, links, 30)?)?;
+    let came = play(&rt, PULL, within(alloc, links, 60)?)?;
     assert_eq!(rt; came.status, Status::Over);
-    assert_eq!(rt; came.opened, 30);
+    assert_eq!(rt; came.opened, 256);
     Ok(())
 }
 

@@ -3,8 +3,7 @@ ghost use Rattle.std.specs.Prelude.{◌≡◌, true, IfOk};
 ghost use Rattle.sp_base.specs.declared.addr.Scheme.TheVariants as schemes;
 ghost use Rattle.sp_fakes.specs.MemLinks.{link_view, unread_at};
 
-use crate::TURNS;
-use crate::play::{ALL, Outside, incoming, link_of, over_one, play, trickle};
+use cat_fakes::{ALL, Outside, TURNS, incoming, link_of, over_one, play, trickle};
 use cat_run::Status;
 use sp_base::{Addr, Bytes, Host, NoMemory};
 use sp_fakes::{LinkStep, MemLink};

@@ -1,6 +1,5 @@
-//! What words ask for, beyond the first plays: plans that aren't there yet, files that fail, times of nothing, data.
-use crate::TURNS;
-use crate::play::{ALL, incoming, link_of, over_one, play, unlinked, words};
+//! What words ask for, beyond the first plays: files that fail, times of nothing, data.
+use cat_fakes::{ALL, TURNS, incoming, link_of, over_one, play, unlinked, words};
 use cat_run::{Status, exit_code, run};
 use sp_base::{Bytes, NoMemory};
 use sp_fakes::{LinkStep, MemFiles, MemLink, MemNet, MemPace, MemSink};
@@ -16,23 +15,6 @@ const HELLO_48: &[u8] = b"\x00SP\x00\x00\x30\x00\x00";
 
 /// The greeting of a rep socket.
 const HELLO_49: &[u8] = b"\x00SP\x00\x00\x31\x00\x00";
-
-#[test]
-fn what_is_not_there_yet_is_refused_whole(rt: HostRuntime) -> Result<(), Fail> {
-    let rows: &[&[&str]] = &[
-        &["--pull", "--listen", "inproc://a"],
-        &["--pull", "--dial=inproc://a"],
-        &["--pull", "--listen", A, "--dial", "inproc://a"],
-    ];
-    for texts in rows {
-        let came = unlinked(&rt, texts)?;
-        assert_eq!(rt; came.status, Status::Usage { at: 0 });
-        assert!(rt; !came.has_record);
-        assert_eq!(rt; came.opened, 0);
-        assert_eq!(rt; came.left, TURNS);
-    }
-    Ok(())
-}
 
 // How a push of the file `f` ends over files that hold one of this name, where these of their calls fail; whether it has a
 // record, how many links were handed out, and how many turns are left.

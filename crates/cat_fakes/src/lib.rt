@@ -1,15 +1,19 @@
-//! What the tests run, and what they compare.
+//! A run of nngcat over an outside in memory: what is outside of it, and what it came to, for tests to compare.
+#![tactic(auto)]
+
 ghost use Rattle.std.specs.Prelude.{◌≡◌, IfOk};
 ghost use Rattle.sp_base.specs.declared.addr.Scheme.TheVariants as schemes;
 ghost use Rattle.sp_fakes.specs.MemLinks.{link_view, unread_at};
 
-use crate::TURNS;
 use cat_run::{Status, run};
 use sp_base::{Addr, Bytes, Host, NoMemory};
 use sp_fakes::{LinkStep, MemFiles, MemLink, MemNet, MemPace, MemSink};
 use std::alloc::Global;
 use std::sync::Wait;
 use std::thread::Threads;
+
+/// How many turns the pace of a test has, a millisecond apart.
+pub const TURNS: u64 = 200;
 
 /// The greeting of a push socket.
 pub const HELLO_80: &[u8] = b"\x00SP\x00\x00\x50\x00\x00";

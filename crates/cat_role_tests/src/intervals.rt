@@ -1,6 +1,5 @@
 //! What `--interval` does to a run.
-use crate::TURNS;
-use crate::play::{ALL, HELLO_81, incoming, link_of, over_one, play, unlinked};
+use cat_fakes::{ALL, HELLO_81, TURNS, incoming, link_of, over_one, play, unlinked};
 use cat_run::Status;
 use std::test::Fail;
 

@@ -1,5 +1,5 @@
 //! What a req sends and prints.
-use crate::play::{ALL, incoming, link_of, outgoing, over_one, play, unlinked};
+use cat_fakes::{ALL, incoming, link_of, outgoing, over_one, play, unlinked};
 use cat_run::Status;
 use sp_base::{Bytes, NoMemory};
 use sp_fakes::{LinkStep, MemLink};

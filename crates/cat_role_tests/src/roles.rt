@@ -1,7 +1,6 @@
 //! What each role that has a machine sends and prints.
-use crate::TURNS;
-use crate::play::{
-    ALL, HELLO_80, HELLO_81, between, incoming, link_of, outgoing, over_one, play, unlinked,
+use cat_fakes::{
+    ALL, HELLO_80, HELLO_81, TURNS, between, incoming, link_of, outgoing, over_one, play, unlinked,
 };
 use cat_run::Status;
 use sp_base::{Addr, Bytes, Host, NoMemory};

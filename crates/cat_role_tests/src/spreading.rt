@@ -1,5 +1,5 @@
 //! What a pub and a bus send to all of their peers, and what a bus and a sub print.
-use crate::play::{ALL, between, incoming, link_of, outgoing, over_one, play, unlinked};
+use cat_fakes::{ALL, between, incoming, link_of, outgoing, over_one, play, unlinked};
 use cat_run::Status;
 use sp_fakes::LinkStep;
 use std::test::Fail;
@@ -16,7 +16,7 @@ const HELLO_112: &[u8] = b"\x00SP\x00\x00\x70\x00\x00";
 const TWICE_BY_BUS: &[u8] =
     b"\x00SP\x00\x00\x70\x00\x00\x00\x00\x00\x00\x00\x00\x00\x01m\x00\x00\x00\x00\x00\x00\x00\x01m";
 
-// Two are sent, a second apart. The second subscriber is there for the second one.
+// Two are sent, a second apart. The greeting of the second subscriber is whole in the second round: it gets the second one.
 #[test]
 fn a_pub_sends_to_each_subscriber(rt: HostRuntime) -> Result<(), Fail> {
     let alloc = rt.alloc();
@@ -36,7 +36,7 @@ fn a_pub_sends_to_each_subscriber(rt: HostRuntime) -> Result<(), Fail> {
     const ONCE: &[u8] = b"\x00SP\x00\x00\x20\x00\x00\x00\x00\x00\x00\x00\x00\x00\x04news";
     let mut links = Vec::new(alloc);
     links.push(link_of(alloc, &[HELLO_33], false, ALL)?)?;
-    links.push(link_of(alloc, &[HELLO_33], false, ALL)?)?;
+    links.push(between(alloc, b"\x00SP\x00", LinkStep::NotYet, b"\x00\x21\x00\x00")?)?;
     let mut outside = incoming(alloc, links)?;
     outside.turns = 3_000;
     let came = play(&rt, NEWS, outside)?;

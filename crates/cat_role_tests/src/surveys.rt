@@ -1,6 +1,5 @@
 //! What a surveyor sends and prints, and a respondent.
-use crate::TURNS;
-use crate::play::{ALL, between, incoming, link_of, over_one, play, unlinked};
+use cat_fakes::{ALL, TURNS, between, incoming, link_of, over_one, play, unlinked};
 use cat_run::Status;
 use sp_base::NoMemory;
 use sp_fakes::{LinkStep, MemLink};
