@@ -767,13 +767,6 @@ def wrong_words():
          b'can\'t go on with "\\x1b[31m\\r\\n\\t\\x7f\\"\\\\\\xc3\\xa9"'),
         (("",), 0, b'can\'t go on with ""'),
     ]
-    unready = [
-        (("--pull", *listen, "--listen", "inproc://a"), 4, b"inproc://a"),
-        (("--ascii", "--pull", "--dial=inproc://a"), 2, b"--dial=inproc://a"),
-        (("--push", "--data", "--drill", "--listen", "inproc://b"), 4, b"inproc://b"),
-    ]
-    rows += [(words, at, b'can\'t go on with "%s"\nnngcat: this address is not there yet' % word)
-             for words, at, word in unready]
     wrong = []
     for words, at, text in rows:
         found = answered(*words)
@@ -792,9 +785,12 @@ def faults_name_their_words():
         taken.listen(1)
         port = taken.getsockname()[1]
         net = answered("--pull", "--listen", address(port), "--dial=tcp://127.0.0.1:1")
+    twice = answered("--bus", "--listen", "inproc://x", "--dial", "inproc://x", "--listen=inproc://x")
     lost = answered("--push", "--listen", address(free_port()), "--file", "no such\tfile")
-    right = net == (4, b"", b'nngcat: network fault\nnngcat: --listen "%s"\n' % address(port).encode())
-    return right and lost == (6, b"", b'nngcat: file fault\nnngcat: --file "no such\\tfile"\n'), f"{net}, {lost}"
+    lines = b'nngcat: --listen "inproc://x"\n' * 2
+    right = twice == (4, b"", b"nngcat: network fault\n" + lines)
+    right = right and net == (4, b"", b'nngcat: network fault\nnngcat: --listen "%s"\n' % address(port).encode())
+    return right and lost == (6, b"", b'nngcat: file fault\nnngcat: --file "no such\\tfile"\n'), f"{net}, {twice}, {lost}"
 
 
 def standard_input():

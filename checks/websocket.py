@@ -412,8 +412,28 @@ def each_role_with_theirs():
     return not told, f"{4 * len(PAIRS)} runs, wrong: {told}"
 
 
+def push_rate(program, count):
+    """Messages a second of 1 KiB that a push sends to a plain client, which drains them unread."""
+    port = free_port()
+    run = subprocess.Popen([program, "--push", "--listen", address(port), "--data", "y" * 1024, "--count", str(count)])
+    connect(port).close()
+    peer, _ = client(port, b"push")
+    wanted, came = count * (4 + 1024), 0
+    buffer = bytearray(1 << 20)
+    begun = time.time()
+    while came < wanted:
+        n = peer.recv_into(buffer)
+        if n == 0:
+            break
+        came += n
+    took = time.time() - begun
+    run.wait(timeout=60)
+    peer.close()
+    return came / (4 + 1024) / took
+
+
 def measure():
-    """Messages a second of 1 KiB into a pull, and round trips of 8 bytes with a rep, beside nng's."""
+    """Messages a second of 1 KiB into a pull and out of a push, and round trips of 8 bytes with a rep, beside nng's."""
     for name, program in (("ours", OURS), ("nng 1.5.2", THEIRS)):
         if not program:
             continue
@@ -430,6 +450,7 @@ def measure():
         run.wait(timeout=120)
         print(f"pull over WebSocket, 1 KiB: {name} {count / (time.time() - begun):,.0f} messages/s", flush=True)
         peer.close()
+        print(f"push over WebSocket, 1 KiB: {name} {push_rate(program, count):,.0f} messages/s", flush=True)
         port = free_port()
         run = begin(program, "--rep", "--listen", address(port), "--data", "12345678")
         connect(port).close()
