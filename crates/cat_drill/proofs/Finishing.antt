@@ -41,6 +41,7 @@ use Rattle.cat_drill.specs.Feeds.{IsSource}
 use Rattle.cat_drill.specs.Calling.{IsDrillPass, Later}
 use Rattle.cat_drill.specs.Ending.{IsFedBy, IsOut, ClosesWith, CameFrom, Prints}
 use Rattle.cat_drill.proofs.Calling.{is_of}
+use Rattle.cat_drill.proofs.Due.{due_each}
 use Rattle.cat_drill.proofs.Laws.{gives_all, still_named}
 use Rattle.cat_drill.proofs.Values.{length_bodies}
 use Rattle.cat_drill.proofs.Feeding.{same_lane}
@@ -121,6 +122,7 @@ record_drills s p label h ps rest own e r =
         settled = subst (λ (x : Setting). Settled x h) z r.settled;
         closed = r.closed;
         ended = λ op. (all_ended drill_setting h legal r.closed op).1;
+        due = due_each (past_of h) r.due;
       },
       fits.0,
       z,

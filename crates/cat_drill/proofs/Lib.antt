@@ -1,6 +1,7 @@
 mod Laws
 mod Values
 mod Feeding
+mod Due
 mod Calling
 mod Finishing
 mod Sourcing

@@ -1,7 +1,7 @@
 //! The parts of a drill, for whoever looks at one round by itself.
 pub use crate::ending::{Closed, close_all, drop_all};
 pub use crate::feed::Feed;
-pub use crate::rounds::{begin_all, collect_all};
+pub use crate::rounds::{begin_all, collect_all, contend, rounds};
 pub use crate::run::{crew_of, lanes};
 pub use crate::source::Source;
 pub use crate::tasks::{Crew, work};

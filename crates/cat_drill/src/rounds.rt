@@ -194,6 +194,28 @@ fn give_rest<P: Proto, W: Wire, R: Wait>(
     true
 }
 
+/// The first half of a round: its receives are begun and held, and the four tasks work on them at once. Whether all were
+/// begun.
+pub fn contend<P: Proto + Send, W: Wire + Send, G: Gate + Sync, R: Wait + Threads + Sync>(
+    rt: &R,
+    alloc: Global,
+    socket: &Socket<P, W>,
+    gate: &G,
+    crew: Crew<P, W>,
+    ops: &mut Vec<Op>,
+    now: Tick,
+) -> (Crew<P, W>, bool)
+    requires { IsCrew socket.now crew.main crew.two crew.three crew.four ops.old.items }
+    ensures crew { IsCrew socket.now result.0.main result.0.two result.0.three result.0.four ops.new.items }
+    ensures later { Later crew.main result.0.main }
+{
+    let mut crew = crew;
+    let mut evens = Vec::new(alloc);
+    let begun = begin_all(rt, socket, &mut crew.main, ops, &mut evens, now);
+    let crew = all_work(rt, socket, gate, evens.as_slice(), now, crew);
+    (crew, begun)
+}
+
 // A round in which so many messages are to be given. Whether they were.
 fn round<P: Proto + Send, W: Wire + Send, G: Gate + Sync, R: Wait + Threads + Sync>(
     rt: &R,
@@ -208,11 +230,8 @@ fn round<P: Proto + Send, W: Wire + Send, G: Gate + Sync, R: Wait + Threads + Sy
     ensures crew { IsCrew socket.now result.0.main result.0.two result.0.three result.0.four [] }
     ensures later { Later crew.main result.0.main }
 {
-    let mut crew = crew;
     let mut ops = Vec::new(alloc);
-    let mut evens = Vec::new(alloc);
-    let begun = begin_all(rt, socket, &mut crew.main, &mut ops, &mut evens, now);
-    let mut crew = all_work(rt, socket, gate, evens.as_slice(), now, crew);
+    let (mut crew, begun) = contend(rt, alloc, socket, gate, crew, &mut ops, now);
     let given = collect_all(rt, socket, &mut crew.main, &mut ops);
     ops.destroy_empty();
     let left = messages.saturating_sub(given);

@@ -1,5 +1,5 @@
 //! A drill from its beginning to its end.
-ghost use Rattle.std.specs.Prelude.{◌≡◌, ◌<◌, ◌≤◌, ◌%◌, ◌^◌, ◌∷◌, ◌++◌, ℕ, [], List, None, IfOk, IfSome, length};
+ghost use Rattle.std.specs.Prelude.{◌≡◌, ◌≢◌, ◌<◌, ◌≤◌, ◌%◌, ◌^◌, ◌∷◌, ◌++◌, ℕ, [], List, None, IfOk, IfSome, length};
 ghost use Rattle.std.specs.List.{sum as list_sum};
 ghost use Rattle.std.specs.Option.{option_map};
 ghost use Rattle.sp_base.specs.Views.{NetView, FilesView, PaceView};
@@ -142,7 +142,8 @@ fn conclude<S: Sink>(
 ) -> DrillEnd
     requires drills { Drills record_.turns }
     requires all { IfSome total (λ n. GivesAll count record_.turns × (n ≡ list_sum (values count) % 2 ^ 64)) }
-    ensures { EndsDrill result.status count (option_map (λ r. r.turns) result.record_) (S.seen out.old) (S.seen out.new) }
+    ensures ends { EndsDrill result.status count (option_map (λ r. r.turns) result.record_) (S.seen out.old) (S.seen out.new) }
+    ensures kept { result.record_ ≢ None }
 {
     match total {
         None => DrillEnd {
@@ -177,7 +178,8 @@ fn play<R: Wait + Threads + Sync, G: Gate + Sync, S: Sink>(
     requires crew { IsCrew socket crew.main crew.two crew.three crew.four [] }
     requires source { IsSource source }
     requires fed { IsFedBy pipe source.lane.name crew.main.seen }
-    ensures { EndsDrill result.status count (option_map (λ r. r.turns) result.record_) (S.seen out.old) (S.seen out.new) }
+    ensures ends { EndsDrill result.status count (option_map (λ r. r.turns) result.record_) (S.seen out.old) (S.seen out.new) }
+    ensures kept { result.record_ ≢ None }
 {
     let mut source = source;
     let crew = rounds(rt, alloc, &socket, gate, crew, &mut source, count);
@@ -208,7 +210,8 @@ fn drill_on<R: Wait + Threads + Sync, G: Gate + Sync, S: Sink>(
     requires source { IsSource source }
     requires unused { IsUnused feed }
     requires name { (x : List ℕ) × (feed.name ≡ OverLanes x source.lane.name) }
-    ensures { EndsDrill result.status count (option_map (λ r. r.turns) result.record_) (S.seen out.old) (S.seen out.new) }
+    ensures ends { EndsDrill result.status count (option_map (λ r. r.turns) result.record_) (S.seen out.old) (S.seen out.new) }
+    ensures kept { result.record_ ≢ None }
 {
     let mut crew = crew_of(&mut list, &socket);
     match socket.attach(rt, &mut crew.main, feed, 0) {

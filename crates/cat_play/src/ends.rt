@@ -5,14 +5,13 @@
 pub enum Status {
     /// The play came to its end: the count is reached, or a receive timed out.
     Done,
-    /// The words have no plan that can be run; `at` is the length of their longest prefix with which the words of some
-    /// plan begin.
+    /// The words have no plan; `at` is the length of their longest prefix with which the words of some plan begin.
     Usage { at: u32 },
     /// A send took longer than it may.
     SendTimedOut,
     /// The pace said that no turn is left before the play came to its end.
     Over,
-    /// The net failed to listen.
+    /// The net failed to listen, or a name within the process is listened on twice.
     NetFault,
     /// The output failed; a prefix of the text that it was given may stand there.
     OutFault,

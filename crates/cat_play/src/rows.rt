@@ -73,7 +73,6 @@ pub fn spent_rows()
     ensures { SpentRows }
 {}
 
-/// A run as a whole meets the facts of a run.
 /// Worked records of whole runs, each with its verdict.
 pub fn whole_rows()
     ensures { WholeRows }

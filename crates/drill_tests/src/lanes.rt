@@ -3,7 +3,8 @@ ghost use Rattle.std.specs.Prelude.{◌≡◌, ◌<◌, ◌+◌, false, true, le
 ghost use Rattle.sp_msg.specs.Wires.{AfterRoom};
 ghost use Rattle.sp_lane.specs.Lanes.{has_end};
 
-use sp_lane::{LaneIn, LaneOut, LaneWire, Put, Taken, finish, lane, tell};
+use sp_base::Role;
+use sp_lane::{Inproc, LaneIn, LaneOut, LaneWire, Put, Taken, finish, lane, tell};
 use sp_msg::{Message, Room, Wire, WireFlush, WireIn};
 use std::alloc::Global;
 use std::sync::Wait;
@@ -196,6 +197,44 @@ fn a_long_message_comes_through_a_lane_wire(rt: HostRuntime) -> Result<(), Fail>
         WireIn::Message(m) => assert!(rt; m.header().is_empty() && is_long(m.body())),
         _ => assert!(rt; false),
     }
+    Ok(())
+}
+
+// Whether a message of this text goes from one wire to the other.
+fn carries<R: Wait>(
+    rt: &R,
+    alloc: Global,
+    from: &mut LaneWire,
+    to: &mut LaneWire,
+    text: &[u8],
+) -> Result<bool, Fail> {
+    let is_sent = sends(rt, from, Message::from_body(alloc, text)?);
+    if !is_sent || !from.is_open() || !to.is_open() {
+        return Ok(false);
+    }
+    let _ = from.flush(rt);
+    Ok(match to.pull(rt) {
+        WireIn::Message(m) => m.header().is_empty() && m.body() == text,
+        _ => false,
+    })
+}
+
+// Whoever dials a name within the process and who accepts there send to each other.
+#[test]
+fn a_name_carries_both_ways(rt: HostRuntime) -> Result<(), Fail> {
+    let alloc = rt.alloc();
+    let mut names = Inproc::new(alloc);
+    assert!(rt; names.listen(b"x", Role::Pair0).is_ok());
+    let Ok(mut dialed) = names.dial(b"x", Role::Pair0) else {
+        assert!(rt; false);
+        return Ok(());
+    };
+    let Some(mut met) = names.accept(b"x") else {
+        assert!(rt; false);
+        return Ok(());
+    };
+    assert!(rt; carries(&rt, alloc, &mut met, &mut dialed, b"there")?);
+    assert!(rt; carries(&rt, alloc, &mut dialed, &mut met, b"back")?);
     Ok(())
 }
 

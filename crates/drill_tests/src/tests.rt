@@ -166,3 +166,43 @@ fn held_drill(rt: HostRuntime) {
     );
     assert_eq!(rt; held.met.load(Ordering::SeqCst), 2);
 }
+
+/// Holds each task until all four are there.
+#[derive(Drop)]
+struct Assembled {
+    /// How many tasks are there.
+    there: AtomicU64,
+    /// How many tasks saw all four.
+    met: AtomicU64,
+}
+
+impl Gate for Assembled {
+    fn pass(&self, _task: u32) {
+        count_up(&self.there);
+        for _ in 0..LOOKS {
+            if self.there.load(Ordering::SeqCst) == 4 {
+                count_up(&self.met);
+                return;
+            }
+            thread::yield_now();
+        }
+    }
+}
+
+// In one round all four tasks run at the same time.
+#[test]
+fn all_four_tasks_meet(rt: HostRuntime) {
+    let assembled = Assembled {
+        there: AtomicU64::new(0),
+        met: AtomicU64::new(0),
+    };
+    assert!(rt;
+        prints(
+            &rt,
+            &assembled,
+            64,
+            b"given 64\nsum 16369505803417403232\nopen 0\n"
+        )
+    );
+    assert_eq!(rt; assembled.met.load(Ordering::SeqCst), 4);
+}

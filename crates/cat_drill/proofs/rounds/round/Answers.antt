@@ -1,10 +1,7 @@
 use Rattle.std.proofs.Common.{subst}
 use Rattle.cat_drill.specs.Calling.{Calls}
-use Rattle.cat_drill.proofs.Calling.{still_own, works, later_twice}
+use Rattle.cat_drill.proofs.Calling.{later_twice}
 use Rattle.cat_drill.proofs.rounds.round.Goals as goal
-
-pub collect_all-given-requires : goal.collect_all-given-requires
-collect_all-given-requires g c = works c.args.socket.now c.begin_all-begun.new.pass c.all_work-crew.result.main c.begin_all-begun.new.ops.items c.all_work-crew.ensures.main c.begin_all-begun.ensures.calls
 
 pub give_rest-all-requires : goal.give_rest-all-requires
 give_rest-all-requires g c = subst (Calls c.args.socket.now c.collect_all-given.new.pass) c.collect_all-given.ensures.none c.collect_all-given.ensures.calls
@@ -12,13 +9,13 @@ give_rest-all-requires g c = subst (Calls c.args.socket.now c.collect_all-given.
 pub returns-clause-crew : goal.returns-clause-crew
 returns-clause-crew g c = record {
   main = c.give_rest-all.ensures.calls;
-  two = still_own c.args.socket.now c.args.crew.two c.all_work-crew.result.two c.all_work-crew.ensures.two.same c.requires.two;
-  three = still_own c.args.socket.now c.args.crew.three c.all_work-crew.result.three c.all_work-crew.ensures.three.same c.requires.three;
-  four = still_own c.args.socket.now c.args.crew.four c.all_work-crew.result.four c.all_work-crew.ensures.four.same c.requires.four;
+  two = c.contend-crew.ensures.crew.two;
+  three = c.contend-crew.ensures.crew.three;
+  four = c.contend-crew.ensures.crew.four;
 }
 
 pub returns-clause-later : goal.returns-clause-later
 returns-clause-later g c =
     later_twice c.args.crew.main c.collect_all-given.new.pass c.give_rest-all.new.pass
-    (later_twice c.args.crew.main c.all_work-crew.result.main c.collect_all-given.new.pass (later_twice c.args.crew.main c.begin_all-begun.new.pass c.all_work-crew.result.main c.begin_all-begun.ensures.later c.all_work-crew.ensures.main.later) c.collect_all-given.ensures.later)
+    (later_twice c.args.crew.main c.contend-crew.result.0.main c.collect_all-given.new.pass c.contend-crew.ensures.later c.collect_all-given.ensures.later)
     c.give_rest-all.ensures.later

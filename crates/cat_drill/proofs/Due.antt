@@ -1,0 +1,46 @@
+-- What a finished socket says of what timed out, as a rule of each entry.
+use Rattle.std.proofs.Common.{◌≡◌, inl, inr, refl, sym, subst, List, [], ◌∷◌, ℕ, Bool, true, false}
+use Rattle.std.specs.Prelude.{◌||◌, IsTrue}
+use Rattle.std.specs.List.{list_any}
+use Rattle.sp_base.specs.declared.OpName.{OpName}
+use Rattle.aio_word.specs.Views.{Stands}
+use Rattle.sp_history.specs.declared.entry.Cause.TheVariants as causes
+use Rattle.sp_history.specs.declared.entry.Ending.TheVariants.{Won, Gone}
+use Rattle.sp_history.specs.declared.entry.Entry.{Entry}
+use Rattle.sp_history.specs.declared.entry.Entry.TheVariants.{End, Tick}
+use Rattle.sp_history.specs.Lists.{same_op}
+use Rattle.sp_history.proofs.OnceHolds.{same_op-refl}
+use Rattle.sp_socket.specs.Due.{AllWereDue}
+use Rattle.cat_play.specs.Playing.{each}
+use Rattle.cat_play.specs.Recording.{was_due, times_out_rightly}
+
+or_true : (b : Bool) → (b || true) ≡ true
+or_true true = refl
+or_true false = refl
+
+named : (op : OpName) (due : List OpName) → Stands op due → list_any (same_op op) due ≡ true
+named op [] s = elim s [ ]
+named op (o ∷ due) (inl e) =
+    subst (λ (n : OpName). (same_op op n || list_any (same_op op) due) ≡ true) (sym e) (rw (same_op-refl op) refl)
+named op (o ∷ due) (inr s) = rw (named op due s) (or_true (same_op op o))
+
+was_due_there : (op : OpName) (past : List Entry) (at : ℕ) (due : List OpName) → Stands (Tick at due) past → Stands op due → was_due past op ≡ true
+was_due_there op [] at due s n = elim s [ ]
+was_due_there op (e ∷ past) at due (inl is) n =
+    subst (λ (d : Entry). was_due (d ∷ past) op ≡ true) (sym is) (rw (named op due n) refl)
+was_due_there op (e ∷ past) at due (inr s) n = more e (was_due_there op past at due s n)
+  where
+    more : (e : Entry) → was_due past op ≡ true → was_due (e ∷ past) op ≡ true
+    more (Tick t list) h = rw h (or_true (list_any (same_op op) list))
+    more _ h = h
+
+pub due_each : (past : List Entry) → AllWereDue past → IsTrue (each times_out_rightly past)
+due_each [] all = refl
+due_each (End op (Gone causes.TimedOut by) ∷ past) ((at, due, ticks, is), all) =
+    rw (was_due_there op past at due ticks is) (due_each past all)
+due_each (End op (Gone causes.Cancelled by) ∷ past) all = due_each past all
+due_each (End op (Gone causes.Closed by) ∷ past) all = due_each past all
+due_each (End op (Gone causes.Superseded by) ∷ past) all = due_each past all
+due_each (End op (Gone causes.SurveyOver by) ∷ past) all = due_each past all
+due_each (End op (Won r) ∷ past) all = due_each past all
+due_each (e ∷ past) all = due_each past all
