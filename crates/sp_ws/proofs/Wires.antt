@@ -16,8 +16,9 @@ use Rattle.sp_msg.specs.declared.wire.Room.TheVariants as rooms
 use Rattle.sp_msg.specs.declared.wire.WireFlush.{WireFlush}
 use Rattle.sp_msg.specs.declared.wire.WireFlush.TheVariants as flushes
 use Rattle.sp_msg.proofs.Shown.{WaitsAs, after_pull, after_room, after_flush, after_put}
-use Rattle.sp_ws.specs.Views.{FramesView, OutletView, count_of, fresh_frames}
+use Rattle.sp_ws.specs.Views.{FramesView, OutletView, count_of, fresh_frames, HasLimits}
 use Rattle.sp_ws.specs.Sides.{role_of}
+use Rattle.websocket.specs.declared.protocol.config.WebSocketConfig.{WebSocketConfig}
 use Rattle.sp_ws.specs.declared.side.Side.{Side}
 use Rattle.sp_ws.specs.Outlets.{AreWithin, passed, FlushAnswer, FlushedFrom}
 use Rattle.sp_ws.specs.Pulls.{NoneCame, OneLost, PullAnswer, PulledFrom}
@@ -310,7 +311,12 @@ shut_to t l h s = subst (λ x. ShutTo t (with_shut t x)) (sym s) (shut_at t h)
 none_over : (b : Bool) → b ≡ false → b ≡ true → ⊥
 none_over b e f = cc
 
-pub new_holds : (l : LinkView) (f : FramesView) (o : OutletView) (max : ℕ) (side : Side) (rest : List ℕ) → l.is_open ≡ true → f ≡ record (fresh_frames (role_of side)) { fed = rest } → o ≡ record { held = []; ends = [] } → Holds (ws_state l f o false max (l.idles + l.stalls) fresh_marks)
+-- the frames of a new wire, where these bytes were fed to new frames
+pub new_frames : (n f : FramesView) (side : Side) (rest : List ℕ) → n ≡ fresh_frames (role_of side) n.config → f ≡ record n { fed = n.fed ++ rest } → f ≡ record (fresh_frames (role_of side) f.config) { fed = rest }
+new_frames n f side rest fresh fed =
+    subst (λ (k : WebSocketConfig). f ≡ record (fresh_frames (role_of side) k) { fed = rest }) (sym (ap (λ (v : FramesView). v.config) fed)) (fed ∙ ap (λ (v : FramesView). record v { fed = v.fed ++ rest }) fresh)
+
+pub new_holds : (l : LinkView) (f : FramesView) (o : OutletView) (max : ℕ) (side : Side) (rest : List ℕ) → l.is_open ≡ true → f ≡ record (fresh_frames (role_of side) f.config) { fed = rest } → o ≡ record { held = []; ends = [] } → Holds (ws_state l f o false max (l.idles + l.stalls) fresh_marks)
 new_holds l f o max side rest is_open fe oe =
     let count : count_of o ≡ 0 = ap (λ (x : OutletView). count_of x) oe in
     record {
@@ -321,11 +327,12 @@ new_holds l f o max side rest is_open fe oe =
       marks = record { link_open = (λ e. is_open); going = (λ e. (refl, refl, refl)); at_end = (λ e. absurd (none_ready e)); malformed = (λ e. absurd (none_ready e)); faults = omega arith; idles = omega arith; stalls = omega arith; refusals = omega arith };
     }
 
-pub new_wire : (l : LinkView) (f : FramesView) (o : OutletView) (max : ℕ) (side : Side) (rest : List ℕ) → l.is_open ≡ true → f ≡ record (fresh_frames (role_of side)) { fed = rest } → o ≡ record { held = []; ends = [] } → IsNewWire side max rest l (ws_view (ws_state l f o false max (l.idles + l.stalls) fresh_marks))
-new_wire l f o max side rest is_open fe oe = record {
+pub new_wire : (l : LinkView) (f : FramesView) (o : OutletView) (max : ℕ) (side : Side) (rest : List ℕ) → l.is_open ≡ true → f ≡ record (fresh_frames (role_of side) f.config) { fed = rest } → o ≡ record { held = []; ends = [] } → HasLimits max f.config → IsNewWire side max rest l (ws_view (ws_state l f o false max (l.idles + l.stalls) fresh_marks))
+new_wire l f o max side rest is_open fe oe limits = record {
   link_is = refl;
   max_is = refl;
   frames = fe;
+  limits = limits;
   wire = (λ i. wire_of (ws_state l (fe i) (oe i) false max (l.idles + l.stalls) fresh_marks));
   tied = tied (ws_state l f o false max (l.idles + l.stalls) fresh_marks) (new_holds l f o max side rest is_open fe oe);
 }

@@ -5,7 +5,6 @@ use Rattle.sp_base.specs.declared.error.NoMemory.{NoMemory}
 use Rattle.tungstenite.specs.declared.error.Error.{Error}
 use Rattle.tungstenite.specs.declared.message.Message.{Message}
 use Rattle.tungstenite.specs.Socket.{Socket, Reads}
-use Rattle.websocket.specs.declared.protocol.config.WebSocketConfig.{WebSocketConfig}
 use Rattle.sp_ws.specs.declared.memory.Memory.{Memory}
 use Rattle.sp_ws.specs.declared.stream.Stream.{Stream}
 use Rattle.sp_ws.specs.declared.frames.FrameIn.{FrameIn}
@@ -31,11 +30,7 @@ unread_of s = length (unread_in s.socket.stream)
 -- what a socket shows of its stream and of what it counts beside it; it refuses nothing
 abbrev pub frames_view : Stream → List (List ℕ) → List (List ℕ) → Last → ℕ → FramesView
 frames_view s came sent last breaks =
-    record { role = s.role; handed = handed_in s; fed = s.fed.items; left = unread_of s; waiting = s.out.items; came = came; sent = sent; last = last; refusals = 0; breaks = breaks; reads = s.reads.all }
-
--- messages and frames have at most so many bytes, and a server takes masked frames alone
-abbrev pub HasLimits : ℕ → WebSocketConfig → Type 0
-HasLimits max c = (c.max_message_size ≡ Some max) × (c.max_frame_size ≡ Some max) × (c.accept_unmasked_frames ≡ false)
+    record { role = s.role; handed = handed_in s; fed = s.fed.items; left = unread_of s; waiting = s.out.items; came = came; sent = sent; last = last; refusals = 0; breaks = breaks; reads = s.reads.all; config = s.socket.conn.config }
 
 -- behind so many bytes these bytes stand, and no more
 abbrev pub IsBehind : ℕ → List ℕ → List ℕ → Type 0

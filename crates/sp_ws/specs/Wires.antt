@@ -13,7 +13,7 @@ use Rattle.sp_msg.specs.declared.wire.Room.{Room}
 use Rattle.sp_msg.specs.declared.wire.Room.TheVariants as rooms
 use Rattle.sp_msg.specs.declared.wire.WireFlush.{WireFlush}
 use Rattle.sp_msg.specs.declared.wire.WireFlush.TheVariants as flushes
-use Rattle.sp_ws.specs.Views.{FramesView, OutletView, count_of, fresh_frames}
+use Rattle.sp_ws.specs.Views.{FramesView, OutletView, count_of, fresh_frames, HasLimits}
 use Rattle.sp_ws.specs.Links.{ReadCounts, WriteCounts}
 use Rattle.sp_ws.specs.Outlets.{AreWithin, AreFrames, passed, Written}
 use Rattle.sp_ws.specs.Sides.{role_of}
@@ -169,10 +169,12 @@ FlushCause flushes.Failed old new = Rose old.link.faults new.link.faults
 FlushCause flushes.Refused old new = ⊥
 FlushCause flushes.NoMemory old new = Unit {0}
 
--- nothing was pulled or put, every call is lawful, and these bytes were fed
+-- nothing was pulled or put, every call is lawful, these bytes were fed, and the crate that frames takes messages and
+-- frames of at most `max` bytes
 pub record IsNewWire (side : Side) (max : ℕ) (rest : List ℕ) (link : LinkView) (v : WsView) : Type 0 where
   pub link_is : v.link ≡ link
   pub max_is : v.max ≡ max
-  pub frames : v.frames ≡ record (fresh_frames (role_of side)) { fed = rest }
+  pub frames : v.frames ≡ record (fresh_frames (role_of side) v.frames.config) { fed = rest }
+  pub limits : HasLimits max v.frames.config
   pub wire : v.wire ≡ wire_view (wire_name link max (link.idles + link.stalls)) (Some []) (Some []) 0 false fresh_marks
   pub tied : Tied v

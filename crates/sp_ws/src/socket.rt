@@ -1,7 +1,7 @@
 //! The one real implementation of `Frames`.
 ghost use Rattle.std.specs.Prelude.{◌≡◌, ◌≤◌, ◌++◌, ℕ, List, [], length, drop};
 ghost use Rattle.sp_ws.specs.Sides.{role_of};
-ghost use Rattle.sp_ws.specs.Views.{fresh_frames};
+ghost use Rattle.sp_ws.specs.Views.{fresh_frames, HasLimits};
 ghost use Rattle.sp_ws.specs.declared.frames.FrameOut.TheVariants as outs;
 ghost use Rattle.sp_ws.specs.Frames.{AfterFeed, AfterNext, AfterSend, last_of, came_with, breaks_with};
 
@@ -69,7 +69,8 @@ fn broke(breaks: u64, answer: &FrameIn) -> u64
 impl Socket {
     /// Nothing was fed and nothing waits. Messages and frames have at most `max` bytes.
     pub fn new(alloc: Global, side: Side, max: u32) -> Socket
-        ensures { result ≡ fresh_frames (role_of side) }
+        ensures fresh { result ≡ fresh_frames (role_of side) result.config }
+        ensures limits { HasLimits max result.config }
     {
         Socket {
             stream: Stream::new(alloc, side.role(), side.seed(), max),

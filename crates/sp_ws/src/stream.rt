@@ -1,7 +1,8 @@
 //! A `tungstenite` socket over memory, with what goes into it and what came out of it beside.
 ghost use Rattle.std.specs.Prelude.{◌≡◌, ◌≤◌, ◌++◌, ℕ, List, [], length, drop, IsTrue, IfOk, true};
 ghost use Rattle.std.specs.Prelude.{◌∷◌};
-ghost use Rattle.sp_ws.specs.Streams.{remaining_in, handed_in, unread_of, Fetched, Loaded, ReadTo, IsNamed, Noted, NextIs, SendIs, HasLimits, KeptUnread};
+ghost use Rattle.sp_ws.specs.Streams.{remaining_in, handed_in, unread_of, Fetched, Loaded, ReadTo, IsNamed, Noted, NextIs, SendIs, KeptUnread};
+ghost use Rattle.sp_ws.specs.Views.{HasLimits};
 ghost use Rattle.sp_ws.specs.Frames.{IsFrame, IsCopied, Fails};
 ghost use Rattle.tungstenite.specs.Socket.{Reads};
 
