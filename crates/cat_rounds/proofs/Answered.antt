@@ -1,14 +1,13 @@
 -- When the play of a req is over, no request of it is live: it was answered or given up.
 use Rattle.std.proofs.Common.{◌≡◌, refl, ap, sym, ◌∙◌, subst, arith, List, [], ◌∷◌, ◌++◌, ℕ, Bool, true, false, cond, Option, Some, None}
-use Rattle.std.specs.Prelude.{◌+◌, ◌==◌, filter, find, map, not, ◌&&◌, ◌||◌, ⊤, IsTrue, MatchOption, is_some, if◌then◌else◌}
+use Rattle.std.specs.Prelude.{◌+◌, filter, find, map, not, ◌&&◌, ◌||◌, ⊤, IsTrue, is_some, if◌then◌else◌}
 use Rattle.std.specs.List.{list_any}
 use Rattle.std.proofs.lemmas.Bool.Decides.{nat_tests}
 use Rattle.turn_lock.specs.declared.turn.Turn.{Turn}
 use Rattle.sp_base.specs.declared.OpName.{OpName}
 use Rattle.sp_base.specs.declared.role.Role.{Role}
 use Rattle.sp_base.specs.declared.role.Role.TheVariants as roles
-use Rattle.sp_history.specs.declared.entry.Act.{Act}
-use Rattle.sp_history.specs.declared.entry.Act.TheVariants.{Recv, Send}
+use Rattle.sp_history.specs.declared.entry.Act.TheVariants.{Send}
 use Rattle.sp_history.specs.declared.entry.Completion.TheVariants.{Received, Sent}
 use Rattle.sp_history.specs.declared.entry.Ending.{Ending}
 use Rattle.sp_history.specs.declared.entry.Ending.TheVariants.{Won, Gone}
@@ -24,12 +23,12 @@ use Rattle.sp_history.specs.declared.setting.Setting.{Setting}
 use Rattle.sp_history.specs.Lists.{has, same_op}
 use Rattle.sp_history.specs.Setting.{is_req, has_requests}
 use Rattle.sp_history.specs.Past.{is_of, is_closed, pend, pending, uncollected, ended_as, now, past_of, without_begun}
-use Rattle.sp_history.specs.Requests.{no_requests, next_id, with_out, with_frame, begin_on, end_on, is_bereft, orphan_of, of_live, after_end, after_moment, without_orphan, asked, requests}
-use Rattle.sp_history.specs.Legal.{Legal, MayEndAs, is_at, is_free, is_uncollected}
-use Rattle.sp_history.specs.Found.{is_begin, act_of, end_of}
+use Rattle.sp_history.specs.Requests.{no_requests, next_id, with_out, with_frame, begin_on, end_on, of_live, after_end, after_moment, without_orphan, asked, requests}
+use Rattle.sp_history.specs.Legal.{Legal, MayEndAs, is_at}
+use Rattle.sp_history.specs.Found.{act_of, end_of}
 use Rattle.sp_history.proofs.OnceHolds.{same_op-refl, same_op-eq, same_op-slot, has_value}
 use Rattle.cat_play.specs.Plans.{Play}
-use Rattle.cat_play.specs.Scripts.{under_way, last_result, counts_for, is_counted, asks_anew, count_in, timed_out_in, timed_out, counted, is_kind, is_timed_out, has_reached, over}
+use Rattle.cat_play.specs.Scripts.{under_way, last_result, counts_for, asks_anew, count_in, timed_out_in, timed_out, counted, is_kind, is_timed_out, has_reached, over}
 use Rattle.cat_play.specs.Playing.{each, alternates, is_in_turn}
 use Rattle.cat_play.proofs.Stepping.{open_is}
 use Rattle.cat_rounds.specs.declared.player.Over.{Over}

@@ -31,7 +31,7 @@ use Rattle.sp_single.specs.Singles.{SingleView, TookOne}
 use Rattle.sp_ends.specs.Turning.{IsSound}
 use Rattle.cat_play.specs.Plans.{Play}
 use Rattle.cat_play.specs.Scripts.{under_way, last_result, last_send, receives_next, asks_anew, is_receive_next, over, texts, is_kind}
-use Rattle.cat_play.specs.Playing.{is_send, each, keeps_topics, is_left, is_surveyor, may_rest, found_over, is_refused, is_kept_back, waits_for_pipe, waits_for_interval, deadline_for, carries_data, is_spaced}
+use Rattle.cat_play.specs.Playing.{is_send, each, keeps_topics, is_left, may_rest, found_over, is_refused, is_kept_back, waits_for_pipe, waits_for_interval, deadline_for, carries_data, is_spaced}
 use Rattle.cat_play.specs.Steps.{AddsNone, HasOne, moves_play, moves_ends}
 use Rattle.cat_play.proofs.Stepping.{is_left_stays, last_result_stays, open_is}
 use Rattle.cat_rounds.specs.declared.player.Over.{Over}

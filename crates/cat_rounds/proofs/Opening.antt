@@ -25,7 +25,8 @@ use Rattle.cat_rounds.specs.declared.player.Player.{Player}
 use Rattle.cat_rounds.specs.Lasting.{play_of, PlayStands, HasPrinted, MayTick, AreOn}
 use Rattle.cat_rounds.proofs.Subscribed.{on_turn}
 use Rattle.cat_rounds.specs.Stepping.{Stands, GoesOnBy, HasPrintedCut}
-use Rattle.cat_rounds.specs.Going.{RunStands, RoundStands, PrintsRound, past_now}
+use Rattle.sp_lane.specs.Registry.{Registry}
+use Rattle.cat_rounds.specs.Going.{RunStands, RoundStands, TurnsNames, PrintsRound, past_now}
 use Rattle.cat_rounds.specs.declared.rounds.Round.{Round}
 use Rattle.cat_rounds.specs.declared.rounds.Round.TheVariants as rounds
 use Rattle.cat_play.specs.declared.ends.Status.TheVariants as status
@@ -88,6 +89,10 @@ quiet_texts s s' p n q was = texts_stay_so (play_of p.script) s.seen s'.seen was
 
 pub quiet_ticks : (s s' : SingleView) → Quietly s s' → length (ticks (past_of s'.seen)) ≡ length (ticks (past_of s.seen))
 quiet_ticks s s' q = keeps_all moves_play (λ g. length (ticks (past_of g)) ≡ length (ticks (past_of s.seen))) (ticks_turn (length (ticks (past_of s.seen)))) s.seen s'.seen q.silent refl
+
+-- what goes on leaves the ends and the registry
+pub names_then : {L : Type 0} (n : ℕ) (a b c : EndsView L) (r s t : Registry) → c ≡ b → t ≡ s → TurnsNames n a b r s → TurnsNames n a c r t
+names_then n a b c r s t e f x = subst (λ (v : EndsView _). TurnsNames n a v r t) (sym e) (subst (λ (q : Registry). TurnsNames n a b r q) (sym f) x)
 
 -- ---- The play goes on
 

@@ -1,5 +1,5 @@
 -- When a round says that something moves still.
-use Rattle.std.proofs.Common.{◌≡◌, ◌≤◌, ◌+◌, ◌++◌, ◌∷◌, inl, inr, ℕ, Bool, true, false, List, [], length, Option, Some, None, refl, sym, ap, subst, ◌∙◌, arith}
+use Rattle.std.proofs.Common.{◌≡◌, ◌≤◌, ◌+◌, ◌∷◌, inl, inr, ℕ, Bool, true, false, List, [], length, Option, Some, None, refl, sym, ap, subst, ◌∙◌, arith}
 use Rattle.std.proofs.lemmas.List.{length-append}
 use Rattle.turn_lock.specs.declared.turn.Turn.{Turn}
 use Rattle.sp_base.specs.declared.OpName.{OpName}
@@ -19,7 +19,7 @@ use Rattle.cat_rounds.specs.declared.rounds.Round.{Round}
 use Rattle.cat_rounds.specs.declared.rounds.Round.TheVariants as rounds
 use Rattle.cat_rounds.specs.Lasting.{IsUnderWay}
 use Rattle.cat_rounds.specs.Stepping.{Stands, GoesOnBy}
-use Rattle.cat_rounds.specs.Resting.{IsKept, IsAtRest, HasGoneFar, MovesStill, RoundMoves}
+use Rattle.cat_rounds.specs.Resting.{IsKept, IsAtRest, MovesStill, RoundMoves}
 use Rattle.cat_rounds.proofs.Rounding.{ServesSo}
 
 -- ---- At rest

@@ -1,18 +1,18 @@
 -- What parts of a round do, one after the other.
 use Rattle.std.proofs.Common.{◌≡◌, refl, ap, sym, ◌∙◌, subst, inl, inr, List, [], ◌∷◌, ◌++◌, ℕ, ◌≤◌, Bool, true, false, arith, length, Option, Some, None}
-use Rattle.std.specs.Prelude.{IsTrue, ◌&&◌, ◌||◌, not, is_some, nat_lt}
+use Rattle.std.specs.Prelude.{IsTrue, ◌&&◌, ◌||◌, not, is_some}
 use Rattle.std.specs.List.{list_any}
 use Rattle.turn_lock.specs.declared.turn.Turn.{Turn}
 use Rattle.sp_base.specs.Views.{SinkView}
 use Rattle.sp_base.specs.declared.OpName.{OpName}
 use Rattle.sp_history.specs.declared.entry.Entry.{Entry}
-use Rattle.sp_history.specs.declared.entry.Entry.TheVariants.{Up, Met, NoUp, Taken, Tick, Begin, Took, Topic, Ctx, Close, Stall, Out}
+use Rattle.sp_history.specs.declared.entry.Entry.TheVariants.{Up, Met, NoUp, Taken, Tick, Begin, Took, Topic, Ctx, Close, Stall}
 use Rattle.sp_history.specs.declared.setting.Setting.{Setting}
 use Rattle.sp_history.specs.Changes.{none_of}
 use Rattle.sp_history.specs.Past.{onto, past_of, up}
 use Rattle.sp_history.proofs.Appending.{past_of-append}
 use Rattle.sp_single.specs.Singles.{SingleView}
-use Rattle.cat_play.specs.Scripts.{has_ticked, under_way, over, has_reached, counted, timed_out}
+use Rattle.cat_play.specs.Scripts.{has_ticked, under_way, over}
 use Rattle.cat_play.specs.Playing.{each, alternates, is_tick, may_rest}
 use Rattle.sp_history.specs.Swept.{IsSwept, AreFlushed}
 use Rattle.sp_core.specs.declared.serve.Served.{Served}
@@ -21,10 +21,9 @@ use Rattle.sp_single.specs.Singles.{TookOne}
 use Rattle.sp_spec.specs.Outside.{grown}
 use Rattle.cat_play.specs.Scripts.{texts, joined}
 use Rattle.cat_play.specs.Steps.{moves_ends, moves_play}
-use Rattle.cat_rounds.specs.declared.player.Over.{Over}
 use Rattle.cat_rounds.specs.declared.player.Over.TheVariants as overs
 use Rattle.cat_rounds.specs.declared.player.Player.{Player}
-use Rattle.cat_rounds.specs.Lasting.{play_of, PlayStands, IsUnderWay, IsOver, HasPrinted, HasServed, MayTick, AreOn}
+use Rattle.cat_rounds.specs.Lasting.{play_of, PlayStands, IsUnderWay, HasPrinted, HasServed, MayTick, AreOn}
 use Rattle.cat_rounds.specs.Going.{AreCleared, has_more}
 use Rattle.cat_rounds.specs.Stepping.{Stands, GoesOnBy, SameScript}
 use Rattle.cat_rounds.proofs.Silent.{keeps_all, adds_then, swept_stays}
@@ -37,12 +36,8 @@ use Rattle.sp_history.specs.Found.{is_begin, is_out}
 use Rattle.sp_history.specs.Setting.{is_req}
 use Rattle.cat_rounds.proofs.Unsent.{IsSilent, nothing_sent, sends_once}
 use Rattle.cat_rounds.proofs.Answered.{is_over_so, none_live}
-use Rattle.sp_core.specs.Tallies.{moves}
 use Rattle.std.proofs.lemmas.Bool.Decides.{nat_tests}
-use Rattle.sp_history.specs.Requests.{requests}
 use Rattle.sp_history.specs.Past.{pend}
-use Rattle.sp_base.specs.declared.role.Role.{Role}
-use Rattle.sp_base.specs.declared.role.Role.TheVariants as roles
 use Rattle.cat_rounds.proofs.Standing.{a_serve_serves}
 use Rattle.cat_rounds.proofs.Begins.{at_new, goes_on_by, silent_stands, silent_texts}
 

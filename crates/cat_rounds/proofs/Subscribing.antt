@@ -1,6 +1,6 @@
 -- Topics are put on before the first round.
-use Rattle.std.proofs.Common.{◌≡◌, refl, ap, sym, ◌∙◌, subst, List, [], ◌∷◌, ◌++◌, ℕ, zero, suc, get_or, ◌≤◌, ◌<◌, ◌+◌, Bool, true, false, arith, length, take, Option, Some, None, Result, Ok, Err, inl, inr}
-use Rattle.std.specs.Prelude.{◌⊎◌, ◌==◌, ◌||◌, ◌&&◌, not, IsTrue, nat_eq}
+use Rattle.std.proofs.Common.{◌≡◌, refl, ap, sym, ◌∙◌, subst, List, [], ◌∷◌, ◌++◌, ℕ, zero, suc, get_or, ◌≤◌, ◌<◌, ◌+◌, Bool, true, false, arith, length, take, Option, Some, None, Ok, Err, inl, inr}
+use Rattle.std.specs.Prelude.{◌⊎◌, ◌==◌, ◌||◌, ◌&&◌, IsTrue}
 use Rattle.std.specs.List.{list_any, list_all, AllByRecursion}
 use lib.Pointwise.{bytes_decides}
 use Rattle.std.proofs.lemmas.List.Folds.{list_any-append, list_any_at, list_all_more}
@@ -10,7 +10,7 @@ use Rattle.sp_spec.specs.Outside.{grown}
 use Rattle.sp_base.specs.Views.{LinkView, NetView, PaceView}
 use Rattle.sp_base.specs.declared.OpName.{OpName}
 use Rattle.sp_history.specs.declared.entry.Entry.{Entry}
-use Rattle.sp_history.specs.declared.entry.Entry.TheVariants.{Begin, Topic, Ctx}
+use Rattle.sp_history.specs.declared.entry.Entry.TheVariants.{Begin, Topic}
 use Rattle.sp_history.specs.declared.entry.Switch.TheVariants.{On}
 use Rattle.sp_history.specs.declared.setting.Setting.{Setting}
 use Rattle.sp_history.specs.Changes.{none_of}
@@ -36,9 +36,8 @@ use Rattle.cat_play.proofs.Stepping.{stays, goes_on, open_is, under_way_stays, l
 use Rattle.cat_play.proofs.Turning.{turn_of_one}
 use Rattle.cat_rounds.specs.declared.player.Player.{Player}
 use Rattle.cat_rounds.specs.Lasting.{play_of, PlayStands, IsUnderWay, IsLast, IsDue, AreOn, HasPrinted, MayTick}
-use Rattle.cat_rounds.specs.Stepping.{GoesOnBy}
 use Rattle.cat_rounds.specs.Going.{RunStands, PacedTo, is_dry_at}
-use Rattle.cat_rounds.specs.Starting.{CanSubscribe, IsBefore, Prepares, IsOnFor}
+use Rattle.cat_rounds.specs.Starting.{CanSubscribe, IsBefore, Prepares}
 use Rattle.cat_rounds.proofs.Silent.{adds_one, adds_nothing, last_send_stays, ticked_stays}
 use Rattle.cat_rounds.proofs.Settling.{settling_silent, settling_linkless, none_around}
 use Rattle.cat_rounds.proofs.Standing.{play_stays, texts_stay_so, over_kept}

@@ -1,16 +1,15 @@
 -- A surveyor knows from its last send and from what time it is whether its survey is live.
 use Rattle.std.proofs.Common.{◌≡◌, refl, ap, sym, ◌∙◌, subst, List, [], ◌∷◌, ◌++◌, ℕ, ◌+◌, ◌≤◌, Bool, true, false, arith, Some, None, Option}
-use Rattle.std.specs.Prelude.{drop, map, max, if◌then◌else◌, not, ◌&&◌, ◌==◌, IsTrue, filter, find, is_some, is_none, nat_le, ⊤}
+use Rattle.std.specs.Prelude.{drop, map, max, if◌then◌else◌, not, ◌&&◌, ◌==◌, IsTrue, filter, find, is_some, nat_le, ⊤}
 use Rattle.std.proofs.lemmas.Bool.Decides.{nat_tests}
 use Rattle.sp_base.specs.declared.role.Role.{Role}
 use Rattle.sp_base.specs.declared.role.Role.TheVariants as roles
-use Rattle.sp_history.specs.declared.entry.Act.{Act}
 use Rattle.sp_history.specs.declared.entry.Act.TheVariants.{Recv, Send}
 use Rattle.sp_history.specs.declared.entry.Completion.TheVariants.{Received, Sent}
 use Rattle.sp_history.specs.declared.entry.Ending.{Ending}
 use Rattle.sp_history.specs.declared.entry.Ending.TheVariants.{Won, Gone}
 use Rattle.sp_history.specs.declared.entry.Entry.{Entry}
-use Rattle.sp_history.specs.declared.entry.Entry.TheVariants.{Begin, End, Frame, Out, Unkept, Tick, Ctx, Took, Topic, Close}
+use Rattle.sp_history.specs.declared.entry.Entry.TheVariants.{Begin, End, Frame, Out, Unkept, Tick, Ctx, Close}
 use Rattle.sp_history.specs.declared.parts.Begun.{Begun}
 use Rattle.sp_history.specs.declared.parts.Request.{Request}
 use Rattle.sp_history.specs.declared.parts.Requests.{Requests}
@@ -23,7 +22,7 @@ use Rattle.sp_history.specs.Frames.{malformed, plain_item}
 use Rattle.sp_history.specs.Legal.{AreAllowed, Legal, state_for}
 use Rattle.sp_history.specs.Found.{moves_surveys}
 use Rattle.sp_history.specs.Past.{onto, pend, pending, now, is_closed, without_begun}
-use Rattle.sp_history.specs.Requests.{is_on, is_for, has_room, wire_of, with_out, with_frame, with_taken, after_end, after_moment, over_at, is_over, end_on, of_live, next_id, asked, live_on, requests}
+use Rattle.sp_history.specs.Requests.{is_on, is_for, has_room, wire_of, with_out, with_frame, with_taken, after_end, after_moment, over_at, is_over, end_on, of_live, next_id, asked, live_on}
 use Rattle.sp_history.proofs.Surveys.{survey_stays}
 use Rattle.cat_play.specs.Plans.{Play}
 use Rattle.cat_play.specs.Scripts.{asks_anew, last_send, last_result, receives_next, is_receive_next, counts_for}

@@ -4,8 +4,6 @@ use Rattle.std.specs.Prelude.{not, ◌&&◌, ◌||◌, if◌then◌else◌, is_s
 use Rattle.std.proofs.lemmas.Bool.Decides.{nat_tests}
 use Rattle.turn_lock.specs.declared.turn.Turn.{Turn}
 use Rattle.sp_base.specs.declared.OpName.{OpName}
-use Rattle.sp_base.specs.declared.role.Role.{Role}
-use Rattle.sp_base.specs.declared.role.Role.TheVariants as roles
 use Rattle.sp_history.specs.declared.entry.Act.{Act}
 use Rattle.sp_history.specs.declared.entry.Act.TheVariants.{Recv, Send}
 use Rattle.sp_history.specs.declared.entry.Ending.{Ending}
@@ -21,7 +19,7 @@ use Rattle.sp_history.proofs.Appending.{past_of-append, onto-append}
 use Rattle.sp_history.proofs.OnceHolds.{same_op-refl, ends_once}
 use Rattle.sp_history.proofs.Backing.{legal_allowed}
 use Rattle.cat_play.specs.Plans.{Play}
-use Rattle.cat_play.specs.Scripts.{under_way, last_result, last_send, receives_next, asks_anew, is_receive_next, counts_for, is_counted, count_in, counted, texts_in, texts, text_of, timed_out_in, timed_out, is_timed_out, over, is_kind}
+use Rattle.cat_play.specs.Scripts.{under_way, last_result, last_send, asks_anew, is_receive_next, counts_for, is_counted, count_in, counted, texts_in, texts, text_of, timed_out_in, timed_out, is_timed_out, over, is_kind}
 use Rattle.cat_play.specs.Playing.{PlaysSoFar, is_left, is_surveyor, waits_for_pipe, deadline_for, same_option, carries_data, is_spaced, is_send}
 use Rattle.cat_play.specs.Steps.{moves_play, is_close, MayPlay, HasOne}
 use Rattle.cat_play.proofs.Stepping.{stays, goes_on, open_is, under_way_stays, last_result_stays, is_left_stays}

@@ -7,7 +7,9 @@ use Rattle.sp_history.specs.Past.{past_of, up, now, is_cleared}
 use Rattle.sp_history.specs.Lists.{has}
 use Rattle.sp_core.specs.declared.serve.Served.{Served}
 use Rattle.sp_single.specs.Singles.{SingleView}
-use Rattle.sp_ends.specs.Standing.{LinkEndsView, EndsStand, Beginning}
+use Rattle.sp_lane.specs.Registry.{Registry}
+use Rattle.sp_ends.specs.Calling.{TurnsLanes}
+use Rattle.sp_ends.specs.Standing.{EndsView, LinkEndsView, EndsStand, Beginning}
 use Rattle.sp_ends.specs.Turning.{IsSound, IsDry}
 use Rattle.cat_play.specs.declared.ends.Status.{Status}
 use Rattle.cat_play.specs.declared.ends.Status.TheVariants as status
@@ -72,6 +74,11 @@ abbrev pub PrintsRound : Round → Option (List ℕ) → Option (List ℕ) → L
 PrintsRound (rounds.Ends status.OutFault) before now h p = HasPrintedCut before now h p
 PrintsRound (rounds.Ends status.NoMemory) before now h p = HasPrintedCut before now h p
 PrintsRound _ before now h p = HasPrinted before now h p
+
+-- the names were dialed and asked once, in the registry that the round found, and the round leaves it as that did
+abbrev pub TurnsNames : {L : Type 0} → ℕ → EndsView L → EndsView L → Registry → Registry → Type 0
+TurnsNames now old new reg reg' =
+    (s : SingleView) × (s' : SingleView) × TurnsLanes now old.links.role (length new.links.newcomers) old.names.names s s' reg reg' old.names.callers new.names.callers
 
 -- a link was missed when out of memory at most where the round ends so
 abbrev pub RoundStands : {L : Type 0} → (L → LinkView) → Beginning → Round → SingleView → LinkEndsView L → Player → NetView → Type 0

@@ -1,10 +1,9 @@
 -- What stands of a play while it goes on.
-use Rattle.std.specs.Prelude.{◌≡◌, ◌+◌, nat_le, ◌&&◌, ◌||◌, not, ℕ, zero, ⊤, true, false, Bool, IsTrue, List, [], reverse, Option, Some, None, is_some}
+use Rattle.std.specs.Prelude.{◌≡◌, ◌+◌, nat_le, ◌||◌, not, ℕ, zero, ⊤, true, false, Bool, IsTrue, List, reverse, Option, Some, None, is_some}
 use Rattle.std.specs.List.{list_all}
 use Rattle.turn_lock.specs.declared.turn.Turn.{Turn}
 use Rattle.sp_spec.specs.Outside.{grown}
 use Rattle.sp_base.specs.declared.OpName.{OpName}
-use Rattle.sp_base.specs.declared.role.Role.{Role}
 use Rattle.sp_history.specs.declared.entry.Cause.TheVariants.{SurveyOver}
 use Rattle.sp_history.specs.declared.entry.Entry.{Entry}
 use Rattle.sp_history.specs.declared.entry.Ending.{Ending as EndingType}

@@ -1,5 +1,5 @@
 -- When a round says that something moves still.
-use Rattle.std.specs.Prelude.{◌≡◌, ◌⊎◌, ◌≤◌, ◌+◌, ◌++◌, ℕ, ⊤, true, false, List, [], ◌∷◌, length, Option, None}
+use Rattle.std.specs.Prelude.{◌≡◌, ◌⊎◌, ◌≤◌, ◌+◌, ◌++◌, ⊤, true, false, List, [], ◌∷◌, length, Option, None}
 use Rattle.std.specs.List.{list_any}
 use Rattle.turn_lock.specs.declared.turn.Turn.{Turn}
 use Rattle.sp_base.specs.declared.OpName.{OpName}

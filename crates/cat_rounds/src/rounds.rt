@@ -8,7 +8,7 @@ ghost use Rattle.cat_rounds.specs.Lasting.{play_of, HasPrinted, HasServed, MayTi
 ghost use Rattle.cat_rounds.specs.Stepping.{KnowsPipes, Stands, GoesOnBy, SameScript, Sinks};
 ghost use Rattle.cat_rounds.specs.Late.{IsLateBy, RoundIsLate, StallsMore};
 ghost use Rattle.cat_rounds.specs.Resting.{IsKept, IsAtRest, MovesStill, RoundMoves};
-ghost use Rattle.cat_rounds.specs.Going.{RunStands, RoundStands, GoesTo, RoundGoesTo, WentOrOver, PacedTo, TicksOnce, PrintsTo, PrintsGoing, PrintsRound, IsDryAt, is_dry_at, past_now, has_more};
+ghost use Rattle.cat_rounds.specs.Going.{RunStands, RoundStands, GoesTo, RoundGoesTo, WentOrOver, PacedTo, TicksOnce, PrintsTo, PrintsGoing, PrintsRound, TurnsNames, IsDryAt, is_dry_at, past_now, has_more};
 
 use crate::game::Game;
 use crate::player::{Over, Step};
@@ -99,6 +99,7 @@ impl<P: Proto, L: Link> Game<P, L> {
         ensures printed { (before : Option (List ℕ)) → HasPrinted before (S.seen out.old).text self.old.single.seen self.old.player → PrintsRound result before (S.seen out.new).text self.new.single.seen self.new.player }
         ensures sinks { Sinks (result ≡ Round.Ends Status.OutFault) (S.seen out.old) (S.seen out.new) }
         ensures same { SameEnds self.old.ends.links self.new.ends.links × SameScript self.old.player self.new.player × (self.new.single.setting ≡ self.old.single.setting) }
+        ensures names { TurnsNames now self.old.ends self.new.ends self.old.inproc self.new.inproc }
         ensures late { RoundIsLate result self.new.single self.new.player }
         ensures moved { RoundMoves result self.new.player self.old.single self.new.single }
     {
@@ -126,6 +127,7 @@ impl<P: Proto, L: Link> Game<P, L> {
         ensures printed { (before : Option (List ℕ)) → HasPrinted before (S.seen out.old).text self.old.single.seen self.old.player → PrintsGoing result before (S.seen out.new).text self.new.single.seen self.new.player }
         ensures sinks { Sinks (result ≡ Going.OutFault) (S.seen out.old) (S.seen out.new) }
         ensures same { SameScript self.old.player self.new.player × (self.new.ends ≡ self.old.ends) }
+        ensures names { self.new.inproc ≡ self.old.inproc }
         ensures over { self.old.player.over ≢ Over.Open → result ≡ Going.Over }
         ensures moved { MovesStill result self.old.single self.new.single }
     {
@@ -155,6 +157,7 @@ impl<P: Proto, L: Link> Game<P, L> {
         ensures printed { (before : Option (List ℕ)) → HasPrinted before (S.seen out.old).text self.old.single.seen self.old.player → PrintsGoing result before (S.seen out.new).text self.new.single.seen self.new.player }
         ensures sinks { Sinks (result ≡ Going.OutFault) (S.seen out.old) (S.seen out.new) }
         ensures same { SameScript self.old.player self.new.player × (self.new.ends ≡ self.old.ends) }
+        ensures names { self.new.inproc ≡ self.old.inproc }
     {
         let served = self.single.serve(rt);
         let has_pipe = served.up > 0;
@@ -178,6 +181,7 @@ impl<P: Proto, L: Link> Game<P, L> {
         ensures printed { (before : Option (List ℕ)) → HasPrinted before (S.seen out.old).text self.old.single.seen self.old.player → PrintsGoing result before (S.seen out.new).text self.new.single.seen self.new.player }
         ensures sinks { Sinks (result ≡ Going.OutFault) (S.seen out.old) (S.seen out.new) }
         ensures same { SameScript self.old.player self.new.player × (self.new.ends ≡ self.old.ends) }
+        ensures names { self.new.inproc ≡ self.old.inproc }
     {
         let mut moved = false;
         'steps: for _ in 0..STEPS {
@@ -201,6 +205,7 @@ impl<P: Proto, L: Link> Game<P, L> {
         ensures went { RoundGoesTo result self.new.single self.new.player }
         ensures texts { texts (play_of self.old.player.script) (past_of self.new.single.seen) ≡ texts (play_of self.old.player.script) (past_of self.old.single.seen) }
         ensures same { (self.new.player ≡ self.old.player) × (self.new.ends ≡ self.old.ends) }
+        ensures names { self.new.inproc ≡ self.old.inproc }
         ensures fault { (result ≡ Round.Ends Status.OutFault → ⊥) × (result ≡ Round.Ends Status.NoMemory → ⊥) }
         ensures stalls { StallsMore result self.old.single self.new.single }
         ensures rests { result ≡ Round.Goes true → ⊥ }

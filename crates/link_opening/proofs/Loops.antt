@@ -95,7 +95,7 @@ module _ {L : Type 0} (seen : L → LinkView) (old n : Opening L) (link : L) whe
   missing few (Some u) = few
 
   pub says_not : (buf : List ℕ) → Saying seen old n → n.said < length n.own → AfterWrite writes.NotYet buf (seen n.link) (seen link) → Rose (seen old.link).stalls (seen link).stalls → SaidTo seen progress.Waits old (record n { link = link })
-  says_not buf s few x r = record { so = (record { stands = quiet s.stands x.shows.0; missing = missing few n.used }, rose_once (seen n.link).stalls (seen link).stalls x.shows.1, r); same = saying s.same }
+  says_not buf s few x r = record { so = (record { stands = quiet s.stands x.shows.0; missing = missing few n.used }, rose_once (seen n.link).stalls (seen link).stalls x.shows.1, few, r); same = saying s.same }
 
   pub stalls_from : (buf : List ℕ) → Saying seen old n → AfterWrite writes.NotYet buf (seen n.link) (seen link) → Rose (seen old.link).stalls (seen link).stalls
   stalls_from buf s x = omega (arith, s.later.stalls, x.shows.1)

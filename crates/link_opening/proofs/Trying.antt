@@ -8,7 +8,7 @@ use Rattle.link_opening.specs.declared.opening.Opening.{Opening}
 use Rattle.link_opening.specs.declared.opening.Progress.{Progress}
 use Rattle.link_opening.specs.declared.opening.Progress.TheVariants as progress
 use Rattle.link_opening.specs.Openings.{IsGood, Owes}
-use Rattle.link_opening.specs.Going.{Stands, IsOwn, IsMissing, IsOpened, IsLater, HasWaited, IsUndone, HasTried, IsSame, OpenedTo, IsSaying, SaidTo, HeardTo}
+use Rattle.link_opening.specs.Going.{Stands, IsOwn, IsMissing, IsOpened, IsLater, HasWaited, WaitsFor, IsUndone, HasTried, IsSame, OpenedTo, IsSaying, SaidTo, HeardTo}
 use Rattle.link_opening.proofs.Owing.{more_not_good, more_owes, owes_one}
 
 -- ---- A link that isn't complete
@@ -77,16 +77,20 @@ later_on a b c f g = record { place = g.place ∙ f.place; scheme = g.scheme ∙
 rose_before : (a b c : ℕ) → a ≤ b → Rose b c → Rose a c
 rose_before a b c le r = omega (arith, le, r)
 
-waited_before : (a b c : LinkView) → IsLater a b → HasWaited b c → HasWaited a c
-waited_before a b c l (inl r) = inl (rose_before a.idles b.idles c.idles l.idles r)
-waited_before a b c l (inr r) = inr (rose_before a.stalls b.stalls c.stalls l.stalls r)
-
 module _ {L : Type 0} (seen : L → LinkView) where
+  waits_before : (a b : LinkView) (n : Opening L) → IsLater a b → WaitsFor seen b n → WaitsFor seen a n
+  waits_before a b n l (inl (few, r)) = inl (few, rose_before a.stalls b.stalls (seen n.link).stalls l.stalls r)
+  waits_before a b n l (inr (all, r)) = inr (all, rose_before a.idles b.idles (seen n.link).idles l.idles r)
+
+  pub has_waited : (a : LinkView) (n : Opening L) → WaitsFor seen a n → HasWaited a (seen n.link)
+  has_waited a n (inl (few, r)) = inr r
+  has_waited a n (inr (all, r)) = inl r
+
   pub is_same : (old new : Opening L) → IsSaying old new → IsSame old new
   is_same old new s = record { role = ap (λ (n : Opening L). n.role) s; way = ap (λ (n : Opening L). n.way) s }
 
   pub opened_from : (p : Progress) (old mid new : Opening L) → IsSame old mid → IsLater (seen old.link) (seen mid.link) → OpenedTo seen p mid new → OpenedTo seen p old new
-  opened_from progress.Waits old mid new s l o = record { came_to = (o.came_to.0, o.came_to.1, o.came_to.2, waited_before (seen old.link) (seen mid.link) (seen new.link) l o.came_to.3); same = same_after old mid new s o.same }
+  opened_from progress.Waits old mid new s l o = record { came_to = (o.came_to.0, o.came_to.1, o.came_to.2, waits_before (seen old.link) (seen mid.link) new l o.came_to.3); same = same_after old mid new s o.same }
   opened_from progress.Opened old mid new s l o = record { came_to = o.came_to; same = same_after old mid new s o.same }
   opened_from progress.Bad old mid new s l o = record { came_to = o.came_to; same = same_after old mid new s o.same }
   opened_from progress.Ended old mid new s l o = record { came_to = o.came_to; same = same_after old mid new s o.same }
@@ -97,7 +101,7 @@ module _ {L : Type 0} (seen : L → LinkView) where
   pub said_to : (p : Progress) (old new : Opening L) → SaidTo seen p old new → (p ≡ progress.Opened → ⊥) → OpenedTo seen p old new
   said_to progress.Waits old new s not_all =
       let u = s.so.0 in
-      record { came_to = (u, undone seen new u.stands u.missing, stalled seen new u.stands s.so.1, inr s.so.2); same = is_same old new s.same }
+      record { came_to = (u, undone seen new u.stands u.missing, stalled seen new u.stands s.so.1, inl (s.so.2, s.so.3)); same = is_same old new s.same }
   said_to progress.Opened old new s not_all = absurd (not_all refl)
   said_to progress.Bad old new s not_all = absurd s.so
   said_to progress.Ended old new s not_all = absurd s.so
@@ -109,7 +113,7 @@ module _ {L : Type 0} (seen : L → LinkView) where
   heard_to progress.Waits old new h not_all =
       let x = h.so.0 in
       let m = missing_none new new.used x.unheard in
-      record { came_to = (record { stands = x.stands; missing = m }, undone seen new x.stands m, tried seen new x.stands x.unheard x.said, inl h.so.1); same = h.same }
+      record { came_to = (record { stands = x.stands; missing = m }, undone seen new x.stands m, tried seen new x.stands x.unheard x.said, inr (x.said, h.so.1)); same = h.same }
   heard_to progress.Opened old new h not_all = absurd (not_all refl)
   heard_to progress.Bad old new h not_all = record { came_to = h.so; same = h.same }
   heard_to progress.Ended old new h not_all =

@@ -60,6 +60,11 @@ pub record IsLater (old new : LinkView) : Type 0 where
 abbrev pub HasWaited : LinkView → LinkView → Type 0
 HasWaited old new = Rose old.idles new.idles ⊎ Rose old.stalls new.stalls
 
+-- something is still to be written, and the link took nothing; or nothing is, and it brought nothing
+abbrev pub WaitsFor : {L : Type 0} → (L → LinkView) → LinkView → Opening L → Type 0
+WaitsFor seen old n =
+    ((n.said < length n.own) × Rose old.stalls (seen n.link).stalls) ⊎ ((n.said ≡ length n.own) × Rose old.idles (seen n.link).idles)
+
 -- of a new one
 pub record IsFresh {L : Type 0} (seen : L → LinkView) (link : L) (role : Role) (way : Way) (n : Opening L) : Type 0 where
   pub link_is : n.link ≡ link
@@ -86,7 +91,7 @@ module _ {L : Type 0} (seen : L → LinkView) (n : Opening L) where
   IsWrong = IsSpoilt (openings n.role (λ way. ⊤)) n.way (seen n.link)
 
 abbrev pub CameTo : {L : Type 0} → (L → LinkView) → Progress → LinkView → Opening L → Type 0
-CameTo seen progress.Waits old new = IsUnderWay seen new × IsUndone seen new × HasTried seen new × HasWaited old (seen new.link)
+CameTo seen progress.Waits old new = IsUnderWay seen new × IsUndone seen new × HasTried seen new × WaitsFor seen old new
 CameTo seen progress.Opened old new = IsOpened seen new
 CameTo seen progress.Bad old new = IsWrong seen new × IsUnanswered seen new
 CameTo seen progress.Ended old new = ((seen new.link).ended ≡ true) × IsUndone seen new × HasTried seen new
@@ -107,7 +112,7 @@ abbrev pub IsSaying : {L : Type 0} → Opening L → Opening L → Type 0
 IsSaying old new = new ≡ record old { link = new.link; said = new.said }
 
 abbrev pub SaidSo : {L : Type 0} → (L → LinkView) → Progress → LinkView → Opening L → Type 0
-SaidSo seen progress.Waits old new = IsUnderWay seen new × (1 ≤ (seen new.link).stalls) × Rose old.stalls (seen new.link).stalls
+SaidSo seen progress.Waits old new = IsUnderWay seen new × (1 ≤ (seen new.link).stalls) × (new.said < length new.own) × Rose old.stalls (seen new.link).stalls
 SaidSo seen progress.Opened old new = Stands seen new × (new.said ≡ length new.own)
 SaidSo seen progress.Bad old new = ⊥
 SaidSo seen progress.Ended old new = ⊥

@@ -1,10 +1,9 @@
 -- What names have brought.
-use Rattle.std.proofs.Common.{◌≡◌, refl, ap, sym, ◌∙◌, subst, List, [], ◌∷◌, ◌++◌, ℕ, zero, suc, ◌+◌, ◌≤◌, ◌<◌, arith, length, Some, None, inl, inr, length-append, slice_get}
-use Rattle.std.specs.Prelude.{◌⊎◌, ⊤, slice_index_or, slice_set}
-use Rattle.std.specs.List.{AllByRecursion}
+use Rattle.std.proofs.Common.{◌≡◌, refl, ap, sym, ◌∙◌, subst, List, [], ◌∷◌, ℕ, zero, suc, ◌+◌, ◌≤◌, ◌<◌, arith, length, Some, None, inl, inr, slice_get}
+use Rattle.std.specs.Prelude.{⊤, slice_index_or, slice_set}
 use Rattle.sp_lane.specs.LaneWires.{LaneWireView}
-use Rattle.sp_lane.specs.Registry.{ListenerView, Registry, IsAt, IsPast, IsUnlisted, Accepts}
-use Rattle.sp_ends.specs.Calling.{HasBrought, Brings, AllBring, HasFewer, HasMore}
+use Rattle.sp_lane.specs.Registry.{ListenerView, Registry, IsPast, IsUnlisted, Accepts}
+use Rattle.sp_ends.specs.Calling.{HasBrought, Brings, AllBring, HasFewer}
 
 -- ---- Registries one after the other
 
@@ -24,31 +23,6 @@ fewer_set : (i : ℕ) (reg : Registry) (l : ListenerView) (rest : List LaneWireV
 fewer_set i [] l rest lt is le = absurd (omega (arith, lt))
 fewer_set zero (x ∷ reg) l rest lt is le = (ap (λ (v : ListenerView). v.name) (sym (is x)), (let e : length x.halves ≡ length l.halves = ap (λ (v : ListenerView). length v.halves) (is x) in omega (arith, e, le)), fewer_none reg)
 fewer_set (suc i) (x ∷ reg) l rest lt is le = (refl, omega arith, fewer_set i reg l rest (omega (arith, lt)) is le)
-
-pub more_none : (reg reg' : Registry) → reg' ≡ reg → HasMore 0 reg reg'
-more_none reg reg' e = subst (λ (r : Registry). HasMore 0 reg r) (sym e) (same reg)
-  where
-    same : (r : Registry) → HasMore 0 r r
-    same [] = tt
-    same (l ∷ r) = (refl, omega arith, same r)
-
-pub more_both : (m n : ℕ) (a b c : Registry) → HasMore m a b → HasMore n b c → HasMore (m + n) a c
-more_both m n [] [] [] f g = tt
-more_both m n [] [] (z ∷ c) f g = absurd g
-more_both m n [] (y ∷ b) c f g = absurd f
-more_both m n (x ∷ a) [] c f g = absurd f
-more_both m n (x ∷ a) (y ∷ b) [] f g = absurd g
-more_both m n (x ∷ a) (y ∷ b) (z ∷ c) f g = (g.0 ∙ f.0, (let k = f.1 in let l = g.1 in omega (arith, k, l)), more_both m n a b c f.2 g.2)
-
-more_same : (n : ℕ) (reg : Registry) → HasMore n reg reg
-more_same n [] = tt
-more_same n (l ∷ reg) = (refl, omega arith, more_same n reg)
-
-pub more_one : (i : ℕ) (reg : Registry) (l : ListenerView) (other : LaneWireView) → i < length reg → ((d : ListenerView) → slice_index_or reg i d ≡ l) → HasMore 1 reg (slice_set reg i (record l { halves = l.halves ++ other ∷ [] }))
-more_one i [] l other lt is = absurd (omega (arith, lt))
-more_one zero (x ∷ reg) l other lt is =
-    (ap (λ (v : ListenerView). v.name) (sym (is x)), (let e : length x.halves ≡ length l.halves = ap (λ (v : ListenerView). length v.halves) (is x) in omega (arith, e, length-append l.halves (other ∷ []))), more_same 1 reg)
-more_one (suc i) (x ∷ reg) l other lt is = (refl, omega arith, more_one i reg l other (omega (arith, lt)) is)
 
 -- ---- One name
 
@@ -96,24 +70,24 @@ none_at i [] name l past lt is named halves = tt
 none_at zero (x ∷ reg) name l past lt is named halves = (λ e. ap (λ (v : ListenerView). v.halves) (is x) ∙ halves, λ ne. absurd (ne (ap (λ (v : ListenerView). v.name) (is x) ∙ named)))
 none_at (suc i) (x ∷ reg) name l past lt is named halves = (λ e. absurd (past 0 x (omega arith) e), λ ne. none_at i reg name l (λ j d less. past (suc j) d (omega (arith, less))) (omega (arith, lt)) is named halves)
 
-brings_empty : (name : List ℕ) (a b : Registry) → HasFewer a b → NoneLeft name b → Brings name 0 a b
+brings_empty : (name : List ℕ) (a b : Registry) → HasFewer a b → NoneLeft name b → Brings name a b
 brings_empty name [] b f x = tt
 brings_empty name (l ∷ a) [] f x = absurd f
 brings_empty name (l ∷ a) (m ∷ b) f x = (λ e. inl (x.0 (f.0 ∙ e)), λ ne. brings_empty name a b f.2 (x.1 (λ e. ne (sym f.0 ∙ e))))
 
 -- it had none any more
-pub brings_none : (name : List ℕ) (a b c : Registry) → HasFewer a b → Accepts name None b c → Brings name 0 a c
-brings_none name a b c f (inl u, is) = subst (λ (r : Registry). Brings name 0 a r) (sym is) (brings_empty name a b f (none_unlisted name b u))
-brings_none name a b c f (inr (i, l, at, halves), is) = subst (λ (r : Registry). Brings name 0 a r) (sym is) (brings_empty name a b f (none_at i b name l at.first at.within at.is at.named halves))
+pub brings_none : (name : List ℕ) (a b c : Registry) → HasFewer a b → Accepts name None b c → Brings name a c
+brings_none name a b c f (inl u, is) = subst (λ (r : Registry). Brings name a r) (sym is) (brings_empty name a b f (none_unlisted name b u))
+brings_none name a b c f (inr (i, l, at, halves), is) = subst (λ (r : Registry). Brings name a r) (sym is) (brings_empty name a b f (none_at i b name l at.first at.within at.is at.named halves))
 
 -- it brought 16
-pub brings_full : (name : List ℕ) (n : ℕ) (a b : Registry) → 16 ≤ n → BroughtSo name n a b → Brings name 0 a b
+pub brings_full : (name : List ℕ) (n : ℕ) (a b : Registry) → 16 ≤ n → BroughtSo name n a b → Brings name a b
 brings_full name n [] b le x = tt
 brings_full name n (l ∷ a) [] le x = absurd x
 brings_full name n (l ∷ a) (m ∷ b) le x = (λ e. inr (let p = x.0 e in omega (arith, p, le)), λ ne. brings_full name n a b le (x.1 ne))
 
 -- and later fewer are left
-pub brings_later : (name : List ℕ) (a b c : Registry) → HasFewer b c → Brings name 0 a b → Brings name 0 a c
+pub brings_later : (name : List ℕ) (a b c : Registry) → HasFewer b c → Brings name a b → Brings name a c
 brings_later name [] b c g x = tt
 brings_later name (l ∷ a) [] c g x = absurd x
 brings_later name (l ∷ a) (m ∷ b) [] g x = absurd g
@@ -123,37 +97,21 @@ brings_later name (l ∷ a) (m ∷ b) (k ∷ c) g x = (λ e. go (x.0 e), λ ne. 
     none [] le = refl
     none (w ∷ ws) le = absurd (omega (arith, le))
 
-    go : HasBrought 0 l m → HasBrought 0 l k
+    go : HasBrought l m → HasBrought l k
     go (inl e) = inl (none k.halves (let z = ap length e in let n = g.1 in omega (arith, z, n)))
     go (inr p) = inr (let n = g.1 in omega (arith, p, n))
 
 -- there were as many before, or more
-pub brings_before : (name : List ℕ) (a b c : Registry) → HasFewer a b → Brings name 0 b c → Brings name 0 a c
+pub brings_before : (name : List ℕ) (a b c : Registry) → HasFewer a b → Brings name b c → Brings name a c
 brings_before name [] [] c f x = tt
 brings_before name [] (m ∷ b) c f x = absurd f
 brings_before name (l ∷ a) [] c f x = absurd f
 brings_before name (l ∷ a) (m ∷ b) [] f x = absurd x
 brings_before name (l ∷ a) (m ∷ b) (k ∷ c) f x = (λ e. go (x.0 (f.0 ∙ e)), λ ne. brings_before name a b c f.2 (x.1 (λ e. ne (sym f.0 ∙ e))))
   where
-    go : HasBrought 0 m k → HasBrought 0 l k
+    go : HasBrought m k → HasBrought l k
     go (inl e) = inl e
     go (inr p) = inr (let n = f.1 in omega (arith, p, n))
-
--- and some were dialed before
-brings_dialed : (name : List ℕ) (n : ℕ) (a b c : Registry) → HasMore n a b → Brings name 0 b c → Brings name n a c
-brings_dialed name n [] [] c f x = tt
-brings_dialed name n [] (m ∷ b) c f x = absurd f
-brings_dialed name n (l ∷ a) [] c f x = absurd f
-brings_dialed name n (l ∷ a) (m ∷ b) [] f x = absurd x
-brings_dialed name n (l ∷ a) (m ∷ b) (k ∷ c) f x = (λ e. go (x.0 (f.0 ∙ e)), λ ne. brings_dialed name n a b c f.2 (x.1 (λ e. ne (sym f.0 ∙ e))))
-  where
-    go : HasBrought 0 m k → HasBrought n l k
-    go (inl e) = inl e
-    go (inr p) = inr (let d = f.1 in omega (arith, p, d))
-
-pub all_dialed : (ns : List (List ℕ)) (n : ℕ) (a b c : Registry) → HasMore n a b → AllBring ns 0 b c → AllBring ns n a c
-all_dialed [] n a b c f x = tt
-all_dialed (name ∷ ns) n a b c f x = (brings_dialed name n a b c f x.0, all_dialed ns n a b c f x.1)
 
 -- ---- All names
 
@@ -161,19 +119,19 @@ all_dialed (name ∷ ns) n a b c f x = (brings_dialed name n a b c f x.0, all_di
 abbrev pub BringTo : ℕ → List (List ℕ) → Registry → Registry → Type 0
 BringTo zero ns a b = ⊤
 BringTo (suc i) [] a b = ⊤
-BringTo (suc i) (name ∷ ns) a b = Brings name 0 a b × BringTo i ns a b
+BringTo (suc i) (name ∷ ns) a b = Brings name a b × BringTo i ns a b
 
 pub to_later : (i : ℕ) (ns : List (List ℕ)) (a b c : Registry) → HasFewer b c → BringTo i ns a b → BringTo i ns a c
 to_later zero ns a b c g x = tt
 to_later (suc i) [] a b c g x = tt
 to_later (suc i) (name ∷ ns) a b c g x = (brings_later name a b c g x.0, to_later i ns a b c g x.1)
 
-pub to_next : (i : ℕ) (ns : List (List ℕ)) (name : List ℕ) (a b : Registry) → BringTo i ns a b → slice_get ns i ≡ Some name → Brings name 0 a b → BringTo (suc i) ns a b
+pub to_next : (i : ℕ) (ns : List (List ℕ)) (name : List ℕ) (a b : Registry) → BringTo i ns a b → slice_get ns i ≡ Some name → Brings name a b → BringTo (suc i) ns a b
 to_next i [] name a b x at y = tt
-to_next zero (n ∷ ns) name a b x at y = let same : n ≡ name = cc in (subst (λ (m : List ℕ). Brings m 0 a b) (sym same) y, tt)
+to_next zero (n ∷ ns) name a b x at y = let same : n ≡ name = cc in (subst (λ (m : List ℕ). Brings m a b) (sym same) y, tt)
 to_next (suc i) (n ∷ ns) name a b x at y = (x.0, to_next i ns name a b x.1 at y)
 
-pub to_all : (i : ℕ) (ns : List (List ℕ)) (a b : Registry) → length ns ≤ i → BringTo i ns a b → AllBring ns 0 a b
+pub to_all : (i : ℕ) (ns : List (List ℕ)) (a b : Registry) → length ns ≤ i → BringTo i ns a b → AllBring ns a b
 to_all zero [] a b le x = tt
 to_all zero (n ∷ ns) a b le x = absurd (omega (arith, le))
 to_all (suc i) [] a b le x = tt

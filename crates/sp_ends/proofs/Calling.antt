@@ -8,9 +8,9 @@ use Rattle.sp_history.specs.declared.entry.Entry.TheVariants.{Up, Down, Taken}
 use Rattle.sp_history.specs.declared.entry.WireName.{WireName}
 use Rattle.sp_history.specs.declared.setting.Setting.{Setting}
 use Rattle.sp_history.specs.Changes.{none_of}
-use Rattle.sp_history.specs.Lists.{has, without, head_of}
-use Rattle.sp_history.specs.Legal.{Legal, AreAllowed}
-use Rattle.sp_history.specs.Past.{onto, past_from, past_of, up, ups, untaken}
+use Rattle.sp_history.specs.Lists.{has, head_of}
+use Rattle.sp_history.specs.Legal.{AreAllowed}
+use Rattle.sp_history.specs.Past.{onto, past_from, past_of, ups, untaken}
 use Rattle.sp_history.proofs.Appending.{past_of-append}
 use Rattle.sp_history.proofs.Backing.{legal_allowed}
 use Rattle.sp_core.specs.Standing.{HasFirst}
@@ -19,18 +19,16 @@ use Rattle.sp_core.specs.declared.attach.AttachError.{AttachError}
 use Rattle.sp_core.specs.Attaching.{RefusedAttach}
 use Rattle.sp_single.specs.Singles.{SingleView, TookOne}
 use Rattle.sp_lane.specs.LaneWires.{LaneWireView}
-use Rattle.sp_lane.specs.Registry.{ListenerView, Registry, names, IsAt, Dials, Accepts}
+use Rattle.sp_lane.specs.Registry.{ListenerView, Registry, names, Dials, Accepts}
 use Rattle.cat_play.specs.Recording.{lane_place, place_of}
-use Rattle.cat_play.specs.Running.{has_dry_miss}
 use Rattle.cat_play.specs.Steps.{moves_ends}
 use Rattle.sp_ends.specs.Moments.{moment, IsDueAt}
-use Rattle.sp_ends.specs.Turning.{Quietly, IsSound}
-use Rattle.sp_ends.specs.Calling.{IsDueCaller, IsFreeCaller, IsLostCaller, AreLost, IsGone, TookPipe, IsNewLane, HasCalled, HasNewLane, TakesCaller, TakesCallers, CallsOne, CallsAll, CallsAt, TurnsCaller, TurnsCallers, Begins, WasRefusedLane, AreAttached, halves_of, TurnsLanes, Accepting, DialsLanes, GoesOn, CameUp, AllBring, HasMore}
+use Rattle.sp_ends.specs.Turning.{Quietly, IsSound, NoLane}
+use Rattle.sp_ends.specs.Calling.{IsDueCaller, IsFreeCaller, IsLostCaller, AreLost, IsGone, TookPipe, IsNewLane, HasCalled, HasNewLane, TriesName, DialsIfDue, DialsDue, TakesCaller, TakesCallers, CallsOne, CallsAll, CallsAt, TurnsCaller, TurnsCallers, Begins, AreAttached, pipes_of, halves_of, TurnsLanes, Accepting, GoesOn, CameUp, AllBring}
 use Rattle.sp_ends.specs.declared.caller.Caller.{Caller}
 use Rattle.std.proofs.lemmas.Bool.{ne_eqb}
 use Rattle.std.proofs.lemmas.List.{length-set}
 use Rattle.sp_ends.proofs.Places.{gone}
-use Rattle.sp_ends.proofs.Bringing.{more_none, more_both, more_one, all_dialed}
 use Rattle.sp_ends.proofs.Moves.{unequal}
 use Rattle.sp_ends.proofs.Leaving.{entries_leave, entries_keep, has_other, grown, numbered, moves_links, past_of_more}
 use Rattle.sp_ends.proofs.Keeping.{same_place, legal_rest}
@@ -69,13 +67,16 @@ module _ (says : Setting → List (Turn Entry) → Turn Entry → Type 0) (a b :
     none : none_of moves_links took.turn.entries ≡ true
     none = none_sub moves_ends moves_links links_of took.turn.entries (settles took.turn.entries q)
 
+    pub none_up : ups (past_of b.seen) ≡ ups (past_of a.seen)
+    none_up = ap ups past_now ∙ entries_leave moves_links ups same_ups took.turn.entries (past_of a.seen) none
+
     pub goes_settled : GoesOn a b
     goes_settled = record {
       quietly = quiet_one says a b took (settles_play took.turn.entries q);
       sound = λ s. sound_one says a b took;
       dry = dry_settles says a b took q;
       begins = (took.turn ∷ [], took.seen);
-      ups = let e = ap ups past_now ∙ entries_leave moves_links ups same_ups took.turn.entries (past_of a.seen) none in omega (arith, e);
+      ups = omega (arith, none_up);
       places = λ p place e. ap (λ (x : List Entry). place_of x p) past_now ∙ (entries_leave moves_links (λ (x : List Entry). place_of x p) (same_place p) took.turn.entries (past_of a.seen) none ∙ e);
     }
 
@@ -113,7 +114,7 @@ module _ (says : Setting → List (Turn Entry) → Turn Entry → Type 0) (a b :
     }
 
     pub came_up : CameUp (Some p) a b
-    came_up = ((omega (arith, next), place_now p ∙ here), omega (arith, next, ups_now))
+    came_up = ((omega (arith, next), place_now p ∙ here), omega (arith, next, ups_now), ups_now)
       where
         here : place_of (Up p lane_place name ∷ past_of a.seen) p ≡ Some lane_place
         here = rw (eq-eqb p p refl) refl
@@ -268,7 +269,7 @@ pub called_as : (now : ℕ) (a b : SingleView) (o : Option ℕ) (x y : Caller) �
 called_as now a b None x y lane is = inl is
 called_as now a b (Some p) x y lane is = inr (p, lane, is)
 
-one_caller : {a b : Caller} → Some a ≡ Some b → a ≡ b
+pub one_caller : {a b : Caller} → Some a ≡ Some b → a ≡ b
 one_caller e = cc
 
 from_before : (now : ℕ) (a b c : SingleView) (x y : Caller) → GoesOn a b → HasCalled now b c x y → HasCalled now a c x y
@@ -276,20 +277,89 @@ from_before now a b c x y g (inl free) = inl free
 from_before now a b c x y g (inr (p, lane, is)) = inr (p, (let l = lane.0 in let u = g.ups in omega (arith, l, u), lane.1), is)
 
 -- one that is due dialed
-pub calls_next : (i now : ℕ) (a b c : SingleView) (xs ys ws : List Caller) (y : Caller) → GoesOn a b → GoesOn b c → CallsTo i now a b xs ys → slice_get ys i ≡ Some y → IsDueCaller now y → CallsAt i now b c ys ws → CallsTo (suc i) now a c xs ws
-calls_next i now a b c xs ys ws y f g t at due (x, w, at', called, is) =
+pub calls_next : (i now : ℕ) (role : Role) (a b c : SingleView) (r s : Registry) (xs ys ws : List Caller) (y : Caller) → GoesOn a b → GoesOn b c → CallsTo i now a b xs ys → slice_get ys i ≡ Some y → IsDueCaller now y → CallsAt i now role b c r s ys ws → CallsTo (suc i) now a c xs ws
+calls_next i now role a b c r s xs ys ws y f g t at due (x, w, at', called, tries, is) =
     let same : x ≡ y = one_caller (sym at' ∙ at) in
     subst (λ (vs : List Caller). CallsTo (suc i) now a c xs vs) (sym is) (calls_set i now a c xs ys y w (calls_on i now a b c xs ys g t) at (inl (due, from_before now a b c y w f (subst (λ (k : Caller). HasCalled now b c k w) same called))))
 
-pub calls_long : (i now : ℕ) (b c : SingleView) (ys ws : List Caller) → CallsAt i now b c ys ws → length ws ≡ length ys
-calls_long i now b c ys ws (x, w, at, called, is) = ap length is ∙ length-set ys i w
+pub calls_long : (i now : ℕ) (role : Role) (b c : SingleView) (r s : Registry) (ys ws : List Caller) → CallsAt i now role b c r s ys ws → length ws ≡ length ys
+calls_long i now role b c r s ys ws (x, w, at, called, tries, is) = ap length is ∙ length-set ys i w
+
+-- ---- One after the other
+
+pub tries_up : (name : List ℕ) (role : Role) (o : Option ℕ) (wire : LaneWireView) (a b : SingleView) (r s : Registry) → Dials name role (Ok wire) r s → GoesOn a b → CameUp o a b → TriesName name role o a b r s
+tries_up name role None wire a b r s d g c = inl (record { wire = wire; dials = d; on = g; came = c })
+tries_up name role (Some p) wire a b r s d g c = record { wire = wire; dials = d; on = g; came = c }
+
+-- it is that of the caller
+pub tries_as : (now : ℕ) (role : Role) (name : List ℕ) (o : Option ℕ) (x y w : Caller) (a b : SingleView) (r s : Registry) → name ≡ x.name → x ≡ y → w ≡ record y { next = moment (now + 100); pipe = o } → TriesName name role o a b r s → TriesName y.name role w.pipe a b r s
+tries_as now role name o x y w a b r s n e is t =
+    subst (λ (q : Option ℕ). TriesName y.name role q a b r s) (sym (ap (λ (k : Caller). k.pipe) is)) (subst (λ (m : List ℕ). TriesName m role o a b r s) (n ∙ ap (λ (k : Caller). k.name) e) t)
+
+module _ (now : ℕ) (role : Role) where
+  -- so many had their turn
+  abbrev pub DialsTo : ℕ → SingleView → SingleView → Registry → Registry → List Caller → List Caller → Type 0
+  DialsTo zero a b r s cs ds = (ds ≡ cs) × (b ≡ a) × (s ≡ r)
+  DialsTo (suc i) a b r s [] [] = (b ≡ a) × (s ≡ r)
+  DialsTo (suc i) a b r s (c ∷ cs) (d ∷ ds) = (mid : SingleView) × (q : Registry) × DialsIfDue now role a mid r q c d × DialsTo i mid b q s cs ds
+  DialsTo (suc i) a b r s _ _ = ⊥
+
+  -- the next one had its turn
+  dials_set : (i : ℕ) (a b c : SingleView) (q r s : Registry) (xs ys : List Caller) (y w : Caller) → DialsTo i a b q r xs ys → slice_get ys i ≡ Some y → DialsIfDue now role b c r s y w → DialsTo (suc i) a c q s xs (set ys i w)
+  dials_set i a b c q r s xs [] y w t at one = cc
+  dials_set zero a b c q r s [] (v ∷ ys) y w t at one = let no : v ∷ ys ≡ [] = t.0 in cc
+  dials_set zero a b c q r s (x ∷ xs) (v ∷ ys) y w (same, e, f) at one =
+      let head : v ≡ x = cc in
+      let rest : ys ≡ xs = cc in
+      let is : v ≡ y = cc in
+      let first = subst (λ (m : SingleView). DialsIfDue now role m c r s x w) e (subst (λ (k : Caller). DialsIfDue now role b c r s k w) (sym is ∙ head) one) in (c, s, subst (λ (m : Registry). DialsIfDue now role a c m s x w) f first, (rest, refl, refl))
+  dials_set (suc i) a b c q r s [] (v ∷ ys) y w t at one = absurd t
+  dials_set (suc i) a b c q r s (x ∷ xs) (v ∷ ys) y w (mid, m, first, t) at one = (mid, m, first, dials_set i mid b c m r s xs ys y w t at one)
+
+  -- one that is due dialed
+  pub dials_next : (i : ℕ) (a b c : SingleView) (q r s : Registry) (xs ys ws : List Caller) (y : Caller) → DialsTo i a b q r xs ys → slice_get ys i ≡ Some y → IsDueCaller now y → CallsAt i now role b c r s ys ws → DialsTo (suc i) a c q s xs ws
+  dials_next i a b c q r s xs ys ws y t at due (x, w, at', called, tries, is) =
+      let same : x ≡ y = one_caller (sym at' ∙ at) in
+      let mine = subst (λ (k : Caller). TriesName k.name role w.pipe b c r s) same tries in subst (λ (vs : List Caller). DialsTo (suc i) a c q s xs vs) (sym is) (dials_set i a b c q r s xs ys y w t at (inl (due, mine)))
+
+  -- one that isn't did not
+  pub dials_kept : (i : ℕ) (a b : SingleView) (q r : Registry) (xs ys : List Caller) → DialsTo i a b q r xs ys → ((y : Caller) → slice_get ys i ≡ Some y → IsDueCaller now y → ⊥) → DialsTo (suc i) a b q r xs ys
+  dials_kept zero a b q r [] [] (same, e, f) never = (e, f)
+  dials_kept zero a b q r [] (y ∷ ys) t never = let no : y ∷ ys ≡ [] = t.0 in cc
+  dials_kept zero a b q r (x ∷ xs) [] t never = let no : [] ≡ x ∷ xs = t.0 in cc
+  dials_kept zero a b q r (x ∷ xs) (y ∷ ys) (same, e, f) never =
+      let head : y ≡ x = cc in
+      let rest : ys ≡ xs = cc in (b, r, inr (λ due. never y refl (subst (IsDueCaller now) (sym head) due), e, f), (rest, refl, refl))
+  dials_kept (suc i) a b q r [] [] t never = t
+  dials_kept (suc i) a b q r [] (y ∷ ys) t never = absurd t
+  dials_kept (suc i) a b q r (x ∷ xs) [] t never = absurd t
+  dials_kept (suc i) a b q r (x ∷ xs) (y ∷ ys) (mid, m, first, t) never = (mid, m, first, dials_kept i mid b m r xs ys t never)
+
+  pub dials_whole : (i : ℕ) (a b : SingleView) (q r : Registry) (xs ys : List Caller) → DialsTo i a b q r xs ys → length ys ≤ i → DialsDue now role a b q r xs ys
+  dials_whole zero a b q r [] [] (same, e, f) l = (e, f)
+  dials_whole zero a b q r (x ∷ xs) [] t l = let no : [] ≡ x ∷ xs = t.0 in cc
+  dials_whole zero a b q r xs (y ∷ ys) t l = absurd (omega (arith, l))
+  dials_whole (suc i) a b q r [] [] t l = t
+  dials_whole (suc i) a b q r [] (y ∷ ys) t l = absurd t
+  dials_whole (suc i) a b q r (x ∷ xs) [] t l = absurd t
+  dials_whole (suc i) a b q r (x ∷ xs) (y ∷ ys) (mid, m, first, t) l = (mid, m, first, dials_whole i mid b m r xs ys t (omega (arith, l)))
+
+  -- those that have lost their pipes were not due
+  dials_one : (a b : SingleView) (x y w : Caller) (c d : SingleView) (r s : Registry) → TakesCaller now a b x y → DialsIfDue now role c d r s y w → DialsIfDue now role c d r s x w
+  dials_one a b x y w c d r s (inl (same, u)) one = subst (λ (k : Caller). DialsIfDue now role c d r s k w) same one
+  dials_one a b x y w c d r s (inr (p, has_p, g, free)) (inl (due, tries)) =
+      let l = due_moment (now + 100) now (subst (λ (k : Caller). IsDueAt k.next now) free due.1) in absurd (omega (arith, l))
+  dials_one a b x y w c d r s (inr (p, has_p, g, free)) (inr (never, e, f)) = inr (λ due. let no : Some p ≡ None = sym has_p ∙ due.0 in cc, e, f)
+
+  pub dials_taken : (a b : SingleView) (xs ys ws : List Caller) (c d : SingleView) (r s : Registry) → TakesCallers now a b xs ys → DialsDue now role c d r s ys ws → DialsDue now role c d r s xs ws
+  dials_taken a b [] [] [] c d r s t l = l
+  dials_taken a b [] [] (w ∷ ws) c d r s t l = absurd l
+  dials_taken a b [] (y ∷ ys) ws c d r s t l = absurd t
+  dials_taken a b (x ∷ xs) [] ws c d r s t l = absurd t
+  dials_taken a b (x ∷ xs) (y ∷ ys) [] c d r s t l = absurd l
+  dials_taken a b (x ∷ xs) (y ∷ ys) (w ∷ ws) c d r s t (mid, m, first, l) = (mid, m, dials_one a b x y w c mid r m t.0 first, dials_taken a b xs ys ws mid d m s t.1 l)
 
 -- ---- Lanes
-
-pub halves_more : (i : ℕ) (reg : Registry) (l : ListenerView) (other : LaneWireView) → i < length reg → ((d : ListenerView) → slice_index_or reg i d ≡ l) → halves_of (slice_set reg i (record l { halves = l.halves ++ other ∷ [] })) ≡ halves_of reg + 1
-halves_more i [] l other lt is = absurd (omega (arith, lt))
-halves_more zero (x ∷ reg) l other lt is = let e : length x.halves ≡ length l.halves = ap (λ (v : ListenerView). length v.halves) (is x) in omega (arith, e, length-append l.halves (other ∷ []))
-halves_more (suc i) (x ∷ reg) l other lt is = let e = halves_more i reg l other (omega (arith, lt)) is in omega (arith, e)
 
 pub halves_less : (i : ℕ) (reg : Registry) (l : ListenerView) (w : LaneWireView) (rest : List LaneWireView) → i < length reg → ((d : ListenerView) → slice_index_or reg i d ≡ l) → l.halves ≡ w ∷ rest → halves_of reg ≡ halves_of (slice_set reg i (record l { halves = rest })) + 1
 halves_less i [] l w rest lt is e = absurd (omega (arith, lt))
@@ -300,16 +370,6 @@ names_stay : (i : ℕ) (reg : Registry) (l : ListenerView) (xs : List LaneWireVi
 names_stay i [] l xs lt is = refl
 names_stay zero (x ∷ reg) l xs lt is = ap (λ (v : ListenerView). v.name ∷ names reg) (sym (is x))
 names_stay (suc i) (x ∷ reg) l xs lt is = ap (λ (ns : List (List ℕ)). x.name ∷ ns) (names_stay i reg l xs (omega (arith, lt)) is)
-
-pub dials_none : (reg reg' : Registry) → reg' ≡ reg → DialsLanes reg reg'
-dials_none reg reg' e = record { dialed = 0; halves = let h = ap halves_of e in omega (arith, h); names_are = ap names e; more = more_none reg reg' e }
-
-pub dials_both : (a b c : Registry) → DialsLanes a b → DialsLanes b c → DialsLanes a c
-dials_both a b c x y = record { dialed = x.dialed + y.dialed; halves = let h = x.halves in let k = y.halves in omega (arith, h, k); names_are = y.names_are ∙ x.names_are; more = more_both x.dialed y.dialed a b c x.more y.more }
-
-pub dials_one : (name : List ℕ) (role : Role) (wire : LaneWireView) (reg reg' : Registry) → Dials name role (Ok wire) reg reg' → DialsLanes reg reg'
-dials_one name role wire reg reg' (i, l, other, at, role_is, crossed, is) =
-    record { dialed = 1; halves = let h = ap halves_of is in let k = halves_more i reg l other at.within at.is in omega (arith, h, k); names_are = ap names is ∙ names_stay i reg l (l.halves ++ other ∷ []) at.within at.is; more = subst (λ (r : Registry). HasMore 1 reg r) (sym is) (more_one i reg l other at.within at.is) }
 
 -- ---- Lanes that are accepted
 
@@ -325,16 +385,22 @@ attached_both a b c n xs (Ok p ∷ ys) f g l x y = let u = f.ups in let k = y.1.
 attached_both a b c n xs (Err why ∷ ys) f g l x y =
     let r = y.0 in ((r.0, begins_both a.seen b.seen r.0 f.begins r.1, r.2, subst (λ (z : Setting). RefusedAttach why z (past_of r.0)) f.quietly.setting r.3), attached_both a b c n xs ys f g l x y.1)
 
+pipes_both : (xs ys : List (Result ℕ AttachError)) → pipes_of (xs ++ ys) ≡ pipes_of xs + pipes_of ys
+pipes_both [] ys = omega arith
+pipes_both (Ok p ∷ xs) ys = omega (arith, pipes_both xs ys)
+pipes_both (Err why ∷ xs) ys = pipes_both xs ys
+
 pub accepts_none : (n : ℕ) (a : SingleView) (reg reg' : Registry) → reg' ≡ reg → Accepting n a a reg reg'
-accepts_none n a reg reg' e = record { accepted = []; attached = tt; few = omega arith; halves = let h = ap halves_of e in omega (arith, h); names_are = ap names e }
+accepts_none n a reg reg' e = record { accepted = []; attached = tt; all = omega arith; few = omega arith; halves = let h = ap halves_of e in omega (arith, h); names_are = ap names e }
 
 pub accepts_as : (m n : ℕ) (a b : SingleView) (reg reg' : Registry) → m ≤ n → Accepting m a b reg reg' → Accepting n a b reg reg'
-accepts_as m n a b reg reg' l x = record { accepted = x.accepted; attached = x.attached; few = let f = x.few in omega (arith, f, l); halves = x.halves; names_are = x.names_are }
+accepts_as m n a b reg reg' l x = record { accepted = x.accepted; attached = x.attached; all = x.all; few = let f = x.few in omega (arith, f, l); halves = x.halves; names_are = x.names_are }
 
 pub accepts_both : (m n : ℕ) (a b c : SingleView) (r s t : Registry) → GoesOn a b → GoesOn b c → Accepting m a b r s → Accepting n b c s t → Accepting (m + n) a c r t
 accepts_both m n a b c r s t f g x y = record {
   accepted = y.accepted ++ x.accepted;
   attached = attached_both a b c (ups (past_of c.seen) + 1) x.accepted y.accepted f g (let u = g.ups in omega (arith, u)) x.attached y.attached;
+  all = let k = x.all in let l = y.all in omega (arith, k, l, pipes_both y.accepted x.accepted);
   few = let k = x.few in let l = y.few in omega (arith, k, l, length-append y.accepted x.accepted);
   halves = let k = x.halves in let l = y.halves in omega (arith, k, l, length-append y.accepted x.accepted);
   names_are = y.names_are ∙ x.names_are;
@@ -345,24 +411,29 @@ pub accepts_one : (name : List ℕ) (wire : LaneWireView) (o : Option ℕ) (a b 
 accepts_one name wire o a b reg reg' (i, l, rest, at, halves, is) came g = record {
   accepted = fate o came;
   attached = attached o came;
+  all = all o came;
   few = few o came;
   halves = let h = ap halves_of is in let k = halves_less i reg l wire rest at.within at.is halves in let n = long o came in omega (arith, h, k, n);
   names_are = ap names is ∙ names_stay i reg l rest at.within at.is;
 }
   where
     fate : (o : Option ℕ) → CameUp o a b → List (Result ℕ AttachError)
-    fate None c = Err c.0 ∷ []
+    fate None (same, (why, refused)) = Err why ∷ []
     fate (Some p) c = Ok p ∷ []
 
     long : (o : Option ℕ) (c : CameUp o a b) → length (fate o c) ≡ 1
-    long None c = refl
+    long None (same, (why, refused)) = refl
     long (Some p) c = refl
+
+    all : (o : Option ℕ) (c : CameUp o a b) → ups (past_of b.seen) ≡ ups (past_of a.seen) + pipes_of (fate o c)
+    all None (same, (why, refused)) = omega (arith, same)
+    all (Some p) c = let e = c.2 in omega (arith, e)
 
     few : (o : Option ℕ) (c : CameUp o a b) → length (fate o c) ≤ 1
     few o c = let n = long o c in omega (arith, n)
 
     attached : (o : Option ℕ) (c : CameUp o a b) → AreAttached a b (ups (past_of b.seen) + 1) (fate o c)
-    attached None c = ((a.seen, ([], sym (append-nil a.seen)), g.begins, c.1), tt)
+    attached None (same, (why, refused)) = ((a.seen, ([], sym (append-nil a.seen)), g.begins, refused), tt)
     attached (Some p) c = (let e = c.1 in omega (arith, e), c.0, tt)
 
 -- ---- A whole turn
@@ -405,22 +476,19 @@ quiet_ups a b q =
     let is : past_of b.seen ≡ past_from (past_of a.seen) q.silent.0 = ap past_of q.silent.1 ∙ past_of_more [] a.seen q.silent.0 in
     let e = ap ups is in let g = ups_from q.silent.0 (past_of a.seen) in omega (arith, e, g)
 
-attached_from : (a d e : SingleView) (n : ℕ) (xs : List (Result ℕ AttachError)) → Quietly a d → AreAttached d e n xs → AreAttached a e n xs
-attached_from a d e n [] q x = tt
-attached_from a d e n (Ok p ∷ xs) q x = let u = quiet_ups a d q in let k = x.1.0 in (x.0, (omega (arith, u, k), x.1.1), attached_from a d e p xs q x.2)
-attached_from a d e n (Err why ∷ xs) q x =
-    let r = x.0 in ((r.0, begins_both a.seen d.seen r.0 (q.silent.0, q.silent.1) r.1, r.2, subst (λ (z : Setting). RefusedAttach why z (past_of r.0)) q.setting r.3), attached_from a d e n xs q x.1)
-
--- names were dialed, and then asked
-pub turns_lanes : (greeting : ℕ) (listened : List (List ℕ)) (a d e : SingleView) (r s t : Registry) → Quietly a d → DialsLanes r s → Accepting (16 * length listened) d e s t → (greeting < 256 → AllBring listened 0 s t) → TurnsLanes greeting listened a e r t
-turns_lanes greeting listened a d e r s t q x y brings = record {
-  accepted = y.accepted;
-  dialed = x.dialed;
-  attached = attached_from a d e (ups (past_of e.seen) + 1) y.accepted q y.attached;
-  few = y.few;
-  halves = let h = x.halves in let k = y.halves in omega (arith, h, k);
-  names_are = y.names_are ∙ x.names_are;
-  asked = λ few. all_dialed listened x.dialed r s t x.more (brings few);
+-- links had their turn, then names were dialed, and then asked
+pub turns_lanes : (now : ℕ) (role first : Role) (greeting : ℕ) (listened : List (List ℕ)) (a b c d e : SingleView) (r s t : Registry) (xs ys ws : List Caller) → Quietly a c → NoLane a c → first ≡ role → TakesCallers now a b xs ys → DialsDue now first c d r s ys ws → GoesOn d e → Accepting (16 * length listened) d e s t → (greeting < 256 → AllBring listened s t) → (256 ≤ greeting → (e ≡ d) × (t ≡ s)) → TurnsLanes now role greeting listened a e r t xs ws
+turns_lanes now role first greeting listened a b c d e r s t xs ys ws q n same takes dials on y brings held = record {
+  linked = c;
+  called = d;
+  dialed = s;
+  quietly = q;
+  no_lane = n;
+  dials = dials_taken now role a b xs ys ws c d r s takes (subst (λ (k : Role). DialsDue now k c d r s ys ws) same dials);
+  on = on;
+  accepting = y;
+  asked = brings;
+  held = held;
 }
 
 -- ---- The wire of a pipe was taken
@@ -458,5 +526,5 @@ accepts_for a b r t ms ns e x = subst (λ (xs : List (List ℕ)). Accepting (16 
 pub accepts_then : (m n : ℕ) (a b : SingleView) (r s t : Registry) → m ≤ n → t ≡ s → Accepting m a b r s → Accepting n a b r t
 accepts_then m n a b r s t l e x = subst (λ (q : Registry). Accepting n a b r q) (sym e) (accepts_as m n a b r s l x)
 
-pub bring_for : (r t : Registry) (greeting : ℕ) (ms ns : List (List ℕ)) → ms ≡ ns → (greeting < 256 → AllBring ms 0 r t) → greeting < 256 → AllBring ns 0 r t
-bring_for r t greeting ms ns e x few = subst (λ (xs : List (List ℕ)). AllBring xs 0 r t) e (x few)
+pub bring_for : (r t : Registry) (greeting : ℕ) (ms ns : List (List ℕ)) → ms ≡ ns → (greeting < 256 → AllBring ms r t) → greeting < 256 → AllBring ns r t
+bring_for r t greeting ms ns e x few = subst (λ (xs : List (List ℕ)). AllBring xs r t) e (x few)

@@ -1,16 +1,15 @@
 -- A lane becomes a pipe, or is refused: all that stands on the links stays.
-use Rattle.std.proofs.Common.{◌≡◌, refl, ap, sym, ◌∙◌, subst, List, [], ◌∷◌, ◌++◌, ℕ, ◌+◌, ◌≤◌, ◌<◌, Bool, true, false, cond, arith, Option, Some, None, inl, inr, eq-eqb, eqb-true, append_assoc}
+use Rattle.std.proofs.Common.{◌≡◌, refl, ap, sym, ◌∙◌, List, [], ◌∷◌, ◌++◌, ℕ, ◌+◌, Bool, true, false, cond, arith, Option, Some, None, inl, inr, eq-eqb, eqb-true}
 use Rattle.std.specs.Prelude.{◌==◌, ◌||◌, ◌⊎◌}
 use Rattle.turn_lock.specs.declared.turn.Turn.{Turn}
 use Rattle.sp_base.specs.Views.{LinkView, NetView}
 use Rattle.sp_history.specs.declared.entry.Entry.{Entry}
-use Rattle.sp_history.specs.declared.entry.Entry.TheVariants.{Up, Met, NoUp}
+use Rattle.sp_history.specs.declared.entry.Entry.TheVariants.{Up}
 use Rattle.sp_history.specs.declared.entry.WireName.{WireName}
 use Rattle.sp_history.specs.declared.setting.Setting.{Setting}
-use Rattle.sp_history.specs.Lists.{has, without}
+use Rattle.sp_history.specs.Lists.{has}
 use Rattle.sp_history.specs.Legal.{Legal}
-use Rattle.sp_history.specs.Past.{onto, past_of, up, ups, untaken}
-use Rattle.sp_history.proofs.Appending.{past_of-append}
+use Rattle.sp_history.specs.Past.{past_of, up, ups}
 use Rattle.sp_history.proofs.Backing.{legal_allowed}
 use Rattle.sp_core.specs.Standing.{HasFirst}
 use Rattle.sp_core.specs.Moving.{AreSettling}
@@ -18,9 +17,9 @@ use Rattle.sp_single.specs.Singles.{SingleView, TookOne}
 use Rattle.cat_play.specs.Recording.{lane_place, place_of, met_at, greeting}
 use Rattle.cat_play.specs.Spending.{has_room}
 use Rattle.sp_ends.specs.declared.newcomer.Newcomer.{Newcomer}
-use Rattle.sp_ends.specs.Standing.{Beginning, LinkEndsView, EndsStand, IsLaneName, IsNamed, IsSomewhere, LinksKept, LinksStand, NetStands}
+use Rattle.sp_ends.specs.Standing.{Beginning, EndsStand, IsLaneName, IsSomewhere, LinksKept, LinksStand, NetStands}
 use Rattle.sp_ends.specs.Calling.{KeepsLinks}
-use Rattle.sp_ends.proofs.Places.{has_at, met_inside, unmet_others, absent, no_lane}
+use Rattle.sp_ends.proofs.Places.{met_inside, unmet_others, absent, no_lane}
 use Rattle.sp_ends.proofs.Leaving.{IsHeld, grown, numbered}
 use Rattle.sp_ends.proofs.Keeping.{legal_rest}
 use Rattle.sp_ends.proofs.Standing.{are_progressing, net_same, ends_stay, settles}

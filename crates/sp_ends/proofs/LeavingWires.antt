@@ -8,7 +8,7 @@ use Rattle.sp_spec.specs.SpTcp.{hello, frames as frames_text, text, shows, IsOve
 use Rattle.sp_spec.proofs.Shows.{frames-append, frames-cons}
 use Rattle.sp_base.specs.Roles.{role_number}
 use Rattle.sp_base.specs.Views.{LinkView}
-use Rattle.sp_base.specs.Wires.{WireView, WireName, OverLink, OverLanes, scheme_number, number_of, numbers_of}
+use Rattle.sp_base.specs.Wires.{WireView, WireName, OverLink, scheme_number, number_of, numbers_of}
 use Rattle.sp_base.specs.declared.role.Role.{Role}
 use Rattle.sp_base.specs.declared.role.Role.TheVariants as roles
 use Rattle.sp_base.specs.declared.addr.Scheme.{Scheme}

@@ -17,9 +17,9 @@ use Rattle.sp_ends.specs.declared.newcomer.Newcomer.{Newcomer}
 use Rattle.sp_ends.specs.Dialing.{IsDialed, IsDialable}
 use Rattle.sp_ends.specs.Standing.{Beginning, LinkEndsView, NetStands, IsListener, sum_of, tries_of}
 use Rattle.sp_ends.specs.Freeing.{Frees}
-use Rattle.sp_ends.specs.Turning.{Quietly, IsDry, InTurn, SameEnds, IsSameDialer, AreSameDialers, AsksNet, AreYoung, AreWaitingBehind, HasAsked}
+use Rattle.sp_ends.specs.Turning.{Quietly, NoLane, IsDry, InTurn, SameEnds, IsSameDialer, AreSameDialers, AsksNet, asks_of, AsksUntilFull, AreYoung, AreWaitingBehind, HasAsked}
 use Rattle.sp_ends.proofs.Serving.{same_dialers, dialers_both, dialers_long, ends_none, ends_both}
-use Rattle.sp_ends.proofs.Turns.{quiet_both, quiet_none, quiet_ticks, quiet_before, quiet_where}
+use Rattle.sp_ends.proofs.Turns.{quiet_both, quiet_none, quiet_ticks, quiet_before, quiet_where, lanes_both, lanes_none}
 use Rattle.sp_ends.proofs.Freeing.{frees_none, frees_both}
 
 -- ---- The last tick
@@ -71,6 +71,31 @@ all_still same same' f past (d ∷ ds) [] s i = absurd s
 twice : (m n : ℕ) → m * (n + 1) ≡ m * n + m
 twice m n = grind arith
 
+-- ---- How much was asked
+
+module _ {L : Type 0} where
+  -- less
+  pub filled_less : (m n : ℕ) (old : LinkEndsView L) (net net' : NetView) → n ≤ m → AsksUntilFull m old net net' → AsksUntilFull n old net net'
+  filled_less m n old net net' less f = λ r s. go (f r s)
+    where
+      go : (asks_of net + m ≤ asks_of net') ⊎ (256 + net.opened ≤ length old.newcomers + net'.opened) → (asks_of net + n ≤ asks_of net') ⊎ (256 + net.opened ≤ length old.newcomers + net'.opened)
+      go (inl p) = inl (omega (arith, p, less))
+      go (inr p) = inr p
+
+  -- one after the other
+  pub filled_both : (m n : ℕ) (old mid : LinkEndsView L) (net net1 net2 : NetView) → length mid.newcomers + net.opened ≤ length old.newcomers + net1.opened → net1.opened ≤ net2.opened → net1.idles ≤ net2.idles → net1.faults ≤ net2.faults → AsksUntilFull m old net net1 → AsksUntilFull n mid net1 net2 → AsksUntilFull (m + n) old net net2
+  filled_both m n old mid net net1 net2 few opened idles faults f g = λ r s. go (f (omega (arith, r, idles)) (omega (arith, s, faults))) (g r s)
+    where
+      go : (asks_of net + m ≤ asks_of net1) ⊎ (256 + net.opened ≤ length old.newcomers + net1.opened) → (asks_of net1 + n ≤ asks_of net2) ⊎ (256 + net1.opened ≤ length mid.newcomers + net2.opened) → (asks_of net + (m + n) ≤ asks_of net2) ⊎ (256 + net.opened ≤ length old.newcomers + net2.opened)
+      go (inl p) (inl q) = inl (omega (arith, p, q))
+      go (inl p) (inr q) = inr (omega (arith, q, few))
+      go (inr p) q = inr (omega (arith, p, opened))
+
+  -- the last of them had no link, or failed
+  pub filled_last : (m : ℕ) (old mid : LinkEndsView L) (net net1 net2 : NetView) → length mid.newcomers + net.opened ≤ length old.newcomers + net1.opened → AsksNet net1 net2 → (CanRise net2.idles → CanRise net2.faults → asks_of net1 + 16 ≤ asks_of net2) → AsksUntilFull m old net net1 → AsksUntilFull 16 old net net2
+  filled_last m old mid net net1 net2 few asks none f =
+      filled_less (m + 16) 16 old net net2 (omega arith) (filled_both m 16 old mid net net1 net2 few asks.opened asks.idles asks.faults f (λ r s. inl (none r s)))
+
 -- ---- The listeners
 
 module _ {L : Type 0} (seen : L → LinkView) where
@@ -81,8 +106,10 @@ module _ {L : Type 0} (seen : L → LinkView) where
     dialers = same_dialers ends.dialers;
     frees = frees_none t net net ends.dialers ends.dialers (omega arith) refl refl;
     quietly = quiet_none a;
+    lanes = lanes_none a;
     dry = dry;
     few = omega arith;
+    held = λ n l o. o;
     listens = refl;
     opened = omega arith;
     handed = omega arith;
@@ -91,21 +118,24 @@ module _ {L : Type 0} (seen : L → LinkView) where
     idles = omega arith;
     faults = omega arith;
     rose = λ x y. inl (omega arith);
+    filled = λ x y. inl (omega arith);
   }
 
   -- one was asked once
   pub asked_one : (old new : LinkEndsView L) (net net' : NetView) (a b : SingleView) (t : ℕ) (e : Bool)
-      → ((start : Beginning) → InTurn seen start old net a t 0 → InTurn seen start new net' b t 0) → length new.newcomers + net.opened ≤ length old.newcomers + net'.opened → AsksNet net net' → AreSameDialers old.dialers new.dialers → Frees t net net' old.dialers new.dialers → Quietly a b → SameEnds old new → IsDry e b
-      → net'.opened ≤ net.opened + 1 → (AreYoung t 0 old.newcomers → AreYoung t 0 new.newcomers)
+      → ((start : Beginning) → InTurn seen start old net a t 0 → InTurn seen start new net' b t 0) → length new.newcomers + net.opened ≤ length old.newcomers + net'.opened → AsksNet net net' → AreSameDialers old.dialers new.dialers → Frees t net net' old.dialers new.dialers → Quietly a b → NoLane a b → SameEnds old new → IsDry e b
+      → net'.opened ≤ net.opened + 1 → length old.newcomers < 256 → (AreYoung t 0 old.newcomers → AreYoung t 0 new.newcomers)
       → ((first : List (Newcomer L)) (opened : ℕ) → opened ≤ net.opened → AreWaitingBehind seen first opened 0 old.newcomers → AreWaitingBehind seen first opened 0 new.newcomers) → HasAsked seen 1 1 old new net net' a b t e
-  asked_one old new net net' a b t e in_turn few asks dialers frees quietly same dry handed young waited = record {
+  asked_one old new net net' a b t e in_turn few asks dialers frees quietly lanes same dry handed room young waited = record {
     in_turn = in_turn;
     ends = same;
     dialers = dialers;
     frees = frees;
     quietly = quietly;
+    lanes = lanes;
     dry = dry;
     few = few;
+    held = λ n l o. omega (arith, few, handed, room, l);
     listens = asks.listens;
     opened = asks.opened;
     handed = handed;
@@ -114,6 +144,7 @@ module _ {L : Type 0} (seen : L → LinkView) where
     idles = asks.idles;
     faults = asks.faults;
     rose = λ x y. inl (asks.rose x y);
+    filled = λ x y. inl (let r = asks.rose x y in omega (arith, r, asks.idles, asks.faults, asks.opened));
   }
 
   pub asked_both : (i j m n : ℕ) (old mid new : LinkEndsView L) (net net1 net2 : NetView) (a b c : SingleView) (t : ℕ) (d e : Bool) → HasAsked seen i m old mid net net1 a b t d → HasAsked seen j n mid new net1 net2 b c t e → HasAsked seen (i + j) (m + n) old new net net2 a c t e
@@ -123,8 +154,10 @@ module _ {L : Type 0} (seen : L → LinkView) where
     dialers = dialers_both old.dialers mid.dialers new.dialers x.dialers y.dialers;
     frees = frees_both t net net1 net2 old.dialers mid.dialers new.dialers x.frees y.frees;
     quietly = quiet_both a b c x.quietly y.quietly;
+    lanes = lanes_both a b c x.lanes y.lanes;
     dry = y.dry;
     few = omega (arith, x.few, y.few);
+    held = λ n l o. y.held n l (x.held n l o);
     listens = y.listens ∙ x.listens;
     opened = omega (arith, x.opened, y.opened);
     handed = omega (arith, x.handed, y.handed);
@@ -133,6 +166,7 @@ module _ {L : Type 0} (seen : L → LinkView) where
     idles = omega (arith, x.idles, y.idles);
     faults = omega (arith, x.faults, y.faults);
     rose = λ r s. rose (x.rose (omega (arith, r, y.idles)) (omega (arith, s, y.faults))) (y.rose r s);
+    filled = filled_both m n old mid net net1 net2 x.few y.opened y.idles y.faults x.filled y.filled;
   }
     where
       rose : (sum_of net + i ≤ sum_of net1) ⊎ (256 + net.opened ≤ length old.newcomers + net1.opened) → (sum_of net1 + j ≤ sum_of net2) ⊎ (256 + net1.opened ≤ length mid.newcomers + net2.opened) → (sum_of net + (i + j) ≤ sum_of net2) ⊎ (256 + net.opened ≤ length old.newcomers + net2.opened)
@@ -141,15 +175,17 @@ module _ {L : Type 0} (seen : L → LinkView) where
       rose (inr p) q = inr (omega (arith, p, y.opened))
 
   -- the same, of fewer that were asked, and of more links
-  pub asked_as : (i j m n : ℕ) (old new : LinkEndsView L) (net net' : NetView) (a b : SingleView) (t : ℕ) (d : Bool) → j ≤ i → m ≤ n → HasAsked seen i m old new net net' a b t d → HasAsked seen j n old new net net' a b t d
-  asked_as i j m n old new net net' a b t d less more x = record {
+  pub asked_as : (i j m n : ℕ) (old new : LinkEndsView L) (net net' : NetView) (a b : SingleView) (t : ℕ) (d : Bool) → j ≤ i → m ≤ n → AsksUntilFull n old net net' → HasAsked seen i m old new net net' a b t d → HasAsked seen j n old new net net' a b t d
+  asked_as i j m n old new net net' a b t d less more filled x = record {
     in_turn = x.in_turn;
     ends = x.ends;
     dialers = x.dialers;
     frees = x.frees;
     quietly = x.quietly;
+    lanes = x.lanes;
     dry = x.dry;
     few = x.few;
+    held = x.held;
     listens = x.listens;
     opened = x.opened;
     handed = omega (arith, x.handed, more);
@@ -158,6 +194,7 @@ module _ {L : Type 0} (seen : L → LinkView) where
     idles = x.idles;
     faults = x.faults;
     rose = λ r s. rose (x.rose r s);
+    filled = filled;
   }
     where
       rose : (sum_of net + i ≤ sum_of net') ⊎ (256 + net.opened ≤ length old.newcomers + net'.opened) → (sum_of net + j ≤ sum_of net') ⊎ (256 + net.opened ≤ length old.newcomers + net'.opened)
@@ -172,8 +209,10 @@ module _ {L : Type 0} (seen : L → LinkView) where
     dialers = x.dialers;
     frees = x.frees;
     quietly = x.quietly;
+    lanes = x.lanes;
     dry = x.dry;
     few = x.few;
+    held = x.held;
     listens = x.listens;
     opened = x.opened;
     handed = omega (arith, x.handed, more);
@@ -182,6 +221,7 @@ module _ {L : Type 0} (seen : L → LinkView) where
     idles = x.idles;
     faults = x.faults;
     rose = λ r s. inr (omega (arith, full, x.few));
+    filled = λ r s. inr (omega (arith, full, x.few));
   }
 
   pub listens_still : (net net' : NetView) (xs : List Listener) → net'.listens ≡ net.listens → AllByRecursion (IsListener net) xs → AllByRecursion (IsListener net') xs

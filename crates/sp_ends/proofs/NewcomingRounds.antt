@@ -16,10 +16,10 @@ use Rattle.sp_ends.specs.Moments.{moment, IsDueAt, is_due_at, is_due}
 use Rattle.sp_ends.specs.Dialing.{IsDialed, IsDialable, next_from}
 use Rattle.sp_ends.specs.Standing.{Beginning, LinkEndsView, NetStands, IsListener, sum_of, tries_of}
 use Rattle.sp_ends.specs.Freeing.{IsDue, FreesOne, GotBack, Redials, KnowsLinks}
-use Rattle.sp_ends.specs.Turning.{Quietly, IsDry, InTurn, SameEnds, AreSameDialers, AsksNet, AsksDue, dues_of, DialsAt, AreYoung, AreWaitingBehind}
+use Rattle.sp_ends.specs.Turning.{Quietly, NoLane, IsDry, InTurn, SameEnds, AreSameDialers, AsksNet, AsksDue, dues_of, DialsAt, AreYoung, AreWaitingBehind}
 use Rattle.sp_ends.proofs.Places.{left_of, right_of}
 use Rattle.sp_ends.proofs.Serving.{same_dialers, dials_long, ends_none, ends_both}
-use Rattle.sp_ends.proofs.Turns.{quiet_both, quiet_none, quiet_ticks, quiet_where}
+use Rattle.sp_ends.proofs.Turns.{quiet_both, quiet_none, quiet_ticks, quiet_where, lanes_both, lanes_none}
 use Rattle.sp_ends.proofs.NewcomingAsks.{at_index, ticks_last, listens_still}
 use Rattle.sp_ends.proofs.NewcomingDials.{dials_tries}
 use Rattle.sp_ends.proofs.Freeing.{got_none, got_both, same_all, TurnedTo, turned_due, turned_not_due}
@@ -116,6 +116,8 @@ pub record Dialing {L : Type 0} (seen : L → LinkView) (i : ℕ) (old new : Lin
   pub in_turn : (start : Beginning) → InTurn seen start old net a t 0 → InTurn seen start new net' b t 0
   pub ends : SameEnds old new
   pub quietly : Quietly a b
+  pub lanes : NoLane a b
+  pub few : length new.newcomers ≤ length old.newcomers + i
   pub dry : IsDry is_dry b
   pub listens : net'.listens ≡ net.listens
   pub opened : net.opened ≤ net'.opened
@@ -137,6 +139,8 @@ module _ {L : Type 0} (seen : L → LinkView) where
     in_turn = λ start i. i;
     ends = ends_none ends;
     quietly = quiet_none a;
+    lanes = lanes_none a;
+    few = omega arith;
     dry = dry;
     listens = refl;
     opened = omega arith;
@@ -162,6 +166,8 @@ module _ {L : Type 0} (seen : L → LinkView) where
       in_turn = was.in_turn;
       ends = was.ends;
       quietly = was.quietly;
+      lanes = was.lanes;
+      few = omega (arith, was.few);
       dry = was.dry;
       listens = was.listens;
       opened = was.opened;
@@ -179,13 +185,15 @@ module _ {L : Type 0} (seen : L → LinkView) where
     }
 
     pub dialing_next : (new : LinkEndsView L) (net2 : NetView) (c : SingleView) (e : Bool) → ((q : Dialer) → slice_get mid.dialers i ≡ Some q → IsDue t q)
-        → ((start : Beginning) → InTurn seen start mid net1 b t 0 → InTurn seen start new net2 c t 0) → AsksNet net1 net2 → DialsAt i t net1 net2 mid.dialers new.dialers → Redials i t net1 net2 mid.dialers new.dialers → Quietly b c → SameEnds mid new → IsDry e c
+        → ((start : Beginning) → InTurn seen start mid net1 b t 0 → InTurn seen start new net2 c t 0) → AsksNet net1 net2 → DialsAt i t net1 net2 mid.dialers new.dialers → Redials i t net1 net2 mid.dialers new.dialers → Quietly b c → NoLane b c → length new.newcomers ≤ length mid.newcomers + 1 → SameEnds mid new → IsDry e c
         → KnowsLinks net1.opened net2 new.dialers → (AreYoung t 0 mid.newcomers → AreYoung t 0 new.newcomers)
         → ((first : List (Newcomer L)) (opened : ℕ) → opened ≤ net1.opened → AreWaitingBehind seen first opened 0 mid.newcomers → AreWaitingBehind seen first opened 0 new.newcomers) → Dialing seen (i + 1) old new net net2 a c t e
-    dialing_next new net2 c e due in_turn asks dials redials quietly same dry known young waited = record {
+    dialing_next new net2 c e due in_turn asks dials redials quietly lanes few same dry known young waited = record {
       in_turn = λ start x. in_turn start (was.in_turn start x);
       ends = ends_both old mid new was.ends same;
       quietly = quiet_both a b c was.quietly quietly;
+      lanes = lanes_both a b c was.lanes lanes;
+      few = omega (arith, was.few, few);
       dry = dry;
       listens = asks.listens ∙ was.listens;
       opened = omega (arith, asks.opened, was.opened);

@@ -20,15 +20,18 @@ use Rattle.sp_base.specs.declared.addr.Scheme.{Scheme}
 use Rattle.sp_history.specs.declared.entry.Miss.TheVariants as misses
 use Rattle.cat_play.specs.Recording.{met_at}
 use Rattle.sp_ends.specs.Standing.{Beginning, LinkEndsView, IsOfRun, IsCauseOf, LinksKept, LinksStand, HandStands}
-use Rattle.sp_ends.specs.Turning.{Quietly, InTurn, InTurnWith, IsNewcomer, Arrives}
+use Rattle.sp_ends.specs.Turning.{Quietly, NoLane, InTurn, InTurnWith, IsNewcomer, Arrives}
 use Rattle.sp_ends.proofs.Hands.{link_met, met_then, hand_first}
-use Rattle.sp_ends.proofs.Turns.{first_play, quiet_one, quiet_now, quiet_ticks, sound_one, dry_first, after_one}
+use Rattle.sp_ends.proofs.Turns.{first_play, quiet_one, quiet_now, quiet_ticks, lane_first, lanes_one, sound_one, dry_first, after_one}
 
 abbrev pub MeetsAt : ℕ → Setting → List (Turn Entry) → Turn Entry → Type 0
 MeetsAt place z h t = HasFirst (Met place) t
 
 pub meets_quiet : (place : ℕ) (a b : SingleView) → TookOne (MeetsAt place) a b → Quietly a b
 meets_quiet place a b took = quiet_one (MeetsAt place) a b took (first_play (Met place) took.turn took.said refl)
+
+pub meets_lanes : (place : ℕ) (a b : SingleView) → TookOne (MeetsAt place) a b → NoLane a b
+meets_lanes place a b took = lanes_one (MeetsAt place) a b took (lane_first (Met place) took.turn took.said refl)
 
 pub meets_dry : (place : ℕ) (a b : SingleView) → TookOne (MeetsAt place) a b → has_dry_miss (past_of b.seen) ≡ has_dry_miss (past_of a.seen)
 meets_dry place a b took = dry_first (Met place) (MeetsAt place) a b took took.said

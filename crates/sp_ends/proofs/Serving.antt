@@ -29,7 +29,7 @@ use Rattle.sp_ends.proofs.Leaving.{has_other}
 use Rattle.sp_ends.proofs.Standing.{settles, links_stay, are_progressing}
 use Rattle.sp_ends.proofs.Stepping.{greeting_after, met_after, greeting_ticks_after}
 use Rattle.sp_ends.proofs.Moves.{kept_taken, kept_lane_taken}
-use Rattle.sp_ends.proofs.Turns.{quiet_both, quiet_none, quiet_now, quiet_ticks, after_one}
+use Rattle.sp_ends.proofs.Turns.{quiet_both, quiet_none, quiet_now, quiet_ticks, lanes_both, lanes_none, after_one}
 
 -- ---- The same ends
 
@@ -159,7 +159,7 @@ module _ {L : Type 0} where
 
   pub serves_both : (a b c : LinkEndsView L) (n m o : NetView) (s t u : SingleView) → Serves a b n m s t → Serves b c m o t u → Serves a c n o s u
   serves_both a b c n m o s t u x y =
-      record { ends = ends_both a b c x.ends y.ends; dialers = dialers_both a.dialers b.dialers c.dialers x.dialers y.dialers; counts = counts_both n m o x.counts y.counts; quietly = quiet_both s t u x.quietly y.quietly }
+      record { ends = ends_both a b c x.ends y.ends; dialers = dialers_both a.dialers b.dialers c.dialers x.dialers y.dialers; counts = counts_both n m o x.counts y.counts; quietly = quiet_both s t u x.quietly y.quietly; lanes = lanes_both s t u x.lanes y.lanes }
 
   -- ---- On in the turn
 
@@ -204,4 +204,4 @@ module _ {L : Type 0} where
   -- some newcomers less
   pub serves_less : (old new : LinkEndsView L) (net : NetView) (s : SingleView) (rest : List (Newcomer L)) → new ≡ record old { newcomers = rest } → Serves old new net net s s
   serves_less old new net s rest is =
-      subst (λ (e : LinkEndsView L). Serves old e net net s s) (sym is) (record { ends = record { role = refl; dice = refl; listeners = refl; dials = refl }; dialers = same_dialers old.dialers; counts = counts_none net; quietly = quiet_none s })
+      subst (λ (e : LinkEndsView L). Serves old e net net s s) (sym is) (record { ends = record { role = refl; dice = refl; listeners = refl; dials = refl }; dialers = same_dialers old.dialers; counts = counts_none net; quietly = quiet_none s; lanes = lanes_none s })

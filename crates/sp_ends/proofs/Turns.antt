@@ -1,12 +1,13 @@
 -- What a socket's turns tell of the links.
-use Rattle.std.proofs.Common.{◌≡◌, refl, ap, sym, ◌∙◌, subst, List, [], ◌∷◌, ◌++◌, ℕ, ◌<◌, Bool, true, false, append_assoc, append-nil}
-use Rattle.std.specs.Prelude.{◌||◌}
+use Rattle.std.proofs.Common.{◌≡◌, refl, ap, sym, ◌∙◌, subst, List, [], ◌∷◌, ◌++◌, ℕ, ◌<◌, Bool, true, false, append_assoc, append-nil, arith}
+use Rattle.std.specs.Prelude.{◌||◌, ◌==◌}
+use Rattle.std.proofs.lemmas.Bool.{ne_eqb}
 use Rattle.std.specs.List.{list_all}
 use Rattle.turn_lock.specs.declared.turn.Turn.{Turn}
 use Rattle.sp_base.specs.Views.{LinkView, NetView}
 use Rattle.sp_base.specs.Steps.{AfterGiveBack}
 use Rattle.sp_history.specs.declared.entry.Entry.{Entry}
-use Rattle.sp_history.specs.declared.entry.Entry.TheVariants.{NoUp, Tick, Down, Out, Full, End, Dry}
+use Rattle.sp_history.specs.declared.entry.Entry.TheVariants.{Up, NoUp, Tick, Down, Out, Full, End, Dry}
 use Rattle.sp_history.specs.declared.entry.Miss.{Miss}
 use Rattle.sp_history.specs.declared.entry.Miss.TheVariants as misses
 use Rattle.sp_history.specs.declared.setting.Setting.{Setting}
@@ -18,15 +19,16 @@ use Rattle.sp_history.proofs.Appending.{past_of-append}
 use Rattle.sp_core.specs.Moving.{AreSettling, IsSettling}
 use Rattle.sp_core.specs.Standing.{HasFirst}
 use Rattle.sp_single.specs.Singles.{SingleView, TookOne}
+use Rattle.cat_play.specs.Recording.{lane_place}
 use Rattle.cat_play.specs.Running.{has_dry_miss}
 use Rattle.cat_play.specs.Spending.{ticks_where}
 use Rattle.cat_play.specs.Steps.{AddsNone, moves_play, moves_ends}
 use Rattle.sp_ends.specs.declared.newcomer.Newcomer.{Newcomer}
 use Rattle.sp_ends.specs.Standing.{Beginning, LinksStand, HandStands, IsCauseOf}
-use Rattle.sp_ends.specs.Turning.{Quietly, IsSound, IsNow, is_dry_for}
+use Rattle.sp_ends.specs.Turning.{Quietly, IsSound, IsNow, NoLane, is_lane, is_dry_for}
 use Rattle.sp_ends.proofs.Places.{left_of, right_of, inside}
 use Rattle.sp_ends.proofs.Leaving.{past_of_more, turns_leave, entries_leave}
-use Rattle.sp_ends.proofs.Standing.{same_dry, settles}
+use Rattle.sp_ends.proofs.Standing.{same_dry, settles, none_sub}
 use Rattle.sp_ends.proofs.Hands.{hand_waits, hand_missed}
 
 -- ---- Quiet turns
@@ -66,6 +68,27 @@ quiet_one says a b k n = record { setting = k.setting; silent = (k.turn ∷ [], 
 
 pub sound_one : (says : Setting → List (Turn Entry) → Turn Entry → Type 0) (a b : SingleView) → TookOne says a b → IsSound b
 sound_one says a b k = record { legal = k.legal; settled = k.settled }
+
+-- ---- Turns in which no lane comes up
+
+lanes_of : (e : Entry) → moves_ends e ≡ false → is_lane e ≡ false
+lanes_of (Up p place name) h = cc
+lanes_of _ h = refl
+
+pub lane_settles : (entries : List Entry) → AreSettling entries → none_of is_lane entries ≡ true
+lane_settles entries h = none_sub moves_ends is_lane lanes_of entries (settles entries h)
+
+pub lane_first : (e : Entry) (t : Turn Entry) → HasFirst e t → is_lane e ≡ false → none_of is_lane t.entries ≡ true
+lane_first e t first n = rw first.entries (rw (n, lane_settles first.late first.late_settles) refl)
+
+pub lanes_both : (a b c : SingleView) → NoLane a b → NoLane b c → NoLane a c
+lanes_both a b c x y = adds_both is_lane a.seen b.seen c.seen x y
+
+pub lanes_none : (a : SingleView) → NoLane a a
+lanes_none a = ([], sym (append-nil a.seen), refl)
+
+pub lanes_one : (says : Setting → List (Turn Entry) → Turn Entry → Type 0) (a b : SingleView) (k : TookOne says a b) → none_of is_lane k.turn.entries ≡ true → NoLane a b
+lanes_one says a b k n = (k.turn ∷ [], k.seen, rw n refl)
 
 -- quiet turns leave what ticks alone change
 quiet_leaves : {A : Type 0} (f : List Entry → A) → ((e : Entry) (past : List Entry) → moves_play e ≡ false → f (e ∷ past) ≡ f past) → (a b : SingleView) → Quietly a b → f (past_of b.seen) ≡ f (past_of a.seen)
@@ -132,6 +155,9 @@ after_one says a b k Fact f =
     let legal : Legal a.setting (a.seen ++ k.turn ∷ []) = subst (λ (z : Setting). Legal z (a.seen ++ k.turn ∷ [])) k.setting (subst (λ (h : List (Turn Entry)). Legal b.setting h) k.seen k.legal) in
     subst (λ (h : List (Turn Entry)). Fact b.setting h) (sym k.seen) (subst (λ (z : Setting). Fact z (a.seen ++ k.turn ∷ [])) (sym k.setting) (f legal))
 
+pub missed_lanes : (place : ℕ) (miss : Miss) (a b : SingleView) → TookOne (MissesAt place miss) a b → NoLane a b
+missed_lanes place miss a b k = lanes_one (MissesAt place miss) a b k (lane_first (NoUp place miss) k.turn k.said refl)
+
 module _ {L : Type 0} (seen : L → LinkView) (start : Beginning) (ns : List (Newcomer L)) (k : ℕ) where
   -- one that was missed
   pub missed_stands : (a b : SingleView) (net net' : NetView) (link : LinkView) (place : ℕ) (miss : Miss) → place ≡ link.place → TookOne (MissesAt place miss) a b → AfterGiveBack (record link { is_open = false }) net net' → IsCauseOf start.origins a.setting a.seen miss link → HandStands seen a.setting start a.seen net ns k link → LinksStand seen b.setting start b.seen net' ns k
@@ -141,3 +167,9 @@ module _ {L : Type 0} (seen : L → LinkView) (start : Beginning) (ns : List (Ne
 -- a link in hand is one that the net handed out
 pub hand_opened : {L : Type 0} (seen : L → LinkView) (z : Setting) (h : List (Turn Entry)) (net : NetView) (link : LinkView) → (start : Beginning) × (ns : List (Newcomer L)) × (k : ℕ) × HandStands seen z start h net ns k link → link.place < net.opened
 hand_opened seen z h net link (start, ns, k, s) = (inside start.net.opened net.opened (past_of h) link.place s.kept.in_place (hand_waits seen z start h ns k link s.hand)).1
+
+-- so its place isn't that of lanes
+pub hand_linked : {L : Type 0} (seen : L → LinkView) (z : Setting) (h : List (Turn Entry)) (net : NetView) (link : LinkView) → (start : Beginning) × (ns : List (Newcomer L)) × (k : ℕ) × HandStands seen z start h net ns k link → (link.place == lane_place) ≡ false
+hand_linked seen z h net link (start, ns, k, s) =
+    let b = inside start.net.opened net.opened (past_of h) link.place s.kept.in_place (hand_waits seen z start h ns k link s.hand) in
+    let few = s.kept.few (omega (arith, b.0, b.1)) in ne_eqb link.place lane_place (λ same. absurd (omega (arith, b.1, few, same)))

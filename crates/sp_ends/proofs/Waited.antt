@@ -1,10 +1,11 @@
 -- Each link that stays brought nothing or took nothing once.
-use Rattle.std.proofs.Common.{◌≡◌, ◌≤◌, ◌+◌, ◌++◌, ◌∷◌, ℕ, zero, suc, List, [], length, refl, sym, subst, arith, inl, inr, take, drop, length-append}
+use Rattle.std.proofs.Common.{◌≡◌, ◌≤◌, ◌++◌, ◌∷◌, ℕ, zero, suc, List, [], length, refl, sym, subst, arith, inl, inr, take, drop, length-append}
 use Rattle.std.specs.Prelude.{◌⊎◌}
 use Rattle.std.specs.List.{AllByRecursion}
 use Rattle.std.proofs.lemmas.List.{drop_all, take-append-le, drop-append-le}
 use Rattle.sp_spec.specs.Outside.{Rose}
 use Rattle.sp_base.specs.Views.{LinkView}
+use Rattle.link_opening.specs.Going.{WaitsFor}
 use Rattle.sp_ends.specs.declared.newcomer.Newcomer.{Newcomer}
 use Rattle.sp_ends.specs.declared.turn.Fate.{Fate}
 use Rattle.sp_ends.specs.declared.turn.Fate.TheVariants as fates
@@ -28,9 +29,9 @@ module _ {L : Type 0} (seen : L → LinkView) where
   waited_since first opened m n (inl one) w = inl (m, one, w)
   waited_since first opened m n (inr new) w = inr (let p = w.place in omega (arith, p, new), once w.waited)
     where
-      once : Rose (seen m.opening.link).idles (seen n.opening.link).idles ⊎ Rose (seen m.opening.link).stalls (seen n.opening.link).stalls → (1 ≤ (seen n.opening.link).idles) ⊎ (1 ≤ (seen n.opening.link).stalls)
-      once (inl r) = inl (rose_once _ _ r)
-      once (inr r) = inr (rose_once _ _ r)
+      once : WaitsFor seen (seen m.opening.link) n.opening → (1 ≤ (seen n.opening.link).idles) ⊎ (1 ≤ (seen n.opening.link).stalls)
+      once (inl (few, r)) = inr (rose_once _ _ r)
+      once (inr (all, r)) = inl (rose_once _ _ r)
 
   -- one more behind them
   pub waiting_more : (first : List (Newcomer L)) (opened k : ℕ) (ns : List (Newcomer L)) (n : Newcomer L) → HasWaitedSince seen first opened n → AreWaitingBehind seen first opened k ns → AreWaitingBehind seen first opened k (ns ++ n ∷ [])

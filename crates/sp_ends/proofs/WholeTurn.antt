@@ -1,5 +1,6 @@
 -- The parts of a turn of the ends, put together.
-use Rattle.std.proofs.Common.{◌≡◌, ◌≤◌, ◌+◌, ◌*◌, ℕ, Bool, true, List, [], ◌∷◌, length, refl, sym, ap, subst, ◌∙◌, arith}
+use Rattle.std.proofs.Common.{◌≡◌, ◌≤◌, ◌+◌, ◌*◌, ℕ, Bool, true, List, length, refl, sym, ap, subst, ◌∙◌, arith, inl, inr}
+use Rattle.std.specs.Prelude.{◌⊎◌}
 use Rattle.std.specs.FinMap.{get}
 use Rattle.sp_base.specs.Views.{LinkView, NetView}
 use Rattle.sp_history.specs.declared.entry.Entry.{Entry}
@@ -12,10 +13,10 @@ use Rattle.sp_ends.specs.declared.listener.Listener.{Listener}
 use Rattle.sp_ends.specs.declared.dialer.Dialer.{Dialer}
 use Rattle.sp_ends.specs.Standing.{Beginning, LinkEndsView, NetStands, EndsStand, IsListener, SameCounts, sum_of, tries_of}
 use Rattle.sp_ends.specs.Freeing.{Frees}
-use Rattle.sp_ends.specs.Turning.{EndsTicked, Quietly, IsNow, IsSound, SameEnds, AreSameDialers, InTurn, Serves, HasAsked, AsksDue, AsksAll, dues_of}
+use Rattle.sp_ends.specs.Turning.{EndsTicked, Quietly, IsNow, IsSound, SameEnds, AreSameDialers, InTurn, Serves, HasAsked, dues_of, asks_of, AsksDue, AsksAll, AsksEach}
 use Rattle.sp_ends.proofs.Standing.{all_mapped}
 use Rattle.sp_ends.proofs.Serving.{dialers_long, ends_none, same_dialers, counts_none, serves_both}
-use Rattle.sp_ends.proofs.Turns.{quiet_before, quiet_none}
+use Rattle.sp_ends.proofs.Turns.{quiet_before, quiet_none, lanes_none}
 use Rattle.sp_ends.proofs.Freeing.{frees_none, frees_both}
 use Rattle.sp_ends.proofs.NewcomingAsks.{all_still, same_tries, rose_all}
 use Rattle.sp_ends.proofs.NewcomingRounds.{dues_same}
@@ -67,7 +68,7 @@ module _ {L : Type 0} (seen : L → LinkView) (first : LinkEndsView L) (net : Ne
         in_turn = λ start i. i;
         few = omega arith;
         newcomers = refl;
-        serves = record { ends = ends_none first; dialers = same_dialers first.dialers; counts = counts_none net; quietly = quiet_none s };
+        serves = record { ends = ends_none first; dialers = same_dialers first.dialers; counts = counts_none net; quietly = quiet_none s; lanes = lanes_none s };
         frees = frees_none now net net first.dialers first.dialers (omega arith) refl refl;
         dry = refl;
       }
@@ -109,6 +110,29 @@ asks_all seen now most a b c n m o p s t d few same dialers counts less asked id
     let y = dues_same now b.dialers c.dialers asked.dialers in
     omega (arith, first, last, l, x, y, counts.idles, counts.faults, counts.opened)
 
+-- each listener was asked until it had no link, failed or had brought 16
+pub asks_each : {L : Type 0} (seen : L → LinkView) (now : ℕ) (a b c : LinkEndsView L) (n m o p : NetView) (s t : SingleView) (d : Bool) → SameEnds a b → AreSameDialers a.dialers b.dialers → SameCounts n m → length b.newcomers ≤ length a.newcomers → HasAsked seen (length b.listeners) (16 * length b.listeners) b c m o s t now d → o.idles ≤ p.idles → o.faults ≤ p.faults → o.opened ≤ p.opened → AsksDue now c.dialers o p → AsksEach now a n p
+asks_each seen now a b c n m o p s t d same dialers counts less asked idles faults opened due i f = go (asked.filled (omega (arith, i, idles)) (omega (arith, f, faults))) (due i f)
+  where
+    go : (asks_of m + 16 * length b.listeners ≤ asks_of o) ⊎ (256 + m.opened ≤ length b.newcomers + o.opened) → sum_of o + dues_of now c.dialers ≤ sum_of p → (asks_of n + (16 * length a.listeners + dues_of now a.dialers) ≤ asks_of p) ⊎ (256 + n.opened ≤ length a.newcomers + p.opened)
+    go (inl q) r =
+        let l = ap length same.listeners in
+        let x = dues_same now a.dialers b.dialers dialers in
+        let y = dues_same now b.dialers c.dialers asked.dialers in
+        inl (omega (arith, q, r, l, x, y, idles, faults, counts.idles, counts.faults, counts.opened))
+    go (inr q) r = inr (omega (arith, q, less, opened, counts.opened))
+
+-- each dialer that is due after the listeners were asked was due before
+pub dues_asked : {L : Type 0} (seen : L → LinkView) (now i most : ℕ) (b c : LinkEndsView L) (m o p : NetView) (s t : SingleView) (d : Bool) → HasAsked seen i most b c m o s t now d → AsksDue now c.dialers o p → AsksDue now b.dialers m p
+dues_asked seen now i most b c m o p s t d asked due r f =
+    let q = due r f in
+    let x = dues_same now b.dialers c.dialers asked.dialers in omega (arith, q, x, asked.idles, asked.faults, asked.opened)
+
+pub dues_taken : (now : ℕ) (ds es : List Dialer) (n m p : NetView) → AreSameDialers ds es → SameCounts n m → AsksDue now es m p → AsksDue now ds n p
+dues_taken now ds es n m p same counts due i f =
+    let q = due i f in
+    let x = dues_same now ds es same in omega (arith, q, x, counts.idles, counts.faults, counts.opened)
+
 -- first some wires were taken
 pub asks_taken : {L : Type 0} (now : ℕ) (a b : LinkEndsView L) (n m p : NetView) (s t : SingleView) → Serves a b n m s t → length b.newcomers ≤ length a.newcomers → AsksAll now b m p → AsksAll now a n p
 asks_taken now a b n m p s t v less asked room i f =
@@ -116,3 +140,13 @@ asks_taken now a b n m p s t v less asked room i f =
     let l = ap length v.ends.listeners in
     let x = dues_same now a.dialers b.dialers v.dialers in
     let c = v.counts in omega (arith, r, l, x, c.idles, c.faults, c.opened)
+
+pub each_taken : {L : Type 0} (now : ℕ) (a b : LinkEndsView L) (n m p : NetView) (s t : SingleView) → Serves a b n m s t → length b.newcomers ≤ length a.newcomers → AsksEach now b m p → AsksEach now a n p
+each_taken now a b n m p s t v less each i f = go (each i f)
+  where
+    go : (asks_of m + (16 * length b.listeners + dues_of now b.dialers) ≤ asks_of p) ⊎ (256 + m.opened ≤ length b.newcomers + p.opened) → (asks_of n + (16 * length a.listeners + dues_of now a.dialers) ≤ asks_of p) ⊎ (256 + n.opened ≤ length a.newcomers + p.opened)
+    go (inl q) =
+        let l = ap length v.ends.listeners in
+        let x = dues_same now a.dialers b.dialers v.dialers in
+        let c = v.counts in inl (omega (arith, q, l, x, c.idles, c.faults, c.opened))
+    go (inr q) = let c = v.counts in inr (omega (arith, q, less, c.opened))

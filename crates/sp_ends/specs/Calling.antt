@@ -3,16 +3,19 @@ use Rattle.std.specs.List.{AllByRecursion}
 use Rattle.std.specs.Prelude.{◌≡◌, ◌≤◌, ◌<◌, ◌+◌, ◌*◌, ◌++◌, ◌⊎◌, ℕ, ⊤, true, false, List, [], ◌∷◌, length, slice_get, slice_set, Result, Ok, Err, Option, Some, None}
 use Rattle.turn_lock.specs.declared.turn.Turn.{Turn}
 use Rattle.sp_base.specs.Views.{LinkView, NetView}
+use Rattle.sp_base.specs.declared.role.Role.{Role}
 use Rattle.sp_history.specs.declared.entry.Entry.{Entry}
 use Rattle.sp_history.specs.Lists.{has}
 use Rattle.sp_history.specs.Past.{past_of, up, ups, untaken}
 use Rattle.sp_core.specs.declared.attach.AttachError.{AttachError}
 use Rattle.sp_core.specs.Attaching.{RefusedAttach}
-use Rattle.sp_lane.specs.Registry.{ListenerView, Registry, names}
+use Rattle.sp_lane.specs.LaneWires.{LaneWireView}
+use Rattle.sp_lane.specs.Registry.{ListenerView, Registry, Dials, names}
+use Rattle.sp_lane.specs.declared.inproc.InprocError.{InprocError}
 use Rattle.sp_single.specs.Singles.{SingleView}
 use Rattle.cat_play.specs.Recording.{lane_place, place_of}
 use Rattle.cat_play.specs.Running.{has_dry_miss}
-use Rattle.sp_ends.specs.Turning.{Quietly, IsSound}
+use Rattle.sp_ends.specs.Turning.{Quietly, IsSound, NoLane}
 use Rattle.sp_ends.specs.Moments.{moment, IsDueAt}
 use Rattle.sp_ends.specs.Standing.{Beginning, LinkEndsView, EndsStand}
 use Rattle.sp_ends.specs.declared.caller.Caller.{Caller}
@@ -74,10 +77,6 @@ TakesCallers now s s' [] [] = ⊤
 TakesCallers now s s' (c ∷ cs) (d ∷ ds) = TakesCaller now s s' c d × TakesCallers now s s' cs ds
 TakesCallers now s s' _ _ = ⊥
 
--- the caller at this place dialed, and the others are the same
-abbrev pub CallsAt : ℕ → ℕ → SingleView → SingleView → List Caller → List Caller → Type 0
-CallsAt i now s s' old new = (c : Caller) × (d : Caller) × (slice_get old i ≡ Some c) × HasCalled now s s' c d × (new ≡ slice_set old i d)
-
 -- one that is due dialed; any other is the same
 abbrev pub CallsOne : ℕ → SingleView → SingleView → Caller → Caller → Type 0
 CallsOne now s s' old new = (IsDueCaller now old × HasCalled now s s' old new) ⊎ ((IsDueCaller now old → ⊥) × (new ≡ old))
@@ -97,11 +96,73 @@ TurnsCallers now s s' [] [] = ⊤
 TurnsCallers now s s' (c ∷ cs) (d ∷ ds) = TurnsCaller now s s' c d × TurnsCallers now s s' cs ds
 TurnsCallers now s s' _ _ = ⊥
 
--- ---- Lanes
+-- ---- The history goes on
 
 -- the second history begins with the first
 abbrev pub Begins : List (Turn Entry) → List (Turn Entry) → Type 0
 Begins early late = (rest : List (Turn Entry)) × (late ≡ early ++ rest)
+
+-- the history goes on, and what is known of its pipes stays
+pub record GoesOn (s s' : SingleView) : Type 0 where
+  pub quietly : Quietly s s'
+  pub sound : IsSound s → IsSound s'
+  pub dry : has_dry_miss (past_of s'.seen) ≡ has_dry_miss (past_of s.seen)
+  pub begins : Begins s.seen s'.seen
+  pub ups : ups (past_of s.seen) ≤ ups (past_of s'.seen)
+  pub places : (p place : ℕ) → place_of (past_of s.seen) p ≡ Some place → place_of (past_of s'.seen) p ≡ Some place
+
+-- all that stands on the ends over links stays
+abbrev pub KeepsLinks : {L : Type 0} → (L → LinkView) → SingleView → SingleView → Type 0
+KeepsLinks {L} seen s s' =
+    (start : Beginning) (net : NetView) (ends : LinkEndsView L) → EndsStand seen s.setting start s.seen net ends → EndsStand seen s'.setting start s'.seen net ends
+
+-- ---- Lanes
+
+-- a lane came up, as the next pipe and no other; or attach refused it, and no pipe came up
+abbrev pub CameUp : Option ℕ → SingleView → SingleView → Type 0
+CameUp (Some p) s s' = IsNewLane s s' p × (p ≡ ups (past_of s'.seen)) × (ups (past_of s'.seen) ≡ ups (past_of s.seen) + 1)
+CameUp None s s' = (ups (past_of s'.seen) ≡ ups (past_of s.seen)) × ((why : AttachError) × RefusedAttach why s.setting (past_of s.seen))
+
+-- a pipe that is new, or none
+abbrev pub HasNewLane : Option ℕ → SingleView → SingleView → Type 0
+HasNewLane (Some p) s s' = IsNewLane s s' p
+HasNewLane None s s' = ⊤
+
+-- ---- Names that are dialed
+
+-- the name was dialed in this role, and its lane went to attach
+pub record DialsLane (name : List ℕ) (role : Role) (pipe : Option ℕ) (s s' : SingleView) (reg reg' : Registry) : Type 0 where
+  pub wire : LaneWireView
+  pub dials : Dials name role (Ok wire) reg reg'
+  pub on : GoesOn s s'
+  pub came : CameUp pipe s s'
+
+-- it was refused: nobody listens, or not in the peer's role, or out of memory
+abbrev pub IsRefusedDial : List ℕ → Role → SingleView → SingleView → Registry → Registry → Type 0
+IsRefusedDial name role s s' reg reg' = (why : InprocError) × Dials name role (Err why) reg reg' × (s' ≡ s)
+
+-- the name was dialed, and this is the pipe that it brought
+abbrev pub TriesName : List ℕ → Role → Option ℕ → SingleView → SingleView → Registry → Registry → Type 0
+TriesName name role (Some p) s s' reg reg' = DialsLane name role (Some p) s s' reg reg'
+TriesName name role None s s' reg reg' = DialsLane name role None s s' reg reg' ⊎ IsRefusedDial name role s s' reg reg'
+
+-- the caller at this place dialed, and the others are the same
+abbrev pub CallsAt : ℕ → ℕ → Role → SingleView → SingleView → Registry → Registry → List Caller → List Caller → Type 0
+CallsAt i now role s s' reg reg' old new =
+    (c : Caller) × (d : Caller) × (slice_get old i ≡ Some c) × HasCalled now s s' c d × TriesName c.name role d.pipe s s' reg reg' × (new ≡ slice_set old i d)
+
+-- one that is due dialed, and has the pipe that this brought; for any other nothing was done
+abbrev pub DialsIfDue : ℕ → Role → SingleView → SingleView → Registry → Registry → Caller → Caller → Type 0
+DialsIfDue now role s s' reg reg' old new =
+    (IsDueCaller now old × TriesName old.name role new.pipe s s' reg reg') ⊎ ((IsDueCaller now old → ⊥) × (s' ≡ s) × (reg' ≡ reg))
+
+-- one after the other: between these nothing else was done with the socket or the names
+abbrev pub DialsDue : ℕ → Role → SingleView → SingleView → Registry → Registry → List Caller → List Caller → Type 0
+DialsDue now role s s' reg reg' [] [] = (s' ≡ s) × (reg' ≡ reg)
+DialsDue now role s s' reg reg' (c ∷ cs) (d ∷ ds) = (mid : SingleView) × (r : Registry) × DialsIfDue now role s mid reg r c d × DialsDue now role mid s' r reg' cs ds
+DialsDue now role s s' reg reg' _ _ = ⊥
+
+-- ---- Lanes that are accepted
 
 -- at a moment between these attach would have been refused so
 abbrev pub WasRefusedLane : SingleView → SingleView → AttachError → Type 0
@@ -113,24 +174,30 @@ AreAttached s s' below [] = ⊤
 AreAttached s s' below (Ok p ∷ rest) = (p < below) × IsNewLane s s' p × AreAttached s s' p rest
 AreAttached s s' below (Err why ∷ rest) = WasRefusedLane s s' why × AreAttached s s' below rest
 
+-- how many of them are pipes
+abbrev pub pipes_of : List (Result ℕ AttachError) → ℕ
+pipes_of [] = 0
+pipes_of (Ok p ∷ rest) = pipes_of rest + 1
+pipes_of (Err why ∷ rest) = pipes_of rest
+
 -- how many halves were dialed and not accepted
 abbrev pub halves_of : Registry → ℕ
 halves_of [] = 0
 halves_of (l ∷ rest) = length l.halves + halves_of rest
 
--- after so many more were dialed, it brought all halves that it had, or 16
-abbrev pub HasBrought : ℕ → ListenerView → ListenerView → Type 0
-HasBrought dialed old new = (new.halves ≡ []) ⊎ (length new.halves + 16 ≤ length old.halves + dialed)
+-- it brought all halves that it had, or 16
+abbrev pub HasBrought : ListenerView → ListenerView → Type 0
+HasBrought old new = (new.halves ≡ []) ⊎ (length new.halves + 16 ≤ length old.halves)
 
 -- the first with this name did
-abbrev pub Brings : List ℕ → ℕ → Registry → Registry → Type 0
-Brings name dialed [] reg' = ⊤
-Brings name dialed (l ∷ reg) [] = ⊥
-Brings name dialed (l ∷ reg) (l' ∷ reg') = (l.name ≡ name → HasBrought dialed l l') × ((l.name ≡ name → ⊥) → Brings name dialed reg reg')
+abbrev pub Brings : List ℕ → Registry → Registry → Type 0
+Brings name [] reg' = ⊤
+Brings name (l ∷ reg) [] = ⊥
+Brings name (l ∷ reg) (l' ∷ reg') = (l.name ≡ name → HasBrought l l') × ((l.name ≡ name → ⊥) → Brings name reg reg')
 
 -- each of these names did
-abbrev pub AllBring : List (List ℕ) → ℕ → Registry → Registry → Type 0
-AllBring listened dialed reg reg' = AllByRecursion (λ name. Brings name dialed reg reg') listened
+abbrev pub AllBring : List (List ℕ) → Registry → Registry → Type 0
+AllBring listened reg reg' = AllByRecursion (λ name. Brings name reg reg') listened
 
 -- the same names, with as many halves or fewer
 abbrev pub HasFewer : Registry → Registry → Type 0
@@ -138,58 +205,28 @@ HasFewer [] [] = ⊤
 HasFewer (l ∷ reg) (l' ∷ reg') = (l'.name ≡ l.name) × (length l'.halves ≤ length l.halves) × HasFewer reg reg'
 HasFewer _ _ = ⊥
 
--- the same names, with so many halves more at most
-abbrev pub HasMore : ℕ → Registry → Registry → Type 0
-HasMore dialed [] [] = ⊤
-HasMore dialed (l ∷ reg) (l' ∷ reg') = (l'.name ≡ l.name) × (length l'.halves ≤ length l.halves + dialed) × HasMore dialed reg reg'
-HasMore dialed _ _ = ⊥
-
--- Each lane that was accepted was attached, or attach refused it; each name brought 16 at most, and no name came or went.
--- So many were dialed. Where fewer than 256 links are being opened, each name brought all that it had, or 16
-pub record TurnsLanes (greeting : ℕ) (listened : List (List ℕ)) (s s' : SingleView) (reg reg' : Registry) : Type 0 where
-  pub accepted : List (Result ℕ AttachError)
-  pub dialed : ℕ
-  pub attached : AreAttached s s' (ups (past_of s'.seen) + 1) accepted
-  pub few : length accepted ≤ 16 * length listened
-  pub halves : halves_of reg + dialed ≡ halves_of reg' + length accepted
-  pub names_are : names reg' ≡ names reg
-  pub asked : greeting < 256 → AllBring listened dialed reg reg'
-
--- so many lanes at most were accepted, and all that were accepted were attached, or attach refused them
+-- So many lanes at most were accepted. All that were accepted were attached, or attach refused them, and no other pipe came up
 pub record Accepting (most : ℕ) (s s' : SingleView) (reg reg' : Registry) : Type 0 where
   pub accepted : List (Result ℕ AttachError)
   pub attached : AreAttached s s' (ups (past_of s'.seen) + 1) accepted
+  pub all : ups (past_of s'.seen) ≡ ups (past_of s.seen) + pipes_of accepted
   pub few : length accepted ≤ most
   pub halves : halves_of reg ≡ halves_of reg' + length accepted
   pub names_are : names reg' ≡ names reg
 
--- some lanes were dialed
-pub record DialsLanes (reg reg' : Registry) : Type 0 where
-  pub dialed : ℕ
-  pub halves : halves_of reg + dialed ≡ halves_of reg'
-  pub names_are : names reg' ≡ names reg
-  pub more : HasMore dialed reg reg'
+-- ---- A whole turn
 
--- the history goes on, and what is known of its pipes stays
-pub record GoesOn (s s' : SingleView) : Type 0 where
-  pub quietly : Quietly s s'
-  pub sound : IsSound s → IsSound s'
-  pub dry : has_dry_miss (past_of s'.seen) ≡ has_dry_miss (past_of s.seen)
-  pub begins : Begins s.seen s'.seen
-  pub ups : ups (past_of s.seen) ≤ ups (past_of s'.seen)
-  pub places : (p place : ℕ) → place_of (past_of s.seen) p ≡ Some place → place_of (past_of s'.seen) p ≡ Some place
-
--- a lane came up as the newest pipe, or attach refused it
-abbrev pub CameUp : Option ℕ → SingleView → SingleView → Type 0
-CameUp (Some p) s s' = IsNewLane s s' p × (p ≡ ups (past_of s'.seen))
-CameUp None s s' = (why : AttachError) × RefusedAttach why s.setting (past_of s.seen)
-
--- a pipe that is new, or none
-abbrev pub HasNewLane : Option ℕ → SingleView → SingleView → Type 0
-HasNewLane (Some p) s s' = IsNewLane s s' p
-HasNewLane None s s' = ⊤
-
--- all that stands on the ends over links stays
-abbrev pub KeepsLinks : {L : Type 0} → (L → LinkView) → SingleView → SingleView → Type 0
-KeepsLinks {L} seen s s' =
-    (start : Beginning) (net : NetView) (ends : LinkEndsView L) → EndsStand seen s.setting start s.seen net ends → EndsStand seen s'.setting start s'.seen net ends
+-- First the links had their turn, and no lane came up. Then each name that was due was dialed. Then the names were asked: each
+-- brought 16 lanes at most, and, where fewer than 256 links are being opened, all that it had, or 16. Where 256 are, none was
+-- asked
+pub record TurnsLanes (now : ℕ) (role : Role) (greeting : ℕ) (listened : List (List ℕ)) (s s' : SingleView) (reg reg' : Registry) (old new : List Caller) : Type 0 where
+  pub linked : SingleView
+  pub called : SingleView
+  pub dialed : Registry
+  pub quietly : Quietly s linked
+  pub no_lane : NoLane s linked
+  pub dials : DialsDue now role linked called reg dialed old new
+  pub on : GoesOn called s'
+  pub accepting : Accepting (16 * length listened) called s' dialed reg'
+  pub asked : greeting < 256 → AllBring listened dialed reg'
+  pub held : 256 ≤ greeting → (s' ≡ called) × (reg' ≡ dialed)

@@ -1,5 +1,5 @@
 -- What a turn of the ends does, and its parts.
-use Rattle.std.specs.Prelude.{◌≡◌, ◌≤◌, ◌<◌, ◌+◌, ◌-◌, ◌^◌, min, ◌++◌, ◌∷◌, [], ℕ, zero, suc, ⊤, true, false, Bool, if◌then◌else◌, List, length, map, take, drop, Option, Some, None, Result, Ok, IfOk, ◌⊎◌}
+use Rattle.std.specs.Prelude.{◌≡◌, ◌==◌, ◌≤◌, ◌<◌, ◌+◌, ◌-◌, ◌*◌, ◌^◌, min, ◌++◌, ◌∷◌, [], ℕ, zero, suc, ⊤, true, false, Bool, if◌then◌else◌, List, length, map, take, drop, Option, Some, None, Result, Ok, IfOk, ◌⊎◌}
 use Rattle.std.specs.List.{AllByRecursion}
 use Rattle.turn_lock.specs.declared.turn.Turn.{Turn}
 use Rattle.sp_base.specs.Views.{LinkView, NetView}
@@ -11,12 +11,14 @@ use Rattle.sp_base.specs.declared.addr.Scheme.TheVariants as schemes
 use Rattle.sp_history.specs.declared.entry.Miss.{Miss}
 use Rattle.sp_history.specs.declared.entry.Miss.TheVariants as misses
 use Rattle.sp_history.specs.declared.entry.Entry.{Entry}
+use Rattle.sp_history.specs.declared.entry.Entry.TheVariants.{Up}
 use Rattle.sp_history.specs.declared.setting.Setting.{Setting}
 use Rattle.sp_history.specs.Past.{past_of, now, untaken}
 use Rattle.sp_history.specs.Lists.{has}
 use Rattle.sp_history.specs.Legal.{Legal}
 use Rattle.sp_history.specs.Settled.{Settled}
 use Rattle.sp_single.specs.Singles.{SingleView}
+use Rattle.cat_play.specs.Recording.{lane_place}
 use Rattle.cat_play.specs.Running.{has_dry_miss}
 use Rattle.cat_play.specs.Spending.{CanRise, has_room}
 use Rattle.sp_history.specs.Found.{before_last_tick, ticks}
@@ -28,7 +30,7 @@ use Rattle.sp_base.specs.declared.addr.Addr.{Addr}
 use Rattle.link_opening.specs.declared.way.Way.{Way}
 use Rattle.link_opening.specs.Openings.{CanBegin, scheme_for}
 use Rattle.link_opening.specs.Origins.{Origins, IsKnown}
-use Rattle.link_opening.specs.Going.{IsFresh, IsUnderWay, HasWaited}
+use Rattle.link_opening.specs.Going.{IsFresh, IsUnderWay, WaitsFor}
 use Rattle.link_opening.specs.declared.opening.Progress.{Progress}
 use Rattle.link_opening.specs.declared.opening.Progress.TheVariants as progress
 use Rattle.end_wire.specs.declared.wire.EndWire.{EndWire}
@@ -74,6 +76,15 @@ AllTaken old new = (p : ℕ) → has (untaken (past_of old.seen)) p ≡ true →
 -- whether a link was missed when out of memory so far
 abbrev pub IsDry : Bool → SingleView → Type 0
 IsDry is_dry s = has_dry_miss (past_of s.seen) ≡ is_dry
+
+-- a lane comes up
+abbrev pub is_lane : Entry → Bool
+is_lane (Up p place name) = place == lane_place
+is_lane _ = false
+
+-- between these no lane came up
+abbrev pub NoLane : SingleView → SingleView → Type 0
+NoLane old new = AddsNone is_lane old.seen new.seen
 
 -- the moment is that of the history
 abbrev pub IsNow : ℕ → SingleView → Type 0
@@ -126,6 +137,7 @@ pub record Serves {L : Type 0} (old new : LinkEndsView L) (net net' : NetView) (
   pub dialers : AreSameDialers old.dialers new.dialers
   pub counts : SameCounts net net'
   pub quietly : Quietly s s'
+  pub lanes : NoLane s s'
 
 abbrev pub is_dry_for : Miss → Bool
 is_dry_for misses.NoMemory = true
@@ -184,6 +196,25 @@ abbrev pub AsksAll : {L : Type 0} → ℕ → LinkEndsView L → NetView → Net
 AsksAll now ends old new =
     length ends.newcomers ≤ 192 → CanRise new.idles → CanRise new.faults → sum_of old + length ends.listeners + dues_of now ends.dialers ≤ sum_of new
 
+-- those that were accepted made no more than 256 in progress, and each dial made one more at most
+abbrev pub FewInProgress : {L : Type 0} → LinkEndsView L → LinkEndsView L → Type 0
+FewInProgress old new = length old.newcomers ≤ 256 → length new.newcomers ≤ 256 + length old.dialers
+
+-- What was asked of the net for links, where each link counts once, and each answer that there is none, and each fault, as often
+-- as a listener is asked in a turn
+abbrev pub asks_of : NetView → ℕ
+asks_of net = 16 * (net.idles + net.faults) + net.opened
+
+-- so much was asked, or 256 links were in progress
+abbrev pub AsksUntilFull : {L : Type 0} → ℕ → LinkEndsView L → NetView → NetView → Type 0
+AsksUntilFull much ends old new =
+    CanRise new.idles → CanRise new.faults → (asks_of old + much ≤ asks_of new) ⊎ (256 + old.opened ≤ length ends.newcomers + new.opened)
+
+-- each listener was asked until it had no link, failed or had brought 16, and each dialer that was due was dialed; or 256 links
+-- were in progress
+abbrev pub AsksEach : {L : Type 0} → ℕ → LinkEndsView L → NetView → NetView → Type 0
+AsksEach now ends old new = AsksUntilFull (16 * length ends.listeners + dues_of now ends.dialers) ends old new
+
 -- each dialer that was due was dialed
 abbrev pub AsksDue : ℕ → List Dialer → NetView → NetView → Type 0
 AsksDue now ds old new = CanRise new.idles → CanRise new.faults → sum_of old + dues_of now ds ≤ sum_of new
@@ -198,10 +229,10 @@ AreYoung now k ns = AllByRecursion (IsYoung now) (drop k ns)
 
 -- ---- Links that waited
 
--- the same link later, which brought nothing or took nothing once
+-- the same link later, which took nothing of what is still owed once, or brought nothing
 pub record HasWaitedOn {L : Type 0} (seen : L → LinkView) (old new : Newcomer L) : Type 0 where
   pub place : (seen new.opening.link).place ≡ (seen old.opening.link).place
-  pub waited : HasWaited (seen old.opening.link) (seen new.opening.link)
+  pub waited : WaitsFor seen (seen old.opening.link) new.opening
 
 abbrev pub IsOneOf : {L : Type 0} → List (Newcomer L) → Newcomer L → Type 0
 IsOneOf [] n = ⊥
@@ -235,8 +266,11 @@ pub record HasAsked {L : Type 0} (seen : L → LinkView) (asked most : ℕ) (old
   pub dialers : AreSameDialers old.dialers new.dialers
   pub frees : Frees now net net' old.dialers new.dialers
   pub quietly : Quietly s s'
+  pub lanes : NoLane s s'
   pub dry : IsDry is_dry s'
   pub few : length new.newcomers + net.opened ≤ length old.newcomers + net'.opened
+  -- none is asked for while 256 links are in progress
+  pub held : (n : ℕ) → 256 ≤ n → length old.newcomers ≤ n → length new.newcomers ≤ n
   pub listens : net'.listens ≡ net.listens
   pub opened : net.opened ≤ net'.opened
   pub handed : net'.opened ≤ net.opened + most
@@ -245,6 +279,8 @@ pub record HasAsked {L : Type 0} (seen : L → LinkView) (asked most : ℕ) (old
   pub idles : net.idles ≤ net'.idles
   pub faults : net.faults ≤ net'.faults
   pub rose : CanRise net'.idles → CanRise net'.faults → (sum_of net + asked ≤ sum_of net') ⊎ (256 + net.opened ≤ length old.newcomers + net'.opened)
+  -- each had no link, failed, or brought 16
+  pub filled : AsksUntilFull most old net net'
 
 -- the same way, where there is room for one link more
 abbrev pub FitsIn : {L : Type 0} → Result Way NoMemory → Result Way NoMemory → LinkEndsView L → Type 0

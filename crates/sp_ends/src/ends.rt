@@ -48,7 +48,7 @@ impl<L: Link> Ends<L> {
     }
 
     /// Listens at one address more, of any kind: at those of TCP and of WebSocket over the net, on names in `inproc`.
-    /// `InUse` exactly where the name is listened on there.
+    /// `InUse` only where the name is listened on there.
     pub fn listen<N: Net<L = L>>(
         &mut self,
         net: &mut N,

@@ -1,7 +1,7 @@
 //! The ends of a run that are reached by names within the process.
 ghost use Rattle.std.specs.Prelude.{◌≡◌, ◌<◌, ◌*◌, [], length};
 ghost use Rattle.sp_ends.specs.Adding.{ListensName, DialsName};
-ghost use Rattle.sp_ends.specs.Calling.{AreLost, GoesOn, KeepsLinks, CallsAll, CallsAt, DialsLanes, Accepting, Brings, AllBring, HasFewer, HasNewLane};
+ghost use Rattle.sp_ends.specs.Calling.{AreLost, GoesOn, KeepsLinks, CallsAll, CallsAt, DialsDue, TriesName, Accepting, Brings, AllBring, HasFewer, HasNewLane};
 
 use crate::caller::Caller;
 use crate::ends::EndError;
@@ -108,7 +108,7 @@ impl Names {
         ensures links { KeepsLinks L.seen single.old single.new }
         ensures names { self.new.names ≡ self.old.names }
         ensures callers { CallsAll now single.old single.new self.old.callers self.new.callers }
-        ensures dialed { DialsLanes inproc.old inproc.new }
+        ensures dials { DialsDue now role single.old single.new inproc.old inproc.new self.old.callers self.new.callers }
     {
         'calls: for i in 0..self.callers.len() {
             if !self.callers[i].is_due(now) {
@@ -132,8 +132,7 @@ impl Names {
         ensures on { GoesOn single.old single.new }
         ensures links { KeepsLinks L.seen single.old single.new }
         ensures names { self.new.names ≡ self.old.names }
-        ensures called { CallsAt i now single.old single.new self.old.callers self.new.callers }
-        ensures dialed { DialsLanes inproc.old inproc.new }
+        ensures called { CallsAt i now role single.old single.new inproc.old inproc.new self.old.callers self.new.callers }
     {
         let pipe = call(rt, inproc, single, self.callers[i].name.as_slice(), role);
         self.callers[i].called(now, pipe);
@@ -149,7 +148,7 @@ impl Names {
         ensures on { GoesOn single.old single.new }
         ensures links { KeepsLinks L.seen single.old single.new }
         ensures accepted { Accepting (16 * length self.now.names) single.old single.new inproc.old inproc.new }
-        ensures brings { AllBring self.now.names 0 inproc.old inproc.new }
+        ensures brings { AllBring self.now.names inproc.old inproc.new }
     {
         'names: for i in 0..self.names.len() {
             accept_from(rt, inproc, single, self.names[i].as_slice());
@@ -168,7 +167,7 @@ fn call<R: Wait, L: Link, P: Proto>(
     ensures on { GoesOn single.old single.new }
     ensures links { KeepsLinks L.seen single.old single.new }
     ensures came { HasNewLane result single.old single.new }
-    ensures dialed { DialsLanes inproc.old inproc.new }
+    ensures tries { TriesName name.now role result single.old single.new inproc.old inproc.new }
 {
     match inproc.dial(name, role) {
         Ok(lane) => attach_lane(rt, single, lane),
@@ -186,7 +185,7 @@ fn accept_from<R: Wait, L: Link, P: Proto>(
     ensures on { GoesOn single.old single.new }
     ensures links { KeepsLinks L.seen single.old single.new }
     ensures accepted { Accepting 16 single.old single.new inproc.old inproc.new }
-    ensures brings { Brings name.now 0 inproc.old inproc.new }
+    ensures brings { Brings name.now inproc.old inproc.new }
     ensures fewer { HasFewer inproc.old inproc.new }
 {
     'lanes: for _ in 0..LINKS_A_TURN {

@@ -7,7 +7,7 @@ ghost use Rattle.sp_base.specs.Views.{NetView};
 ghost use Rattle.sp_history.specs.Past.{past_of, untaken};
 ghost use Rattle.sp_history.specs.Found.{before_last_tick, ticks};
 ghost use Rattle.cat_play.specs.Running.{has_dry_miss};
-ghost use Rattle.cat_play.specs.Spending.{has_room};
+ghost use Rattle.cat_play.specs.Spending.{CanRise, has_room};
 ghost use Rattle.sp_ends.specs.declared.dialer.Dialer.{Dialer as DialerType};
 ghost use Rattle.sp_ends.specs.declared.newcomer.Newcomer.{Newcomer as NewcomerType};
 ghost use Rattle.sp_ends.specs.declared.listener.Listener.{Listener as ListenerType};
@@ -19,7 +19,7 @@ ghost use Rattle.sp_ends.specs.Standing.{Beginning, LinksStand, HandStands, IsOf
 ghost use Rattle.sp_ends.specs.Freeing.{GivesOneBack, FateBack, Frees, Redials, Turns, AreWaiting, KnowsLinks, KnowsDialed};
 ghost use Rattle.sp_ends.specs.Calling.{TurnsCallers, TurnsLanes, TakesCallers, TakesPipe, GoesOn, KeepsLinks, CameUp, Accepting, AllBring};
 ghost use Rattle.sp_lane.specs.Registry.{IsNewHalf};
-ghost use Rattle.sp_ends.specs.Turning.{EndsTicked, Quietly, AllTaken, IsDry, is_dry_for, is_dry_fate, FateStands, IsNow, IsSound, SameEnds, AreSameDialers, Serves, InTurn, InTurnWith, HasWaitedSince, IsFirstOrNew, AreWaitingBehind, FateHasWaited, AsksNet, DialsAt, IsLeftOf, DecidedFor, MissesFor, AreYoung, FateIsYoung, IsOut, Arrives, asked_after, IsNewcomer, AsksAll, AsksDue, HasAsked, FitsIn, HangsUp, MayDrain, TellsEnd};
+ghost use Rattle.sp_ends.specs.Turning.{EndsTicked, Quietly, AllTaken, IsDry, NoLane, FewInProgress, is_dry_for, is_dry_fate, FateStands, IsNow, IsSound, SameEnds, AreSameDialers, Serves, InTurn, InTurnWith, HasWaitedSince, IsFirstOrNew, AreWaitingBehind, FateHasWaited, AsksNet, DialsAt, IsLeftOf, DecidedFor, MissesFor, AreYoung, FateIsYoung, IsOut, Arrives, asked_after, IsNewcomer, asks_of, AsksAll, AsksEach, AsksDue, HasAsked, FitsIn, HangsUp, MayDrain, TellsEnd};
 
 use crate::ends::Ends;
 use crate::links::{LinkEnds, MOST_NEWCOMERS, ROOM};
@@ -123,8 +123,11 @@ impl<L: Link> Ends<L> {
         ensures known { KnowsDialed (length self.old.links.listeners) (N.seen net.old) (N.seen net.new) self.new.links.dialers }
         ensures listens { (N.seen net.new).listens ≡ (N.seen net.old).listens }
         ensures asked { AsksAll now self.old.links (N.seen net.old) (N.seen net.new) }
+        ensures each { AsksEach now self.old.links (N.seen net.old) (N.seen net.new) }
+        ensures dues { AsksDue now self.old.links.dialers (N.seen net.old) (N.seen net.new) }
+        ensures few { FewInProgress self.old.links self.new.links }
         ensures callers { TurnsCallers now single.old single.new self.old.names.callers self.new.names.callers }
-        ensures lanes { TurnsLanes (length self.new.links.newcomers) self.old.names.names single.old single.new inproc.old inproc.new }
+        ensures lanes { TurnsLanes now self.old.links.role (length self.new.links.newcomers) self.old.names.names single.old single.new inproc.old inproc.new self.old.names.callers self.new.names.callers }
     {
         self.links
             .turn(&mut self.names, rt, net, inproc, single, now)
@@ -160,8 +163,11 @@ impl<L: Link> LinkEnds<L> {
         ensures known { KnowsDialed (length self.old.listeners) (N.seen net.old) (N.seen net.new) self.new.dialers }
         ensures listens { (N.seen net.new).listens ≡ (N.seen net.old).listens }
         ensures asked { AsksAll now self.old (N.seen net.old) (N.seen net.new) }
+        ensures each { AsksEach now self.old (N.seen net.old) (N.seen net.new) }
+        ensures dues { AsksDue now self.old.dialers (N.seen net.old) (N.seen net.new) }
+        ensures few { FewInProgress self.old self.new }
         ensures callers { TurnsCallers now single.old single.new names.old.callers names.new.callers }
-        ensures lanes { TurnsLanes (length self.new.newcomers) names.old.names single.old single.new inproc.old inproc.new }
+        ensures lanes { TurnsLanes now self.old.role (length self.new.newcomers) names.old.names single.old single.new inproc.old inproc.new names.old.callers names.new.callers }
     {
         let mut turn = EndsTurn::new();
         self.take_all_ended(names, rt, net, single, now);
@@ -211,7 +217,8 @@ impl<L: Link> LinkEnds<L> {
         ensures on { GoesOn single.old single.new }
         ensures links { KeepsLinks L.seen single.old single.new }
         ensures accepted { Accepting (16 * length names.now.names) single.old single.new inproc.old inproc.new }
-        ensures brings { length self.now.newcomers < 256 → AllBring names.now.names 0 inproc.old inproc.new }
+        ensures brings { length self.now.newcomers < 256 → AllBring names.now.names inproc.old inproc.new }
+        ensures held { 256 ≤ length self.now.newcomers → (single.new ≡ single.old) × (inproc.new ≡ inproc.old) }
     {
         if self.newcomers.len() >= MOST_NEWCOMERS {
             return;
@@ -234,6 +241,7 @@ impl<L: Link> LinkEnds<L> {
         ensures stands { (start : Beginning) → InTurn L.seen start self.old (N.seen net.old) single.old now (length self.old.newcomers) → NetStands start (before_last_tick (past_of single.old.seen)) (before_last_tick (past_of single.old.seen)) (N.seen net.old) self.old.listeners self.old.dialers → EndsStand L.seen single.new.setting start single.new.seen (N.seen net.new) self.new }
         ensures sound { IsSound single.new }
         ensures quietly { Quietly single.old single.new }
+        ensures no_lane { NoLane single.old single.new }
         ensures dry { IsDry turn.new.is_dry single.new }
         ensures same { SameEnds self.old self.new }
         ensures turns { Turns now (N.seen net.old) (N.seen net.new) self.old.dialers self.new.dialers }
@@ -243,6 +251,9 @@ impl<L: Link> LinkEnds<L> {
         ensures known { KnowsDialed (length self.old.listeners) (N.seen net.old) (N.seen net.new) self.new.dialers }
         ensures listens { (N.seen net.new).listens ≡ (N.seen net.old).listens }
         ensures asked { AsksAll now self.old (N.seen net.old) (N.seen net.new) }
+        ensures each { AsksEach now self.old (N.seen net.old) (N.seen net.new) }
+        ensures dues { AsksDue now self.old.dialers (N.seen net.old) (N.seen net.new) }
+        ensures few { FewInProgress self.old self.new }
     {
         self.greet_all(rt, net, single, now, turn);
         self.accept_all(rt, net, single, now, turn);
@@ -399,9 +410,11 @@ impl<L: Link> LinkEnds<L> {
         ensures in_turn { (start : Beginning) → InTurn L.seen start self.old (N.seen net.old) single.old now 0 → InTurn L.seen start self.new (N.seen net.new) single.new now 0 }
         ensures few { length self.new.newcomers + (N.seen net.old).opened ≤ length self.old.newcomers + (N.seen net.new).opened }
         ensures asks { AsksNet (N.seen net.old) (N.seen net.new) }
+        ensures none { result ≡ false → CanRise (N.seen net.new).idles → CanRise (N.seen net.new).faults → asks_of (N.seen net.old) + 16 ≤ asks_of (N.seen net.new) }
         ensures dialers { AreSameDialers self.old.dialers self.new.dialers }
         ensures frees { Frees now (N.seen net.old) (N.seen net.new) self.old.dialers self.new.dialers }
         ensures quietly { Quietly single.old single.new }
+        ensures no_lane { NoLane single.old single.new }
         ensures same { SameEnds self.old self.new }
         ensures dry { IsDry turn.new.is_dry single.new }
         ensures handed { (N.seen net.new).opened ≤ (N.seen net.old).opened + 1 }
@@ -442,13 +455,15 @@ impl<L: Link> LinkEnds<L> {
         ensures in_turn { (start : Beginning) → InTurn L.seen start self.old (N.seen net.old) single.old now 0 → InTurn L.seen start self.new (N.seen net.new) single.new now 0 }
         ensures asked { (start : Beginning) → InTurn L.seen start self.old (N.seen net.old) single.old now 0 → NetStands start (past_of single.old.seen) (before_last_tick (past_of single.old.seen)) (N.seen net.old) self.old.listeners self.old.dialers → NetStands start (past_of single.new.seen) (past_of single.new.seen) (N.seen net.new) self.new.listeners self.new.dialers }
         ensures quietly { Quietly single.old single.new }
+        ensures no_lane { NoLane single.old single.new }
+        ensures few { length self.new.newcomers ≤ length self.old.newcomers + length self.old.dialers }
         ensures same { SameEnds self.old self.new }
         ensures dry { IsDry turn.new.is_dry single.new }
         ensures turns { Turns now (N.seen net.old) (N.seen net.new) self.old.dialers self.new.dialers }
         ensures waits { AreWaiting now self.new.dialers }
         ensures listens { (N.seen net.new).listens ≡ (N.seen net.old).listens }
         ensures dialed { AsksDue now self.old.dialers (N.seen net.old) (N.seen net.new) }
-        ensures counts { ((N.seen net.old).idles ≤ (N.seen net.new).idles) × ((N.seen net.old).faults ≤ (N.seen net.new).faults) }
+        ensures counts { ((N.seen net.old).idles ≤ (N.seen net.new).idles) × ((N.seen net.old).faults ≤ (N.seen net.new).faults) × ((N.seen net.old).opened ≤ (N.seen net.new).opened) }
         ensures known { KnowsLinks (N.seen net.old).opened (N.seen net.new) self.new.dialers }
         ensures young { AreYoung now 0 self.old.newcomers → AreYoung now 0 self.new.newcomers }
         ensures waited { (first : List (NewcomerType L)) (opened : ℕ) → opened ≤ (N.seen net.old).opened → AreWaitingBehind L.seen first opened 0 self.old.newcomers → AreWaitingBehind L.seen first opened 0 self.new.newcomers }
@@ -479,6 +494,8 @@ impl<L: Link> LinkEnds<L> {
         ensures dialed { DialsAt i now (N.seen net.old) (N.seen net.new) self.old.dialers self.new.dialers }
         ensures redials { Redials i now (N.seen net.old) (N.seen net.new) self.old.dialers self.new.dialers }
         ensures quietly { Quietly single.old single.new }
+        ensures no_lane { NoLane single.old single.new }
+        ensures few { length self.new.newcomers ≤ length self.old.newcomers + 1 }
         ensures same { SameEnds self.old self.new }
         ensures dry { IsDry turn.new.is_dry single.new }
         ensures known { KnowsLinks (N.seen net.old).opened (N.seen net.new) self.new.dialers }
@@ -650,6 +667,7 @@ fn greet_one<R: Wait, N: Net, P: Proto>(
     ensures stands { (start : Beginning) (ns : List (NewcomerType N.L)) (k : ℕ) → LinksStand N.L.seen single.old.setting start single.old.seen (N.seen net.old) (newcomer ∷ ns) (suc k) → FateStands N.L.seen result single.new.setting start single.new.seen (N.seen net.new) ns k }
     ensures sound { IsSound single.new }
     ensures quietly { Quietly single.old single.new }
+    ensures no_lane { NoLane single.old single.new }
     ensures counts { SameCounts (N.seen net.old) (N.seen net.new) }
     ensures dry { has_dry_miss (past_of single.new.seen) ≡ (is_dry_fate result || has_dry_miss (past_of single.old.seen)) }
     ensures back { FateBack result (N.L.seen newcomer.opening.link).place (N.seen net.old) (N.seen net.new) }
@@ -702,6 +720,7 @@ fn attach<R: Wait, N: Net, P: Proto>(
     ensures stands { (start : Beginning) (ns : List (NewcomerType N.L)) (k : ℕ) → HandStands N.L.seen single.old.setting start single.old.seen (N.seen net.old) ns k (N.L.seen opening.link) → IsOfRun N.L.seen start.origins single.old.setting opening → FateStands N.L.seen result single.new.setting start single.new.seen (N.seen net.new) ns k }
     ensures sound { IsSound single.new }
     ensures quietly { Quietly single.old single.new }
+    ensures no_lane { NoLane single.old single.new }
     ensures counts { SameCounts (N.seen net.old) (N.seen net.new) }
     ensures dry { has_dry_miss (past_of single.new.seen) ≡ (is_dry_fate result || has_dry_miss (past_of single.old.seen)) }
     ensures back { FateBack result (N.L.seen opening.link).place (N.seen net.old) (N.seen net.new) }
@@ -752,6 +771,7 @@ fn miss<R: Wait, N: Net, P: Proto>(
     ensures stands { (start : Beginning) (ns : List (NewcomerType N.L)) (k : ℕ) → HandStands N.L.seen single.old.setting start single.old.seen (N.seen net.old) ns k (N.L.seen link) → IsCauseOf start.origins single.old.setting single.old.seen why (N.L.seen link) → LinksStand N.L.seen single.new.setting start single.new.seen (N.seen net.new) ns k }
     ensures sound { IsSound single.new }
     ensures quietly { Quietly single.old single.new }
+    ensures no_lane { NoLane single.old single.new }
     ensures counts { SameCounts (N.seen net.old) (N.seen net.new) }
     ensures dry { has_dry_miss (past_of single.new.seen) ≡ (is_dry_for why || has_dry_miss (past_of single.old.seen)) }
     ensures back { GivesOneBack (N.L.seen link).place (N.seen net.old) (N.seen net.new) }

@@ -1,5 +1,5 @@
 -- One lane after the other is accepted.
-use Rattle.std.proofs.Common.{◌≡◌, ◌+◌, refl, sym, subst, arith}
+use Rattle.std.proofs.Common.{refl, sym, subst, arith}
 use Rattle.sp_lane.specs.Registry.{Registry}
 use Rattle.sp_ends.specs.Calling.{HasFewer}
 use Rattle.sp_ends.proofs.Calling.{goes_none, goes_both, accepts_none, accepts_as, accepts_one, accepts_both, accepts_then}

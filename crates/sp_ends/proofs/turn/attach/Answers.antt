@@ -1,5 +1,7 @@
 -- The link is in hand; it comes up, or is missed.
-use Rattle.std.proofs.Common.{◌≡◌, refl, sym, ap, ◌∙◌, subst, ◌||◌, Some, None}
+use Rattle.std.proofs.Common.{◌≡◌, refl, sym, ap, ◌∙◌, subst, ◌||◌, ℕ, Some}
+use Rattle.std.specs.Prelude.{◌==◌}
+use Rattle.cat_play.specs.Recording.{lane_place}
 use Rattle.sp_base.specs.Views.{LinkView}
 use Rattle.sp_history.specs.declared.entry.Miss.TheVariants as misses
 use Rattle.end_wire.specs.declared.wire.EndWire.{EndWire}
@@ -8,7 +10,7 @@ use Rattle.sp_ends.specs.Standing.{HandStands, IsCauseOf}
 use Rattle.sp_ends.specs.Turning.{is_dry_for}
 use Rattle.sp_ends.specs.Freeing.{GivesOneBack}
 use Rattle.sp_ends.proofs.turn.attach.Goals as goal
-use Rattle.sp_ends.proofs.Turns.{quiet_one, quiet_both, first_play, settles_play, dry_first, dry_settles}
+use Rattle.sp_ends.proofs.Turns.{quiet_one, quiet_both, first_play, settles_play, lanes_one, lanes_both, lane_first, lane_settles, hand_linked, dry_first, dry_settles}
 use Rattle.sp_ends.proofs.Attaching.{new_unused, new_link, up_stands, hand_again, refused_cause}
 
 pub miss-requires-clause-stands : goal.miss-requires-clause-stands
@@ -44,6 +46,14 @@ pub returns-in-Ok-attach-clause-quietly : goal.returns-in-Ok-attach-clause-quiet
 returns-in-Ok-attach-clause-quietly g c =
     let took = c.in-Ok-attach.ensures.turn in quiet_one _ c.args.single.now c.attach.new.self took (first_play _ took.turn took.said.0.1 refl)
 
+-- its place is that of a link
+pub returns-in-Ok-attach-clause-no_lane : goal.returns-in-Ok-attach-clause-no_lane
+returns-in-Ok-attach-clause-no_lane g c =
+    let s = c.requires.stands in
+    let took = c.in-Ok-attach.ensures.turn in
+    let linked = hand_linked g.N.L.Link.seen c.args.single.now.setting c.args.single.now.seen (g.N.Net.seen c.args.net.now) (g.N.L.Link.seen c.args.opening.link) (s.0, s.1, s.2, s.3) in
+    lanes_one _ c.args.single.now c.attach.new.self took (lane_first _ took.turn took.said.0.1 (ap (λ (place : ℕ). place == lane_place) c.place-place.ensures ∙ linked))
+
 pub returns-in-Ok-attach-clause-dry : goal.returns-in-Ok-attach-clause-dry
 returns-in-Ok-attach-clause-dry g c =
     let took = c.in-Ok-attach.ensures.turn in dry_first _ _ c.args.single.now c.attach.new.self took took.said.0.1
@@ -75,6 +85,11 @@ pub returns-in-Some-clause-quietly : goal.returns-in-Some-clause-quietly
 returns-in-Some-clause-quietly g c =
     let took = c.in-Err-attach.ensures.turn in
     quiet_both c.args.single.now c.attach.new.self c.miss-in-Err-attach.new.single (quiet_one _ c.args.single.now c.attach.new.self took (settles_play took.turn.entries took.said.0.0)) c.miss-in-Err-attach.ensures.quietly
+
+pub returns-in-Some-clause-no_lane : goal.returns-in-Some-clause-no_lane
+returns-in-Some-clause-no_lane g c =
+    let took = c.in-Err-attach.ensures.turn in
+    lanes_both c.args.single.now c.attach.new.self c.miss-in-Err-attach.new.single (lanes_one _ c.args.single.now c.attach.new.self took (lane_settles took.turn.entries took.said.0.0)) c.miss-in-Err-attach.ensures.no_lane
 
 pub returns-in-Some-clause-dry : goal.returns-in-Some-clause-dry
 returns-in-Some-clause-dry g c =

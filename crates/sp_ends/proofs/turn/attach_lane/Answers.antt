@@ -1,16 +1,16 @@
 -- The lane comes up, or attach refuses it and it is shut.
-use Rattle.std.proofs.Common.{◌≡◌, refl, sym, ap, ◌∙◌, subst, Option, Some, None}
+use Rattle.std.proofs.Common.{◌≡◌, refl, sym, ap, ◌∙◌, subst, Some, None}
 use Rattle.sp_base.specs.Views.{LinkView}
 use Rattle.sp_core.specs.Wires.{IsUnused}
 use Rattle.sp_lane.specs.LaneWires.{LaneWireView}
 use Rattle.sp_lane.specs.Registry.{IsNewHalf}
 use Rattle.end_wire.specs.declared.wire.EndWire.{EndWire}
 use Rattle.end_wire.specs.declared.wire.EndWire.TheVariants as wires
-use Rattle.end_wire.specs.EndWires.{shown, link_of}
+use Rattle.end_wire.specs.EndWires.{link_of}
 use Rattle.sp_base.specs.Wires.{numbers_of}
 use Rattle.sp_ends.specs.Standing.{IsLaneName}
 use Rattle.sp_ends.specs.Turning.{shut_under}
-use Rattle.sp_ends.proofs.Calling.{goes_settled, goes_up, came_up}
+use Rattle.sp_ends.proofs.Calling.{goes_settled, none_up, goes_up, came_up}
 use Rattle.sp_ends.proofs.Lanes.{keeps_lane, keeps_settled}
 use Rattle.sp_ends.proofs.turn.attach_lane.Goals as goal
 
@@ -51,4 +51,5 @@ returns-in-None-clause-links g c =
     let took = c.in-Err.ensures.turn in keeps_settled g.L.Link.seen _ c.args.single.now c.attach.new.self took took.said.0.0
 
 pub returns-in-None-clause-came : goal.returns-in-None-clause-came
-returns-in-None-clause-came g c = (c.in-Err.field-0-0, c.in-Err.ensures.turn.said.0.1)
+returns-in-None-clause-came g c =
+    let took = c.in-Err.ensures.turn in (none_up _ c.args.single.now c.attach.new.self took took.said.0.0, (c.in-Err.field-0-0, took.said.0.1))

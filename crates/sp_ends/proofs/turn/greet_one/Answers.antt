@@ -2,6 +2,7 @@
 use Rattle.std.proofs.Common.{refl, sym, ap, ◌∙◌, subst, ℕ}
 use Rattle.link_opening.specs.declared.opening.Progress.{Progress}
 use Rattle.link_opening.specs.Going.{CameTo}
+use Rattle.link_opening.proofs.Trying.{has_waited}
 use Rattle.sp_ends.specs.Freeing.{FateBack, GivesOneBack}
 use Rattle.sp_ends.specs.declared.newcomer.Newcomer.{Newcomer}
 use Rattle.sp_ends.specs.Standing.{HandStands, IsCauseOf}
@@ -34,7 +35,7 @@ returns-in-Stays-clause-stands g c =
     let m : Newcomer g.row.N-L.Denot = record { opening = c.greet-progress.new.self; met = n.met } in
     let e = c.greet-progress.ensures in
     let waits = subst (λ (x : Progress). CameTo g.N.L.Link.seen x (g.N.L.Link.seen n.opening.link) c.greet-progress.new.self) c.in-Stays.ensures.0 e.opened.came_to in
-    stays_behind g.N.L.Link.seen c.args.single.now.setting start c.args.single.now.seen ns k (g.N.Net.seen c.args.net.now) n m e.later e.opened.same refl waits.0 waits.1 waits.2 waits.3 s
+    stays_behind g.N.L.Link.seen c.args.single.now.setting start c.args.single.now.seen ns k (g.N.Net.seen c.args.net.now) n m e.later e.opened.same refl waits.0 waits.1 waits.2 (has_waited g.N.L.Link.seen (g.N.L.Link.seen n.opening.link) c.greet-progress.new.self waits.3) s
 
 pub returns-in-Attach-clause-stands : goal.returns-in-Attach-clause-stands
 returns-in-Attach-clause-stands g c =

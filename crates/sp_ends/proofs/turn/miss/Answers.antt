@@ -1,7 +1,7 @@
 -- The link is in hand, and its turn notes the miss.
 use Rattle.std.proofs.Common.{refl, false}
 use Rattle.sp_ends.proofs.turn.miss.Goals as goal
-use Rattle.sp_ends.proofs.Turns.{hand_opened, missed_stands, missed_quiet, missed_dry}
+use Rattle.sp_ends.proofs.Turns.{hand_opened, missed_stands, missed_quiet, missed_lanes, missed_dry}
 
 pub leave-requires : goal.leave-requires
 leave-requires g c =
@@ -14,6 +14,9 @@ returns-clause-stands g c =
 pub returns-clause-quietly : goal.returns-clause-quietly
 returns-clause-quietly g c =
     missed_quiet c.place-place.result c.args.why c.args.single.now c.missed.new.self c.missed.ensures.turn
+
+pub returns-clause-no_lane : goal.returns-clause-no_lane
+returns-clause-no_lane g c = missed_lanes c.place-place.result c.args.why c.args.single.now c.missed.new.self c.missed.ensures.turn
 
 pub returns-clause-dry : goal.returns-clause-dry
 returns-clause-dry g c =

@@ -1,5 +1,4 @@
 use Rattle.std.proofs.Common.{refl, ◌∙◌, arith}
-use Rattle.sp_history.specs.Past.{past_of}
 use Rattle.cat_rounds.proofs.Counted.{same_ends}
 use Rattle.cat_rounds.proofs.Late.{never_late}
 use Rattle.cat_rounds.proofs.Opening.{cut_nowhere}

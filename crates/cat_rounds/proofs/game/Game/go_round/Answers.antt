@@ -1,4 +1,4 @@
-use Rattle.std.proofs.Common.{◌∙◌, ap, sym, refl, arith}
+use Rattle.std.proofs.Common.{◌∙◌, refl, arith}
 use Rattle.cat_rounds.proofs.Late.{never_late}
 use Rattle.sp_history.specs.Past.{past_of}
 use Rattle.cat_rounds.proofs.Counted.{no_ticks, never, same_ends, same_then}

@@ -4,7 +4,7 @@ use Rattle.cat_play.specs.Scripts.{joined}
 use Rattle.std.proofs.Common.{false}
 use Rattle.sp_ends.specs.Turning.{IsDry}
 use Rattle.cat_rounds.specs.Lasting.{HasPrinted}
-use Rattle.cat_rounds.proofs.Opening.{opens, quiet_stands, quiet_texts, quiet_ticks, on_ticks, run_on, round_stands, round_prints, cut_nowhere}
+use Rattle.cat_rounds.proofs.Opening.{opens, quiet_stands, quiet_texts, quiet_ticks, on_ticks, run_on, names_then, round_stands, round_prints, cut_nowhere}
 use Rattle.cat_rounds.specs.declared.player.Player.{Player}
 use Rattle.cat_rounds.specs.declared.rounds.Going.TheVariants as goings
 use Rattle.cat_rounds.proofs.Late.{late_tick, late_quiet, late_on, late_then, ends_late, goes_early, drains_late, open_or}
@@ -292,3 +292,27 @@ returns-in-Over-clause-moved g c =
     let over = (subst (λ r. GoesTo r c.play.new.self.single c.play.new.self.player) c.in-Over.is c.play.ensures.went).1 in
     let d = c.drain.ensures in
     drained_moves c.drain.result c.drain.new.self.player c.args.self.now.single c.drain.new.self.single d.rests (λ open_. over (ap (λ (x : Player). x.over) (sym d.same.0) ∙ open_))
+
+pub returns-then-turn-clause-names : goal.returns-then-turn-clause-names
+returns-then-turn-clause-names g c = (c.tick.new.self, c.turn-turn.new.single, c.turn-turn.ensures.lanes)
+
+pub returns-in-Rests-clause-names : goal.returns-in-Rests-clause-names
+returns-in-Rests-clause-names g c =
+    let y = c.play.ensures in
+    names_then c.args.now c.args.self.now.ends c.turn-turn.new.self c.play.new.self.ends c.args.self.now.inproc c.turn-turn.new.inproc c.play.new.self.inproc y.same.1 y.names (c.tick.new.self, c.turn-turn.new.single, c.turn-turn.ensures.lanes)
+
+pub returns-in-OutFault-clause-names : goal.returns-in-OutFault-clause-names
+returns-in-OutFault-clause-names g c =
+    let y = c.play.ensures in
+    names_then c.args.now c.args.self.now.ends c.turn-turn.new.self c.play.new.self.ends c.args.self.now.inproc c.turn-turn.new.inproc c.play.new.self.inproc y.same.1 y.names (c.tick.new.self, c.turn-turn.new.single, c.turn-turn.ensures.lanes)
+
+pub returns-in-NoMemory-clause-names : goal.returns-in-NoMemory-clause-names
+returns-in-NoMemory-clause-names g c =
+    let y = c.play.ensures in
+    names_then c.args.now c.args.self.now.ends c.turn-turn.new.self c.play.new.self.ends c.args.self.now.inproc c.turn-turn.new.inproc c.play.new.self.inproc y.same.1 y.names (c.tick.new.self, c.turn-turn.new.single, c.turn-turn.ensures.lanes)
+
+pub returns-in-Over-clause-names : goal.returns-in-Over-clause-names
+returns-in-Over-clause-names g c =
+    let y = c.play.ensures in
+    let d = c.drain.ensures in
+    names_then c.args.now c.args.self.now.ends c.turn-turn.new.self c.drain.new.self.ends c.args.self.now.inproc c.turn-turn.new.inproc c.drain.new.self.inproc (d.same.1 ∙ y.same.1) (d.names ∙ y.names) (c.tick.new.self, c.turn-turn.new.single, c.turn-turn.ensures.lanes)

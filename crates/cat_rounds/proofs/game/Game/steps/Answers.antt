@@ -24,6 +24,7 @@ steps-preserved g c =
       played = λ _. e.rested;
       pipes = λ flood body free none. elim (none_held c.step.new.self.op (e.begun refl) free) [ ];
       ends = i.ends;
+      inproc = i.inproc;
       still = λ e. cc;
     }
 

@@ -11,5 +11,6 @@ invariant-steps g l = record {
   played : 0 < l.counter → HasPlayed l.self.single.setting l.self.single.seen l.self.player;
   pipes : KnowsPipes l.has_pipe l.self.single l.self.player;
   ends : l.self.ends ≡ l.initial.self.ends;
+  inproc : l.self.inproc ≡ l.initial.self.inproc;
   still : l.moved ≡ false → l.self.player.op ≡ l.initial.self.player.op;
 }

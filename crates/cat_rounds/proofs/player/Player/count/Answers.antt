@@ -2,7 +2,7 @@ use Rattle.std.proofs.Common.{ap, sym, ◌∙◌}
 use Rattle.std.specs.Prelude.{is_some}
 use Rattle.cat_play.specs.Scripts.{counts_for}
 use Rattle.cat_rounds.specs.Lasting.{is_survey_over}
-use Rattle.cat_rounds.specs.Stepping.{counts_for_last, counts_one}
+use Rattle.cat_rounds.specs.Stepping.{counts_one}
 use Rattle.cat_rounds.proofs.Counting.{counts_is}
 use Rattle.cat_rounds.proofs.player.Player.count.Goals as goal
 

@@ -26,6 +26,15 @@ returns-clause-known g c = rw (← c.self.view_is) c.turn.ensures.known
 pub returns-clause-asked : goal.returns-clause-asked
 returns-clause-asked g c = rw (← c.self.view_is) c.turn.ensures.asked
 
+pub returns-clause-each : goal.returns-clause-each
+returns-clause-each g c = rw (← c.self.view_is) c.turn.ensures.each
+
+pub returns-clause-dues : goal.returns-clause-dues
+returns-clause-dues g c = rw (← c.self.view_is) c.turn.ensures.dues
+
+pub returns-clause-few : goal.returns-clause-few
+returns-clause-few g c = rw (← c.self.view_is) c.turn.ensures.few
+
 pub returns-clause-callers : goal.returns-clause-callers
 returns-clause-callers g c = rw (← c.self.view_is) c.turn.ensures.callers
 

@@ -1,7 +1,7 @@
 -- Each listener is asked.
 use Rattle.std.proofs.Common.{◌≡◌, ◌+◌, ◌*◌, ap, arith, length}
 use Rattle.sp_ends.specs.Standing.{LinkEndsView}
-use Rattle.sp_ends.proofs.NewcomingAsks.{asked_none, asked_both, asked_as, still_listens}
+use Rattle.sp_ends.proofs.NewcomingAsks.{asked_none, asked_both, asked_as, filled_less, still_listens}
 use Rattle.sp_ends.proofs.links.LinkEnds.accept_all.Goals as goal
 
 pub accepts-init : goal.accepts-init
@@ -22,11 +22,14 @@ accept_from-requires-clause-inside g c =
 
 pub accepts-preserved : goal.accepts-preserved
 accepts-preserved g c =
+    let both =
+    asked_both g.L.Link.seen c.accepts.i 1 (16 * c.accepts.i) 16 c.args.self.now c.accepts.self c.accept_from.new.self (g.N.Net.seen c.args.net.now) (g.N.Net.seen c.accepts.net) (g.N.Net.seen c.accept_from.new.net) c.args.single.now c.accepts.single c.accept_from.new.single c.args.now c.accepts.turn.is_dry c.accept_from.new.turn.is_dry c.accepts.invariant c.accept_from.ensures in
     asked_as g.L.Link.seen (c.accepts.i + 1) (c.accepts.i + 1) (16 * c.accepts.i + 16) (16 * (c.accepts.i + 1)) c.args.self.now c.accept_from.new.self (g.N.Net.seen c.args.net.now) (g.N.Net.seen c.accept_from.new.net) c.args.single.now c.accept_from.new.single c.args.now c.accept_from.new.turn.is_dry (omega arith) (omega arith)
-    (asked_both g.L.Link.seen c.accepts.i 1 (16 * c.accepts.i) 16 c.args.self.now c.accepts.self c.accept_from.new.self (g.N.Net.seen c.args.net.now) (g.N.Net.seen c.accepts.net) (g.N.Net.seen c.accept_from.new.net) c.args.single.now c.accepts.single c.accept_from.new.single c.args.now c.accepts.turn.is_dry c.accept_from.new.turn.is_dry c.accepts.invariant c.accept_from.ensures)
+    (filled_less (16 * c.accepts.i + 16) (16 * (c.accepts.i + 1)) c.args.self.now (g.N.Net.seen c.args.net.now) (g.N.Net.seen c.accept_from.new.net) (omega arith) both.filled) both
 
 pub returns : goal.returns
 returns g c =
     let old = ap (λ (e : LinkEndsView g.row.L.Denot). length e.listeners) c.self.view_is in
     let all : c.accepts.i ≡ length c.args.self.now.listeners = omega (arith, old, c.accepts-test.false, c.accepts.auto.i-end, c.len-i-end.ensures, c.self.inside.listeners.ok.0) in
-    asked_as g.L.Link.seen c.accepts.i (length c.args.self.now.listeners) (16 * c.accepts.i) (16 * length c.args.self.now.listeners) c.args.self.now c.accepts.self (g.N.Net.seen c.args.net.now) (g.N.Net.seen c.accepts.net) c.args.single.now c.accepts.single c.args.now c.accepts.turn.is_dry (omega (arith, all)) (omega (arith, all)) c.accepts.invariant
+    asked_as g.L.Link.seen c.accepts.i (length c.args.self.now.listeners) (16 * c.accepts.i) (16 * length c.args.self.now.listeners) c.args.self.now c.accepts.self (g.N.Net.seen c.args.net.now) (g.N.Net.seen c.accepts.net) c.args.single.now c.accepts.single c.args.now c.accepts.turn.is_dry (omega (arith, all)) (omega (arith, all))
+    (filled_less (16 * c.accepts.i) (16 * length c.args.self.now.listeners) c.args.self.now (g.N.Net.seen c.args.net.now) (g.N.Net.seen c.accepts.net) (omega (arith, all)) c.accepts.invariant.filled) c.accepts.invariant

@@ -1,8 +1,8 @@
 -- The listener is asked until it has no link.
-use Rattle.std.proofs.Common.{◌≡◌, ◌+◌, ap, arith, length}
+use Rattle.std.proofs.Common.{◌+◌, ap, arith, length}
 use Rattle.std.specs.Prelude.{min}
 use Rattle.sp_ends.specs.Standing.{LinkEndsView}
-use Rattle.sp_ends.proofs.NewcomingAsks.{asked_none, asked_one, asked_both, asked_as, asked_full, still_listens, listener_at}
+use Rattle.sp_ends.proofs.NewcomingAsks.{asked_none, asked_one, asked_both, asked_as, asked_full, filled_less, filled_last, still_listens, listener_at}
 use Rattle.sp_ends.proofs.links.LinkEnds.accept_from.Goals as goal
 
 pub links-init : goal.links-init
@@ -26,17 +26,22 @@ accept_one-requires-clause-listens g c at e =
 pub returns-then-not-accept_one : goal.returns-then-not-accept_one
 returns-then-not-accept_one g c =
     let e = c.accept_one.ensures in
+    let new = ap (λ (e : LinkEndsView g.row.L.Denot). length e.newcomers) c.self.view_is in
     asked_as g.L.Link.seen (min c.links.counter 1 + 1) 1 (c.links.counter + 1) 16 c.args.self.now c.accept_one.new.self (g.N.Net.seen c.args.net.now) (g.N.Net.seen c.accept_one.new.net) c.args.single.now c.accept_one.new.single c.args.now c.accept_one.new.turn.is_dry (omega arith) (omega (arith, c.links-test.true))
+    (filled_last c.links.counter c.args.self.now c.links.self (g.N.Net.seen c.args.net.now) (g.N.Net.seen c.links.net) (g.N.Net.seen c.accept_one.new.net) c.links.invariant.few e.asks (e.none c.if-not-accept_one.true) c.links.invariant.filled)
     (asked_both g.L.Link.seen (min c.links.counter 1) 1 c.links.counter 1 c.args.self.now c.links.self c.accept_one.new.self (g.N.Net.seen c.args.net.now) (g.N.Net.seen c.links.net) (g.N.Net.seen c.accept_one.new.net) c.args.single.now c.links.single c.accept_one.new.single c.args.now c.links.turn.is_dry c.accept_one.new.turn.is_dry c.links.invariant
-    (asked_one g.L.Link.seen c.links.self c.accept_one.new.self (g.N.Net.seen c.links.net) (g.N.Net.seen c.accept_one.new.net) c.links.single c.accept_one.new.single c.args.now c.accept_one.new.turn.is_dry e.in_turn e.few e.asks e.dialers e.frees e.quietly e.same e.dry e.handed e.young e.waited))
+    (asked_one g.L.Link.seen c.links.self c.accept_one.new.self (g.N.Net.seen c.links.net) (g.N.Net.seen c.accept_one.new.net) c.links.single c.accept_one.new.single c.args.now c.accept_one.new.turn.is_dry e.in_turn e.few e.asks e.dialers e.frees e.quietly e.no_lane e.same e.dry e.handed (omega (arith, new, c.if-len-ge-MOST_NEWCOMERS.false, c.len.ensures, c.self.inside.newcomers.ok.0)) e.young e.waited))
 
 pub links-preserved : goal.links-preserved
 links-preserved g c =
     let e = c.accept_one.ensures in
-    asked_as g.L.Link.seen (min c.links.counter 1 + 1) (min (c.links.counter + 1) 1) (c.links.counter + 1) (c.links.counter + 1) c.args.self.now c.accept_one.new.self (g.N.Net.seen c.args.net.now) (g.N.Net.seen c.accept_one.new.net) c.args.single.now c.accept_one.new.single c.args.now c.accept_one.new.turn.is_dry (omega arith) (omega arith)
-    (asked_both g.L.Link.seen (min c.links.counter 1) 1 c.links.counter 1 c.args.self.now c.links.self c.accept_one.new.self (g.N.Net.seen c.args.net.now) (g.N.Net.seen c.links.net) (g.N.Net.seen c.accept_one.new.net) c.args.single.now c.links.single c.accept_one.new.single c.args.now c.links.turn.is_dry c.accept_one.new.turn.is_dry c.links.invariant
-    (asked_one g.L.Link.seen c.links.self c.accept_one.new.self (g.N.Net.seen c.links.net) (g.N.Net.seen c.accept_one.new.net) c.links.single c.accept_one.new.single c.args.now c.accept_one.new.turn.is_dry e.in_turn e.few e.asks e.dialers e.frees e.quietly e.same e.dry e.handed e.young e.waited))
+    let new = ap (λ (e : LinkEndsView g.row.L.Denot). length e.newcomers) c.self.view_is in
+    let both =
+    asked_both g.L.Link.seen (min c.links.counter 1) 1 c.links.counter 1 c.args.self.now c.links.self c.accept_one.new.self (g.N.Net.seen c.args.net.now) (g.N.Net.seen c.links.net) (g.N.Net.seen c.accept_one.new.net) c.args.single.now c.links.single c.accept_one.new.single c.args.now c.links.turn.is_dry c.accept_one.new.turn.is_dry c.links.invariant
+    (asked_one g.L.Link.seen c.links.self c.accept_one.new.self (g.N.Net.seen c.links.net) (g.N.Net.seen c.accept_one.new.net) c.links.single c.accept_one.new.single c.args.now c.accept_one.new.turn.is_dry e.in_turn e.few e.asks e.dialers e.frees e.quietly e.no_lane e.same e.dry e.handed (omega (arith, new, c.if-len-ge-MOST_NEWCOMERS.false, c.len.ensures, c.self.inside.newcomers.ok.0)) e.young e.waited) in
+    asked_as g.L.Link.seen (min c.links.counter 1 + 1) (min (c.links.counter + 1) 1) (c.links.counter + 1) (c.links.counter + 1) c.args.self.now c.accept_one.new.self (g.N.Net.seen c.args.net.now) (g.N.Net.seen c.accept_one.new.net) c.args.single.now c.accept_one.new.single c.args.now c.accept_one.new.turn.is_dry (omega arith) (omega arith) both.filled both
 
 pub returns : goal.returns
 returns g c =
-    asked_as g.L.Link.seen (min c.links.counter 1) 1 c.links.counter 16 c.args.self.now c.links.self (g.N.Net.seen c.args.net.now) (g.N.Net.seen c.links.net) c.args.single.now c.links.single c.args.now c.links.turn.is_dry (omega (arith, c.links-test.false)) (omega (arith, c.links.auto.counter-end)) c.links.invariant
+    asked_as g.L.Link.seen (min c.links.counter 1) 1 c.links.counter 16 c.args.self.now c.links.self (g.N.Net.seen c.args.net.now) (g.N.Net.seen c.links.net) c.args.single.now c.links.single c.args.now c.links.turn.is_dry (omega (arith, c.links-test.false)) (omega (arith, c.links.auto.counter-end))
+    (filled_less c.links.counter 16 c.args.self.now (g.N.Net.seen c.args.net.now) (g.N.Net.seen c.links.net) (omega (arith, c.links-test.false)) c.links.invariant.filled) c.links.invariant

@@ -53,6 +53,16 @@ returns-in-NotYet-clause-handed g c = let o = c.in-NotYet.ensures.shows.0.opened
 pub returns-in-Failed-clause-handed : goal.returns-in-Failed-clause-handed
 returns-in-Failed-clause-handed g c = let o = c.in-Failed.ensures.shows.0.opened in omega (arith, o)
 
+pub returns-in-NotYet-clause-none : goal.returns-in-NotYet-clause-none
+returns-in-NotYet-clause-none g c = λ no i f.
+    let x = c.in-NotYet.ensures.shows in
+    let o = x.0.opened in omega (arith, o, x.1, x.2, i)
+
+pub returns-in-Failed-clause-none : goal.returns-in-Failed-clause-none
+returns-in-Failed-clause-none g c = λ no i f.
+    let x = c.in-Failed.ensures.shows in
+    let o = x.0.opened in omega (arith, o, x.1, x.2, f)
+
 pub returns-in-Got-clause-handed : goal.returns-in-Got-clause-handed
 returns-in-Got-clause-handed g c =
     let o = c.in-Got.ensures.shows.opened in

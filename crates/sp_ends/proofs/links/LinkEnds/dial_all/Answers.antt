@@ -1,5 +1,5 @@
 -- Each address that is due is dialed.
-use Rattle.std.proofs.Common.{◌≡◌, ◌≤◌, ◌<◌, ◌-◌, length, inl, inr, ap, ◌∙◌, subst, sym, arith, refl}
+use Rattle.std.proofs.Common.{◌≡◌, ◌≤◌, ◌<◌, ◌-◌, length, ap, ◌∙◌, subst, sym, arith, refl}
 use Rattle.std.specs.Prelude.{◌^◌, IsTrue, true, false}
 use Rattle.sp_ends.specs.Standing.{LinkEndsView}
 use Rattle.sp_ends.proofs.NewcomingAsks.{at_index}
@@ -43,7 +43,7 @@ dials-preserved g c =
     let e = c.dial_one.ensures in
     dialing_next g.L.Link.seen c.dials.i c.args.self.now c.dials.self (g.N.Net.seen c.args.net.now) (g.N.Net.seen c.dials.net) c.args.single.now c.dials.single c.args.now fits c.dials.turn.is_dry c.dials.invariant c.dial_one.new.self (g.N.Net.seen c.dial_one.new.net) c.dial_one.new.single c.dial_one.new.turn.is_dry
     (λ q at. subst (IsDue c.args.now) (is_there c.self-in-dials.inside.dialers.items c.dials.self.dialers c.dials.i c.index.result.now q there below c.index.ensures at) (c.is_due.ensures.0 (subst IsTrue (sym c.if-not-is_due.false) refl)))
-    e.in_turn e.asks e.dialed e.redials e.quietly e.same e.dry e.known e.young e.waited
+    e.in_turn e.asks e.dialed e.redials e.quietly e.no_lane e.few e.same e.dry e.known e.young e.waited
 
 pub returns-clause-asked : goal.returns-clause-asked
 returns-clause-asked g c start i_in stands =
@@ -71,7 +71,15 @@ returns-clause-dialed g c =
     due_all g.L.Link.seen c.dials.i c.args.self.now c.dials.self (g.N.Net.seen c.args.net.now) (g.N.Net.seen c.dials.net) c.args.single.now c.dials.single c.args.now fits c.dials.turn.is_dry c.dials.invariant (omega (arith, old, c.dials-test.false, c.dials.auto.i-end, c.len-i-end.ensures, c.self.inside.dialers.ok.0))
 
 pub returns-clause-counts : goal.returns-clause-counts
-returns-clause-counts g c = (c.dials.invariant.idles, c.dials.invariant.faults)
+returns-clause-counts g c = (c.dials.invariant.idles, c.dials.invariant.faults, c.dials.invariant.opened)
+
+pub returns-clause-no_lane : goal.returns-clause-no_lane
+returns-clause-no_lane g c = c.dials.invariant.lanes
+
+pub returns-clause-few : goal.returns-clause-few
+returns-clause-few g c =
+    let old = ap (λ (e : LinkEndsView g.row.L.Denot). length e.dialers) c.self.view_is in
+    omega (arith, c.dials.invariant.few, old, c.dials.auto.i-end, c.len-i-end.ensures, c.self.inside.dialers.ok.0)
 
 pub returns-clause-waited : goal.returns-clause-waited
 returns-clause-waited g c = c.dials.invariant.waited

@@ -171,6 +171,17 @@ returns-in-Got-clause-known g c =
     let d = c.dialed-in-Got.ensures in
     knows_got c.args.i c.args.now (g.N.Net.seen c.args.net.now) (g.N.Net.seen c.dial.new.self) (g.N.Net.seen c.welcome.new.net) (g.L.Link.seen c.in-Got.link) _ c.self.inside.dialers.items c.args.self.now.dialers c.welcome.new.self.dialers c.dialed-in-Got.new.self c.in-Got.ensures.shows c.welcome.ensures.serves.counts.opened (ap (λ (v : LinkEndsView g.row.L.Denot). v.dialers) c.self.view_is) (slice_get_within c.args.self.now.dialers c.args.i r.0 r.1) (d.2 ∙ ap Some c.place.ensures) (subst (λ (ds : List Dialer). Frees c.args.now (g.N.Net.seen c.dial.new.self) (g.N.Net.seen c.welcome.new.net) ds c.welcome.new.self.dialers) (ap (λ (v : LinkEndsView g.row.L.Denot). v.dialers) c.asking-way.ensures.same) c.welcome.ensures.frees)
 
+pub returns-in-NotYet-clause-few : goal.returns-in-NotYet-clause-few
+returns-in-NotYet-clause-few g c = let same = ap (λ (v : LinkEndsView g.row.L.Denot). length v.newcomers) c.self.view_is in omega (arith, same)
+
+pub returns-in-Failed-clause-few : goal.returns-in-Failed-clause-few
+returns-in-Failed-clause-few g c = let same = ap (λ (v : LinkEndsView g.row.L.Denot). length v.newcomers) c.self.view_is in omega (arith, same)
+
+pub returns-in-Got-clause-few : goal.returns-in-Got-clause-few
+returns-in-Got-clause-few g c =
+    let same = ap (λ (v : LinkEndsView g.row.L.Denot). length v.newcomers) c.self.view_is in
+    let more = ap (λ (v : LinkEndsView g.row.L.Denot). length v.newcomers) c.asking-way.ensures.same in omega (arith, same, more, c.welcome.ensures.few)
+
 pub returns-in-NotYet-clause-young : goal.returns-in-NotYet-clause-young
 returns-in-NotYet-clause-young g c = λ a.
     subst (λ (ns : List (Newcomer g.row.L.Denot)). AreYoung c.args.now 0 ns) (sym (ap (λ (v : LinkEndsView g.row.L.Denot). v.newcomers) c.self.view_is)) a

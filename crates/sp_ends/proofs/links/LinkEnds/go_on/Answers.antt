@@ -1,15 +1,10 @@
 -- What stands goes from part to part.
-use Rattle.std.proofs.Common.{◌≡◌, ◌≤◌, ◌*◌, ap, ◌∙◌, arith, length, true}
-use Rattle.sp_history.specs.Past.{past_of}
-use Rattle.sp_history.specs.Found.{before_last_tick}
-use Rattle.cat_play.specs.Spending.{has_room}
-use Rattle.sp_ends.specs.Standing.{Beginning, NetStands}
-use Rattle.sp_ends.specs.Turning.{InTurn}
-use Rattle.sp_ends.proofs.Turns.{quiet_both}
-use Rattle.sp_ends.proofs.Serving.{ends_both}
+use Rattle.std.proofs.Common.{◌*◌, ap, ◌∙◌, arith, length}
+use Rattle.sp_ends.proofs.Turns.{quiet_both, lanes_both}
+use Rattle.sp_ends.proofs.Serving.{dialers_long, ends_both}
 use Rattle.sp_ends.proofs.Freeing.{frees_both, turns_all}
 use Rattle.sp_ends.proofs.NewcomingAsks.{asked_all}
-use Rattle.sp_ends.proofs.WholeTurn.{serves_net, room_on, asks_all, turn_ends}
+use Rattle.sp_ends.proofs.WholeTurn.{serves_net, room_on, asks_all, asks_each, dues_asked, dues_taken, turn_ends}
 use Rattle.sp_ends.proofs.links.LinkEnds.go_on.Goals as goal
 
 pub greet_all-requires-clause-in_turn : goal.greet_all-requires-clause-in_turn
@@ -54,6 +49,17 @@ returns-clause-quietly g c =
     quiet_both c.args.single.now c.greet_all.new.single c.dial_all.new.single c.greet_all.ensures.serves.quietly
     (quiet_both c.greet_all.new.single c.accept_all.new.single c.dial_all.new.single c.accept_all.ensures.quietly c.dial_all.ensures.quietly)
 
+pub returns-clause-no_lane : goal.returns-clause-no_lane
+returns-clause-no_lane g c =
+    lanes_both c.args.single.now c.greet_all.new.single c.dial_all.new.single c.greet_all.ensures.serves.lanes
+    (lanes_both c.greet_all.new.single c.accept_all.new.single c.dial_all.new.single c.accept_all.ensures.lanes c.dial_all.ensures.no_lane)
+
+pub returns-clause-few : goal.returns-clause-few
+returns-clause-few g c = λ few.
+    let accepted = c.accept_all.ensures.held 256 (omega arith) (omega (arith, few, c.greet_all.ensures.few)) in
+    let greeted = dialers_long c.args.self.now.dialers c.greet_all.new.self.dialers c.greet_all.ensures.serves.dialers in
+    let asked = dialers_long c.greet_all.new.self.dialers c.accept_all.new.self.dialers c.accept_all.ensures.dialers in omega (arith, accepted, greeted, asked, c.dial_all.ensures.few)
+
 pub returns-clause-same : goal.returns-clause-same
 returns-clause-same g c =
     ends_both c.args.self.now c.greet_all.new.self c.dial_all.new.self c.greet_all.ensures.serves.ends (ends_both c.greet_all.new.self c.accept_all.new.self c.dial_all.new.self c.accept_all.ensures.ends c.dial_all.ensures.same)
@@ -81,6 +87,22 @@ returns-clause-asked g c =
     let t = c.requires.ticked in
     asks_all g.L.Link.seen c.args.now (16 * length c.greet_all.new.self.listeners) c.args.self.now c.greet_all.new.self c.accept_all.new.self (g.N.Net.seen c.args.net.now) (g.N.Net.seen c.greet_all.new.net) (g.N.Net.seen c.accept_all.new.net) (g.N.Net.seen c.dial_all.new.net) c.greet_all.new.single c.accept_all.new.single c.accept_all.new.turn.is_dry
     (let f = t.2.few in omega (arith, f)) c.greet_all.ensures.serves.ends c.greet_all.ensures.serves.dialers c.greet_all.ensures.serves.counts c.greet_all.ensures.few c.accept_all.ensures c.dial_all.ensures.counts.0 c.dial_all.ensures.counts.1 c.dial_all.ensures.dialed
+
+pub returns-clause-each : goal.returns-clause-each
+returns-clause-each g c =
+    let counts = c.dial_all.ensures.counts in
+    let served = c.greet_all.ensures.serves in
+    asks_each g.L.Link.seen c.args.now c.args.self.now c.greet_all.new.self c.accept_all.new.self (g.N.Net.seen c.args.net.now) (g.N.Net.seen c.greet_all.new.net) (g.N.Net.seen c.accept_all.new.net) (g.N.Net.seen c.dial_all.new.net) c.greet_all.new.single c.accept_all.new.single c.accept_all.new.turn.is_dry
+    served.ends served.dialers served.counts c.greet_all.ensures.few c.accept_all.ensures counts.0 counts.1 counts.2 c.dial_all.ensures.dialed
+
+pub returns-clause-dues : goal.returns-clause-dues
+returns-clause-dues g c =
+    let served = c.greet_all.ensures.serves in
+    let old = g.N.Net.seen c.args.net.now in
+    let net = g.N.Net.seen c.greet_all.new.net in
+    let last = g.N.Net.seen c.dial_all.new.net in
+    dues_taken c.args.now c.args.self.now.dialers c.greet_all.new.self.dialers old net last served.dialers served.counts
+    (dues_asked g.L.Link.seen c.args.now (length c.greet_all.new.self.listeners) (16 * length c.greet_all.new.self.listeners) c.greet_all.new.self c.accept_all.new.self net (g.N.Net.seen c.accept_all.new.net) last c.greet_all.new.single c.accept_all.new.single c.accept_all.new.turn.is_dry c.accept_all.ensures c.dial_all.ensures.dialed)
 
 pub returns-clause-waited : goal.returns-clause-waited
 returns-clause-waited g c = λ opened le.

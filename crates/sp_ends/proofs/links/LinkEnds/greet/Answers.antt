@@ -31,6 +31,7 @@ returns-in-Stays-clause-serves g c =
       dialers = subst (λ (ds : List Dialer). AreSameDialers c.args.self.now.dialers ds) (sym (ap (λ (e : LinkEndsView g.row.L.Denot). e.dialers) c.self.view_is)) (same_dialers c.args.self.now.dialers);
       counts = c.in-Stays.ensures.counts;
       quietly = c.in-Stays.ensures.quietly;
+      lanes = c.in-Stays.ensures.no_lane;
     }
 
 pub returns-in-Up-clause-in_turn : goal.returns-in-Up-clause-in_turn
@@ -41,7 +42,7 @@ returns-in-Up-clause-in_turn g c =
 
 pub returns-in-Up-clause-serves : goal.returns-in-Up-clause-serves
 returns-in-Up-clause-serves g c =
-    record { ends = ends_none c.args.self.now; dialers = same_dialers c.args.self.now.dialers; counts = c.in-Up.ensures.counts; quietly = c.in-Up.ensures.quietly }
+    record { ends = ends_none c.args.self.now; dialers = same_dialers c.args.self.now.dialers; counts = c.in-Up.ensures.counts; quietly = c.in-Up.ensures.quietly; lanes = c.in-Up.ensures.no_lane }
 
 pub returns-in-Missed-clause-in_turn : goal.returns-in-Missed-clause-in_turn
 returns-in-Missed-clause-in_turn g c =
@@ -54,7 +55,7 @@ returns-in-Missed-clause-in_turn g c =
 
 pub returns-in-Missed-clause-serves : goal.returns-in-Missed-clause-serves
 returns-in-Missed-clause-serves g c =
-    record { ends = ends_lost c.args.self.now c.lost.new.self c.lost.ensures.same; dialers = c.lost.ensures.same.dialers; counts = c.in-Missed.ensures.counts; quietly = c.in-Missed.ensures.quietly }
+    record { ends = ends_lost c.args.self.now c.lost.new.self c.lost.ensures.same; dialers = c.lost.ensures.same.dialers; counts = c.in-Missed.ensures.counts; quietly = c.in-Missed.ensures.quietly; lanes = c.in-Missed.ensures.no_lane }
 
 pub returns-in-Stays-clause-frees : goal.returns-in-Stays-clause-frees
 returns-in-Stays-clause-frees g c =

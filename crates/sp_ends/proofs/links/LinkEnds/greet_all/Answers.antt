@@ -8,7 +8,7 @@ use Rattle.sp_ends.proofs.Young.{young_none, young_rest}
 use Rattle.sp_ends.proofs.Waited.{waiting_none, waiting_rest}
 use Rattle.sp_ends.proofs.links.LinkEnds.greet_all.Goals as goal
 use Rattle.sp_ends.proofs.Serving.{turn_with, ends_none, same_dialers, counts_none, serves_both, serves_less}
-use Rattle.sp_ends.proofs.Turns.{quiet_none}
+use Rattle.sp_ends.proofs.Turns.{quiet_none, lanes_none}
 use Rattle.sp_ends.specs.Freeing.{Frees}
 use Rattle.sp_ends.specs.declared.dialer.Dialer.{Dialer}
 use Rattle.sp_ends.proofs.Freeing.{frees_none, frees_both}
@@ -20,7 +20,7 @@ greets-init g c =
       in_turn = λ start i. subst (λ (m : ℕ). InTurn g.L.Link.seen start c.args.self.now (g.N.Net.seen c.args.net.now) c.args.single.now c.args.now m) n i;
       stands = (c.requires.in_turn.0, subst (λ (m : ℕ). InTurn g.L.Link.seen c.requires.in_turn.0 c.args.self.now (g.N.Net.seen c.args.net.now) c.args.single.now c.args.now m) n c.requires.in_turn.1);
       few = omega arith;
-      serves = record { ends = ends_none c.args.self.now; dialers = same_dialers c.args.self.now.dialers; counts = counts_none (g.N.Net.seen c.args.net.now); quietly = quiet_none c.args.single.now };
+      serves = record { ends = ends_none c.args.self.now; dialers = same_dialers c.args.self.now.dialers; counts = counts_none (g.N.Net.seen c.args.net.now); quietly = quiet_none c.args.single.now; lanes = lanes_none c.args.single.now };
       frees = frees_none c.args.now (g.N.Net.seen c.args.net.now) (g.N.Net.seen c.args.net.now) c.args.self.now.dialers c.args.self.now.dialers (omega arith) refl refl;
       dry = c.requires.dry;
       young = young_none c.args.now (length c.args.self.now.newcomers - 0) c.args.self.now.newcomers (omega arith);

@@ -3,7 +3,7 @@ use Rattle.std.proofs.Common.{refl, sym, ap, subst, List, ℕ, ◌<◌, length, 
 use Rattle.sp_ends.specs.declared.newcomer.Newcomer.{Newcomer}
 use Rattle.sp_ends.specs.Standing.{LinksStand}
 use Rattle.sp_ends.proofs.links.LinkEnds.take_ended.Goals as goal
-use Rattle.sp_ends.proofs.Turns.{quiet_one, first_play, settles_play, dry_first, dry_settles, sound_one}
+use Rattle.sp_ends.proofs.Turns.{quiet_one, first_play, settles_play, lanes_one, lane_first, lane_settles, dry_first, dry_settles, sound_one}
 use Rattle.sp_ends.proofs.Serving.{turn_on, taken_stands, settled_stands, lane_taken, ends_none, ends_lost, same_dialers, counts_none, counts_back, newcomers_lost}
 use Rattle.sp_ends.proofs.Taking.{left_by, lane_left}
 use Rattle.sp_ends.proofs.Calling.{took_pipe, taken_first}
@@ -19,7 +19,7 @@ returns-in_default-clause-in_turn g c =
 pub returns-in_default-clause-serves : goal.returns-in_default-clause-serves
 returns-in_default-clause-serves g c =
     let took = c.in_default.ensures.turn in
-    record { ends = ends_none c.args.self.now; dialers = same_dialers c.args.self.now.dialers; counts = counts_none (g.N.Net.seen c.args.net.now); quietly = quiet_one _ c.args.single.now c.take_ended.new.self took (settles_play took.turn.entries took.said.1) }
+    record { ends = ends_none c.args.self.now; dialers = same_dialers c.args.self.now.dialers; counts = counts_none (g.N.Net.seen c.args.net.now); quietly = quiet_one _ c.args.single.now c.take_ended.new.self took (settles_play took.turn.entries took.said.1); lanes = lanes_one _ c.args.single.now c.take_ended.new.self took (lane_settles took.turn.entries took.said.1) }
 
 pub returns-in_default-clause-dry : goal.returns-in_default-clause-dry
 returns-in_default-clause-dry g c =
@@ -50,6 +50,7 @@ returns-clause-serves g c =
       dialers = c.lost.ensures.same.dialers;
       counts = counts_back (g.L.Link.seen c.in-Some-leave_wire.link) (g.N.Net.seen c.args.net.now) (g.N.Net.seen c.give_back.new.self) c.give_back.ensures;
       quietly = quiet_one _ c.args.single.now c.take_ended.new.self took (first_play _ took.turn took.said.2 refl);
+      lanes = lanes_one _ c.args.single.now c.take_ended.new.self took (lane_first _ took.turn took.said.2 refl);
     }
 
 pub returns-clause-dry : goal.returns-clause-dry
@@ -81,7 +82,7 @@ returns-in_default-leave_wire-clause-in_turn g c =
 pub returns-in_default-leave_wire-clause-serves : goal.returns-in_default-leave_wire-clause-serves
 returns-in_default-leave_wire-clause-serves g c =
     let took = c.in-Some.ensures.turn in
-    record { ends = ends_none c.args.self.now; dialers = same_dialers c.args.self.now.dialers; counts = counts_none (g.N.Net.seen c.args.net.now); quietly = quiet_one _ c.args.single.now c.take_ended.new.self took (first_play _ took.turn took.said.2 refl) }
+    record { ends = ends_none c.args.self.now; dialers = same_dialers c.args.self.now.dialers; counts = counts_none (g.N.Net.seen c.args.net.now); quietly = quiet_one _ c.args.single.now c.take_ended.new.self took (first_play _ took.turn took.said.2 refl); lanes = lanes_one _ c.args.single.now c.take_ended.new.self took (lane_first _ took.turn took.said.2 refl) }
 
 pub returns-in_default-leave_wire-clause-dry : goal.returns-in_default-leave_wire-clause-dry
 returns-in_default-leave_wire-clause-dry g c =

@@ -1,15 +1,16 @@
 -- What stands goes from part to part.
-use Rattle.std.proofs.Common.{refl, true, false, ap, sym, subst, ◌∙◌, arith, length, List}
+use Rattle.std.proofs.Common.{refl, true, false, ap, subst, ◌∙◌, arith, length, List}
 use Rattle.std.specs.List.{AllByRecursion}
 use Rattle.sp_history.specs.Past.{past_of}
 use Rattle.sp_history.proofs.Backing.{legal_allowed}
 use Rattle.sp_ends.specs.declared.newcomer.Newcomer.{Newcomer}
+use Rattle.sp_ends.specs.Standing.{LinkEndsView}
 use Rattle.sp_ends.specs.Turning.{HasWaitedSince}
 use Rattle.sp_ends.proofs.TakenAll.{untaken_off, off_stays}
-use Rattle.sp_ends.proofs.Turns.{quiet_both}
-use Rattle.sp_ends.proofs.Serving.{ends_both}
-use Rattle.sp_ends.proofs.Freeing.{frees_both, turns_all}
-use Rattle.sp_ends.proofs.WholeTurn.{turn_begins, serves_net, room_on, asks_taken}
+use Rattle.sp_ends.proofs.Turns.{quiet_both, lanes_both}
+use Rattle.sp_ends.proofs.Serving.{dialers_long, ends_both}
+use Rattle.sp_ends.proofs.Freeing.{turns_all}
+use Rattle.sp_ends.proofs.WholeTurn.{turn_begins, serves_net, room_on, asks_taken, each_taken, dues_taken}
 use Rattle.sp_ends.proofs.Calling.{goes_both, quiet_ups, turns_callers, turns_lanes, accepts_for, bring_for}
 use Rattle.sp_ends.proofs.links.LinkEnds.turn.Goals as goal
 
@@ -46,6 +47,11 @@ returns-clause-quietly g c =
 pub returns-clause-dry : goal.returns-clause-dry
 returns-clause-dry g c = c.accept_names.ensures.on.dry ∙ (c.call_all.ensures.on.dry ∙ c.go_on.ensures.dry)
 
+pub returns-clause-few : goal.returns-clause-few
+returns-clause-few g c = λ few.
+    let taken = dialers_long c.args.self.now.dialers c.take_all_ended.new.self.dialers c.take_all_ended.ensures.serves.dialers in
+    let gone = c.go_on.ensures.few (omega (arith, few, c.take_all_ended.ensures.few)) in omega (arith, taken, gone)
+
 pub returns-clause-same : goal.returns-clause-same
 returns-clause-same g c = ends_both c.args.self.now c.take_all_ended.new.self c.go_on.new.self c.take_all_ended.ensures.serves.ends c.go_on.ensures.same
 
@@ -80,6 +86,15 @@ pub returns-clause-asked : goal.returns-clause-asked
 returns-clause-asked g c =
     asks_taken c.args.now c.args.self.now c.take_all_ended.new.self (g.N.Net.seen c.args.net.now) (g.N.Net.seen c.take_all_ended.new.net) (g.N.Net.seen c.go_on.new.net) c.args.single.now c.take_all_ended.new.single c.take_all_ended.ensures.serves c.take_all_ended.ensures.few c.go_on.ensures.asked
 
+pub returns-clause-each : goal.returns-clause-each
+returns-clause-each g c =
+    each_taken c.args.now c.args.self.now c.take_all_ended.new.self (g.N.Net.seen c.args.net.now) (g.N.Net.seen c.take_all_ended.new.net) (g.N.Net.seen c.go_on.new.net) c.args.single.now c.take_all_ended.new.single c.take_all_ended.ensures.serves c.take_all_ended.ensures.few c.go_on.ensures.each
+
+pub returns-clause-dues : goal.returns-clause-dues
+returns-clause-dues g c =
+    let taken = c.take_all_ended.ensures.serves in
+    dues_taken c.args.now c.args.self.now.dialers c.take_all_ended.new.self.dialers (g.N.Net.seen c.args.net.now) (g.N.Net.seen c.take_all_ended.new.net) (g.N.Net.seen c.go_on.new.net) taken.dialers taken.counts c.go_on.ensures.dues
+
 pub returns-clause-callers : goal.returns-clause-callers
 returns-clause-callers g c =
     let on = goes_both c.go_on.new.single c.call_all.new.single c.accept_names.new.single c.call_all.ensures.on c.accept_names.ensures.on in
@@ -90,9 +105,10 @@ returns-clause-callers g c =
 pub returns-clause-lanes : goal.returns-clause-lanes
 returns-clause-lanes g c =
     let same = c.call_all.ensures.names ∙ c.take_all_ended.ensures.names in
-    turns_lanes (length c.go_on.new.self.newcomers) c.args.names.now.names c.args.single.now c.call_all.new.single c.accept_names.new.single c.args.inproc.now c.call_all.new.inproc c.accept_names.new.inproc
-    (quiet_both c.args.single.now c.take_all_ended.new.single c.call_all.new.single c.take_all_ended.ensures.serves.quietly (quiet_both c.take_all_ended.new.single c.go_on.new.single c.call_all.new.single c.go_on.ensures.quietly c.call_all.ensures.on.quietly))
-    c.call_all.ensures.dialed (accepts_for _ _ _ _ _ _ same c.accept_names.ensures.accepted) (bring_for c.call_all.new.inproc c.accept_names.new.inproc (length c.go_on.new.self.newcomers) _ _ same c.accept_names.ensures.brings)
+    let role = ap (λ (e : LinkEndsView g.row.L.Denot). e.role) c.self.view_is ∙ (c.go_on.ensures.same.role ∙ c.take_all_ended.ensures.serves.ends.role) in
+    turns_lanes c.args.now c.args.self.now.role _ (length c.go_on.new.self.newcomers) c.args.names.now.names c.args.single.now c.take_all_ended.new.single c.go_on.new.single c.call_all.new.single c.accept_names.new.single c.args.inproc.now c.call_all.new.inproc c.accept_names.new.inproc c.args.names.now.callers c.take_all_ended.new.names.callers c.call_all.new.self.callers
+    (quiet_both c.args.single.now c.take_all_ended.new.single c.go_on.new.single c.take_all_ended.ensures.serves.quietly c.go_on.ensures.quietly)
+    (lanes_both c.args.single.now c.take_all_ended.new.single c.go_on.new.single c.take_all_ended.ensures.serves.lanes c.go_on.ensures.no_lane) role c.take_all_ended.ensures.callers c.call_all.ensures.dials c.accept_names.ensures.on (accepts_for _ _ _ _ _ _ same c.accept_names.ensures.accepted) (bring_for c.call_all.new.inproc c.accept_names.new.inproc (length c.go_on.new.self.newcomers) _ _ same c.accept_names.ensures.brings) c.accept_names.ensures.held
 
 pub returns-clause-waited : goal.returns-clause-waited
 returns-clause-waited g c =

@@ -11,10 +11,10 @@ use Rattle.sp_ends.specs.Standing.{Beginning, LinkEndsView, HandStands, LinksSta
 use Rattle.sp_ends.specs.Freeing.{GivesOneBack}
 use Rattle.link_opening.specs.Origins.{Origins}
 use Rattle.sp_ends.specs.Turning.{InTurn, Arrives, AreYoung, AreWaitingBehind, FitsIn}
-use Rattle.sp_ends.proofs.Turns.{quiet_both}
+use Rattle.sp_ends.proofs.Turns.{lanes_both, quiet_both}
 use Rattle.sp_ends.proofs.Serving.{turn_on, ends_lost, newcomers_lost}
 use Rattle.sp_ends.proofs.Freeing.{frees_lost}
-use Rattle.sp_ends.proofs.NewcomingTurn.{MeetsAt, meets_quiet, meets_dry, met_hand, welcomed, dry_cause}
+use Rattle.sp_ends.proofs.NewcomingTurn.{MeetsAt, meets_quiet, meets_lanes, meets_dry, met_hand, welcomed, dry_cause}
 use Rattle.sp_ends.proofs.links.LinkEnds.welcome.Goals as goal
 
 -- the way that is left is the same, or missing
@@ -57,7 +57,7 @@ returns-in-Ok-clause-in_turn g c start before i arrives =
 pub returns-in-Ok-clause-serves : goal.returns-in-Ok-clause-serves
 returns-in-Ok-clause-serves g c =
     let s = c.greet.ensures.serves in
-    record { ends = s.ends; dialers = s.dialers; counts = s.counts; quietly = quiet_both c.args.single.now c.met.new.self c.greet.new.single (meets_quiet c.place-place.result c.args.single.now c.met.new.self c.met.ensures.turn) s.quietly }
+    record { ends = s.ends; dialers = s.dialers; counts = s.counts; quietly = quiet_both c.args.single.now c.met.new.self c.greet.new.single (meets_quiet c.place-place.result c.args.single.now c.met.new.self c.met.ensures.turn) s.quietly; lanes = lanes_both c.args.single.now c.met.new.self c.greet.new.single (meets_lanes c.place-place.result c.args.single.now c.met.new.self c.met.ensures.turn) s.lanes }
 
 pub returns-in-Ok-clause-young : goal.returns-in-Ok-clause-young
 returns-in-Ok-clause-young g c = λ a. c.greet.ensures.young 0 a
@@ -101,6 +101,7 @@ returns-in-Err-clause-serves g c =
       dialers = c.lost.ensures.same.dialers;
       counts = c.miss.ensures.counts;
       quietly = quiet_both c.args.single.now c.met.new.self c.miss.new.single (meets_quiet c.place-place.result c.args.single.now c.met.new.self c.met.ensures.turn) c.miss.ensures.quietly;
+      lanes = lanes_both c.args.single.now c.met.new.self c.miss.new.single (meets_lanes c.place-place.result c.args.single.now c.met.new.self c.met.ensures.turn) c.miss.ensures.no_lane;
     }
 
 pub returns-in-Err-clause-frees : goal.returns-in-Err-clause-frees

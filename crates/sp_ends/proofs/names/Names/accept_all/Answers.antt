@@ -1,5 +1,5 @@
 -- One name after the other is asked.
-use Rattle.std.proofs.Common.{◌≡◌, ◌<◌, ◌+◌, ◌*◌, ℕ, List, refl, sym, subst, ap, arith, length, add-one, Some, slice_get}
+use Rattle.std.proofs.Common.{◌<◌, ◌+◌, ◌*◌, ℕ, List, refl, sym, subst, ap, arith, length, add-one}
 use Rattle.sp_ends.proofs.Bringing.{BringTo, to_later, to_next, to_all, brings_before, fewer_none, fewer_both}
 use Rattle.sp_ends.proofs.NewcomingAsks.{at_index}
 use Rattle.sp_ends.specs.Calling.{Brings}
@@ -21,7 +21,7 @@ names-preserved g c =
     let there = ap (λ (v : NamesView). v.names) c.self.view_is in
     let below : c.names.i < length c.args.self.now.names = omega (arith, old, c.names-test.true, c.len-i-end.ensures, c.self.inside.names.ok.0) in
     let at = at_index c.self.inside.names.items c.args.self.now.names c.names.i c.index.result.now there below c.index.ensures in
-    let asked = subst (λ (n : List ℕ). Brings n 0 c.names.inproc c.accept_from.new.inproc) c.as_slice.ensures e.brings in
+    let asked = subst (λ (n : List ℕ). Brings n c.names.inproc c.accept_from.new.inproc) c.as_slice.ensures e.brings in
     record {
       on = goes_both a b d c.names.invariant.on c.accept_from.ensures.on;
       links = keeps_both g.L.Link.seen a b d c.names.invariant.links c.accept_from.ensures.links;

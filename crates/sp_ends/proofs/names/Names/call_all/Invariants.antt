@@ -1,6 +1,6 @@
 use Rattle.std.proofs.Common.{◌≡◌, length}
-use Rattle.sp_ends.specs.Calling.{DialsLanes, GoesOn, KeepsLinks}
-use Rattle.sp_ends.proofs.Calling.{CallsTo}
+use Rattle.sp_ends.specs.Calling.{GoesOn, KeepsLinks}
+use Rattle.sp_ends.proofs.Calling.{CallsTo, DialsTo}
 use Rattle.sp_ends.proofs.names.Names.call_all.Given as goal
 
 abbrev pub invariant-calls : goal.invariant-calls
@@ -10,6 +10,6 @@ invariant-calls g l =
       links : KeepsLinks g.L.Link.seen l.initial.single l.single;
       names : l.self.names ≡ l.initial.self.names;
       callers : CallsTo l.i l.now l.initial.single l.single l.initial.self.callers l.self.callers;
-      dialed : DialsLanes l.initial.inproc l.inproc;
+      dials : DialsTo l.now l.role l.i l.initial.single l.single l.initial.inproc l.inproc l.initial.self.callers l.self.callers;
       lengths : length l.self.callers ≡ length l.initial.self.callers;
     }
