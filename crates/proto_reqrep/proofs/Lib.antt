@@ -1,6 +1,6 @@
 pub mod Prefixes
 pub mod Backlogged
-pub mod Places
+pub mod Positions
 pub mod Rising
 pub mod Piping
 pub mod Taking
@@ -14,6 +14,8 @@ pub mod Checked
 pub mod Roles
 pub mod Orphaned
 pub mod Living
+pub mod Ordered
+pub mod Seated
 pub mod Outgoing
 pub mod Owning
 pub mod Requested

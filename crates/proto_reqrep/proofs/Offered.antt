@@ -37,7 +37,7 @@ use Rattle.proto_reqrep.specs.Reps.{send_offer, answer_offer, way_offer}
 use Rattle.sp_proto.specs.declared.Offer.TheVariants as offers
 use Rattle.std.specs.List.{position}
 use Rattle.std.proofs.Common.{slice_index_or, inl, inr}
-use Rattle.proto_reqrep.proofs.Places.{found_at, not_found}
+use Rattle.proto_reqrep.proofs.Positions.{found_at, not_found}
 use Rattle.proto_reqrep.proofs.Ended.{targets_are, route_of, out_bytes}
 use Rattle.sp_proto.specs.Machines.{IsOffered}
 use Rattle.sp_proto.specs.declared.Offer.{Offer}

@@ -12,13 +12,14 @@
 #![tactic(auto)]
 
 mod backlog;
+mod contexts;
 mod lives;
 mod numbers;
+mod places;
 mod ports;
 mod rep;
 mod req;
-#[cfg(test)]
-mod tests;
+mod seats;
 mod trail;
 
 pub use rep::{Reply, Respond};

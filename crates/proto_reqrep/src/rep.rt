@@ -16,6 +16,7 @@ ghost use Rattle.proto_reqrep.specs.declared.rep.Answer.{Answer as AnswerType};
 ghost use Rattle.proto_reqrep.specs.Reps.{Ties, reply_kind, role_of, item_of, origin_of, origin_at, is_for, is_home, is_receive, is_ready, way_of, out_text, without_first, ctx_of, send_offer, Gives, act_of, state_at};
 
 use crate::backlog::{Backlog, FromPipe};
+use crate::places::Places;
 use crate::ports::{Ports, Way};
 use crate::trail::{Trail, Words, first_word, scan};
 use sp_base::{Ctx, NoMemory, OpName, PipeId, Role, Tick};
@@ -43,16 +44,16 @@ impl FromPipe for Kept {
 
 /// Where a request came from.
 #[derive(Drop)]
-struct Source {
-    pipe: PipeId,
-    words: Words,
+pub struct Source {
+    pub pipe: PipeId,
+    pub words: Words,
 }
 
 /// An open context, and the request that its next send answers.
 #[derive(Drop)]
-struct Place {
-    ctx: Ctx,
-    stored: Option<Source>,
+pub struct Place {
+    pub ctx: Ctx,
+    pub stored: Option<Source>,
 }
 
 /// A send that waits: its message, as it was begun, and, cooked, the request that it answers.
@@ -89,55 +90,8 @@ pub struct Reply {
     kept: Backlog<Kept>,
     /// In the order of their begins.
     waiting: VecDeque<Waiting>,
-    /// In the order in which they were opened.
-    places: Vec<Place>,
-}
-
-// The context's place.
-fn home(places: &[Place], c: Ctx) -> Option<usize>
-    ensures { result ≡ position (is_home c) places.now }
-{
-    places.iter().position(|x| x.ctx.0 == c.0)
-}
-
-// The context is open.
-fn is_open(places: &[Place], c: Ctx) -> bool
-    ensures { result ≡ list_any (is_home c) places.now }
-{
-    places.iter().any(|x| x.ctx.0 == c.0)
-}
-
-// A request is stored with the context.
-fn is_stored(places: &[Place], c: Ctx) -> bool
-    ensures { result ≡ is_some (origin_at c places.now) }
-{
-    match home(places, c) {
-        None => false,
-        Some(i) => places[i].stored.is_some(),
-    }
-}
-
-// Stores a request with the context.
-fn store(places: &mut [Place], c: Ctx, source: Source)
-    ensures ctxs { map ctx_of places.new ≡ map ctx_of places.old }
-    ensures stored { (d : ℕ) → has (map ctx_of places.old) c ≡ true → origin_at d places.new ≡ (if c == d then Some (origin_of source) else origin_at d places.old) }
-{
-    match home(places, c) {
-        None => {}
-        Some(i) => places[i].stored = Some(source),
-    }
-}
-
-// Takes the request away that is stored with the context.
-fn unstore(places: &mut [Place], c: Ctx) -> Option<Source>
-    ensures ctxs { map ctx_of places.new ≡ map ctx_of places.old }
-    ensures result { option_map origin_of result ≡ origin_at c places.old }
-    ensures stored { (d : ℕ) → origin_at d places.new ≡ (if c == d then None else origin_at d places.old) }
-{
-    match home(places, c) {
-        None => None,
-        Some(i) => places[i].stored.take(),
-    }
+    /// Of the open contexts.
+    places: Places,
 }
 
 // Where a send may go.
@@ -261,26 +215,12 @@ fn traced(alloc: Global, raw: bool, ttl: u8, p: PipeId, m: Message) -> Result<Ke
     }
 }
 
-// The first place.
-fn first_places(alloc: Global) -> Result<Vec<Place>, NoMemory>
-    ensures { IfOk result (λ v. v.items ≡ record { ctx = 0; stored = None } ∷ []) }
-{
-    let mut places = Vec::new(alloc);
-    match places.push(Place {
-        ctx: Ctx(0),
-        stored: None,
-    }) {
-        Ok(()) => Ok(places),
-        Err(_) => Err(NoMemory),
-    }
-}
-
 // A machine to which nothing has happened.
 fn unused(alloc: Global, role: ReplyRole, options: Options, raw: bool) -> Result<Reply, NoMemory>
     requires { Fits options }
     ensures { IfOk result (λ m. Starts Ties m (reply_kind (role_of role) raw options)) }
 {
-    match first_places(alloc) {
+    match Places::new(alloc) {
         Err(e) => Err(e),
         Ok(places) => Ok(Reply {
             alloc,
@@ -352,7 +292,7 @@ impl Reply {
                 },
             ) => {
                 if !self.raw {
-                    store(&mut self.places, c, Source { pipe, words });
+                    self.places.store(c, Source { pipe, words });
                 }
                 Some(message)
             }
@@ -365,7 +305,7 @@ impl Reply {
     {
         match verb {
             Verb::Recv => self.is_receiving(c),
-            Verb::Send => !is_stored(&self.places, c),
+            Verb::Send => !self.places.is_stored(c),
         }
     }
 
@@ -458,7 +398,7 @@ impl Proto for Reply {
         if self.raw && c.0 != 0 {
             return Err(CheckError::NotSupported);
         }
-        if !is_open(&self.places, c) {
+        if !self.places.has(c) {
             return Err(CheckError::NoEntry);
         }
         if !self.raw && self.has_state(c, verb) {
@@ -468,7 +408,7 @@ impl Proto for Reply {
     }
 
     fn begin(&mut self, op: OpName, c: Ctx, act: Act) -> Result<(), Message> {
-        let source = unstore(&mut self.places, c);
+        let source = self.places.unstore(c);
         let answer = answer_of(act, source);
         if self
             .waiting
@@ -546,17 +486,11 @@ impl Proto for Reply {
     }
 
     fn open_ctx(&mut self, c: Ctx) -> Result<(), NoMemory> {
-        match self.places.push(Place {
-            ctx: c,
-            stored: None,
-        }) {
-            Ok(()) => Ok(()),
-            Err(_) => Err(NoMemory),
-        }
+        self.places.open(c)
     }
 
     fn close_ctx(&mut self, c: Ctx) {
-        self.places.retain(|x| x.ctx.0 != c.0);
+        self.places.close(c);
     }
 
     fn topic(&mut self, c: Ctx, t: &[u8], on: bool) -> Result<bool, NoMemory> {

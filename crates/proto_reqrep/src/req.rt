@@ -23,6 +23,7 @@ ghost use Rattle.proto_reqrep.specs.Reqs.{Ties, req_kind, is_live_on, is_asked, 
 use crate::backlog::{Backlog, FromPipe};
 use crate::lives::Lives;
 use crate::ports::Ports;
+use crate::seats::Seats;
 use crate::trail::first_word;
 use sp_base::{Ctx, NoMemory, OpName, PipeId, Role, Tick};
 use sp_history::entry::Cause;
@@ -74,10 +75,10 @@ struct Asking {
 
 /// An open context.
 #[derive(Clone, Copy)]
-struct Seat {
-    ctx: Ctx,
+pub struct Seat {
+    pub ctx: Ctx,
     /// A copy of a request of it found no memory since the last tick.
-    is_dry: bool,
+    pub is_dry: bool,
 }
 
 /// A req (nng_req(7)), cooked or raw.
@@ -98,66 +99,8 @@ pub struct Request {
     calm: usize,
     /// In the order of their begins.
     waiting: Vec<Asking>,
-    /// In the order in which they were opened.
-    seats: Vec<Seat>,
-}
-
-// ---- Contexts
-
-// The first seat.
-fn first_seats(alloc: Global) -> Result<Vec<Seat>, NoMemory>
-    ensures { IfOk result (λ v. v.items ≡ record { ctx = 0; is_dry = false } ∷ []) }
-{
-    let mut seats = Vec::new(alloc);
-    match seats.push(Seat {
-        ctx: Ctx(0),
-        is_dry: false,
-    }) {
-        Ok(()) => Ok(seats),
-        Err(_) => Err(NoMemory),
-    }
-}
-
-// The context is open.
-fn is_open(seats: &[Seat], c: Ctx) -> bool
-    ensures { result ≡ list_any (λ (s : SeatType). s.ctx == c) seats.now }
-{
-    seats.iter().any(|s| s.ctx.0 == c.0)
-}
-
-// A copy for the context found no memory.
-fn is_dry(seats: &[Seat], c: Ctx) -> bool
-    ensures { result ≡ dry_at c seats.now }
-{
-    seats.iter().any(|s| s.ctx.0 == c.0 && s.is_dry)
-}
-
-// Dry, if it is that of this context.
-fn dried(seat: Seat, c: Ctx) -> Seat
-    ensures { result ≡ dried c seat }
-{
-    Seat {
-        ctx: seat.ctx,
-        is_dry: seat.is_dry || seat.ctx.0 == c.0,
-    }
-}
-
-// A copy for the context finds no memory.
-fn dry(seats: &mut [Seat], c: Ctx)
-    ensures { seats.new ≡ map (dried c) seats.old }
-{
-    for seat in seats.iter_mut() {
-        *seat = dried(*seat, c);
-    }
-}
-
-// Each may be tried again.
-fn wet(seats: &mut [Seat])
-    ensures { seats.new ≡ map wetted seats.old }
-{
-    for seat in seats.iter_mut() {
-        seat.is_dry = false;
-    }
+    /// Of the open contexts.
+    seats: Seats,
 }
 
 // ---- Operations
@@ -333,7 +276,7 @@ impl Request {
         requires { Fits options }
         ensures { IfOk result (λ m. Starts Ties m (req_kind raw options)) }
     {
-        match first_seats(alloc) {
+        match Seats::new(alloc) {
             Err(e) => Err(e),
             Ok(seats) => Ok(Request {
                 raw,
@@ -467,7 +410,7 @@ impl Request {
         }
         match x.last_out {
             None => false,
-            Some(out) => self.is_late(out) && !is_dry(&self.seats, x.ctx),
+            Some(out) => self.is_late(out) && !self.seats.is_dry(x.ctx),
         }
     }
 
@@ -636,7 +579,7 @@ impl Proto for Request {
         if self.raw && c.0 != 0 {
             return Err(CheckError::NotSupported);
         }
-        if !is_open(&self.seats, c) {
+        if !self.seats.has(c) {
             return Err(CheckError::NoEntry);
         }
         if !self.raw && self.has_state(c, verb) {
@@ -717,7 +660,7 @@ impl Proto for Request {
     fn again(&mut self, c: Ctx, p: PipeId) -> Option<Message> {
         match self.live.copy_of(c) {
             None => {
-                dry(&mut self.seats, c);
+                self.seats.dry(c);
                 None
             }
             Some(copy) => {
@@ -763,24 +706,18 @@ impl Proto for Request {
 
     fn clock(&mut self, now: Tick) {
         self.tick = now;
-        wet(&mut self.seats);
+        self.seats.wet();
         self.calm = 0;
     }
 
     fn open_ctx(&mut self, c: Ctx) -> Result<(), NoMemory> {
-        match self.seats.push(Seat {
-            ctx: c,
-            is_dry: false,
-        }) {
-            Ok(()) => Ok(()),
-            Err(_) => Err(NoMemory),
-        }
+        self.seats.open(c)
     }
 
     fn close_ctx(&mut self, c: Ctx) {
         let _ = self.live.take_live(c);
         self.calm = self.calm.saturating_sub(1);
-        self.seats.retain(|s| s.ctx.0 != c.0);
+        self.seats.close(c);
     }
 
     fn topic(&mut self, c: Ctx, t: &[u8], on: bool) -> Result<bool, NoMemory> {

@@ -1,6 +1,6 @@
 use Rattle.std.proofs.Common.{◌∙◌, sym}
 use Rattle.proto_reqrep.specs.Reqs.{waits_for, with_kept}
-use Rattle.proto_reqrep.proofs.Places.{not_found, with_none, with_at}
+use Rattle.proto_reqrep.proofs.Positions.{not_found, with_none, with_at}
 use Rattle.proto_reqrep.proofs.lives.set_reply.Goals as goal
 
 pub returns-in-None : goal.returns-in-None

@@ -1,6 +1,6 @@
 use Rattle.std.proofs.Common.{refl}
 use Rattle.proto_reqrep.specs.Ports.{unmarked}
-use Rattle.proto_reqrep.proofs.Places.{written}
+use Rattle.proto_reqrep.proofs.Positions.{written}
 use Rattle.proto_reqrep.proofs.ports.restart.Goals as goal
 
 pub loop-port-preserved : goal.loop-port-preserved

@@ -1,6 +1,6 @@
 use Rattle.std.proofs.Common.{ap, slice_index_or}
 use Rattle.proto_reqrep.specs.Reqs.{orphaned}
-use Rattle.proto_reqrep.proofs.Places.{written}
+use Rattle.proto_reqrep.proofs.Positions.{written}
 use Rattle.proto_reqrep.proofs.req.leave_behind.Goals as goal
 
 pub loop-w-preserved : goal.loop-w-preserved

@@ -2,7 +2,7 @@ use Rattle.std.proofs.Common.{◌≡◌, ◌∙◌, sym, ap, Some}
 use Rattle.std.specs.List.{position}
 use Rattle.proto_reqrep.specs.declared.req.Asking.{Asking}
 use Rattle.proto_reqrep.specs.Reqs.{is_asked}
-use Rattle.proto_reqrep.proofs.Places.{found_at, not_found, without_none, without_at}
+use Rattle.proto_reqrep.proofs.Positions.{found_at, not_found, without_none, without_at}
 use Rattle.proto_reqrep.proofs.req.take.Goals as goal
 
 pub returns-in-None-clause-found : goal.returns-in-None-clause-found

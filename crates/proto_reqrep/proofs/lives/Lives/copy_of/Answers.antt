@@ -4,7 +4,7 @@ use Rattle.std.specs.List.{position}
 use Rattle.proto_reqrep.specs.Lives.{LivesView}
 use Rattle.proto_reqrep.specs.Reqs.{is_live_on}
 use Rattle.proto_reqrep.specs.declared.req.Live.{Live}
-use Rattle.proto_reqrep.proofs.Places.{found_at}
+use Rattle.proto_reqrep.proofs.Positions.{found_at}
 use Rattle.proto_reqrep.proofs.lives.Lives.copy_of.Goals as goal
 
 its : (x y : Live) → Some x ≡ Some y → x ≡ y

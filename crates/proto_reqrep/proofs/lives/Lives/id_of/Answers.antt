@@ -4,7 +4,7 @@ use Rattle.std.specs.List.{position}
 use Rattle.proto_reqrep.specs.Lives.{LivesView}
 use Rattle.proto_reqrep.specs.Reqs.{is_live_on, live_id}
 use Rattle.proto_reqrep.specs.declared.req.Live.{Live}
-use Rattle.proto_reqrep.proofs.Places.{found_at, not_found}
+use Rattle.proto_reqrep.proofs.Positions.{found_at, not_found}
 use Rattle.proto_reqrep.proofs.lives.Lives.id_of.Goals as goal
 
 pub returns-in-None : goal.returns-in-None

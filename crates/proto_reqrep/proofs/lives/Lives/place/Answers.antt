@@ -6,7 +6,7 @@ use Rattle.proto_reqrep.specs.Numbers.{number_at}
 use Rattle.proto_reqrep.specs.Lives.{LivesView}
 use Rattle.proto_reqrep.specs.Reqs.{is_live_on, live_ctx}
 use Rattle.proto_reqrep.specs.declared.req.Live.{Live}
-use Rattle.proto_reqrep.proofs.Places.{nowhere}
+use Rattle.proto_reqrep.proofs.Positions.{nowhere}
 use Rattle.proto_reqrep.proofs.lives.Lives.place.Goals as goal
 
 pub returns-in-None : goal.returns-in-None

@@ -4,7 +4,7 @@ use Rattle.std.specs.List.{position}
 use Rattle.proto_reqrep.specs.Lives.{LivesView}
 use Rattle.proto_reqrep.specs.Reqs.{is_live_on, without_live}
 use Rattle.proto_reqrep.specs.declared.req.Live.{Live}
-use Rattle.proto_reqrep.proofs.Places.{found_at, not_found, without_none, without_at}
+use Rattle.proto_reqrep.proofs.Positions.{found_at, not_found, without_none, without_at}
 use Rattle.proto_reqrep.proofs.Indexed.{found_less}
 use Rattle.proto_reqrep.proofs.lives.Lives.take_live.Goals as goal
 

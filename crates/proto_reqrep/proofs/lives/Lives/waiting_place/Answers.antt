@@ -5,7 +5,7 @@ use Rattle.sp_history.specs.Once.{AreDistinct}
 use Rattle.proto_reqrep.specs.Lives.{LivesView}
 use Rattle.proto_reqrep.specs.Reqs.{waits_for, live_id}
 use Rattle.proto_reqrep.specs.declared.req.Live.{Live}
-use Rattle.proto_reqrep.proofs.Places.{nowhere}
+use Rattle.proto_reqrep.proofs.Positions.{nowhere}
 use Rattle.proto_reqrep.proofs.Indexed.{none_waits}
 use Rattle.proto_reqrep.proofs.lives.Lives.waiting_place.Goals as goal
 

@@ -3,7 +3,7 @@ use Rattle.std.specs.Prelude.{not, ◌==◌}
 use Rattle.std.specs.List.{position}
 use Rattle.proto_reqrep.specs.Ports.{Port, PortsView, AreKnown, IsRising, port_in, is_held}
 use Rattle.proto_reqrep.specs.Reqs.{without_found}
-use Rattle.proto_reqrep.proofs.Places.{not_found, without_none, without_at}
+use Rattle.proto_reqrep.proofs.Positions.{not_found, without_none, without_at}
 use Rattle.proto_reqrep.proofs.Rising.{less_known, one_less}
 use Rattle.proto_reqrep.proofs.ports.Ports.forget.Goals as goal
 

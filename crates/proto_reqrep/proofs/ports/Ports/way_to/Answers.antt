@@ -4,7 +4,7 @@ use Rattle.std.specs.List.{position}
 use Rattle.proto_reqrep.specs.declared.ports.Held.{Held}
 use Rattle.proto_reqrep.specs.declared.ports.Way.TheVariants as ways
 use Rattle.proto_reqrep.specs.Ports.{PortsView, IsRising, port_in, is_held, is_pipe, is_full_in, way_at, where_is}
-use Rattle.proto_reqrep.proofs.Places.{found_at, not_found}
+use Rattle.proto_reqrep.proofs.Positions.{found_at, not_found}
 use Rattle.proto_reqrep.proofs.Rising.{find_port, number_is, number_isnt}
 use Rattle.proto_reqrep.proofs.ports.Ports.way_to.Goals as goal
 

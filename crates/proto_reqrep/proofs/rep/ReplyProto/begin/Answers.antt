@@ -16,9 +16,7 @@ returns-clause-begun c =
     let was = c.args.self.now in
     let w : Waiting = record { op = c.args.op; ctx = c.args.c; answer = c.answer_of-answer.result } in
     let items : c.push_back.new.self.items ≡ was.waiting.items ++ w ∷ [] = search rules in
-    let is : Reply = record { alloc = was.alloc; role = was.role; raw = was.raw; options = was.options; ports = was.ports; kept = was.kept; waiting = c.push_back.new.self; places = with_items was.places c.unstore-source.new.places } in
-    let olds = c.deref_mut.ensures.value in
-    let written : is.places.items ≡ c.unstore-source.new.places = places_written was.places c.unstore-source.new.places c.deref_mut.result.now olds c.unstore-source.ensures.ctxs in
+    let is : Reply = record { alloc = was.alloc; role = was.role; raw = was.raw; options = was.options; ports = was.ports; kept = was.kept; waiting = c.push_back.new.self; places = c.unstore-source.new.self } in
     begun_ties
     was
     is
@@ -31,9 +29,9 @@ returns-clause-begun c =
     h
     c.answer_of-answer.ensures.act
     c.answer_of-answer.ensures.source
-    (c.unstore-source.ensures.result ∙ ap (origin_at c.args.c) olds)
-    (λ d. ap (origin_at d) written ∙ c.unstore-source.ensures.stored d ∙ ap (λ (xs : List Place). cond (c.args.c == d) None (origin_at d xs)) olds)
-    (ap (map ctx_of) written ∙ c.unstore-source.ensures.ctxs ∙ ap (map ctx_of) olds)
+    c.unstore-source.ensures.result
+    c.unstore-source.ensures.stored
+    c.unstore-source.ensures.ctxs
     items
     refl
     refl

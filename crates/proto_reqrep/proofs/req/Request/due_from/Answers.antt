@@ -2,7 +2,7 @@ use Rattle.std.proofs.Common.{List, rules, ◌≡◌, ◌≤◌, ◌∙◌, sym,
 use Rattle.std.specs.List.{position}
 use Rattle.proto_reqrep.specs.declared.req.Live.{Live}
 use Rattle.proto_reqrep.specs.Reqs.{is_due}
-use Rattle.proto_reqrep.proofs.Places.{nowhere}
+use Rattle.proto_reqrep.proofs.Positions.{nowhere}
 use Rattle.proto_reqrep.proofs.Calming.{nowhere_all, nowhere_past, place_past, whole_rest}
 use Rattle.proto_reqrep.proofs.req.Request.due_from.Goals as goal
 

@@ -6,7 +6,7 @@ use Rattle.proto_reqrep.specs.declared.req.Live.{Live}
 use Rattle.proto_reqrep.specs.declared.req.Request.{Request as Machine}
 use Rattle.proto_reqrep.specs.Reqs.{is_sending, is_due, out_offer}
 use Rattle.sp_proto.specs.declared.Offer.TheVariants as offers
-use Rattle.proto_reqrep.proofs.Places.{found_at, not_found}
+use Rattle.proto_reqrep.proofs.Positions.{found_at, not_found}
 use Rattle.proto_reqrep.proofs.req.Request.next_out.Goals as goal
 
 pub returns-in-Some-clause-offer : goal.returns-in-Some-clause-offer

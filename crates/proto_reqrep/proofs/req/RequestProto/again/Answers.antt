@@ -9,13 +9,13 @@ use Rattle.proto_reqrep.proofs.req.RequestProto.again.Goals as goal
 pub returns-in-None-clause-again : goal.returns-in-None-clause-again
 returns-in-None-clause-again c =
     λ t r l h k.
-    let seats = any_written (dried c.args.c) c.args.self.now.seats c.dry.new.seats c.deref_mut.result.now c.deref_mut.ensures.value c.dry.ensures in
+    let seats = c.dry.ensures in
     again_dry c.args.self.now t c.args.c c.args.p r h k _ seats
 
 pub returns-in-None-clause-left : goal.returns-in-None-clause-left
 returns-in-None-clause-left c =
     λ t r l h k.
-    let seats = any_written (dried c.args.c) c.args.self.now.seats c.dry.new.seats c.deref_mut.result.now c.deref_mut.ensures.value c.dry.ensures in
+    let seats = c.dry.ensures in
     dry_less c.args.self.now t c.args.c c.args.p r h k _ seats
 
 pub returns-in-Some-clause-again : goal.returns-in-Some-clause-again

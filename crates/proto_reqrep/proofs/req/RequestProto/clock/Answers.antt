@@ -9,7 +9,7 @@ pub returns-clause-ticked : goal.returns-clause-ticked
 returns-clause-ticked c =
     λ t due n l h.
     let was = c.args.self.now in
-    let seats : (with_items was.seats c.wet.new.seats).items ≡ map wetted was.seats.items = any_written wetted was.seats c.wet.new.seats c.deref_mut.result.now c.deref_mut.ensures.value c.wet.ensures in (
+    let seats = c.wet.ensures in (
       record { kind = h.0.kind; resend = h.0.resend; moment = sym (later _ _ l.turn.0.itself.0); outs = h.0.outs },
       h.1,
       h.2,

@@ -11,12 +11,12 @@ pub returns-clause-shut : goal.returns-clause-shut
 returns-clause-shut c =
     λ t l h.
     let was = c.args.self.now in
-    let rest : c.retain.new.self.items ≡ filter (λ (s : Seat). not (s.ctx == c.args.c)) was.seats.items = filter_same _ (λ (s : Seat). not (s.ctx == c.args.c)) _ (λ x b f' k. search rules) _ _ c.retain.ensures.filtered in
+    let rest = c.close.ensures in
     let e = c.take_live.ensures.rest in (
       h.0,
       h.1,
       λ r. shut_items was t c.args.c l h r,
       asked_live e (shut_asked was t c.args.c l h),
-      opened_live e (shut_opened was t c.args.c c.retain.new.self.items h rest),
-      shut_calm was t c.args.c _ c.take_live.new.self.items c.retain.new.self.items h rest e c.saturating_sub-self.ensures,
+      opened_live e (shut_opened was t c.args.c c.close.new.self.items h rest),
+      shut_calm was t c.args.c _ c.take_live.new.self.items c.close.new.self.items h rest e c.saturating_sub-self.ensures,
     )

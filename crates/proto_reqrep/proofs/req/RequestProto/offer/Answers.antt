@@ -5,7 +5,7 @@ use Rattle.proto_reqrep.specs.declared.req.Asking.{Asking}
 use Rattle.proto_reqrep.specs.declared.req.Request.{Request as Machine}
 use Rattle.proto_reqrep.specs.Ports.{PortsView}
 use Rattle.proto_reqrep.specs.Reqs.{Ties, work_left, AreCalm, IsCalm, IsNextPipe, begun_of, out_offer, is_sending, is_due}
-use Rattle.proto_reqrep.proofs.Places.{found_at, not_found}
+use Rattle.proto_reqrep.proofs.Positions.{found_at, not_found}
 use Rattle.proto_reqrep.proofs.Offering.{gets, can_finish, can_give, none_any, is_next, sent_on, again_on, out_right, never_floods_out, idle_full, no_port, some_port}
 use Rattle.proto_reqrep.proofs.req.RequestProto.offer.Goals as goal
 

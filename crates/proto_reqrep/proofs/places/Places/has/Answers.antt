@@ -1,0 +1,10 @@
+use Rattle.std.proofs.Common.{◌≡◌, ◌∙◌, sym, ap, Some, None}
+use Rattle.std.specs.Prelude.{is_some}
+use Rattle.std.specs.List.{position, list_any}
+use Rattle.proto_reqrep.specs.Places.{PlacesView}
+use Rattle.proto_reqrep.specs.Reps.{is_home}
+use Rattle.proto_reqrep.proofs.Ordered.{some_place}
+use Rattle.proto_reqrep.proofs.places.Places.has.Goals as goal
+
+pub returns : goal.returns
+returns c = c.is_some.ensures ∙ ap is_some c.place.ensures ∙ some_place (is_home c.args.c) c.args.self.now.items

@@ -1,0 +1,13 @@
+use Rattle.std.proofs.Common.{◌≡◌, ◌∙◌, rules, sym, ap, subst, map, true, false, Some, None, filter}
+use Rattle.std.specs.Prelude.{not, is_some, ◌==◌}
+use Rattle.std.specs.List.{position, list_all, list_any}
+use Rattle.proto_reqrep.specs.declared.rep.Place.{Place}
+use Rattle.proto_reqrep.specs.Ordered.{is_before, AreOrdered}
+use Rattle.proto_reqrep.specs.Places.{PlacesView}
+use Rattle.proto_reqrep.specs.Reps.{is_home, ctx_of, origin_at}
+use Rattle.proto_reqrep.proofs.places.Places.place.Goals as goal
+
+pub returns : goal.returns
+returns c =
+    let e = c.deref.ensures.value in
+    c.home.ensures (λ o. subst (AreOrdered ctx_of) (sym e) (c.self.invariant o)) ∙ ap (position (is_home c.args.c)) e ∙ ap (λ (v : PlacesView). position (is_home c.args.c) v.items) c.self.view_is

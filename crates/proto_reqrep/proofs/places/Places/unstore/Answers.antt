@@ -1,0 +1,16 @@
+use Rattle.std.proofs.Common.{◌≡◌, ◌∙◌, rules, sym, ap, subst, map, true, false, Some, None, filter}
+use Rattle.std.specs.Prelude.{not, is_some, ◌==◌}
+use Rattle.std.specs.List.{position, list_all, list_any}
+use Rattle.proto_reqrep.specs.declared.rep.Place.{Place}
+use Rattle.proto_reqrep.specs.Ordered.{is_before, AreOrdered}
+use Rattle.proto_reqrep.specs.Places.{PlacesView}
+use Rattle.proto_reqrep.specs.Reps.{is_home, ctx_of, origin_at}
+use Rattle.proto_reqrep.proofs.Homes.{places_written}
+use Rattle.proto_reqrep.proofs.Ordered.{ordered_same}
+use Rattle.proto_reqrep.proofs.places.Places.unstore.Goals as goal
+
+pub invariant_of-self : goal.invariant_of-self
+invariant_of-self c = λ o.
+    let olds = c.deref_mut.ensures.value in
+    let written = places_written c.self.inside.list c.unstore_at.new.list c.deref_mut.result.now olds c.unstore_at.ensures.ctxs in
+    ordered_same ctx_of c.self.inside.list.items _ (ap (map ctx_of) written ∙ c.unstore_at.ensures.ctxs ∙ ap (map ctx_of) olds) (c.self.invariant o)

@@ -1,6 +1,0 @@
-use Rattle.proto_reqrep.specs.Reqs.{dried}
-use Rattle.proto_reqrep.proofs.Places.{written}
-use Rattle.proto_reqrep.proofs.req.dry.Goals as goal
-
-pub loop-seat-preserved : goal.loop-seat-preserved
-loop-seat-preserved c = written (dried c.args.c) c.args.seats.now c.loop-seat.seats c.loop-seat.seat-index c.seat-item.result _ c.loop-seat-test.true c.loop-seat.invariant c.dried.ensures

@@ -1,0 +1,27 @@
+use Rattle.std.proofs.Common.{◌≡◌, ◌∙◌, rules, sym, ap, subst, map, true, false, Some, None, filter, ◌++◌, ◌∷◌, []}
+use Rattle.std.specs.Prelude.{not, is_some, find, ◌==◌}
+use Rattle.std.specs.List.{position, list_all, list_any}
+use Rattle.proto_reqrep.specs.declared.req.Seat.{Seat}
+use Rattle.proto_reqrep.specs.Backlogs.{is_of}
+use Rattle.proto_reqrep.specs.Ordered.{is_before, AreOrdered}
+use Rattle.proto_reqrep.specs.Seats.{SeatsView, AreSeated}
+use Rattle.proto_reqrep.specs.Reqs.{seat_ctx, dry_at, dried, wetted, without_found}
+use Rattle.proto_reqrep.proofs.Positions.{not_found, without_none, without_at}
+use Rattle.proto_reqrep.proofs.Ordered.{ordered_same, ordered_more, ordered_filtered, some_place}
+use Rattle.proto_reqrep.proofs.Seated.{dry_none, wet_already, none_wet, wet_ctxs, dry_ctxs, wet_more, wet_less}
+use Rattle.proto_reqrep.proofs.Coming.{any_written}
+use Rattle.proto_reqrep.proofs.seats.Seats.open.Goals as goal
+
+pub invariant_of-self : goal.invariant_of-self
+invariant_of-self c =
+    let xs = c.self.inside.list.items in
+    let e = c.deref.ensures.value in
+    let x : Seat = record { ctx = c.args.c; is_dry = false } in
+    let more : c.push.new.self.items ≡ xs ++ x ∷ [] = search rules in
+    record {
+      order = λ o.
+          let old : AreOrdered seat_ctx xs = c.self.invariant.order (c.goes_on-goes_on.ensures.order o) in
+          let low : list_all (is_before seat_ctx c.args.c) xs ≡ true = ap (list_all (is_before seat_ctx c.args.c)) (sym e) ∙ c.goes_on-goes_on.ensures.before o (subst (AreOrdered seat_ctx) (sym e) old) in
+          subst (AreOrdered seat_ctx) (sym more) (ordered_more seat_ctx xs x old low);
+      wet = λ o. ap (list_any (λ (s : Seat). s.is_dry)) more ∙ wet_more c.args.c xs (c.self.invariant.wet o);
+    }
