@@ -1,11 +1,12 @@
 -- A bus stands for its history after each call.
 use Rattle.std.proofs.Common.{◌≡◌, refl, ap, sym, ◌∙◌, subst, List, [], ◌∷◌, ◌++◌, ℕ, ◌+◌, ◌-◌, Bool, true, false, cond, arith, Option, Some, None, map, length, ◌<◌}
-use Rattle.std.specs.Prelude.{find, filter, drop, ◌↔◌, not, nat_lt, min, ◌^◌, MatchOption, ◌||◌, ◌==◌, slice_get, Result, Ok, Err, IsOk, OnOk, IfErr}
+use Rattle.std.specs.Prelude.{filter, drop, ◌↔◌, not, nat_lt, min, ◌^◌, slice_get, Result, Ok, Err, IsOk, OnOk, IfErr}
 use Rattle.std.specs.List.{list_all}
 use Rattle.std.specs.Option.{option_map}
 use Rattle.circular_buffer.specs.Buffer.{Buffer, buffer}
 use Rattle.std.proofs.lemmas.Bool.Decides.{nat_tests}
 use Rattle.std.proofs.lemmas.List.{map-append}
+use Rattle.std.proofs.lemmas.Option.{same_Some}
 use Rattle.sp_base.specs.declared.OpName.{OpName}
 use Rattle.sp_base.specs.declared.role.Role.{Role}
 use Rattle.sp_base.specs.declared.role.Role.TheVariants as role
@@ -16,10 +17,8 @@ use Rattle.sp_history.specs.declared.entry.Entry.{Entry}
 use Rattle.sp_history.specs.declared.entry.Entry.TheVariants.{Up, Down, Frame, Full, Out, End}
 use Rattle.sp_history.specs.declared.entry.Why.{Why}
 use Rattle.sp_history.specs.declared.entry.WireName.{WireName}
-use Rattle.sp_history.specs.declared.entry.Act.{Act}
-use Rattle.sp_history.specs.declared.entry.Act.TheVariants.{Recv, Send}
+use Rattle.sp_history.specs.declared.entry.Act.TheVariants.{Send}
 use Rattle.sp_history.specs.declared.entry.Cause.{Cause}
-use Rattle.sp_history.specs.declared.entry.Ending.{Ending}
 use Rattle.sp_history.specs.declared.entry.Ending.TheVariants.{Won, Gone}
 use Rattle.sp_history.specs.declared.entry.Completion.TheVariants.{Received, Sent}
 use Rattle.sp_history.specs.declared.entry.Message.{Message}
@@ -28,23 +27,22 @@ use Rattle.sp_history.specs.declared.parts.Item.{Item}
 use Rattle.sp_history.specs.declared.parts.Origin.{Origin}
 use Rattle.sp_history.specs.Setting.{floods}
 use Rattle.sp_history.specs.Lists.{has, head_of, is_number}
-use Rattle.sp_history.specs.Past.{is_of, without_begun, pend, pending, up}
+use Rattle.sp_history.specs.Past.{without_begun, pend, pending, up}
 use Rattle.sp_history.specs.Kept.{pool, kept, route, is_on_pool, takes, add_for}
 use Rattle.sp_history.specs.Frames.{malformed, item_for, item_of as of_frame}
-use Rattle.sp_history.specs.Sends.{may_go, targets, targets_of, bytes_of}
+use Rattle.sp_history.specs.Sends.{may_go, targets, bytes_of}
 use Rattle.sp_history.specs.Settled.{receive_settled, has_full}
-use Rattle.sp_history.specs.Legal.{is_recv, is_part_of_send, MayEndAs}
 use Rattle.sp_history.specs.Moments.{Moment, Lawful, past, also, next}
 use Rattle.sp_proto.specs.Kinds.{Kind, text_of}
 use Rattle.sp_proto.specs.Machines.{CanGive, CanFlood, IsIdle, NoFlood, message_of}
-use Rattle.proto_floods.specs.Copies.{HasCopies, AreCopies}
-use Rattle.proto_floods.proofs.Copying.{lawful_before, went_out, pool_down, calm, copies_init}
-use Rattle.proto_floods.proofs.Flooding.{goes_on, pipe_down, pipe_full, no_flood_left}
+use Rattle.proto_floods.specs.Copies.{AreCopies}
+use Rattle.proto_floods.proofs.Copying.{pool_down, each_init}
+use Rattle.proto_floods.proofs.Flooding.{no_flood, goes_on, pipe_down, pipe_full, turn_begins}
+use Rattle.proto_floods.proofs.Sending.{a_send, is_a_send, is_a_receive, won_send, the_flood, can_flood as first_floods, none_sending, goes_to, goes_out, send_ends, receive_ends}
 use Rattle.proto_pending.specs.Waits.{Holds, is_receive, is_send, first_name}
-use Rattle.proto_pending.proofs.Splits.{find_passing, without_passing, other_stay}
 use Rattle.proto_pending.proofs.Firsts.{first_found, passes_first, first_on, no_receives, none_kept, no_sends, first_is, none_first}
 use Rattle.proto_bus.specs.declared.Bus.{Bus}
-use Rattle.proto_bus.specs.Buses.{Ties, Floods, IsFlood, message_in, receiver_of, left_out_of, header_of}
+use Rattle.proto_bus.specs.Buses.{Ties, IsFlood, message_in, receiver_of, left_out_of, header_of}
 use Rattle.proto_floods.proofs.Counting.{counted_up, counted_down}
 
 pub is_bus : (m : Bus) (t : Moment) → Ties m t → t.z.role ≡ role.Bus
@@ -62,9 +60,6 @@ it_floods z h = rw h refl
 kept_bus : (z : Setting) (before : List Entry) (c : ℕ) → z.role ≡ role.Bus → kept z before c ≡ pool z before 0
 kept_bus z before c h = rw h refl
 
-no_sends_flood : (z : Setting) (before : List Entry) (out : Option ℕ) (copies : List MessageView) (ss : List Begun) → ss ≡ [] → Floods z before out copies ss
-no_sends_flood z before out copies ss e = subst (λ (xs : List Begun). Floods z before out copies xs) (sym e) tt
-
 -- ---- Pipes
 
 pub up_ties : (m n : Bus) (t : Moment) (p place : ℕ) (name : WireName) → NoFlood t → Lawful (also t (Up p place name)) → Ties m t → n ≡ record m { pipes = min (m.pipes + 1) (2 ^ 64 - 1) } → Ties n (also t (Up p place name))
@@ -77,7 +72,7 @@ up_ties m n t p place name calm l h same = (
     pending = rw same h.0.pending;
     contexts = h.0.contexts;
   },
-  λ now. no_sends_flood t.z (past (also t (Up p place name))) n.left_out n.copies.items (filter is_send (pend (past t))) (calm (it_floods t.z (is_bus m t h))),
+  no_flood _ _ (also t (Up p place name)) (calm (it_floods t.z (is_bus m t h))),
 )
 
 pub down_ties : (m n : Bus) (t : Moment) (p : ℕ) (why : Why) → Lawful (also t (Down p why)) → Ties m t → n ≡ record m { pipes = m.pipes - 1 } → Ties n (also t (Down p why))
@@ -90,85 +85,16 @@ down_ties m n t p why l h same = (
     pending = rw same h.0.pending;
     contexts = h.0.contexts;
   },
-  λ now. rw same (pipe_down t p why (length m.copies.items) (λ (s : Begun). IsFlood t.z.raw m.left_out m.copies.items s.act) (filter is_send (pend (past t))) (it_floods t.z (is_bus m t h)) l h.1),
+  rw same (pipe_down _ _ t p why (it_floods t.z (is_bus m t h)) h.1),
 )
 
 pub full_ties : (m : Bus) (t : Moment) (p : ℕ) → Ties m t → Ties m (also t (Full p))
-full_ties m t p h = (h.0, λ now. pipe_full t p (length m.copies.items) (λ (s : Begun). IsFlood t.z.raw m.left_out m.copies.items s.act) (filter is_send (pend (past t))) (it_floods t.z (is_bus m t h)) now h.1)
-
--- ---- The send that goes to many pipes
-
-a_send : (a : Act) → is_recv a ≡ false → (m : Message) × (a ≡ Send m)
-a_send Recv h = absurd cc
-a_send (Send m) h = (m, refl)
-
-no_receive : (a : Bool) → a ≡ false → not a ≡ true
-no_receive a h = rw h refl
-
-found_is : (op : OpName) (ss : List Begun) (s : Begun) → find (is_of op) ss ≡ Some s → is_of op s ≡ true
-found_is op [] s h = absurd cc
-found_is op (x ∷ ss) s h = go (is_of op x) refl h (found_is op ss s)
-  where
-    some_inj : Some x ≡ Some s → x ≡ s
-    some_inj q = cc
-
-    go : (b : Bool) → is_of op x ≡ b → cond b (Some x) (find (is_of op) ss) ≡ Some s → (find (is_of op) ss ≡ Some s → is_of op s ≡ true) → is_of op s ≡ true
-    go true e q again = sym (ap (is_of op) (some_inj q)) ∙ e
-    go false e q again = again q
-
--- it is the only one that is pending, and its copies are there
-module _ (m : Bus) (t : Moment) (op : OpName) (s : Begun) (l : Lawful t) (h : Ties m t) (k : pending (past t) op ≡ Some s) (is : is_recv s.act ≡ false) where
-  the_flood : (filter is_send (pend (past t)) ≡ s ∷ []) × HasCopies t.z (past t) (length m.copies.items) × IsFlood t.z.raw m.left_out m.copies.items s.act
-  the_flood = go (filter is_send (pend (past t))) (h.1 l) (find_passing is_send (pend (past t)) op s k (no_receive (is_recv s.act) is))
-    where
-      some_inj : (x : Begun) → Some x ≡ Some s → x ≡ s
-      some_inj x q = cc
-
-      first : (b : Bool) (x : Begun) → cond b (Some x) None ≡ Some s → x ≡ s
-      first true x q = some_inj x q
-      first false x q = absurd cc
-
-      go : (xs : List Begun) → Floods t.z (past t) m.left_out m.copies.items xs → find (is_of op) xs ≡ Some s → (xs ≡ s ∷ []) × HasCopies t.z (past t) (length m.copies.items) × IsFlood t.z.raw m.left_out m.copies.items s.act
-      go [] f q = absurd cc
-      go (x ∷ xs) f q =
-          let same : x ≡ s = first (is_of op x) x (rw f.2 at q) in
-          (ap (λ (rest : List Begun). x ∷ rest) f.2 ∙ ap (λ (y : Begun). y ∷ []) same, f.0, subst (λ (y : Begun). IsFlood t.z.raw m.left_out m.copies.items y.act) same f.1)
-
-  -- when it has ended, no send is pending
-  none_left : filter is_send (without_begun (pend (past t)) op) ≡ []
-  none_left = without_passing is_send (pend (past t)) op ∙ ap (λ (xs : List Begun). without_begun xs op) the_flood.0 ∙ gone (is_of op s) (found_is op (pend (past t)) s k)
-    where
-      gone : (b : Bool) → b ≡ true → cond (not b) (s ∷ []) [] ≡ []
-      gone b e = rw e refl
+full_ties m t p h = (h.0, pipe_full _ _ t p (it_floods t.z (is_bus m t h)) h.1)
 
 bytes_are : (z : Setting) (before : List Entry) (s : Begun) (m : Message) → z.role ≡ role.Bus → s.act ≡ Send m → bytes_of z before s ≡ Some m.body
 bytes_are z before s m h e = rw (e, h) refl
 
--- ---- Where it goes
-
-has_filter : (f : ℕ → Bool) (us : List ℕ) (p : ℕ) → has us p ≡ true → has (filter f us) p ≡ f p
-has_filter f [] p h = absurd cc
-has_filter f (u ∷ us) p h = go (u == p) refl (f u) refl h (has_filter f us p)
-  where
-    equal : (m n : ℕ) → (m == n) ≡ true → m ≡ n
-    equal m n e = grind (arith, nat_tests)
-
-    none : (us : List ℕ) → f p ≡ false → has (filter f us) p ≡ false
-    none [] e = refl
-    none (v ∷ us) e = step (f v) refl (v == p) refl (none us e)
-      where
-        step : (a : Bool) → f v ≡ a → (b : Bool) → (v == p) ≡ b → has (filter f us) p ≡ false → has (cond a (v ∷ filter f us) (filter f us)) p ≡ false
-        step true g true q k = let no : true ≡ false = sym g ∙ ap f (equal v p q) ∙ e in absurd cc
-        step true g false q k = ap (λ b. b || has (filter f us) p) q ∙ k
-        step false g b q k = k
-
-    go : (b : Bool) → (u == p) ≡ b → (a : Bool) → f u ≡ a → (b || has us p) ≡ true → (has us p ≡ true → has (filter f us) p ≡ f p) → has (cond a (u ∷ filter f us) (filter f us)) p ≡ f p
-    go true e true g k again = ap (λ b. b || has (filter f us) p) e ∙ sym g ∙ ap f (equal u p e)
-    go true e false g k again =
-        let no : f p ≡ false = sym (ap f (equal u p e)) ∙ g in
-        none us no ∙ sym no
-    go false e true g k again = ap (λ b. b || has (filter f us) p) e ∙ again k
-    go false e false g k again = again k
+-- ---- It goes out
 
 may_go_is : (r : Role) (raw : Bool) (o : Option Origin) (header : List ℕ) (p : ℕ) → r ≡ role.Bus → may_go r raw o header p ≡ not (is_number (left_out_of raw header) p)
 may_go_is r true o header p h = rw h refl
@@ -177,21 +103,19 @@ may_go_is r false o header p h = rw h refl
 pub goes : (m : Bus) (t : Moment) (op : OpName) (s : Begun) (b : List ℕ) (p : ℕ) → Lawful t → Ties m t → CanFlood t op s b → has (up (past t)) p ≡ true → not (is_number m.left_out p) ≡ has (targets t.z (past t) s) p
 goes m t op s b p l h c is_up =
     let sent = a_send s.act c.is_send in
-    let flood = the_flood m t op s l h c.pending c.is_send in
+    let flood = the_flood _ _ t op s l h.1 c.pending c.is_send in
     let out : m.left_out ≡ left_out_of t.z.raw sent.0.header = (subst (IsFlood t.z.raw m.left_out m.copies.items) sent.1 flood.2).0 in
-    ap (λ o. not (is_number o p)) out ∙ sym (may_go_is t.z.role t.z.raw (route t.z (past t) s.op) sent.0.header p (is_bus m t h)) ∙ sym (has_filter (may_go t.z.role t.z.raw (route t.z (past t) s.op) sent.0.header) (up (past t)) p is_up) ∙ sym (ap (λ (a : Act). has (targets_of t.z (past t) s.op a) p) sent.1)
-
--- ---- It goes out
+    ap (λ o. not (is_number o p)) out ∙ sym (goes_to t s sent.0 p sent.1 is_up ∙ may_go_is t.z.role t.z.raw (route t.z (past t) s.op) sent.0.header p (is_bus m t h))
 
 pub flood_ties : (m n : Bus) (t : Moment) (op : OpName) (p : ℕ) (s : Begun) (b : List ℕ) (copy : MessageView) → Lawful t → Ties m t → CanFlood t op s b → m.copies.items ≡ n.copies.items ++ copy ∷ [] → n ≡ record m { copies = n.copies } → (wire_text copy ≡ b) × Ties n (also t (Out p b))
 flood_ties m n t op p s b copy l h c items same =
     let sent = a_send s.act c.is_send in
-    let flood = the_flood m t op s l h c.pending c.is_send in
+    let flood = the_flood _ _ t op s l h.1 c.pending c.is_send in
     let parts = subst (IsFlood t.z.raw m.left_out m.copies.items) sent.1 flood.2 in
-    let last = copies_init sent.0.body n.copies.items copy (subst (AreCopies sent.0.body) items parts.1) in
+    let last = each_init _ n.copies.items copy (subst (AreCopies sent.0.body) items parts.1) in
     let bytes : Some sent.0.body ≡ Some b = sym (bytes_are t.z (past t) s sent.0 (is_bus m t h) sent.1) ∙ c.bytes in
     let now : IsFlood t.z.raw n.left_out n.copies.items s.act = subst (IsFlood t.z.raw n.left_out n.copies.items) (sym sent.1) (ap (λ (x : Bus). x.left_out) same ∙ parts.0, last.0) in (
-      ap wire_text last.1 ∙ some_inj sent.0.body bytes,
+      ap wire_text last.1 ∙ same_Some sent.0.body b bytes,
       (
         record {
           kind = rw same h.0.kind;
@@ -201,32 +125,14 @@ flood_ties m n t op p s b copy l h c items same =
           pending = rw same h.0.pending;
           contexts = h.0.contexts;
         },
-        λ again. subst (λ (ss : List Begun). Floods t.z (Out p b ∷ past t) n.left_out n.copies.items ss) (sym flood.0) (went_out t.z (past t) p b (length n.copies.items) (it_floods t.z (is_bus m t h)), now, refl),
+        goes_out _ _ _ _ t op s b p l h.1 c now,
       ),
     )
-  where
-    some_inj : (x : List ℕ) → Some x ≡ Some b → x ≡ b
-    some_inj x q = cc
 
 -- ---- Offers
 
 pub can_flood : (m : Bus) (t : Moment) (op : OpName) → Ties m t → Some op ≡ first_name (filter is_send (pend (past t))) → (s : Begun) × (b : List ℕ) × CanFlood t op s b
-can_flood m t op h e =
-    let s = first_is (filter is_send (pend (past t))) op e in
-    let is : is_recv s.0.act ≡ false = turn (is_recv s.0.act) (passes_first is_send (pend (past t)) s.0 s.1) in
-    let sent = a_send s.0.act is in
-    let can : CanFlood t s.0.op s.0 sent.0.body =
-    record {
-      pending = first_found is_send (pend (past t)) s.0 h.0.pending.apart s.1;
-      is_send = is;
-      bytes = bytes_are t.z (past t) s.0 sent.0 (is_bus m t h) sent.1;
-      floods_all = it_floods t.z (is_bus m t h);
-    } in
-    (s.0, sent.0.body, subst (λ (o : OpName). CanFlood t o s.0 sent.0.body) s.2 can)
-  where
-    turn : (a : Bool) → not a ≡ true → a ≡ false
-    turn true q = absurd cc
-    turn false q = refl
+can_flood m t op h e = first_floods t op (it_floods t.z (is_bus m t h)) (λ s x. bytes_are t.z (past t) s x (is_bus m t h)) h.0.pending.apart e
 
 head_map : (is : List Item) (x : Message) (xs : List Message) → x ∷ xs ≡ map message_in is → option_map message_in (head_of is) ≡ Some x
 head_map [] x xs h = absurd cc
@@ -276,46 +182,14 @@ idle m t h none wait =
             again = λ q. let k : false ≡ true = rw (is_bus m t h) at q in absurd cc;
             finished = rw (is_bus m t h) refl;
           };
-      no_flood = λ q. nil (filter is_send (pend (past t))) (none_first (filter is_send (pend (past t))) none);
+      no_flood = λ q. none_sending (filter is_send (pend (past t))) none;
     }
-  where
-    nil : (ss : List Begun) → head_of ss ≡ None → ss ≡ []
-    nil [] e = refl
-    nil (s ∷ ss) e = absurd cc
-
--- as many copies as pipes are up
-pub enough : (m : Bus) (t : Moment) (op : OpName) → Lawful t → Ties m t → Some op ≡ first_name (filter is_send (pend (past t))) → HasCopies t.z (past t) (length m.copies.items)
-enough m t op l h e = go (filter is_send (pend (past t))) (h.1 l) e
-  where
-    go : (ss : List Begun) → Floods t.z (past t) m.left_out m.copies.items ss → Some op ≡ first_name ss → HasCopies t.z (past t) (length m.copies.items)
-    go [] f q = absurd cc
-    go (s ∷ ss) f q = f.0
 
 -- ---- Ends
 
-is_a_send : (a : Act) (x : Message) → Some x ≡ message_of a → is_recv a ≡ false
-is_a_send Recv x h = absurd cc
-is_a_send (Send m) x h = refl
-
-is_a_receive : (a : Act) → None ≡ message_of a → is_recv a ≡ true
-is_a_receive Recv h = refl
-is_a_receive (Send m) h = absurd cc
-
-no_send : (a : Bool) → a ≡ true → not a ≡ false
-no_send a h = rw h refl
-
--- an entry that is no part of a send, and no pipe's, is nothing to the copies
-untouched : (m : Bus) (t : Moment) (e : Entry) → Lawful (also t e) → is_part_of_send t.z e ≡ false → up (e ∷ past t) ≡ up (past t) → (Lawful t → Floods t.z (past t) m.left_out m.copies.items (filter is_send (pend (past t)))) → Floods t.z (e ∷ past t) m.left_out m.copies.items (filter is_send (pend (past t)))
-untouched m t e = goes_on t e (length m.copies.items) (λ (s : Begun). IsFlood t.z.raw m.left_out m.copies.items s.act) (filter is_send (pend (past t)))
-
--- a receive that ends is nothing to a send
-stays : (m : Bus) (t : Moment) (op : OpName) (s : Begun) (ending : Ending) → Ties m t → pending (past t) op ≡ Some s → is_recv s.act ≡ true → Lawful (also t (End op ending)) → is_part_of_send t.z (End op ending) ≡ false → Floods t.z (End op ending ∷ past t) m.left_out m.copies.items (filter is_send (without_begun (pend (past t)) op))
-stays m t op s ending h p is l part =
-    subst (λ (ss : List Begun). Floods t.z (End op ending ∷ past t) m.left_out m.copies.items ss) (sym (other_stay is_send (pend (past t)) op s h.0.pending.apart p (no_send (is_recv s.act) is))) (untouched m t (End op ending) l part refl h.1)
-
 -- a send is lost
-pub lost_send : (m n : Bus) (t : Moment) (op : OpName) (s : Begun) (x : Message) (cause : Cause) (by : ℕ) → Lawful t → Ties m t → pending (past t) op ≡ Some s → Some x ≡ message_of s.act → Holds n.pending (without_begun (pend (past t)) op) → n ≡ record m { pending = n.pending; copies = n.copies } → Ties n (also t (End op (Gone cause by)))
-lost_send m n t op s x cause by l h p e holds same = (
+pub lost_send : (m n : Bus) (t : Moment) (op : OpName) (s : Begun) (x : Message) (cause : Cause) (by : ℕ) → Ties m t → pending (past t) op ≡ Some s → Some x ≡ message_of s.act → Holds n.pending (without_begun (pend (past t)) op) → n ≡ record m { pending = n.pending; copies = n.copies } → Ties n (also t (End op (Gone cause by)))
+lost_send m n t op s x cause by h p e holds same = (
   record {
     kind = rw same h.0.kind;
     pipes = rw same h.0.pipes;
@@ -324,7 +198,7 @@ lost_send m n t op s x cause by l h p e holds same = (
     pending = holds;
     contexts = h.0.contexts;
   },
-  λ now. no_sends_flood t.z (past (also t (End op (Gone cause by)))) n.left_out n.copies.items (filter is_send (without_begun (pend (past t)) op)) (none_left m t op s l h p (is_a_send s.act x e)),
+  send_ends _ _ _ _ t op s (Gone cause by) h.1 p (is_a_send s.act x e),
 )
 
 pub lost_receive : (m n : Bus) (t : Moment) (op : OpName) (s : Begun) (cause : Cause) (by : ℕ) → Ties m t → pending (past t) op ≡ Some s → None ≡ message_of s.act → Holds n.pending (without_begun (pend (past t)) op) → n ≡ record m { pending = n.pending } → Ties n (also t (End op (Gone cause by)))
@@ -337,16 +211,8 @@ lost_receive m n t op s cause by h p e holds same = (
     pending = holds;
     contexts = h.0.contexts;
   },
-  λ l. rw same (stays m t op s (Gone cause by) h p (is_a_receive s.act e) l refl),
+  rw same (receive_ends _ t op s (Gone cause by) h.0.pending.apart p (is_a_receive s.act e) refl (λ r d q. q) h.1),
 )
-
--- what is won as sent is a send
-pub won_send : (m : Bus) (t : Moment) (op : OpName) (s : Begun) → Lawful (also t (End op (Won Sent))) → pending (past t) op ≡ Some s → is_recv s.act ≡ false
-won_send m t op s l p = turn (is_recv s.act) (subst (λ (o : Option Begun). MatchOption o ⊥ (MayEndAs t.z (past t) (Won Sent))) p l.turn.0.itself).0
-  where
-    turn : (a : Bool) → not a ≡ true → a ≡ false
-    turn true q = absurd cc
-    turn false q = refl
 
 -- a send went to its pipes
 pub flooded_ties : (m n : Bus) (t : Moment) (op : OpName) (s : Begun) → Lawful (also t (End op (Won Sent))) → Ties m t → pending (past t) op ≡ Some s → Holds n.pending (without_begun (pend (past t)) op) → n ≡ record m { pending = n.pending; copies = n.copies } → Ties n (also t (End op (Won Sent)))
@@ -359,7 +225,7 @@ flooded_ties m n t op s l h p holds same = (
     pending = holds;
     contexts = h.0.contexts;
   },
-  λ now. no_sends_flood t.z (past (also t (End op (Won Sent)))) n.left_out n.copies.items (filter is_send (without_begun (pend (past t)) op)) (none_left m t op s (lawful_before t (End op (Won Sent)) l) h p (won_send m t op s l p)),
+  send_ends _ _ _ _ t op s (Won Sent) h.1 p (won_send t op s l p),
 )
 
 -- a receive is given the oldest
@@ -399,7 +265,7 @@ given_ties m n t op s text r h c holds first rest same = go m.kept.items refl
               pending = holds;
               contexts = h.0.contexts;
             },
-            λ l. rw same (stays m t op s (Won (Received text)) h c.pending c.may.is_receive l refl),
+            rw same (receive_ends _ t op s (Won (Received text)) h.0.pending.apart c.pending c.may.is_receive refl (λ r d q. q) h.1),
           ),
         )
 
@@ -449,7 +315,7 @@ module _ (m : Bus) (t : Moment) (p : ℕ) (v : MessageView) (h : Ties m t) where
           pending = h.0.pending;
           contexts = h.0.contexts;
         },
-        λ l. untouched m t (Frame p v.body) l refl refl h.1,
+        goes_on _ t (Frame p v.body) refl refl refl (λ s e q. q) h.1,
       )
 
   kept_ties : (k : Buffer MessageView) (x : MessageView) → nat_lt (length m.kept.items) m.options.queue ≡ true → x ≡ record v { header = header_of m.raw p } → k ≡ buffer (m.kept.items ++ x ∷ []) m.kept.capacity → Ties (record m { kept = k }) (also t (Frame p v.body))
@@ -465,7 +331,7 @@ module _ (m : Bus) (t : Moment) (p : ℕ) (v : MessageView) (h : Ties m t) where
           pending = h.0.pending;
           contexts = h.0.contexts;
         },
-        λ l. untouched m t (Frame p v.body) l refl refl h.1,
+        goes_on _ t (Frame p v.body) refl refl refl (λ s e q. q) h.1,
       )
 
   -- it is kept where there is a place for it, else discarded
@@ -489,6 +355,4 @@ well_formed m t p b h = rw (is_bus m t h) refl
 -- ---- A turn begins
 
 pub fresh_ties : (m : Bus) (t : Moment) (k : ℕ) → Lawful (next t k) → Ties m t → Ties m (next t k)
-fresh_ties m t k l h =
-    let none = no_flood_left t k l (it_floods t.z (is_bus m t h)) in
-    (h.0, λ now. no_sends_flood t.z (past t) m.left_out m.copies.items (filter is_send (pend (past t))) none)
+fresh_ties m t k l h = (h.0, turn_begins _ _ t k l (it_floods t.z (is_bus m t h)))

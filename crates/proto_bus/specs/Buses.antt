@@ -5,19 +5,16 @@ use Rattle.sp_base.specs.declared.role.Role.TheVariants as role
 use Rattle.sp_msg.specs.Views.{MessageView}
 use Rattle.sp_history.specs.declared.entry.Act.{Act}
 use Rattle.sp_history.specs.declared.entry.Act.TheVariants.{Recv, Send}
-use Rattle.sp_history.specs.declared.entry.Entry.{Entry}
 use Rattle.sp_history.specs.declared.entry.Message.{Message}
 use Rattle.sp_history.specs.declared.parts.Begun.{Begun}
 use Rattle.sp_history.specs.declared.parts.Item.{Item}
-use Rattle.sp_history.specs.declared.setting.Setting.{Setting}
 use Rattle.sp_history.specs.declared.setting.Options.{Options}
 use Rattle.sp_history.specs.Lists.{first_word, word}
-use Rattle.sp_history.specs.Past.{pend}
-use Rattle.sp_history.specs.Moments.{Moment, Lawful, past}
+use Rattle.sp_history.specs.Moments.{Moment}
 use Rattle.sp_proto.specs.Kinds.{Kind, text_of}
 use Rattle.sp_proto.specs.Readings.{Reading, reading}
-use Rattle.proto_floods.specs.Copies.{AreCopies, IsOnlyFlood}
-use Rattle.proto_pending.specs.Waits.{Holds, is_receive, is_send, count, room, first_name}
+use Rattle.proto_floods.specs.Copies.{AreCopies, HasFlood}
+use Rattle.proto_pending.specs.Waits.{Holds, is_receive, count, room, first_name}
 use Rattle.proto_bus.specs.declared.Bus.{Bus}
 
 abbrev pub bus_kind : Bool → Options → Kind
@@ -54,10 +51,6 @@ abbrev pub IsFlood : Bool → Option ℕ → List MessageView → Act → Type 0
 IsFlood raw out copies Recv = ⊤
 IsFlood raw out copies (Send m) = (out ≡ left_out_of raw m.header) × AreCopies m.body copies
 
--- where one of these sends is pending, it is the only one, and these are its copies
-abbrev pub Floods : Setting → List Entry → Option ℕ → List MessageView → List Begun → Type 0
-Floods z past out copies ss = IsOnlyFlood z past (length copies) (λ (s : Begun). IsFlood z.raw out copies s.act) ss
-
 -- The bus is of this kind, knows how many pipes are up, keeps these items, for which it has places, and has these
 -- operations pending
 pub record Shows (m : Bus) (k : Kind) (us : List ℕ) (is : List Item) (ss : List Begun) (cs : List ℕ) : Type 0 where
@@ -73,4 +66,4 @@ abbrev pub Stands : Bus → Reading → Type 0
 Stands m r = Shows m r.kind r.up (r.pool 0) r.pend r.ctxs
 
 abbrev pub Ties : Bus → Moment → Type 0
-Ties m t = Stands m (reading t) × (Lawful t → Floods t.z (past t) m.left_out m.copies.items (filter is_send (pend (past t))))
+Ties m t = Stands m (reading t) × HasFlood t (length m.copies.items) (λ (s : Begun). IsFlood t.z.raw m.left_out m.copies.items s.act)

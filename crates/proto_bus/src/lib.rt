@@ -20,9 +20,6 @@ ghost use Rattle.proto_floods.specs.Copies.{TakesCopies};
 ghost use Rattle.proto_pending.specs.Waits.{Holds};
 ghost use Rattle.proto_bus.specs.Buses.{Ties, bus_kind, places_left, receiver_of, left_out_of, header_of};
 
-#[cfg(test)]
-mod tests;
-
 use circular_buffer::HeapCircularBuffer;
 use proto_floods::copies_of;
 use proto_pending::Pending;

@@ -1,5 +1,5 @@
 -- The laws of a pub as a machine.
-use Rattle.std.specs.Prelude.{◌≡◌, [], length, filter}
+use Rattle.std.specs.Prelude.{◌≡◌, [], length}
 use Rattle.std.proofs.Common.{refl, subst}
 use Rattle.sp_history.specs.Kept.{pool}
 use Rattle.sp_history.specs.Past.{pend, up}
@@ -9,7 +9,7 @@ use Rattle.sp_history.specs.Moments.{Moment, Lawful, past, also, IsSilent}
 use Rattle.sp_proto.specs.Kinds.{Starts, kind_of}
 use Rattle.sp_proto.specs.Readings.{Reading, stays}
 use Rattle.proto_floods.proofs.Flooding.{silently}
-use Rattle.proto_pending.specs.Waits.{Holds, is_send}
+use Rattle.proto_pending.specs.Waits.{Holds}
 use Rattle.proto_pubsub.specs.declared.publish.Publish.{Publish}
 use Rattle.proto_pubsub.specs.Pubs.{Ties, Stands, IsFlood, pub_kind}
 
@@ -17,7 +17,7 @@ pub kinds : (m : Publish) (t : Moment) → Ties m t → kind_of t.z ≡ pub_kind
 kinds m t h = h.0.kind
 
 pub silent : (m : Publish) (t : Moment) (e : Entry) → IsSilent e → Lawful (also t e) → Ties m t → Ties m (also t e)
-silent m t e h l k = (stays Stands m t e h k.0, λ again. silently t e (length m.copies.items) (λ (r : Reading) (s : Begun). IsFlood m.copies.items s.act) (λ (r : Reading). filter is_send r.pend) h again k.1)
+silent m t e h l k = (stays Stands m t e h k.0, silently _ t e (λ (r : Reading) (s : Begun). IsFlood m.copies.items s.act) h k.1)
 
 pub anew : (m : Publish) (t : Moment) → past t ≡ [] → Ties m t → Starts Ties m (pub_kind m.raw m.options)
 anew m t e h slots callers caller = (

@@ -1,20 +1,17 @@
 -- What a pub stands for.
-use Rattle.std.specs.Prelude.{◌≡◌, ℕ, Bool, ⊤, List, [], ◌∷◌, length, filter}
+use Rattle.std.specs.Prelude.{◌≡◌, ℕ, Bool, ⊤, List, [], ◌∷◌, length}
 use Rattle.sp_base.specs.declared.role.Role.TheVariants as role
 use Rattle.sp_msg.specs.Views.{MessageView}
 use Rattle.sp_history.specs.declared.entry.Act.{Act}
 use Rattle.sp_history.specs.declared.entry.Act.TheVariants.{Recv, Send}
-use Rattle.sp_history.specs.declared.entry.Entry.{Entry}
 use Rattle.sp_history.specs.declared.parts.Begun.{Begun}
 use Rattle.sp_history.specs.declared.parts.Item.{Item}
-use Rattle.sp_history.specs.declared.setting.Setting.{Setting}
 use Rattle.sp_history.specs.declared.setting.Options.{Options}
-use Rattle.sp_history.specs.Past.{pend}
-use Rattle.sp_history.specs.Moments.{Moment, Lawful, past}
+use Rattle.sp_history.specs.Moments.{Moment}
 use Rattle.sp_proto.specs.Kinds.{Kind}
 use Rattle.sp_proto.specs.Readings.{Reading, reading}
-use Rattle.proto_floods.specs.Copies.{AreCopies, IsOnlyFlood}
-use Rattle.proto_pending.specs.Waits.{Holds, is_send, count, room}
+use Rattle.proto_floods.specs.Copies.{AreCopies, HasFlood}
+use Rattle.proto_pending.specs.Waits.{Holds, count, room}
 use Rattle.proto_pubsub.specs.declared.publish.Publish.{Publish}
 
 abbrev pub pub_kind : Bool → Options → Kind
@@ -33,10 +30,6 @@ abbrev pub IsFlood : List MessageView → Act → Type 0
 IsFlood copies Recv = ⊤
 IsFlood copies (Send m) = AreCopies m.body copies
 
--- where one of these sends is pending, it is the only one, and these are its copies
-abbrev pub Floods : Setting → List Entry → List MessageView → List Begun → Type 0
-Floods z past copies ss = IsOnlyFlood z past (length copies) (λ (s : Begun). IsFlood copies s.act) ss
-
 -- The pub is of this kind, knows how many pipes are up, and has these operations pending; nothing is kept
 pub record Shows (m : Publish) (k : Kind) (us : List ℕ) (is : List Item) (ss : List Begun) (cs : List ℕ) : Type 0 where
   pub kind : k ≡ pub_kind m.raw m.options
@@ -50,4 +43,4 @@ abbrev pub Stands : Publish → Reading → Type 0
 Stands m r = Shows m r.kind r.up (r.pool 0) r.pend r.ctxs
 
 abbrev pub Ties : Publish → Moment → Type 0
-Ties m t = Stands m (reading t) × (Lawful t → Floods t.z (past t) m.copies.items (filter is_send (pend (past t))))
+Ties m t = Stands m (reading t) × HasFlood t (length m.copies.items) (λ (s : Begun). IsFlood m.copies.items s.act)

@@ -13,8 +13,6 @@
 mod publish;
 mod seats;
 mod subscribe;
-#[cfg(test)]
-mod tests;
 mod topics;
 
 pub use publish::Publish;

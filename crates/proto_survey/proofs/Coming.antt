@@ -28,7 +28,7 @@ use Rattle.sp_history.specs.Past.{pend, ctxs, topics, now}
 use Rattle.sp_history.specs.Kept.{pool, route, add_for, add_item, is_wanted_by}
 use Rattle.sp_history.specs.Requests.{requests, is_on, is_orphan, is_for, has_room, has_id, end_on, begin_on, is_bereft, next_id, next_number, free_from, with_frame, request_of, wire_of}
 use Rattle.sp_history.specs.Sends.{bytes_of, bytes_for}
-use Rattle.sp_history.specs.Legal.{is_recv, is_at, sending}
+use Rattle.sp_history.specs.Legal.{is_at, sending}
 use Rattle.sp_history.specs.Moments.{Moment, Lawful, past, also}
 use Rattle.sp_history.proofs.Asking.{find_begun}
 use Rattle.sp_history.proofs.LiveRequests.{next_is_new}
@@ -40,7 +40,9 @@ use Rattle.sp_proto.specs.declared.Verdict.TheVariants as verdict
 use Rattle.sp_msg.specs.Messages.{Trimmed}
 use Rattle.sp_msg.specs.declared.message.Short.{Short}
 use Rattle.std.proofs.lemmas.Bool.Decides.{nat_tests}
-use Rattle.proto_floods.proofs.Copying.{others}
+use Rattle.proto_floods.specs.Copies.{Each, IsOnlyFlood, HasFlood}
+use Rattle.proto_floods.proofs.Flooding.{no_flood, goes_on}
+use Rattle.proto_pending.specs.Waits.{is_send}
 use Rattle.proto_pending.proofs.Splits.{passing_append}
 use Rattle.proto_reqrep.specs.Reqs.{number_after, with_found, raw_item}
 use Rattle.proto_survey.specs.declared.survey.Survey.{Survey}
@@ -48,13 +50,12 @@ use Rattle.proto_survey.specs.declared.waiting.Asking.{Asking}
 use Rattle.proto_survey.specs.declared.waiting.SurveyEnd.TheVariants as ends
 use Rattle.proto_survey.specs.Lives.{SurveyView, view_of, survey_of, survey_ctx, survey_id, fresh_survey, has_number, with_reply, free_number}
 use Rattle.proto_survey.specs.Askings.{begun_of, left_by, how_in}
-use Rattle.proto_survey.specs.Surveys.{Ties, Asked, Asks, Floods, IsFlood, AreSame, AreCopies, KeepsRaw, out_text, without_live, item_of}
-use Rattle.proto_survey.specs.SurveyLaws.{lawful_before}
+use Rattle.proto_survey.specs.Surveys.{Ties, Asked, Asks, IsFlood, AreSame, KeepsRaw, out_text, without_live, item_of}
 use Rattle.proto_survey.proofs.Living.{same_number, turned, without_is, gone_on, alone, keys_kept, map_of, ids_of, long_of}
 use Rattle.proto_survey.proofs.Leaving.{fresh_how, fresh_left, left_like, not_orphan}
 use Rattle.proto_survey.proofs.Asks.{left, relive, begun, born}
 use Rattle.proto_survey.proofs.Moving.{is_survey, is_raw, is_options, raw_asked, same_kept}
-use Rattle.proto_survey.proofs.Sending.{surveys, no_req, it_floods, same_requests, frame_bytes, no_sends_flood, floods_still}
+use Rattle.proto_survey.proofs.Sending.{surveys, no_req, it_floods, same_requests, frame_bytes}
 
 left_of : (a b : Bool) → (not a && b) ≡ true → a ≡ false
 left_of true b q = absurd cc
@@ -64,9 +65,6 @@ left_of false b q = refl
 free_slot : (t : Moment) (op : OpName) (c : ℕ) (act : Act) (d : Option ℕ) → Lawful (also t (Begin op t.caller c act d)) → list_any (is_at op.slot) (pend (past t)) ≡ false
 free_slot t op c act d l = left_of _ _ l.turn.0.itself.slot_free
 
-abbrev is_send : Begun → Bool
-is_send s = not (is_recv s.act)
-
 -- ---- A receive begins
 
 pub recv_ties : (m n : Survey) (t : Moment) (op : OpName) (c : ℕ) (d : Option ℕ) → NoFlood t → Lawful (also t (Begin op t.caller c Recv d)) → Ties m t → n ≡ record m { waiting = n.waiting } → n.waiting.items ≡ m.waiting.items ++ record { op = op; ctx = c; message = None; ended = None } ∷ [] → Ties n (also t (Begin op t.caller c Recv d))
@@ -75,17 +73,13 @@ recv_ties m n t op c d calm l h same items =
     let free = free_slot t op c Recv d l in
     let none : sending (pend (past t)) ≡ [] = calm (it_floods t.z (is_survey m t h)) in
     subst (λ (x : Survey). Ties x (also t (Begin op t.caller c Recv d))) (sym same) (
-      h.0,
-      h.1,
-      h.2,
-      h.3,
-      subst (λ (ws : List Asking). Asked m.live.items m.last_id ws (pend (past t) ++ begun_of w ∷ []) (requests t.z (past t))) (sym items) (begun m.live.items m.last_id m.waiting.items (pend (past t)) (requests t.z (past t)) w refl free (fresh_how t.z (past t) op free) h.4),
-      λ again. no_sends_flood t.z (past (also t (Begin op t.caller c Recv d))) m.raw m.last_id m.copies.items (sending (pend (past t) ++ begun_of w ∷ [])) (passing_append is_send (pend (past t)) (begun_of w) ∙ ap (λ (ss : List Begun). ss ++ []) none),
+      (h.0.0, h.0.1, h.0.2, h.0.3, subst (λ (ws : List Asking). Asked m.live.items m.last_id ws (pend (past t) ++ begun_of w ∷ []) (requests t.z (past t))) (sym items) (begun m.live.items m.last_id m.waiting.items (pend (past t)) (requests t.z (past t)) w refl free (fresh_how t.z (past t) op free) h.0.4)),
+      no_flood _ _ (also t (Begin op t.caller c Recv d)) (passing_append is_send (pend (past t)) (begun_of w) ∙ ap (λ (ss : List Begun). ss ++ []) none),
     )
 
 -- ---- A send begins
 
-same_copies : (raw : Bool) (id : Option ℕ) (b : List ℕ) (x : MessageView) (xs : List MessageView) → AreSame x xs → out_text raw id x ≡ b → AreCopies raw id b xs
+same_copies : (raw : Bool) (id : Option ℕ) (b : List ℕ) (x : MessageView) (xs : List MessageView) → AreSame x xs → out_text raw id x ≡ b → Each (λ (y : MessageView). out_text raw id y ≡ b) xs
 same_copies raw id b x [] h e = tt
 same_copies raw id b x (y ∷ xs) h e = (ap (out_text raw id) h.0 ∙ e, same_copies raw id b x xs h.1 e)
 
@@ -100,21 +94,23 @@ module _ (m : Survey) (t : Moment) (op : OpName) (c : ℕ) (x : MessageView) (d 
   lone : sending (pend sent_past) ≡ begun_of sent_op ∷ []
   lone = passing_append is_send (pend (past t)) (begun_of sent_op) ∙ ap (λ (ss : List Begun). ss ++ begun_of sent_op ∷ []) (calm (it_floods t.z (is_survey m t h)))
 
-  flooding : (raw : Bool) (id : Option ℕ) (copies : List MessageView) (b : List ℕ) → AreSame x copies → length copies ≡ m.pipes → out_text raw id x ≡ b → bytes_of t.z sent_past (begun_of sent_op) ≡ Some b → Floods t.z sent_past raw id copies (sending (pend sent_past))
+  flooding : (raw : Bool) (id : Option ℕ) (copies : List MessageView) (b : List ℕ) → AreSame x copies → length copies ≡ m.pipes → out_text raw id x ≡ b → bytes_of t.z sent_past (begun_of sent_op) ≡ Some b → HasFlood (also t (Begin op t.caller c (Send (text_of x)) d)) (length copies) (λ (s : Begun). IsFlood raw id copies (bytes_of t.z sent_past s))
   flooding raw id copies b same long out bytes =
-      subst (λ (ss : List Begun). Floods t.z sent_past raw id copies ss) (sym lone)
-      (λ q. omega (arith, h.1, long), subst (λ (o : Option (List ℕ)). IsFlood raw id copies o) (sym bytes) (same_copies raw id b x copies same out), refl)
+      λ again. subst (λ (ss : List Begun). IsOnlyFlood t.z sent_past (length copies) (λ (s : Begun). IsFlood raw id copies (bytes_of t.z sent_past s)) ss) (sym lone)
+      (λ q. omega (arith, h.0.1, long), subst (IsFlood raw id copies) (sym bytes) (same_copies raw id b x copies same out), refl)
 
   pub raw_send_ties : (n : Survey) → m.raw ≡ true → n ≡ record m { copies = n.copies; waiting = n.waiting } → n.waiting.items ≡ m.waiting.items ++ sent_op ∷ [] → AreSame x n.copies.items → length n.copies.items ≡ m.pipes → Ties n (also t (Begin op t.caller c (Send (text_of x)) d))
   raw_send_ties n r same items copies long =
       subst (λ (y : Survey). Ties y (also t (Begin op t.caller c (Send (text_of x)) d))) (sym same) (
-        h.0,
-        h.1,
-        h.2,
-        h.3,
-        subst (λ (ws : List Asking). Asked m.live.items m.last_id ws (pend sent_past) (requests t.z sent_past)) (sym items)
-            (raw_asked m t (m.waiting.items ++ sent_op ∷ []) (pend sent_past) sent_past r h (begun m.live.items m.last_id m.waiting.items (pend (past t)) (requests t.z (past t)) sent_op refl free (fresh_how t.z (past t) op free) h.4)),
-        λ again. flooding m.raw m.last_id n.copies.items (x.header ++ x.body) copies long (ap (λ q. out_text q m.last_id x) r) bytes,
+        (
+          h.0.0,
+          h.0.1,
+          h.0.2,
+          h.0.3,
+          subst (λ (ws : List Asking). Asked m.live.items m.last_id ws (pend sent_past) (requests t.z sent_past)) (sym items)
+              (raw_asked m t (m.waiting.items ++ sent_op ∷ []) (pend sent_past) sent_past r h (begun m.live.items m.last_id m.waiting.items (pend (past t)) (requests t.z (past t)) sent_op refl free (fresh_how t.z (past t) op free) h.0.4)),
+        ),
+        flooding m.raw m.last_id n.copies.items (x.header ++ x.body) copies long (ap (λ q. out_text q m.last_id x) r) bytes,
       )
     where
       free : list_any (is_at op.slot) (pend (past t)) ≡ false
@@ -147,10 +143,10 @@ module _ (m : Survey) (t : Moment) (op : OpName) (c : ℕ) (x : MessageView) (d 
     less = filter (λ (y : SurveyView). not (has (c ∷ []) y.ctx)) m.live.items
 
     first : Asked less m.last_id (map (left_by (has (c ∷ [])) ends.Replaced) m.waiting.items) (pend (past t)) after
-    first = left m.live.items m.last_id m.waiting.items (pend (past t)) (requests t.z (past t)) (c ∷ []) ends.Replaced h.4
+    first = left m.live.items m.last_id m.waiting.items (pend (past t)) (requests t.z (past t)) (c ∷ []) ends.Replaced h.0.4
 
     less_is : without_live c m.live.items ≡ less
-    less_is = without_is c m.live.items h.4.places
+    less_is = without_is c m.live.items h.0.4.places
 
     long_is : length less ≡ length after.live
     long_is = ap length first.live ∙ long_of after.live
@@ -163,7 +159,7 @@ module _ (m : Survey) (t : Moment) (op : OpName) (c : ℕ) (x : MessageView) (d 
         ∙ ap (λ (l : List SurveyView). free_number (length after.live) l (next_number m.options.dice m.last_id)) first.live
         ∙ frees_same (length after.live) (next_number m.options.dice m.last_id) after.live
         ∙ ap (λ (o : Options). free_from (length after.live) after.live (next_number o.dice m.last_id)) (sym (is_options m t h))
-        ∙ ap (λ (o : Option ℕ). free_from (length after.live) after.live (next_number t.z.options.dice o)) h.4.last_id)
+        ∙ ap (λ (o : Option ℕ). free_from (length after.live) after.live (next_number t.z.options.dice o)) h.0.4.last_id)
 
     few : length after.live < 2 ^ 31
     few = subst (λ k. k < 2 ^ 31) (ap length less_is ∙ long_is) a.2
@@ -182,7 +178,7 @@ module _ (m : Survey) (t : Moment) (op : OpName) (c : ℕ) (x : MessageView) (d 
 
     asked : Asked (less ++ fresh_survey c id m.tick ∷ []) (Some id) (map (left_by (has (c ∷ [])) ends.Replaced) m.waiting.items ++ sent_op ∷ []) (pend sent_past) (requests t.z sent_past)
     asked =
-        subst (λ (rs : Requests). Asked (less ++ fresh_survey c id m.tick ∷ []) (Some id) (map (left_by (has (c ∷ [])) ends.Replaced) m.waiting.items ++ sent_op ∷ []) (pend sent_past) rs) (sym (makes ∙ ap (λ k. begin_on t.z k c x.body after) (sym h.0.moment)))
+        subst (λ (rs : Requests). Asked (less ++ fresh_survey c id m.tick ∷ []) (Some id) (map (left_by (has (c ∷ [])) ends.Replaced) m.waiting.items ++ sent_op ∷ []) (pend sent_past) rs) (sym (makes ∙ ap (λ k. begin_on t.z k c x.body after) (sym h.0.0.moment)))
         (begun (less ++ fresh_survey c id m.tick ∷ []) (Some id) (map (left_by (has (c ∷ [])) ends.Replaced) m.waiting.items) (pend (past t)) (begin_on t.z m.tick c x.body after) sent_op refl free no_end
         (born less m.last_id (map (left_by (has (c ∷ [])) ends.Replaced) m.waiting.items) (pend (past t)) after t.z m.tick c id x.body id_is (gone_on c m.live.items) new first))
 
@@ -208,12 +204,8 @@ module _ (m : Survey) (t : Moment) (op : OpName) (c : ℕ) (x : MessageView) (d 
         let lives : n.live.items ≡ less ++ fresh_survey c id m.tick ∷ [] = a.3 ∙ ap (λ (xs : List SurveyView). xs ++ fresh_survey c id m.tick ∷ []) less_is in
         let ops : k.waiting.items ≡ map (left_by (has (c ∷ [])) ends.Replaced) m.waiting.items ++ sent_op ∷ [] = items ∙ ap (λ (ws : List Asking). ws ++ sent_op ∷ []) (a.4 ∙ left_like (λ e. e == c) (has (c ∷ [])) ends.Replaced flip m.waiting.items) in
         subst (λ (y : Survey). Ties y (also t (Begin op t.caller c (Send (text_of x)) d))) (sym whole) (
-          h.0,
-          h.1,
-          h.2,
-          h.3,
-          subst (λ (i : Option ℕ). Asked n.live.items i k.waiting.items (pend sent_past) (requests t.z sent_past)) (sym a.5) (subst (λ (xs : List SurveyView). Asked xs (Some id) k.waiting.items (pend sent_past) (requests t.z sent_past)) (sym lives) (subst (λ (ws : List Asking). Asked (less ++ fresh_survey c id m.tick ∷ []) (Some id) ws (pend sent_past) (requests t.z sent_past)) (sym ops) asked)),
-          λ again. flooding m.raw n.last_id k.copies.items (word id ++ x.body) copies long (ap (λ q. out_text q n.last_id x) r ∙ ap (λ (o : Option ℕ). out_text false o x) a.5) bytes,
+          (h.0.0, h.0.1, h.0.2, h.0.3, subst (λ (i : Option ℕ). Asked n.live.items i k.waiting.items (pend sent_past) (requests t.z sent_past)) (sym a.5) (subst (λ (xs : List SurveyView). Asked xs (Some id) k.waiting.items (pend sent_past) (requests t.z sent_past)) (sym lives) (subst (λ (ws : List Asking). Asked (less ++ fresh_survey c id m.tick ∷ []) (Some id) ws (pend sent_past) (requests t.z sent_past)) (sym ops) asked))),
+          flooding m.raw n.last_id k.copies.items (word id ++ x.body) copies long (ap (λ q. out_text q n.last_id x) r ∙ ap (λ (o : Option ℕ). out_text false o x) a.5) bytes,
         )
 
 -- ---- A frame comes
@@ -251,8 +243,8 @@ module _ (m : Survey) (t : Moment) (p : ℕ) (b : List ℕ) (h : Ties m t) where
   abbrev pub frame_past : List Entry
   frame_past = Frame p b ∷ past t
 
-  frame_floods : Lawful (also t (Frame p b)) → Floods t.z frame_past m.raw m.last_id m.copies.items (sending (pend (past t)))
-  frame_floods again = floods_still t.z (past t) frame_past m.raw m.last_id m.copies.items (sending (pend (past t))) (λ k q. others t (Frame p b) k again refl refl q) (λ s e. frame_bytes t.z (past t) p b s (is_survey m t h)) (h.5 (lawful_before t (Frame p b) again))
+  frame_floods : HasFlood (also t (Frame p b)) (length m.copies.items) (λ (s : Begun). IsFlood m.raw m.last_id m.copies.items (bytes_of t.z frame_past s))
+  frame_floods = goes_on _ t (Frame p b) refl refl refl (λ s e. subst (IsFlood m.raw m.last_id m.copies.items) (frame_bytes t.z (past t) p b s (is_survey m t h))) h.1
 
   -- a frame that is malformed changes no survey
   short_asked : malformed t.z (past t) p b ≡ true → Asked m.live.items m.last_id m.waiting.items (pend (past t)) (requests t.z frame_past)
@@ -266,34 +258,31 @@ module _ (m : Survey) (t : Moment) (p : ℕ) (b : List ℕ) (h : Ties m t) where
           one r = rw e refl
 
       go : (v : Bool) → m.raw ≡ v → Asked m.live.items m.last_id m.waiting.items (pend (past t)) (requests t.z frame_past)
-      go true r = raw_asked m t m.waiting.items (pend (past t)) frame_past r h h.4
+      go true r = raw_asked m t m.waiting.items (pend (past t)) frame_past r h h.0.4
       go false r =
           let after : requests t.z frame_past ≡ requests t.z (past t) = frame_makes t.z (past t) p b (surveys t.z (is_survey m t h) (is_raw m t h ∙ r)) ∙ ap (λ (l : List Request). record (requests t.z (past t)) { live = l }) (same (requests t.z (past t)).live) in
-          subst (λ (q : Requests). Asked m.live.items m.last_id m.waiting.items (pend (past t)) q) (sym after) h.4
+          subst (λ (q : Requests). Asked m.live.items m.last_id m.waiting.items (pend (past t)) q) (sym after) h.0.4
 
   short_pool : malformed t.z (past t) p b ≡ true → pool t.z (past t) 0 ≡ pool t.z frame_past 0
   short_pool e = sym (ap (λ q. cond (not q && cond (has_topics t.z) (has (ctxs (past t)) 0 && is_wanted_by (topics (past t) 0) b) (0 == 0)) (add_for t.z.role t.z (item_in t.z p b) (pool t.z (past t) 0)) (pool t.z (past t) 0)) e)
 
   pub malformed_ties : malformed t.z (past t) p b ≡ true → Ties m (also t (Frame p b))
-  malformed_ties e = (h.0, h.1, h.2, λ r. h.3 r ∙ short_pool e, short_asked e, frame_floods)
+  malformed_ties e = ((h.0.0, h.0.1, h.0.2, λ r. h.0.3 r ∙ short_pool e, short_asked e), frame_floods)
 
   -- there was no memory for it
   pub unkept_ties : Ties m (also (also t (Frame p b)) (Unkept p))
   unkept_ties = (
-    h.0,
-    h.1,
-    h.2,
-    h.3,
-    subst (λ (q : Requests). Asked m.live.items m.last_id m.waiting.items (pend (past t)) q) (sym (unkept_makes t.z (past t) p p b)) h.4,
-    λ again. floods_still t.z (past t) (Unkept p ∷ frame_past) m.raw m.last_id m.copies.items (sending (pend (past t)))
-        (λ k q. others (also t (Frame p b)) (Unkept p) k again refl refl (others t (Frame p b) k (lawful_before (also t (Frame p b)) (Unkept p) again) refl refl q)) (λ s e. same_requests t.z (past t) (Unkept p ∷ frame_past) s (is_survey m t h) (unkept_makes t.z (past t) p p b))
-        (h.5 (lawful_before t (Frame p b) (lawful_before (also t (Frame p b)) (Unkept p) again))),
+    (h.0.0, h.0.1, h.0.2, h.0.3, subst (λ (q : Requests). Asked m.live.items m.last_id m.waiting.items (pend (past t)) q) (sym (unkept_makes t.z (past t) p p b)) h.0.4),
+    goes_on _ (also t (Frame p b)) (Unkept p) refl refl refl (λ s e. subst (IsFlood m.raw m.last_id m.copies.items) (sym (frame_bytes t.z (past t) p b s (is_survey m t h)) ∙ same_requests t.z (past t) (Unkept p ∷ frame_past) s (is_survey m t h) (unkept_makes t.z (past t) p p b))) frame_floods,
   )
 
   -- raw, it is kept
   pub raw_frame_ties : (n : Survey) → m.raw ≡ true → first_word b ≢ None → n ≡ record m { kept = n.kept } → map item_of n.kept.items ≡ map item_of m.kept.items ++ raw_item p b ∷ [] → Ties n (also t (Frame p b))
   raw_frame_ties n r f same items =
-      subst (λ (y : Survey). Ties y (also t (Frame p b))) (sym same) (h.0, h.1, h.2, λ q. items ∙ ap (λ (is : List Item). is ++ raw_item p b ∷ []) (h.3 r) ∙ sym (go t.z (is_survey m t h) (is_raw m t h ∙ r) (long_frame m t p b h f)), raw_asked m t m.waiting.items (pend (past t)) frame_past r h h.4, frame_floods)
+      subst (λ (y : Survey). Ties y (also t (Frame p b))) (sym same) (
+        (h.0.0, h.0.1, h.0.2, λ q. items ∙ ap (λ (is : List Item). is ++ raw_item p b ∷ []) (h.0.3 r) ∙ sym (go t.z (is_survey m t h) (is_raw m t h ∙ r) (long_frame m t p b h f)), raw_asked m t m.waiting.items (pend (past t)) frame_past r h h.0.4),
+        frame_floods,
+      )
     where
       go : (z : Setting) → z.role ≡ role.Surveyor → z.raw ≡ true → malformed z (past t) p b ≡ false → pool z frame_past 0 ≡ pool z (past t) 0 ++ raw_item p b ∷ []
       go z i j k =
@@ -346,13 +335,16 @@ module _ (m : Survey) (t : Moment) (p : ℕ) (b : List ℕ) (h : Ties m t) where
     pub reply_ties : (n : Survey) → n ≡ record m { live = n.live } → n.live.items ≡ with_found (has_number k) (with_reply m.options.queue v) m.live.items → Ties n (also t (Frame p b))
     reply_ties n same items =
         let lives : n.live.items ≡ map survey_of (map (with_frame t.z (past t) p b) (requests t.z (past t)).live) =
-        items ∙ alone survey_id k (with_reply m.options.queue v) m.live.items h.4.ids ∙ ap (map reply_to) h.4.live ∙ map_of reply_to (with_frame t.z (past t) p b) one_is (requests t.z (past t)).live in
+        items ∙ alone survey_id k (with_reply m.options.queue v) m.live.items h.0.4.ids ∙ ap (map reply_to) h.0.4.live ∙ map_of reply_to (with_frame t.z (past t) p b) one_is (requests t.z (past t)).live in
         let done : Asked n.live.items m.last_id m.waiting.items (pend (past t)) (requests t.z frame_past) =
         subst (λ (q : Requests). Asked n.live.items m.last_id m.waiting.items (pend (past t)) q) (sym (frame_makes t.z (past t) p b (surveys t.z (is_survey m t h) (is_raw m t h ∙ r))))
         (relive m.live.items m.last_id m.waiting.items (pend (past t)) (requests t.z (past t)) (with_frame t.z (past t) p b) n.live.items lives
         (ap (map survey_id) items ∙ keys_kept survey_id (has_number k) (with_reply m.options.queue v) (key_same survey_id (λ y ms. refl)) m.live.items)
-        (ap (map survey_ctx) items ∙ keys_kept survey_ctx (has_number k) (with_reply m.options.queue v) (key_same survey_ctx (λ y ms. refl)) m.live.items) h.4) in
-        subst (λ (y : Survey). Ties y (also t (Frame p b))) (sym same) (h.0, h.1, h.2, λ q. let bad : true ≡ false = sym q ∙ r in absurd cc, done, frame_floods)
+        (ap (map survey_ctx) items ∙ keys_kept survey_ctx (has_number k) (with_reply m.options.queue v) (key_same survey_ctx (λ y ms. refl)) m.live.items) h.0.4) in
+        subst (λ (y : Survey). Ties y (also t (Frame p b))) (sym same) (
+          (h.0.0, h.0.1, h.0.2, λ q. let bad : true ≡ false = sym q ∙ r in absurd cc, done),
+          frame_floods,
+        )
 
 -- what is left of a frame behind its id
 pub trimmed_is : {U : Type 0} (old new : MessageView) (r : Result U Short) → Trimmed 4 old new r → old.header ≡ [] → first_word old.body ≢ None → new ≡ record { header = []; body = drop 4 old.body }

@@ -1,6 +1,6 @@
 -- A surveyor stands for its history when messages go out and operations end; and what it offers and answers.
 use Rattle.std.proofs.Common.{◌≡◌, refl, ap, sym, ◌∙◌, subst, List, [], ◌∷◌, ◌++◌, ℕ, Bool, true, false, cond, Option, Some, None, map, length, inl, inr}
-use Rattle.std.specs.Prelude.{find, filter, drop, not, is_some, MatchOption, ◌&&◌, ◌||◌, ◌==◌}
+use Rattle.std.specs.Prelude.{find, filter, drop, not, is_some, ◌&&◌, ◌||◌, ◌==◌}
 use Rattle.std.specs.List.{list_any, list_all}
 use Rattle.std.specs.Option.{option_map}
 use Rattle.sp_base.specs.declared.OpName.{OpName}
@@ -29,22 +29,22 @@ use Rattle.sp_history.specs.Lists.{has, head_of, is_nil, same_op, same_bytes}
 use Rattle.sp_history.specs.Past.{is_of, without_begun, pend, pending, up, ctxs, now}
 use Rattle.sp_history.specs.Kept.{pool, kept, pool_of, route, replies_of, is_on_pool, is_from, has_none_of, wanted}
 use Rattle.sp_history.specs.Requests.{requests, no_requests, asked, is_on, is_orphan, end_on, change_live, with_out, with_taken, without_orphan, after_end, of_live, live_on, request_of, wire_of}
-use Rattle.sp_history.specs.Sends.{may_go, targets, targets_of, bytes_of}
+use Rattle.sp_history.specs.Sends.{may_go, targets, bytes_of}
 use Rattle.sp_history.specs.Settled.{receive_settled, has_full}
-use Rattle.sp_history.specs.Legal.{is_recv, is_recv_on, is_part_of_send, is_state, state_for, does, sending, was_superseded, was_over, MayEndAs}
+use Rattle.sp_history.specs.Legal.{is_recv, is_recv_on, is_part_of_send, is_state, state_for, does, was_superseded, was_over}
 use Rattle.sp_history.specs.Moments.{Moment, Lawful, past, also}
 use Rattle.sp_history.specs.Once.{AreApart}
 use Rattle.sp_history.proofs.Asking.{find_taken}
-use Rattle.sp_history.proofs.OnceHolds.{same_op-eq}
 use Rattle.sp_history.proofs.Requesting.{end_makes, out_makes}
 use Rattle.sp_proto.specs.Kinds.{text_of, verb_of}
 use Rattle.sp_proto.specs.Machines.{CanGive, CanFlood, CanFinish, IsIdle, message_of}
 use Rattle.sp_proto.specs.declared.Verb.{Verb}
 use Rattle.sp_proto.specs.declared.Verb.TheVariants as verbs
-use Rattle.proto_floods.specs.Copies.{HasCopies}
-use Rattle.proto_floods.proofs.Copying.{went_out, others}
-use Rattle.proto_pending.proofs.Splits.{find_passing, without_passing, other_stay}
-use Rattle.proto_pending.proofs.Firsts.{first_found, passes_first, no_sends}
+use Rattle.proto_floods.specs.Copies.{Each, HasCopies, HasFlood}
+use Rattle.proto_floods.proofs.Copying.{each_init}
+use Rattle.proto_floods.proofs.Sending.{passes, a_send, won_send, the_flood, goes_to, goes_out, send_ends, receive_ends}
+use Rattle.proto_pending.specs.Waits.{is_send}
+use Rattle.proto_pending.proofs.Firsts.{no_sends}
 use Rattle.proto_reqrep.specs.Reqs.{with_found}
 use Rattle.proto_survey.specs.declared.survey.Survey.{Survey}
 use Rattle.proto_survey.specs.declared.survey.Kept.{Kept}
@@ -53,42 +53,17 @@ use Rattle.proto_survey.specs.declared.waiting.SurveyEnd.{SurveyEnd}
 use Rattle.proto_survey.specs.declared.waiting.SurveyEnd.TheVariants as ends
 use Rattle.proto_survey.specs.Lives.{SurveyView, view_of, survey_of, survey_ctx, survey_id, is_live_on, given_from, first_in, is_kept}
 use Rattle.proto_survey.specs.Askings.{act_of, begun_of, is_asked, is_sending, without_first, cause_is, how_of, how_in}
-use Rattle.proto_survey.specs.Surveys.{Ties, Asked, Floods, IsFlood, AreCopies, out_text, item_of, gets, is_given, survey_state}
-use Rattle.proto_survey.specs.SurveyLaws.{lawful_before}
+use Rattle.proto_survey.specs.Surveys.{Ties, Asked, IsFlood, out_text, item_of, gets, is_given, survey_state}
 use Rattle.proto_survey.proofs.Living.{equal_of, same_number, alone, keys_kept, map_of, find_of, any_of}
 use Rattle.proto_survey.proofs.Leaving.{find_begun, begun_found, find_own, not_orphan, all_finished}
 use Rattle.proto_survey.proofs.Asks.{taken, relive}
 use Rattle.proto_survey.proofs.Moving.{is_survey, is_raw, raw_asked, itself_mapped}
-use Rattle.proto_survey.proofs.Sending.{surveys, surveys_nothing, no_req, it_floods, out_bytes, bytes_changed, wire_taken, other_orphan, no_sends_flood, floods_still}
-
-abbrev is_send : Begun → Bool
-is_send s = not (is_recv s.act)
-
-a_send : (a : Act) → is_recv a ≡ false → (x : Message) × (a ≡ Send x)
-a_send Recv h = absurd cc
-a_send (Send x) h = (x, refl)
-
-no_receive : (a : Bool) → a ≡ false → not a ≡ true
-no_receive a h = rw h refl
-
-no_send : (a : Bool) → a ≡ true → not a ≡ false
-no_send a h = rw h refl
-
-found_is : (op : OpName) (ss : List Begun) (s : Begun) → find (is_of op) ss ≡ Some s → is_of op s ≡ true
-found_is op [] s h = absurd cc
-found_is op (x ∷ ss) s h = go (is_of op x) refl h (found_is op ss s)
-  where
-    some_inj : Some x ≡ Some s → x ≡ s
-    some_inj q = cc
-
-    go : (b : Bool) → is_of op x ≡ b → cond b (Some x) (find (is_of op) ss) ≡ Some s → (find (is_of op) ss ≡ Some s → is_of op s ≡ true) → is_of op s ≡ true
-    go true e q again = sym (ap (is_of op) (some_inj q)) ∙ e
-    go false e q again = again q
+use Rattle.proto_survey.proofs.Sending.{surveys, surveys_nothing, no_req, it_floods, out_bytes, bytes_changed, wire_taken, other_orphan}
 
 -- ---- The operation of a name
 
 pub the_op : (m : Survey) (t : Moment) (op : OpName) (s : Begun) → Ties m t → pending (past t) op ≡ Some s → (w : Asking) × (find (is_asked op) m.waiting.items ≡ Some w) × (begun_of w ≡ s)
-the_op m t op s h p = find_begun op m.waiting.items s (ap (find (is_of op)) h.4.pending ∙ p)
+the_op m t op s h p = find_begun op m.waiting.items s (ap (find (is_of op)) h.0.4.pending ∙ p)
 
 pub none_taken : {A : Type 0} (m : Survey) (t : Moment) (op : OpName) (s : Begun) → Ties m t → pending (past t) op ≡ Some s → None ≡ find (is_asked op) m.waiting.items → A
 none_taken m t op s h p e = let v = the_op m t op s h p in let k : None ≡ Some v.0 = e ∙ v.1 in absurd cc
@@ -120,38 +95,7 @@ pub none_in : (o : Option MessageView) → is_some o ≡ false → o ≡ None
 none_in None q = refl
 none_in (Some x) q = absurd cc
 
--- ---- The send that goes to many pipes
-
--- it is the only one that is pending, and its copies are there
-module _ (m : Survey) (t : Moment) (op : OpName) (s : Begun) (l : Lawful t) (h : Ties m t) (k : pending (past t) op ≡ Some s) (is : is_recv s.act ≡ false) where
-  the_flood : (sending (pend (past t)) ≡ s ∷ []) × HasCopies t.z (past t) (length m.copies.items) × IsFlood m.raw m.last_id m.copies.items (bytes_of t.z (past t) s)
-  the_flood = go (sending (pend (past t))) (h.5 l) (find_passing is_send (pend (past t)) op s k (no_receive (is_recv s.act) is))
-    where
-      some_inj : (x : Begun) → Some x ≡ Some s → x ≡ s
-      some_inj x q = cc
-
-      first : (b : Bool) (x : Begun) → cond b (Some x) None ≡ Some s → x ≡ s
-      first true x q = some_inj x q
-      first false x q = absurd cc
-
-      go : (xs : List Begun) → Floods t.z (past t) m.raw m.last_id m.copies.items xs → find (is_of op) xs ≡ Some s → (xs ≡ s ∷ []) × HasCopies t.z (past t) (length m.copies.items) × IsFlood m.raw m.last_id m.copies.items (bytes_of t.z (past t) s)
-      go [] f q = absurd cc
-      go (x ∷ xs) f q =
-          let same : x ≡ s = first (is_of op x) x (rw f.2 at q) in
-          (ap (λ (rest : List Begun). x ∷ rest) f.2 ∙ ap (λ (y : Begun). y ∷ []) same, f.0, subst (λ (y : Begun). IsFlood m.raw m.last_id m.copies.items (bytes_of t.z (past t) y)) same f.1)
-
-  -- when it has ended, no send is pending
-  none_left : sending (without_begun (pend (past t)) op) ≡ []
-  none_left = without_passing is_send (pend (past t)) op ∙ ap (λ (xs : List Begun). without_begun xs op) the_flood.0 ∙ gone (is_of op s) (found_is op (pend (past t)) s k)
-    where
-      gone : (b : Bool) → b ≡ true → cond (not b) (s ∷ []) [] ≡ []
-      gone b e = rw e refl
-
--- ---- Where it goes
-
-has_filter : (f : ℕ → Bool) (us : List ℕ) (p : ℕ) → ((u : ℕ) → f u ≡ true) → has (filter f us) p ≡ has us p
-has_filter f [] p h = refl
-has_filter f (u ∷ us) p h = ap (λ b. has (cond b (u ∷ filter f us) (filter f us)) p) (h u) ∙ ap (λ b. (u == p) || b) (has_filter f us p h)
+-- ---- It goes out
 
 may_go_is : (r : Role) (raw : Bool) (o : Option Origin) (header : List ℕ) (p : ℕ) → r ≡ role.Surveyor → may_go r raw o header p ≡ true
 may_go_is r raw o header p h = rw h refl
@@ -159,13 +103,7 @@ may_go_is r raw o header p h = rw h refl
 pub goes : (m : Survey) (t : Moment) (op : OpName) (s : Begun) (b : List ℕ) (p : ℕ) → Ties m t → CanFlood t op s b → has (up (past t)) p ≡ true → true ≡ has (targets t.z (past t) s) p
 goes m t op s b p h c is_up =
     let sent = a_send s.act c.is_send in
-    sym is_up ∙ sym (has_filter (may_go t.z.role t.z.raw (route t.z (past t) s.op) sent.0.header) (up (past t)) p (λ u. may_go_is t.z.role t.z.raw (route t.z (past t) s.op) sent.0.header u (is_survey m t h))) ∙ sym (ap (λ (a : Act). has (targets_of t.z (past t) s.op a) p) sent.1)
-
--- ---- It goes out
-
-copies_init : (raw : Bool) (id : Option ℕ) (b : List ℕ) (xs : List MessageView) (x : MessageView) → AreCopies raw id b (xs ++ x ∷ []) → AreCopies raw id b xs × (out_text raw id x ≡ b)
-copies_init raw id b [] x h = (tt, h.0)
-copies_init raw id b (y ∷ xs) x h = let rest = copies_init raw id b xs x h.1 in ((h.0, rest.0), rest.1)
+    sym (goes_to t s sent.0 p sent.1 is_up ∙ may_go_is t.z.role t.z.raw (route t.z (past t) s.op) sent.0.header p (is_survey m t h))
 
 module _ (m : Survey) (t : Moment) (p : ℕ) (b : List ℕ) (h : Ties m t) where
   out_asked : Asked m.live.items m.last_id m.waiting.items (pend (past t)) (requests t.z (Out p b ∷ past t))
@@ -186,25 +124,21 @@ module _ (m : Survey) (t : Moment) (p : ℕ) (b : List ℕ) (h : Ties m t) where
       id_map (x ∷ xs) = ap (λ (rest : List SurveyView). x ∷ rest) (id_map xs)
 
       go : (v : Bool) → m.raw ≡ v → Asked m.live.items m.last_id m.waiting.items (pend (past t)) (requests t.z (Out p b ∷ past t))
-      go true r = raw_asked m t m.waiting.items (pend (past t)) (Out p b ∷ past t) r h h.4
+      go true r = raw_asked m t m.waiting.items (pend (past t)) (Out p b ∷ past t) r h h.0.4
       go false r =
           subst (λ (q : Requests). Asked m.live.items m.last_id m.waiting.items (pend (past t)) q) (sym (out_makes t.z (past t) p b (surveys t.z (is_survey m t h) (is_raw m t h ∙ r))))
-          (relive m.live.items m.last_id m.waiting.items (pend (past t)) (requests t.z (past t)) f m.live.items (h.4.live ∙ id_map (map survey_of (requests t.z (past t)).live) ∙ map_of (λ (y : SurveyView). y) f one_is (requests t.z (past t)).live) refl refl h.4)
+          (relive m.live.items m.last_id m.waiting.items (pend (past t)) (requests t.z (past t)) f m.live.items (h.0.4.live ∙ id_map (map survey_of (requests t.z (past t)).live) ∙ map_of (λ (y : SurveyView). y) f one_is (requests t.z (past t)).live) refl refl h.0.4)
 
   pub flood_ties : (n : Survey) (op : OpName) (s : Begun) (copy : MessageView) → Lawful t → CanFlood t op s b → m.copies.items ≡ n.copies.items ++ copy ∷ [] → n ≡ record m { copies = n.copies } → (out_text m.raw m.last_id copy ≡ b) × Ties n (also t (Out p b))
   flood_ties n op s copy l c items same =
-      let flood = the_flood m t op s l h c.pending c.is_send in
-      let parts : AreCopies m.raw m.last_id b m.copies.items = subst (λ (o : Option (List ℕ)). IsFlood m.raw m.last_id m.copies.items o) c.bytes flood.2 in
-      let last = copies_init m.raw m.last_id b n.copies.items copy (subst (AreCopies m.raw m.last_id b) items parts) in
+      let flood = the_flood _ _ t op s l h.1 c.pending c.is_send in
+      let parts : IsFlood m.raw m.last_id m.copies.items (Some b) = subst (IsFlood m.raw m.last_id m.copies.items) c.bytes flood.2 in
+      let last = each_init _ n.copies.items copy (subst (Each (λ (x : MessageView). out_text m.raw m.last_id x ≡ b)) items parts) in
       let bytes : bytes_of t.z (Out p b ∷ past t) s ≡ Some b = sym (out_bytes t.z (past t) p b s (is_survey m t h)) ∙ c.bytes in (
         last.1,
         subst (λ (x : Survey). Ties x (also t (Out p b))) (sym same) (
-          h.0,
-          h.1,
-          h.2,
-          h.3,
-          out_asked,
-          λ again. subst (λ (ss : List Begun). Floods t.z (Out p b ∷ past t) m.raw m.last_id n.copies.items ss) (sym flood.0) (went_out t.z (past t) p b (length n.copies.items) (it_floods t.z (is_survey m t h)), subst (λ (o : Option (List ℕ)). IsFlood m.raw m.last_id n.copies.items o) (sym bytes) last.0, refl),
+          (h.0.0, h.0.1, h.0.2, h.0.3, out_asked),
+          goes_out _ _ _ _ t op s b p l h.1 c (subst (IsFlood m.raw m.last_id n.copies.items) (sym bytes) last.0),
         ),
       )
 
@@ -229,29 +163,11 @@ sent_same : (z : Setting) (o : Option Begun) (ss : List Begun) (rs : Requests) �
 sent_same z None ss rs = refl
 sent_same z (Some s) ss rs = refl
 
--- the send that is pending has another name than a receive that ends
-other_name : (ss : List Begun) (op : OpName) (s r : Begun) → AreApart ss → find (is_of op) ss ≡ Some s → is_recv s.act ≡ true → head_of (filter is_send ss) ≡ Some r → same_op op r.op ≡ false
-other_name ss op s r apart p is e = go (same_op op r.op) refl
-  where
-    some_inj : Some r ≡ Some s → r ≡ s
-    some_inj q = cc
-
-    go : (b : Bool) → same_op op r.op ≡ b → b ≡ false
-    go false f = refl
-    go true f =
-        let here : find (is_of op) ss ≡ Some r = subst (λ (o : OpName). find (is_of o) ss ≡ Some r) (sym (same_op-eq op r.op f)) (first_found is_send ss r apart e) in
-        let same : r ≡ s = some_inj (sym here ∙ p) in
-        let sends : not (is_recv r.act) ≡ true = passes_first is_send ss r e in
-        let no_ : not (is_recv r.act) ≡ false = ap (λ (x : Begun). not (is_recv x.act)) same ∙ no_send (is_recv s.act) is in
-        let bad : true ≡ false = sym sends ∙ no_ in absurd cc
-
 module _ (m : Survey) (t : Moment) (op : OpName) (s : Begun) (h : Ties m t) (p : pending (past t) op ≡ Some s) where
   -- a receive that ends is nothing to a send
-  stays : (ending : Ending) → is_recv s.act ≡ true → Lawful (also t (End op ending)) → is_part_of_send t.z (End op ending) ≡ false
-      → ((r : Begun) → same_op op r.op ≡ false → bytes_of t.z (past t) r ≡ bytes_of t.z (End op ending ∷ past t) r) → Floods t.z (End op ending ∷ past t) m.raw m.last_id m.copies.items (sending (without_begun (pend (past t)) op))
-  stays ending is l part same =
-      subst (λ (ss : List Begun). Floods t.z (End op ending ∷ past t) m.raw m.last_id m.copies.items ss) (sym (other_stay is_send (pend (past t)) op s h.4.apart p (no_send (is_recv s.act) is)))
-      (floods_still t.z (past t) (End op ending ∷ past t) m.raw m.last_id m.copies.items (sending (pend (past t))) (λ k q. others t (End op ending) k l part refl q) (λ r e. same r (other_name (pend (past t)) op s r h.4.apart p is e)) (h.5 (lawful_before t (End op ending) l)))
+  stays : (ending : Ending) → is_recv s.act ≡ true → is_part_of_send t.z (End op ending) ≡ false → ((r : Begun) → same_op op r.op ≡ false → bytes_of t.z (past t) r ≡ bytes_of t.z (End op ending ∷ past t) r)
+      → HasFlood (also t (End op ending)) (length m.copies.items) (λ (r : Begun). IsFlood m.raw m.last_id m.copies.items (bytes_of t.z (End op ending ∷ past t) r))
+  stays ending is part same = receive_ends _ t op s ending h.0.4.apart p is part (λ r e. subst (IsFlood m.raw m.last_id m.copies.items) (same r e)) h.1
 
   plain_bytes : (ending : Ending) → ((o : Option Begun) (ss : List Begun) (rs : Requests) → after_end t.z ending o ss rs ≡ rs) → (r : Begun) → same_op op r.op ≡ false → bytes_of t.z (past t) r ≡ bytes_of t.z (End op ending ∷ past t) r
   plain_bytes ending k r e =
@@ -261,49 +177,29 @@ module _ (m : Survey) (t : Moment) (op : OpName) (s : Begun) (h : Ties m t) (p :
 
   plain_asked : (ending : Ending) → ((o : Option Begun) (ss : List Begun) (rs : Requests) → after_end t.z ending o ss rs ≡ rs) → Asked m.live.items m.last_id (without_first op m.waiting.items) (without_begun (pend (past t)) op) (requests t.z (End op ending ∷ past t))
   plain_asked ending k =
-      subst (λ (rs : Requests). Asked m.live.items m.last_id (without_first op m.waiting.items) (without_begun (pend (past t)) op) rs) (sym (plain_end t.z (past t) op ending (is_survey m t h) k)) (taken m.live.items m.last_id m.waiting.items (pend (past t)) (requests t.z (past t)) op h.4)
+      subst (λ (rs : Requests). Asked m.live.items m.last_id (without_first op m.waiting.items) (without_begun (pend (past t)) op) rs) (sym (plain_end t.z (past t) op ending (is_survey m t h) k)) (taken m.live.items m.last_id m.waiting.items (pend (past t)) (requests t.z (past t)) op h.0.4)
 
   -- a send is lost
-  pub lost_send : (n : Survey) (cause : Cause) (by : ℕ) → Lawful (also t (End op (Gone cause by))) → is_recv s.act ≡ false → n.waiting.items ≡ without_first op m.waiting.items → n ≡ record m { waiting = n.waiting; copies = n.copies } → Ties n (also t (End op (Gone cause by)))
-  lost_send n cause by l is items same =
+  pub lost_send : (n : Survey) (cause : Cause) (by : ℕ) → is_recv s.act ≡ false → n.waiting.items ≡ without_first op m.waiting.items → n ≡ record m { waiting = n.waiting; copies = n.copies } → Ties n (also t (End op (Gone cause by)))
+  lost_send n cause by is items same =
       subst (λ (x : Survey). Ties x (also t (End op (Gone cause by)))) (sym same) (
-        h.0,
-        h.1,
-        h.2,
-        h.3,
-        subst (λ (ws : List Asking). Asked m.live.items m.last_id ws (without_begun (pend (past t)) op) (requests t.z (End op (Gone cause by) ∷ past t))) (sym items) (plain_asked (Gone cause by) (gone_same t.z cause by (is_survey m t h))),
-        λ again. no_sends_flood t.z (End op (Gone cause by) ∷ past t) m.raw m.last_id n.copies.items (sending (without_begun (pend (past t)) op)) (none_left m t op s (lawful_before t (End op (Gone cause by)) l) h p is),
+        (h.0.0, h.0.1, h.0.2, h.0.3, subst (λ (ws : List Asking). Asked m.live.items m.last_id ws (without_begun (pend (past t)) op) (requests t.z (End op (Gone cause by) ∷ past t))) (sym items) (plain_asked (Gone cause by) (gone_same t.z cause by (is_survey m t h)))),
+        send_ends _ _ _ _ t op s (Gone cause by) h.1 p is,
       )
 
   pub lost_receive : (n : Survey) (cause : Cause) (by : ℕ) → is_recv s.act ≡ true → n.waiting.items ≡ without_first op m.waiting.items → n ≡ record m { waiting = n.waiting } → Ties n (also t (End op (Gone cause by)))
   lost_receive n cause by is items same =
       subst (λ (x : Survey). Ties x (also t (End op (Gone cause by)))) (sym same) (
-        h.0,
-        h.1,
-        h.2,
-        h.3,
-        subst (λ (ws : List Asking). Asked m.live.items m.last_id ws (without_begun (pend (past t)) op) (requests t.z (End op (Gone cause by) ∷ past t))) (sym items) (plain_asked (Gone cause by) (gone_same t.z cause by (is_survey m t h))),
-        λ again. stays (Gone cause by) is again refl (plain_bytes (Gone cause by) (gone_same t.z cause by (is_survey m t h))),
+        (h.0.0, h.0.1, h.0.2, h.0.3, subst (λ (ws : List Asking). Asked m.live.items m.last_id ws (without_begun (pend (past t)) op) (requests t.z (End op (Gone cause by) ∷ past t))) (sym items) (plain_asked (Gone cause by) (gone_same t.z cause by (is_survey m t h)))),
+        stays (Gone cause by) is refl (plain_bytes (Gone cause by) (gone_same t.z cause by (is_survey m t h))),
       )
-
-  -- what is won as sent is a send
-  pub won_send : Lawful (also t (End op (Won Sent))) → is_recv s.act ≡ false
-  won_send l = turn (is_recv s.act) (subst (λ (o : Option Begun). MatchOption o ⊥ (MayEndAs t.z (past t) (Won Sent))) p l.turn.0.itself).0
-    where
-      turn : (a : Bool) → not a ≡ true → a ≡ false
-      turn true q = absurd cc
-      turn false q = refl
 
   -- a send went to its pipes
   pub flooded_ties : (n : Survey) → Lawful (also t (End op (Won Sent))) → n.waiting.items ≡ without_first op m.waiting.items → n ≡ record m { waiting = n.waiting; copies = n.copies } → Ties n (also t (End op (Won Sent)))
   flooded_ties n l items same =
       subst (λ (x : Survey). Ties x (also t (End op (Won Sent)))) (sym same) (
-        h.0,
-        h.1,
-        h.2,
-        h.3,
-        subst (λ (ws : List Asking). Asked m.live.items m.last_id ws (without_begun (pend (past t)) op) (requests t.z (End op (Won Sent) ∷ past t))) (sym items) (plain_asked (Won Sent) (sent_same t.z)),
-        λ again. no_sends_flood t.z (End op (Won Sent) ∷ past t) m.raw m.last_id n.copies.items (sending (without_begun (pend (past t)) op)) (none_left m t op s (lawful_before t (End op (Won Sent)) l) h p (won_send l)),
+        (h.0.0, h.0.1, h.0.2, h.0.3, subst (λ (ws : List Asking). Asked m.live.items m.last_id ws (without_begun (pend (past t)) op) (requests t.z (End op (Won Sent) ∷ past t))) (sym items) (plain_asked (Won Sent) (sent_same t.z))),
+        send_ends _ _ _ _ t op s (Won Sent) h.1 p (won_send t op s l p),
       )
 
 -- ---- What is kept
@@ -315,7 +211,7 @@ kept_raw : (z : Setting) (before : List Entry) (c : ℕ) → z.role ≡ role.Sur
 kept_raw z before c h r = rw (h, r) refl
 
 live_is : (m : Survey) (t : Moment) (c : ℕ) → Ties m t → find (is_live_on c) m.live.items ≡ option_map survey_of (live_on t.z (past t) c)
-live_is m t c h = ap (find (is_live_on c)) h.4.live ∙ find_of c (requests t.z (past t)).live
+live_is m t c h = ap (find (is_live_on c)) h.0.4.live ∙ find_of c (requests t.z (past t)).live
 
 pub given_is : (m : Survey) (t : Moment) (c : ℕ) → Ties m t → is_given m.raw m.kept.items m.live.items c ≡ not (is_nil (kept t.z (past t) c))
 given_is m t c h = go m.raw refl
@@ -333,7 +229,7 @@ given_is m t c h = go m.raw refl
         step (i ∷ is) = refl
 
     go : (v : Bool) → m.raw ≡ v → is_given v m.kept.items m.live.items c ≡ not (is_nil (kept t.z (past t) c))
-    go true r = raw_nil m.kept.items ∙ ap (λ (is : List Item). not (is_nil is)) (h.3 r ∙ sym (kept_raw t.z (past t) c (is_survey m t h) (is_raw m t h ∙ r)))
+    go true r = raw_nil m.kept.items ∙ ap (λ (is : List Item). not (is_nil is)) (h.0.3 r ∙ sym (kept_raw t.z (past t) c (is_survey m t h) (is_raw m t h ∙ r)))
     go false r = ap is_kept (live_is m t c h) ∙ cooked_nil (live_on t.z (past t) c) ∙ ap (λ (is : List Item). not (is_nil is)) (sym (kept_cooked t.z (past t) c (surveys t.z (is_survey m t h) (is_raw m t h ∙ r))))
 
 pub wants_all : (m : Survey) (t : Moment) (p : ℕ) (b : Bool) → Ties m t → (m.raw ≡ true → b ≡ not (list_any (λ (k : Kept). k.pipe == p) m.kept.items)) → (m.raw ≡ false → b ≡ true) → b ≡ wanted t.z (past t) p
@@ -350,7 +246,7 @@ wants_all m t p b h f g = go m.raw refl
     cooked_is z i j = rw (i, j) refl
 
     go : (v : Bool) → m.raw ≡ v → b ≡ wanted t.z (past t) p
-    go true r = f r ∙ ap not (sym (from_same m.kept.items)) ∙ ap (has_none_of p) (h.3 r ∙ sym (kept_raw t.z (past t) 0 (is_survey m t h) (is_raw m t h ∙ r))) ∙ raw_is t.z (is_survey m t h) (is_raw m t h ∙ r)
+    go true r = f r ∙ ap not (sym (from_same m.kept.items)) ∙ ap (has_none_of p) (h.0.3 r ∙ sym (kept_raw t.z (past t) 0 (is_survey m t h) (is_raw m t h ∙ r))) ∙ raw_is t.z (is_survey m t h) (is_raw m t h ∙ r)
     go false r = g r ∙ cooked_is t.z (is_survey m t h) (is_raw m t h ∙ r)
 
 -- ---- A receive is given a message
@@ -378,18 +274,20 @@ module _ (m : Survey) (t : Moment) (op : OpName) (s : Begun) (text : Message) (h
       bytes_changed t.z (past t) given_past r (with_taken s.ctx) (is_survey m t h) (wire_taken s.ctx)
       (λ f. (ap (λ (rs : Requests). is_orphan rs r.op) (given_makes f) ∙ other_orphan op r.op e (requests t.z (past t)).orphans, ap (λ (rs : Requests). find (is_on r.ctx) rs.live) (given_makes f) ∙ find_taken r.ctx s.ctx (requests t.z (past t)).live))
 
-  given_floods : Lawful (also t (End op (Won (Received text)))) → Floods t.z given_past m.raw m.last_id m.copies.items (sending (without_begun (pend (past t)) op))
-  given_floods again = stays m t op s h g.pending (Won (Received text)) g.may.is_receive again refl given_bytes
+  given_floods : HasFlood (also t (End op (Won (Received text)))) (length m.copies.items) (λ (r : Begun). IsFlood m.raw m.last_id m.copies.items (bytes_of t.z given_past r))
+  given_floods = stays m t op s h g.pending (Won (Received text)) g.may.is_receive refl given_bytes
 
   pub given_raw : (n : Survey) → m.raw ≡ true → n.waiting.items ≡ without_first op m.waiting.items → n.kept.items ≡ drop 1 m.kept.items → n ≡ record m { waiting = n.waiting; kept = n.kept } → Ties n (also t (End op (Won (Received text))))
   given_raw n r items rest same =
       subst (λ (x : Survey). Ties x (also t (End op (Won (Received text))))) (sym same) (
-        h.0,
-        h.1,
-        h.2,
-        λ q. ap (map item_of) rest ∙ dropped m.kept.items ∙ ap (drop 1) (h.3 r) ∙ sym (ap (λ b. cond b (drop 1 (pool t.z (past t) 0)) (pool t.z (past t) 0)) (ap (is_on_pool t.z 0) g.pending ∙ on_pool t.z (is_survey m t h))),
-        subst (λ (ws : List Asking). Asked m.live.items m.last_id ws (without_begun (pend (past t)) op) (requests t.z given_past)) (sym items)
-            (subst (λ (rs : Requests). Asked m.live.items m.last_id (without_first op m.waiting.items) (without_begun (pend (past t)) op) rs) (raw_end t.z (past t) op (Won (Received text)) (surveys_nothing t.z (is_survey m t h) (is_raw m t h ∙ r))) (taken m.live.items m.last_id m.waiting.items (pend (past t)) (requests t.z (past t)) op h.4)),
+        (
+          h.0.0,
+          h.0.1,
+          h.0.2,
+          λ q. ap (map item_of) rest ∙ dropped m.kept.items ∙ ap (drop 1) (h.0.3 r) ∙ sym (ap (λ b. cond b (drop 1 (pool t.z (past t) 0)) (pool t.z (past t) 0)) (ap (is_on_pool t.z 0) g.pending ∙ on_pool t.z (is_survey m t h))),
+          subst (λ (ws : List Asking). Asked m.live.items m.last_id ws (without_begun (pend (past t)) op) (requests t.z given_past)) (sym items)
+              (subst (λ (rs : Requests). Asked m.live.items m.last_id (without_first op m.waiting.items) (without_begun (pend (past t)) op) rs) (raw_end t.z (past t) op (Won (Received text)) (surveys_nothing t.z (is_survey m t h) (is_raw m t h ∙ r))) (taken m.live.items m.last_id m.waiting.items (pend (past t)) (requests t.z (past t)) op h.0.4)),
+        ),
         given_floods,
       )
     where
@@ -402,7 +300,7 @@ module _ (m : Survey) (t : Moment) (op : OpName) (s : Begun) (text : Message) (h
 
   pub oldest_raw : m.raw ≡ true → option_map text_of (option_map (λ (k : Kept). k.message) (head_of m.kept.items)) ≡ Some text
   oldest_raw r =
-      firsts m.kept.items ∙ ap (λ (is : List Item). option_map (λ (i : Item). i.message) (head_of is)) (h.3 r ∙ sym (kept_raw t.z (past t) s.ctx (is_survey m t h) (is_raw m t h ∙ r))) ∙ g.may.oldest
+      firsts m.kept.items ∙ ap (λ (is : List Item). option_map (λ (i : Item). i.message) (head_of is)) (h.0.3 r ∙ sym (kept_raw t.z (past t) s.ctx (is_survey m t h) (is_raw m t h ∙ r))) ∙ g.may.oldest
     where
       firsts : (ks : List Kept) → option_map text_of (option_map (λ (k : Kept). k.message) (head_of ks)) ≡ option_map (λ (i : Item). i.message) (head_of (map item_of ks))
       firsts [] = refl
@@ -412,17 +310,19 @@ module _ (m : Survey) (t : Moment) (op : OpName) (s : Begun) (text : Message) (h
   given_cooked n r items rest same =
       let z_raw = is_raw m t h ∙ r in
       let lives : n.live.items ≡ map survey_of (map (with_taken s.ctx) (requests t.z (past t)).live) =
-      rest ∙ alone survey_ctx s.ctx given_from m.live.items h.4.places ∙ ap (map one) h.4.live ∙ map_of one (with_taken s.ctx) one_is (requests t.z (past t)).live in
+      rest ∙ alone survey_ctx s.ctx given_from m.live.items h.0.4.places ∙ ap (map one) h.0.4.live ∙ map_of one (with_taken s.ctx) one_is (requests t.z (past t)).live in
       let changed =
       relive m.live.items m.last_id m.waiting.items (pend (past t)) (requests t.z (past t)) (with_taken s.ctx) n.live.items lives
-      (ap (map survey_id) rest ∙ keys_kept survey_id (is_live_on s.ctx) given_from (λ y. refl) m.live.items) (ap (map survey_ctx) rest ∙ keys_kept survey_ctx (is_live_on s.ctx) given_from (λ y. refl) m.live.items) h.4 in
+      (ap (map survey_id) rest ∙ keys_kept survey_id (is_live_on s.ctx) given_from (λ y. refl) m.live.items) (ap (map survey_ctx) rest ∙ keys_kept survey_ctx (is_live_on s.ctx) given_from (λ y. refl) m.live.items) h.0.4 in
       subst (λ (x : Survey). Ties x (also t (End op (Won (Received text))))) (sym same) (
-        h.0,
-        h.1,
-        h.2,
-        λ q. let bad : true ≡ false = sym q ∙ r in absurd cc,
-        subst (λ (ws : List Asking). Asked n.live.items m.last_id ws (without_begun (pend (past t)) op) (requests t.z given_past)) (sym items)
-            (subst (λ (rs : Requests). Asked n.live.items m.last_id (without_first op m.waiting.items) (without_begun (pend (past t)) op) rs) (sym (given_makes z_raw)) (taken n.live.items m.last_id m.waiting.items (pend (past t)) (change_live (with_taken s.ctx) (requests t.z (past t))) op changed)),
+        (
+          h.0.0,
+          h.0.1,
+          h.0.2,
+          λ q. let bad : true ≡ false = sym q ∙ r in absurd cc,
+          subst (λ (ws : List Asking). Asked n.live.items m.last_id ws (without_begun (pend (past t)) op) (requests t.z given_past)) (sym items)
+              (subst (λ (rs : Requests). Asked n.live.items m.last_id (without_first op m.waiting.items) (without_begun (pend (past t)) op) rs) (sym (given_makes z_raw)) (taken n.live.items m.last_id m.waiting.items (pend (past t)) (change_live (with_taken s.ctx) (requests t.z (past t))) op changed)),
+        ),
         given_floods,
       )
     where
@@ -455,17 +355,6 @@ module _ (m : Survey) (t : Moment) (op : OpName) (s : Begun) (text : Message) (h
 
 -- ---- Offers
 
-passes : (P : Asking → Bool) (ws : List Asking) (w : Asking) → find P ws ≡ Some w → P w ≡ true
-passes P [] w h = absurd cc
-passes P (x ∷ ws) w h = go (P x) refl h (passes P ws w)
-  where
-    some_inj : Some x ≡ Some w → x ≡ w
-    some_inj q = cc
-
-    go : (b : Bool) → P x ≡ b → cond b (Some x) (find P ws) ≡ Some w → (find P ws ≡ Some w → P w ≡ true) → P w ≡ true
-    go true e q again = sym (ap P (some_inj q)) ∙ e
-    go false e q again = again q
-
 none_passes : (P : Asking → Bool) (ws : List Asking) → find P ws ≡ None → list_any P ws ≡ false
 none_passes P [] h = refl
 none_passes P (x ∷ ws) h = go (P x) h (none_passes P ws)
@@ -488,16 +377,16 @@ never P Q (x ∷ ws) w h k = go (Q x) (P x) refl h k (never P Q ws w)
 
 pub its_pending : (m : Survey) (t : Moment) (P : Asking → Bool) (w : Asking) → Ties m t → find P m.waiting.items ≡ Some w → pending (past t) w.op ≡ Some (begun_of w)
 its_pending m t P w h f =
-    ap (find (is_of w.op)) (sym h.4.pending) ∙ begun_found w.op m.waiting.items w (find_own P m.waiting.items w f (subst (λ (l : List Begun). AreApart l) (sym h.4.pending) h.4.apart))
+    ap (find (is_of w.op)) (sym h.0.4.pending) ∙ begun_found w.op m.waiting.items w (find_own P m.waiting.items w f (subst (λ (l : List Begun). AreApart l) (sym h.0.4.pending) h.0.4.apart))
 
 its_how : (m : Survey) (t : Moment) (P : Asking → Bool) (w : Asking) → Ties m t → find P m.waiting.items ≡ Some w → option_map how_of w.ended ≡ how_in (requests t.z (past t)).orphans w.op
-its_how m t P w h f = h.4.ends w.op w (find_own P m.waiting.items w f (subst (λ (l : List Begun). AreApart l) (sym h.4.pending) h.4.apart))
+its_how m t P w h f = h.0.4.ends w.op w (find_own P m.waiting.items w f (subst (λ (l : List Begun). AreApart l) (sym h.0.4.pending) h.0.4.apart))
 
 pub can_flood : (m : Survey) (t : Moment) (w : Asking) → Lawful t → Ties m t → find is_sending m.waiting.items ≡ Some w → (s : Begun) × (b : List ℕ) × CanFlood t w.op s b
 can_flood m t w l h f =
     let is : is_recv (act_of w.message) ≡ false = send_is (begun_of w) w refl (passes is_sending m.waiting.items w f) in
     let p = its_pending m t is_sending w h f in
-    let flood = the_flood m t w.op (begun_of w) l h p is in
+    let flood = the_flood _ _ t w.op (begun_of w) l h.1 p is in
     let b = some_bytes (bytes_of t.z (past t) (begun_of w)) flood.2 in
     (begun_of w, b.0, record { pending = p; is_send = is; bytes = b.1; floods_all = it_floods t.z (is_survey m t h) })
   where
@@ -506,7 +395,7 @@ can_flood m t w l h f =
     some_bytes (Some b) k = (b, refl)
 
 pub enough : (m : Survey) (t : Moment) (w : Asking) → Lawful t → Ties m t → find is_sending m.waiting.items ≡ Some w → HasCopies t.z (past t) (length m.copies.items)
-enough m t w l h f = (the_flood m t w.op (begun_of w) l h (its_pending m t is_sending w h f) (send_is (begun_of w) w refl (passes is_sending m.waiting.items w f))).1
+enough m t w l h f = (the_flood _ _ t w.op (begun_of w) l h.1 (its_pending m t is_sending w h f) (send_is (begun_of w) w refl (passes is_sending m.waiting.items w f))).1
 
 abbrev pub lone : Asking → Bool
 lone w = is_some w.ended
@@ -598,7 +487,7 @@ can_give m t w K h none f g = at (kept t.z (past t) w.ctx) refl (sym (given_is m
         may =
             record {
               is_receive = recv;
-              first_pending = ap (λ (ss : List Begun). option_map (λ (first : Begun). first.op) (find (is_recv_on w.ctx) ss)) (sym h.4.pending) ∙ ap (option_map (λ (first : Begun). first.op)) (first_here K m.waiting.items w f both.1);
+              first_pending = ap (λ (ss : List Begun). option_map (λ (first : Begun). first.op) (find (is_recv_on w.ctx) ss)) (sym h.0.4.pending) ∙ ap (option_map (λ (first : Begun). first.op)) (first_here K m.waiting.items w f both.1);
               oldest = ap (λ (l : List Item). option_map (λ (i : Item). i.message) (head_of l)) e;
               live = alive i rest e;
             };
@@ -610,12 +499,12 @@ idle m t h sends ended given =
     record {
       settled =
           record {
-            receives = subst (λ (ss : List Begun). list_all (receive_settled t.z (past t)) ss ≡ true) h.4.pending (received m.waiting.items given);
-            sends = no_sends t.z (past t) (has_full t.turn) (pend (past t)) (ap head_of (nothing_sent (pend (past t)) (subst (λ (ss : List Begun). list_any is_send ss ≡ false) h.4.pending (as_sends m.waiting.items (none_passes is_sending m.waiting.items sends)))));
+            receives = subst (λ (ss : List Begun). list_all (receive_settled t.z (past t)) ss ≡ true) h.0.4.pending (received m.waiting.items given);
+            sends = no_sends t.z (past t) (has_full t.turn) (pend (past t)) (ap head_of (nothing_sent (pend (past t)) (subst (λ (ss : List Begun). list_any is_send ss ≡ false) h.0.4.pending (as_sends m.waiting.items (none_passes is_sending m.waiting.items sends)))));
             again = λ q. let k : false ≡ true = rw (is_survey m t h) at q in absurd cc;
-            finished = all_finished t.z (past t) m.waiting.items h.4.pending h.4.ends (none_passes lone m.waiting.items ended);
+            finished = all_finished t.z (past t) m.waiting.items h.0.4.pending h.0.4.ends (none_passes lone m.waiting.items ended);
           };
-      no_flood = λ q. nothing_sent (pend (past t)) (subst (λ (ss : List Begun). list_any is_send ss ≡ false) h.4.pending (as_sends m.waiting.items (none_passes is_sending m.waiting.items sends)));
+      no_flood = λ q. nothing_sent (pend (past t)) (subst (λ (ss : List Begun). list_any is_send ss ≡ false) h.0.4.pending (as_sends m.waiting.items (none_passes is_sending m.waiting.items sends)));
     }
   where
     as_sends : (ws : List Asking) → list_any is_sending ws ≡ false → list_any is_send (map begun_of ws) ≡ false
@@ -661,7 +550,7 @@ does_is m t c act b h e =
     both (Send x) = refl
 
 pub open_is : (m : Survey) (t : Moment) (c : ℕ) (cs : List ℕ) (b o : Bool) → Ties m t → cs ≡ m.homes.items → o ≡ has cs c → o ≡ b → has (ctxs (past t)) c ≡ b
-open_is m t c cs b o h e k f = ap (λ l. has l c) (sym h.2 ∙ sym e) ∙ sym k ∙ f
+open_is m t c cs b o h e k f = ap (λ l. has l c) (sym h.0.2 ∙ sym e) ∙ sym k ∙ f
 
 recv_state : (m : Survey) (t : Moment) (c : ℕ) → Ties m t → is_state t.z (past t) c Recv ≡ (not (list_any (is_live_on c) m.live.items) && not m.raw)
 recv_state m t c h =

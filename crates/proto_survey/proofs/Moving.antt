@@ -1,11 +1,9 @@
 -- A surveyor stands for its history after the calls that tell of pipes, contexts, turns and time.
-use Rattle.std.proofs.Common.{◌≡◌, ◌≢◌, refl, ap, sym, ◌∙◌, subst, List, [], ◌∷◌, ◌++◌, ℕ, ◌+◌, ◌-◌, ◌≤◌, max, Bool, true, false, cond, arith, Option, Some, None, map, length}
-use Rattle.std.specs.Prelude.{filter, not, min, ◌^◌, IsTrue, ◌&&◌, ◌||◌, ◌==◌}
+use Rattle.std.proofs.Common.{◌≡◌, ◌≢◌, refl, ap, sym, ◌∙◌, subst, List, [], ◌∷◌, ◌++◌, ℕ, ◌+◌, ◌-◌, ◌≤◌, max, Bool, true, false, cond, arith, Option, Some, None, map}
+use Rattle.std.specs.Prelude.{filter, not, min, ◌^◌, ◌&&◌, ◌||◌, ◌==◌}
 use Rattle.std.specs.List.{list_any}
 use Rattle.std.specs.Option.{option_map}
-use Rattle.turn_lock.specs.declared.turn.Turn.{Turn}
 use Rattle.sp_base.specs.declared.OpName.{OpName}
-use Rattle.sp_base.specs.declared.role.Role.{Role}
 use Rattle.sp_base.specs.declared.role.Role.TheVariants as role
 use Rattle.sp_history.specs.declared.setting.Setting.{Setting}
 use Rattle.sp_history.specs.declared.setting.Options.{Options}
@@ -16,48 +14,46 @@ use Rattle.sp_history.specs.declared.entry.Totals.{Totals}
 use Rattle.sp_history.specs.declared.entry.Why.{Why}
 use Rattle.sp_history.specs.declared.entry.WireName.{WireName}
 use Rattle.sp_history.specs.declared.parts.Begun.{Begun}
-use Rattle.sp_history.specs.declared.parts.Item.{Item}
 use Rattle.sp_history.specs.declared.parts.Orphan.{Orphan}
 use Rattle.sp_history.specs.declared.parts.Request.{Request}
 use Rattle.sp_history.specs.declared.parts.Requests.{Requests}
 use Rattle.sp_history.specs.declared.parts.How.TheVariants as how
-use Rattle.sp_history.specs.Setting.{floods, is_reply}
-use Rattle.sp_history.specs.Lists.{has, without, head_of, same_op}
-use Rattle.sp_history.specs.Past.{pend, up, ups, now, onto, past_from}
-use Rattle.sp_history.specs.Kept.{pool, is_from}
+use Rattle.sp_history.specs.Lists.{has, head_of, same_op}
+use Rattle.sp_history.specs.Past.{pend, now}
+use Rattle.sp_history.specs.Kept.{pool}
 use Rattle.sp_history.specs.Requests.{requests, no_requests, asked, is_orphan, orphan_of, end_on, over_at, after_moment, live_on, is_over as is_over_at}
 use Rattle.sp_history.specs.Sends.{bytes_of}
-use Rattle.sp_history.specs.Legal.{is_recv, sending, LegalFrom}
+use Rattle.sp_history.specs.Legal.{is_recv, sending}
 use Rattle.sp_history.specs.Moments.{Moment, Lawful, past, also, next}
 use Rattle.sp_history.proofs.Requesting.{shut_makes, tick_makes, close_makes, shut_elsewhere}
 use Rattle.sp_proto.specs.Kinds.{Kind}
 use Rattle.sp_proto.specs.Machines.{NoFlood}
-use Rattle.proto_floods.proofs.Copying.{found_full, went_down, others}
-use Rattle.proto_floods.proofs.Counting.{one_fewer, ups_apart}
+use Rattle.proto_floods.proofs.Copying.{pool_down}
+use Rattle.proto_floods.proofs.Flooding.{no_flood, goes_on, pipe_down, pipe_full, turn_begins}
+use Rattle.proto_floods.proofs.Counting.{counted_up, counted_down}
 use Rattle.proto_survey.specs.declared.survey.Survey.{Survey}
 use Rattle.proto_survey.specs.declared.waiting.Asking.{Asking}
 use Rattle.proto_survey.specs.declared.waiting.SurveyEnd.TheVariants as ends
 use Rattle.proto_survey.specs.Lives.{SurveyView, survey_of, is_over, over_on, without_over}
 use Rattle.proto_survey.specs.Askings.{left_by}
-use Rattle.proto_survey.specs.Surveys.{Ties, Asked, without_live, item_of}
-use Rattle.proto_survey.specs.SurveyLaws.{lawful_before}
+use Rattle.proto_survey.specs.Surveys.{Ties, Asked, IsFlood, without_live, item_of}
 use Rattle.proto_survey.proofs.Living.{equal_of, same_number, without_is, over_is, none_over, none_on, filter_like}
 use Rattle.proto_survey.proofs.Leaving.{left_like, none_left_by}
 use Rattle.proto_survey.proofs.Asks.{none_bereft, left, shut}
-use Rattle.proto_survey.proofs.Sending.{surveys, surveys_nothing, no_req, it_floods, raw_same, bytes_changed, no_sends_flood, floods_still}
+use Rattle.proto_survey.proofs.Sending.{surveys, surveys_nothing, no_req, it_floods, raw_same, bytes_changed}
 
 pub is_survey : (m : Survey) (t : Moment) → Ties m t → t.z.role ≡ role.Surveyor
-is_survey m t h = ap (λ (k : Kind). k.role) h.0.kind
+is_survey m t h = ap (λ (k : Kind). k.role) h.0.0.kind
 
 pub is_raw : (m : Survey) (t : Moment) → Ties m t → t.z.raw ≡ m.raw
-is_raw m t h = ap (λ (k : Kind). k.raw) h.0.kind
+is_raw m t h = ap (λ (k : Kind). k.raw) h.0.0.kind
 
 pub is_options : (m : Survey) (t : Moment) → Ties m t → t.z.options ≡ m.options
-is_options m t h = ap (λ (k : Kind). k.options) h.0.kind
+is_options m t h = ap (λ (k : Kind). k.options) h.0.0.kind
 
 -- raw, no survey is live
 pub no_live : (m : Survey) (t : Moment) → Ties m t → m.raw ≡ true → m.live.items ≡ []
-no_live m t h r = h.4.live ∙ ap (λ q. map survey_of (cond q (asked t.z (past t)) no_requests).live) (surveys_nothing t.z (is_survey m t h) (is_raw m t h ∙ r))
+no_live m t h r = h.0.4.live ∙ ap (λ q. map survey_of (cond q (asked t.z (past t)) no_requests).live) (surveys_nothing t.z (is_survey m t h) (is_raw m t h ∙ r))
 
 -- raw, the surveys and operations are tied to every past with these operations
 pub raw_asked : (m : Survey) (t : Moment) (ws : List Asking) (ss : List Begun) (b : List Entry) → m.raw ≡ true → Ties m t → Asked m.live.items m.last_id ws ss (requests t.z (past t)) → Asked m.live.items m.last_id ws ss (requests t.z b)
@@ -65,92 +61,35 @@ raw_asked m t ws ss b r h a = subst (λ (rs : Requests). Asked m.live.items m.la
 
 -- ---- Pipes
 
-up_most : (before : List Entry) → length (up before) ≤ ups before
-up_most [] = omega arith
-up_most (Up p place name ∷ before) = omega (arith, up_most before, one_more (up before))
-  where
-    one_more : (us : List ℕ) → length (us ++ p ∷ []) ≡ length us + 1
-    one_more [] = refl
-    one_more (u ∷ us) = omega (arith, one_more us)
-up_most (Down p why ∷ before) = omega (arith, up_most before, no_longer (up before))
-  where
-    no_longer : (us : List ℕ) → length (without us p) ≤ length us
-    no_longer [] = omega arith
-    no_longer (u ∷ us) = go (u == p) (no_longer us)
-      where
-        go : (b : Bool) → length (without us p) ≤ length us → length (cond (not b) (u ∷ without us p) (without us p)) ≤ length (u ∷ us)
-        go true h = omega (arith, h)
-        go false h = omega (arith, h)
-up_most (_ ∷ before) = up_most before
-
-append_one : (us : List ℕ) (p : ℕ) → length (us ++ p ∷ []) ≡ length us + 1
-append_one [] p = refl
-append_one (u ∷ us) p = omega (arith, append_one us p)
-
-pool_down : (z : Setting) (before : List Entry) (p : ℕ) (why : Why) → z.role ≡ role.Surveyor → pool z before 0 ≡ pool z (Down p why ∷ before) 0
-pool_down z before p why h = go z.role (pool z before 0) h
-  where
-    go : (r : Role) (is : List Item) → r ≡ role.Surveyor → is ≡ cond (is_reply r) (filter (λ (i : Item). not (is_from p i)) is) is
-    go r is h = rw h refl
-
 pub up_ties : (m n : Survey) (t : Moment) (p place : ℕ) (name : WireName) → NoFlood t → Lawful (also t (Up p place name)) → Ties m t → n ≡ record m { pipes = min (m.pipes + 1) (2 ^ 64 - 1) } → Ties n (also t (Up p place name))
 up_ties m n t p place name calm l h same =
-    let next = l.turn.0.itself.0 in
-    let small = l.turn.0.itself.2 in
-    let known = h.1 in
     subst (λ (x : Survey). Ties x (also t (Up p place name))) (sym same) (
-      h.0,
-      omega (arith, append_one (up (past t)) p, up_most (past t), next, small, known),
-      h.2,
-      h.3,
-      h.4,
-      λ again. no_sends_flood t.z (past (also t (Up p place name))) m.raw m.last_id m.copies.items (sending (pend (past t))) (calm (it_floods t.z (is_survey m t h))),
+      (h.0.0, counted_up t p place name m.pipes l h.0.1, h.0.2, h.0.3, h.0.4),
+      no_flood _ _ (also t (Up p place name)) (calm (it_floods t.z (is_survey m t h))),
     )
 
 pub down_ties : (m n : Survey) (t : Moment) (p : ℕ) (why : Why) → Lawful (also t (Down p why)) → Ties m t → n ≡ record m { pipes = m.pipes - 1 } → Ties n (also t (Down p why))
 down_ties m n t p why l h same =
-    let known = h.1 in
     subst (λ (x : Survey). Ties x (also t (Down p why))) (sym same) (
-      h.0,
-      omega (arith, one_fewer (up (past t)) p (ups_apart t (lawful_before t (Down p why) l)) l.turn.0.itself.0, known),
-      h.2,
-      λ r. h.3 r ∙ pool_down t.z (past t) p why (is_survey m t h),
-      h.4,
-      λ again. floods_still t.z (past t) (Down p why ∷ past t) m.raw m.last_id m.copies.items (sending (pend (past t))) (λ k q. went_down t.z (past t) p why k (it_floods t.z (is_survey m t h)) q) (λ s e. refl) (h.5 (lawful_before t (Down p why) l)),
+      (h.0.0, counted_down t p why m.pipes l h.0.1, h.0.2, λ r. h.0.3 r ∙ pool_down t.z (past t) p why (it_floods t.z (is_survey m t h)), h.0.4),
+      pipe_down _ _ t p why (it_floods t.z (is_survey m t h)) h.1,
     )
 
 pub full_ties : (m : Survey) (t : Moment) (p : ℕ) → Ties m t → Ties m (also t (Full p))
-full_ties m t p h = (
-  h.0,
-  h.1,
-  h.2,
-  h.3,
-  h.4,
-  λ again. floods_still t.z (past t) (Full p ∷ past t) m.raw m.last_id m.copies.items (sending (pend (past t))) (λ k q. found_full t.z (past t) p k (it_floods t.z (is_survey m t h)) q) (λ s e. refl) (h.5 (lawful_before t (Full p) again)),
-)
+full_ties m t p h = (h.0, pipe_full _ _ t p (it_floods t.z (is_survey m t h)) h.1)
 
 -- ---- A turn begins
 
-no_flood_left : (z : Setting) (before : List Entry) (history : List (Turn Entry)) → LegalFrom z before history → (IsTrue (floods z.role) → sending (pend before) ≡ []) → IsTrue (floods z.role) → sending (pend (past_from before history)) ≡ []
-no_flood_left z before [] l n = n
-no_flood_left z before (t ∷ history) l n = no_flood_left z (onto t.entries before) history l.1 l.0.whole.no_flood
-
 pub fresh_ties : (m : Survey) (t : Moment) (k : ℕ) → Lawful (next t k) → Ties m t → Ties m (next t k)
-fresh_ties m t k l h =
-    let none : sending (pend (past t)) ≡ [] = subst (λ (before : List Entry). sending (pend before) ≡ []) (sym l.before) (no_flood_left t.z [] l.history l.legal (λ f. refl) (it_floods t.z (is_survey m t h))) in
-    (h.0, h.1, h.2, h.3, h.4, λ again. no_sends_flood t.z (past t) m.raw m.last_id m.copies.items (sending (pend (past t))) none)
+fresh_ties m t k l h = (h.0, turn_begins _ _ t k l (it_floods t.z (is_survey m t h)))
 
 -- ---- Contexts
 
 pub opened_ties : (m n : Survey) (t : Moment) (c : ℕ) → Ties m t → n ≡ record m { homes = n.homes } → n.homes.items ≡ m.homes.items ++ c ∷ [] → Ties n (also t (Ctx c Open))
 opened_ties m n t c h same items =
     subst (λ (x : Survey). Ties x (also t (Ctx c Open))) (sym same) (
-      h.0,
-      h.1,
-      items ∙ ap (λ (cs : List ℕ). cs ++ c ∷ []) h.2,
-      h.3,
-      h.4,
-      λ again. floods_still t.z (past t) (Ctx c Open ∷ past t) m.raw m.last_id m.copies.items (sending (pend (past t))) (λ k q. others t (Ctx c Open) k again refl refl q) (λ s e. refl) (h.5 (lawful_before t (Ctx c Open) again)),
+      (h.0.0, h.0.1, items ∙ ap (λ (cs : List ℕ). cs ++ c ∷ []) h.0.2, h.0.3, h.0.4),
+      goes_on _ t (Ctx c Open) refl refl refl (λ s e q. q) h.1,
     )
 
 not_on : (c : ℕ) (f : Begun → Bool) (ss : List Begun) (s : Begun) → list_any (λ (x : Begun). x.ctx == c) ss ≡ false → head_of (filter f ss) ≡ Some s → (s.ctx == c) ≡ false
@@ -201,20 +140,16 @@ module _ (m : Survey) (t : Moment) (c : ℕ) (l : Lawful (also t (Ctx c Shut))) 
       go : (r : Bool) → m.raw ≡ r → Asked ys m.last_id m.waiting.items (pend (past t)) (requests t.z shut_past)
       go true r =
           let none = no_live m t h r in
-          subst (λ (xs : List SurveyView). Asked xs m.last_id m.waiting.items (pend (past t)) (requests t.z shut_past)) (none ∙ sym (e ∙ ap (without_live c) none)) (raw_asked m t m.waiting.items (pend (past t)) shut_past r h h.4)
+          subst (λ (xs : List SurveyView). Asked xs m.last_id m.waiting.items (pend (past t)) (requests t.z shut_past)) (none ∙ sym (e ∙ ap (without_live c) none)) (raw_asked m t m.waiting.items (pend (past t)) shut_past r h h.0.4)
       go false r =
-          subst (λ (xs : List SurveyView). Asked xs m.last_id m.waiting.items (pend (past t)) (requests t.z shut_past)) (sym (e ∙ without_is c m.live.items h.4.places))
-          (subst (λ (rs : Requests). Asked (filter (λ (x : SurveyView). not (has (c ∷ []) x.ctx)) m.live.items) m.last_id m.waiting.items (pend (past t)) rs) (sym (shut_makes t.z (past t) c (surveys t.z (is_survey m t h) (is_raw m t h ∙ r)))) (shut m.live.items m.last_id m.waiting.items (pend (past t)) (requests t.z (past t)) c none_there h.4))
+          subst (λ (xs : List SurveyView). Asked xs m.last_id m.waiting.items (pend (past t)) (requests t.z shut_past)) (sym (e ∙ without_is c m.live.items h.0.4.places))
+          (subst (λ (rs : Requests). Asked (filter (λ (x : SurveyView). not (has (c ∷ []) x.ctx)) m.live.items) m.last_id m.waiting.items (pend (past t)) rs) (sym (shut_makes t.z (past t) c (surveys t.z (is_survey m t h) (is_raw m t h ∙ r)))) (shut m.live.items m.last_id m.waiting.items (pend (past t)) (requests t.z (past t)) c none_there h.0.4))
 
   pub shut_ties : (n : Survey) → n ≡ record m { homes = n.homes; live = n.live } → n.homes.items ≡ filter (λ d. not (d == c)) m.homes.items → n.live.items ≡ without_live c m.live.items → Ties n (also t (Ctx c Shut))
   shut_ties n same homes live =
       subst (λ (x : Survey). Ties x (also t (Ctx c Shut))) (sym same) (
-        h.0,
-        h.1,
-        homes ∙ ap (filter (λ d. not (d == c))) h.2,
-        λ r. h.3 r ∙ sym (ap (λ b. cond b [] (pool t.z (past t) 0)) (other c l.turn.0.itself.0)),
-        shut_asked n.live.items live,
-        λ again. floods_still t.z (past t) shut_past m.raw m.last_id m.copies.items (sending (pend (past t))) (λ k q. others t (Ctx c Shut) k again refl refl q) shut_bytes (h.5 (lawful_before t (Ctx c Shut) again)),
+        (h.0.0, h.0.1, homes ∙ ap (filter (λ d. not (d == c))) h.0.2, λ r. h.0.3 r ∙ sym (ap (λ b. cond b [] (pool t.z (past t) 0)) (other c l.turn.0.itself.0)), shut_asked n.live.items live),
+        goes_on _ t (Ctx c Shut) refl refl refl (λ s e. subst (IsFlood m.raw m.last_id m.copies.items) (shut_bytes s e)) h.1,
       )
     where
       other : (n : ℕ) → n ≢ 0 → (n == 0) ≡ false
@@ -251,7 +186,7 @@ module _ (m : Survey) (t : Moment) (n : ℕ) (due : List OpName) (h : Ties m t) 
   tick_past = Tick n due ∷ past t
 
   here : (c : ℕ) → over_on m.options.survey n m.live.items c ≡ has (over_at t.z n (requests t.z (past t))) c
-  here c = sym (over_there t.z n c (requests t.z (past t)).live ∙ ap (λ (o : Options). over_on o.survey n (map survey_of (requests t.z (past t)).live) c) (is_options m t h) ∙ ap (λ (xs : List SurveyView). over_on m.options.survey n xs c) (sym h.4.live))
+  here c = sym (over_there t.z n c (requests t.z (past t)).live ∙ ap (λ (o : Options). over_on o.survey n (map survey_of (requests t.z (past t)).live) c) (is_options m t h) ∙ ap (λ (xs : List SurveyView). over_on m.options.survey n xs c) (sym h.0.4.live))
 
   ticked_asked : (xs : List SurveyView) (ws : List Asking) → xs ≡ without_over m.options.survey n m.live.items → ws ≡ map (left_by (over_on m.options.survey n m.live.items) ends.Over) m.waiting.items → Asked xs m.last_id ws (pend (past t)) (requests t.z tick_past)
   unfolding after_moment
@@ -265,25 +200,21 @@ module _ (m : Survey) (t : Moment) (n : ℕ) (due : List OpName) (h : Ties m t) 
           let none = no_live m t h r in
           let same : m.live.items ≡ xs = none ∙ sym (e ∙ ap (without_over m.options.survey n) none) in
           let ops : m.waiting.items ≡ ws = sym (f ∙ none_left_by (over_on m.options.survey n m.live.items) ends.Over (λ c. ap (λ (l : List SurveyView). over_on m.options.survey n l c) none) m.waiting.items) in
-          subst (λ (l : List Asking). Asked xs m.last_id l (pend (past t)) (requests t.z tick_past)) ops (subst (λ (l : List SurveyView). Asked l m.last_id m.waiting.items (pend (past t)) (requests t.z tick_past)) same (raw_asked m t m.waiting.items (pend (past t)) tick_past r h h.4))
+          subst (λ (l : List Asking). Asked xs m.last_id l (pend (past t)) (requests t.z tick_past)) ops (subst (λ (l : List SurveyView). Asked l m.last_id m.waiting.items (pend (past t)) (requests t.z tick_past)) same (raw_asked m t m.waiting.items (pend (past t)) tick_past r h h.0.4))
       go false r =
           let makes : requests t.z tick_past ≡ end_on cs how.Over (pend (past t)) (requests t.z (past t)) =
           tick_makes t.z (past t) n due (surveys t.z (is_survey m t h) (is_raw m t h ∙ r)) ∙ ap (λ q. cond q (requests t.z (past t)) (end_on cs how.Over (pend (past t)) (requests t.z (past t)))) (no_req t.z (is_survey m t h)) in
           let lives : xs ≡ filter (λ (x : SurveyView). not (has cs x.ctx)) m.live.items =
-          e ∙ over_is (is_over m.options.survey n) m.live.items h.4.places ∙ filter_like (λ (x : SurveyView). not (over_on m.options.survey n m.live.items x.ctx)) (λ (x : SurveyView). not (has cs x.ctx)) (λ x. ap not (here x.ctx)) m.live.items in
+          e ∙ over_is (is_over m.options.survey n) m.live.items h.0.4.places ∙ filter_like (λ (x : SurveyView). not (over_on m.options.survey n m.live.items x.ctx)) (λ (x : SurveyView). not (has cs x.ctx)) (λ x. ap not (here x.ctx)) m.live.items in
           let ops : ws ≡ map (left_by (has cs) ends.Over) m.waiting.items = f ∙ left_like (over_on m.options.survey n m.live.items) (has cs) ends.Over here m.waiting.items in
           subst (λ (rs : Requests). Asked xs m.last_id ws (pend (past t)) rs) (sym makes)
-          (subst (λ (l : List Asking). Asked xs m.last_id l (pend (past t)) (end_on cs how.Over (pend (past t)) (requests t.z (past t)))) (sym ops) (subst (λ (l : List SurveyView). Asked l m.last_id (map (left_by (has cs) ends.Over) m.waiting.items) (pend (past t)) (end_on cs how.Over (pend (past t)) (requests t.z (past t)))) (sym lives) (left m.live.items m.last_id m.waiting.items (pend (past t)) (requests t.z (past t)) cs ends.Over h.4)))
+          (subst (λ (l : List Asking). Asked xs m.last_id l (pend (past t)) (end_on cs how.Over (pend (past t)) (requests t.z (past t)))) (sym ops) (subst (λ (l : List SurveyView). Asked l m.last_id (map (left_by (has cs) ends.Over) m.waiting.items) (pend (past t)) (end_on cs how.Over (pend (past t)) (requests t.z (past t)))) (sym lives) (left m.live.items m.last_id m.waiting.items (pend (past t)) (requests t.z (past t)) cs ends.Over h.0.4)))
 
   pub ticked_ties : (x : Survey) → NoFlood t → Lawful (also t (Tick n due)) → x ≡ record m { tick = n; live = x.live; waiting = x.waiting } → x.live.items ≡ without_over m.options.survey n m.live.items → x.waiting.items ≡ map (left_by (over_on m.options.survey n m.live.items) ends.Over) m.waiting.items → Ties x (also t (Tick n due))
   ticked_ties x calm l same live ops =
       subst (λ (y : Survey). Ties y (also t (Tick n due))) (sym same) (
-        record { kind = h.0.kind; moment = sym (later (now (past t)) n l.turn.0.itself.0) },
-        h.1,
-        h.2,
-        h.3,
-        ticked_asked x.live.items x.waiting.items live ops,
-        λ again. no_sends_flood t.z tick_past m.raw m.last_id m.copies.items (sending (pend (past t))) (calm (it_floods t.z (is_survey m t h))),
+        (record { kind = h.0.0.kind; moment = sym (later (now (past t)) n l.turn.0.itself.0) }, h.0.1, h.0.2, h.0.3, ticked_asked x.live.items x.waiting.items live ops),
+        no_flood _ _ (also t (Tick n due)) (calm (it_floods t.z (is_survey m t h))),
       )
 
   -- none is over
@@ -297,26 +228,31 @@ module _ (m : Survey) (t : Moment) (n : ℕ) (due : List OpName) (h : Ties m t) 
 pub closed_ties : (m n : Survey) (t : Moment) (totals : Totals) → Lawful (also t (Close totals)) → Ties m t → n ≡ record m { live = n.live; kept = n.kept } → n.live.items ≡ [] → n.kept.items ≡ [] → Ties n (also t (Close totals))
 closed_ties m n t totals l h same live kept =
     subst (λ (x : Survey). Ties x (also t (Close totals))) (sym same) (
-      h.0,
-      h.1,
-      h.2,
-      λ r. ap (map item_of) kept,
-      subst (λ (rs : Requests). Asked n.live.items m.last_id m.waiting.items (pend (past t)) rs) (sym (close_makes t.z (past t) totals)) (subst (λ (xs : List SurveyView). Asked xs m.last_id m.waiting.items (pend (past t)) (record (requests t.z (past t)) { live = [] })) (sym live)
-          (record {
-            live = refl;
-            last_id = h.4.last_id;
-            ids = tt;
-            places = tt;
-            pending = h.4.pending;
-            apart = h.4.apart;
-            ends = h.4.ends;
-          })),
-      λ again. no_sends_flood t.z (past (also t (Close totals))) m.raw m.last_id m.copies.items (sending (pend (past t))) (ap sending l.turn.0.itself.0),
+      (
+        h.0.0,
+        h.0.1,
+        h.0.2,
+        λ r. ap (map item_of) kept,
+        subst (λ (rs : Requests). Asked n.live.items m.last_id m.waiting.items (pend (past t)) rs) (sym (close_makes t.z (past t) totals)) (subst (λ (xs : List SurveyView). Asked xs m.last_id m.waiting.items (pend (past t)) (record (requests t.z (past t)) { live = [] })) (sym live)
+            (record {
+              live = refl;
+              last_id = h.0.4.last_id;
+              ids = tt;
+              places = tt;
+              pending = h.0.4.pending;
+              apart = h.0.4.apart;
+              ends = h.0.4.ends;
+            })),
+      ),
+      no_flood _ _ (also t (Close totals)) (ap sending l.turn.0.itself.0),
     )
 
 -- the live surveys were written with what they were
 pub same_live : (m n : Survey) (t : Moment) → n ≡ record m { live = n.live } → n.live.items ≡ m.live.items → Ties m t → Ties n t
-same_live m n t same items h = subst (λ (x : Survey). Ties x t) (sym same) (h.0, h.1, h.2, h.3, subst (λ (xs : List SurveyView). Asked xs m.last_id m.waiting.items (pend (past t)) (requests t.z (past t))) (sym items) h.4, h.5)
+same_live m n t same items h = subst (λ (x : Survey). Ties x t) (sym same) (
+  (h.0.0, h.0.1, h.0.2, h.0.3, subst (λ (xs : List SurveyView). Asked xs m.last_id m.waiting.items (pend (past t)) (requests t.z (past t))) (sym items) h.0.4),
+  h.1,
+)
 
 pub same_kept : (m n : Survey) (t : Moment) → n ≡ record m { kept = n.kept } → n.kept.items ≡ m.kept.items → Ties m t → Ties n t
-same_kept m n t same items h = subst (λ (x : Survey). Ties x t) (sym same) (h.0, h.1, h.2, λ r. ap (map item_of) items ∙ h.3 r, h.4, h.5)
+same_kept m n t same items h = subst (λ (x : Survey). Ties x t) (sym same) ((h.0.0, h.0.1, h.0.2, λ r. ap (map item_of) items ∙ h.0.3 r, h.0.4), h.1)

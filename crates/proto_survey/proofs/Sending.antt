@@ -1,12 +1,11 @@
 -- What goes out for a send, from one moment to the next.
-use Rattle.std.proofs.Common.{◌≡◌, refl, ap, sym, ◌∙◌, subst, List, [], ◌∷◌, ◌++◌, ℕ, Bool, true, false, cond, Option, Some, None, length}
+use Rattle.std.proofs.Common.{◌≡◌, refl, ap, sym, ◌∙◌, subst, List, [], ◌∷◌, ◌++◌, ℕ, Bool, true, false, cond, Option, Some, None}
 use Rattle.std.specs.Prelude.{find, filter, not, drop, ◌&&◌, ◌||◌, ◌==◌}
 use Rattle.std.specs.List.{list_any}
 use Rattle.std.specs.Option.{option_map}
 use Rattle.sp_base.specs.declared.OpName.{OpName}
 use Rattle.sp_base.specs.declared.role.Role.{Role}
 use Rattle.sp_base.specs.declared.role.Role.TheVariants as role
-use Rattle.sp_msg.specs.Views.{MessageView}
 use Rattle.sp_history.specs.declared.setting.Setting.{Setting}
 use Rattle.sp_history.specs.declared.entry.Entry.{Entry}
 use Rattle.sp_history.specs.declared.entry.Entry.TheVariants.{Out, Frame}
@@ -16,7 +15,7 @@ use Rattle.sp_history.specs.declared.parts.Begun.{Begun}
 use Rattle.sp_history.specs.declared.parts.Orphan.{Orphan}
 use Rattle.sp_history.specs.declared.parts.Request.{Request}
 use Rattle.sp_history.specs.declared.parts.Requests.{Requests}
-use Rattle.sp_history.specs.Lists.{head_of, same_op, same_bytes}
+use Rattle.sp_history.specs.Lists.{same_op, same_bytes}
 use Rattle.sp_history.specs.Setting.{floods, is_req, has_requests}
 use Rattle.sp_history.specs.Past.{now}
 use Rattle.sp_history.specs.Kept.{route}
@@ -25,8 +24,6 @@ use Rattle.sp_history.specs.Requests.{requests, no_requests, asked, is_on, is_or
 use Rattle.sp_history.specs.Sends.{bytes_of, bytes_of_act, bytes_for}
 use Rattle.sp_history.proofs.OnceHolds.{same_op-eq}
 use Rattle.sp_history.proofs.Requesting.{out_makes, frame_makes, out_live, frame_live}
-use Rattle.proto_floods.specs.Copies.{HasCopies}
-use Rattle.proto_survey.specs.Surveys.{Floods, IsFlood}
 
 pub surveys : (z : Setting) → z.role ≡ role.Surveyor → z.raw ≡ false → has_requests z ≡ true
 surveys z h r = rw (h, r) refl
@@ -106,15 +103,6 @@ frame_bytes z before p b s h =
 -- the requests are the same
 pub same_requests : (z : Setting) (a b : List Entry) (s : Begun) → z.role ≡ role.Surveyor → requests z b ≡ requests z a → bytes_of z a s ≡ bytes_of z b s
 same_requests z a b s h e = bytes_same z a b s h (λ r. ap (λ (rs : Requests). option_map wire_of (cond {A = Option Request} (is_orphan rs s.op) None (find (is_on s.ctx) rs.live))) (sym e))
-
--- ---- The copies of a send
-
-pub no_sends_flood : (z : Setting) (before : List Entry) (raw : Bool) (id : Option ℕ) (copies : List MessageView) (ss : List Begun) → ss ≡ [] → Floods z before raw id copies ss
-no_sends_flood z before raw id copies ss e = subst (λ (xs : List Begun). Floods z before raw id copies xs) (sym e) tt
-
-pub floods_still : (z : Setting) (a b : List Entry) (raw : Bool) (id : Option ℕ) (copies : List MessageView) (ss : List Begun) → ((n : ℕ) → HasCopies z a n → HasCopies z b n) → ((s : Begun) → head_of ss ≡ Some s → bytes_of z a s ≡ bytes_of z b s) → Floods z a raw id copies ss → Floods z b raw id copies ss
-floods_still z a b raw id copies [] k w h = tt
-floods_still z a b raw id copies (s ∷ ss) k w h = (k (length copies) h.0, subst (λ (o : Option (List ℕ)). IsFlood raw id copies o) (w s refl) h.1, h.2)
 
 -- ---- One orphan less
 

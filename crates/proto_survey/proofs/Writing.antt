@@ -1,19 +1,16 @@
 -- Loops and searches that write surveys.
-use Rattle.std.proofs.Common.{◌≡◌, ◌≢◌, refl, ap, sym, ◌∙◌, List, [], ◌∷◌, ◌++◌, ℕ, zero, suc, ◌-◌, Bool, true, false, cond, arith, length, Some, slice_index_or, slice_set, ◌<◌}
-use Rattle.std.specs.Prelude.{Vec}
+use Rattle.std.proofs.Common.{◌≡◌, ◌≢◌, refl, ap, sym, ◌∙◌, List, [], ◌∷◌, ℕ, zero, suc, ◌-◌, Bool, true, false, cond, arith, length, Some, slice_index_or, slice_set, ◌<◌}
+use Rattle.std.specs.Prelude.{Vec, nat_lt, ◌||◌}
+use Rattle.std.proofs.lemmas.Bool.Decides.{nat_tests}
 use Rattle.std.specs.List.{list_any, position}
 use Rattle.std.proofs.lemmas.List.Quantifiers.{position-Some}
-use Rattle.proto_reqrep.proofs.Places.{with_at}
+use Rattle.proto_reqrep.proofs.Positions.{with_at}
 use Rattle.std.specs.Vec.{with_items}
 use Rattle.std.proofs.lemmas.List.{with_items_is}
 use Rattle.sp_msg.specs.Views.{MessageView}
 use Rattle.proto_reqrep.specs.Reqs.{number_after, with_found}
-use Rattle.proto_survey.specs.Lives.{SurveyView, has_number, with_reply, free_number}
-use Rattle.proto_survey.specs.Surveys.{AreSame, KeepsReply}
-
-pub same_more : (m : MessageView) (xs : List MessageView) → AreSame m xs → AreSame m (xs ++ m ∷ [])
-same_more m [] h = (refl, tt)
-same_more m (x ∷ xs) h = (h.0, same_more m xs h.1)
+use Rattle.proto_survey.specs.Lives.{SurveyView, has_number, with_reply, awaits, free_number}
+use Rattle.proto_survey.specs.Surveys.{KeepsReply}
 
 pub free_none : (tries n : ℕ) (xs : List SurveyView) → tries ≡ 0 → n ≡ free_number tries xs n
 free_none tries n xs e = rw e refl
@@ -50,7 +47,27 @@ sets_same [] i d h = absurd (omega arith)
 sets_same (x ∷ xs) zero d h = refl
 sets_same (x ∷ xs) (suc i) d h = ap (λ (rest : List SurveyView). x ∷ rest) (sets_same xs i d (omega (arith, h)))
 
--- the response is kept by the survey at this place, or all is as before
-pub keeps_there : (b : Bool) (id most : ℕ) (m : MessageView) (xs : List SurveyView) (i : ℕ) (d v : SurveyView) → position (has_number id) xs ≡ Some i → (b ≡ true → v ≡ with_reply most m (slice_index_or xs i d)) → (b ≡ false → v ≡ slice_index_or xs i d) → KeepsReply b id most m xs (slice_set xs i v)
-keeps_there true id most m xs i d v h k s = ap (slice_set xs i) (k refl) ∙ with_at (has_number id) (with_reply most m) xs i d h
-keeps_there false id most m xs i d v h k s = ap (slice_set xs i) (s refl) ∙ sets_same xs i d (position-Some (has_number id) xs i d h).0
+-- one of them is the one at this place
+any_there : (P : SurveyView → Bool) (xs : List SurveyView) (i : ℕ) (d : SurveyView) → i < length xs → P (slice_index_or xs i d) ≡ true → list_any P xs ≡ true
+any_there P [] i d h t = absurd (omega arith)
+any_there P (x ∷ xs) zero d h t = rw t refl
+any_there P (x ∷ xs) (suc i) d h t = rw (any_there P xs i d (omega (arith, h)) t) (or_true (P x))
+  where
+    or_true : (b : Bool) → (b || true) ≡ true
+    or_true true = refl
+    or_true false = refl
+
+awaits_there : (id most : ℕ) (x : SurveyView) → has_number id x ≡ true → length x.replies < most → awaits id most x ≡ true
+awaits_there id most x h l = rw h (below (length x.replies) most l)
+  where
+    below : (n m : ℕ) → n < m → nat_lt n m ≡ true
+    below n m l = grind (arith, nat_tests)
+
+-- the response is kept by the survey at this place, or all is as before and it is to be kept
+pub keeps_there : (b : Bool) (id most : ℕ) (m : MessageView) (xs : List SurveyView) (i : ℕ) (d v : SurveyView) → position (has_number id) xs ≡ Some i → (b ≡ true → v ≡ with_reply most m (slice_index_or xs i d)) → (b ≡ false → v ≡ slice_index_or xs i d) → (b ≡ false → length (slice_index_or xs i d).replies < most) → KeepsReply b id most m xs (slice_set xs i v)
+keeps_there true id most m xs i d v h k s few = ap (slice_set xs i) (k refl) ∙ with_at (has_number id) (with_reply most m) xs i d h
+keeps_there false id most m xs i d v h k s few =
+    let at = position-Some (has_number id) xs i d h in (
+      ap (slice_set xs i) (s refl) ∙ sets_same xs i d at.0,
+      any_there (awaits id most) xs i d at.0 (awaits_there id most (slice_index_or xs i d) at.1 (few refl)),
+    )

@@ -46,6 +46,10 @@ abbrev pub with_reply : ℕ → MessageView → SurveyView → SurveyView
 with_reply most m x =
     if nat_lt (length x.replies) most then record { ctx = x.ctx; id = x.id; birth = x.birth; replies = x.replies ++ m ∷ [] } else x
 
+-- it has this id, and fewer than so many responses are kept
+abbrev pub awaits : ℕ → ℕ → SurveyView → Bool
+awaits id most x = has_number id x && nat_lt (length x.replies) most
+
 -- the oldest response is gone
 abbrev pub given_from : SurveyView → SurveyView
 given_from x = record { ctx = x.ctx; id = x.id; birth = x.birth; replies = drop 1 x.replies }

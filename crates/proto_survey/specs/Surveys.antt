@@ -1,35 +1,31 @@
 -- What a surveyor stands for.
-use Rattle.std.specs.Prelude.{◌≡◌, ◌≢◌, ◌<◌, ◌-◌, ◌^◌, ◌==◌, ◌&&◌, ℕ, Bool, true, false, not, ⊤, List, [], ◌∷◌, ◌++◌, length, map, Option, Some, None}
+use Rattle.std.specs.Prelude.{◌≡◌, ◌≢◌, ◌<◌, ◌-◌, ◌^◌, ◌==◌, ◌&&◌, ℕ, Bool, true, false, not, List, [], ◌∷◌, ◌++◌, length, map, Option, Some, None}
 use Rattle.sp_base.specs.declared.role.Role.TheVariants as role
 use Rattle.sp_msg.specs.Views.{MessageView, wire_text}
-use Rattle.sp_history.specs.declared.entry.Entry.{Entry}
 use Rattle.sp_history.specs.declared.parts.Begun.{Begun}
 use Rattle.sp_history.specs.declared.parts.Item.{Item}
 use Rattle.sp_history.specs.declared.parts.Requests.{Requests}
-use Rattle.sp_history.specs.declared.setting.Setting.{Setting}
 use Rattle.sp_history.specs.declared.setting.Options.{Options}
 use Rattle.sp_history.specs.Lists.{is_nil, word, first_word}
-use Rattle.sp_history.specs.Past.{pend, ctxs, up, now}
-use Rattle.sp_history.specs.Kept.{pool}
-use Rattle.sp_history.specs.Requests.{requests, next_number}
+use Rattle.sp_history.specs.Requests.{next_number}
 use Rattle.sp_history.specs.Sends.{bytes_of}
-use Rattle.sp_history.specs.Legal.{sending}
 use Rattle.sp_history.specs.Once.{AreApart, AreDistinct}
-use Rattle.sp_history.specs.Moments.{Moment, Lawful, past}
-use Rattle.sp_proto.specs.Kinds.{Kind, kind_of, text_of}
+use Rattle.sp_history.specs.Moments.{Moment, past}
+use Rattle.sp_proto.specs.Kinds.{Kind, text_of}
+use Rattle.sp_proto.specs.Readings.{Reading, reading}
 use Rattle.std.specs.List.{list_any, position}
 use Rattle.std.specs.Vec.{vec_len, vec_capacity}
 use Rattle.sp_proto.specs.declared.Verb.{Verb}
 use Rattle.sp_proto.specs.declared.Verb.TheVariants as verbs
 use Rattle.sp_proto.specs.declared.Verdict.{Verdict}
 use Rattle.sp_proto.specs.declared.Verdict.TheVariants as verdict
-use Rattle.proto_floods.specs.Copies.{HasCopies}
+use Rattle.proto_floods.specs.Copies.{Each, HasFlood}
 use Rattle.proto_reqrep.specs.Reqs.{without_found, with_found, raw_item}
 use Rattle.proto_survey.specs.declared.survey.Survey.{Survey}
 use Rattle.proto_survey.specs.declared.survey.Kept.{Kept}
 use Rattle.proto_survey.specs.declared.waiting.Asking.{Asking}
 use Rattle.proto_survey.specs.declared.waiting.SurveyEnd.TheVariants as ends
-use Rattle.proto_survey.specs.Lives.{SurveyView, survey_of, survey_ctx, survey_id, fresh_survey, is_live_on, has_number, keeps_at, with_reply, free_number}
+use Rattle.proto_survey.specs.Lives.{SurveyView, survey_of, survey_ctx, survey_id, fresh_survey, is_live_on, has_number, keeps_at, with_reply, awaits, free_number}
 use Rattle.proto_survey.specs.Askings.{begun_of, is_sending, receives_on, left_by, Ends}
 
 abbrev pub survey_kind : Bool → Options → Kind
@@ -45,10 +41,9 @@ places_left m = vec_capacity m.waiting - vec_len m.waiting
 abbrev pub without_live : ℕ → List SurveyView → List SurveyView
 without_live c xs = without_found (is_live_on c) xs
 
--- these are so many messages like this one
+-- these are messages like this one
 abbrev pub AreSame : MessageView → List MessageView → Type 0
-AreSame m [] = ⊤
-AreSame m (x ∷ xs) = (x ≡ m) × AreSame m xs
+AreSame m xs = Each (λ (x : MessageView). x ≡ m) xs
 
 -- what goes out for a copy: raw as it is, else behind the id
 abbrev pub out_text : Bool → Option ℕ → MessageView → List ℕ
@@ -77,10 +72,14 @@ KeepsRaw verdict.Malformed p b old new = (first_word b ≡ None) × (new ≡ old
 KeepsRaw verdict.NoMemory p b old new = (first_word b ≢ None) × (new ≡ old)
 KeepsRaw (verdict.Dry c) p b old new = ⊥
 
--- a response is kept for the survey that has this id, unless there was no memory
+-- a response is kept for the survey that has this id, unless there was no memory where one is to be kept
 abbrev pub KeepsReply : Bool → ℕ → ℕ → MessageView → List SurveyView → List SurveyView → Type 0
 KeepsReply true id most m old new = new ≡ with_found (has_number id) (with_reply most m) old
-KeepsReply false id most m old new = new ≡ old
+KeepsReply false id most m old new = (new ≡ old) × (list_any (awaits id most) old ≡ true)
+
+-- the frame is a response to a live survey that keeps fewer than so many
+abbrev pub IsAwaited : ℕ → List ℕ → List SurveyView → Type 0
+IsAwaited most b xs = (id : ℕ) × (first_word b ≡ Some id) × (list_any (awaits id most) xs ≡ true)
 
 -- a message can be given to a receive of the context
 abbrev pub is_given : Bool → List Kept → List SurveyView → ℕ → Bool
@@ -130,26 +129,20 @@ pub record Asked (xs : List SurveyView) (id : Option ℕ) (ws : List Asking) (ss
   pub ends : Ends rs.orphans ws
 
 -- each of the copies goes out as these bytes
-abbrev pub AreCopies : Bool → Option ℕ → List ℕ → List MessageView → Type 0
-AreCopies raw id b [] = ⊤
-AreCopies raw id b (x ∷ xs) = (out_text raw id x ≡ b) × AreCopies raw id b xs
-
 abbrev pub IsFlood : Bool → Option ℕ → List MessageView → Option (List ℕ) → Type 0
 IsFlood raw id copies None = ⊥
-IsFlood raw id copies (Some b) = AreCopies raw id b copies
+IsFlood raw id copies (Some b) = Each (λ (x : MessageView). out_text raw id x ≡ b) copies
 
--- where one of these sends is pending, it is the only one, and these are its copies
-abbrev pub Floods : Setting → List Entry → Bool → Option ℕ → List MessageView → List Begun → Type 0
-Floods z past raw id copies [] = ⊤
-Floods z past raw id copies (s ∷ ss) = HasCopies z past (length copies) × IsFlood raw id copies (bytes_of z past s) × (ss ≡ [])
+-- what it is set to and the time, how many pipes are up, the open contexts, what it keeps, and the surveys with the pending
+-- operations
+abbrev pub Stands : Survey → Reading → Type 0
+Stands m r =
+    SetTo m.raw m.options m.tick r.kind r.now
+    × (m.pipes ≡ length r.up)
+    × (m.homes.items ≡ r.ctxs)
+    × Keeps m.raw m.kept.items (r.pool 0)
+    × Asked m.live.items m.last_id m.waiting.items r.pend r.requests
 
--- what it is set to and the time, how many pipes are up, the open contexts, what it keeps, the surveys with the pending
--- operations, and the copies of a send
+-- and the copies of a send
 abbrev pub Ties : Survey → Moment → Type 0
-Ties m t =
-    SetTo m.raw m.options m.tick (kind_of t.z) (now (past t))
-    × (m.pipes ≡ length (up (past t)))
-    × (m.homes.items ≡ ctxs (past t))
-    × Keeps m.raw m.kept.items (pool t.z (past t) 0)
-    × Asked m.live.items m.last_id m.waiting.items (pend (past t)) (requests t.z (past t))
-    × (Lawful t → Floods t.z (past t) m.raw m.last_id m.copies.items (sending (pend (past t))))
+Ties m t = Stands m (reading t) × HasFlood t (length m.copies.items) (λ (s : Begun). IsFlood m.raw m.last_id m.copies.items (bytes_of t.z (past t) s))

@@ -10,8 +10,6 @@
 
 mod live;
 mod survey;
-#[cfg(test)]
-mod tests;
 mod waiting;
 
 pub use proto_reqrep::Respond;

@@ -1,5 +1,5 @@
 //! A survey that is live.
-ghost use Rattle.std.specs.Prelude.{◌≡◌, ◌==◌, ◌^◌, ◌<◌, true, false};
+ghost use Rattle.std.specs.Prelude.{◌≡◌, ◌==◌, ◌^◌, ◌<◌, true, false, length};
 ghost use Rattle.sp_history.specs.Lists.{is_nil, head_of};
 ghost use Rattle.proto_survey.specs.Lives.{fresh_survey, given_from, has_number, is_live_on, is_over, with_reply};
 
@@ -82,6 +82,7 @@ impl Live {
     pub fn keep(&mut self, most: u32, m: Message) -> bool
         ensures kept { result ≡ true → self.new ≡ with_reply most m self.old }
         ensures same { result ≡ false → self.new ≡ self.old }
+        ensures few { result ≡ false → length self.old.replies < most }
     {
         if self.replies.len() >= most as usize {
             return true;

@@ -7,16 +7,17 @@ ghost use Rattle.sp_history.specs.Options.{Fits};
 ghost use Rattle.sp_history.specs.Lists.{head_of, has, first_word, is_nil};
 ghost use Rattle.sp_history.specs.Requests.{next_number};
 ghost use Rattle.sp_history.specs.Past.{up};
-ghost use Rattle.sp_history.specs.Moments.{Moment, past};
-ghost use Rattle.sp_history.specs.declared.entry.Entry.TheVariants.{Begin};
+ghost use Rattle.sp_history.specs.Moments.{Moment, Lawful, past, also};
+ghost use Rattle.sp_history.specs.declared.entry.Entry.TheVariants.{Begin, Frame};
 ghost use Rattle.sp_msg.specs.Views.{wire_text};
 ghost use Rattle.sp_proto.specs.Kinds.{Starts, entry_act};
-ghost use Rattle.sp_proto.specs.Machines.{NoFlood, Takes};
+ghost use Rattle.sp_proto.specs.Machines.{NoFlood, Takes, Frames};
+ghost use Rattle.sp_proto.specs.declared.Verdict.TheVariants as verdict;
 ghost use Rattle.proto_floods.specs.Copies.{TakesCopies};
 ghost use Rattle.proto_reqrep.specs.Reqs.{number_after, with_found};
 ghost use Rattle.proto_survey.specs.declared.survey.Kept.{Kept as KeptType};
 ghost use Rattle.proto_survey.specs.Lives.{SurveyView, is_live_on, has_number, keeps_at, first_in, given_from, with_reply, without_over, is_over, free_number};
-ghost use Rattle.proto_survey.specs.Surveys.{Ties, survey_kind, places_left, without_live, out_text, AreSame, Asks, KeepsRaw, KeepsReply, gets, is_given, is_fed, IsNext, survey_state};
+ghost use Rattle.proto_survey.specs.Surveys.{Ties, survey_kind, places_left, without_live, out_text, AreSame, Asks, KeepsRaw, KeepsReply, IsAwaited, gets, is_given, is_fed, IsNext, survey_state};
 
 use crate::live::Live;
 use crate::waiting::{
@@ -432,7 +433,13 @@ impl Proto for Survey {
         !self.raw || !self.keeps_of(p)
     }
 
-    fn frame(&mut self, p: PipeId, m: Message) -> Verdict {
+    /// Cooked, it takes memory only for a response to a live survey that keeps fewer than `queue`.
+    fn frame(&mut self, p: PipeId, m: Message) -> Verdict
+        requires { m.header ≡ [] }
+        ensures kept { (t : Moment) → Lawful (also t (Frame p m.body)) → Ties self.old t → Frames (Ties self.new) result t p m.body }
+        ensures room { places_left self.old ≤ places_left self.new }
+        ensures memory { self.old.raw ≡ false → result ≡ verdict.NoMemory → IsAwaited self.old.options.queue m.body self.old.live.items }
+    {
         if self.raw {
             return self.keep_raw(p, m);
         }

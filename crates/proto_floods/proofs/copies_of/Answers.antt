@@ -1,7 +1,7 @@
 use Rattle.std.proofs.Common.{◌≡◌, ◌++◌, ◌∷◌, [], ap, arith, length, length-append, subst, sym, rules, List}
 use Rattle.sp_msg.specs.Views.{MessageView}
 use Rattle.proto_floods.specs.Copies.{AreCopies}
-use Rattle.proto_floods.proofs.Copying.{copies_more}
+use Rattle.proto_floods.proofs.Copying.{each_more}
 use Rattle.proto_floods.proofs.copies_of.Goals as goal
 
 pub loop-preserved : goal.loop-preserved
@@ -10,5 +10,5 @@ loop-preserved c =
     let bare : c.header_clear.new.self ≡ record { header = []; body = c.args.m.now.body } = search rules in
     let long : length c.loop.copies.items ≡ c.loop.counter = c.loop.invariant.0 in (
       omega (arith, long, ap length items, length-append c.loop.copies.items (c.header_clear.new.self ∷ [])),
-      subst (λ (xs : List MessageView). AreCopies c.args.m.now.body xs) (sym items) (copies_more c.args.m.now.body c.loop.copies.items c.header_clear.new.self c.loop.invariant.1 bare),
+      subst (λ (xs : List MessageView). AreCopies c.args.m.now.body xs) (sym items) (each_more _ c.loop.copies.items c.header_clear.new.self c.loop.invariant.1 bare),
     )

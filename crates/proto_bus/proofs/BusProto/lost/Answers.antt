@@ -1,10 +1,7 @@
 use Rattle.std.proofs.Common.{refl}
 use Rattle.sp_history.specs.Past.{pend}
 use Rattle.sp_history.specs.Moments.{past}
-use Rattle.sp_history.specs.declared.entry.Entry.TheVariants.{End}
-use Rattle.sp_history.specs.declared.entry.Ending.TheVariants.{Gone}
 use Rattle.sp_proto.specs.Kinds.{text_of}
-use Rattle.proto_floods.proofs.Copying.{lawful_before}
 use Rattle.proto_bus.proofs.Bussed.{lost_send, lost_receive}
 use Rattle.proto_bus.proofs.BusProto.lost.Goals as goal
 
@@ -13,7 +10,7 @@ returns-in-Some-clause-lost c =
     λ t s cause by l h p.
     let was = c.args.self.now in
     let ended = c.in-Some.ensures.ended (pend (past t)) s h.0.pending p in
-    (ended.0, lost_send was (record was { pending = c.end.new.self; copies = c.clear.new.self }) t c.args.op s (text_of c.in-Some.message) cause by (lawful_before t (End c.args.op (Gone cause by)) l) h p ended.0 ended.1.0 refl, ended.1.1)
+    (ended.0, lost_send was (record was { pending = c.end.new.self; copies = c.clear.new.self }) t c.args.op s (text_of c.in-Some.message) cause by h p ended.0 ended.1.0 refl, ended.1.1)
 
 pub returns-in-None-clause-lost : goal.returns-in-None-clause-lost
 returns-in-None-clause-lost c =

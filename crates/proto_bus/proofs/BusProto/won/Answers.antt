@@ -9,7 +9,8 @@ use Rattle.sp_history.specs.Past.{pend}
 use Rattle.sp_history.specs.Moments.{past}
 use Rattle.sp_proto.specs.Kinds.{text_of}
 use Rattle.sp_proto.specs.Machines.{message_of}
-use Rattle.proto_bus.proofs.Bussed.{given_ties, flooded_ties, won_send}
+use Rattle.proto_floods.proofs.Sending.{won_send}
+use Rattle.proto_bus.proofs.Bussed.{given_ties, flooded_ties}
 use Rattle.proto_bus.proofs.BusProto.won.Goals as goal
 
 has_message : (o : Option MessageView) (a : Act) → option_map text_of o ≡ message_of a → is_some o ≡ true → is_recv a ≡ true → ⊥
@@ -48,4 +49,4 @@ returns-clause-flooded c =
     λ t s o l h p f.
     let was = c.args.self.now in
     let ended = c.end-sent.ensures.ended (pend (past t)) s h.0.pending p in
-    absurd (has_none c.end-sent.result s.act ended.0 (sym c.is_some.ensures ∙ c.if-is_some.false) (won_send was t c.args.op s l p))
+    absurd (has_none c.end-sent.result s.act ended.0 (sym c.is_some.ensures ∙ c.if-is_some.false) (won_send t c.args.op s l p))

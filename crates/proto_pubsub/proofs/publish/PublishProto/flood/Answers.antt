@@ -1,14 +1,11 @@
-use Rattle.std.proofs.Common.{◌≡◌, ◌∙◌, ◌++◌, refl, ap, Option, Some, None}
-use Rattle.std.specs.Prelude.{IfSome, option_to_list}
+use Rattle.std.proofs.Common.{◌∙◌, ◌++◌, refl, ap, Option}
+use Rattle.std.specs.Prelude.{option_to_list}
 use Rattle.sp_msg.specs.Views.{MessageView}
 use Rattle.sp_history.specs.declared.entry.Entry.TheVariants.{Out}
 use Rattle.proto_floods.proofs.Copying.{lawful_before}
+use Rattle.proto_floods.proofs.Sending.{of_some}
 use Rattle.proto_pubsub.proofs.Published.{flood_ties}
 use Rattle.proto_pubsub.proofs.publish.PublishProto.flood.Goals as goal
-
-of_some : (r : Option MessageView) (P : MessageView → Type 0) → ((m : MessageView) → r ≡ Some m → P m) → IfSome r P
-of_some None P h = tt
-of_some (Some m) P h = h m refl
 
 pub returns-clause-flooded : goal.returns-clause-flooded
 returns-clause-flooded c =

@@ -1,5 +1,6 @@
 use Rattle.std.proofs.Common.{refl, ◌∙◌}
 use Rattle.proto_survey.proofs.Coming.{recv_ties, raw_send_ties, send_ties}
+use Rattle.proto_survey.proofs.Moving.{same_live}
 use Rattle.proto_survey.proofs.survey.SurveyProto.begin.Goals as goal
 
 pub returns-in-Recv-clause-begun : goal.returns-in-Recv-clause-begun
@@ -21,7 +22,10 @@ returns-in-Ok-ask-clause-begun c =
     send_ties was t c.args.op c.args.c c.in-Send.m d n l h asked c.if-self.false c.in-Ok-ask.ensures.asked (record asked { copies = c.in-Ok.copies; waiting = c.wait-in-Ok-ask.new.waiting }) refl c.wait-in-Ok-ask.ensures.items c.in-Ok.ensures.copies c.in-Ok.ensures.all)
 
 pub returns-then-self-clause-copies : goal.returns-then-self-clause-copies
-returns-then-self-clause-copies c = rw c.in-Send.is (λ t h. c.in-Ok.ensures.all ∙ h.1)
+returns-then-self-clause-copies c = rw c.in-Send.is (λ t h. c.in-Ok.ensures.all ∙ h.0.1)
 
 pub returns-in-Ok-ask-clause-copies : goal.returns-in-Ok-ask-clause-copies
-returns-in-Ok-ask-clause-copies c = rw c.in-Send.is (λ t h. c.in-Ok.ensures.all ∙ h.1)
+returns-in-Ok-ask-clause-copies c = rw c.in-Send.is (λ t h. c.in-Ok.ensures.all ∙ h.0.1)
+
+pub returns-in-Err-ask-clause-same : goal.returns-in-Err-ask-clause-same
+returns-in-Err-ask-clause-same c = λ t h. same_live c.args.self.now c.ask.new.self t c.in-Err-ask.ensures.same.1 c.in-Err-ask.ensures.same.0 h

@@ -1,7 +1,8 @@
-use Rattle.std.proofs.Common.{◌≡◌, ◌∙◌, sym, ap, refl, None, Some, true, false, Bool, subst}
+use Rattle.std.proofs.Common.{◌≡◌, ◌∙◌, sym, ap, refl, None, Some, true, false, Bool, List, subst}
 use Rattle.std.specs.Vec.{with_items}
+use Rattle.std.specs.List.{list_any}
 use Rattle.sp_history.specs.Lists.{first_word}
-use Rattle.proto_survey.specs.Lives.{has_number, with_reply}
+use Rattle.proto_survey.specs.Lives.{SurveyView, has_number, with_reply, awaits}
 use Rattle.proto_survey.specs.Surveys.{KeepsReply}
 use Rattle.proto_survey.proofs.Writing.{found_written, same_written}
 use Rattle.proto_survey.proofs.Moving.{same_live}
@@ -38,7 +39,17 @@ returns-else-keep-clause-kept c =
     let v = c.trim.new.self in
     let one : first_word c.args.m.body ≡ Some c.in-Some.id = sym (c.in-Some.ensures ∙ ap first_word c.body.ensures) in
     let kept : KeepsReply false c.in-Some.id was.options.queue v c.deref_mut.result.now c.keep.new.live = subst (λ (b : Bool). KeepsReply b c.in-Some.id was.options.queue v c.deref_mut.result.now c.keep.new.live) c.if-keep.false c.keep.ensures in
-    let live = same_written was.live c.keep.new.live c.deref_mut.result.now c.deref_mut.ensures.value kept in (
+    let live = same_written was.live c.keep.new.live c.deref_mut.result.now c.deref_mut.ensures.value kept.0 in (
       long_frame was t c.args.p c.args.m.body h (some_word _ c.in-Some.id one),
       same_live was (record was { live = with_items was.live c.keep.new.live }) _ refl live (unkept_ties was t c.args.p c.args.m.body h),
+    )
+
+pub returns-else-keep-clause-memory : goal.returns-else-keep-clause-memory
+returns-else-keep-clause-memory c =
+    λ r n.
+    let was = c.args.self.now in
+    let kept : KeepsReply false c.in-Some.id was.options.queue c.trim.new.self c.deref_mut.result.now c.keep.new.live = subst (λ (b : Bool). KeepsReply b c.in-Some.id was.options.queue c.trim.new.self c.deref_mut.result.now c.keep.new.live) c.if-keep.false c.keep.ensures in (
+      c.in-Some.id,
+      sym (c.in-Some.ensures ∙ ap first_word c.body.ensures),
+      subst (λ (xs : List SurveyView). list_any (awaits c.in-Some.id was.options.queue) xs ≡ true) c.deref_mut.ensures.value kept.1,
     )

@@ -12,7 +12,7 @@ returns-then-is_some-clause-lost c =
     let w = c.in-Some.w in
     let its = is_begun was t c.args.op s w h p c.in-Some.ensures.found in (
       its_lost s w its,
-      lost_send was t c.args.op s h p (record was { waiting = c.take.new.waiting; copies = c.clear.new.self }) cause by l (send_is s w its (sym c.is_some.ensures ∙ c.if-is_some.true)) c.take.ensures.rest refl,
+      lost_send was t c.args.op s h p (record was { waiting = c.take.new.waiting; copies = c.clear.new.self }) cause by (send_is s w its (sym c.is_some.ensures ∙ c.if-is_some.true)) c.take.ensures.rest refl,
       (omega (arith, c.in-Some.ensures.len), omega (arith, c.in-Some.ensures.len, c.take.ensures.capacity, was.waiting.ok.1)),
     )
 

@@ -2,7 +2,7 @@ use Rattle.std.proofs.Common.{◌≡◌, ◌∙◌, sym, ap, arith, Some, None, 
 use Rattle.std.specs.List.{position}
 use Rattle.sp_history.specs.Moments.{past}
 use Rattle.proto_floods.proofs.Copying.{calm}
-use Rattle.proto_reqrep.proofs.Places.{found_at, not_found}
+use Rattle.proto_reqrep.proofs.Positions.{found_at, not_found}
 use Rattle.proto_survey.specs.declared.waiting.Asking.{Asking}
 use Rattle.proto_survey.specs.Askings.{is_sending}
 use Rattle.proto_survey.specs.Surveys.{IsNext}
@@ -62,4 +62,4 @@ returns-in-Some-give_place-clause-offered c =
     let left : find lone m.waiting.items ≡ None = not_found lone m.waiting.items (ap (position lone) (sym c.deref-2.ensures.value) ∙ sym c.in_default-ended_place.ensures) in
     let next : IsNext m c.in-Some-give_place.i = c.in-Some-give_place.ensures.next in
     let f : find (is_among next.0) m.waiting.items ≡ Some w = found_at (is_among next.0) m.waiting.items c.in-Some-give_place.i w next.1 ∙ ap (λ (v : Asking). Some v) (sym c.index-in-Some-give_place.ensures) in
-    can_give m t w next.0 h left f (next.2 h.4.places)
+    can_give m t w next.0 h left f (next.2 h.0.4.places)

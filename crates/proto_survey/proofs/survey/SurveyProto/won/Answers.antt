@@ -6,8 +6,9 @@ use Rattle.sp_history.specs.declared.parts.Begun.{Begun}
 use Rattle.sp_proto.specs.Kinds.{text_of}
 use Rattle.proto_reqrep.specs.Reqs.{with_found}
 use Rattle.proto_survey.specs.Lives.{SurveyView, is_live_on, given_from, first_in}
+use Rattle.proto_floods.proofs.Sending.{won_send}
 use Rattle.proto_survey.proofs.Writing.{found_written}
-use Rattle.proto_survey.proofs.Going.{none_taken, is_begun, recv_is, send_is, none_in, not_received, not_sent, won_send, flooded_ties, given_raw, given_cooked, oldest_raw, oldest_cooked}
+use Rattle.proto_survey.proofs.Going.{none_taken, is_begun, recv_is, send_is, none_in, not_received, not_sent, flooded_ties, given_raw, given_cooked, oldest_raw, oldest_cooked}
 use Rattle.proto_survey.proofs.survey.SurveyProto.won.Goals as goal
 
 pub returns-in-None-clause-given : goal.returns-in-None-clause-given
@@ -44,7 +45,7 @@ returns-then-self-clause-flooded c =
     λ t s o l h p f.
     let was = c.args.self.now in
     let w = c.in-Some.w in
-    not_sent t c.args.op s l (won_send was t c.args.op s h p l) (recv_is s w (is_begun was t c.args.op s w h p c.in-Some.ensures.found) (none_in w.message (sym c.is_some.ensures ∙ c.if-is_some.false)))
+    not_sent t c.args.op s l (won_send t c.args.op s l p) (recv_is s w (is_begun was t c.args.op s w h p c.in-Some.ensures.found) (none_in w.message (sym c.is_some.ensures ∙ c.if-is_some.false)))
 
 pub returns-else-self-clause-given : goal.returns-else-self-clause-given
 returns-else-self-clause-given c =
@@ -63,4 +64,4 @@ returns-else-self-clause-flooded c =
     λ t s o l h p f.
     let was = c.args.self.now in
     let w = c.in-Some.w in
-    not_sent t c.args.op s l (won_send was t c.args.op s h p l) (recv_is s w (is_begun was t c.args.op s w h p c.in-Some.ensures.found) (none_in w.message (sym c.is_some.ensures ∙ c.if-is_some.false)))
+    not_sent t c.args.op s l (won_send t c.args.op s l p) (recv_is s w (is_begun was t c.args.op s w h p c.in-Some.ensures.found) (none_in w.message (sym c.is_some.ensures ∙ c.if-is_some.false)))
