@@ -7,6 +7,7 @@ ghost use Rattle.sp_core.specs.Standing.{StandsFor};
 ghost use Rattle.sp_socket.specs.Turns.{label_of};
 ghost use Rattle.sp_socket.specs.Finishing.{HasSeenClose, IsFinished, Joins};
 
+use crate::boxed::BoxedCore;
 use crate::hands::Hands;
 use crate::list::SocketPasses;
 use crate::record::{Record, Told};
@@ -20,7 +21,7 @@ use turn_lock::{Stack, TurnPass};
 /// The history that a pass has seen.
 pub struct Seen;
 
-impl<P: Proto, W: Wire> Told<TurnPass<Core<P, W>>> for Seen {
+impl<P: Proto, W: Wire> Told<TurnPass<BoxedCore<P, W>>> for Seen {
     ghost told = { λ p. p.seen };
 }
 
@@ -43,12 +44,13 @@ impl<P: Proto, W: Wire> Socket<P, W> {
     {
         let Socket { lock, words: _ } = self;
         let SocketPasses { turns, mut hands } = passes;
-        let (mut core, pass) = lock.end(rt, turns);
+        let (held, pass) = lock.end(rt, turns);
+        let mut core = held.into_core();
         join_all(&mut core, &mut hands);
         hands.destroy_empty();
         Finished {
             wires: core.into_wires(),
-            record_: Record::of::<TurnPass<Core<P, W>>, Seen>(&pass),
+            record_: Record::of::<TurnPass<BoxedCore<P, W>>, Seen>(&pass),
         }
     }
 }

@@ -6,7 +6,7 @@
 //! holds the lock while it waits for another caller's answer; what ends an operation from outside the lock is one
 //! exchange on its word.
 //!
-//! Who owns what: the lock owns the core; a pass owns its seat, alone. `open` takes all room for operations, deadlines
+//! Who owns what: the lock owns the core, in a box, so that a turn moves one pointer; a pass owns its seat, alone. `open` takes all room for operations, deadlines
 //! and names. `finish` takes the passes back, joins their seats, and hands out the wires that were not taken and the
 //! record of the whole history.
 #![tactic(auto)]
@@ -14,6 +14,7 @@
 mod act;
 mod acts;
 mod begin;
+mod boxed;
 mod calls;
 mod config;
 mod contexts;
