@@ -6,11 +6,13 @@
 ghost use Rattle.std.specs.Prelude.{◌≡◌, ◌<◌, ◌≤◌, IfOk};
 ghost use Rattle.sp_core.specs.Wires.{IsUnused};
 
-mod drive;
+mod requests;
+mod surveys;
 
-use drive::Drive;
+use core_driver::Driver;
 use proto_pipeline::{Pull, Push};
-use sp_base::{Bytes, NoMemory, Role};
+use requests::{each_context_asks, each_pipe_asks, trips, waiting_contexts};
+use sp_base::{Bytes, Ctx, NoMemory, Role};
 use sp_fakes::{MemWire, WireStep};
 use sp_history::setting::Options;
 use sp_msg::Message;
@@ -19,6 +21,7 @@ use std::alloc::Global;
 use std::io::{self, Eprint};
 use std::sync::Wait;
 use std::time::{Clock, Instant};
+use surveys::{surveyed_wires, surveying_contexts};
 
 /// How often a call that changes little is made.
 const ROUNDS: u32 = 16;
@@ -52,15 +55,15 @@ fn push_over<R: Wait>(
     slots: u32,
     pipes: u32,
     room: u64,
-) -> Result<Drive<Push, MemWire>, NoMemory>
+) -> Result<Driver<Push, MemWire>, NoMemory>
     requires { (0 < slots) × (slots ≤ 4096) }
 {
     let machine = Push::new(alloc, Options::usual(Role::Push, 0), false)?;
-    let mut drive = Drive::new(alloc, machine, slots)?;
+    let mut driver = Driver::new(alloc, machine, slots)?;
     for place in 0..pipes {
-        attach(alloc, rt, &mut drive, place, 0, room);
+        attach(alloc, rt, &mut driver, place, 0, room);
     }
-    Ok(drive)
+    Ok(driver)
 }
 
 // A pull of so many slots, whose pipes each give so many messages.
@@ -70,29 +73,117 @@ fn pull_over<R: Wait>(
     slots: u32,
     pipes: u32,
     frames: u32,
-) -> Result<Drive<Pull, MemWire>, NoMemory>
+) -> Result<Driver<Pull, MemWire>, NoMemory>
     requires { (0 < slots) × (slots ≤ 4096) }
 {
     let machine = Pull::new(alloc, Options::usual(Role::Pull, 0), false)?;
-    let mut drive = Drive::new(alloc, machine, slots)?;
+    let mut driver = Driver::new(alloc, machine, slots)?;
     for place in 0..pipes {
-        attach(alloc, rt, &mut drive, place, frames, 0);
+        attach(alloc, rt, &mut driver, place, frames, 0);
     }
-    Ok(drive)
+    Ok(driver)
 }
 
 // One pipe more, if there is memory for its wire.
 fn attach<P: Proto, R: Wait>(
     alloc: Global,
     rt: &R,
-    drive: &mut Drive<P, MemWire>,
+    driver: &mut Driver<P, MemWire>,
     place: u32,
     frames: u32,
     room: u64,
 ) {
     match wire(alloc, frames, room) {
-        Ok(w) => drive.attach(rt, w, place),
+        Ok(w) => {
+            let _ = driver.attach(rt, w, place);
+        }
         Err(_) => {}
+    }
+}
+
+// The frame of a request, a reply, a survey or a response: the id, from 0, and a byte.
+fn numbered(alloc: Global, id: u32) -> Result<WireStep, NoMemory> {
+    let [a, b, c, d] = id.to_be_bytes();
+    Ok(WireStep::Bytes(Bytes::from_slice(alloc, &[a | 128, b, c, d, 120])?))
+}
+
+// One pipe more that gives the frame with this id, if there is memory for its wire.
+fn attach_numbered<P: Proto, R: Wait>(
+    alloc: Global,
+    rt: &R,
+    driver: &mut Driver<P, MemWire>,
+    place: u32,
+    id: u32,
+) {
+    match numbered_wire(alloc, id, 1, false) {
+        Ok(w) => {
+            let _ = driver.attach(rt, w, place);
+        }
+        Err(_) => {}
+    }
+}
+
+// One pipe more that gives so many frames with ids from 0, if there is memory for its wire. With pauses it gives one in
+// a serve.
+fn attach_series<P: Proto, R: Wait>(
+    alloc: Global,
+    rt: &R,
+    driver: &mut Driver<P, MemWire>,
+    count: u32,
+    pauses: bool,
+) {
+    match numbered_wire(alloc, 0, count, pauses) {
+        Ok(w) => {
+            let _ = driver.attach(rt, w, 0);
+        }
+        Err(_) => {}
+    }
+}
+
+// A wire that gives so many frames with ids from the first one, and takes all.
+fn numbered_wire(alloc: Global, first: u32, count: u32, pauses: bool) -> Result<MemWire, NoMemory>
+    ensures { IfOk result (λ w. IsUnused w.wire) }
+{
+    let mut script = Vec::new(alloc);
+    for i in 0..count {
+        script.push(numbered(alloc, first.wrapping_add(i))?)?;
+        if pauses {
+            script.push(WireStep::NotYet)?;
+        }
+    }
+    Ok(MemWire::new(alloc, script, 1_000_000, Vec::new(alloc)))
+}
+
+// Opens so many contexts.
+fn open_all<P: Proto, R: Wait>(rt: &R, driver: &mut Driver<P, MemWire>, count: u32) {
+    for _ in 0..count {
+        let _ = driver.open_ctx(rt);
+    }
+}
+
+// Begins a receive on each of so many contexts.
+fn receive_all<P: Proto, R: Wait>(rt: &R, driver: &mut Driver<P, MemWire>, contexts: u32) {
+    for c in 0..contexts {
+        begin_recv(rt, driver, Ctx(c));
+    }
+}
+
+// Collects so many operations, in the order of their begins.
+fn collect_all<P: Proto, R: Wait>(rt: &R, driver: &mut Driver<P, MemWire>, count: u32) {
+    for _ in 0..count {
+        let _ = driver.collect_first(rt);
+    }
+}
+
+// Sends on each of so many contexts, and collects each.
+fn send_all<P: Proto, R: AllocGlobal + Wait>(
+    rt: &R,
+    driver: &mut Driver<P, MemWire>,
+    contexts: u32,
+) {
+    for c in 0..contexts {
+        send(rt, driver, Ctx(c));
+        let _ = driver.collect_first(rt);
     }
 }
 
@@ -114,7 +205,7 @@ fn full_pipes<R: AllocGlobal + Clock + Eprint + Wait>(rt: &R, n: u32) -> Result<
     let mut push = push_over(rt.alloc(), rt, ROUNDS, n, 0)?;
     let start = now(rt);
     for _ in 0..ROUNDS {
-        send(rt, &mut push);
+        send(rt, &mut push, Ctx(0));
     }
     report(
         rt,
@@ -126,14 +217,26 @@ fn full_pipes<R: AllocGlobal + Clock + Eprint + Wait>(rt: &R, n: u32) -> Result<
     let start = now(rt);
     push.close(rt);
     report(rt, "close of a push, a pipe", n, since(rt, start), n);
-    push.end(rt);
+    end(rt, push);
     Ok(())
 }
 
+// Begins a receive.
+fn begin_recv<P: Proto, R: Wait>(rt: &R, driver: &mut Driver<P, MemWire>, c: Ctx) {
+    let _ = driver.begin_recv(rt, c, None);
+}
+
+// Collects what is open, and ends the core.
+fn end<P: Proto, R: AllocGlobal + Wait>(rt: &R, driver: Driver<P, MemWire>) {
+    let _ = driver.finish(rt, rt.alloc());
+}
+
 // Begins a send, if there is memory for its message.
-fn send<R: AllocGlobal + Wait>(rt: &R, push: &mut Drive<Push, MemWire>) {
+fn send<P: Proto, R: AllocGlobal + Wait>(rt: &R, driver: &mut Driver<P, MemWire>, c: Ctx) {
     match Message::from_body(rt.alloc(), b"x") {
-        Ok(m) => push.begin_send(rt, m),
+        Ok(m) => {
+            let _ = driver.begin_send(rt, c, m, None);
+        }
         Err(_) => {}
     }
 }
@@ -145,7 +248,7 @@ fn free_pipes<R: AllocGlobal + Clock + Eprint + Wait>(rt: &R, n: u32) -> Result<
     let mut push = push_over(rt.alloc(), rt, ROUNDS, n, 1_000)?;
     let start = now(rt);
     for _ in 0..4_096 {
-        send(rt, &mut push);
+        send(rt, &mut push, Ctx(0));
         let _ = push.collect_first(rt);
     }
     report(
@@ -155,7 +258,7 @@ fn free_pipes<R: AllocGlobal + Clock + Eprint + Wait>(rt: &R, n: u32) -> Result<
         since(rt, start),
         4_096,
     );
-    push.end(rt);
+    end(rt, push);
     Ok(())
 }
 
@@ -170,7 +273,7 @@ fn receives<R: AllocGlobal + Clock + Eprint + Wait>(
     let mut pull = pull_over(rt.alloc(), rt, n, n, 1)?;
     let start = now(rt);
     for _ in 0..n {
-        pull.begin_recv(rt);
+        begin_recv(rt, &mut pull, Ctx(0));
     }
     report(
         rt,
@@ -193,7 +296,7 @@ fn receives<R: AllocGlobal + Clock + Eprint + Wait>(
         if from_first {
             let _ = pull.collect_first(rt);
         } else {
-            let _ = pull.collect_last(rt);
+            let _ = pull.collect(rt);
         }
     }
     report(
@@ -207,7 +310,7 @@ fn receives<R: AllocGlobal + Clock + Eprint + Wait>(
         since(rt, start),
         n,
     );
-    pull.end(rt);
+    end(rt, pull);
     Ok(())
 }
 
@@ -238,7 +341,7 @@ fn kept<R: AllocGlobal + Clock + Eprint + Wait>(rt: &R, n: u32) -> Result<(), No
     );
     let start = now(rt);
     for _ in 0..n {
-        pull.begin_recv(rt);
+        begin_recv(rt, &mut pull, Ctx(0));
         let _ = pull.collect_first(rt);
     }
     report(
@@ -248,7 +351,7 @@ fn kept<R: AllocGlobal + Clock + Eprint + Wait>(rt: &R, n: u32) -> Result<(), No
         since(rt, start),
         n,
     );
-    pull.end(rt);
+    end(rt, pull);
     Ok(())
 }
 
@@ -269,17 +372,17 @@ fn idle<R: AllocGlobal + Clock + Eprint + Wait>(rt: &R, n: u32) -> Result<(), No
         ROUNDS * n,
     );
     for _ in 0..n {
-        pull.begin_recv(rt);
+        begin_recv(rt, &mut pull, Ctx(0));
     }
     let start = now(rt);
     pull.close(rt);
     report(rt, "close with n receives, a pipe", n, since(rt, start), n);
     let start = now(rt);
     for _ in 0..n {
-        pull.take_ended(rt);
+        let _ = pull.take_ended(rt);
     }
     report(rt, "take_ended, a pipe", n, since(rt, start), n);
-    pull.end(rt);
+    end(rt, pull);
     Ok(())
 }
 
@@ -291,13 +394,21 @@ fn all<R: AllocGlobal + Clock + Eprint + Wait>(rt: &R, n: u32) -> Result<(), NoM
     receives(rt, n, true)?;
     receives(rt, n, false)?;
     kept(rt, n)?;
-    idle(rt, n)
+    idle(rt, n)?;
+    trips(rt, n)?;
+    each_context_asks(rt, n)?;
+    each_pipe_asks(rt, n)?;
+    waiting_contexts(rt, n)
 }
 
 fn every_size<R: AllocGlobal + Clock + Eprint + Wait>(rt: &R) -> Result<(), NoMemory> {
     all(rt, 256)?;
     all(rt, 1_024)?;
-    all(rt, 4_096)
+    all(rt, 4_096)?;
+    surveyed_wires(rt, 100)?;
+    surveyed_wires(rt, 1_000)?;
+    surveying_contexts(rt, 16)?;
+    surveying_contexts(rt, 256)
 }
 
 fn main(rt: HostRuntime) -> io::Result<()> {

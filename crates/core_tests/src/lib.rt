@@ -2,7 +2,7 @@
 #![tactic(auto)]
 
 #[cfg(test)]
-mod calls;
+mod parts;
 #[cfg(test)]
 mod tests;
 #[cfg(test)]

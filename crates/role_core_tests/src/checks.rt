@@ -2,13 +2,51 @@
 ghost use Rattle.std.specs.Prelude.{◌≡◌};
 ghost use Rattle.sp_core.specs.Wires.{IsUnused};
 
-use sp_base::{Bytes, Ctx, OpName, PipeId, SpError};
+use core_driver::Driver;
+use sp_base::{Bytes, Ctx, NoMemory, OpName, PipeId, SpError, Tick};
 use sp_core::{AttachError, BeginError, CtxError, NowError, Outcome, TopicError};
 use sp_fakes::{MemWire, WireStep};
-use sp_history::entry::{Cause, Totals};
-use sp_msg::Message;
+use sp_history::entry::{Cause, Totals, Why};
+use sp_msg::{Message, Wire};
+use sp_proto::Proto;
 use std::alloc::Global;
 use std::process::Abort;
+use std::sync::Wait;
+
+/// What was made; there is memory for it.
+pub fn made<T>(rt: &impl Abort, answer: Result<T, NoMemory>) -> T {
+    match answer {
+        Ok(it) => it,
+        Err(_) => panic!(rt; "no memory"),
+    }
+}
+
+/// Ends a core whose operations are all collected. The wires that were not taken, the last one first.
+pub fn finished<P: Proto, W: Wire + Drop, R: Wait + Abort>(
+    rt: &R,
+    alloc: Global,
+    driver: Driver<P, W>,
+) -> Vec<(PipeId, W)> {
+    assert_eq!(rt; driver.open_count(), 0);
+    made(rt, driver.finish(rt, alloc))
+}
+
+/// The oldest pipe that is down is this one, and went down so. Its wire.
+pub fn is_down<P: Proto, W: Wire + Drop, R: Wait + Abort>(
+    rt: &R,
+    driver: &mut Driver<P, W>,
+    pipe: u32,
+    why: Why,
+) -> W {
+    match driver.take_ended(rt) {
+        None => panic!(rt; "no pipe went down"),
+        Some(gone) => {
+            assert_eq!(rt; gone.pipe.0, pipe);
+            assert_eq!(rt; gone.why, why);
+            gone.wire
+        }
+    }
+}
 
 /// What a wire gives.
 #[derive(Clone, Copy)]
@@ -65,6 +103,50 @@ pub fn message(rt: &impl Abort, alloc: Global, words: &[u32], body: &[u8]) -> Me
         }
     }
     m
+}
+
+/// A wire that gives this, and takes so many messages, is attached. The number of its pipe.
+pub fn joins<P: Proto, R: Wait + Abort>(
+    rt: &R,
+    alloc: Global,
+    driver: &mut Driver<P, MemWire>,
+    place: u32,
+    room: u64,
+    steps: &[Step<'_>],
+) -> u32 {
+    up(rt, driver.attach(rt, wire(rt, alloc, room, steps), place))
+}
+
+/// A receive of the context begins. Its name.
+pub fn receives<P: Proto, W: Wire, R: Wait + Abort>(
+    rt: &R,
+    driver: &mut Driver<P, W>,
+    c: Ctx,
+) -> OpName {
+    begun(rt, driver.begin_recv(rt, c, None))
+}
+
+/// A send of a message with a header of these words and this body begins on the context. Its name.
+pub fn sends<P: Proto, W: Wire, R: Wait + Abort>(
+    rt: &R,
+    alloc: Global,
+    driver: &mut Driver<P, W>,
+    c: Ctx,
+    words: &[u32],
+    body: &[u8],
+) -> OpName {
+    let m = message(rt, alloc, words, body);
+    sent(rt, driver.begin_send(rt, c, m, None))
+}
+
+/// The moment is this tick. How many operations fall due.
+pub fn due<P: Proto, W: Wire, R: Wait + Abort>(
+    rt: &R,
+    alloc: Global,
+    driver: &mut Driver<P, W>,
+    now: Tick,
+) -> usize {
+    made(rt, driver.tick(rt, alloc, now)).as_slice().len()
 }
 
 /// What a core counts, in the order begun, won, gone, frames, outs, fulls.

@@ -1,9 +1,0 @@
-use Rattle.sp_core.proofs.Labels.{same_words}
-use Rattle.core_tests.proofs.Playing.{plain_turn, due_plain}
-use Rattle.core_tests.proofs.calls.Play.due.Goals as goal
-
-pub returns : goal.returns
-returns g c =
-    let p = c.requires in
-    let t = c.due.ensures.turn p.history p.stands in
-    plain_turn g.P.Proto.ties g.P.Proto.room g.W.Wire.shown c.args.self.now.core c.due.new.self c.args.self.now.words c.args.self.now.seat c.args.self.now.slots c.args.self.now.ops.items p t.0 t.2 (due_plain p.history t.0 _ _ _ t.3) (same_words g.P.Proto.kind c.args.self.now.core c.due.new.self c.due.ensures.label)
