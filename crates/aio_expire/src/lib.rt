@@ -11,8 +11,6 @@
 
 mod deadlines;
 mod names;
-#[cfg(test)]
-mod tests;
 
 pub use deadlines::{Deadline, Deadlines};
 pub use names::NameList;

@@ -26,8 +26,6 @@ mod make;
 mod phase;
 mod rule;
 mod seats;
-#[cfg(test)]
-mod tests;
 mod word;
 
 pub use answers::{Decided, Look, Polled, Raced, Worn};

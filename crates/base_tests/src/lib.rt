@@ -1,9 +1,24 @@
-//! Tests of what all else stands on: addresses, roles, numbers, bytes, and the outside in memory.
+//! Tests of what all else stands on: addresses, roles, numbers, bytes, messages, the outside in memory, operation
+//! words, deadlines, pending operations, the turn lock and its uses, and lanes within the process.
 #![tactic(auto)]
 
 #[cfg(test)]
 mod addresses;
 #[cfg(test)]
+mod deadlines;
+#[cfg(test)]
+mod lanes;
+#[cfg(test)]
+mod messages;
+#[cfg(test)]
 mod numbers;
 #[cfg(test)]
+mod operation_words;
+#[cfg(test)]
+mod pending;
+#[cfg(test)]
 mod plain;
+#[cfg(test)]
+mod turns;
+#[cfg(test)]
+mod uses_of_turns;

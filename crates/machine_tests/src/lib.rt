@@ -1,11 +1,25 @@
-//! Tests of the machines of pub, sub, req, rep, surveyor and respondent, with exact messages, ids and answers.
+//! Tests of the machines of all roles, with exact messages, ids and answers.
 #![tactic(auto)]
 
+#[cfg(test)]
+mod bus;
+#[cfg(test)]
+mod copies;
+#[cfg(test)]
+mod many;
 pub mod moves;
+#[cfg(test)]
+mod pair;
+#[cfg(test)]
+mod pipeline;
+#[cfg(test)]
+mod publishers;
 #[cfg(test)]
 mod replies;
 #[cfg(test)]
 mod requests;
+#[cfg(test)]
+mod resends;
 #[cfg(test)]
 mod subs;
 #[cfg(test)]

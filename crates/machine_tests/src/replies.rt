@@ -321,3 +321,42 @@ fn the_ninth_word_is_too_far_for_a_respondent(rt: HostRuntime) -> Result<(), Fai
     assert!(rt; wins(&mut respondent, op(1), Some(ONE), &[255, 0, 0, 5, 114]));
     Ok(())
 }
+
+#[test]
+fn the_ninth_word_is_too_far_for_a_raw_respondent(rt: HostRuntime) -> Result<(), Fail> {
+    let mut respondent = Respond::new(rt.alloc(), Options::usual(Role::Respondent, 0), true)?;
+    assert!(rt; respondent.role() == Role::Respondent);
+    respondent.reserve(1)?;
+    assert!(rt; respondent.up(PipeId(2)).is_ok());
+    let eight = [
+        0, 0, 0, 1, 0, 0, 0, 1, 0, 0, 0, 1, 0, 0, 0, 1, 0, 0, 0, 1, 0, 0, 0, 1, 0, 0, 0, 1, 0, 0,
+        0, 1,
+    ];
+    assert!(rt;
+        respondent.frame(PipeId(2), Message::from_body(rt.alloc(), &eight)?) == Verdict::Fine
+    );
+    assert!(rt; respondent.wants(PipeId(2)));
+    let frame = Message::from_body(rt.alloc(), &[128, 0, 0, 42, 113])?;
+    assert!(rt; respondent.frame(PipeId(2), frame) == Verdict::Fine);
+    assert!(rt; respondent.begin(op(0), Ctx(0), Act::Recv).is_ok());
+    assert!(rt;
+        wins(
+            &mut respondent,
+            op(0),
+            None,
+            &[0, 0, 0, 2, 128, 0, 0, 42, 113]
+        )
+    );
+    Ok(())
+}
+
+#[test]
+fn a_respondent_stands_for_its_role(rt: HostRuntime) -> Result<(), Fail> {
+    let respondent = proto_survey::Respond::new(
+        rt.alloc(),
+        Options::usual(Role::Respondent, 0),
+        false,
+    )?;
+    assert!(rt; respondent.role() == Role::Respondent);
+    Ok(())
+}

@@ -17,9 +17,6 @@ ghost use Rattle.sp_proto.specs.Machines.{Frames, NoFlood, Takes};
 ghost use Rattle.proto_pending.specs.Waits.{Holds};
 ghost use Rattle.proto_pair.specs.Pairs.{Ties, pair_kind, places_left, marked, receiver_of, send_offer};
 
-#[cfg(test)]
-mod tests;
-
 use proto_pending::Pending;
 use sp_base::{Ctx, NoMemory, OpName, PipeId, Role, Tick};
 use sp_history::setting::Options;

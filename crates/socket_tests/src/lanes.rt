@@ -6,7 +6,7 @@ use crate::callers::{finish, give_back, next, opened};
 use crate::parts::{begun, is_received, pull, push, x};
 use sp_base::Ctx;
 use sp_lane::{LaneIn, LaneOut, LaneWire, Put, PutEnd, Taken, lane};
-use sp_msg::Message;
+use sp_msg::{Message, Room, Wire, WireFlush, WireIn};
 use sp_socket::{Outcome, Polled, Why};
 use std::alloc::Global;
 use std::process::Abort;
@@ -94,5 +94,81 @@ fn a_waiting_send_finds_room(rt: HostRuntime) {
     assert!(rt; matches!(output.take(&rt), Taken::Message(_)));
     assert!(rt; matches!(first.wait(&rt, &socket), Outcome::Sent));
     give_back(&rt, &socket, &mut list, first);
+    finish(&rt, alloc, socket, list);
+}
+
+// A wire over lanes that makes room by itself once it was full three times.
+#[derive(Drop)]
+struct LateWire {
+    wire: LaneWire,
+    // The other end of the lane in which it puts.
+    other: LaneOut,
+    // How often it was full.
+    fulls: u32,
+}
+
+impl LateWire {
+    // It was full. The third time the other end takes a message.
+    fn was_full<R: Wait>(&mut self, rt: &R)
+        ensures { self.new.wire ≡ self.old.wire }
+    {
+        self.fulls = self.fulls.saturating_add(1);
+        if self.fulls == 3 {
+            self.other.take(rt);
+        }
+    }
+}
+
+impl Wire for LateWire {
+    ghost shown = { λ w. w.wire.wire };
+
+    fn pull<R: Wait>(&mut self, rt: &R) -> WireIn {
+        self.wire.pull(rt)
+    }
+
+    fn room<R: Wait>(&mut self, rt: &R) -> Room {
+        let answer = self.wire.room(rt);
+        if answer == Room::Full {
+            self.was_full(rt);
+        }
+        answer
+    }
+
+    fn put<R: Wait>(&mut self, rt: &R, m: Message) {
+        self.wire.put(rt, m)
+    }
+
+    fn flush<R: Wait>(&mut self, rt: &R) -> WireFlush {
+        self.wire.flush(rt)
+    }
+
+    fn shut(&mut self) {
+        self.wire.shut()
+    }
+}
+
+// A send whose room comes while its caller waits goes out, with no other caller there: a wait takes turn after turn. The wire
+// is full as the send begins and in the first two turns of the wait.
+#[test]
+fn a_send_waits_for_room(rt: HostRuntime) {
+    let alloc = rt.alloc();
+    let (socket, mut list) = opened(&rt, alloc, push(&rt, alloc), 4, 1);
+    let mut first = next(&rt, alloc, &socket, &mut list);
+    let (input, output) = lane_of(&rt, alloc, 1);
+    let (_, silent) = lane_of(&rt, alloc, 1);
+    let wire = LateWire {
+        wire: over(input, silent),
+        other: output,
+        fulls: 0,
+    };
+    assert!(rt; first.attach(&rt, &socket, wire).is_ok());
+    assert!(rt; first.begin_send(&rt, &socket, x(&rt, alloc)).is_ok());
+    assert!(rt; first.begin_send(&rt, &socket, x(&rt, alloc)).is_ok());
+    let Ok(last) = first.begin_send(&rt, &socket, x(&rt, alloc)) else {
+        panic!(rt; "no send began")
+    };
+    assert_eq!(rt; first.poll(&socket, last), Polled::Pending);
+    assert!(rt; matches!(first.wait(&rt, &socket), Outcome::Sent));
+    assert_eq!(rt; give_back(&rt, &socket, &mut list, first).fulls, 3);
     finish(&rt, alloc, socket, list);
 }

@@ -5,6 +5,8 @@
 #[cfg(test)]
 mod callers;
 #[cfg(test)]
+mod contexts;
+#[cfg(test)]
 mod held;
 #[cfg(test)]
 mod lanes;
@@ -20,5 +22,7 @@ mod subs;
 mod tests;
 #[cfg(test)]
 mod threads;
+#[cfg(test)]
+mod two;
 #[cfg(test)]
 mod workers;

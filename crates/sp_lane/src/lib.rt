@@ -10,8 +10,6 @@ mod ends;
 mod inproc;
 mod item;
 mod rule;
-#[cfg(test)]
-mod tests;
 mod wire;
 
 pub use ends::{LaneEnd, LaneIn, LaneOut, finish, lane, tell};

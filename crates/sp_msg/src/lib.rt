@@ -14,8 +14,6 @@ mod body;
 mod header;
 mod marks;
 mod message;
-#[cfg(test)]
-mod tests;
 mod wire;
 
 pub use marks::WireMarks;

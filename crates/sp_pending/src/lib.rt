@@ -13,7 +13,5 @@
 
 mod pending;
 mod rings;
-#[cfg(test)]
-mod tests;
 
 pub use pending::{Pending, PendingOps};

@@ -21,8 +21,6 @@ mod outlet;
 mod reader;
 mod spent;
 mod stage;
-#[cfg(test)]
-mod tests;
 mod wire;
 
 pub use greeting::{Greeted, Greeting};

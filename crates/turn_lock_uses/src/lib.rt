@@ -12,8 +12,6 @@ mod endings;
 mod play;
 mod register;
 mod setting;
-#[cfg(test)]
-mod tests;
 mod writes;
 
 pub use core_state::{Core, Machine, act, act_all, act_both};
