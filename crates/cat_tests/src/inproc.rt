@@ -52,6 +52,20 @@ fn a_bus_talks_to_itself(rt: HostRuntime) -> Result<(), Fail> {
         &[
             "--bus", "--listen", X, "--listen", Y, "--dial", Y, "--dial", X, "--data", "m",
         ],
+        // The second name of each is the one that meets.
+        &[
+            "--bus",
+            "--listen",
+            Y,
+            "--listen",
+            X,
+            "--dial",
+            "inproc://z",
+            "--dial",
+            X,
+            "--data",
+            "m",
+        ],
         &[
             "--bus", "--listen", A, "--dial", X, "--listen", X, "--data", "m",
         ],
@@ -61,6 +75,21 @@ fn a_bus_talks_to_itself(rt: HostRuntime) -> Result<(), Fail> {
         assert_eq!(rt; came.status, Status::Done);
         assert_eq!(rt; came.opened, 0);
     }
+    Ok(())
+}
+
+// A pair has one pipe: it refuses the other half of the lane that it dialed, and tells the half that it has of the end. So
+// its pipe goes down before it sends, and its message goes out on the pipe of its next dial, 100 turns after.
+#[test]
+fn a_lane_that_is_left_is_told_its_end(rt: HostRuntime) -> Result<(), Fail> {
+    let came = unlinked(
+        &rt,
+        &[
+            "--pair", "--listen", X, "--dial", X, "--data", "m", "--count", "1",
+        ],
+    )?;
+    assert_eq!(rt; came.status, Status::Done);
+    assert!(rt; came.left < TURNS - 100);
     Ok(())
 }
 

@@ -1,7 +1,7 @@
-use cat_fakes::{ALL, HELLO_80, HELLO_81, TURNS, link_of, outgoing, play};
-use cat_run::Status;
+use cat_fakes::{ALL, HELLO_80, HELLO_81, PULL, TURNS, link_of, outgoing, play, words};
+use cat_run::{Status, run};
 use sp_base::{Addr, Host, Link, LinkRead, Linked, Listened, Net};
-use sp_fakes::MemNet;
+use sp_fakes::{MemFiles, MemNet, MemPace, MemSink};
 use std::test::Fail;
 
 // Listens at a port, accepts there, and returns the listener's number and how many bytes came of the link at once.
@@ -76,5 +76,68 @@ fn a_pipe_that_is_lost_is_dialed_again(rt: HostRuntime) -> Result<(), Fail> {
     assert_eq!(rt; came.written.as_slice(), HELLO_81);
     assert_eq!(rt; came.second.as_slice(), HELLO_81);
     assert!(rt; came.left < TURNS - 100);
+    Ok(())
+}
+
+// A dial that fails is tried again 100 milliseconds after.
+#[test]
+fn a_dial_that_fails_is_tried_again(rt: HostRuntime) -> Result<(), Fail> {
+    const DIALS: &[&str] = &["--pull", "--dial", "tcp://127.0.0.1:5555", "--count", "1"];
+    const HELLO: &[u8] = b"\x00\x00\x00\x00\x00\x00\x00\x05hello";
+    let alloc = rt.alloc();
+    let mut links = Vec::new(alloc);
+    links.push(link_of(alloc, &[HELLO_80, HELLO], false, ALL)?)?;
+    let mut outside = outgoing(alloc, links)?;
+    outside.net_fails.push(0)?;
+    let came = play(&rt, DIALS, outside)?;
+    assert_eq!(rt; came.status, Status::Done);
+    assert_eq!(rt; came.opened, 1);
+    assert!(rt; came.left < TURNS - 100);
+    // A link on which nobody greets is given back after ten seconds, and the address is dialed again.
+    let rows: &[(u64, u32)] = &[(95, 1), (195, 2), (215, 3)];
+    for (turns, opened) in rows {
+        let mut links = Vec::new(alloc);
+        for _ in 0..3 {
+            links.push(link_of(alloc, &[], false, ALL)?)?;
+        }
+        let mut outside = outgoing(alloc, links)?;
+        outside.turns = *turns;
+        outside.step = 100;
+        let came = play(&rt, DIALS, outside)?;
+        assert_eq!(rt; came.status, Status::Over);
+        assert_eq!(rt; came.opened, *opened);
+    }
+    Ok(())
+}
+
+// Whether the link with this place came back, and was shut.
+fn is_back(net: &MemNet, place: u32) -> bool {
+    match net.returned(place) {
+        Some(link) => !link.is_open(),
+        None => false,
+    }
+}
+
+// A run ends with one link up, one in its greetings, and one that has ended: all three come back.
+#[test]
+fn every_link_comes_back(rt: HostRuntime) -> Result<(), Fail> {
+    let alloc = rt.alloc();
+    let mut links = Vec::new(alloc);
+    links.push(link_of(alloc, &[HELLO_80], false, ALL)?)?;
+    links.push(link_of(alloc, &[b"\x00SP"], false, ALL)?)?;
+    links.push(link_of(alloc, &[HELLO_80], true, ALL)?)?;
+    let mut incoming = Vec::new(alloc);
+    incoming.push(links)?;
+    let mut net = MemNet::new(alloc, incoming, Vec::new(alloc), Vec::new(alloc))?;
+    let mut files = MemFiles::new(alloc, Vec::new(alloc), Vec::new(alloc));
+    let mut pace = MemPace::new(20, 1);
+    let mut out = MemSink::new(alloc, Vec::new(alloc));
+    let list = words(alloc, PULL)?;
+    let end = run(&rt, &list, &mut net, &mut files, &mut pace, &mut out, 0);
+    assert_eq!(rt; end.status, Status::Over);
+    assert_eq!(rt; net.opened(), 3);
+    for place in 0..3 {
+        assert!(rt; is_back(&net, place));
+    }
     Ok(())
 }

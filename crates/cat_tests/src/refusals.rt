@@ -9,6 +9,8 @@ use std::test::Fail;
 
 const A: &str = "tcp://127.0.0.1:5555";
 
+const B: &str = "tcp://127.0.0.1:5556";
+
 #[test]
 fn words_without_a_plan_are_refused_at_their_place(rt: HostRuntime) -> Result<(), Fail> {
     let wrong: &[(&[&str], u32)] = &[
@@ -34,14 +36,21 @@ fn words_without_a_plan_are_refused_at_their_place(rt: HostRuntime) -> Result<()
 #[test]
 fn a_failing_listen_ends_the_run(rt: HostRuntime) -> Result<(), Fail> {
     let alloc = rt.alloc();
-    let mut outside = incoming(alloc, Vec::new(alloc))?;
-    outside.net_fails.push(0)?;
-    let came = play(&rt, PULL, outside)?;
-    assert_eq!(rt; came.status, Status::NetFault);
-    assert_eq!(rt; exit_code(came.status), 4);
-    assert!(rt; came.has_record);
-    assert_eq!(rt; came.left, TURNS);
-    assert_eq!(rt; came.opened, 0);
+    // The first listen, and the second one of two.
+    let rows: &[(&[&str], u64)] = &[
+        (PULL, 0),
+        (&["--pull", "--listen", A, "--listen", B, "--count", "1"], 1),
+    ];
+    for (texts, fails) in rows {
+        let mut outside = hello(alloc)?;
+        outside.net_fails.push(*fails)?;
+        let came = play(&rt, texts, outside)?;
+        assert_eq!(rt; came.status, Status::NetFault);
+        assert_eq!(rt; exit_code(came.status), 4);
+        assert!(rt; came.has_record);
+        assert_eq!(rt; came.left, TURNS);
+        assert_eq!(rt; came.opened, 0);
+    }
     Ok(())
 }
 

@@ -87,17 +87,40 @@ fn a_round_prints_some_messages(rt: HostRuntime) -> Result<(), Fail> {
     Ok(())
 }
 
-// A listener is asked until it has no link, or has brought 16 in this turn.
+// So many links that give this at once, and then nothing for ever.
+fn all_giving(alloc: Global, count: u32, text: &[u8]) -> Result<Vec<MemLink>, NoMemory> {
+    let mut links = Vec::new(alloc);
+    for _ in 0..count {
+        links.push(link_of(alloc, &[text], false, ALL)?)?;
+    }
+    Ok(links)
+}
+
+// Each listener is asked until it has no link, or has brought 16 in this turn: 40 links come at one, or 20 at each of two.
 #[test]
-fn a_listener_brings_16_links_a_turn(rt: HostRuntime) -> Result<(), Fail> {
+fn each_listener_brings_16_links_a_turn(rt: HostRuntime) -> Result<(), Fail> {
+    const BOTH: &[&str] = &[
+        "--pull",
+        "--listen",
+        "tcp://127.0.0.1:5555",
+        "--listen",
+        "tcp://127.0.0.1:5556",
+    ];
     let alloc = rt.alloc();
-    let rows: &[(u64, u32)] = &[(1, 16), (2, 32), (3, 40), (30, 40)];
-    for (turns, opened) in rows {
-        let mut links = Vec::new(alloc);
-        for _ in 0..40 {
-            links.push(link_of(alloc, &[HELLO_80], false, ALL)?)?;
-        }
-        let came = play(&rt, PULL, within(alloc, links, *turns)?)?;
+    let rows: &[(u32, u64, u32)] = &[
+        (1, 1, 16),
+        (1, 2, 32),
+        (1, 3, 40),
+        (1, 30, 40),
+        (2, 1, 32),
+        (2, 2, 40),
+    ];
+    for (listeners, turns, opened) in rows {
+        let is_one = *listeners == 1;
+        let each = if is_one { 40 } else { 20 };
+        let mut outside = within(alloc, all_giving(alloc, each, HELLO_80)?, *turns)?;
+        outside.incoming.push(all_giving(alloc, each, HELLO_80)?)?;
+        let came = play(&rt, if is_one { PULL } else { BOTH }, outside)?;
         assert_eq!(rt; came.status, Status::Over);
         assert_eq!(rt; came.opened, *opened);
     }
@@ -108,13 +131,31 @@ fn a_listener_brings_16_links_a_turn(rt: HostRuntime) -> Result<(), Fail> {
 #[test]
 fn nothing_is_accepted_behind_256_greetings(rt: HostRuntime) -> Result<(), Fail> {
     let alloc = rt.alloc();
-    let mut links = Vec::new(alloc);
-    for _ in 0..300 {
-        links.push(link_of(alloc, &[b"\x00SP"], false, ALL)?)?;
-    }
+    let links = all_giving(alloc, 300, b"\x00SP")?;
     let came = play(&rt, PULL, within(alloc, links, 60)?)?;
     assert_eq!(rt; came.status, Status::Over);
     assert_eq!(rt; came.opened, 256);
+    Ok(())
+}
+
+// A link whose greeting is wrong is in its greetings no more: behind 300 of them one that is right comes up.
+#[test]
+fn wrong_greetings_keep_nobody_out(rt: HostRuntime) -> Result<(), Fail> {
+    const ONE: &[&str] = &[
+        "--pull",
+        "--listen",
+        "tcp://127.0.0.1:5555",
+        "--raw",
+        "--count",
+        "1",
+    ];
+    let alloc = rt.alloc();
+    let mut links = all_giving(alloc, 300, b"\x00SQ")?;
+    links.push(talker(alloc, 1)?)?;
+    let came = play(&rt, ONE, within(alloc, links, 60)?)?;
+    assert_eq!(rt; came.status, Status::Done);
+    assert_eq!(rt; came.opened, 301);
+    assert_eq!(rt; came.printed.as_slice(), b"x".as_slice());
     Ok(())
 }
 

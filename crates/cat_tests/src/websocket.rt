@@ -12,6 +12,7 @@ use sp_ws::{Side, WsWire};
 use std::alloc::Global;
 use std::sync::Wait;
 use std::test::Fail;
+use std::thread::Threads;
 
 // The sample head of the standard, of a req that asks a rep.
 const HEAD: &[u8] =
@@ -285,23 +286,105 @@ fn a_req_dials_over_websocket(rt: HostRuntime) -> Result<(), Fail> {
     Ok(())
 }
 
+// A pull that dials the root of port 5555.
+const PULLS: &[&str] = &["--pull", "--dial", "ws://127.0.0.1:5555/", "--count", "1"];
+
+// What it asks with its first key, and with its second one.
+const FIRST_KEY: &[u8] =
+    b"GET / HTTP/1.1\r\nHost: 127.0.0.1:5555\r\nUpgrade: websocket\r\nConnection: Upgrade\r\nSec-WebSocket-Key: FAV7fvdngU8aCO4RhLptMg==\r\nSec-WebSocket-Version: 13\r\nSec-WebSocket-Protocol: push.sp.nanomsg.org\r\n\r\n";
+
+const SECOND_KEY: &[u8] =
+    b"GET / HTTP/1.1\r\nHost: 127.0.0.1:5555\r\nUpgrade: websocket\r\nConnection: Upgrade\r\nSec-WebSocket-Key: bFdvrEP9AHyCaIazhkobGw==\r\nSec-WebSocket-Version: 13\r\nSec-WebSocket-Protocol: push.sp.nanomsg.org\r\n\r\n";
+
+// This link comes at the first dial, and a silent one at the second: they are asked with the first two keys.
+fn has_two_keys<R: AllocGlobal + Wait + Threads + Sync>(
+    rt: &R,
+    first: MemLink,
+) -> Result<bool, NoMemory> {
+    let alloc = rt.alloc();
+    let mut links = Vec::new(alloc);
+    links.push(first)?;
+    links.push(link_of(alloc, &[], false, ALL)?)?;
+    let came = play(rt, PULLS, dialed(alloc, links)?)?;
+    Ok(
+        came.status == Status::Over
+            && came.opened == 2
+            && came.written.as_slice() == FIRST_KEY
+            && came.second.as_slice() == SECOND_KEY,
+    )
+}
+
 // The first link ends at once, and a second one is dialed.
 #[test]
 fn each_opening_has_its_own_key(rt: HostRuntime) -> Result<(), Fail> {
-    const PULLS: &[&str] = &["--pull", "--dial", "ws://127.0.0.1:5555/", "--count", "1"];
-    const FIRST: &[u8] =
-        b"GET / HTTP/1.1\r\nHost: 127.0.0.1:5555\r\nUpgrade: websocket\r\nConnection: Upgrade\r\nSec-WebSocket-Key: FAV7fvdngU8aCO4RhLptMg==\r\nSec-WebSocket-Version: 13\r\nSec-WebSocket-Protocol: push.sp.nanomsg.org\r\n\r\n";
-    const SECOND: &[u8] =
-        b"GET / HTTP/1.1\r\nHost: 127.0.0.1:5555\r\nUpgrade: websocket\r\nConnection: Upgrade\r\nSec-WebSocket-Key: bFdvrEP9AHyCaIazhkobGw==\r\nSec-WebSocket-Version: 13\r\nSec-WebSocket-Protocol: push.sp.nanomsg.org\r\n\r\n";
+    let first = link_of(rt.alloc(), &[], true, ALL)?;
+    assert!(rt; has_two_keys(&rt, first)?);
+    Ok(())
+}
+
+// The first link ends when it has been up.
+#[test]
+fn a_link_that_came_up_has_spent_its_key(rt: HostRuntime) -> Result<(), Fail> {
+    const GRANTS: &[u8] =
+        b"HTTP/1.1 101 Switching Protocols\r\nUpgrade: websocket\r\nConnection: Upgrade\r\nSec-WebSocket-Accept: pcNwVK8H2TInp2i0TlaErEE0lwU=\r\nSec-WebSocket-Protocol: push.sp.nanomsg.org\r\n\r\n";
+    let alloc = rt.alloc();
+    let mut script = Vec::new(alloc);
+    script.push(LinkStep::After(198))?;
+    script.push(LinkStep::Bytes(Bytes::from_slice(alloc, GRANTS)?))?;
+    script.push(LinkStep::NotYet)?;
+    script.push(LinkStep::End)?;
+    let first = MemLink::new(alloc, script, ALL, Vec::new(alloc));
+    assert!(rt; has_two_keys(&rt, first)?);
+    Ok(())
+}
+
+// The first dial fails, or is one of an address where nobody is: the link that comes is asked with the first key.
+#[test]
+fn a_dial_that_gets_no_link_spends_no_key(rt: HostRuntime) -> Result<(), Fail> {
+    const AT_B: &[u8] =
+        b"GET /b HTTP/1.1\r\nHost: 127.0.0.1:5556\r\nUpgrade: websocket\r\nConnection: Upgrade\r\nSec-WebSocket-Key: FAV7fvdngU8aCO4RhLptMg==\r\nSec-WebSocket-Version: 13\r\nSec-WebSocket-Protocol: push.sp.nanomsg.org\r\n\r\n";
+    const BOTH: &[&str] = &[
+        "--pull",
+        "--dial",
+        "ws://127.0.0.1:5555/",
+        "--dial",
+        "ws://127.0.0.1:5556/b",
+        "--count",
+        "1",
+    ];
     let alloc = rt.alloc();
     let mut links = Vec::new(alloc);
-    links.push(link_of(alloc, &[], true, ALL)?)?;
     links.push(link_of(alloc, &[], false, ALL)?)?;
-    let came = play(&rt, PULLS, dialed(alloc, links)?)?;
+    let mut outside = dialed(alloc, links)?;
+    outside.net_fails.push(0)?;
+    let came = play(&rt, PULLS, outside)?;
+    assert_eq!(rt; came.opened, 1);
+    assert_eq!(rt; came.written.as_slice(), FIRST_KEY);
+    let mut links = Vec::new(alloc);
+    links.push(link_of(alloc, &[], false, ALL)?)?;
+    let mut outgoing = Vec::new(alloc);
+    outgoing.push((address(alloc, 5556, b"/b")?, links))?;
+    let came = play(&rt, BOTH, dials(alloc, outgoing))?;
+    assert_eq!(rt; came.opened, 1);
+    assert_eq!(rt; came.written.as_slice(), AT_B);
+    Ok(())
+}
+
+// A ping is answered also by a socket that sends nothing else.
+#[test]
+fn a_pull_answers_a_ping(rt: HostRuntime) -> Result<(), Fail> {
+    const PULL_AT: &[&str] = &["--pull", "--listen", "ws://127.0.0.1:5555/", "--count", "1"];
+    const ASKED: &[u8] =
+        b"GET / HTTP/1.1\r\nHost: 127.0.0.1:5555\r\nUpgrade: websocket\r\nConnection: Upgrade\r\nSec-WebSocket-Key: dGhlIHNhbXBsZSBub25jZQ==\r\nSec-WebSocket-Version: 13\r\nSec-WebSocket-Protocol: pull.sp.nanomsg.org\r\n\r\n";
+    let link = link_of(
+        rt.alloc(),
+        &[ASKED, b"\x89\x81\x00\x00\x00\x00p"],
+        false,
+        ALL,
+    )?;
+    let came = over_one(&rt, PULL_AT, link)?;
     assert_eq!(rt; came.status, Status::Over);
-    assert_eq!(rt; came.opened, 2);
-    assert_eq!(rt; came.written.as_slice(), FIRST);
-    assert_eq!(rt; came.second.as_slice(), SECOND);
+    assert!(rt; came.written.as_slice().ends_with(b"\x8a\x01p"));
     Ok(())
 }
 

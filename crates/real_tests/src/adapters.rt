@@ -212,12 +212,40 @@ fn fails<L: Link, P: Pace>(link: &mut L, pace: &mut P) -> bool
     false
 }
 
+// Writes until a fault, within so many turns.
+fn write_fails<L: Link, P: Pace>(link: &mut L, pace: &mut P) -> bool
+    requires { (L.seen link.old).is_open ≡ true }
+    ensures { (L.seen link.new).place ≡ (L.seen link.old).place }
+{
+    for turn in 0..1_000 {
+        let _paced = pace.turn(false);
+        match link.write(b"more") {
+            LinkWrite::Failed => return true,
+            LinkWrite::NotYet | LinkWrite::Took(_) => (),
+        }
+    }
+    false
+}
+
+// A read finds the fault, or a write does.
+fn fails_at<L: Link, P: Pace>(by_write: bool, link: &mut L, pace: &mut P) -> bool
+    requires { (L.seen link.old).is_open ≡ true }
+    ensures { (L.seen link.new).place ≡ (L.seen link.old).place }
+{
+    if by_write {
+        write_fails(link, pace)
+    } else {
+        fails(link, pace)
+    }
+}
+
 // A peer that is gone while something that was sent to it is unread: the system resets the connection.
 fn meets_a_reset<R: std::net::Net, N: Net, P: Pace>(
     rt: &R,
     net: &mut N,
     at: u32,
     port: u16,
+    by_write: bool,
     pace: &mut P,
 ) -> Option<bool>
     requires { IsSome (map.get (N.seen net.old).listens at) }
@@ -230,7 +258,7 @@ fn meets_a_reset<R: std::net::Net, N: Net, P: Pace>(
         let _paced = pace.turn(false);
     }
     drop(peer);
-    let failed = fails(&mut met, pace);
+    let failed = fails_at(by_write, &mut met, pace);
     done(net, met);
     Some(failed && matches!(sent, LinkWrite::Took(6)))
 }
@@ -241,7 +269,19 @@ fn a_peer_that_resets_is_a_fault(rt: HostRuntime) -> Result<(), Fail> {
     let mut net = TcpNet::new(rt.clone()?, pace.registry()?, rt.alloc());
     let mut met = None;
     if let Some((at, port)) = listening(&mut net, 28_155) {
-        met = meets_a_reset(&rt, &mut net, at, port, &mut pace);
+        met = meets_a_reset(&rt, &mut net, at, port, false, &mut pace);
+    }
+    assert!(rt; met == Some(true));
+    Ok(())
+}
+
+#[test]
+fn a_write_to_a_peer_that_resets_is_a_fault(rt: HostRuntime) -> Result<(), Fail> {
+    let mut pace = RealPace::new(rt.clone()?, &rt, rt.alloc())?;
+    let mut net = TcpNet::new(rt.clone()?, pace.registry()?, rt.alloc());
+    let mut met = None;
+    if let Some((at, port)) = listening(&mut net, 28_235) {
+        met = meets_a_reset(&rt, &mut net, at, port, true, &mut pace);
     }
     assert!(rt; met == Some(true));
     Ok(())
@@ -275,6 +315,26 @@ fn a_listener_at_one_address_is_not_reached_at_another(rt: HostRuntime) -> Resul
     let own = reaches(&mut net, &address(1, port), &mut pace);
     let other = reaches(&mut net, &address(2, port), &mut pace);
     assert!(rt; own && !other);
+    Ok(())
+}
+
+// A listener at every address of this machine is reached at each of two.
+#[test]
+fn a_listener_at_every_address_is_reached_at_each(rt: HostRuntime) -> Result<(), Fail> {
+    let mut pace = RealPace::new(rt.clone()?, &rt, rt.alloc())?;
+    let mut net = TcpNet::new(rt.clone()?, pace.registry()?, rt.alloc());
+    for port in 28_235..28_265 {
+        let every = Addr::Tcp {
+            host: Host::Any,
+            port,
+        };
+        if let Listened::At(_) = net.listen(&every) {
+            assert!(rt; reaches(&mut net, &address(1, port), &mut pace));
+            assert!(rt; reaches(&mut net, &address(2, port), &mut pace));
+            return Ok(());
+        }
+    }
+    assert!(rt; false, "no port is free");
     Ok(())
 }
 
@@ -352,5 +412,70 @@ fn a_slow_output_takes_all_that_was_put(rt: HostRuntime) -> Result<(), Fail> {
     assert_eq!(rt; put, Sunk::Done);
     assert!(rt; slow.right.get());
     assert_eq!(rt; slow.came.get(), 1_000);
+    Ok(())
+}
+
+/// An output that takes a few bytes once, and then fails so for ever, or takes nothing.
+#[derive(Drop)]
+struct FailingOutput {
+    kind: Option<ErrorKind>,
+    came: Cell<usize>,
+}
+
+impl Print for FailingOutput {
+    fn print<D: Display + Drop>(&self, _value: D) -> IoResult<()> {
+        Ok(())
+    }
+
+    fn println<D: Display + Drop>(&self, _value: D) -> IoResult<()> {
+        Ok(())
+    }
+
+    fn write_all(&self, bytes: &[u8]) -> IoResult<()> {
+        let _some = self.write_some(bytes)?;
+        Ok(())
+    }
+
+    fn write_some(&self, bytes: &[u8]) -> IoResult<usize> {
+        if self.came.get() == 0 {
+            let n = bytes.len().min(7);
+            self.came.set(n);
+            return Ok(n);
+        }
+        match self.kind {
+            Some(kind) => Err(Error::from(kind)),
+            None => Ok(0),
+        }
+    }
+}
+
+impl Clock for FailingOutput {
+    fn monotonic(&self) -> IoResult<Duration> {
+        Ok(Duration::from_millis(0))
+    }
+
+    fn since_1970(&self) -> IoResult<Duration> {
+        Ok(Duration::from_millis(0))
+    }
+}
+
+// As of a pipe that was closed, a device that is full, and one that takes nothing.
+#[test]
+fn an_output_that_fails_is_a_fault(rt: HostRuntime) -> Result<(), Fail> {
+    let kinds = [
+        Some(ErrorKind::BrokenPipe),
+        Some(ErrorKind::StorageFull),
+        Some(ErrorKind::Other),
+        None,
+    ];
+    for kind in kinds {
+        let failing = FailingOutput {
+            kind,
+            came: Cell::new(0),
+        };
+        let mut out = RealOut::new(&failing);
+        assert_eq!(rt; out.put(b"more than seven"), Sunk::Failed);
+        assert_eq!(rt; failing.came.get(), 7);
+    }
     Ok(())
 }

@@ -7,3 +7,5 @@ mod adapters;
 mod input;
 #[cfg(test)]
 mod real;
+#[cfg(test)]
+mod websocket;
