@@ -5,10 +5,13 @@ comes back, and several ends of one run.
 Skips what is missing. Each check prints a line; the status is the number of checks that failed.
 """
 import os
+import select
+import socket
 import sys
 import time
+from concurrent.futures import ThreadPoolExecutor
 
-from outside import OURS, THEIRS, address, begin, free_port, listening, reads, said, stop, stop_all
+from outside import OURS, THEIRS, address, answered, begin, free_port, listening, reads, said, stop, stop_all
 
 
 def dialing(program, port, *words):
@@ -36,6 +39,43 @@ def dialer_comes_first():
     tried = [dials_first(*pair, *words) for pair in ((OURS, THEIRS), (THEIRS, OURS))
              for words in ((PUSH, PULL), (PULL, PUSH))]
     return all(well for well, _ in tried), f"{[outs for _, outs in tried]}"
+
+
+# Of each protocol but pipeline: a run that sends `hello`, and may go on, and one that prints it and ends.
+BOTH = (
+    (("--rep", "--data", "hello"),
+     ("--req", "--data", "ping", "--ascii", "--count", "1", "--recv-timeout", "20", "--interval", "20")),
+    (("--respondent", "--data", "hello"), ("--surveyor", "--data", "who", "--ascii", "--interval", "2", "--count", "3")),
+    (("--pub", "--data", "hello", "--interval", "1"), ("--sub", "--ascii", "--count", "1")),
+    (("--bus", "--data", "hello", "--interval", "1"), ("--bus", "--ascii", "--count", "1")),
+    (("--pair0", "--data", "hello", "--interval", "1"), ("--pair0", "--ascii", "--count", "1")),
+)
+
+
+def takes_hello(dialer, server, sends, takes, taker_dials):
+    """The dialer is there a second and a half before anybody listens; `hello` comes over, once or a few times."""
+    port = free_port()
+    early = dialing(dialer, port, *(takes if taker_dials else sends))
+    time.sleep(1.5)
+    waits = early.poll() is None
+    late = begin(server, *(sends if taker_dials else takes), "--listen", address(port))
+    taker, sender = (early, late) if taker_dials else (late, early)
+    outs, well = said([taker])
+    stop(sender)
+    return well and waits and outs[0] and not outs[0].replace(b"\n", b"").replace(b"hello", b""), outs
+
+
+def all_at_once(check, rows):
+    """The check of each row, some of them at the same time."""
+    with ThreadPoolExecutor(6) as pool:
+        tried = list(pool.map(lambda row: check(*row), rows))
+    return all(well for well, _ in tried), f"{[outs for _, outs in tried]}"
+
+
+def dialers_of_each_role_come_first():
+    """The dialer is started before the listener, ours and Debian's, in each role of the other protocols."""
+    return all_at_once(takes_hello, [(*pair, sends, takes, taker_dials) for pair in ((OURS, THEIRS), (THEIRS, OURS))
+                                     for sends, takes in BOTH for taker_dials in (True, False)])
 
 
 def nobody_listens():
@@ -106,6 +146,51 @@ def comes_back_to_our_rep(listens):
     return all(came) and stays, came
 
 
+def shows(run, wanted, seconds=20):
+    """Whether a run that goes on prints these bytes, whatever stands before them, in so many seconds."""
+    came, until = b"", time.time() + seconds
+    while wanted not in came:
+        ready, _, _ = select.select([run.stdout], [], [], max(0, until - time.time()))
+        piece = os.read(run.stdout.fileno(), 1024) if ready else b""
+        if not piece:
+            return False
+        came += piece
+    return True
+
+
+# Of each protocol but pipeline: what sends on and on whatever --data says, and what prints all that comes.
+ON_AND_ON = (
+    (("--rep",), ("--req", "--data", "ping", "--raw", "--interval", "1")),
+    (("--respondent",), ("--surveyor", "--data", "who", "--raw", "--interval", "2")),
+    (("--pub", "--interval", "1"), ("--sub", "--raw")),
+    (("--bus", "--interval", "1"), ("--bus", "--raw")),
+    (("--pair0", "--interval", "1"), ("--pair0", "--raw")),
+)
+
+
+def comes_back(sends, takes, ours_takes, listens):
+    """Debian's run is killed and started again, each time with another message where it sends, while ours stays."""
+    port = free_port()
+    run = there(OURS, port, listens, *(takes if ours_takes else (*sends, "--data", "mine")))
+    # With a short interval nng's requester gives up at times on a busy machine, with `Cannot set recv timeout`.
+    takes = (*takes[:-1], "20") if takes[0] == "--req" else takes
+    came = []
+    for text in ("first", "second", "third"):
+        other = there(THEIRS, port, not listens, *((*sends, "--data", text) if ours_takes else takes))
+        came.append(shows(run, text.encode()) if ours_takes else shows(other, b"mine"))
+        stop(other)
+    stays = run.poll() is None
+    stop(run)
+    return all(came) and stays, came
+
+
+def peers_of_each_role_come_back():
+    """A process of Debian's is killed and started again while ours stays, which listens or dials, in each role of the
+    other protocols."""
+    return all_at_once(comes_back, [(*words, ours_takes, listens) for words in ON_AND_ON for ours_takes in (True, False)
+                                    for listens in (True, False)])
+
+
 def peers_come_back():
     """A process of Debian's is killed and started again while ours stays, which listens or dials: as push, pull and req."""
     tried = [check(listens) for check in (comes_back_to_our_pull, comes_back_to_our_push, comes_back_to_our_rep)
@@ -135,6 +220,45 @@ def five_are_served():
     return well and well2 and right, f"{outs}, {pulled[0]}"
 
 
+def under_way(port):
+    """The ports of this machine from which a connection to this one was begun and isn't made."""
+    with open("/proc/net/tcp") as table:
+        rows = [line.split()[1:4] for line in table][1:]
+    return {own for own, peer, state in rows if peer.endswith(f":{port:04X}") and state == "02"}
+
+
+def a_dial_under_way_is_kept():
+    """A connection that isn't made is kept for the next tries, and waits for nobody: another end is served meanwhile."""
+    with socket.socket() as full:
+        full.bind(("127.0.0.1", 0))
+        full.listen(0)
+        port, other = full.getsockname()[1], free_port()
+        with socket.create_connection(("127.0.0.1", port)):
+            listening(THEIRS, other, "--push", "--data", "first")
+            run = begin(OURS, "--pull", "--ascii", "--count", "2", "--dial", address(port), "--dial", address(other))
+            served = reads(run, b"first\n")
+            seen = [under_way(port)]
+            for _ in range(3):
+                time.sleep(0.3)
+                seen.append(under_way(port))
+            stop(run)
+    return served and len(seen[0]) == 1 and all(it == seen[0] for it in seen), f"{served}, {seen}"
+
+
+def names_meet():
+    """Names within the process: a bus that listens on a name and dials it, alone, with two names and beside TCP; and
+    dials of a name where nobody listens, whose timeouts end them."""
+    bus = ("--bus", "--listen", "inproc://x", "--data", "m")
+    rows = [((*bus, "--dial", "inproc://x", "--count", count), 0) for count in ("1", "3", "100")]
+    rows += [((*bus, "--dial", "inproc://x"), 0),
+             ((*bus, "--listen", "inproc://y", "--dial", "inproc://y", "--dial", "inproc://x"), 0),
+             ((*bus, "--listen", address(free_port()), "--dial", "inproc://x"), 0),
+             (("--pull", "--dial", "inproc://x", "--recv-timeout", "1"), 0),
+             (("--push", "--dial", "inproc://x", "--data", "d", "--send-timeout", "1"), 2)]
+    ended = [(answered(*words)[0], status) for words, status in rows]
+    return all(came == wanted for came, wanted in ended), f"{[came for came, _ in ended]}"
+
+
 def main():
     if not os.access(OURS, os.X_OK):
         print("skipped: crates/nngcat/out/nngcat isn't built")
@@ -143,7 +267,8 @@ def main():
         print("skipped: no nngcat of nng is installed")
         return 0
     failed = 0
-    for check in (dialer_comes_first, nobody_listens, peers_come_back, five_are_served):
+    for check in (dialer_comes_first, dialers_of_each_role_come_first, nobody_listens, peers_come_back,
+                  peers_of_each_role_come_back, five_are_served, a_dial_under_way_is_kept, names_meet):
         if sys.argv[1:] and check.__name__ not in sys.argv[1:]:
             continue
         try:

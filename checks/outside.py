@@ -9,6 +9,7 @@ import shutil
 import socket
 import subprocess
 import sys
+import tempfile
 import threading
 import time
 
@@ -198,6 +199,83 @@ def many_with_theirs():
     """So many messages from our push to Debian's pull, and from Debian's push to ours, each side listening in turn."""
     tried = [many_between(*pair, listens) for pair in ((OURS, THEIRS), (THEIRS, OURS)) for listens in (False, True)]
     return all(well for well, _ in tried), f"{PUSHED} messages of 16 bytes, {[size for _, size in tried]} bytes"
+
+
+# Counts how often memory is taken, in a file that others can read meanwhile.
+COUNTER = r"""
+#include <fcntl.h>
+#include <stdint.h>
+#include <stdlib.h>
+#include <sys/mman.h>
+
+extern void *__libc_malloc(size_t);
+extern void *__libc_calloc(size_t, size_t);
+extern void *__libc_realloc(void *, size_t);
+extern void *__libc_memalign(size_t, size_t);
+
+static uint64_t own;
+static uint64_t *count = &own;
+
+__attribute__((constructor)) static void begin(void) {
+    void *kept = mmap(0, sizeof own, PROT_READ | PROT_WRITE, MAP_SHARED, open(getenv("COUNT"), O_RDWR), 0);
+    if (kept != MAP_FAILED)
+        count = kept;
+}
+
+static void one(void) { __atomic_fetch_add(count, 1, __ATOMIC_SEQ_CST); }
+void *malloc(size_t n) { one(); return __libc_malloc(n); }
+void *calloc(size_t n, size_t size) { one(); return __libc_calloc(n, size); }
+void *realloc(void *at, size_t n) { one(); return __libc_realloc(at, n); }
+void *aligned_alloc(size_t to, size_t n) { one(); return __libc_memalign(to, n); }
+void *memalign(size_t to, size_t n) { one(); return __libc_memalign(to, n); }
+int posix_memalign(void **at, size_t to, size_t n) { one(); *at = __libc_memalign(to, n); return *at ? 0 : 12; }
+"""
+
+
+def count_allocations(folder):
+    """The environment of a run whose allocations are counted, and the file with the count; none where no C is compiled."""
+    source, library, kept = (os.path.join(folder, name) for name in ("counter.c", "counter.so", "count"))
+    with open(source, "w") as file:
+        file.write(COUNTER)
+    with open(kept, "wb") as file:
+        file.write(bytes(8))
+    built = subprocess.run(["gcc", "-shared", "-fPIC", "-fno-builtin", "-o", library, source], stderr=subprocess.DEVNULL)
+    return None if built.returncode else ({**os.environ, "LD_PRELOAD": library, "COUNT": kept}, kept)
+
+
+def counted(run, kept):
+    """How often a run took memory so far, and how often it rested."""
+    with open(kept, "rb") as file, open(f"/proc/{run.pid}/status") as lines:
+        rests = next(int(line.split()[1]) for line in lines if line.startswith("voluntary_ctxt_switches"))
+        return int.from_bytes(file.read(), sys.byteorder), rests
+
+
+def idle_rounds_allocate_nothing():
+    """Rounds over 50 links that bring nothing take no memory: it is taken no more often after many more of them."""
+    if not shutil.which("gcc"):
+        return True, "skipped, no gcc"
+    with tempfile.TemporaryDirectory() as folder:
+        counting = count_allocations(folder)
+        if counting is None:
+            return True, "skipped, no C is compiled"
+        env, kept = counting
+        port = free_port()
+        run = start("--pull", "--listen", address(port), "--ascii", "--count", "1", env=env)
+        peers = [connect(port) for _ in range(50)]
+        for peer in peers:
+            peer.sendall(greeting(PUSH))
+        time.sleep(2)
+        first, rests = counted(run, kept)
+        time.sleep(3)
+        second, more = counted(run, kept)
+        peers[25].sendall(frame(b"last"))
+        outs, well = said([run])
+        with open(kept, "rb") as file:
+            last = int.from_bytes(file.read(), sys.byteorder)
+        for peer in peers:
+            peer.close()
+    right = well and outs == [b"last"] and 0 < first == second < last and more - rests >= 50
+    return right, f"{first} allocations, after {more - rests} rests {second}, after a message {last}; {outs}"
 
 
 def slow_reader():
@@ -1008,7 +1086,8 @@ def main():
         return 0
     checks = [help_and_version, wrong_words, faults_name_their_words, standard_input, empty_input, completion,
               manual_page, broken_peers, slow_reader, slow_peer, longest_message, full_output, send_times_out,
-              numbers_differ, peer_that_comes_back, words_of_devices, many_links, many_messages, many_pushed]
+              numbers_differ, peer_that_comes_back, words_of_devices, idle_rounds_allocate_nothing, many_links, many_messages,
+              many_pushed]
     if THEIRS:
         checks += [theirs_to_ours, theirs_pulls_from_ours, ours_to_theirs, four_of_theirs, theirs_is_dialed,
                    replies_to_theirs, answers_theirs, pairs_with_theirs, pair_takes_the_next, requests, surveys,
