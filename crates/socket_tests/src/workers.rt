@@ -48,6 +48,7 @@ pub struct Task {
 }
 
 impl Task {
+    /// A job of which nothing is done yet.
     pub fn new(job: Job) -> Task {
         Task {
             job,
