@@ -12,14 +12,14 @@ ghost use Rattle.history_judge.specs.Faults.{Finds};
 
 use crate::faults::Fault;
 use history_judge_past::frames::{floods, has_requests, is_sub, malformed, resends};
-use history_judge_past::kept::{kept, stored};
 use history_judge_past::lists::{
     has_ctx, has_pipe, is_empty, is_of, same_bytes, without_ctx, without_pipe,
 };
 use history_judge_past::past::{begins, ctxs, one_more, pend, pending, uncollected, up};
-use history_judge_past::requests::{how_ended, live_on, request_of};
-use history_judge_past::sends::{is_due_again, is_sent, unclaimed};
 use history_judge_past::story::Past;
+use history_judge_requests::kept::{kept, stored};
+use history_judge_requests::requests::{how_ended, live_on, request_of};
+use history_judge_requests::sends::{is_due_again, is_sent, unclaimed};
 use sp_base::{Bytes, Ctx, NoMemory, OpName, PipeId, Role};
 use sp_history::entry::{Act, Cause, Completion, Ending, Entry, Gate, Message, Why};
 use sp_history::parts::{Begun, Ended, How, Item, Request};

@@ -21,15 +21,15 @@ use crate::rules::{
     is_uncollected, is_up, may_begin, may_dry, may_end, may_finish,
 };
 use history_judge_past::frames::{has_contexts, has_topics, is_pair, is_reply, is_sub, resends};
-use history_judge_past::kept::{kept, wanted};
 use history_judge_past::lists::{has_ctx, has_pipe, is_empty};
 use history_judge_past::past::{
     caller_of, counts, ctxs, due_at, is_closed, now, one_more, opened, pend, topics, untaken, up,
     ups,
 };
-use history_judge_past::requests::requests;
-use history_judge_past::sends::{is_due_again, targets};
 use history_judge_past::story::Past;
+use history_judge_requests::kept::{kept, wanted};
+use history_judge_requests::requests::requests;
+use history_judge_requests::sends::{is_due_again, targets};
 use sp_base::{Bytes, Ctx, NoMemory, OpName, PipeId, Tick};
 use sp_history::entry::{Entry, Gate, Switch, Totals, Why};
 use sp_history::parts::{Begun, Orphan, Request};

@@ -358,7 +358,7 @@ fn ops_of(alloc: Global, ds: LinkedList<Timer>) -> Result<LinkedList<OpName>, No
     }
 }
 
-/// The operations that fall due at the moment, by deadline and then by slot.
+/// The operations that are due at the moment, by deadline and then by slot.
 pub fn due_at(alloc: Global, past: &Past, t: Tick) -> Result<LinkedList<OpName>, NoMemory>
     ensures { IfOk result (λ found. found ≡ due_at (entries_of past.now) t) }
 {

@@ -1,4 +1,0 @@
-use Rattle.history_judge_past.proofs.one_request.+free_from.Given as goal
-
-abbrev pub decreases-free_from : goal.decreases-free_from
-decreases-free_from l = l.tries

@@ -1,5 +1,0 @@
-use Rattle.std.proofs.Common.{length}
-use Rattle.history_judge_past.proofs.requests.+all_with_frame.Given as goal
-
-abbrev pub decreases-all_with_frame : goal.decreases-all_with_frame
-decreases-all_with_frame l = length l.live

@@ -1,5 +1,0 @@
-use Rattle.std.proofs.Common.{length}
-use Rattle.history_judge_past.proofs.requests.+all_with_taken.Given as goal
-
-abbrev pub decreases-all_with_taken : goal.decreases-all_with_taken
-decreases-all_with_taken l = length l.live
