@@ -177,7 +177,7 @@ impl<P: Proto, W: Wire> Driver<P, W> {
         }
     }
 
-    /// The moment is this tick. The operations that fall due.
+    /// The moment is this tick. The operations that are due then.
     pub fn tick<R: Wait>(
         &mut self,
         rt: &R,

@@ -1,4 +1,4 @@
-//! Times.
+//! The clock of the benchmark: a moment, nanoseconds since one, and how long so many units took.
 use std::time::{Clock, Instant};
 
 /// The moment, or none where the clock can't say.

@@ -1,4 +1,4 @@
-//! What callers do.
+//! What callers do: the units of work that are timed, by one caller and by several in threads.
 ghost use Rattle.std.specs.Prelude.{◌≡◌, IfSome, length};
 ghost use Rattle.sp_socket.specs.Open.{IsOpenFor, KeepsOpen};
 ghost use Rattle.sp_socket.specs.Passes.{IsOf};

@@ -1,6 +1,9 @@
 -- What the steps of a begin lead to, within a turn.
 use Rattle.sp_base.specs.declared.OpName.{OpName}
+use Rattle.sp_core.specs.Keeping.{KeepsReads, KeepsWords}
+use Rattle.sp_core.specs.Cores.{words_of}
 use Rattle.sp_core.specs.OpWordsStand.{DecidedAs}
+use Rattle.sp_core.specs.PartSteps.{LeavesPending}
 use Rattle.sp_core.specs.Looking.{HasLooked, reads_of}
 use Rattle.sp_core.specs.Moving.{AreSettling}
 use Rattle.sp_core.specs.Owning.{CanBegin, IsNext, Owns}
@@ -21,7 +24,7 @@ use Rattle.sp_msg.specs.Views.{MessageView, WireView}
 use Rattle.sp_proto.specs.Kinds.{Kind, verb_of}
 use Rattle.sp_proto.specs.Machines.{NoFlood}
 use Rattle.sp_proto.specs.declared.Verb.{Verb}
-use Rattle.std.specs.Prelude.{List, MatchOption, MatchResult, Option, Result, Some, [], ℕ, ◌∷◌, ◌≡◌, ◌≢◌}
+use Rattle.std.specs.Prelude.{List, MatchOption, MatchResult, Option, Result, Some, [], ℕ, ◌∷◌, ◌≡◌, ◌≢◌, ◌<◌}
 use Rattle.turn_lock.specs.declared.turn.Turn.{Turn}
 use Rattle.sp_core.specs.declared.op_words.Decision.TheVariants as decision
 use Rattle.sp_core.specs.declared.ops.BeginError.TheVariants as begin_error
@@ -29,27 +32,34 @@ use Rattle.sp_core.specs.declared.ops.BeginError.TheVariants as begin_error
 -- the turn begins: callers' ends on the context are recorded, and all is done that can be
 abbrev pub OpensTurn : {P W : Type 0} → (P → Moment → Type 0) → (P → ℕ) → (W → WireView) → ℕ → ℕ → (P → Kind) → Core P W → Core P W → Type 0
 OpensTurn ties room shown k c kind old new =
-    (h : List (Turn Entry)) → StandsFor ties room shown old h → (t : Moment) × AreSettling t.turn × IsSettled t × (t.z ≡ core_setting kind old) × Turns ties room shown [] new h k t × HasLooked c (past_of h) t.turn (reads_of old) (reads_of new)
+    KeepsWords old new ((h : List (Turn Entry)) → StandsFor ties room shown old h → (t : Moment) × AreSettling t.turn × IsSettled t × (t.z ≡ core_setting kind old) × Turns ties room shown [] new h k t × HasLooked c (past_of h) t.turn (reads_of old) (reads_of new))
 
 -- the words show already how a caller ended the pending operation, and nothing else does yet
 abbrev pub MayNoteEnd : {P W : Type 0} → (P → Moment → Type 0) → (P → ℕ) → (W → WireView) → OpName → Cause → ℕ → Core P W → Type 0
 MayNoteEnd ties room shown op cause by old =
     (d : OpWordsType) × (t : Moment) × (s : Begun) × Owns ties room shown [] (record old { op_words = d }) t × (pending (past t) op ≡ Some s) × DecidedAs (decision.Gone cause by) op t old.op_words
 
--- this end is recorded
-abbrev pub NotesEnd : {P W : Type 0} → (P → Moment → Type 0) → (P → ℕ) → (W → WireView) → OpName → Cause → ℕ → Core P W → Core P W → Type 0
-NotesEnd ties room shown op cause by old new =
-    (d : OpWordsType) (t : Moment) (s : Begun) → Owns ties room shown [] (record old { op_words = d }) t → pending (past t) op ≡ Some s → DecidedAs (decision.Gone cause by) op t old.op_words → Owns ties room shown [] new (also t (End op (Gone cause by)))
+-- this end is recorded, and less is left to be done
+pub record NotesEnd {P W : Type 0} (ties : P → Moment → Type 0) (room measure : P → ℕ) (shown : W → WireView) (op : OpName) (cause : Cause) (by : ℕ) (old new : Core P W) : Type 0 where
+  pub later : (d : OpWordsType) (t : Moment) (s : Begun) → Owns ties room shown [] (record old { op_words = d }) t → pending (past t) op ≡ Some s → DecidedAs (decision.Gone cause by) op t old.op_words → Owns ties room shown [] new (also t (End op (Gone cause by)))
+  pub left : measure new.proto < measure old.proto
+  pub leaves : LeavesPending op old.operations new.operations
+  pub words : words_of new ≡ words_of old
+  pub reads : reads_of new ≡ reads_of old
 
 -- whether the operation may begin, or why not
 abbrev pub TellsMayBegin : {P W : Type 0} → (P → Moment → Type 0) → (P → ℕ) → (W → WireView) → Result (Unit {0}) BeginError → ℕ → Verb → Core P W → Type 0
 TellsMayBegin ties room shown r c verb x =
     (t : Moment) (act : ActType) → Owns ties room shown [] x t → verb_of act ≡ verb → MatchResult r (λ _. CanBegin t c act) (λ e. RefusedFor e t.z (past t) c act × (e ≢ begin_error.NoMemory))
 
+-- no slot is drawn yet
+abbrev pub MayDraw : {P W : Type 0} → (P → Moment → Type 0) → (P → ℕ) → (W → WireView) → Core P W → Type 0
+MayDraw ties room shown old = (t : Moment) × Owns ties room shown [] old t
+
 -- a free slot is drawn, or every one is taken
 abbrev pub DrawsSlot : {P W : Type 0} → (P → Moment → Type 0) → (P → ℕ) → (W → WireView) → Option OpName → Core P W → Core P W → Type 0
 DrawsSlot ties room shown r old new =
-    (t : Moment) → Owns ties room shown [] old t → MatchOption r (Owns ties room shown [] new t × AllTaken t.z (past t)) (λ op. Owns ties room shown (op.slot ∷ []) new t × IsNext t op)
+    KeepsReads old new ((t : Moment) → Owns ties room shown [] old t → MatchOption r (Owns ties room shown [] new t × AllTaken t.z (past t)) (λ op. Owns ties room shown (op.slot ∷ []) new t × IsNext t op))
 
 -- the operation may begin in its slot, which is drawn
 abbrev pub MayBegin : {P W : Type 0} → (P → Moment → Type 0) → (P → ℕ) → (W → WireView) → OpName → ℕ → ActType → Core P W → Type 0
@@ -59,9 +69,9 @@ MayBegin ties room shown op c act old =
 -- the operation has begun, or its slot is free again
 abbrev pub BeginsDrawn : {P W : Type 0} → (P → Moment → Type 0) → (P → ℕ) → (W → WireView) → Result (Unit {0}) MessageView → OpName → ℕ → ActType → Option ℕ → Core P W → Core P W → Type 0
 BeginsDrawn ties room shown r op c act deadline old new =
-    (t : Moment) → Owns ties room shown (op.slot ∷ []) old t → IsNext t op → CanBegin t c act → NoFlood t → MatchResult r (λ _. Owns ties room shown [] new (also t (Begin op t.caller c act deadline))) (λ _. Owns ties room shown [] new t)
+    KeepsReads old new ((t : Moment) → Owns ties room shown (op.slot ∷ []) old t → IsNext t op → CanBegin t c act → NoFlood t → MatchResult r (λ _. Owns ties room shown [] new (also t (Begin op t.caller c act deadline))) (λ _. Owns ties room shown [] new t))
 
 -- a turn of any caller begins
 abbrev pub BeginsTurn : {P W : Type 0} → (P → Moment → Type 0) → (P → ℕ) → (W → WireView) → Core P W → Core P W → Type 0
 BeginsTurn ties room shown old new =
-    (h : List (Turn Entry)) (k : ℕ) (s : StandsFor ties room shown old h) → Owns ties room shown [] new (next s.at k)
+    KeepsReads old new ((h : List (Turn Entry)) (k : ℕ) (s : StandsFor ties room shown old h) → Owns ties room shown [] new (next s.at k))

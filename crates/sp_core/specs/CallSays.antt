@@ -20,7 +20,10 @@ use Rattle.sp_core.specs.declared.serve.Served.{Served}
 use Rattle.sp_core.specs.Attaching.{AttachedBy, attached}
 use Rattle.sp_core.specs.Collecting.{IsOpen}
 use Rattle.sp_core.specs.Contexts.{ShutBy, SubscribedBy, UnsubscribedBy}
-use Rattle.sp_core.specs.Cores.{callers_of}
+use Rattle.sp_core.specs.Cores.{callers_of, words_of}
+use Rattle.sp_core.specs.declared.label.CoreLabel.{CoreLabel}
+use Rattle.sp_history.specs.declared.setting.Setting.{Setting}
+use Rattle.turn_lock.specs.Turning.{TakesTurn}
 use Rattle.sp_core.specs.Immediate.{ReceivedNow}
 use Rattle.sp_core.specs.Looking.{HasLooked, reads_of}
 use Rattle.sp_core.specs.Parts.{HasWires}
@@ -47,43 +50,52 @@ abbrev pub TakesTurnWhere : {P W : Type 0} → (Core P W → List (Turn Entry) �
 TakesTurnWhere stands old new k holds says =
     (h : List (Turn Entry)) → stands old h → holds h → (t : Turn Entry) × (t.number ≡ k) × stands new (h ++ t ∷ []) × says h t
 
--- ---- What a call says of its turn, after the history before it
+-- what no turn changes: the setting, and which words are the core's
+abbrev pub core_label : {P W : Type 0} → (P → Kind) → Core P W → CoreLabel
+core_label kind c = record { setting = core_setting kind c; words = (words_of c).id }
+
+-- the call is one turn of this caller, of which this is said
+pub record TakesOneTurn {P W : Type 0} (ties : P → Moment → Type 0) (room : P → ℕ) (kind : P → Kind) (shown : W → WireView) (old new : Core P W) (k : ℕ) (says : Setting → List (Turn Entry) → Turn Entry → Type 0) : Type 0 where
+  pub turn : TakesTurn (StandsFor ties room shown) old new k (says (core_setting kind old))
+  pub label : core_label kind new ≡ core_label kind old
+
+-- ---- What a call says of its turn, by the setting and after the history before it
 
 -- a receive began or was refused, and the core has looked at the context
-abbrev pub BeginsRecv : {P W : Type 0} → (P → Kind) → Result OpName BeginError → ℕ → ℕ → Option ℕ → Core P W → Core P W → List (Turn Entry) → Turn Entry → Type 0
-BeginsRecv kind r k c deadline old new h t =
-    BeganBy r (core_setting kind old) h t k c Recv deadline × HasLooked c (past_of h) t.entries (reads_of old) (reads_of new)
+abbrev pub BeginsRecv : {P W : Type 0} → Result OpName BeginError → ℕ → ℕ → Option ℕ → Core P W → Core P W → Setting → List (Turn Entry) → Turn Entry → Type 0
+BeginsRecv r k c deadline old new z h t =
+    BeganBy r z h t k c Recv deadline × HasLooked c (past_of h) t.entries (reads_of old) (reads_of new)
 
 -- the same of a send
-abbrev pub BeginsSend : {P W : Type 0} → (P → Kind) → Result OpName (BeginError × MessageView) → ℕ → ℕ → MessageView → Option ℕ → Core P W → Core P W → List (Turn Entry) → Turn Entry → Type 0
-BeginsSend kind r k c m deadline old new h t =
-    BeganBy (began r) (core_setting kind old) h t k c (Send (text_of m)) deadline × HasLooked c (past_of h) t.entries (reads_of old) (reads_of new)
+abbrev pub BeginsSend : {P W : Type 0} → Result OpName (BeginError × MessageView) → ℕ → ℕ → MessageView → Option ℕ → Core P W → Core P W → Setting → List (Turn Entry) → Turn Entry → Type 0
+BeginsSend r k c m deadline old new z h t =
+    BeganBy (began r) z h t k c (Send (text_of m)) deadline × HasLooked c (past_of h) t.entries (reads_of old) (reads_of new)
 
 -- a message was received at once or none was, and the core has looked at the context
-abbrev pub ReceivesNow : {P W : Type 0} → (P → Kind) → Result MessageView NowError → ℕ → ℕ → Core P W → Core P W → List (Turn Entry) → Turn Entry → Type 0
-ReceivesNow kind r k c old new h t =
-    ReceivedNow r (core_setting kind old) h t k c × HasLooked c (past_of h) t.entries (reads_of old) (reads_of new)
+abbrev pub ReceivesNow : {P W : Type 0} → Result MessageView NowError → ℕ → ℕ → Core P W → Core P W → Setting → List (Turn Entry) → Turn Entry → Type 0
+ReceivesNow r k c old new z h t =
+    ReceivedNow r z h t k c × HasLooked c (past_of h) t.entries (reads_of old) (reads_of new)
 
 -- the wire has become a pipe, or why not
-abbrev pub AttachesWire : {P W : Type 0} → (P → Kind) → (W → WireView) → Result ℕ (AttachError × W) → W → ℕ → Core P W → List (Turn Entry) → Turn Entry → Type 0
-AttachesWire kind shown r w place old h t = AttachedBy (attached r) (core_setting kind old) h t place (numbers_of (shown w).name)
+abbrev pub AttachesWire : {W : Type 0} → (W → WireView) → Result ℕ (AttachError × W) → W → ℕ → Setting → List (Turn Entry) → Turn Entry → Type 0
+AttachesWire shown r w place z h t = AttachedBy (attached r) z h t place (numbers_of (shown w).name)
 
 -- each pipe was flushed and swept, and these are the counts of what came of it
-abbrev pub ServesPipes : {P W : Type 0} → (P → Kind) → Served → Core P W → List (Turn Entry) → Turn Entry → Type 0
-ServesPipes kind r old h t =
-    IsSwept (core_setting kind old) (past_of h) t × AreFlushed (past_of h) t × IsServeTurn t × ServedBy r t × (r.up ≡ length (up (past_of (h ++ t ∷ []))))
+abbrev pub ServesPipes : Served → Setting → List (Turn Entry) → Turn Entry → Type 0
+ServesPipes r z h t =
+    IsSwept z (past_of h) t × AreFlushed (past_of h) t × IsServeTurn t × ServedBy r t × (r.up ≡ length (up (past_of (h ++ t ∷ []))))
 
 -- the context was shut, or why not
-abbrev pub ClosesCtx : {P W : Type 0} → (P → Kind) → Result (Unit {0}) CtxError → ℕ → Core P W → List (Turn Entry) → Turn Entry → Type 0
-ClosesCtx kind r c old h t = ShutBy r (core_setting kind old) h t c
+abbrev pub ClosesCtx : Result (Unit {0}) CtxError → ℕ → Setting → List (Turn Entry) → Turn Entry → Type 0
+ClosesCtx r c z h t = ShutBy r z h t c
 
 -- the topic was put on, or why not
-abbrev pub Subscribes : {P W : Type 0} → (P → Kind) → Result (Unit {0}) TopicError → ℕ → List ℕ → Core P W → List (Turn Entry) → Turn Entry → Type 0
-Subscribes kind r c b old h t = SubscribedBy r (core_setting kind old) h t c b
+abbrev pub Subscribes : Result (Unit {0}) TopicError → ℕ → List ℕ → Setting → List (Turn Entry) → Turn Entry → Type 0
+Subscribes r c b z h t = SubscribedBy r z h t c b
 
 -- the topic was taken off, or why not
-abbrev pub Unsubscribes : {P W : Type 0} → (P → Kind) → Result (Unit {0}) TopicError → ℕ → List ℕ → Core P W → List (Turn Entry) → Turn Entry → Type 0
-Unsubscribes kind r c b old h t = UnsubscribedBy r (core_setting kind old) h t c b
+abbrev pub Unsubscribes : Result (Unit {0}) TopicError → ℕ → List ℕ → Setting → List (Turn Entry) → Turn Entry → Type 0
+Unsubscribes r c b z h t = UnsubscribedBy r z h t c b
 
 -- ---- The end
 

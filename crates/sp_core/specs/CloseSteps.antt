@@ -1,5 +1,6 @@
 -- What the steps of a close lead to, within its turn.
 use Rattle.sp_base.specs.declared.OpName.{OpName}
+use Rattle.sp_core.specs.Keeping.{KeepsWords}
 use Rattle.sp_core.specs.Closing.{AreEndsOf, AreDownsOf, ClosesAt, GoesDownAs, IsCloseEnd, after}
 use Rattle.sp_core.specs.Pipes.{IsPipeAt}
 use Rattle.sp_core.specs.Owning.{Owns}
@@ -19,7 +20,7 @@ use Rattle.sp_history.specs.declared.entry.Why.TheVariants as whys
 -- every pending operation has ended, and the same pipes are up
 abbrev pub EndsAll : {P W : Type 0} → (P → Moment → Type 0) → (P → ℕ) → (W → WireView) → Core P W → Core P W → Type 0
 EndsAll ties room shown old new =
-    (t : Moment) → ClosesAt ties room shown old t → (es : List Entry) × AreEndsOf t.z.callers (pend (past t)) es × ClosesAt ties room shown new (after t es) × (pend (past (after t es)) ≡ []) × (up (past (after t es)) ≡ up (past t))
+    KeepsWords old new ((t : Moment) → ClosesAt ties room shown old t → (es : List Entry) × AreEndsOf t.z.callers (pend (past t)) es × ClosesAt ties room shown new (after t es) × (pend (past (after t es)) ≡ []) × (up (past (after t es)) ≡ up (past t)))
 
 -- the operation is pending within a turn of a close
 abbrev pub IsPendingAtClose : {P W : Type 0} → (P → Moment → Type 0) → (P → ℕ) → (W → WireView) → OpName → Core P W → Type 0
@@ -29,22 +30,22 @@ IsPendingAtClose ties room shown op old =
 -- the pending operation has ended
 abbrev pub EndsOne : {P W : Type 0} → (P → Moment → Type 0) → (P → ℕ) → (W → WireView) → OpName → Core P W → Core P W → Type 0
 EndsOne ties room shown op old new =
-    (t : Moment) (s : Begun) → ClosesAt ties room shown old t → pending (past t) op ≡ Some s → (cause : CauseType) × (by : ℕ) × IsCloseEnd t.z.callers cause by × ClosesAt ties room shown new (also t (End op (Gone cause by)))
+    KeepsWords old new ((t : Moment) (s : Begun) → ClosesAt ties room shown old t → pending (past t) op ≡ Some s → (cause : CauseType) × (by : ℕ) × IsCloseEnd t.z.callers cause by × ClosesAt ties room shown new (also t (End op (Gone cause by))))
 
 -- every pipe has gone down, and the same operations are pending
 abbrev pub TakesAllDown : {P W : Type 0} → (P → Moment → Type 0) → (P → ℕ) → (W → WireView) → Core P W → Core P W → Type 0
 TakesAllDown ties room shown old new =
-    (t : Moment) → ClosesAt ties room shown old t → (es : List Entry) × AreDownsOf (up (past t)) es × ClosesAt ties room shown new (after t es) × (up (past (after t es)) ≡ []) × (pend (past (after t es)) ≡ pend (past t))
+    KeepsWords old new ((t : Moment) → ClosesAt ties room shown old t → (es : List Entry) × AreDownsOf (up (past t)) es × ClosesAt ties room shown new (after t es) × (up (past (after t es)) ≡ []) × (pend (past (after t es)) ≡ pend (past t)))
 
 -- the first pipe was flushed and has gone down
 abbrev pub TakesFirstDown : {P W : Type 0} → (P → Moment → Type 0) → (P → ℕ) → (W → WireView) → Core P W → Core P W → Type 0
 TakesFirstDown ties room shown old new =
-    (t : Moment) → ClosesAt ties room shown old t → (p : ℕ) × (es : List Entry) × (head_of (up (past t)) ≡ Some p) × GoesDownAs p es × ClosesAt ties room shown new (after t es) × (up (past (after t es)) ≡ without (up (past t)) p) × (pend (past (after t es)) ≡ pend (past t))
+    KeepsWords old new ((t : Moment) → ClosesAt ties room shown old t → (p : ℕ) × (es : List Entry) × (head_of (up (past t)) ≡ Some p) × GoesDownAs p es × ClosesAt ties room shown new (after t es) × (up (past (after t es)) ≡ without (up (past t)) p) × (pend (past (after t es)) ≡ pend (past t)))
 
 -- the first pipe has gone down for the close
 abbrev pub TakesDown : {P W : Type 0} → (P → Moment → Type 0) → (P → ℕ) → (W → WireView) → ℕ → Core P W → Core P W → Type 0
 TakesDown ties room shown p old new =
-    (t : Moment) → ClosesAt ties room shown old t → IsPipeAt old.pipes 0 p → ClosesAt ties room shown new (also t (Down p whys.Closed))
+    KeepsWords old new ((t : Moment) → ClosesAt ties room shown old t → IsPipeAt old.pipes 0 p → ClosesAt ties room shown new (also t (Down p whys.Closed)))
 
 -- nothing is pending and no pipe is up
 abbrev pub MayShutSocket : {P W : Type 0} → (P → Moment → Type 0) → (P → ℕ) → (W → WireView) → Core P W → Type 0
@@ -54,4 +55,4 @@ MayShutSocket ties room shown old =
 -- the socket is closed, where nothing is pending and no pipe is up
 abbrev pub ShutsSocket : {P W : Type 0} → (P → Moment → Type 0) → (P → ℕ) → (W → WireView) → Core P W → Core P W → Type 0
 ShutsSocket ties room shown old new =
-    (t : Moment) → ClosesAt ties room shown old t → pend (past t) ≡ [] → up (past t) ≡ [] → Owns ties room shown [] new (also t (Close (totals (past t))))
+    KeepsWords old new ((t : Moment) → ClosesAt ties room shown old t → pend (past t) ≡ [] → up (past t) ≡ [] → Owns ties room shown [] new (also t (Close (totals (past t)))))

@@ -1,5 +1,6 @@
 -- What ticking, collecting and the immediate receive lead to, within a turn.
 use Rattle.sp_base.specs.declared.OpName.{OpName}
+use Rattle.sp_core.specs.Keeping.{AddsReads, KeepsReads, KeepsWords}
 use Rattle.sp_core.specs.Collecting.{IsOpenBefore, IsOutcomeOf, TickedTo}
 use Rattle.sp_core.specs.Immediate.{NowTo, RefusedNow, TriedTo}
 use Rattle.sp_core.specs.Moving.{Later}
@@ -25,27 +26,27 @@ use Rattle.sp_history.specs.declared.entry.Act.TheVariants as acts
 -- a slot is drawn for a receive that can be given something, or why not
 abbrev pub DrawsToReceive : {P W : Type 0} → (P → Moment → Type 0) → (P → ℕ) → (W → WireView) → Result OpName NowError → ℕ → Core P W → Core P W → Type 0
 DrawsToReceive ties room shown r c old new =
-    (t : Moment) → Owns ties room shown [] old t → MatchResult r (λ op. Owns ties room shown (op.slot ∷ []) new t × IsNext t op × CanBegin t c acts.Recv × (is_nil (kept t.z (past t) c) ≡ false)) (λ e. Owns ties room shown [] new t × RefusedNow e t.z (past t) c)
+    KeepsReads old new ((t : Moment) → Owns ties room shown [] old t → MatchResult r (λ op. Owns ties room shown (op.slot ∷ []) new t × IsNext t op × CanBegin t c acts.Recv × (is_nil (kept t.z (past t) c) ≡ false)) (λ e. Owns ties room shown [] new t × RefusedNow e t.z (past t) c))
 
 -- a message was received at once, or none can be
 abbrev pub ReceivesAtOnce : {P W : Type 0} → (P → Moment → Type 0) → (P → ℕ) → (W → WireView) → Result MessageView NowError → ℕ → Core P W → Core P W → Type 0
 ReceivesAtOnce ties room shown r c old new =
-    (t : Moment) → Owns ties room shown [] old t → IsSettled t → (u : Moment) × Owns ties room shown [] new u × IsSettled u × NowTo r c t u
+    AddsReads old new ((t : Moment) → Owns ties room shown [] old t → IsSettled t → (u : Moment) × Owns ties room shown [] new u × IsSettled u × NowTo r c t u)
 
 -- one try to receive at once
 abbrev pub TriesOnce : {P W : Type 0} → (P → Moment → Type 0) → (P → ℕ) → (W → WireView) → Result (Option MessageView) NowError → ℕ → Core P W → Core P W → Type 0
 TriesOnce ties room shown r c old new =
-    (t : Moment) → Owns ties room shown [] old t → IsSettled t → (u : Moment) × Owns ties room shown [] new u × IsSettled u × TriedTo r c t u
+    AddsReads old new ((t : Moment) → Owns ties room shown [] old t → IsSettled t → (u : Moment) × Owns ties room shown [] new u × IsSettled u × TriedTo r c t u)
 
 -- the moment comes, unless the socket is closed
 abbrev pub TicksOnce : {P W : Type 0} → (P → Moment → Type 0) → (P → ℕ) → (W → WireView) → ℕ → List OpName → List OpName → Core P W → Core P W → Type 0
 TicksOnce ties room shown now names more old new =
-    (t : Moment) → Owns ties room shown [] old t → NoFlood t → TickedTo (Owns ties room shown [] new) t now names more
+    KeepsWords old new ((t : Moment) → Owns ties room shown [] old t → NoFlood t → TickedTo (Owns ties room shown [] new) t now names more)
 
 -- the operation has ended and was not collected
 abbrev pub FindsEnd : {P W : Type 0} → (P → Moment → Type 0) → (P → ℕ) → (W → WireView) → OpName → Core P W → Core P W → Type 0
 FindsEnd ties room shown op old new =
-    (t : Moment) (k : ℕ) → Owns ties room shown [] old t → IsOpenBefore k op (past t) → (u : Moment) × Later t u × Owns ties room shown [] new u × (is_uncollected (past u) op ≡ true)
+    KeepsWords old new ((t : Moment) (k : ℕ) → Owns ties room shown [] old t → IsOpenBefore k op (past t) → (u : Moment) × Later t u × Owns ties room shown [] new u × (is_uncollected (past u) op ≡ true))
 
 -- the operation is pending
 abbrev pub IsPendingIn : {P W : Type 0} → (P → Moment → Type 0) → (P → ℕ) → (W → WireView) → OpName → Core P W → Type 0
@@ -55,9 +56,9 @@ IsPendingIn ties room shown op old =
 -- an end of the operation is recorded
 abbrev pub NotesFound : {P W : Type 0} → (P → Moment → Type 0) → (P → ℕ) → (W → WireView) → OpName → Core P W → Core P W → Type 0
 NotesFound ties room shown op old new =
-    (t : Moment) (s : Begun) → Owns ties room shown [] old t → pending (past t) op ≡ Some s → (ending : Ending) × Owns ties room shown [] new (also t (End op ending))
+    KeepsWords old new ((t : Moment) (s : Begun) → Owns ties room shown [] old t → pending (past t) op ≡ Some s → (ending : Ending) × Owns ties room shown [] new (also t (End op ending)))
 
 -- what the operation came to is taken
 abbrev pub TakesEnded : {P W : Type 0} → (P → Moment → Type 0) → (P → ℕ) → (W → WireView) → Outcome → OpName → Core P W → Core P W → Type 0
 TakesEnded ties room shown r op old new =
-    (t : Moment) → Owns ties room shown [] old t → IsOpenBefore t.caller op (past t) → is_uncollected (past t) op ≡ true → Owns ties room shown [] new (also t (Took op t.caller)) × ((e : Ended) × IsOutcomeOf e op (past t) r)
+    KeepsReads old new ((t : Moment) → Owns ties room shown [] old t → IsOpenBefore t.caller op (past t) → is_uncollected (past t) op ≡ true → Owns ties room shown [] new (also t (Took op t.caller)) × ((e : Ended) × IsOutcomeOf e op (past t) r))

@@ -1,4 +1,5 @@
 -- What the calls of contexts lead to, within a turn.
+use Rattle.sp_core.specs.Keeping.{KeepsWords}
 use Rattle.sp_core.specs.Closing.{ClosesAt, after}
 use Rattle.sp_core.specs.Contexts.{AreCtxEnds, IsShutting, MayOpen, MayShut, MaySwitch, RefusedOpen, RefusedShut, RefusedTopic, ShutOne, SwitchedTo}
 use Rattle.sp_core.specs.Owning.{Owns}
@@ -19,7 +20,7 @@ use Rattle.sp_history.specs.declared.entry.Gate.TheVariants as gate
 -- a context was opened, or why not
 abbrev pub OpensOne : {P W : Type 0} → (P → Moment → Type 0) → (P → ℕ) → (W → WireView) → Result ℕ CtxError → Core P W → Core P W → Type 0
 OpensOne ties room shown r old new =
-    (t : Moment) → Owns ties room shown [] old t → MatchResult r (λ c. (c ≡ opened (past t) + 1) × MayOpen t.z (past t) × Owns ties room shown [] new (also t (entries.Ctx c gate.Open))) (λ e. RefusedOpen e t.z (past t) × Owns ties room shown [] new t)
+    KeepsWords old new ((t : Moment) → Owns ties room shown [] old t → MatchResult r (λ c. (c ≡ opened (past t) + 1) × MayOpen t.z (past t) × Owns ties room shown [] new (also t (entries.Ctx c gate.Open))) (λ e. RefusedOpen e t.z (past t) × Owns ties room shown [] new t))
 
 -- whether a context may be opened, or why not
 abbrev pub TellsMayOpen : {P W : Type 0} → (P → Moment → Type 0) → (P → ℕ) → (W → WireView) → Option CtxError → Core P W → Type 0
@@ -29,7 +30,7 @@ TellsMayOpen ties room shown r x =
 -- the context was shut, or why not
 abbrev pub ShutsOne : {P W : Type 0} → (P → Moment → Type 0) → (P → ℕ) → (W → WireView) → Result (Unit {0}) CtxError → ℕ → Core P W → Core P W → Type 0
 ShutsOne ties room shown r c old new =
-    (t : Moment) → Owns ties room shown [] old t → MatchResult r (λ _. ShutOne (Owns ties room shown [] new) t c) (λ e. RefusedShut e t.z (past t) c × Owns ties room shown [] new t)
+    KeepsWords old new ((t : Moment) → Owns ties room shown [] old t → MatchResult r (λ _. ShutOne (Owns ties room shown [] new) t c) (λ e. RefusedShut e t.z (past t) c × Owns ties room shown [] new t))
 
 -- whether the context may be shut, or why not
 abbrev pub TellsMayShut : {P W : Type 0} → (P → Moment → Type 0) → (P → ℕ) → (W → WireView) → Option CtxError → ℕ → Core P W → Type 0
@@ -39,7 +40,7 @@ TellsMayShut ties room shown r c x =
 -- what was pending on the context has ended
 abbrev pub EndsOn : {P W : Type 0} → (P → Moment → Type 0) → (P → ℕ) → (W → WireView) → ℕ → Core P W → Core P W → Type 0
 EndsOn ties room shown c old new =
-    (t : Moment) → ClosesAt ties room shown old t → IsShutting t t c → (es : List Entry) × AreCtxEnds t.z.callers c (past t) es × IsShutting t (after t es) c × (is_pending_on (past (after t es)) c ≡ false) × ClosesAt ties room shown new (after t es)
+    KeepsWords old new ((t : Moment) → ClosesAt ties room shown old t → IsShutting t t c → (es : List Entry) × AreCtxEnds t.z.callers c (past t) es × IsShutting t (after t es) c × (is_pending_on (past (after t es)) c ≡ false) × ClosesAt ties room shown new (after t es))
 
 -- whether topics of the context may change, or why not
 abbrev pub TellsMaySwitch : {P W : Type 0} → (P → Moment → Type 0) → (P → ℕ) → (W → WireView) → Option TopicError → ℕ → Core P W → Type 0
@@ -49,7 +50,7 @@ TellsMaySwitch ties room shown r c x =
 -- the topic is on or off, or why not
 abbrev pub SwitchesTopic : {P W : Type 0} → (P → Moment → Type 0) → (P → ℕ) → (W → WireView) → Result Bool TopicError → ℕ → List ℕ → Bool → Core P W → Core P W → Type 0
 SwitchesTopic ties room shown r c b on old new =
-    (t : Moment) → Owns ties room shown [] old t → SwitchedTo (Owns ties room shown [] new) r t c b on
+    KeepsWords old new ((t : Moment) → Owns ties room shown [] old t → SwitchedTo (Owns ties room shown [] new) r t c b on)
 
 -- whether the context is open, of a socket that has contexts
 abbrev pub TellsOpen : {P W : Type 0} → (P → Moment → Type 0) → (P → ℕ) → (W → WireView) → Bool → ℕ → Core P W → Type 0

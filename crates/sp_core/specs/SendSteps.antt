@@ -1,7 +1,10 @@
 -- What giving and sending lead to, within a turn.
 use Rattle.sp_base.specs.declared.OpName.{OpName}
+use Rattle.sp_core.specs.Keeping.{KeepsReads}
 use Rattle.sp_core.specs.Flooding.{AnsweredAt, SpreadTo, Spreads}
+use Rattle.sp_core.specs.Cores.{words_of}
 use Rattle.sp_core.specs.Immediate.{IsGiven}
+use Rattle.sp_core.specs.Looking.{reads_of}
 use Rattle.sp_core.specs.Pipes.{IsPipeAt, IsReadyAt}
 use Rattle.sp_core.specs.Moving.{Later}
 use Rattle.sp_core.specs.Owning.{Owns}
@@ -39,10 +42,12 @@ abbrev pub MaySendAgainAt : {P W : Type 0} → (P → Moment → Type 0) → (P 
 MaySendAgainAt ties room shown c pipe i old =
     (t : Moment) × (r : Request) × Owns ties room shown [] old t × CanAgain t c pipe r × IsPipeAt old.pipes i pipe × IsReadyAt shown old.pipes i
 
--- the request went out again, or there was no memory for its copy
-abbrev pub SendsAgainAt : {P W : Type 0} → (P → Moment → Type 0) → (P → ℕ) → (W → WireView) → ℕ → ℕ → ℕ → Core P W → Core P W → Type 0
-SendsAgainAt ties room shown c pipe i old new =
-    (t : Moment) (r : Request) → Owns ties room shown [] old t → CanAgain t c pipe r → IsPipeAt old.pipes i pipe → (u : Moment) × Later t u × Owns ties room shown [] new u
+-- the request went out again, or there was no memory for its copy, and less is left to be done
+pub record SendsAgainAt {P W : Type 0} (ties : P → Moment → Type 0) (room measure : P → ℕ) (shown : W → WireView) (c pipe i : ℕ) (old new : Core P W) : Type 0 where
+  pub later : (t : Moment) (r : Request) → Owns ties room shown [] old t → CanAgain t c pipe r → IsPipeAt old.pipes i pipe → (u : Moment) × Later t u × Owns ties room shown [] new u
+  pub left : measure new.proto < measure old.proto
+  pub words : words_of new ≡ words_of old
+  pub reads : reads_of new ≡ reads_of old
 
 -- this is the copy of the send for the pipe
 abbrev pub CopiesFor : {P : Type 0} → (P → Moment → Type 0) → MessageView → P → P → OpName → ℕ → Type 0
@@ -62,7 +67,7 @@ MaySpread ties room shown copies op old =
 -- each pipe that the send may go to has answered
 abbrev pub SpreadsAll : {P W : Type 0} → (P → Moment → Type 0) → (P → ℕ) → (W → WireView) → OpName → Core P W → Core P W → Type 0
 SpreadsAll ties room shown op old new =
-    (t : Moment) (s : Begun) (b : List ℕ) → Spreads ties room shown old t op s b → (u : Moment) × SpreadTo t u s b [] × Spreads ties room shown new u op s b
+    KeepsReads old new ((t : Moment) (s : Begun) (b : List ℕ) → Spreads ties room shown old t op s b → (u : Moment) × SpreadTo t u s b [] × Spreads ties room shown new u op s b)
 
 -- a copy is left for the pipe at this place
 abbrev pub MaySpreadAt : {P W : Type 0} → (P → Moment → Type 0) → (P → ℕ) → (W → WireView) → (P → OpName → ℕ) → OpName → ℕ → ℕ → Core P W → Type 0
@@ -72,7 +77,7 @@ MaySpreadAt ties room shown copies op p i old =
 -- the pipe at this place has answered, if the send may go there
 abbrev pub SpreadsAt : {P W : Type 0} → (P → Moment → Type 0) → (P → ℕ) → (W → WireView) → OpName → ℕ → ℕ → Core P W → Core P W → Type 0
 SpreadsAt ties room shown op p i old new =
-    (t : Moment) (s : Begun) (b : List ℕ) → Spreads ties room shown old t op s b → IsPipeAt old.pipes i p → (u : Moment) × AnsweredAt t u s b p × Spreads ties room shown new u op s b
+    KeepsReads old new ((t : Moment) (s : Begun) (b : List ℕ) → Spreads ties room shown old t op s b → IsPipeAt old.pipes i p → (u : Moment) × AnsweredAt t u s b p × Spreads ties room shown new u op s b)
 
 -- the send may go to the pipe at this place, which has room
 abbrev pub MayPutCopy : {P W : Type 0} → (P → Moment → Type 0) → (P → ℕ) → (W → WireView) → (P → OpName → ℕ) → OpName → ℕ → ℕ → Core P W → Type 0
@@ -82,4 +87,4 @@ MayPutCopy ties room shown copies op p i old =
 -- the copy was put on the pipe at this place
 abbrev pub PutsCopy : {P W : Type 0} → (P → Moment → Type 0) → (P → ℕ) → (W → WireView) → OpName → ℕ → ℕ → Core P W → Core P W → Type 0
 PutsCopy ties room shown op p i old new =
-    (t : Moment) (s : Begun) (b : List ℕ) → Spreads ties room shown old t op s b → has (targets t.z (past t) s) p ≡ true → IsPipeAt old.pipes i p → (u : Moment) × AnsweredAt t u s b p × Spreads ties room shown new u op s b
+    KeepsReads old new ((t : Moment) (s : Begun) (b : List ℕ) → Spreads ties room shown old t op s b → has (targets t.z (past t) s) p ≡ true → IsPipeAt old.pipes i p → (u : Moment) × AnsweredAt t u s b p × Spreads ties room shown new u op s b)

@@ -1,4 +1,5 @@
 -- What bringing a pipe up and serving the pipes lead to, within a turn.
+use Rattle.sp_core.specs.Keeping.{KeepsWords}
 use Rattle.sp_core.specs.Attaching.{MayAttach, RefusedAttach}
 use Rattle.sp_core.specs.Pipes.{PipesStand, IsPipeAt}
 use Rattle.sp_core.specs.Owning.{Owns}
@@ -21,7 +22,7 @@ use Rattle.std.specs.Prelude.{Bool, MatchOption, MatchResult, None, Option, Resu
 -- the wire has become a pipe, or why not
 abbrev pub BringsUp : {P W : Type 0} → (P → Moment → Type 0) → (P → ℕ) → (W → WireView) → Result ℕ (AttachError × W) → W → Core P W → Core P W → Type 0
 BringsUp ties room shown r w old new =
-    (t : Moment) (place : ℕ) → Owns ties room shown [] old t → NoFlood t → MatchResult r (λ p. (p ≡ ups (past t) + 1) × MayAttach t.z (past t) × Owns ties room shown [] new (also t (Up p place (record { numbers = numbers_of (shown w).name })))) (λ e. RefusedAttach e.0 t.z (past t) × Owns ties room shown [] new t)
+    KeepsWords old new ((t : Moment) (place : ℕ) → Owns ties room shown [] old t → NoFlood t → MatchResult r (λ p. (p ≡ ups (past t) + 1) × MayAttach t.z (past t) × Owns ties room shown [] new (also t (Up p place (record { numbers = numbers_of (shown w).name })))) (λ e. RefusedAttach e.0 t.z (past t) × Owns ties room shown [] new t))
 
 -- whether a pipe may come up, or why not
 abbrev pub TellsMayAttach : {P W : Type 0} → (P → Moment → Type 0) → (P → ℕ) → (W → WireView) → Option AttachError → Core P W → Type 0
@@ -36,7 +37,7 @@ LeavesNumbers r x =
 -- the pipe at this place was flushed
 abbrev pub FlushesPipe : {P W : Type 0} → (P → Moment → Type 0) → (P → ℕ) → (W → WireView) → Flushed → ℕ → ℕ → Core P W → Core P W → Type 0
 FlushesPipe ties room shown r i p old new =
-    (t : Moment) → Owns ties room shown [] old t → IsPipeAt old.pipes i p → (u : Moment) × FlushTold r p t u × Owns ties room shown [] new u
+    KeepsWords old new ((t : Moment) → Owns ties room shown [] old t → IsPipeAt old.pipes i p → (u : Moment) × FlushTold r p t u × Owns ties room shown [] new u)
 
 -- this frame of the pipe at this place was pulled, and is not recorded
 abbrev pub MayTakeFrame : {P W : Type 0} → (P → Moment → Type 0) → (P → ℕ) → (W → WireView) → ℕ → ℕ → MessageView → Core P W → Type 0
@@ -46,7 +47,7 @@ MayTakeFrame {W = W} ties room shown i p m old =
 -- the frame is recorded and what came of it
 abbrev pub TakesFrame : {P W : Type 0} → (P → Moment → Type 0) → (P → ℕ) → (W → WireView) → Got → ℕ → ℕ → MessageView → Core P W → Core P W → Type 0
 TakesFrame {W = W} ties room shown r i p m old new =
-    (l : PipesType W) (t : Moment) → Owns ties room shown [] (record old { pipes = l }) t → PipesStand shown old.pipes (also t (Frame p m.body)) → IsPipeAt old.pipes i p → wanted t.z (past t) p ≡ true → (u : Moment) × GotTo r p t u × Owns ties room shown [] new u
+    KeepsWords old new ((l : PipesType W) (t : Moment) → Owns ties room shown [] (record old { pipes = l }) t → PipesStand shown old.pipes (also t (Frame p m.body)) → IsPipeAt old.pipes i p → wanted t.z (past t) p ≡ true → (u : Moment) × GotTo r p t u × Owns ties room shown [] new u)
 
 -- frames of the pipe at this place are wanted
 abbrev pub MayPull : {P W : Type 0} → (P → Moment → Type 0) → (P → ℕ) → (W → WireView) → ℕ → ℕ → Core P W → Type 0
@@ -56,7 +57,7 @@ MayPull ties room shown i p old =
 -- the pipe at this place was pulled from once
 abbrev pub PullsOnce : {P W : Type 0} → (P → Moment → Type 0) → (P → ℕ) → (W → WireView) → Got → ℕ → ℕ → Core P W → Core P W → Type 0
 PullsOnce ties room shown r i p old new =
-    (t : Moment) → Owns ties room shown [] old t → IsPipeAt old.pipes i p → wanted t.z (past t) p ≡ true → (u : Moment) × GotTo r p t u × Owns ties room shown [] new u
+    KeepsWords old new ((t : Moment) → Owns ties room shown [] old t → IsPipeAt old.pipes i p → wanted t.z (past t) p ≡ true → (u : Moment) × GotTo r p t u × Owns ties room shown [] new u)
 
 -- the pipe at this place was not pulled from in this turn
 abbrev pub MayPullAll : {P W : Type 0} → (P → Moment → Type 0) → (P → ℕ) → (W → WireView) → ℕ → ℕ → Core P W → Type 0
@@ -66,7 +67,7 @@ MayPullAll ties room shown i p old =
 -- the pipe at this place was pulled from until it was served
 abbrev pub PullsPipe : {P W : Type 0} → (P → Moment → Type 0) → (P → ℕ) → (W → WireView) → Bool → ℕ → ℕ → Core P W → Core P W → Type 0
 PullsPipe ties room shown r i p old new =
-    (t : Moment) → Owns ties room shown [] old t → IsPipeAt old.pipes i p → IsUnpulled t p → IsReady t p → (u : Moment) × PulledAll r p t u × Owns ties room shown [] new u
+    KeepsWords old new ((t : Moment) → Owns ties room shown [] old t → IsPipeAt old.pipes i p → IsUnpulled t p → IsReady t p → (u : Moment) × PulledAll r p t u × Owns ties room shown [] new u)
 
 -- nothing of this turn concerns the pipe at this place
 abbrev pub MayServe : {P W : Type 0} → (P → Moment → Type 0) → (P → ℕ) → (W → WireView) → ℕ → Core P W → Type 0
@@ -76,9 +77,9 @@ MayServe ties room shown i old =
 -- the pipe at this place was flushed and served
 abbrev pub ServesPipe : {P W : Type 0} → (P → Moment → Type 0) → (P → ℕ) → (W → WireView) → Visit → ℕ → Core P W → Core P W → Type 0
 ServesPipe ties room shown r i old new =
-    (t : Moment) (p : ℕ) → Owns ties room shown [] old t → IsPipeAt old.pipes i p → IsFresh t p → (u : Moment) × VisitedTo r p t u × Owns ties room shown [] new u
+    KeepsWords old new ((t : Moment) (p : ℕ) → Owns ties room shown [] old t → IsPipeAt old.pipes i p → IsFresh t p → (u : Moment) × VisitedTo r p t u × Owns ties room shown [] new u)
 
 -- every pipe was flushed and served
 abbrev pub ServesAll : {P W : Type 0} → (P → Moment → Type 0) → (P → ℕ) → (W → WireView) → ℕ → Core P W → Core P W → Type 0
 ServesAll ties room shown r old new =
-    (t : Moment) → Owns ties room shown [] old t → t.turn ≡ [] → (u : Moment) × SweptTo (length (up (past u))) r t u × Owns ties room shown [] new u
+    KeepsWords old new ((t : Moment) → Owns ties room shown [] old t → t.turn ≡ [] → (u : Moment) × SweptTo (length (up (past u))) r t u × Owns ties room shown [] new u)

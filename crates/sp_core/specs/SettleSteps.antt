@@ -1,27 +1,43 @@
 -- What settling leads to, within a turn.
-use Rattle.std.specs.Prelude.{ℕ, []}
+use Rattle.std.specs.Prelude.{ℕ, [], ◌≡◌, ◌<◌}
 use Rattle.sp_msg.specs.Views.{WireView}
 use Rattle.sp_history.specs.Moments.{Moment, past}
 use Rattle.sp_pending.specs.declared.pending.Pending.{Pending}
 use Rattle.sp_core.specs.declared.owner.Core.{Core}
-use Rattle.sp_core.specs.Looking.{HasLooked, FoundOf, reads_of}
+use Rattle.sp_core.specs.Cores.{words_of}
+use Rattle.sp_core.specs.Looking.{Grows, HasLooked, FoundOf, reads_of}
 use Rattle.sp_core.specs.Moving.{Later}
 use Rattle.sp_core.specs.Owning.{Owns}
+use Rattle.sp_core.specs.Standing.{IsSettled}
 
--- from each moment to a later one, of which this is so
-abbrev pub SettlesTo : {P W : Type 0} → (P → Moment → Type 0) → (P → ℕ) → (W → WireView) → Core P W → Core P W → (Moment → Moment → Type 0) → Type 0
-SettlesTo ties room shown old new fact =
-    (t : Moment) → Owns ties room shown [] old t → (u : Moment) × Later t u × Owns ties room shown [] new u × fact t u
+-- the core stands for a moment of a turn
+abbrev pub MaySettle : {P W : Type 0} → (P → Moment → Type 0) → (P → ℕ) → (W → WireView) → Core P W → Type 0
+MaySettle ties room shown old = (t : Moment) × Owns ties room shown [] old t
 
--- from each moment at which this can be done to a later one
-abbrev pub SettlesBy : {P W A : Type 0} → (P → Moment → Type 0) → (P → ℕ) → (W → WireView) → Core P W → Core P W → (Moment → A → Type 0) → Type 0
-SettlesBy {A = A} ties room shown old new can =
-    (t : Moment) (x : A) → Owns ties room shown [] old t → can t x → (u : Moment) × Later t u × Owns ties room shown [] new u
+-- from each moment to a later one, of which this is so, on the same words
+pub record SettlesTo {P W : Type 0} (ties : P → Moment → Type 0) (room : P → ℕ) (shown : W → WireView) (old new : Core P W) (fact : Moment → Moment → Type 0) : Type 0 where
+  pub later : (t : Moment) → Owns ties room shown [] old t → (u : Moment) × Later t u × Owns ties room shown [] new u × fact t u
+  pub words : words_of new ≡ words_of old
+
+-- from each moment to a later one at which nothing is left to be done
+pub record Settles {P W : Type 0} (ties : P → Moment → Type 0) (room : P → ℕ) (shown : W → WireView) (old new : Core P W) : Type 0 where
+  pub later : (t : Moment) → Owns ties room shown [] old t → (u : Moment) × Later t u × Owns ties room shown [] new u × IsSettled u
+  pub words : words_of new ≡ words_of old
+  pub reads : Grows (reads_of old) (reads_of new)
+
+-- from each moment at which this can be done to a later one at which less is left to be done
+pub record SettlesBy {P W A : Type 0} (ties : P → Moment → Type 0) (room measure : P → ℕ) (shown : W → WireView) (old new : Core P W) (can : Moment → A → Type 0) : Type 0 where
+  pub later : (t : Moment) (x : A) → Owns ties room shown [] old t → can t x → (u : Moment) × Later t u × Owns ties room shown [] new u
+  pub left : measure new.proto < measure old.proto
+  pub words : words_of new ≡ words_of old
+  pub reads : Grows (reads_of old) (reads_of new)
 
 -- the same, of an operation and what it gets or sends
-abbrev pub SettlesByBoth : {P W A B : Type 0} → (P → Moment → Type 0) → (P → ℕ) → (W → WireView) → Core P W → Core P W → (Moment → A → B → Type 0) → Type 0
-SettlesByBoth {A = A} {B = B} ties room shown old new can =
-    (t : Moment) (x : A) (y : B) → Owns ties room shown [] old t → can t x y → (u : Moment) × Later t u × Owns ties room shown [] new u
+pub record SettlesByBoth {P W A B : Type 0} (ties : P → Moment → Type 0) (room measure : P → ℕ) (shown : W → WireView) (old new : Core P W) (can : Moment → A → B → Type 0) : Type 0 where
+  pub later : (t : Moment) (x : A) (y : B) → Owns ties room shown [] old t → can t x y → (u : Moment) × Later t u × Owns ties room shown [] new u
+  pub left : measure new.proto < measure old.proto
+  pub words : words_of new ≡ words_of old
+  pub reads : Grows (reads_of old) (reads_of new)
 
 -- what was pending on the context has ended, or was read as pending
 abbrev pub LooksOn : {P W : Type 0} → ℕ → Core P W → Core P W → Moment → Moment → Type 0

@@ -9,12 +9,10 @@ ghost use Rattle.sp_proto.specs.Machines.{NoFlood};
 ghost use Rattle.sp_core.specs.Wires.{IsUnused};
 ghost use Rattle.sp_core.specs.Errors.{attach_number};
 ghost use Rattle.sp_core.specs.Owning.{Owns};
-ghost use Rattle.sp_core.specs.Standing.{HasFirst, core_setting};
+ghost use Rattle.sp_core.specs.Standing.{HasFirst};
 ghost use Rattle.sp_core.specs.Attaching.{NotesLink, TookWire};
 ghost use Rattle.sp_core.specs.ServeSteps.{BringsUp, TellsMayAttach, LeavesNumbers};
-ghost use Rattle.turn_lock.specs.Turning.{TakesTurn};
-ghost use Rattle.sp_core.specs.CallSays.{MayTakeTurn, AttachesWire};
-ghost use Rattle.sp_core.specs.Cores.{words_of};
+ghost use Rattle.sp_core.specs.CallSays.{MayTakeTurn, AttachesWire, TakesOneTurn};
 
 use crate::owner::Core;
 use crate::pipes::DownPipe;
@@ -80,8 +78,7 @@ impl<P: Proto, W: Wire> Core<P, W> {
     ) -> Result<PipeId, (AttachError, W)>
         requires turn { MayTakeTurn ⟦<Core<P, W> as Stands>⟧.stands self.old k }
         requires unused { IsUnused (W.shown w) }
-        ensures turn { TakesTurn ⟦<Core<P, W> as Stands>⟧.stands self.old self.new k (AttachesWire P.kind W.shown result w place self.old) }
-        ensures label { ⟦<Core<P, W> as Stands>⟧.label self.new ≡ ⟦<Core<P, W> as Stands>⟧.label self.old }
+        ensures turn { TakesOneTurn P.ties P.room P.kind W.shown self.old self.new k (AttachesWire W.shown result w place) }
         ensures handed_back { IfErr result (λ e. e.1 ≡ w) }
     {
         self.begin_turn();
@@ -93,8 +90,7 @@ impl<P: Proto, W: Wire> Core<P, W> {
     /// The net handed out the link with this place. Also after the close. Takes no memory.
     pub fn met<R: Wait>(&mut self, rt: &R, k: u32, place: u32)
         requires turn { MayTakeTurn ⟦<Core<P, W> as Stands>⟧.stands self.old k }
-        ensures turn { TakesTurn ⟦<Core<P, W> as Stands>⟧.stands self.old self.new k (λ h t. HasFirst (Met place) t) }
-        ensures label { ⟦<Core<P, W> as Stands>⟧.label self.new ≡ ⟦<Core<P, W> as Stands>⟧.label self.old }
+        ensures { TakesOneTurn P.ties P.room P.kind W.shown self.old self.new k (λ z h t. HasFirst (Met place) t) }
     {
         self.note_link(rt, k);
     }
@@ -102,8 +98,7 @@ impl<P: Proto, W: Wire> Core<P, W> {
     /// The link with this place was given back without having become a pipe. Also after the close. Takes no memory.
     pub fn missed<R: Wait>(&mut self, rt: &R, k: u32, place: u32, miss: Miss)
         requires turn { MayTakeTurn ⟦<Core<P, W> as Stands>⟧.stands self.old k }
-        ensures turn { TakesTurn ⟦<Core<P, W> as Stands>⟧.stands self.old self.new k (λ h t. HasFirst (NoUp place miss) t) }
-        ensures label { ⟦<Core<P, W> as Stands>⟧.label self.new ≡ ⟦<Core<P, W> as Stands>⟧.label self.old }
+        ensures { TakesOneTurn P.ties P.room P.kind W.shown self.old self.new k (λ z h t. HasFirst (NoUp place miss) t) }
     {
         self.note_link(rt, k);
     }
@@ -122,8 +117,7 @@ impl<P: Proto, W: Wire> Core<P, W> {
     /// after the close. Takes no memory.
     pub fn take_ended<R: Wait>(&mut self, rt: &R, k: u32) -> Option<Gone<W>>
         requires turn { MayTakeTurn ⟦<Core<P, W> as Stands>⟧.stands self.old k }
-        ensures turn { TakesTurn ⟦<Core<P, W> as Stands>⟧.stands self.old self.new k (TookWire W.shown result (core_setting P.kind self.old)) }
-        ensures label { ⟦<Core<P, W> as Stands>⟧.label self.new ≡ ⟦<Core<P, W> as Stands>⟧.label self.old }
+        ensures { TakesOneTurn P.ties P.room P.kind W.shown self.old self.new k (TookWire W.shown result) }
     {
         self.begin_turn();
         let taken = self.pipes.take_first();
@@ -143,7 +137,6 @@ impl<P: Proto, W: Wire> Core<P, W> {
         requires owns { (t : Moment) × Owns P.ties P.room W.shown [] self.old t × NoFlood t }
         requires unused { IsUnused (W.shown w) }
         ensures up { BringsUp P.ties P.room W.shown result w self.old self.new }
-        ensures words { words_of self.new ≡ words_of self.old }
         ensures handed_back { IfErr result (λ e. e.1 ≡ w) }
     {
         if let Some(e) = self.why_not() {

@@ -5,13 +5,11 @@
 ghost use Rattle.std.specs.Prelude.{◌≡◌, []};
 ghost use Rattle.sp_history.specs.Moments.{Moment};
 ghost use Rattle.sp_core.specs.Errors.{now_number};
-ghost use Rattle.sp_core.specs.Looking.{Grows, reads_of};
 ghost use Rattle.sp_core.specs.Owning.{Owns};
 ghost use Rattle.sp_core.specs.Standing.{IsSettled};
+ghost use Rattle.sp_core.specs.BeginSteps.{MayDraw};
 ghost use Rattle.sp_core.specs.CollectSteps.{DrawsToReceive, ReceivesAtOnce, TriesOnce};
-ghost use Rattle.turn_lock.specs.Turning.{TakesTurn};
-ghost use Rattle.sp_core.specs.CallSays.{MayTakeTurn, ReceivesNow};
-ghost use Rattle.sp_core.specs.Cores.{words_of};
+ghost use Rattle.sp_core.specs.CallSays.{MayTakeTurn, ReceivesNow, TakesOneTurn};
 
 use crate::ops::{BeginError, Outcome};
 use crate::owner::Core;
@@ -47,8 +45,7 @@ impl<P: Proto, W: Wire> Core<P, W> {
     /// collected in one turn. Refused as `begin_recv` is, and then where nothing is kept. Takes no memory.
     pub fn try_recv<R: Wait>(&mut self, rt: &R, k: u32, c: Ctx) -> Result<Message, NowError>
         requires turn { MayTakeTurn ⟦<Core<P, W> as Stands>⟧.stands self.old k }
-        ensures turn { TakesTurn ⟦<Core<P, W> as Stands>⟧.stands self.old self.new k (ReceivesNow P.kind result k c self.old self.new) }
-        ensures label { ⟦<Core<P, W> as Stands>⟧.label self.new ≡ ⟦<Core<P, W> as Stands>⟧.label self.old }
+        ensures { TakesOneTurn P.ties P.room P.kind W.shown self.old self.new k (ReceivesNow result k c self.old self.new) }
     {
         self.open_turn(rt, k, c);
         self.receive_now(rt, c)
@@ -57,9 +54,7 @@ impl<P: Proto, W: Wire> Core<P, W> {
     // Tries until a message is received, or none can be. The turn is settled before and after.
     fn receive_now<R: Wait>(&mut self, rt: &R, c: Ctx) -> Result<Message, NowError>
         requires { (t : Moment) × Owns P.ties P.room W.shown [] self.old t × IsSettled t }
-        ensures received { ReceivesAtOnce P.ties P.room W.shown result c self.old self.new }
-        ensures words { words_of self.new ≡ words_of self.old }
-        ensures reads { Grows (reads_of self.old) (reads_of self.new) }
+        ensures { ReceivesAtOnce P.ties P.room W.shown result c self.old self.new }
     {
         for _ in rt.forever() {
             match self.try_once(rt, c) {
@@ -74,9 +69,7 @@ impl<P: Proto, W: Wire> Core<P, W> {
     // One try: none where a caller ended the receive first.
     fn try_once<R: Wait>(&mut self, rt: &R, c: Ctx) -> Result<Option<Message>, NowError>
         requires { (t : Moment) × Owns P.ties P.room W.shown [] self.old t × IsSettled t }
-        ensures tried { TriesOnce P.ties P.room W.shown result c self.old self.new }
-        ensures words { words_of self.new ≡ words_of self.old }
-        ensures reads { Grows (reads_of self.old) (reads_of self.new) }
+        ensures { TriesOnce P.ties P.room W.shown result c self.old self.new }
     {
         let op = match self.draw_to_receive(c) {
             Err(e) => return Err(e),
@@ -102,10 +95,8 @@ impl<P: Proto, W: Wire> Core<P, W> {
 
     // Draws a slot for a receive that can be given something at once.
     fn draw_to_receive(&mut self, c: Ctx) -> Result<OpName, NowError>
-        requires { (t : Moment) × Owns P.ties P.room W.shown [] self.old t }
-        ensures drawn { DrawsToReceive P.ties P.room W.shown result c self.old self.new }
-        ensures words { words_of self.new ≡ words_of self.old }
-        ensures reads { reads_of self.new ≡ reads_of self.old }
+        requires { MayDraw P.ties P.room W.shown self.old }
+        ensures { DrawsToReceive P.ties P.room W.shown result c self.old self.new }
     {
         if let Err(e) = self.may_begin(c, Verb::Recv) {
             return Err(NowError::Begin(e));

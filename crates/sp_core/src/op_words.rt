@@ -1,6 +1,5 @@
 //! The words of the operations, and the core's seat.
 ghost use Rattle.std.specs.Prelude.{◌≡◌, ◌<◌};
-ghost use Rattle.sp_history.specs.Past.{pending};
 ghost use Rattle.sp_history.specs.Moments.{Moment, Lawful};
 ghost use Rattle.sp_proto.specs.Machines.{IsFinish};
 ghost use Rattle.sp_core.specs.Ends.{phase_for};
@@ -74,9 +73,8 @@ impl OpWords {
     /// Begins the operation, which is its slot's next.
     pub fn begin(&mut self, op: OpName)
         requires { (t : Moment) × Lawful t × OpWordsStand self.old t × IsNext t op }
-        ensures words { self.new.words ≡ self.old.words }
         ensures begun { BeginsWord op self.old self.new }
-        ensures reads { self.new.seat.view.reads ≡ self.old.seat.view.reads }
+        ensures same { (self.new.words ≡ self.old.words) × (self.new.seat.view.reads ≡ self.old.seat.view.reads) }
     {
         if self.words.begin(&mut self.seat, op.slot).is_err() {
             unreachable!()
@@ -119,8 +117,7 @@ impl OpWords {
 
     /// Ends the pending operation for this cause, its request's end, unless a caller ended it.
     pub fn finish(&mut self, op: OpName, cause: Cause) -> Decision
-        requires pending { HasPending self.old op }
-        requires cause { IsFinish cause }
+        requires { HasPending self.old op × IsFinish cause }
         ensures words { self.new.words ≡ self.old.words }
         ensures finished { WherePending self.old op (λ t. FinishedAs cause result op t self.new) }
         ensures reads { Grows self.old.seat.view.reads self.new.seat.view.reads }
@@ -137,9 +134,8 @@ impl OpWords {
     /// How a caller ended the pending operation, or none where it is pending still.
     pub fn look(&mut self, op: OpName) -> Option<Decision>
         requires { HasPending self.old op }
-        ensures words { self.new.words ≡ self.old.words }
         ensures looked { WherePending self.old op (λ t. LookedAs result op t self.new) }
-        ensures reads { LookReads result op self.old.seat.view.reads self.new.seat.view.reads }
+        ensures reads { (self.new.words ≡ self.old.words) × LookReads result op self.old.seat.view.reads self.new.seat.view.reads }
     {
         let look = self.words.look(&mut self.seat, op);
         gone(look.phase, look.by)

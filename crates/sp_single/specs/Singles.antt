@@ -85,7 +85,7 @@ abbrev pub AreUncancelled : List Entry → Type 0
 AreUncancelled past = (op : OpName) (by : ℕ) → Stands (op, Gone Cancelled by) (ends past) → ⊥
 
 -- what is left of a finished socket: its wires, and its history as the record, in which nothing was cancelled, and each
--- operation that timed out had fallen due
+-- operation that timed out was due
 pub record FinishedAs {W : Type 0} (shown : W → WireView) (s : SingleView) (wires : List (DownPipe W)) (record_ : List (Turn Entry)) : Type 0 where
   pub whole : record_ ≡ s.seen
   pub wires_are : HasWires shown wires s.setting (past_of s.seen)

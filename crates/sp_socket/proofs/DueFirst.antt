@@ -1,4 +1,4 @@
--- What timed out had fallen due before: a due list names pending operations alone.
+-- What timed out was due before: a due list names pending operations alone.
 use Rattle.std.proofs.Common.{◌≡◌, refl, ap, sym, ◌∙◌, subst, List, [], ◌∷◌, ◌++◌, ℕ, ◌+◌, ◌≤◌, Bool, true, false, cond, arith, inl, inr}
 use Rattle.std.specs.Prelude.{◌⊎◌, Option, Some, None, filter, map, not}
 use Rattle.turn_lock.specs.declared.turn.Turn.{Turn}

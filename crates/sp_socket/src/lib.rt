@@ -1,14 +1,14 @@
 //! A socket that several callers share: a core behind a turn lock, and for each caller a pass.
 //!
-//! A pass is a caller's right to take turns, its seat at the words of the operations, and room for the names that fall
+//! A pass is a caller's right to take turns, its seat at the words of the operations, and room for the names that are
 //! due. Each call with a pass enters the lock, does one call of the core for the pass's number, and leaves: so it is one
 //! turn of that caller. What the call did and returns is said over the history that the pass has seen then. No call
 //! holds the lock while it waits for another caller's answer; what ends an operation from outside the lock is one
 //! exchange on its word.
 //!
-//! Who owns what: the lock owns the core, in a box, so that a turn moves one pointer; a pass owns its seat, alone. `open` takes all room for operations, deadlines
-//! and names. `finish` takes the passes back, joins their seats, and hands out the wires that were not taken and the
-//! record of the whole history.
+//! Who owns what: the lock owns the core, in a box, so that a turn moves one pointer; a pass owns its seat, alone.
+//! `open` takes all room for operations, deadlines and names. `finish` takes the passes back, joins their seats, and
+//! hands out the wires that were not taken and the record of the whole history.
 #![tactic(auto)]
 
 mod act;

@@ -6,14 +6,14 @@ use Rattle.sp_core.specs.declared.op_words.OpWords.{OpWords}
 use Rattle.sp_core.proofs.op_words.OpWords.finish.Goals as goal
 
 pub decide-requires-clause-name : goal.decide-requires-clause-name
-decide-requires-clause-name c = let r = c.requires.pending in name_is c.args.self.now r.0 c.args.op r.1 r.3 r.2 r.4
+decide-requires-clause-name c = let r = c.requires.0 in name_is c.args.self.now r.0 c.args.op r.1 r.3 r.2 r.4
 
 pub decide-requires-clause-end : goal.decide-requires-clause-end
-decide-requires-clause-end c = core_end c.args.cause c.phase_of.result c.phase_of.ensures c.requires.cause
+decide-requires-clause-end c = core_end c.args.cause c.phase_of.result c.phase_of.ensures c.requires.1
 
 pub unreachable-requires : goal.unreachable-requires
 unreachable-requires c =
-    let r = c.requires.pending in
+    let r = c.requires.0 in
     none_decided c.args.self.now.seat.view c.args.op c.in-Other.phase c.in-Other.by c.in-Other.ensures.answer.0 c.in-Other.ensures.answer.1.1 (open_is c.args.self.now r.0 c.args.op r.1 r.3 r.2 r.4) (subst (λ x. GoneAs x c.in-Other.phase c.in-Other.by) c.in-None.is c.gone.ensures)
 
 pub returns-in-Some-clause-finished : goal.returns-in-Some-clause-finished

@@ -12,4 +12,4 @@ returns-clause-looked c = λ t s l h p.
 pub returns-clause-reads : goal.returns-clause-reads
 returns-clause-reads c =
     let r = c.requires in
-    look_reads c.args.self.now (record { words = c.args.self.now.words; seat = c.look-look.new.core }) r.0 c.args.op r.1 c.look-look.result.phase c.look-look.result.by c.gone.result r.3 r.2 r.4 c.gone.ensures c.look-look.ensures.answer
+    (refl, look_reads c.args.self.now (record { words = c.args.self.now.words; seat = c.look-look.new.core }) r.0 c.args.op r.1 c.look-look.result.phase c.look-look.result.by c.gone.result r.3 r.2 r.4 c.gone.ensures c.look-look.ensures.answer)

@@ -13,25 +13,37 @@ something : (a r : Bool) → r ≡ not a → r ≡ true → a ≡ false
 something false r h e = refl
 something true r h e = let q : false ≡ true = sym h ∙ e in absurd cc
 
-pub returns-in_default-draw-clause-drawn : goal.returns-in_default-draw-clause-drawn
-returns-in_default-draw-clause-drawn g c =
-    λ t h.
-    let can = c.in_default.ensures t acts.Recv h refl in
-    let d = drawn_none c.draw.result _ _ c.in_default-draw.not-Some (c.draw.ensures.drawn t h) in
-    (d.0, ((can.open_, (can.supported, can.ctx_open, can.no_state), d.1), λ q. cc))
+pub returns-in_default-draw : goal.returns-in_default-draw
+returns-in_default-draw g c = record {
+  does =
+      λ t h.
+      let can = c.in_default.ensures t acts.Recv h refl in
+      let d = drawn_none c.draw.result _ _ c.in_default-draw.not-Some (c.draw.ensures.does t h) in
+      (d.0, ((can.open_, (can.supported, can.ctx_open, can.no_state), d.1), λ q. cc));
+  words = c.draw.ensures.words;
+  reads = c.draw.ensures.reads;
+}
 
-pub returns-then-not-keeps-clause-drawn : goal.returns-then-not-keeps-clause-drawn
-returns-then-not-keeps-clause-drawn g c =
-    λ t h.
-    let can = c.in_default.ensures t acts.Recv h refl in
-    let d = c.in-Some.ensures.drawn t h in (
-      goes_back g.P.Proto.ties g.P.Proto.room g.W.Wire.shown c.draw.new.self c.put_back.new.self c.in-Some.op.slot t d.0 (c.put_back.ensures.back t d.0.operations) c.put_back.ensures.lengths,
-      (can.open_, (can.supported, can.ctx_open, can.no_state), slot_left t c.in-Some.op d.1, nothing _ c.keeps.result (c.keeps.ensures t d.0.lawful d.0.proto can.role_does can.ctx_open) c.if-not-keeps.true),
-    )
+pub returns-then-not-keeps : goal.returns-then-not-keeps
+returns-then-not-keeps g c = record {
+  does =
+      λ t h.
+      let can = c.in_default.ensures t acts.Recv h refl in
+      let d = c.in-Some.ensures.does t h in (
+        goes_back g.P.Proto.ties g.P.Proto.room g.W.Wire.shown c.draw.new.self c.put_back.new.self c.in-Some.op.slot t d.0 (c.put_back.ensures.back t d.0.operations) c.put_back.ensures.lengths,
+        (can.open_, (can.supported, can.ctx_open, can.no_state), slot_left t c.in-Some.op d.1, nothing _ c.keeps.result (c.keeps.ensures t d.0.lawful d.0.proto can.role_does can.ctx_open) c.if-not-keeps.true),
+      );
+  words = c.draw.ensures.words;
+  reads = c.draw.ensures.reads;
+}
 
-pub returns-clause-drawn : goal.returns-clause-drawn
-returns-clause-drawn g c =
-    λ t h.
-    let can = c.in_default.ensures t acts.Recv h refl in
-    let d = c.in-Some.ensures.drawn t h in
-    (d.0, d.1, can, something _ c.keeps.result (c.keeps.ensures t d.0.lawful d.0.proto can.role_does can.ctx_open) c.if-not-keeps.false)
+pub returns : goal.returns
+returns g c = record {
+  does =
+      λ t h.
+      let can = c.in_default.ensures t acts.Recv h refl in
+      let d = c.in-Some.ensures.does t h in
+      (d.0, d.1, can, something _ c.keeps.result (c.keeps.ensures t d.0.lawful d.0.proto can.role_does can.ctx_open) c.if-not-keeps.false);
+  words = c.draw.ensures.words;
+  reads = c.draw.ensures.reads;
+}

@@ -35,38 +35,47 @@ note_gone-requires g c =
     let k = c.in-Some-Gone.ensures.looked r.0 f.0 r.1.lawful r.1.op_words p in
     (c.args.self.now.op_words, r.0, f.0, r.1, p, is_gone c.in-Some-Gone.field-0 c.in-Some-Gone.cause c.in-Some-Gone.by c.name-op.result r.0 c.look.new.self c.in-Some-Gone.field-0-is k.1)
 
-pub returns-then-not-is_on-clause-later : goal.returns-then-not-is_on-clause-later
-returns-then-not-is_on-clause-later g c =
-    λ t h.
-    let other = off c.args.x.now.ctx c.args.c c.is_on.result c.is_on.ensures c.if-not-is_on.true in
-    (t, later-now t, h, inl (refl, refl, record { more = []; grew = sym (append-nil (reads_of c.args.self.now)); read = λ e. absurd (other e) }))
+pub returns-then-not-is_on : goal.returns-then-not-is_on
+returns-then-not-is_on g c = record {
+  later =
+      λ t h.
+      let other = off c.args.x.now.ctx c.args.c c.is_on.result c.is_on.ensures c.if-not-is_on.true in
+      (t, later-now t, h, inl (refl, refl, record { more = []; grew = sym (append-nil (reads_of c.args.self.now)); read = λ e. absurd (other e) }));
+  words = refl;
+}
 
-pub returns-in-None-clause-later : goal.returns-in-None-clause-later
-returns-in-None-clause-later g c =
-    λ t h.
-    let f = pending_there c.args.self.now.operations t c.args.x.now h.operations h.lawful c.requires.2 in
-    let p = ap (pending (past t)) c.name-op.ensures ∙ f.1 in
-    let k = c.in-None.ensures.looked t f.0 h.lawful h.op_words p in (
-      t,
-      later-now t,
-      with_op_words g.P.Proto.ties g.P.Proto.room g.W.Wire.shown [] c.args.self.now c.look.new.self t h k,
-      inl (refl, refl, record { more = of_op c.name-op.result PendingPhase 0 ∷ []; grew = c.in-None.ensures.reads; read = λ e. inl (ap (λ (o : OpName). of_op o PendingPhase 0) c.name-op.ensures) }),
-    )
+pub returns-in-None : goal.returns-in-None
+returns-in-None g c = record {
+  later =
+      λ t h.
+      let f = pending_there c.args.self.now.operations t c.args.x.now h.operations h.lawful c.requires.2 in
+      let p = ap (pending (past t)) c.name-op.ensures ∙ f.1 in
+      let k = c.in-None.ensures.looked t f.0 h.lawful h.op_words p in (
+        t,
+        later-now t,
+        with_op_words g.P.Proto.ties g.P.Proto.room g.W.Wire.shown [] c.args.self.now c.look.new.self t h k,
+        inl (refl, refl, record { more = of_op c.name-op.result PendingPhase 0 ∷ []; grew = c.in-None.ensures.reads.1; read = λ e. inl (ap (λ (o : OpName). of_op o PendingPhase 0) c.name-op.ensures) }),
+      );
+  words = c.look.ensures.reads.0;
+}
 
-pub returns-in-Some-Gone-clause-later : goal.returns-in-Some-Gone-clause-later
-returns-in-Some-Gone-clause-later g c =
-    λ t h.
-    let f = pending_there c.args.self.now.operations t c.args.x.now h.operations h.lawful c.requires.2 in
-    let p = ap (pending (past t)) c.name-op.ensures ∙ f.1 in
-    let k = c.in-Some-Gone.ensures.looked t f.0 h.lawful h.op_words p in
-    let ending : Ending = Gone c.in-Some-Gone.cause c.in-Some-Gone.by in
-    let e = End c.name-op.result ending in (
-      also t e,
-      later-one t e tt,
-      c.note_gone.ensures.later c.args.self.now.op_words t f.0 h p (is_gone c.in-Some-Gone.field-0 c.in-Some-Gone.cause c.in-Some-Gone.by c.name-op.result t c.look.new.self c.in-Some-Gone.field-0-is k.1),
-      inr (
-        subst (λ (o : OpName). LeavesPending o c.args.self.now.operations c.note_gone.new.self.operations) c.name-op.ensures c.note_gone.ensures.pending,
-        subst (λ (xs : List word.Entry). Grows (reads_of c.args.self.now) xs) (sym c.note_gone.ensures.reads) c.in-Some-Gone.ensures.reads,
-        (ending, ap (λ (o : OpName). also t (End o ending)) c.name-op.ensures),
-      ),
-    )
+pub returns-in-Some-Gone : goal.returns-in-Some-Gone
+returns-in-Some-Gone g c = record {
+  later =
+      λ t h.
+      let f = pending_there c.args.self.now.operations t c.args.x.now h.operations h.lawful c.requires.2 in
+      let p = ap (pending (past t)) c.name-op.ensures ∙ f.1 in
+      let k = c.in-Some-Gone.ensures.looked t f.0 h.lawful h.op_words p in
+      let ending : Ending = Gone c.in-Some-Gone.cause c.in-Some-Gone.by in
+      let e = End c.name-op.result ending in (
+        also t e,
+        later-one t e tt,
+        c.note_gone.ensures.later c.args.self.now.op_words t f.0 h p (is_gone c.in-Some-Gone.field-0 c.in-Some-Gone.cause c.in-Some-Gone.by c.name-op.result t c.look.new.self c.in-Some-Gone.field-0-is k.1),
+        inr (
+          subst (λ (o : OpName). LeavesPending o c.args.self.now.operations c.note_gone.new.self.operations) c.name-op.ensures c.note_gone.ensures.leaves,
+          subst (λ (xs : List word.Entry). Grows (reads_of c.args.self.now) xs) (sym c.note_gone.ensures.reads) c.in-Some-Gone.ensures.reads.1,
+          (ending, ap (λ (o : OpName). also t (End o ending)) c.name-op.ensures),
+        ),
+      );
+  words = c.note_gone.ensures.words ∙ c.look.ensures.reads.0;
+}

@@ -7,35 +7,37 @@ use Rattle.sp_core.proofs.Looked.{grows_trans}
 use Rattle.sp_core.proofs.Trying.{lost_more}
 use Rattle.sp_core.proofs.owner.Core.receive_now.Goals as goal
 
-pub returns-in-Err-clause-received : goal.returns-in-Err-clause-received
-returns-in-Err-clause-received g c =
-    λ t h settled.
-    let s = c.loop.invariant.reached t h settled in
-    let r = c.in-Err.ensures.tried s.0 s.2 s.3 in
-    (r.0, r.1, r.2, (s.0, s.1, r.3))
+pub returns-in-Err : goal.returns-in-Err
+returns-in-Err g c = record {
+  does =
+      λ t h settled.
+      let s = c.loop.invariant.reached t h settled in
+      let r = c.in-Err.ensures.does s.0 s.2 s.3 in
+      (r.0, r.1, r.2, (s.0, s.1, r.3));
+  words = c.in-Err.ensures.words ∙ c.loop.invariant.words;
+  reads = grows_trans _ _ _ c.loop.invariant.reads c.in-Err.ensures.reads;
+}
 
-pub returns-in-Err-clause-reads : goal.returns-in-Err-clause-reads
-returns-in-Err-clause-reads g c = grows_trans _ _ _ c.loop.invariant.reads c.in-Err.ensures.reads
-
-pub returns-in-Ok-Some-clause-received : goal.returns-in-Ok-Some-clause-received
-returns-in-Ok-Some-clause-received g c =
-    λ t h settled.
-    let s = c.loop.invariant.reached t h settled in
-    let r = c.in-Ok-Some.ensures.tried s.0 s.2 s.3 in
-    (r.0, r.1, r.2, (s.0, s.1, subst (λ (o : Option MessageView). TriedTo (let x : Result (Option MessageView) NowError = Ok o in x) c.args.c s.0 r.0) c.in-Ok-Some.field-0-is r.3))
-
-pub returns-in-Ok-Some-clause-reads : goal.returns-in-Ok-Some-clause-reads
-returns-in-Ok-Some-clause-reads g c = grows_trans _ _ _ c.loop.invariant.reads c.in-Ok-Some.ensures.reads
+pub returns-in-Ok-Some : goal.returns-in-Ok-Some
+returns-in-Ok-Some g c = record {
+  does =
+      λ t h settled.
+      let s = c.loop.invariant.reached t h settled in
+      let r = c.in-Ok-Some.ensures.does s.0 s.2 s.3 in
+      (r.0, r.1, r.2, (s.0, s.1, subst (λ (o : Option MessageView). TriedTo (let x : Result (Option MessageView) NowError = Ok o in x) c.args.c s.0 r.0) c.in-Ok-Some.field-0-is r.3));
+  words = c.in-Ok-Some.ensures.words ∙ c.loop.invariant.words;
+  reads = grows_trans _ _ _ c.loop.invariant.reads c.in-Ok-Some.ensures.reads;
+}
 
 pub loop-preserved : goal.loop-preserved
 loop-preserved g c = record {
   can = search rules;
   finite = search rules;
-  standing = let s = c.loop.invariant.standing in let r = c.in-Ok-None.ensures.tried s.0 s.1 s.2 in (r.0, r.1, r.2);
+  standing = let s = c.loop.invariant.standing in let r = c.in-Ok-None.ensures.does s.0 s.1 s.2 in (r.0, r.1, r.2);
   reached =
       λ t h settled.
       let s = c.loop.invariant.reached t h settled in
-      let r = c.in-Ok-None.ensures.tried s.0 s.2 s.3 in
+      let r = c.in-Ok-None.ensures.does s.0 s.2 s.3 in
       (r.0, lost_more c.args.c t s.0 r.0 s.1 (subst (λ (o : Option MessageView). TriedTo (let x : Result (Option MessageView) NowError = Ok o in x) c.args.c s.0 r.0) c.in-Ok-None.field-0-is r.3), r.1, r.2);
   words = c.in-Ok-None.ensures.words ∙ c.loop.invariant.words;
   reads = grows_trans _ _ _ c.loop.invariant.reads c.in-Ok-None.ensures.reads;
