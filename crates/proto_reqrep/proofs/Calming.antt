@@ -1,5 +1,5 @@
 -- Which live requests are known as not due.
-use Rattle.std.proofs.Common.{◌≡◌, refl, ap, sym, ◌∙◌, List, [], ◌∷◌, ◌++◌, ℕ, zero, suc, ◌+◌, ◌-◌, ◌<◌, ◌≤◌, Bool, true, false, cond, arith, Option, Some, None, map, length, take, drop, filter}
+use Rattle.std.proofs.Common.{◌≡◌, refl, ap, sym, ◌∙◌, List, [], ◌∷◌, ◌++◌, ℕ, zero, suc, ◌+◌, ◌-◌, ◌≤◌, Bool, true, false, cond, arith, Option, Some, None, map, length, take, drop, filter}
 use Rattle.std.specs.Prelude.{not, nat_lt, nat_le, is_some, ◌&&◌, ◌||◌, ◌==◌}
 use Rattle.std.specs.List.{list_any, position, position_or_len}
 use Rattle.std.proofs.lemmas.Bool.Decides.{nat_tests}
@@ -8,9 +8,10 @@ use Rattle.sp_history.specs.Moments.{Moment}
 use Rattle.sp_history.specs.declared.parts.LastOut.{LastOut}
 use Rattle.proto_reqrep.specs.declared.req.Live.{Live}
 use Rattle.proto_reqrep.specs.declared.req.Seat.{Seat}
+use Rattle.proto_reqrep.specs.Lives.{LivesView, StayCalm}
 use Rattle.proto_reqrep.specs.Ports.{Port, is_pipe}
 use Rattle.proto_reqrep.specs.declared.req.Request.{Request as Machine}
-use Rattle.proto_reqrep.specs.Reqs.{Ties, Asks, AreCalm, IsCalm, reached, without_found, with_found, without_live, is_live_on, is_due, is_late_in, dry_at, dried, live_ctx}
+use Rattle.proto_reqrep.specs.Reqs.{Ties, Asks, AreCalm, IsCalm, reached, with_found, without_live, is_due, is_late_in, dry_at, dried, live_ctx}
 use Rattle.proto_reqrep.proofs.Backlogged.{both_false}
 use Rattle.proto_reqrep.proofs.Living.{same_number, gone_on}
 use Rattle.proto_reqrep.proofs.Working.{due_before}
@@ -22,23 +23,6 @@ none_fewer P zero n xs l h = refl
 none_fewer P (suc k) zero xs l h = absurd (omega (arith, l))
 none_fewer P (suc k) (suc n) [] l h = refl
 none_fewer P (suc k) (suc n) (x ∷ xs) l h = let b = both_false (P x) (list_any P (take n xs)) h in ap (λ v. v || list_any P (take k xs)) b.0 ∙ none_fewer P k n xs (omega (arith, l)) b.1
-
-none_taken : {A : Type 0} (P Q : A → Bool) (k n : ℕ) (xs : List A) → k < n → list_any P (take n xs) ≡ false → list_any P (take k (without_found Q xs)) ≡ false
-none_taken P Q zero n xs l h = refl
-none_taken P Q (suc k) zero xs l h = absurd (omega (arith, l))
-none_taken P Q (suc k) (suc n) [] l h = refl
-none_taken P Q (suc k) (suc n) (x ∷ xs) l h =
-    let b = both_false (P x) (list_any P (take n xs)) h in
-    go (Q x) b.0 b.1 (none_taken P Q k n xs (omega (arith, l)) b.1)
-  where
-    go : (b : Bool) → P x ≡ false → list_any P (take n xs) ≡ false → list_any P (take k (without_found Q xs)) ≡ false → list_any P (take (suc k) (cond b xs (x ∷ without_found Q xs))) ≡ false
-    go true e f again = none_fewer P (suc k) n xs (omega (arith, l)) f
-    go false e f again = ap (λ v. v || list_any P (take k (without_found Q xs))) e ∙ again
-
--- one is taken out
-pub none_less : {A : Type 0} (P Q : A → Bool) (k n : ℕ) (xs ys : List A) → k ≡ n - 1 → ys ≡ without_found Q xs → list_any P (take n xs) ≡ false → list_any P (take k ys) ≡ false
-none_less P Q zero n xs ys e f h = refl
-none_less P Q (suc k) n xs ys e f h = rw f (none_taken P Q (suc k) n xs (omega (arith, e)) h)
 
 -- one is changed, and does not pass then
 none_with : {A : Type 0} (P Q : A → Bool) (f : A → A) (n : ℕ) (xs : List A) → ((x : A) → P (f x) ≡ false) → list_any P (take n xs) ≡ false → list_any P (take n (with_found Q f xs)) ≡ false
@@ -54,19 +38,6 @@ none_with P Q f (suc n) (x ∷ xs) c h =
 
 pub none_changed : {A : Type 0} (P Q : A → Bool) (f : A → A) (n : ℕ) (xs ys : List A) → ((x : A) → P (f x) ≡ false) → ys ≡ with_found Q f xs → list_any P (take n xs) ≡ false → list_any P (take n ys) ≡ false
 none_changed P Q f n xs ys c e h = rw e (none_with P Q f n xs c h)
-
-one_more : {A : Type 0} (P : A → Bool) (n : ℕ) (xs : List A) (x : A) → P x ≡ false → list_any P (take n xs) ≡ false → list_any P (take n (xs ++ x ∷ [])) ≡ false
-one_more P zero xs x e h = refl
-one_more P (suc n) [] x e h = ap (λ v. v || list_any P (take n [])) e ∙ empty n
-  where
-    empty : (n : ℕ) → list_any P (take n []) ≡ false
-    empty zero = refl
-    empty (suc n) = refl
-one_more P (suc n) (y ∷ ys) x e h = let b = both_false (P y) (list_any P (take n ys)) h in ap (λ v. v || list_any P (take n (ys ++ x ∷ []))) b.0 ∙ one_more P n ys x e b.1
-
--- one more comes, and does not pass
-pub none_more : {A : Type 0} (P : A → Bool) (n : ℕ) (xs ys : List A) (x : A) → P x ≡ false → ys ≡ xs ++ x ∷ [] → list_any P (take n xs) ≡ false → list_any P (take n ys) ≡ false
-none_more P n xs ys x e f h = rw f (one_more P n xs x e h)
 
 -- no more pass
 pub none_as : {A : Type 0} (P Q : A → Bool) (xs : List A) → ((x : A) → Q x ≡ true → P x ≡ true) → list_any P xs ≡ false → list_any Q xs ≡ false
@@ -270,14 +241,9 @@ calm_dried resend t n c ps ss rs xs e h = rw e (none_as (is_due resend t ps ss) 
 -- ---- Calls
 
 -- a request begins
-pub begun_calm : (m n : Machine) (c : ℕ) (body : List ℕ) → Asks c body m n → IsCalm m → IsCalm n
-begun_calm m n c body a h =
-    let P = is_due m.options.resend m.tick m.ports.items m.seats.items in
-    let less : list_any P (take n.calm (without_live c m.live.items)) ≡ false = none_less P (is_live_on c) n.calm m.calm m.live.items (without_live c m.live.items) a.13 refl h in
-    let quiet : P a.0 ≡ false = rw (a.1.5, a.1.6) refl in
-    let more : list_any P (take n.calm n.live.items) ≡ false = none_more P n.calm (without_live c m.live.items) n.live.items a.0 quiet a.3 less in
-    rw (a.7, a.8, a.9, a.12) more
+pub begun_calm : (m n : Machine) (c : ℕ) (body : List ℕ) → Asks c body m n → IsCalm m → AreCalm n.options.resend n.tick n.ports.items n.seats.items n.live.calm n.live.items
+begun_calm m n c body a h = rw (a.7, a.8, a.9, a.12) (a.14 (is_due m.options.resend m.tick m.ports.items m.seats.items) h.0)
 
-pub shut_calm : (m : Machine) (t : Moment) (c k : ℕ) (xs : List Live) (ss : List Seat) → Ties m t → ss ≡ filter (λ (s : Seat). not (s.ctx == c)) m.seats.items → xs ≡ without_live c m.live.items → k ≡ m.calm - 1 → AreCalm m.options.resend m.tick m.ports.items ss k xs
-shut_calm m t c k xs ss h e f l =
-    calm_shut m.options.resend m.tick c k m.ports.items m.seats.items ss xs e (rw f (gone_on c m.live.items h.3.places)) (none_less (is_due m.options.resend m.tick m.ports.items m.seats.items) (is_live_on c) k m.calm m.live.items xs l f h.5)
+pub shut_calm : (m : Machine) (t : Moment) (c : ℕ) (v : LivesView) (ss : List Seat) → Ties m t → ss ≡ filter (λ (s : Seat). not (s.ctx == c)) m.seats.items → v.items ≡ without_live c m.live.items → StayCalm m.live v → AreCalm m.options.resend m.tick m.ports.items ss v.calm v.items
+shut_calm m t c v ss h e f s =
+    calm_shut m.options.resend m.tick c v.calm m.ports.items m.seats.items ss v.items e (rw f (gone_on c m.live.items h.3.places)) (s (is_due m.options.resend m.tick m.ports.items m.seats.items) h.5.0)

@@ -44,11 +44,12 @@ use Rattle.proto_reqrep.specs.declared.req.Request.{Request as Machine}
 use Rattle.proto_reqrep.specs.declared.req.Live.{Live}
 use Rattle.proto_reqrep.specs.declared.req.Kept.{Kept}
 use Rattle.proto_reqrep.specs.declared.req.Asking.{Asking}
-use Rattle.proto_reqrep.specs.Reqs.{Ties, IsCalm, Asked, begun_of, act_of, is_receiving_on, orphaned, without_live, live_ctx, is_live_on, request_of, with_found, with_reply, item_of, HasLive, HaveLive, raw_item}
+use Rattle.proto_reqrep.specs.Reqs.{Ties, AreCalm, AreReady, Asked, begun_of, act_of, is_receiving_on, orphaned, without_live, live_ctx, is_live_on, request_of, with_found, with_reply, item_of, HasLive, HaveLive, raw_item}
 use Rattle.proto_reqrep.proofs.Living.{equal_of, same_number}
 use Rattle.proto_reqrep.proofs.Requested.{ended, reply_came}
 use Rattle.sp_history.specs.Legal.{is_recv_on, is_state}
-use Rattle.proto_reqrep.specs.Reqs.{Opened, Knows, SetTo, out_last, seat_ctx, ask_state}
+use Rattle.proto_reqrep.specs.Ports.{Knows}
+use Rattle.proto_reqrep.specs.Reqs.{Opened, SetTo, seat_ctx, ask_state}
 use Rattle.proto_reqrep.specs.declared.req.Seat.{Seat}
 use Rattle.proto_reqrep.proofs.Living.{ctx_less, gone_on}
 use Rattle.proto_reqrep.proofs.Standing.{is_req_role, is_raw, asks, asks_nothing, req_is, raw_same, live_is, kept_is, kept_raw}
@@ -56,6 +57,7 @@ use Rattle.proto_reqrep.proofs.Requested.{begun_one, begun_new}
 use Rattle.proto_reqrep.proofs.Owning.{all_marked}
 use Rattle.proto_reqrep.proofs.Working.{length_same}
 use Rattle.proto_reqrep.proofs.Calming.{begun_calm}
+use Rattle.proto_reqrep.proofs.Hinted.{asked_ready}
 use Rattle.proto_reqrep.proofs.Outgoing.{ctxs_kept}
 use Rattle.sp_history.proofs.LiveRequests.{next_is_new}
 use Rattle.sp_history.specs.Requests.{has_id, next_number, free_from}
@@ -65,6 +67,7 @@ use Rattle.sp_history.specs.Setting.{has_contexts}
 use Rattle.std.specs.Prelude.{zero, suc, ◌%◌, ◌-◌}
 use Rattle.std.proofs.Math.Nat.{mod-add-mod}
 use Rattle.sp_proto.specs.Machines.{Frames}
+use Rattle.sp_proto.specs.Readings.{out_last}
 use Rattle.sp_proto.specs.declared.Verdict.{Verdict}
 use Rattle.sp_proto.specs.declared.Verdict.TheVariants as verdict
 use Rattle.proto_reqrep.specs.Reqs.{Keeps, live_id, number_after, free_number, keeps_reply, is_given, raw_item, Asks, KeepsRaw}
@@ -520,12 +523,12 @@ pub all_begun : (m n : Machine) (t : Moment) (op : OpName) (c : ℕ) (x : Messag
     → ws ≡ n.waiting.items ++ record { op = op; ctx = c; message = Some x; is_orphan = false } ∷ []
     → SetTo n.raw n.options n.tick n.last_pipe (kind_of t.z) (now (past t)) (out_last (past t)) × Knows n.ports.items (up (past t)) (ups (past t)) (λ q. has_full t.turn q) × Keeps n.raw n.kept.items (pool t.z (past t) 0)
     × Asked n.raw n.live.items n.last_id ws (pend (past t) ++ record { op = op; ctx = c; act = Send (text_of x) } ∷ []) (requests t.z (Begin op t.caller c (Send (text_of x)) d ∷ past t)) × Opened n.live.items n.seats.items (ctxs (past t)) (λ q. is_dry (past t) q)
-    × IsCalm n
+    × (AreCalm n.options.resend n.tick n.ports.items n.seats.items n.live.calm n.live.items × AreReady n.ready n.live.items ws)
 all_begun m n t op c x d ws r l h a e = (
   rw (a.6, a.7, a.8, a.11) h.0,
   rw a.9 h.1,
   rw (a.6, a.10) h.2,
   asked_ops e (send_asked m n t op c x d r l h a),
   send_opened m n c x.body (ctxs (past t)) (λ q. is_dry (past t) q) a l.turn.0.itself.ctx_open h.4,
-  begun_calm m n c x.body a h.5,
+  (begun_calm m n c x.body a h.5, asked_ready m n c x.body op x ws a e h.5.1),
 )

@@ -28,6 +28,7 @@ use Rattle.sp_history.specs.Sends.{may_go, is_origin, traced, targets, bytes_of,
 use Rattle.sp_history.specs.Once.{AreApart}
 use Rattle.sp_history.specs.Moments.{Moment, past, also}
 use Rattle.sp_proto.specs.Kinds.{text_of}
+use Rattle.sp_proto.specs.Readings.{reading}
 use Rattle.sp_proto.specs.Machines.{CanGive, CanSend, CanDrop, message_of}
 use Rattle.proto_reqrep.specs.declared.rep.Reply.{Reply}
 use Rattle.proto_reqrep.specs.declared.rep.Kept.{Kept}
@@ -35,7 +36,7 @@ use Rattle.proto_reqrep.specs.declared.rep.Source.{Source}
 use Rattle.proto_reqrep.specs.declared.rep.Place.{Place}
 use Rattle.proto_reqrep.specs.declared.rep.Answer.{Answer}
 use Rattle.proto_reqrep.specs.declared.rep.Waiting.{Waiting}
-use Rattle.proto_reqrep.specs.Reps.{Ties, item_of, origin_of, origin_at, begun_of, act_of, ctx_of, is_for, target_of, out_text, words_of, without_first, Routed, AreHome}
+use Rattle.proto_reqrep.specs.Reps.{Ties, Stands, item_of, origin_of, origin_at, begun_of, act_of, ctx_of, is_for, target_of, out_text, words_of, without_first, Routed, AreHome}
 use Rattle.proto_reqrep.proofs.Taking.{find_begun, without_all, apart_without}
 use Rattle.sp_history.specs.Lists.{head_of}
 use Rattle.sp_history.specs.Kept.{is_on_pool, is_on_ctx, given_from, origin_of as from_item}
@@ -73,15 +74,14 @@ routed_without routes op (w ∷ ws) h = go (is_for op w) (routed_without routes 
     go true k = h.1
     go false k = (h.0, k)
 
-pub lost_ties : (m n : Reply) (t : Moment) (op : OpName) (cause : Cause) (by : ℕ) → Ties m t → n.waiting.items ≡ without_first op m.waiting.items → n.ports ≡ m.ports → n.kept ≡ m.kept → n.places ≡ m.places → (n.raw ≡ m.raw) × (n.options ≡ m.options) × (n.role ≡ m.role)
-    → Ties n (also t (End op (Gone cause by)))
-lost_ties m n t op cause by h e p f g same =
+-- the operation is pending no longer
+ended : (m n : Reply) (t : Moment) (op : OpName) → Ties m t → n.waiting.items ≡ without_first op m.waiting.items → n.ports ≡ m.ports → n.kept ≡ m.kept → n.places ≡ m.places → (n.raw ≡ m.raw) × (n.options ≡ m.options) × (n.role ≡ m.role)
+    → Stands n (record (reading t) { pend = without_begun (pend (past t)) op })
+ended m n t op h e p f g same =
     record {
       kind = rw (same.0, same.1, same.2) h.kind;
       most = rw same.1 h.most;
-      ports = rw p h.ports;
-      known = h.known;
-      unmet = h.unmet;
+      pipes = rw p h.pipes;
       items = rw f h.items;
       pending = left_over m t op n.waiting.items h e;
       apart = apart_without (pend (past t)) op h.apart;
@@ -90,42 +90,18 @@ lost_ties m n t op cause by h e p f g same =
       stored = rw g h.stored;
       routed = rw e (routed_without (λ o. route t.z (past t) o) op m.waiting.items h.routed);
     }
+
+pub lost_ties : (m n : Reply) (t : Moment) (op : OpName) (cause : Cause) (by : ℕ) → Ties m t → n.waiting.items ≡ without_first op m.waiting.items → n.ports ≡ m.ports → n.kept ≡ m.kept → n.places ≡ m.places → (n.raw ≡ m.raw) × (n.options ≡ m.options) × (n.role ≡ m.role)
+    → Ties n (also t (End op (Gone cause by)))
+lost_ties m n t op cause by h e p f g same = ended m n t op h e p f g same
 
 pub dropped_ties : (m n : Reply) (t : Moment) (op : OpName) → Ties m t → n.waiting.items ≡ without_first op m.waiting.items → n.ports ≡ m.ports → n.kept ≡ m.kept → n.places ≡ m.places → (n.raw ≡ m.raw) × (n.options ≡ m.options) × (n.role ≡ m.role)
     → Ties n (also t (End op (Won Sent)))
-dropped_ties m n t op h e p f g same =
-    record {
-      kind = rw (same.0, same.1, same.2) h.kind;
-      most = rw same.1 h.most;
-      ports = rw p h.ports;
-      known = h.known;
-      unmet = h.unmet;
-      items = rw f h.items;
-      pending = left_over m t op n.waiting.items h e;
-      apart = apart_without (pend (past t)) op h.apart;
-      contexts = rw g h.contexts;
-      homes = homes_without (ctxs (past t)) (pend (past t)) op h.homes;
-      stored = rw g h.stored;
-      routed = rw e (routed_without (λ o. route t.z (past t) o) op m.waiting.items h.routed);
-    }
+dropped_ties m n t op h e p f g same = ended m n t op h e p f g same
 
 pub sent_ties : (m n : Reply) (t : Moment) (op : OpName) (p : ℕ) (b : List ℕ) → Ties m t → n.waiting.items ≡ without_first op m.waiting.items → n.ports ≡ m.ports → n.kept ≡ m.kept → n.places ≡ m.places → (n.raw ≡ m.raw) × (n.options ≡ m.options) × (n.role ≡ m.role)
     → Ties n (also (also t (Out p b)) (End op (Won Sent)))
-sent_ties m n t op p b h e r f g same =
-    record {
-      kind = rw (same.0, same.1, same.2) h.kind;
-      most = rw same.1 h.most;
-      ports = rw r h.ports;
-      known = h.known;
-      unmet = h.unmet;
-      items = rw f h.items;
-      pending = left_over m t op n.waiting.items h e;
-      apart = apart_without (pend (past t)) op h.apart;
-      contexts = rw g h.contexts;
-      homes = homes_without (ctxs (past t)) (pend (past t)) op h.homes;
-      stored = rw g h.stored;
-      routed = rw e (routed_without (λ o. route t.z (past t) o) op m.waiting.items h.routed);
-    }
+sent_ties m n t op p b h e r f g same = ended m n t op h e r f g same
 
 -- ---- What is given
 
@@ -193,9 +169,7 @@ module _ (m n : Reply) (t : Moment) (op : OpName) (s : Begun) (text : Message) w
         record {
           kind = rw (same.0, same.1, same.2) h.kind;
           most = rw same.1 h.most;
-          ports = rw p h.ports;
-          known = h.known;
-          unmet = h.unmet;
+          pipes = rw p h.pipes;
           items = ap (drop 1) items_are ∙ sym (pool_given m.role t.z (past t) op s text (is_rep m t h) c.pending);
           pending = left_over m t op n.waiting.items h e;
           apart = apart_without (pend (past t)) op h.apart;

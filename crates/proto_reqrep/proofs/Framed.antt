@@ -91,9 +91,7 @@ module _ (m n : Reply) (t : Moment) (p : ℕ) (b x : List ℕ) (k : Kept) where
         record {
           kind = rw (same.0, same.1, same.2) h.kind;
           most = rw same.1 h.most;
-          ports = rw g h.ports;
-          known = h.known;
-          unmet = h.unmet;
+          pipes = rw g h.pipes;
           items =
               ap (map item_of) f ∙ map-append item_of m.kept.items (k ∷ []) ∙ ap (λ (is : List Item). is ++ item_of k ∷ []) h.items
               ∙ sym (pool_frame m.role t.z (past t) p b (is_rep m t h) well ∙ ap (λ (o : Option Item). add_item o (pool t.z (past t) 0)) item);
@@ -114,9 +112,7 @@ module _ (m n : Reply) (t : Moment) (p : ℕ) (b x : List ℕ) (k : Kept) where
         record {
           kind = rw (same.0, same.1, same.2) h.kind;
           most = rw same.1 h.most;
-          ports = rw g h.ports;
-          known = h.known;
-          unmet = h.unmet;
+          pipes = rw g h.pipes;
           items = ap (map item_of) f ∙ h.items;
           pending = rw v h.pending;
           apart = h.apart;

@@ -82,10 +82,10 @@ module _ {A : Type 0} (key : A → ℕ) where
       go true k = h.1
       go false k = (hasnt_less P ys (key y) h.0, k)
 
-  index_less : (P : A → Bool) (old new : ℕ → Bool) (xs ys : List A) (x : A) → IsIndexed key old xs → find P xs ≡ Some x → ((q : ℕ) → new q ≡ cond (key x == q) false (old q)) → ys ≡ without_found P xs → IsIndexed key new ys
+  pub index_less : (P : A → Bool) (old new : ℕ → Bool) (xs ys : List A) (x : A) → IsIndexed key old xs → find P xs ≡ Some x → ((q : ℕ) → new q ≡ cond (key x == q) false (old q)) → ys ≡ without_found P xs → IsIndexed key new ys
   index_less P old new xs ys x h f u e = rw e (λ q. u q ∙ ap (λ b. cond (key x == q) false b) (h.0 q) ∙ sym (any_less P q xs x h.1 f), distinct_less P xs h.1)
 
-  index_same : (known : ℕ → Bool) (xs ys : List A) → IsIndexed key known xs → map key ys ≡ map key xs → IsIndexed key known ys
+  pub index_same : (known : ℕ → Bool) (xs ys : List A) → IsIndexed key known xs → map key ys ≡ map key xs → IsIndexed key known ys
   index_same known xs ys h e = (λ q. h.0 q ∙ sym (any_has key xs q) ∙ ap (λ (l : List ℕ). has l q) (sym e) ∙ any_has key ys q, subst AreDistinct (sym e) h.1)
 
   keys_with : (P : A → Bool) (f : A → A) (xs : List A) → ((x : A) → key (f x) ≡ key x) → map key (with_found P f xs) ≡ map key xs

@@ -1,4 +1,4 @@
--- Which pipes a req knows.
+-- Which pipes a machine knows.
 use Rattle.std.proofs.Common.{◌≡◌, refl, ap, ◌∙◌, List, [], ◌∷◌, ◌++◌, ℕ, ◌+◌, Bool, true, false, arith, map, ◌<◌, ◌≤◌}
 use Rattle.std.specs.Prelude.{filter, not, ◌||◌, ◌==◌}
 use Rattle.std.specs.List.{list_all}
@@ -9,9 +9,7 @@ use Rattle.sp_history.specs.Lists.{has, without}
 use Rattle.sp_history.specs.Past.{up, ups}
 use Rattle.sp_history.specs.Settled.{has_full}
 use Rattle.sp_history.specs.Moments.{Moment, Lawful, past, also}
-use Rattle.proto_reqrep.specs.Ports.{Port}
-use Rattle.proto_reqrep.specs.Ports.{port_of, marked, cleared, is_below, free_count}
-use Rattle.proto_reqrep.specs.Reqs.{Knows}
+use Rattle.proto_reqrep.specs.Ports.{Port, Knows, port_of, marked, cleared, is_below, free_count}
 use Rattle.proto_reqrep.proofs.Piping.{ports_without, has_without, fewer_free, ports_marked, marks_fewer, ports_cleared, ports_more, known_more, below_all}
 
 pub up_knows : (ps qs : List Port) (us : List ℕ) (last p : ℕ) (full : ℕ → Bool) → Knows qs us last full → p ≡ last + 1 → ps ≡ qs ++ record { pipe = p; is_full = false } ∷ [] → Knows ps (us ++ p ∷ []) (last + 1) full

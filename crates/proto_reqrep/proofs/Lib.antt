@@ -27,4 +27,7 @@ pub mod Coming
 pub mod Knowing
 pub mod Winning
 pub mod Indexed
+pub mod Spotted
+pub mod Noted
 pub mod Offering
+pub mod Hinted

@@ -34,10 +34,7 @@ use Rattle.proto_reqrep.specs.Reps.{Ties, item_of, origin_of, begun_of, act_of, 
 use Rattle.proto_reqrep.proofs.Taking.{find_own}
 use Rattle.proto_reqrep.proofs.Piping.{goes_on, is_full_at, nowhere_up, has_number, all_full}
 use Rattle.proto_reqrep.specs.Reps.{send_offer, answer_offer, way_offer}
-use Rattle.sp_proto.specs.declared.Offer.TheVariants as offers
-use Rattle.std.specs.List.{position}
-use Rattle.std.proofs.Common.{slice_index_or, inl, inr}
-use Rattle.proto_reqrep.proofs.Positions.{found_at, not_found}
+use Rattle.std.proofs.Common.{inl, inr}
 use Rattle.proto_reqrep.proofs.Ended.{targets_are, route_of, out_bytes}
 use Rattle.sp_proto.specs.Machines.{IsOffered}
 use Rattle.sp_proto.specs.declared.Offer.{Offer}
@@ -50,19 +47,13 @@ use Rattle.sp_history.specs.Requests.{asked, no_requests}
 
 -- ---- The first that passes a test
 
-pub send_none : (raw : Bool) (xs ys : List Port) (ws : List Waiting) → xs ≡ ys → None ≡ position (is_ready raw xs) ws → offers.Idle ≡ send_offer raw ys (find (is_ready raw ys) ws)
-send_none raw xs ys ws e h = sym (ap (send_offer raw ys) (not_found (is_ready raw ys) ws (sym (subst (λ (zs : List Port). None ≡ position (is_ready raw zs) ws) e h))))
-
-pub send_at : (raw : Bool) (xs ys : List Port) (ws : List Waiting) (i : ℕ) (w : Waiting) → xs ≡ ys → Some i ≡ position (is_ready raw xs) ws → w ≡ slice_index_or ws i w → find (is_ready raw ys) ws ≡ Some w
-send_at raw xs ys ws i w e h k =
-    found_at (is_ready raw ys) ws i w (sym (subst (λ (zs : List Port). Some i ≡ position (is_ready raw zs) ws) e h)) ∙ ap (λ (v : Waiting). Some v) (sym k)
-
-pub offer_none : (raw : Bool) (ys : List Port) (ws : List Waiting) (w : Waiting) → find (is_ready raw ys) ws ≡ Some w → w.answer ≡ None → offers.Idle ≡ send_offer raw ys (find (is_ready raw ys) ws)
-offer_none raw ys ws w f e = sym (ap (send_offer raw ys) f ∙ ap (answer_offer raw ys w.op) e)
-
-pub offer_way : (raw : Bool) (xs ys : List Port) (ws : List Waiting) (w : Waiting) (r : Answer) (way : Way) → xs ≡ ys → find (is_ready raw ys) ws ≡ Some w → w.answer ≡ Some r → way ≡ way_of raw xs r → way_offer w.op way ≡ send_offer raw ys (find (is_ready raw ys) ws)
-offer_way raw xs ys ws w r way k f e g =
-    sym (ap (send_offer raw ys) f ∙ ap (answer_offer raw ys w.op) e ∙ ap (way_offer w.op) (sym (g ∙ ap (λ (zs : List Port). way_of raw zs r) k)))
+-- what is ready is a send
+pub ready_sends : (raw : Bool) (xs : List Port) (w : Waiting) → is_ready raw xs w ≡ true → is_some w.answer ≡ true
+ready_sends raw xs w h = go w.answer h
+  where
+    go : (r : Option Answer) → can_go raw xs r ≡ true → is_some r ≡ true
+    go None h = absurd cc
+    go (Some r) h = refl
 
 -- ---- Idle
 
@@ -140,7 +131,7 @@ idle m t h r f =
       settled =
           record {
             receives = rw (← h.pending) (receives r);
-            sends = rw (← h.pending) (sends_settled m.role t.z (past t) (λ q. has_full t.turn q) m.raw m.waiting.items (is_rep m t h) (is_raw m t h) h.routed (ap (λ (xs : List Port). find (is_ready m.raw xs) m.waiting.items) (sym h.ports) ∙ f));
+            sends = rw (← h.pending) (sends_settled m.role t.z (past t) (λ q. has_full t.turn q) m.raw m.waiting.items (is_rep m t h) (is_raw m t h) h.routed (ap (λ (xs : List Port). find (is_ready m.raw xs) m.waiting.items) (sym h.pipes.ports) ∙ f));
             again = λ q. let k : false ≡ true = sym (no_resends m.role t.z (is_rep m t h)) ∙ q in absurd cc;
             finished = ap (λ b. (cond b (asked t.z (past t)) no_requests).orphans) (asks_nothing m.role t.z (is_rep m t h));
           };
@@ -242,9 +233,9 @@ pub can_send : (m : Reply) (t : Moment) (w : Waiting) (r : Answer) (p : ℕ) →
 can_send m t w r p h f e g =
     let full : ℕ → Bool = λ q. has_full t.turn q in
     let apart = subst (λ (ss : List Begun). AreApart ss) (sym h.pending) h.apart in
-    let way = goes_on full (up (past t)) (target_of m.raw r) p (ap (λ (xs : List Port). way_of m.raw xs r) (sym h.ports) ∙ g) in
+    let way = goes_on full (up (past t)) (target_of m.raw r) p (ap (λ (xs : List Port). way_of m.raw xs r) (sym h.pipes.ports) ∙ g) in
     let from : option_map origin_of r.source ≡ route t.z (past t) w.op = route_of (λ o. route t.z (past t) o) (is_ready m.raw m.ports.items) m.waiting.items w r h.routed f e in
-    let found : find (is_ready m.raw (map (port_of full) (up (past t)))) m.waiting.items ≡ Some w = ap (λ (xs : List Port). find (is_ready m.raw xs) m.waiting.items) (sym h.ports) ∙ f in
+    let found : find (is_ready m.raw (map (port_of full) (up (past t)))) m.waiting.items ≡ Some w = ap (λ (xs : List Port). find (is_ready m.raw xs) m.waiting.items) (sym h.pipes.ports) ∙ f in
     let number : is_number (target_of m.raw r) p ≡ true = ap (λ (to : Option ℕ). is_number to p) way.0 ∙ is_same p in
     record {
       pending = ap (find (is_of w.op)) (sym h.pending) ∙ find_own (is_ready m.raw m.ports.items) m.waiting.items w f apart;
@@ -266,7 +257,7 @@ pub can_drop : (m : Reply) (t : Moment) (w : Waiting) (r : Answer) → Calm t.z 
 can_drop m t w r q h f e g =
     let full : ℕ → Bool = λ q. has_full t.turn q in
     let apart = subst (λ (ss : List Begun). AreApart ss) (sym h.pending) h.apart in
-    let none = nowhere_up full (up (past t)) (target_of m.raw r) (ap (λ (xs : List Port). way_of m.raw xs r) (sym h.ports) ∙ g) in
+    let none = nowhere_up full (up (past t)) (target_of m.raw r) (ap (λ (xs : List Port). way_of m.raw xs r) (sym h.pipes.ports) ∙ g) in
     let from : option_map origin_of r.source ≡ route t.z (past t) w.op = route_of (λ o. route t.z (past t) o) (is_ready m.raw m.ports.items) m.waiting.items w r h.routed f e in
     record {
       pending = ap (find (is_of w.op)) (sym h.pending) ∙ find_own (is_ready m.raw m.ports.items) m.waiting.items w f apart;

@@ -29,6 +29,7 @@ use Rattle.sp_history.specs.Moments.{Moment, past}
 use Rattle.sp_history.proofs.OnceHolds.{same_op-refl, occurs-find}
 use Rattle.sp_proto.specs.Kinds.{text_of}
 use Rattle.sp_proto.specs.Machines.{CanGive, CanSend, CanFinish, CanAgain, IsIdle, IsOffered}
+use Rattle.sp_proto.specs.Readings.{out_last}
 use Rattle.sp_proto.specs.declared.Offer.{Offer}
 use Rattle.sp_proto.specs.declared.Offer.TheVariants as offers
 use Rattle.proto_reqrep.specs.Ports.{port_of, is_free, is_free_behind, next_port, or_else, next_number as next_pipe}
@@ -36,7 +37,9 @@ use Rattle.proto_reqrep.specs.Ports.{Port}
 use Rattle.proto_reqrep.specs.declared.req.Request.{Request as Machine}
 use Rattle.proto_reqrep.specs.declared.req.Live.{Live}
 use Rattle.proto_reqrep.specs.declared.req.Asking.{Asking}
-use Rattle.proto_reqrep.specs.Reqs.{Ties, IsNextPipe, out_last, begun_of, act_of, is_sending, is_live_on, live_ctx, request_of, is_due, out_offer, is_given, dry_at, HasLive}
+use Rattle.proto_reqrep.specs.Hints.{HintsView}
+use Rattle.proto_reqrep.proofs.Spotted.{none_find}
+use Rattle.proto_reqrep.specs.Reqs.{gets, answers, AreReady, is_receiving_on, Ties, IsNextPipe, begun_of, act_of, is_sending, is_live_on, live_ctx, request_of, is_due, out_offer, is_given, dry_at, HasLive}
 use Rattle.proto_reqrep.proofs.Orphaned.{orphan_found, all_finished}
 use Rattle.proto_reqrep.proofs.Living.{equal_of, same_number}
 use Rattle.proto_reqrep.proofs.Owning.{owned_at}
@@ -112,10 +115,6 @@ can_finish m t w h f =
 
 -- ---- Give
 
--- a receive that can be given a message
-abbrev pub gets : Machine → Asking → Bool
-gets m w = not (is_sending w) && is_given m.raw m.kept.items m.live.items w.ctx
-
 first_of : (a b : Bool) → (a && b) ≡ true → a ≡ true
 first_of true b h = refl
 first_of false b h = absurd cc
@@ -128,37 +127,65 @@ recv_is : (o : Option MessageView) → is_recv (act_of o) ≡ not (is_some o)
 recv_is None = refl
 recv_is (Some x) = refl
 
-first_on : (m : Machine) (ws : List Asking) (w : Asking) → find (gets m) ws ≡ Some w → is_given m.raw m.kept.items m.live.items w.ctx ≡ true → is_sending w ≡ false → option_map (λ (s : Begun). s.op) (find (is_recv_on w.ctx) (map begun_of ws)) ≡ Some w.op
-first_on m [] w h g s = absurd cc
-first_on m (v ∷ ws) w h g s = go (gets m v) refl h (λ q. first_on m ws w q g s)
+first_on : (c : ℕ) (ws : List Asking) → find (is_recv_on c) (map begun_of ws) ≡ option_map begun_of (find (is_receiving_on c) ws)
+first_on c [] = refl
+first_on c (w ∷ ws) = ap (λ b. cond (b && (w.ctx == c)) (Some (begun_of w)) (find (is_recv_on c) (map begun_of ws))) (recv_is w.message) ∙ go (is_receiving_on c w) (first_on c ws)
   where
-    go : (b : Bool) → gets m v ≡ b → cond b (Some v) (find (gets m) ws) ≡ Some w → (find (gets m) ws ≡ Some w → option_map (λ (s : Begun). s.op) (find (is_recv_on w.ctx) (map begun_of ws)) ≡ Some w.op)
-        → option_map (λ (s : Begun). s.op) (cond (is_recv_on w.ctx (begun_of v)) (Some (begun_of v)) (find (is_recv_on w.ctx) (map begun_of ws))) ≡ Some w.op
-    go true e h again =
-        let is : v ≡ w = some_inj v w h in
-        let on : is_recv_on w.ctx (begun_of w) ≡ true = both _ _ (recv_is w.message ∙ ap not s) (same_number w.ctx) in
-        subst (λ (x : Asking). option_map (λ (s : Begun). s.op) (cond (is_recv_on w.ctx (begun_of x)) (Some (begun_of x)) (find (is_recv_on w.ctx) (map begun_of ws))) ≡ Some w.op) (sym is) (rw on refl)
-    go false e h again = step (is_recv_on w.ctx (begun_of v)) refl (again h)
+    go : (b : Bool) → find (is_recv_on c) (map begun_of ws) ≡ option_map begun_of (find (is_receiving_on c) ws) → cond b (Some (begun_of w)) (find (is_recv_on c) (map begun_of ws)) ≡ option_map begun_of (cond b (Some w) (find (is_receiving_on c) ws))
+    go true h = refl
+    go false h = h
+
+-- the first that can be given a message is the first on its context
+pub first_gift : (m : Machine) (ws : List Asking) (w : Asking) → find (gets m) ws ≡ Some w → find (is_receiving_on w.ctx) ws ≡ Some w
+first_gift m [] w h = absurd cc
+first_gift m (v ∷ ws) w h = go (gets m v) refl h (λ q. first_gift m ws w q)
+  where
+    on : gets m v ≡ true → v ≡ w → is_receiving_on w.ctx v ≡ true
+    on e is = subst (λ (x : Asking). is_receiving_on x.ctx v ≡ true) is (both _ _ (first_of (not (is_sending v)) _ e) (same_number v.ctx))
+
+    go : (b : Bool) → gets m v ≡ b → cond b (Some v) (find (gets m) ws) ≡ Some w → (find (gets m) ws ≡ Some w → find (is_receiving_on w.ctx) ws ≡ Some w) → cond (is_receiving_on w.ctx v) (Some v) (find (is_receiving_on w.ctx) ws) ≡ Some w
+    go true e h again = let it = on e (some_inj v w h) in rw it h
+    go false e h again = step (is_receiving_on w.ctx v) refl (again h)
       where
-        step : (b : Bool) → is_recv_on w.ctx (begun_of v) ≡ b → option_map (λ (s : Begun). s.op) (find (is_recv_on w.ctx) (map begun_of ws)) ≡ Some w.op → option_map (λ (s : Begun). s.op) (cond b (Some (begun_of v)) (find (is_recv_on w.ctx) (map begun_of ws))) ≡ Some w.op
+        step : (b : Bool) → is_receiving_on w.ctx v ≡ b → find (is_receiving_on w.ctx) ws ≡ Some w → cond b (Some v) (find (is_receiving_on w.ctx) ws) ≡ Some w
         step false k more = more
         step true k more =
-            let receive : not (is_sending v) ≡ true = sym (recv_is v.message) ∙ first_of _ _ k in
-            let on : v.ctx ≡ w.ctx = equal_of v.ctx w.ctx (second_of (is_recv (act_of v.message)) (v.ctx == w.ctx) k) in
-            let given : is_given m.raw m.kept.items m.live.items v.ctx ≡ true = ap (is_given m.raw m.kept.items m.live.items) on ∙ g in
-            let bad : true ≡ false = sym (both _ _ receive given) ∙ e in absurd cc
+            let given : is_given m.raw m.kept.items m.live.items v.ctx ≡ true = ap (is_given m.raw m.kept.items m.live.items) (equal_of v.ctx w.ctx (second_of (not (is_sending v)) (v.ctx == w.ctx) k)) ∙ second_of (not (is_sending w)) _ (found_true (gets m) ws w h) in
+            let bad : true ≡ false = sym (both _ _ (first_of (not (is_sending v)) (v.ctx == w.ctx) k) given) ∙ e in absurd cc
 
-pub can_give : (m : Machine) (t : Moment) (w : Asking) → Ties m t → list_any (λ (v : Asking). v.is_orphan) m.waiting.items ≡ false → find (gets m) m.waiting.items ≡ Some w → (x : Message) × CanGive t w.op (begun_of w) x
-can_give m t w h o f = go (kept t.z (past t) w.ctx) refl
+pub gift_given : (m : Machine) (ws : List Asking) (w : Asking) → find (gets m) ws ≡ Some w → is_given m.raw m.kept.items m.live.items w.ctx ≡ true
+gift_given m ws w f = second_of (not (is_sending w)) _ (found_true (gets m) ws w f)
+
+-- one was searched for
+pub left_gift : (m : Machine) (op : OpName) (b : Bool) → Some op ≡ cond {A = Option OpName} b (option_map (λ (w : Asking). w.op) (find (gets m) m.waiting.items)) None → (w : Asking) × (find (gets m) m.waiting.items ≡ Some w) × (w.op ≡ op)
+left_gift m op false e = absurd cc
+left_gift m op true e = go (find (gets m) m.waiting.items) refl e
   where
-    it : gets m w ≡ true
-    it = found_true (gets m) m.waiting.items w f
+    go : (o : Option Asking) → find (gets m) m.waiting.items ≡ o → Some op ≡ option_map (λ (w : Asking). w.op) o → (w : Asking) × (find (gets m) m.waiting.items ≡ Some w) × (w.op ≡ op)
+    go None f e = absurd cc
+    go (Some w) f e = (w, f, sym (some_inj op w.op e))
 
-    given : is_given m.raw m.kept.items m.live.items w.ctx ≡ true
-    given = second_of (not (is_sending w)) (is_given m.raw m.kept.items m.live.items w.ctx) it
+-- none can be given a message
+pub no_gift : (m : Machine) (r : HintsView) → r.whole ≡ m.ready.whole → (m.raw ≡ false → AreReady m.ready m.live.items m.waiting.items → m.ready.whole ≡ true → list_any (answers m.live.items) m.waiting.items ≡ false)
+    → None ≡ cond {A = Option OpName} (m.raw || not r.whole) (option_map (λ (w : Asking). w.op) (find (gets m) m.waiting.items)) None → AreReady m.ready m.live.items m.waiting.items → find (gets m) m.waiting.items ≡ None
+no_gift m r w k e h = go m.raw refl r.whole refl e
+  where
+    empty : (o : Option Asking) → None ≡ option_map (λ (w : Asking). w.op) o → o ≡ None
+    empty None q = refl
+    empty (Some x) q = absurd cc
 
+    go : (b : Bool) → m.raw ≡ b → (c : Bool) → r.whole ≡ c → None ≡ cond {A = Option OpName} (b || not c) (option_map (λ (w : Asking). w.op) (find (gets m) m.waiting.items)) None → find (gets m) m.waiting.items ≡ None
+    go true p c q f = empty _ f
+    go false p false q f = empty _ f
+    go false p true q f =
+        let cooked : find (answers m.live.items) m.waiting.items ≡ None = none_find (answers m.live.items) m.waiting.items (k p h (sym w ∙ q)) in
+        ap (λ b. find (λ (v : Asking). not (is_sending v) && is_given b m.kept.items m.live.items v.ctx) m.waiting.items) p ∙ cooked
+
+pub can_give : (m : Machine) (t : Moment) (w : Asking) → Ties m t → list_any (λ (v : Asking). v.is_orphan) m.waiting.items ≡ false → find (is_receiving_on w.ctx) m.waiting.items ≡ Some w → is_given m.raw m.kept.items m.live.items w.ctx ≡ true → (x : Message) × CanGive t w.op (begun_of w) x
+can_give m t w h o f given = go (kept t.z (past t) w.ctx) refl
+  where
     receive : is_sending w ≡ false
-    receive = flip (is_sending w) (first_of (not (is_sending w)) (is_given m.raw m.kept.items m.live.items w.ctx) it)
+    receive = flip (is_sending w) (first_of (not (is_sending w)) (w.ctx == w.ctx) (found_true (is_receiving_on w.ctx) m.waiting.items w f))
       where
         flip : (b : Bool) → not b ≡ true → b ≡ false
         flip true q = absurd cc
@@ -168,7 +195,7 @@ can_give m t w h o f = go (kept t.z (past t) w.ctx) refl
     alive i is e q = step m.raw refl
       where
         own : is_orphan (requests t.z (past t)) w.op ≡ false
-        own = flag m t (gets m) w h f ∙ none_at (λ (v : Asking). v.is_orphan) (gets m) m.waiting.items w o f
+        own = flag m t (is_receiving_on w.ctx) w h f ∙ none_at (λ (v : Asking). v.is_orphan) (is_receiving_on w.ctx) m.waiting.items w o f
 
         cooked : m.raw ≡ true → true ≡ false
         cooked r = sym q ∙ raw_none t.z (is_req_role m t h) (is_raw m t h ∙ r)
@@ -190,11 +217,11 @@ can_give m t w h o f = go (kept t.z (past t) w.ctx) refl
     go (i ∷ is) e = (
       i.message,
       record {
-        pending = own_pending m t (gets m) w h f;
+        pending = own_pending m t (is_receiving_on w.ctx) w h f;
         may =
             record {
               is_receive = recv_is w.message ∙ ap not receive;
-              first_pending = ap (λ (ss : List Begun). option_map (λ (s : Begun). s.op) (find (is_recv_on w.ctx) ss)) (sym h.3.pending) ∙ first_on m m.waiting.items w f given receive;
+              first_pending = ap (λ (ss : List Begun). option_map (λ (s : Begun). s.op) (find (is_recv_on w.ctx) ss)) (sym h.3.pending) ∙ ap (option_map (λ (s : Begun). s.op)) (first_on w.ctx m.waiting.items ∙ ap (option_map begun_of) f);
               oldest = ap (λ (l : List Item). option_map (λ (i : Item). i.message) (head_of l)) e;
               live = λ q. alive i is e q;
             };

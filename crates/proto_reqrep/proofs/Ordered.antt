@@ -8,7 +8,7 @@ use Rattle.proto_reqrep.specs.Backlogs.{is_of}
 use Rattle.proto_reqrep.specs.Ordered.{is_before, AreOver, AreOrdered}
 use Rattle.proto_reqrep.specs.Reqs.{without_found}
 use Rattle.proto_reqrep.proofs.Living.{same_number}
-use Rattle.proto_reqrep.proofs.Rising.{at_place_is, at_or_above, at_none}
+use Rattle.proto_reqrep.proofs.Rising.{at_place_is, at_none}
 
 other : (m n : ℕ) → m < n → (m == n) ≡ false
 other m n h = grind (arith, nat_tests)

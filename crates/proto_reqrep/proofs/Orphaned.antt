@@ -15,6 +15,7 @@ use Rattle.sp_history.specs.Requests.{is_orphan, orphan_of, is_bereft, end_on, w
 use Rattle.sp_history.specs.Legal.{was_superseded}
 use Rattle.sp_history.proofs.OnceHolds.{same_op-refl, same_op-eq}
 use Rattle.proto_reqrep.specs.declared.req.Asking.{Asking}
+use Rattle.proto_reqrep.specs.Waits.{left_on}
 use Rattle.proto_reqrep.specs.Reqs.{begun_of, is_asked, is_left, orphaned, without_first, is_superseded}
 
 pub any_either : {A : Type 0} (f : A → Bool) (xs ys : List A) → list_any f (xs ++ ys) ≡ (list_any f xs || list_any f ys)
@@ -326,3 +327,14 @@ flag_of (v ∷ ws) P w a h = go (P v) h (λ k. flag_of ws P w (rest_apart v ws a
             skip : (l : Bool) → list_any (is_left w.op) ws ≡ w.is_orphan → (l && false || list_any (is_left w.op) ws) ≡ w.is_orphan
             skip true h = h
             skip false h = h
+
+-- the operations that are left behind
+pub left_orphaned : (c : ℕ) (ws : List Asking) → map (left_on (λ (w : Asking). w.ctx) (λ (w : Asking). record { op = w.op; ctx = w.ctx; message = w.message; is_orphan = true }) c) ws ≡ map (orphaned c) ws
+left_orphaned c [] = refl
+left_orphaned c (w ∷ ws) = ap (λ (v : Asking). v ∷ map (left_on (λ (w : Asking). w.ctx) (λ (w : Asking). record { op = w.op; ctx = w.ctx; message = w.message; is_orphan = true }) c) ws) (go (c == w.ctx) w.is_orphan refl) ∙ ap (λ (vs : List Asking). orphaned c w ∷ vs) (left_orphaned c ws)
+  where
+    go : (b a : Bool) → w.is_orphan ≡ a → cond b (record { op = w.op; ctx = w.ctx; message = w.message; is_orphan = true }) w ≡ record { op = w.op; ctx = w.ctx; message = w.message; is_orphan = w.is_orphan || b }
+    go true true e = rw e refl
+    go true false e = rw e refl
+    go false true e = ap (λ v. record { op = w.op; ctx = w.ctx; message = w.message; is_orphan = v }) (e ∙ sym (ap (λ v. v || false) e))
+    go false false e = ap (λ v. record { op = w.op; ctx = w.ctx; message = w.message; is_orphan = v }) (e ∙ sym (ap (λ v. v || false) e))

@@ -25,17 +25,16 @@ use Rattle.sp_history.specs.Legal.{is_at}
 use Rattle.sp_history.specs.Moments.{Moment, Lawful, past, also, next}
 use Rattle.sp_history.proofs.OnceHolds.{same_op-refl}
 use Rattle.sp_proto.specs.Kinds.{Kind}
-use Rattle.sp_proto.specs.Machines.{CanSend}
 use Rattle.proto_reqrep.specs.declared.rep.Reply.{Reply}
 use Rattle.proto_reqrep.specs.declared.rep.Kept.{Kept}
 use Rattle.proto_reqrep.specs.declared.rep.Source.{Source}
 use Rattle.proto_reqrep.specs.declared.rep.Place.{Place}
 use Rattle.proto_reqrep.specs.declared.rep.Answer.{Answer}
 use Rattle.proto_reqrep.specs.declared.rep.Waiting.{Waiting}
-use Rattle.proto_reqrep.specs.Ports.{Port, port_of, marked, cleared, is_below, free_count}
+use Rattle.proto_reqrep.specs.Ports.{Port, marked, cleared, is_below}
 use Rattle.proto_reqrep.specs.Reps.{Ties, item_of, origin_of, origin_at, begun_of, act_of, ctx_of, Routed, AreHome}
 use Rattle.proto_reqrep.proofs.Taking.{apart_more}
-use Rattle.proto_reqrep.proofs.Piping.{ports_without, has_without, fewer_free, ports_marked, marks_fewer, ports_cleared, ports_more, known_more, below_all}
+use Rattle.proto_reqrep.proofs.Knowing.{up_knows, known_below, fresh_knows, full_knows, down_knows}
 use Rattle.proto_reqrep.proofs.Homes.{opens_none, shut_ctxs, shut_origins}
 use Rattle.proto_reqrep.specs.Reps.{role_of}
 use Rattle.proto_reqrep.specs.declared.rep.ReplyRole.{ReplyRole}
@@ -90,18 +89,15 @@ pool_down : (y : ReplyRole) (z : Setting) (before : List Entry) (p : ℕ) (why :
 pool_down y z before p why h = ap (λ b. cond b (filter (λ i. not (is_from p i)) (pool z before 0)) (pool z before 0)) (replies y z h)
 
 pub up_below : (m : Reply) (t : Moment) (p place : ℕ) (name : WireName) → Lawful (also t (Up p place name)) → Ties m t → list_all (is_below p) m.ports.items ≡ true
-up_below m t p place name l h = ap (list_all (is_below p)) h.ports ∙ below_all (λ q. has_full t.turn q) (up (past t)) (ups (past t)) p h.known l.turn.0.itself.0
+up_below m t p place name l h = known_below m.ports.items (up (past t)) (ups (past t)) p (λ q. has_full t.turn q) h.pipes l.turn.0.itself.0
 
 pub up_ties : (m n : Reply) (t : Moment) (p place : ℕ) (name : WireName) → Lawful (also t (Up p place name)) → Ties m t → n.ports.items ≡ m.ports.items ++ record { pipe = p; is_full = false } ∷ [] → n.kept ≡ m.kept → n.waiting ≡ m.waiting → n.places ≡ m.places
     → (n.raw ≡ m.raw) × (n.options ≡ m.options) × (n.role ≡ m.role) → Ties n (also t (Up p place name))
 up_ties m n t p place name l h e f w g same =
-    let number : p ≡ ups (past t) + 1 = l.turn.0.itself.0 in
     record {
       kind = rw (same.0, same.1, same.2) h.kind;
       most = rw same.1 h.most;
-      ports = e ∙ ap (λ (xs : List Port). xs ++ record { pipe = p; is_full = false } ∷ []) h.ports ∙ ports_more (λ q. has_full t.turn q) (up (past t)) p (h.unmet p (omega (arith, number)));
-      known = known_more (up (past t)) (ups (past t)) p h.known number;
-      unmet = λ q k. h.unmet q (omega (arith, k));
+      pipes = up_knows n.ports.items m.ports.items (up (past t)) (ups (past t)) p (λ q. has_full t.turn q) h.pipes l.turn.0.itself.0 e;
       items = rw f h.items;
       pending = rw w h.pending;
       apart = h.apart;
@@ -117,9 +113,7 @@ down_ties m n t p why h e f w l same =
     record {
       kind = rw (same.0, same.1, same.2) h.kind;
       most = rw same.1 h.most;
-      ports = e ∙ ap (filter (λ (x : Port). not (x.pipe == p))) h.ports ∙ ports_without (λ q. has_full t.turn q) (up (past t)) p;
-      known = λ q k. h.known q (has_without (up (past t)) p q k);
-      unmet = h.unmet;
+      pipes = down_knows n.ports.items m.ports.items t p why h.pipes e;
       items = ap (map item_of) f ∙ kept_without p m.kept.items ∙ ap (filter (λ i. not (is_from p i))) h.items ∙ sym (pool_down m.role t.z (past t) p why (is_rep m t h));
       pending = rw w h.pending;
       apart = h.apart;
@@ -129,20 +123,12 @@ down_ties m n t p why h e f w l same =
       routed = rw w h.routed;
     }
 
-pub down_left : (m : Reply) (t : Moment) (op : OpName) (p : ℕ) (s : Begun) (b : List ℕ) (xs : List Port) → Ties m t → CanSend t op p s b → xs ≡ filter (λ (x : Port). not (x.pipe == p)) m.ports.items → free_count xs < free_count m.ports.items
-down_left m t op p s b xs h c e =
-    let full : ℕ → Bool = λ q. has_full t.turn q in
-    let now : xs ≡ map (port_of full) (without (up (past t)) p) = e ∙ ap (filter (λ (x : Port). not (x.pipe == p))) h.ports ∙ ports_without full (up (past t)) p in
-    rw (now, h.ports) (fewer_free full p (up (past t)) c.not_full c.is_up)
-
 pub full_ties : (m n : Reply) (t : Moment) (p : ℕ) → Lawful (also t (Full p)) → Ties m t → n.ports.items ≡ map (marked p) m.ports.items → n.kept ≡ m.kept → n.waiting ≡ m.waiting → n.places ≡ m.places → (n.raw ≡ m.raw) × (n.options ≡ m.options) × (n.role ≡ m.role) → Ties n (also t (Full p))
 full_ties m n t p l h e f w g same =
     record {
       kind = rw (same.0, same.1, same.2) h.kind;
       most = rw same.1 h.most;
-      ports = e ∙ ap (map (marked p)) h.ports ∙ ports_marked (λ q. has_full t.turn q) p (up (past t));
-      known = h.known;
-      unmet = λ q k. ap (λ b. (p == q) || b) (h.unmet q k) ∙ other q (h.known p l.turn.0.itself) k;
+      pipes = full_knows n.ports.items m.ports.items t p l h.pipes e;
       items = rw f h.items;
       pending = rw w h.pending;
       apart = h.apart;
@@ -151,24 +137,13 @@ full_ties m n t p l h e f w g same =
       stored = rw g h.stored;
       routed = rw w h.routed;
     }
-  where
-    other : (q : ℕ) → p ≤ ups (past t) → ups (past t) < q → ((p == q) || false) ≡ false
-    other q k g = grind (arith, nat_tests)
-
-pub full_left : (m : Reply) (t : Moment) (op : OpName) (p : ℕ) (s : Begun) (b : List ℕ) (xs : List Port) → Ties m t → CanSend t op p s b → xs ≡ map (marked p) m.ports.items → free_count xs < free_count m.ports.items
-full_left m t op p s b xs h c e =
-    let full : ℕ → Bool = λ q. has_full t.turn q in
-    let now : xs ≡ map (port_of (λ q. (p == q) || full q)) (up (past t)) = e ∙ ap (map (marked p)) h.ports ∙ ports_marked full p (up (past t)) in
-    rw (now, h.ports) (marks_fewer full p (up (past t)) c.not_full c.is_up)
 
 pub fresh_ties : (m n : Reply) (t : Moment) (k : ℕ) → Ties m t → n.ports.items ≡ map cleared m.ports.items → n.kept ≡ m.kept → n.waiting ≡ m.waiting → n.places ≡ m.places → (n.raw ≡ m.raw) × (n.options ≡ m.options) × (n.role ≡ m.role) → Ties n (next t k)
 fresh_ties m n t k h e f w g same =
     record {
       kind = rw (same.0, same.1, same.2) h.kind;
       most = rw same.1 h.most;
-      ports = e ∙ ap (map cleared) h.ports ∙ ports_cleared (λ q. has_full t.turn q) (up (past t));
-      known = h.known;
-      unmet = λ q g. refl;
+      pipes = fresh_knows n.ports.items m.ports.items (up (past t)) (ups (past t)) (λ q. has_full t.turn q) h.pipes e;
       items = rw f h.items;
       pending = rw w h.pending;
       apart = h.apart;
@@ -200,9 +175,7 @@ opened_ties m n t c h e p f w same =
     record {
       kind = rw (same.0, same.1, same.2) h.kind;
       most = rw same.1 h.most;
-      ports = rw p h.ports;
-      known = h.known;
-      unmet = h.unmet;
+      pipes = rw p h.pipes;
       items = rw f h.items;
       pending = rw w h.pending;
       apart = h.apart;
@@ -247,9 +220,7 @@ shut_ties m n t c l h e p f w same =
     record {
       kind = rw (same.0, same.1, same.2) h.kind;
       most = rw same.1 h.most;
-      ports = rw p h.ports;
-      known = h.known;
-      unmet = h.unmet;
+      pipes = rw p h.pipes;
       items = rw f h.items ∙ sym (pool_shut t.z (past t) c l.turn.0.itself.0);
       pending = rw w h.pending;
       apart = h.apart;
@@ -294,9 +265,7 @@ begun_ties m n t w a source deadline l h i j u v x e p f same =
     record {
       kind = rw (same.0, same.1, same.2) h.kind;
       most = rw same.1 h.most;
-      ports = rw p h.ports;
-      known = h.known;
-      unmet = h.unmet;
+      pipes = rw p h.pipes;
       items = rw f h.items;
       pending =
           ap (map begun_of) e ∙ map-append begun_of m.waiting.items (w ∷ []) ∙ ap (λ (ss : List Begun). ss ++ begun_of w ∷ []) h.pending

@@ -1,6 +1,6 @@
 -- Which seats are dry.
-use Rattle.std.proofs.Common.{◌≡◌, refl, ap, sym, ◌∙◌, List, [], ◌∷◌, ◌++◌, ℕ, Bool, true, false, cond, map}
-use Rattle.std.specs.Prelude.{not, filter, ◌&&◌, ◌||◌, ◌==◌}
+use Rattle.std.proofs.Common.{◌≡◌, refl, ap, ◌∙◌, List, [], ◌∷◌, ◌++◌, ℕ, Bool, true, false, cond, map}
+use Rattle.std.specs.Prelude.{filter, ◌&&◌, ◌||◌, ◌==◌}
 use Rattle.std.specs.List.{list_any}
 use Rattle.proto_reqrep.specs.declared.req.Seat.{Seat}
 use Rattle.proto_reqrep.specs.Reqs.{seat_ctx, dry_at, dried, wetted}

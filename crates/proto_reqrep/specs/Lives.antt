@@ -1,12 +1,18 @@
 -- The live requests of a req, and how one is found by its context and by its id.
-use Rattle.std.specs.Prelude.{◌≡◌, ℕ, Bool, true, List}
+use Rattle.std.specs.Prelude.{◌≡◌, ◌≤◌, ℕ, Bool, true, false, is_some, List, take, length, Option, Some, None}
+use Rattle.std.specs.List.{list_any}
 use Rattle.proto_reqrep.specs.Backlogs.{IsIndexed}
 use Rattle.proto_reqrep.specs.Numbers.{is_known}
+use Rattle.proto_reqrep.specs.Spots.{held}
+use Rattle.proto_reqrep.specs.declared.spots.Spot.{Spot}
 use Rattle.proto_reqrep.specs.declared.req.Live.{Live}
 
--- the live requests, in the order of their begins, and how many more have room
+-- the live requests, in the order of their begins; how many of them are skipped, and the spots of the others; and how
+-- many more have room
 pub record LivesView : Type 0 where
   pub items : List Live
+  pub calm : ℕ
+  pub rest : List (Spot Live)
   pub room : ℕ
 
 -- numbers are known by the contexts and by the ids of these requests, and no two share one
@@ -17,3 +23,18 @@ pub record AreFound (cs : List (ℕ × ℕ)) (ids : List (ℕ × ℕ)) (xs : Lis
 -- so it is, if it is said
 abbrev pub AreIndexed : Bool → List (ℕ × ℕ) → List (ℕ × ℕ) → List Live → Type 0
 AreIndexed indexed cs ids xs = indexed ≡ true → AreFound cs ids xs
+
+-- it keeps a reply
+abbrev pub is_answered : Option Live → Bool
+is_answered None = false
+is_answered (Some x) = is_some x.reply
+
+-- what is skipped stays so
+abbrev pub StayCalm : LivesView → LivesView → Type 0
+StayCalm old new = (P : Live → Bool) → list_any P (take old.calm old.items) ≡ false → list_any P (take new.calm new.items) ≡ false
+
+-- they are known by their contexts and ids, if it is said; so many are live, and the mark is one of a spot or the end
+pub record AreKept (indexed : Bool) (cs ids : List (ℕ × ℕ)) (alive skipped : ℕ) (ss : List (Spot Live)) : Type 0 where
+  pub by_number : AreIndexed indexed cs ids (held ss)
+  pub number : alive ≡ length (held ss)
+  pub bound : skipped ≤ length ss

@@ -1,5 +1,5 @@
 -- Elements in the order of their numbers.
-use Rattle.std.specs.Prelude.{◌≡◌, ◌<◌, ℕ, nat_lt, Bool, true, ⊤, List, [], ◌∷◌}
+use Rattle.std.specs.Prelude.{◌<◌, ℕ, nat_lt, Bool, ⊤, List, [], ◌∷◌}
 
 -- its number is below this one
 abbrev pub is_before : {A : Type 0} → (A → ℕ) → ℕ → A → Bool

@@ -1,5 +1,5 @@
 -- What a rep stands for.
-use Rattle.std.specs.Prelude.{◌≡◌, ◌≤◌, ◌<◌, ◌==◌, ◌&&◌, ℕ, Bool, true, false, not, ⊤, if◌then◌else◌, List, [], ◌∷◌, ◌++◌, map, find, drop, Option, Some, None, is_some}
+use Rattle.std.specs.Prelude.{◌≡◌, ◌≤◌, ◌==◌, ◌&&◌, ℕ, Bool, true, false, not, ⊤, if◌then◌else◌, List, [], ◌∷◌, ◌++◌, map, find, drop, Option, Some, None, is_some}
 use Rattle.std.specs.List.{list_any}
 use Rattle.std.specs.Option.{option_map}
 use Rattle.sp_base.specs.declared.OpName.{OpName}
@@ -13,18 +13,16 @@ use Rattle.sp_history.specs.declared.parts.Item.{Item}
 use Rattle.sp_history.specs.declared.parts.Origin.{Origin}
 use Rattle.sp_history.specs.declared.setting.Options.{Options}
 use Rattle.sp_history.specs.Lists.{has, same_op, first_word}
-use Rattle.sp_history.specs.Past.{pend, ctxs, up, ups}
-use Rattle.sp_history.specs.Kept.{pool, stored, route}
 use Rattle.sp_history.specs.Once.{AreApart}
-use Rattle.sp_history.specs.Settled.{has_full}
-use Rattle.sp_history.specs.Moments.{Moment, past}
-use Rattle.sp_proto.specs.Kinds.{Kind, kind_of, text_of}
+use Rattle.sp_history.specs.Moments.{Moment}
+use Rattle.sp_proto.specs.Kinds.{Kind, text_of}
+use Rattle.sp_proto.specs.Readings.{Reading, reading}
 use Rattle.sp_proto.specs.declared.Offer.{Offer}
 use Rattle.sp_proto.specs.declared.Verb.{Verb}
 use Rattle.sp_proto.specs.declared.Verb.TheVariants as verbs
 use Rattle.sp_proto.specs.declared.Offer.TheVariants as offers
-use Rattle.proto_reqrep.specs.Ports.{port_of, where_is}
-use Rattle.proto_reqrep.specs.Ports.{Port}
+use Rattle.proto_reqrep.specs.Ports.{Port, Knows, where_is}
+use Rattle.proto_reqrep.specs.Reqs.{without_found}
 use Rattle.proto_reqrep.specs.declared.ports.Way.{Way}
 use Rattle.proto_reqrep.specs.declared.ports.Way.TheVariants as ways
 use Rattle.proto_reqrep.specs.declared.rep.Reply.{Reply}
@@ -80,8 +78,7 @@ is_for op w = same_op w.op op
 
 -- without the first of this name
 abbrev pub without_first : OpName → List Waiting → List Waiting
-without_first op [] = []
-without_first op (w ∷ ws) = if is_for op w then ws else w ∷ without_first op ws
+without_first op ws = without_found (is_for op) ws
 
 abbrev pub is_receive : Waiting → Bool
 is_receive w = not (is_some w.answer)
@@ -155,15 +152,13 @@ abbrev pub AreHome : List ℕ → List Begun → Type 0
 AreHome cs [] = ⊤
 AreHome cs (s ∷ ss) = (has cs s.ctx ≡ true) × AreHome cs ss
 
--- The machine is of this kind; knows these pipes as up and which of them are full, none with a number above that of the
--- last one that came up; keeps these items; has these operations pending, the oldest first, each on an open context;
--- and has stored, with each context and with each pending send, this request
+-- The machine is of this kind; knows these pipes as up and which of them are full; keeps these items; has these operations
+-- pending, the oldest first, each on an open context; and has stored, with each context and with each pending send, this
+-- request
 pub record Shows (m : Reply) (k : Kind) (us : List ℕ) (last : ℕ) (full : ℕ → Bool) (is : List Item) (ss : List Begun) (cs : List ℕ) (st : ℕ → Option Origin) (routes : OpName → Option Origin) : Type 0 where
   pub kind : k ≡ reply_kind (role_of m.role) m.raw m.options
   pub most : m.options.ttl ≤ 15
-  pub ports : m.ports.items ≡ map (port_of full) us
-  pub known : (q : ℕ) → has us q ≡ true → q ≤ last
-  pub unmet : (q : ℕ) → last < q → full q ≡ false
+  pub pipes : Knows m.ports.items us last full
   pub items : map item_of m.kept.items ≡ is
   pub pending : map begun_of m.waiting.items ≡ ss
   pub apart : AreApart ss
@@ -172,6 +167,9 @@ pub record Shows (m : Reply) (k : Kind) (us : List ℕ) (last : ℕ) (full : ℕ
   pub stored : (c : ℕ) → origin_at c m.places.items ≡ st c
   pub routed : Routed routes m.waiting.items
 
+-- it shows what it reads of a moment
+abbrev pub Stands : Reply → Reading → Type 0
+Stands m r = Shows m r.kind r.up r.ups r.full (r.pool 0) r.pend r.ctxs r.stored r.route
+
 abbrev pub Ties : Reply → Moment → Type 0
-Ties m t =
-    Shows m (kind_of t.z) (up (past t)) (ups (past t)) (λ q. has_full t.turn q) (pool t.z (past t) 0) (pend (past t)) (ctxs (past t)) (λ c. stored t.z (past t) c) (λ op. route t.z (past t) op)
+Ties m t = Stands m (reading t)

@@ -1,11 +1,9 @@
 -- What a req stands for.
-use Rattle.std.specs.Prelude.{◌≡◌, ◌≢◌, ◌≤◌, ◌<◌, ◌+◌, ◌-◌, ◌*◌, ◌^◌, ◌%◌, ◌==◌, ◌&&◌, ◌||◌, ℕ, zero, suc, Bool, true, false, not, ⊤, nat_le, if◌then◌else◌, List, [], ◌∷◌, ◌++◌, length, map, find, take, drop, Option, Some, None, is_some}
+use Rattle.std.specs.Prelude.{◌≡◌, ◌≢◌, ◌≤◌, ◌<◌, ◌+◌, ◌*◌, ◌^◌, ◌%◌, ◌==◌, ◌&&◌, ◌||◌, ℕ, zero, suc, Bool, true, false, not, ⊤, nat_le, if◌then◌else◌, List, [], ◌∷◌, ◌++◌, length, map, find, take, drop, Option, Some, None, is_some}
 use Rattle.std.specs.List.{list_any, list_all}
 use Rattle.sp_base.specs.declared.OpName.{OpName}
 use Rattle.sp_base.specs.declared.role.Role.TheVariants as role
 use Rattle.sp_msg.specs.Views.{MessageView}
-use Rattle.sp_history.specs.declared.entry.Entry.{Entry}
-use Rattle.sp_history.specs.declared.entry.Entry.TheVariants.{Out}
 use Rattle.sp_history.specs.declared.entry.Act.{Act}
 use Rattle.sp_history.specs.declared.entry.Act.TheVariants.{Recv, Send}
 use Rattle.sp_history.specs.declared.parts.Begun.{Begun}
@@ -16,22 +14,24 @@ use Rattle.sp_history.specs.declared.parts.Requests.{Requests}
 use Rattle.sp_history.specs.declared.parts.LastOut.{LastOut}
 use Rattle.sp_history.specs.declared.setting.Options.{Options}
 use Rattle.sp_history.specs.Lists.{has, same_op, is_nil, first_word}
-use Rattle.sp_history.specs.Past.{pend, ctxs, up, ups, now}
-use Rattle.sp_history.specs.Kept.{pool}
-use Rattle.sp_history.specs.Requests.{requests, is_orphan, next_number}
+use Rattle.sp_history.specs.Past.{up}
+use Rattle.sp_history.specs.Requests.{is_orphan, next_number}
 use Rattle.sp_history.specs.Legal.{was_superseded}
 use Rattle.sp_history.specs.Once.{AreApart, AreDistinct}
-use Rattle.sp_history.specs.Settled.{has_full, is_dry}
+use Rattle.sp_history.specs.Settled.{has_full}
 use Rattle.sp_history.specs.Moments.{Moment, past}
-use Rattle.sp_proto.specs.Kinds.{Kind, kind_of, text_of}
+use Rattle.sp_proto.specs.Kinds.{Kind, text_of}
+use Rattle.sp_proto.specs.Readings.{Reading, reading, out_last}
 use Rattle.sp_proto.specs.declared.Offer.{Offer}
 use Rattle.sp_proto.specs.declared.Offer.TheVariants as offers
 use Rattle.sp_proto.specs.declared.Verb.{Verb}
 use Rattle.sp_proto.specs.declared.Verb.TheVariants as verbs
 use Rattle.sp_proto.specs.declared.Verdict.{Verdict}
 use Rattle.sp_proto.specs.declared.Verdict.TheVariants as verdict
-use Rattle.proto_reqrep.specs.Ports.{port_of, is_pipe, free_count, next_number as next_pipe}
-use Rattle.proto_reqrep.specs.Ports.{Port}
+use Rattle.proto_reqrep.specs.Ports.{Port, Knows, is_pipe, free_count, next_number as next_pipe}
+use Rattle.proto_reqrep.specs.Lives.{StayCalm}
+use Rattle.proto_reqrep.specs.Hints.{HintsView, covers}
+use Rattle.std.specs.Option.{option_map}
 use Rattle.proto_reqrep.specs.declared.req.Request.{Request as Machine}
 use Rattle.proto_reqrep.specs.declared.req.Live.{Live}
 use Rattle.proto_reqrep.specs.declared.req.Kept.{Kept}
@@ -185,8 +185,32 @@ is_due resend t ps ss x = not (is_some x.reply) && (is_late_in resend t ps x.las
 abbrev pub AreCalm : ℕ → ℕ → List Port → List Seat → ℕ → List Live → Type 0
 AreCalm resend t ps ss n xs = list_any (is_due resend t ps ss) (take n xs) ≡ false
 
+-- a receive for which a reply is kept
+abbrev pub answers : List Live → Asking → Bool
+answers xs w = not (is_sending w) && list_any (keeps_reply w.ctx) xs
+
+-- the first receive on the context, if a reply is kept for it
+abbrev pub ready_on : List Live → List Asking → ℕ → Option OpName
+ready_on xs ws c = if list_any (keeps_reply c) xs then option_map (λ (w : Asking). w.op) (find (is_receiving_on c) ws) else None
+
+-- it is the first receive on its context, and a reply is kept for it
+abbrev pub IsReply : List Live → List Asking → OpName → Type 0
+IsReply xs ws op = (w : Asking) × (find (is_receiving_on w.ctx) ws ≡ Some w) × (w.op ≡ op) × (list_any (keeps_reply w.ctx) xs ≡ true)
+
+-- its context is not among those that are to be looked at
+abbrev pub is_missed : HintsView → List Live → Asking → Bool
+is_missed h xs w = answers xs w && not (covers h w.ctx)
+
+-- the contexts of receives for which a reply is kept are to be looked at
+abbrev pub AreReady : HintsView → List Live → List Asking → Type 0
+AreReady h xs ws = list_any (is_missed h xs) ws ≡ false
+
 abbrev pub IsCalm : Machine → Type 0
-IsCalm m = AreCalm m.options.resend m.tick m.ports.items m.seats.items m.calm m.live.items
+IsCalm m = AreCalm m.options.resend m.tick m.ports.items m.seats.items m.live.calm m.live.items × AreReady m.ready m.live.items m.waiting.items
+
+-- a receive that can be given a message
+abbrev pub gets : Machine → Asking → Bool
+gets m w = not (is_sending w) && is_given m.raw m.kept.items m.live.items w.ctx
 
 -- the place that was found, or the end
 abbrev pub reached : Option ℕ → ℕ → ℕ
@@ -228,8 +252,8 @@ abbrev pub Asks : ℕ → List ℕ → Machine → Machine → Type 0
 Asks c body m n =
     (x : Live) × IsNew m c body x × (length (without_live c m.live.items) < 2 ^ 31) × (n.live.items ≡ without_live c m.live.items ++ x ∷ [])
     × (n.waiting.items ≡ map (orphaned c) m.waiting.items) × (n.last_id ≡ Some x.id)
-    × (n.raw ≡ m.raw) × (n.options ≡ m.options) × (n.tick ≡ m.tick) × (n.ports ≡ m.ports) × (n.kept ≡ m.kept) × (n.last_pipe ≡ m.last_pipe) × (n.seats ≡ m.seats)
-    × (n.calm ≡ m.calm - 1)
+    × (n.raw ≡ m.raw) × (n.options ≡ m.options) × (n.tick ≡ m.tick) × (n.ports ≡ m.ports) × (n.kept ≡ m.kept) × (n.last_pipe ≡ m.last_pipe) × (n.seats ≡ m.seats) × (n.ready ≡ m.ready)
+    × StayCalm m.live n.live
 
 abbrev pub raw_item : ℕ → List ℕ → Item
 raw_item p b = record { pipe = p; words = []; message = record { header = take 4 b; body = drop 4 b } }
@@ -275,12 +299,6 @@ AreSingle (w ∷ ws) =
 abbrev pub is_superseded : Orphan → Bool
 is_superseded o = was_superseded (Some o.how)
 
--- the pipe of the last Out, or 0
-abbrev pub out_last : List Entry → ℕ
-out_last [] = 0
-out_last (Out p b ∷ past) = p
-out_last (_ ∷ past) = out_last past
-
 -- of the pipes that are up and were not found full in this turn, it is the next behind that of the last Out, in the
 -- round of their numbers
 abbrev pub IsNextPipe : Moment → ℕ → Type 0
@@ -293,12 +311,6 @@ pub record SetTo (raw : Bool) (options : Options) (tick : ℕ) (last : ℕ) (k :
   pub resend : 1 ≤ options.resend
   pub moment : tick ≡ t
   pub outs : last ≡ out
-
--- the pipes that are up, and which of them are full, none above the last one that came up
-pub record Knows (ps : List Port) (us : List ℕ) (last : ℕ) (full : ℕ → Bool) : Type 0 where
-  pub ports : ps ≡ map (port_of full) us
-  pub known : (q : ℕ) → has us q ≡ true → q ≤ last
-  pub unmet : (q : ℕ) → last < q → full q ≡ false
 
 -- the live requests, all of other ids and contexts; the pending operations, the oldest first, and which of them have no
 -- request any more
@@ -325,11 +337,15 @@ pub record Opened (xs : List Live) (seats : List Seat) (cs : List ℕ) (dry : �
 abbrev pub Keeps : Bool → List Kept → List Item → Type 0
 Keeps raw ks is = raw ≡ true → map item_of ks ≡ is
 
-abbrev pub Ties : Machine → Moment → Type 0
-Ties m t =
-    SetTo m.raw m.options m.tick m.last_pipe (kind_of t.z) (now (past t)) (out_last (past t))
-    × Knows m.ports.items (up (past t)) (ups (past t)) (λ q. has_full t.turn q)
-    × Keeps m.raw m.kept.items (pool t.z (past t) 0)
-    × Asked m.raw m.live.items m.last_id m.waiting.items (pend (past t)) (requests t.z (past t))
-    × Opened m.live.items m.seats.items (ctxs (past t)) (λ c. is_dry (past t) c)
+-- it stands for what it reads of a moment
+abbrev pub Stands : Machine → Reading → Type 0
+Stands m r =
+    SetTo m.raw m.options m.tick m.last_pipe r.kind r.now r.out_last
+    × Knows m.ports.items r.up r.ups r.full
+    × Keeps m.raw m.kept.items (r.pool 0)
+    × Asked m.raw m.live.items m.last_id m.waiting.items r.pend r.requests
+    × Opened m.live.items m.seats.items r.ctxs r.dry
     × IsCalm m
+
+abbrev pub Ties : Machine → Moment → Type 0
+Ties m t = Stands m (reading t)

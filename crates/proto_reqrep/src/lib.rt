@@ -1,7 +1,7 @@
 //! The machines of requests and replies, cooked and raw.
 //!
 //! `Request` is a req (nng_req(7)). A send on a context begins a request with an id of its own, which goes out on one pipe
-//! with room, and again when that pipe goes down or its time has come; the reply with its id is kept for it, one and no
+//! with room, and again when that pipe goes down or its time has come. The reply with its id is kept for it, one and no
 //! more, and answers it. A newer send replaces it, and a send or a receive that ends without success gives it up: what
 //! waits for it then is to be finished. Raw, the first word of a message is its header.
 //!
@@ -13,6 +13,7 @@
 
 mod backlog;
 mod contexts;
+mod hints;
 mod lives;
 mod numbers;
 mod places;
@@ -20,7 +21,9 @@ mod ports;
 mod rep;
 mod req;
 mod seats;
+mod spots;
 mod trail;
+mod waits;
 
 pub use rep::{Reply, Respond};
 pub use req::Request;

@@ -1,19 +1,24 @@
 //! The requests that are live.
 //!
-//! They stand in the order of their begins. Each has a number, which rises in that order. By its context and by its id
-//! its number is known, and by its number its place is found by halving, where it is then looked at. One that isn't
-//! there is not known, either. One that ends leaves its place to those behind it: their bytes move, and none is
-//! compared. They are searched through only where a number isn't known, for which a reserve leaves no cause.
-ghost use Rattle.std.specs.Prelude.{◌≡◌, ◌≤◌, ◌<◌, ◌+◌, ◌==◌, ◌++◌, ◌∷◌, ℕ, [], Some, None, true, false, if◌then◌else◌, find, map, length, is_some, OnOk, IfSome, slice_index_or};
+//! They stand in the order of their begins, each at a spot that it leaves behind when it ends, so that none of the
+//! others moves; where no room is left and nothing stands at half of the spots, the others are closed up. By its context
+//! and by its id the number of its spot is known, and by that its spot is found by halving, where it is then looked at.
+//! One that isn't there is not known, either. They are searched through only where a number isn't known, for which a
+//! reserve leaves no cause.
+ghost use Rattle.std.specs.Prelude.{◌≡◌, ◌≤◌, ◌<◌, ◌+◌, ◌-◌, ◌==◌, ◌++◌, ◌∷◌, ℕ, Bool, [], Some, None, true, false, if◌then◌else◌, find, map, take, drop, length, is_some, OnOk, IfSome};
 ghost use Rattle.std.specs.List.{position, list_any};
 ghost use Rattle.std.specs.Option.{option_map};
 ghost use Rattle.sp_history.specs.Once.{AreDistinct};
 ghost use Rattle.proto_reqrep.specs.declared.req.Live.{Live as LiveType};
-ghost use Rattle.proto_reqrep.specs.Reqs.{is_live_on, live_ctx, live_id, waits_for, keeps_reply, with_reply, with_found, without_live, sent_at};
+ghost use Rattle.proto_reqrep.specs.Backlogs.{IsIndexed};
+ghost use Rattle.proto_reqrep.specs.Reqs.{is_live_on, live_ctx, live_id, waits_for, keeps_reply, with_reply, with_found, without_live, sent_at, with_kept};
+ghost use Rattle.proto_reqrep.specs.Spots.{holds, held, changed};
+ghost use Rattle.proto_reqrep.specs.Lives.{is_answered, StayCalm};
 ghost use Rattle.proto_reqrep.specs.Numbers.{number_at, is_known};
 
 use crate::numbers::Numbers;
 use crate::req::{Kept, Live};
+use crate::spots::{Spot, close_up_half, empty, hint, rest, stays};
 use sp_base::{Ctx, NoMemory};
 use sp_history::parts::LastOut;
 use sp_msg::Message;
@@ -24,40 +29,35 @@ use std::marker::Model;
 #[derive(Drop)]
 pub struct Lives {
     /// In the order of their begins.
-    list: Vec<Live>,
-    /// The number of each.
-    orders: Vec<u64>,
-    /// Their numbers by their contexts.
-    by_ctx: Numbers,
-    /// Their numbers by their ids.
-    by_id: Numbers,
-    /// The number of the next.
+    list: Vec<Spot<Live>>,
+    /// The number of the next spot.
     next: u64,
+    /// The numbers of their spots by their contexts.
+    by_ctx: Numbers,
+    /// The same by their ids.
+    by_id: Numbers,
     /// All numbers are known, and no two requests are of one context or have one id.
     is_indexed: bool,
+    /// So many are live.
+    alive: usize,
+    /// Those before this spot are skipped.
+    skipped: usize,
 }
 
 impl Model for Lives {
-    ghost use Rattle.std.specs.Prelude.{◌-◌};
+    ghost use Rattle.std.specs.Prelude.{◌-◌, take, drop, length};
     ghost use Rattle.std.specs.Vec.{vec_len, vec_capacity};
-    ghost use Rattle.proto_reqrep.specs.Lives.{LivesView, AreIndexed};
+    ghost use Rattle.proto_reqrep.specs.Spots.{held};
+    ghost use Rattle.proto_reqrep.specs.Lives.{LivesView, AreKept};
 
     ghost Value = { LivesView };
 
-    ghost view = { λ m. record { items = m.list.items; room = vec_capacity m.list - vec_len m.list } };
+    ghost view = { λ m. record { items = held m.list.items; calm = length (held (take m.skipped m.list.items)); rest = drop m.skipped m.list.items; room = vec_capacity m.list - vec_len m.list } };
 
-    ghost invariant = { λ m. AreIndexed m.is_indexed m.by_ctx m.by_id m.list.items };
+    ghost invariant = { λ m. AreKept m.is_indexed m.by_ctx m.by_id m.alive m.skipped m.list.items };
 }
 
-// ---- Places
-
-// Where the request of this number should stand.
-fn hint(orders: &[u64], n: u64) -> usize {
-    match orders.binary_search(&n) {
-        Ok(i) => i,
-        Err(i) => i,
-    }
-}
+// ---- Spots
 
 // It is of this context.
 fn is_on(x: &Live, c: Ctx) -> bool
@@ -66,23 +66,176 @@ fn is_on(x: &Live, c: Ctx) -> bool
     x.ctx.0 == c.0
 }
 
-// Where the request of the context stands.
-fn search_ctx(live: &[Live], c: Ctx) -> Option<usize>
-    ensures { result ≡ position (is_live_on c) live.now }
+// That of the context stands there.
+fn stands_on(s: &Spot<Live>, c: Ctx) -> bool
+    ensures { result ≡ holds (is_live_on c) s.now }
 {
-    live.iter().position(|x| is_on(x, c))
+    match &s.value {
+        None => false,
+        Some(x) => is_on(x, c),
+    }
+}
+
+// One of the context stands there that keeps a reply.
+fn replies_on(s: &Spot<Live>, c: Ctx) -> bool
+    ensures { result ≡ holds (keeps_reply c) s.now }
+{
+    match &s.value {
+        None => false,
+        Some(x) => x.ctx.0 == c.0 && x.reply.is_some(),
+    }
+}
+
+// One with this id stands there.
+fn has_id(s: &Spot<Live>, id: u32) -> bool
+    ensures { result ≡ holds (λ (x : LiveType). x.id == id) s.now }
+{
+    match &s.value {
+        None => false,
+        Some(x) => x.id == id,
+    }
+}
+
+// It waits for a reply with this id.
+fn waits(x: &Live, id: u32) -> bool
+    ensures { result ≡ waits_for id x.now }
+{
+    x.id == id && x.last_out.is_some() && x.reply.is_none()
+}
+
+// One that waits for it stands there.
+fn waits_at(s: &Spot<Live>, id: u32) -> bool
+    ensures { result ≡ holds (waits_for id) s.now }
+{
+    match &s.value {
+        None => false,
+        Some(x) => waits(x, id),
+    }
+}
+
+// One of the context is among them.
+fn any_on(list: &[Spot<Live>], c: Ctx) -> bool
+    ensures { result ≡ list_any (holds (is_live_on c)) list.now }
+{
+    list.iter().any(|s| stands_on(s, c))
+}
+
+// One of the context that keeps a reply is among them.
+fn any_reply_on(list: &[Spot<Live>], c: Ctx) -> bool
+    ensures { result ≡ list_any (holds (keeps_reply c)) list.now }
+{
+    list.iter().any(|s| replies_on(s, c))
+}
+
+// One with this id is among them.
+fn any_id(list: &[Spot<Live>], id: u32) -> bool
+    ensures { result ≡ list_any (holds (λ (x : LiveType). x.id == id)) list.now }
+{
+    list.iter().any(|s| has_id(s, id))
+}
+
+// ---- Places
+
+// Where the request of the context stands.
+fn search_ctx(list: &[Spot<Live>], c: Ctx) -> Option<usize>
+    ensures { result ≡ position (holds (is_live_on c)) list.now }
+{
+    list.iter().position(|s| stands_on(s, c))
 }
 
 // The same, where no other is of the context. It is looked for here first.
-fn place_on(live: &[Live], i: usize, c: Ctx) -> Option<usize>
-    ensures { AreDistinct (map live_ctx live.now) → result ≡ position (is_live_on c) live.now }
+fn place_on(list: &[Spot<Live>], i: usize, c: Ctx) -> Option<usize>
+    ensures { AreDistinct (map live_ctx (held list.now)) → result ≡ position (holds (is_live_on c)) list.now }
 {
-    if i < live.len() {
-        if is_on(&live[i], c) {
+    if i < list.len() {
+        if stands_on(&list[i], c) {
             return Some(i);
         }
     }
-    search_ctx(live, c)
+    search_ctx(list, c)
+}
+
+// The same, where its number may be known.
+fn ctx_place(list: &[Spot<Live>], by_ctx: &Numbers, known: bool, c: Ctx) -> Option<usize>
+    ensures { (known ≡ true → IsIndexed live_ctx (is_known by_ctx.now) (held list.now)) → result ≡ position (holds (is_live_on c)) list.now }
+{
+    if !known {
+        return search_ctx(list, c);
+    }
+    match by_ctx.get(c.0) {
+        None => None,
+        Some(n) => place_on(list, hint(list, n), c),
+    }
+}
+
+// Where the request stands that has this id and waits for a reply.
+fn search_id(list: &[Spot<Live>], id: u32) -> Option<usize>
+    ensures { result ≡ position (holds (waits_for id)) list.now }
+{
+    list.iter().position(|s| waits_at(s, id))
+}
+
+// The same, where no other has the id. It is looked for here first.
+fn place_of(list: &[Spot<Live>], i: usize, id: u32) -> Option<usize>
+    ensures { AreDistinct (map live_id (held list.now)) → result ≡ position (holds (waits_for id)) list.now }
+{
+    if i < list.len() {
+        if waits_at(&list[i], id) {
+            return Some(i);
+        }
+    }
+    search_id(list, id)
+}
+
+// The same, where its number may be known.
+fn id_place(list: &[Spot<Live>], by_id: &Numbers, known: bool, id: u32) -> Option<usize>
+    ensures { (known ≡ true → IsIndexed live_id (is_known by_id.now) (held list.now)) → result ≡ position (holds (waits_for id)) list.now }
+{
+    if !known {
+        return search_id(list, id);
+    }
+    match by_id.get(id) {
+        None => None,
+        Some(n) => place_of(list, hint(list, n), id),
+    }
+}
+
+// ---- What stands there
+
+// The id of the one that stands there.
+fn id_at(list: &[Spot<Live>], place: Option<usize>) -> Option<u32>
+    ensures { (P : LiveType → Bool) → place ≡ position (holds P) list.now → result ≡ option_map live_id (find P (held list.now)) }
+{
+    match place {
+        None => None,
+        Some(i) => {
+            if i >= list.len() {
+                return None;
+            }
+            match &list[i].value {
+                None => None,
+                Some(x) => Some(x.id),
+            }
+        }
+    }
+}
+
+/// The context of the one that stands there.
+pub fn ctx_at(list: &[Spot<Live>], place: Option<usize>) -> Option<Ctx>
+    ensures { (P : LiveType → Bool) → place ≡ position (holds P) list.now → result ≡ option_map live_ctx (find P (held list.now)) }
+{
+    match place {
+        None => None,
+        Some(i) => {
+            if i >= list.len() {
+                return None;
+            }
+            match &list[i].value {
+                None => None,
+                Some(x) => Some(x.ctx),
+            }
+        }
+    }
 }
 
 // It keeps a reply.
@@ -92,72 +245,81 @@ fn is_answered(x: &Live) -> bool
     x.reply.is_some()
 }
 
-// A reply with this id is kept for it.
-fn waits(x: &Live, id: u32) -> bool
-    ensures { result ≡ waits_for id x.now }
+// The one that stands there keeps a reply.
+fn is_answered_at(list: &[Spot<Live>], place: Option<usize>) -> bool
+    ensures { (P : LiveType → Bool) → place ≡ position (holds P) list.now → result ≡ is_answered (find P (held list.now)) }
 {
-    x.id == id && x.last_out.is_some() && x.reply.is_none()
-}
-
-// Where the request stands that has this id and waits for a reply.
-fn search_id(live: &[Live], id: u32) -> Option<usize>
-    ensures { result ≡ position (waits_for id) live.now }
-{
-    live.iter().position(|x| waits(x, id))
-}
-
-// The same, where no other has the id. It is looked for here first.
-fn place_of(live: &[Live], i: usize, id: u32) -> Option<usize>
-    ensures { AreDistinct (map live_id live.now) → result ≡ position (waits_for id) live.now }
-{
-    if i < live.len() {
-        if waits(&live[i], id) {
-            return Some(i);
+    match place {
+        None => false,
+        Some(i) => {
+            if i >= list.len() {
+                return false;
+            }
+            match &list[i].value {
+                None => false,
+                Some(x) => is_answered(x),
+            }
         }
     }
-    search_id(live, id)
+}
+
+// The one that stands there goes out.
+fn send_spot(s: &mut Spot<Live>, out: LastOut)
+    ensures { s.new ≡ changed (sent_at out) s.old }
+{
+    match &mut s.value {
+        None => {}
+        Some(x) => x.last_out = Some(out),
+    }
+}
+
+// The one that stands there keeps the reply.
+fn answer_spot(s: &mut Spot<Live>, kept: Kept)
+    ensures { s.new ≡ changed (with_kept kept) s.old }
+{
+    match &mut s.value {
+        None => {}
+        Some(x) => x.reply = Some(kept),
+    }
 }
 
 // The request of the context, which stands here, goes out.
-fn set_out(live: &mut [Live], place: Option<usize>, c: Ctx, out: LastOut)
-    requires { place ≡ position (is_live_on c) live.old }
-    ensures { live.new ≡ with_found (is_live_on c) (sent_at out) live.old }
+fn set_out(list: &mut [Spot<Live>], place: Option<usize>, c: Ctx, out: LastOut)
+    requires { place ≡ position (holds (is_live_on c)) list.old }
+    ensures held { held list.new ≡ with_found (is_live_on c) (sent_at out) (held list.old) }
+    ensures front { (n : ℕ) → length (held (take n list.new)) ≡ length (held (take n list.old)) }
+    ensures len { length list.new ≡ length list.old }
 {
     match place {
         None => {}
-        Some(i) => live[i].last_out = Some(out),
+        Some(i) => send_spot(&mut list[i], out),
     }
 }
 
 // The one with this id, which stands here, keeps the reply.
-fn set_reply(live: &mut [Live], place: Option<usize>, id: u32, kept: Kept)
-    requires { place ≡ position (waits_for id) live.old }
-    ensures { live.new ≡ with_reply id kept live.old }
+fn set_reply(list: &mut [Spot<Live>], place: Option<usize>, id: u32, kept: Kept)
+    requires { place ≡ position (holds (waits_for id)) list.old }
+    ensures held { held list.new ≡ with_reply id kept (held list.old) }
+    ensures front { (n : ℕ) → length (held (take n list.new)) ≡ length (held (take n list.old)) }
+    ensures len { length list.new ≡ length list.old }
 {
     match place {
         None => {}
-        Some(i) => live[i].reply = Some(kept),
+        Some(i) => answer_spot(&mut list[i], kept),
     }
 }
 
 // ---- Numbers
 
 // Takes the room for the number of one more.
-fn make_room(
-    orders: &mut Vec<u64>,
-    by_ctx: &mut Numbers,
-    by_id: &mut Numbers,
-) -> Result<(), NoMemory>
+fn make_room(by_ctx: &mut Numbers, by_id: &mut Numbers) -> Result<(), NoMemory>
     ensures ctx { (q : ℕ) → number_at by_ctx.new q ≡ number_at by_ctx.old q }
     ensures id { (q : ℕ) → number_at by_id.new q ≡ number_at by_id.old q }
 {
-    if orders.reserve(1).is_err() {
+    if by_ctx.reserve(1).is_err() {
         return Err(NoMemory);
     }
-    if by_ctx.reserve().is_err() {
-        return Err(NoMemory);
-    }
-    by_id.reserve()
+    by_id.reserve(1)
 }
 
 // Whether all numbers are known, if they were, with that of a new request. Not where one of its context or its id is
@@ -194,53 +356,28 @@ fn lose(by_ctx: &mut Numbers, by_id: &mut Numbers, c: Ctx, id: u32)
     by_id.remove(id);
 }
 
-// The number of the one that stands here goes.
-fn forget(orders: &mut Vec<u64>, i: usize) {
-    if i < orders.len() {
-        let _ = orders.remove(i);
-    }
-}
-
 impl Lives {
     /// None is live.
     pub fn new(alloc: Global) -> Lives
-        ensures { result.items ≡ [] }
+        ensures items { result.items ≡ [] }
+        ensures calm { result.calm ≡ 0 }
     {
         Lives {
             list: Vec::new(alloc),
-            orders: Vec::new(alloc),
+            next: 0,
             by_ctx: Numbers::new(alloc),
             by_id: Numbers::new(alloc),
-            next: 0,
             is_indexed: true,
+            alive: 0,
+            skipped: 0,
         }
-    }
-
-    /// All of them.
-    pub fn as_slice(&self) -> &[Live]
-        ensures { result.now ≡ self.now.items }
-    {
-        &self.list
     }
 
     /// How many are live.
     pub fn len(&self) -> usize
         ensures { result ≡ length self.now.items }
     {
-        self.list.len()
-    }
-
-    /// Where that of the context stands.
-    pub fn place(&self, c: Ctx) -> Option<usize>
-        ensures { result ≡ position (is_live_on c) self.now.items }
-    {
-        if !self.is_indexed {
-            return search_ctx(&self.list, c);
-        }
-        match self.by_ctx.get(c.0) {
-            None => None,
-            Some(n) => place_on(&self.list, hint(&self.orders, n), c),
-        }
+        self.alive
     }
 
     /// The context has one.
@@ -248,7 +385,7 @@ impl Lives {
         ensures { result ≡ list_any (is_live_on c) self.now.items }
     {
         if !self.is_indexed {
-            return self.list.iter().any(|x| is_on(x, c));
+            return any_on(&self.list, c);
         }
         self.by_ctx.has(c.0)
     }
@@ -258,43 +395,43 @@ impl Lives {
         ensures { result ≡ list_any (keeps_reply c) self.now.items }
     {
         if !self.is_indexed {
-            return self.list.iter().any(|x| is_on(x, c) && x.reply.is_some());
+            return any_reply_on(&self.list, c);
         }
-        match self.place(c) {
-            None => false,
-            Some(i) => is_answered(&self.list[i]),
-        }
+        is_answered_at(
+            &self.list,
+            ctx_place(&self.list, &self.by_ctx, self.is_indexed, c),
+        )
     }
 
     /// The id of that of the context.
     pub fn id_of(&self, c: Ctx) -> Option<u32>
         ensures { result ≡ option_map live_id (find (is_live_on c) self.now.items) }
     {
-        match self.place(c) {
-            None => None,
-            Some(i) => Some(self.list[i].id),
-        }
+        id_at(
+            &self.list,
+            ctx_place(&self.list, &self.by_ctx, self.is_indexed, c),
+        )
     }
 
     /// A copy of what goes out again for that of the context. None where there is no memory for it, either.
     pub fn copy_of(&self, c: Ctx) -> Option<Message>
         ensures { IfSome result (λ m. (x : LiveType) → find (is_live_on c) self.now.items ≡ Some x → m ≡ x.copy) }
     {
-        match self.place(c) {
+        match ctx_place(&self.list, &self.by_ctx, self.is_indexed, c) {
             None => None,
-            Some(i) => match self.list[i].copy.copy() {
-                Err(_) => None,
-                Ok(copy) => Some(copy),
-            },
+            Some(i) => {
+                if i >= self.list.len() {
+                    return None;
+                }
+                match &self.list[i].value {
+                    None => None,
+                    Some(x) => match x.copy.copy() {
+                        Err(_) => None,
+                        Ok(copy) => Some(copy),
+                    },
+                }
+            }
         }
-    }
-
-    /// The context of the one that stands here.
-    pub fn ctx_at(&self, i: usize) -> Ctx
-        requires { i < length self.now.items }
-        ensures { (x : LiveType) → result ≡ (slice_index_or self.now.items i x).ctx }
-    {
-        self.list[i].ctx
     }
 
     /// One has this id.
@@ -302,31 +439,54 @@ impl Lives {
         ensures { result ≡ list_any (λ (x : LiveType). x.id == id) self.now.items }
     {
         if !self.is_indexed {
-            return self.list.iter().any(|x| x.id == id);
+            return any_id(&self.list, id);
         }
         self.by_id.has(id)
     }
 
-    // Where the one stands that has this id and waits for a reply.
-    fn waiting_place(&self, id: u32) -> Option<usize>
-        ensures { result ≡ position (waits_for id) self.now.items }
+    /// Those that are not skipped, and the spots between them.
+    pub fn rest(&self) -> &[Spot<Live>]
+        ensures all { result.now ≡ self.now.rest }
+        ensures items { held self.now.rest ≡ drop self.now.calm self.now.items }
     {
-        if !self.is_indexed {
-            return search_id(&self.list, id);
+        rest(&self.list, self.skipped)
+    }
+
+    /// Those before this place of the rest are skipped, or all.
+    pub fn skip(&mut self, place: Option<usize>)
+        ensures items { self.new.items ≡ self.old.items }
+        ensures calm { (P : LiveType → Bool) → place ≡ position (holds P) self.old.rest → list_any P (take self.old.calm self.old.items) ≡ false → list_any P (take self.new.calm self.new.items) ≡ false }
+    {
+        let from = self.skipped;
+        let len = self.list.len();
+        match place {
+            None => self.skipped = len,
+            Some(i) => {
+                if i < len - from {
+                    self.skipped = from + i;
+                }
+            }
         }
-        match self.by_id.get(id) {
-            None => None,
-            Some(n) => place_of(&self.list, hint(&self.orders, n), id),
-        }
+    }
+
+    /// None is skipped.
+    pub fn skip_none(&mut self)
+        ensures items { self.new.items ≡ self.old.items }
+        ensures calm { self.new.calm ≡ 0 }
+    {
+        self.skipped = 0;
     }
 
     /// Takes the room for one more.
     pub fn reserve(&mut self) -> Result<(), NoMemory>
         ensures same { self.new.items ≡ self.old.items }
+        ensures calm { StayCalm self.old self.new }
         ensures room { OnOk result (0 < self.new.room) }
     {
+        let moved = close_up_half(&mut self.list, self.alive);
+        self.skipped = stays(moved, self.skipped);
         match self.list.reserve(1) {
-            Ok(()) => make_room(&mut self.orders, &mut self.by_ctx, &mut self.by_id),
+            Ok(()) => make_room(&mut self.by_ctx, &mut self.by_id),
             Err(_) => Err(NoMemory),
         }
     }
@@ -334,7 +494,8 @@ impl Lives {
     /// One more is live.
     pub fn push(&mut self, x: Live)
         requires { 0 < self.old.room }
-        ensures { self.new.items ≡ self.old.items ++ x ∷ [] }
+        ensures items { self.new.items ≡ self.old.items ++ x ∷ [] }
+        ensures calm { StayCalm self.old self.new }
     {
         self.is_indexed = know(
             self.is_indexed,
@@ -344,53 +505,66 @@ impl Lives {
             x.id,
             self.next,
         );
-        let _ = self.orders.push(self.next);
+        self.alive = self.alive.saturating_add(1);
+        self.list.push_reserved(Spot {
+            number: self.next,
+            value: Some(x),
+        });
         self.next = self.next.wrapping_add(1);
-        self.list.push_reserved(x);
     }
 
     /// Takes that of the context out.
     pub fn take_live(&mut self, c: Ctx) -> Option<Live>
         ensures found { result ≡ find (is_live_on c) self.old.items }
         ensures rest { self.new.items ≡ without_live c self.old.items }
+        ensures calm { StayCalm self.old self.new }
         ensures len { length self.new.items ≤ length self.old.items }
         ensures room { self.old.room ≤ self.new.room }
     {
-        match self.place(c) {
+        match ctx_place(&self.list, &self.by_ctx, self.is_indexed, c) {
             None => None,
-            Some(i) => {
-                let x = self.list.remove(i);
-                forget(&mut self.orders, i);
-                lose(&mut self.by_ctx, &mut self.by_id, x.ctx, x.id);
-                Some(x)
-            }
+            Some(i) => match empty(&mut self.list, i) {
+                None => None,
+                Some(x) => {
+                    lose(&mut self.by_ctx, &mut self.by_id, x.ctx, x.id);
+                    self.alive = self.alive.saturating_sub(1);
+                    Some(x)
+                }
+            },
         }
     }
 
     /// That of the context goes out.
     pub fn note_out(&mut self, c: Ctx, out: LastOut)
-        ensures { self.new.items ≡ with_found (is_live_on c) (sent_at out) self.old.items }
+        ensures items { self.new.items ≡ with_found (is_live_on c) (sent_at out) self.old.items }
+        ensures calm { self.new.calm ≡ self.old.calm }
     {
-        let place = self.place(c);
+        let place = ctx_place(&self.list, &self.by_ctx, self.is_indexed, c);
         set_out(&mut self.list, place, c, out);
     }
 
-    /// Keeps the reply for the one that has this id and waits for one, if there is one.
-    pub fn keep_reply(&mut self, id: u32, kept: Kept)
-        ensures { self.new.items ≡ with_reply id kept self.old.items }
+    /// Keeps the reply for the one that has this id and waits for one, if there is one. Returns its context.
+    pub fn keep_reply(&mut self, id: u32, kept: Kept) -> Option<Ctx>
+        ensures ctx { result ≡ option_map live_ctx (find (waits_for id) self.old.items) }
+        ensures items { self.new.items ≡ with_reply id kept self.old.items }
+        ensures calm { self.new.calm ≡ self.old.calm }
     {
-        let place = self.waiting_place(id);
+        let place = id_place(&self.list, &self.by_id, self.is_indexed, id);
+        let ctx = ctx_at(&self.list, place);
         set_reply(&mut self.list, place, id, kept);
+        ctx
     }
 
     /// None is live any more.
     pub fn clear(&mut self)
-        ensures { self.new.items ≡ [] }
+        ensures items { self.new.items ≡ [] }
+        ensures calm { self.new.calm ≡ 0 }
     {
         self.list.clear();
-        self.orders.clear();
         self.by_ctx.clear();
         self.by_id.clear();
         self.is_indexed = true;
+        self.alive = 0;
+        self.skipped = 0;
     }
 }

@@ -45,11 +45,11 @@ impl Numbers {
         self.get(k).is_some()
     }
 
-    /// Takes the room for one more.
-    pub fn reserve(&mut self) -> Result<(), NoMemory>
+    /// Takes the room for so many more.
+    pub fn reserve(&mut self, more: usize) -> Result<(), NoMemory>
         ensures { (q : ℕ) → number_at self.new q ≡ number_at self.old q }
     {
-        match self.known.reserve(1) {
+        match self.known.reserve(more) {
             Ok(()) => Ok(()),
             Err(_) => Err(NoMemory),
         }

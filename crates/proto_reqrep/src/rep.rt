@@ -1,6 +1,5 @@
 //! The machine of rep, and of respondent.
 ghost use Rattle.std.specs.Prelude.{◌≡◌, ◌≤◌, ◌<◌, ◌+◌, ◌==◌, ℕ, List, [], Some, None, IfOk, IfSome, OnOk, not, map, filter, find, length, option_to_list, if◌then◌else◌, ◌∷◌, ◌&&◌, true, is_some};
-ghost use Rattle.std.specs.VecDeque.{deque_len, deque_capacity};
 ghost use Rattle.std.specs.Option.{option_map};
 ghost use Rattle.std.specs.List.{position, list_any};
 ghost use Rattle.sp_base.specs.declared.role.Role.TheVariants as role;
@@ -13,18 +12,20 @@ ghost use Rattle.sp_msg.specs.Views.{wire_text};
 ghost use Rattle.sp_proto.specs.Kinds.{Starts, entry_act};
 ghost use Rattle.proto_reqrep.specs.declared.rep.Waiting.{Waiting as WaitingType};
 ghost use Rattle.proto_reqrep.specs.declared.rep.Answer.{Answer as AnswerType};
+ghost use Rattle.proto_reqrep.specs.Spots.{holds};
 ghost use Rattle.proto_reqrep.specs.Reps.{Ties, reply_kind, role_of, item_of, origin_of, origin_at, is_for, is_home, is_receive, is_ready, way_of, out_text, without_first, ctx_of, send_offer, Gives, act_of, state_at};
 
 use crate::backlog::{Backlog, FromPipe};
 use crate::places::Places;
 use crate::ports::{Ports, Way};
+use crate::spots::Spot;
 use crate::trail::{Trail, Words, first_word, scan};
+use crate::waits::{Waiter, Waits};
 use sp_base::{Ctx, NoMemory, OpName, PipeId, Role, Tick};
 use sp_history::setting::Options;
 use sp_msg::Message;
 use sp_proto::{Act, CheckError, Offer, Proto, UpFault, Verb, Verdict};
 use std::alloc::Global;
-use std::collections::VecDeque;
 
 /// A request that is kept. Raw, its pipe and its words stand in the header as well.
 #[derive(Drop)]
@@ -71,6 +72,47 @@ struct Waiting {
     answer: Option<Answer>,
 }
 
+impl Waiter for Waiting {
+    ghost use Rattle.std.specs.Prelude.{is_some, false};
+    ghost use Rattle.proto_reqrep.specs.RepLaws as laws;
+
+    ghost name_of = { λ w. w.op };
+
+    ghost home_of = { λ w. w.ctx };
+
+    ghost is_send = { λ w. is_some w.answer };
+
+    ghost is_left = { λ w. false };
+
+    ghost left = { λ w. w };
+
+    ghost left_same = { laws.left_same };
+
+    ghost left_again = { laws.left_again };
+
+    ghost may_leave = { false };
+
+    ghost left_is = { laws.left_is };
+
+    fn op(&self) -> OpName {
+        self.op
+    }
+
+    fn ctx(&self) -> Ctx {
+        self.ctx
+    }
+
+    fn sends(&self) -> bool {
+        self.answer.is_some()
+    }
+
+    fn is_over(&self) -> bool {
+        false
+    }
+
+    fn leave(&mut self) {}
+}
+
 /// Which of the two it is.
 #[derive(Clone, Copy, PartialEq, Eq, Debug)]
 enum ReplyRole {
@@ -89,7 +131,7 @@ pub struct Reply {
     /// Requests.
     kept: Backlog<Kept>,
     /// In the order of their begins.
-    waiting: VecDeque<Waiting>,
+    waiting: Waits<Waiting>,
     /// Of the open contexts.
     places: Places,
 }
@@ -120,41 +162,21 @@ fn is_ready(raw: bool, ports: &Ports, w: &Waiting) -> bool
     }
 }
 
-// Where the first such send stands.
-fn ready_place(raw: bool, ports: &Ports, waiting: &VecDeque<Waiting>) -> Option<usize>
-    ensures { result ≡ position (is_ready raw ports.now.items) waiting.now.items }
+// The same of a spot.
+fn is_ready_at(raw: bool, ports: &Ports, s: &Spot<Waiting>) -> bool
+    ensures { result ≡ holds (is_ready raw ports.now.items) s.now }
 {
-    waiting.iter().position(|w| is_ready(raw, ports, w))
-}
-
-// Where the first receive stands.
-fn receive_place(waiting: &VecDeque<Waiting>) -> Option<usize>
-    ensures { result ≡ position is_receive waiting.now.items }
-{
-    waiting.iter().position(|w| w.answer.is_none())
-}
-
-// Where the operation stands.
-fn place_of(waiting: &VecDeque<Waiting>, op: OpName) -> Option<usize>
-    ensures { result ≡ position (is_for op) waiting.now.items }
-{
-    waiting.iter().position(|w| w.op.slot == op.slot && w.op.generation == op.generation)
-}
-
-// Takes the operation out.
-fn take(waiting: &mut VecDeque<Waiting>, op: OpName) -> Option<Waiting>
-    ensures found { result ≡ find (is_for op) waiting.old.items }
-    ensures rest { waiting.new.items ≡ without_first op waiting.old.items }
-    ensures len { deque_len waiting.new + length (option_to_list result) ≡ deque_len waiting.old }
-    ensures capacity { deque_capacity waiting.new ≡ deque_capacity waiting.old }
-{
-    match place_of(waiting, op) {
-        None => None,
-        Some(i) => match waiting.remove(i) {
-            Some(w) => Some(w),
-            None => None,
-        },
+    match &s.value {
+        None => false,
+        Some(w) => is_ready(raw, ports, w),
     }
+}
+
+// Where the first such send stands.
+fn ready_place(raw: bool, ports: &Ports, list: &[Spot<Waiting>]) -> Option<usize>
+    ensures { result ≡ position (holds (is_ready raw ports.now.items)) list.now }
+{
+    list.iter().position(|s| is_ready_at(raw, ports, s))
 }
 
 // A send of the act, with the request that it answers.
@@ -229,13 +251,13 @@ fn unused(alloc: Global, role: ReplyRole, options: Options, raw: bool) -> Result
             options,
             ports: Ports::new(alloc),
             kept: Backlog::new(alloc),
-            waiting: VecDeque::new(alloc),
+            waiting: Waits::new(alloc),
             places,
         }),
     }
 }
 
-/// Respondents. They are reps of another role.
+/// Respondents (nng_respondent(7)), cooked or raw. They are reps of another role.
 pub struct Respond;
 
 impl Respond {
@@ -261,19 +283,27 @@ impl Reply {
     fn next_send(&self) -> Offer
         ensures { result ≡ send_offer self.now.raw self.now.ports.items (find (is_ready self.now.raw self.now.ports.items) self.now.waiting.items) }
     {
-        match ready_place(self.raw, &self.ports, &self.waiting) {
+        let list = self.waiting.sends();
+        match ready_place(self.raw, &self.ports, list) {
             None => Offer::Idle,
-            Some(i) => {
-                let w = &self.waiting[i];
-                match &w.answer {
-                    None => Offer::Idle,
-                    Some(r) => match way_of(self.raw, &self.ports, r) {
-                        Way::To(pipe) => Offer::Send { op: w.op, pipe },
-                        Way::Full => Offer::Drop { op: w.op },
-                        Way::Nowhere => Offer::Drop { op: w.op },
-                    },
-                }
-            }
+            Some(i) => match &list[i].value {
+                None => Offer::Idle,
+                Some(w) => self.send_of(w),
+            },
+        }
+    }
+
+    // The send goes out, or nowhere.
+    fn send_of(&self, w: &Waiting) -> Offer
+        ensures { result ≡ send_offer self.now.raw self.now.ports.items (Some w.now) }
+    {
+        match &w.answer {
+            None => Offer::Idle,
+            Some(r) => match way_of(self.raw, &self.ports, r) {
+                Way::To(pipe) => Offer::Send { op: w.op, pipe },
+                Way::Full => Offer::Drop { op: w.op },
+                Way::Nowhere => Offer::Drop { op: w.op },
+            },
         }
     }
 
@@ -304,23 +334,14 @@ impl Reply {
         ensures { result ≡ state_at self.now.waiting.items self.now.places.items c verb }
     {
         match verb {
-            Verb::Recv => self.is_receiving(c),
+            Verb::Recv => self.waiting.is_receiving(c),
             Verb::Send => !self.places.is_stored(c),
         }
-    }
-
-    fn is_receiving(&self, c: Ctx) -> bool
-        ensures { result ≡ list_any (λ w. is_receive w && (w.ctx == c)) self.now.waiting.items }
-    {
-        self.waiting
-            .iter()
-            .any(|w| w.answer.is_none() && w.ctx.0 == c.0)
     }
 }
 
 impl Proto for Reply {
-    ghost use Rattle.std.specs.Prelude.{◌-◌, ◌+◌};
-    ghost use Rattle.std.specs.VecDeque.{deque_len, deque_capacity};
+    ghost use Rattle.std.specs.Prelude.{◌+◌, length};
     ghost use Rattle.proto_reqrep.specs.Ports.{free_count};
     ghost use Rattle.proto_reqrep.specs.Reps.{Ties, reply_kind, role_of};
     ghost use Rattle.proto_reqrep.specs.RepLaws as laws;
@@ -329,9 +350,9 @@ impl Proto for Reply {
 
     ghost ties = { Ties };
 
-    ghost room = { λ m. deque_capacity m.waiting - deque_len m.waiting };
+    ghost room = { λ m. m.waiting.room };
 
-    ghost left = { λ m. free_count m.ports.items + deque_len m.waiting };
+    ghost left = { λ m. free_count m.ports.items + length m.waiting.items };
 
     ghost copies = { λ m op. 0 };
 
@@ -353,10 +374,7 @@ impl Proto for Reply {
     }
 
     fn reserve(&mut self, slots: u32) -> Result<(), NoMemory> {
-        match self.waiting.reserve(slots as usize) {
-            Ok(()) => Ok(()),
-            Err(_) => Err(NoMemory),
-        }
+        self.waiting.reserve(slots)
     }
 
     fn up(&mut self, p: PipeId) -> Result<(), UpFault> {
@@ -410,13 +428,7 @@ impl Proto for Reply {
     fn begin(&mut self, op: OpName, c: Ctx, act: Act) -> Result<(), Message> {
         let source = self.places.unstore(c);
         let answer = answer_of(act, source);
-        if self
-            .waiting
-            .push_back(Waiting { op, ctx: c, answer })
-            .is_err()
-        {
-            unreachable!()
-        }
+        self.waiting.push(Waiting { op, ctx: c, answer });
         Ok(())
     }
 
@@ -426,13 +438,9 @@ impl Proto for Reply {
 
     fn offer(&mut self) -> Offer {
         if !self.kept.is_empty() {
-            match receive_place(&self.waiting) {
+            match self.waiting.first_receive() {
                 None => {}
-                Some(i) => {
-                    return Offer::Give {
-                        op: self.waiting[i].op,
-                    };
-                }
+                Some(op) => return Offer::Give { op },
             }
         }
         self.next_send()
@@ -462,7 +470,7 @@ impl Proto for Reply {
 
     fn won(&mut self, op: OpName, out: Option<PipeId>) -> Option<Message> {
         let _ = out;
-        match take(&mut self.waiting, op) {
+        match self.waiting.take(op) {
             None => None,
             Some(w) => match w.answer {
                 Some(r) => Some(outward(self.raw, r)),
@@ -472,7 +480,7 @@ impl Proto for Reply {
     }
 
     fn lost(&mut self, op: OpName) -> Option<Message> {
-        match take(&mut self.waiting, op) {
+        match self.waiting.take(op) {
             None => None,
             Some(w) => match w.answer {
                 Some(r) => Some(r.message),

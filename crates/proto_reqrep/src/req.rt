@@ -1,6 +1,5 @@
 //! The machine of req.
-ghost use Rattle.std.specs.Prelude.{◌≡◌, ◌≢◌, ◌≤◌, ◌<◌, ◌+◌, ◌-◌, ◌^◌, ◌%◌, ◌==◌, ◌++◌, ◌&&◌, ℕ, [], ◌∷◌, None, Some, IfOk, IfSome, OnOk, OnErr, false, true, not, map, filter, find, drop, length, option_to_list, is_some};
-ghost use Rattle.std.specs.Vec.{vec_len, vec_capacity};
+ghost use Rattle.std.specs.Prelude.{◌≡◌, ◌≢◌, ◌≤◌, ◌<◌, ◌+◌, ◌-◌, ◌^◌, ◌%◌, ◌==◌, ◌++◌, ◌&&◌, ◌||◌, if◌then◌else◌, ℕ, List, [], ◌∷◌, None, Some, IfOk, IfSome, IfNone, OnOk, OnErr, false, true, not, map, filter, find, drop, length, option_to_list, is_some};
 ghost use Rattle.std.specs.Option.{option_map};
 ghost use Rattle.std.specs.List.{position, list_any};
 ghost use Rattle.sp_base.specs.declared.OpName.{OpName};
@@ -18,13 +17,18 @@ ghost use Rattle.proto_reqrep.specs.declared.req.Kept.{Kept as KeptType};
 ghost use Rattle.proto_reqrep.specs.declared.req.Live.{Live as LiveType};
 ghost use Rattle.proto_reqrep.specs.declared.req.Asking.{Asking as AskingType};
 ghost use Rattle.proto_reqrep.specs.declared.req.Seat.{Seat as SeatType};
-ghost use Rattle.proto_reqrep.specs.Reqs.{Ties, req_kind, is_live_on, is_asked, without_first, without_live, orphaned, with_found, sent_at, is_sending, is_due, dry_at, dried, wetted, number_after, free_number, reply_in, Asks, KeepsRaw, is_given, is_late, IsCalm, reached, out_offer, ask_state, is_receiving_on, work_left, IsNextPipe};
+ghost use Rattle.proto_reqrep.specs.Spots.{holds};
+ghost use Rattle.proto_reqrep.specs.Lives.{StayCalm};
+ghost use Rattle.proto_reqrep.specs.Reqs.{Ties, req_kind, is_live_on, is_asked, without_first, without_live, orphaned, with_found, sent_at, is_sending, is_due, dry_at, dried, wetted, number_after, free_number, reply_in, gets, answers, with_reply, ready_on, AreReady, IsReply, Asks, KeepsRaw, is_given, is_late, IsCalm, live_ctx, out_offer, ask_state, is_receiving_on, work_left, IsNextPipe};
 
 use crate::backlog::{Backlog, FromPipe};
-use crate::lives::Lives;
+use crate::hints::Hints;
+use crate::lives::{Lives, ctx_at};
 use crate::ports::Ports;
 use crate::seats::Seats;
+use crate::spots::Spot;
 use crate::trail::first_word;
+use crate::waits::{Waiter, Waits, name_at};
 use sp_base::{Ctx, NoMemory, OpName, PipeId, Role, Tick};
 use sp_history::entry::Cause;
 use sp_history::parts::LastOut;
@@ -73,6 +77,49 @@ struct Asking {
     is_orphan: bool,
 }
 
+impl Waiter for Asking {
+    ghost use Rattle.std.specs.Prelude.{is_some, true};
+    ghost use Rattle.proto_reqrep.specs.ReqLaws as laws;
+
+    ghost name_of = { λ w. w.op };
+
+    ghost home_of = { λ w. w.ctx };
+
+    ghost is_send = { λ w. is_some w.message };
+
+    ghost is_left = { λ w. w.is_orphan };
+
+    ghost left = { λ w. record { op = w.op; ctx = w.ctx; message = w.message; is_orphan = true } };
+
+    ghost left_same = { laws.left_same };
+
+    ghost left_again = { laws.left_again };
+
+    ghost may_leave = { true };
+
+    ghost left_is = { laws.left_is };
+
+    fn op(&self) -> OpName {
+        self.op
+    }
+
+    fn ctx(&self) -> Ctx {
+        self.ctx
+    }
+
+    fn sends(&self) -> bool {
+        self.message.is_some()
+    }
+
+    fn is_over(&self) -> bool {
+        self.is_orphan
+    }
+
+    fn leave(&mut self) {
+        self.is_orphan = true;
+    }
+}
+
 /// An open context.
 #[derive(Clone, Copy)]
 pub struct Seat {
@@ -93,46 +140,25 @@ pub struct Request {
     ports: Ports,
     /// Raw: replies.
     kept: Backlog<Kept>,
-    /// Cooked: at most one of each context.
+    /// Cooked: at most one of each context. None of those that are skipped may go out again.
     live: Lives,
-    /// No live request before this place may go out again.
-    calm: usize,
     /// In the order of their begins.
-    waiting: Vec<Asking>,
+    waiting: Waits<Asking>,
+    /// The contexts that have both a receive and a reply are among these.
+    ready: Hints,
     /// Of the open contexts.
     seats: Seats,
 }
 
 // ---- Operations
 
-// Where the operation stands.
-fn place_of(waiting: &[Asking], op: OpName) -> Option<usize>
-    ensures { result ≡ position (is_asked op) waiting.now }
-{
-    waiting.iter().position(|w| w.op.slot == op.slot && w.op.generation == op.generation)
-}
-
-// Takes the operation out.
-fn take(waiting: &mut Vec<Asking>, op: OpName) -> Option<Asking>
-    ensures found { result ≡ find (is_asked op) waiting.old.items }
-    ensures rest { waiting.new.items ≡ without_first op waiting.old.items }
-    ensures len { vec_len waiting.new + length (option_to_list result) ≡ vec_len waiting.old }
-    ensures capacity { vec_capacity waiting.new ≡ vec_capacity waiting.old }
-{
-    match place_of(waiting, op) {
-        None => None,
-        Some(i) => Some(waiting.remove(i)),
-    }
-}
-
 // The operation waits, the last of all.
-fn wait(waiting: &mut Vec<Asking>, op: OpName, c: Ctx, message: Option<Message>)
-    requires { vec_len waiting.old < vec_capacity waiting.old }
+fn wait(waiting: &mut Waits<Asking>, op: OpName, c: Ctx, message: Option<Message>)
+    requires { 0 < waiting.old.room }
     ensures items { waiting.new.items ≡ waiting.old.items ++ record { op = op; ctx = c; message = message; is_orphan = false } ∷ [] }
-    ensures len { vec_len waiting.new ≡ vec_len waiting.old + 1 }
-    ensures capacity { vec_capacity waiting.new ≡ vec_capacity waiting.old }
+    ensures room { waiting.new.room + 1 ≡ waiting.old.room }
 {
-    waiting.push_reserved(Asking {
+    waiting.push(Asking {
         op,
         ctx: c,
         message,
@@ -140,34 +166,12 @@ fn wait(waiting: &mut Vec<Asking>, op: OpName, c: Ctx, message: Option<Message>)
     });
 }
 
-// Its request has ended, when that of the context ends.
-fn has_ended(w: &Asking, c: Ctx) -> bool
-    ensures { result ≡ (orphaned c w.now).is_orphan }
-{
-    w.is_orphan || c.0 == w.ctx.0
-}
-
 // The request of the context ends, and leaves its operations behind.
-fn leave_behind(waiting: &mut [Asking], c: Ctx)
-    ensures { waiting.new ≡ map (orphaned c) waiting.old }
+fn leave_behind(waiting: &mut Waits<Asking>, c: Ctx)
+    ensures items { waiting.new.items ≡ map (orphaned c) waiting.old.items }
+    ensures room { waiting.new.room ≡ waiting.old.room }
 {
-    for w in waiting.iter_mut() {
-        w.is_orphan = has_ended(w, c);
-    }
-}
-
-// Where the first operation stands whose request has ended.
-fn orphan_place(waiting: &[Asking]) -> Option<usize>
-    ensures { result ≡ position (λ (w : AskingType). w.is_orphan) waiting.now }
-{
-    waiting.iter().position(|w| w.is_orphan)
-}
-
-// Where the first send stands.
-fn send_place(waiting: &[Asking]) -> Option<usize>
-    ensures { result ≡ position is_sending waiting.now }
-{
-    waiting.iter().position(|w| w.message.is_some())
+    waiting.leave_on(c);
 }
 
 // ---- Live requests
@@ -176,6 +180,7 @@ fn send_place(waiting: &[Asking]) -> Option<usize>
 fn answered(live: &mut Lives, c: Ctx) -> Option<Message>
     ensures reply { result ≡ reply_in (find (is_live_on c) live.old.items) }
     ensures rest { live.new.items ≡ without_live c live.old.items }
+    ensures calm { StayCalm live.old live.new }
 {
     match live.take_live(c) {
         None => None,
@@ -199,6 +204,7 @@ fn led(message: Message, id: u32) -> Message
 // The message of a send with the id of its request, which goes out.
 fn asked(live: &mut Lives, c: Ctx, message: Message, out: LastOut) -> Message
     ensures live { live.new.items ≡ with_found (is_live_on c) (sent_at out) live.old.items }
+    ensures calm { live.new.calm ≡ live.old.calm }
     ensures message { (x : LiveType) → find (is_live_on c) live.old.items ≡ Some x → wire_text result ≡ word x.id ++ message.body }
 {
     match live.id_of(c) {
@@ -245,18 +251,6 @@ fn next_id(live: &Lives, dice: u32, last: Option<u32>) -> u32
     }
 }
 
-// ---- Resends
-
-// The place that was found, or the end.
-fn reached(place: Option<usize>, end: usize) -> usize
-    ensures { result ≡ reached place end }
-{
-    match place {
-        None => end,
-        Some(i) => i,
-    }
-}
-
 // ---- Raw messages
 
 // Takes the oldest.
@@ -268,6 +262,69 @@ fn oldest(kept: &mut Backlog<Kept>) -> Option<Message>
         None => None,
         Some(k) => Some(k.message),
     }
+}
+
+// ---- Receives that can be given a reply
+
+// A reply is kept for the request that waits for it, if there is one. Its context is looked at.
+fn keep_reply(live: &mut Lives, ready: &mut Hints, id: u32, kept: Kept)
+    ensures live { live.new.items ≡ with_reply id kept live.old.items }
+    ensures calm { live.new.calm ≡ live.old.calm }
+    ensures ready { (ws : List AskingType) → AreReady ready.old live.old.items ws → AreReady ready.new live.new.items ws }
+{
+    match live.keep_reply(id, kept) {
+        None => {}
+        Some(c) => ready.add(c.0),
+    }
+}
+
+// A receive of the context is to wait. It is looked at, if a reply is kept for it.
+fn look_at(ready: &mut Hints, live: &Lives, c: Ctx)
+    ensures { (w : AskingType) (ws : List AskingType) → w.ctx ≡ c → AreReady ready.old live.now.items ws → AreReady ready.new live.now.items (ws ++ w ∷ []) }
+{
+    if live.has_reply(c) {
+        ready.add(c.0);
+    }
+}
+
+// The first receive on the context, if a reply is kept for it.
+fn ready_on(live: &Lives, waiting: &Waits<Asking>, c: Ctx) -> Option<OpName>
+    ensures { result ≡ ready_on live.now.items waiting.now.items c }
+{
+    if !live.has_reply(c) {
+        return None;
+    }
+    waiting.receive_on(c)
+}
+
+// A receive that can be given a reply, of the contexts that are to be looked at. Those before its own are looked at no
+// more.
+fn next_ready(ready: &mut Hints, live: &Lives, waiting: &Waits<Asking>) -> Option<OpName>
+    ensures ready { AreReady ready.old live.now.items waiting.now.items → AreReady ready.new live.now.items waiting.now.items }
+    ensures whole { ready.new.whole ≡ ready.old.whole }
+    ensures given { IfSome result (λ op. IsReply live.now.items waiting.now.items op) }
+    ensures none { AreReady ready.old live.now.items waiting.now.items → ready.old.whole ≡ true → IfNone result (list_any (answers live.now.items) waiting.now.items ≡ false) }
+{
+    while let Some(c) = ready.first() {
+        match ready_on(live, waiting, Ctx(c)) {
+            Some(op) => return Some(op),
+            None => ready.drop_first(),
+        }
+    }
+    None
+}
+
+// The same of a cooked req.
+fn next_reply(raw: bool, ready: &mut Hints, live: &Lives, waiting: &Waits<Asking>) -> Option<OpName>
+    ensures ready { AreReady ready.old live.now.items waiting.now.items → AreReady ready.new live.now.items waiting.now.items }
+    ensures whole { ready.new.whole ≡ ready.old.whole }
+    ensures given { IfSome result (λ op. (raw ≡ false) × IsReply live.now.items waiting.now.items op) }
+    ensures none { raw ≡ false → AreReady ready.old live.now.items waiting.now.items → ready.old.whole ≡ true → IfNone result (list_any (answers live.now.items) waiting.now.items ≡ false) }
+{
+    if raw {
+        return None;
+    }
+    next_ready(ready, live, waiting)
 }
 
 impl Request {
@@ -287,8 +344,8 @@ impl Request {
                 ports: Ports::new(alloc),
                 kept: Backlog::new(alloc),
                 live: Lives::new(alloc),
-                calm: 0,
-                waiting: Vec::new(alloc),
+                waiting: Waits::new(alloc),
+                ready: Hints::new(alloc),
                 seats,
             }),
         }
@@ -297,8 +354,8 @@ impl Request {
     // A new request of the context takes the place of the one that is live.
     fn ask(&mut self, c: Ctx, m: &Message) -> Result<(), NoMemory>
         ensures asked { OnOk result (Asks c m.now.body self.old self.new) }
-        ensures same { OnErr result ((self.new.live.items ≡ self.old.live.items) × (self.new ≡ record self.old { live = self.new.live })) }
-        ensures room { (vec_len self.new.waiting ≡ vec_len self.old.waiting) × (vec_capacity self.new.waiting ≡ vec_capacity self.old.waiting) }
+        ensures same { OnErr result ((self.new.live.items ≡ self.old.live.items) × StayCalm self.old.live self.new.live × (self.new ≡ record self.old { live = self.new.live })) }
+        ensures room { self.new.waiting.room ≡ self.old.waiting.room }
     {
         if self.live.len() >= MOST_LIVE {
             return Err(NoMemory);
@@ -311,8 +368,14 @@ impl Request {
         if self.live.reserve().is_err() {
             return Err(NoMemory);
         }
+        if self
+            .ready
+            .reserve(self.live.len().saturating_add(2))
+            .is_err()
+        {
+            return Err(NoMemory);
+        }
         let _ = self.live.take_live(c);
-        self.calm = self.calm.saturating_sub(1);
         leave_behind(&mut self.waiting, c);
         let id = next_id(&self.live, self.options.dice, self.last_id);
         self.last_id = Some(id);
@@ -351,6 +414,7 @@ impl Request {
         ensures same { self.new ≡ record self.old { live = self.new.live; kept = self.new.kept } }
         ensures raw { self.old.raw ≡ true → (result ≡ option_map (λ (k : KeptType). k.message) (head_of self.old.kept.items)) × (self.new.kept.items ≡ drop 1 self.old.kept.items) × (self.new.live ≡ self.old.live) }
         ensures cooked { self.old.raw ≡ false → (result ≡ reply_in (find (is_live_on c) self.old.live.items)) × (self.new.live.items ≡ without_live c self.old.live.items) × (self.new.kept ≡ self.old.kept) }
+        ensures calm { StayCalm self.old.live self.new.live }
     {
         if self.raw {
             return oldest(&mut self.kept);
@@ -362,6 +426,7 @@ impl Request {
     fn send(&mut self, c: Ctx, m: Message, out: Option<PipeId>) -> Message
         ensures same { self.new ≡ record self.old { live = self.new.live; last_pipe = self.new.last_pipe } }
         ensures pipe { (p : ℕ) → out ≡ Some p → self.new.last_pipe ≡ p }
+        ensures calm { self.new.live.calm ≡ self.old.live.calm }
         ensures raw { self.old.raw ≡ true → (result ≡ m) × (self.new.live ≡ self.old.live) }
         ensures cooked { self.old.raw ≡ false → (p : ℕ) → out ≡ Some p → self.new.live.items ≡ with_found (is_live_on c) (sent_at (record { pipe = p; when = self.old.tick })) self.old.live.items }
         ensures message { self.old.raw ≡ false → (p : ℕ) → out ≡ Some p → (x : LiveType) → find (is_live_on c) self.old.live.items ≡ Some x → wire_text result ≡ word x.id ++ m.body }
@@ -392,13 +457,39 @@ impl Request {
         self.live.has_reply(c)
     }
 
-    // Where the first receive stands that can be given a message.
-    fn give_place(&self) -> Option<usize>
-        ensures { result ≡ position (λ (w : AskingType). not (is_sending w) && is_given self.now.raw self.now.kept.items self.now.live.items w.ctx) self.now.waiting.items }
+    // A receive stands there that can be given a message.
+    fn gives_at(&self, s: &Spot<Asking>) -> bool
+        ensures { result ≡ holds (gets self.now) s.now }
     {
-        self.waiting
-            .iter()
-            .position(|w| w.message.is_none() && self.gives(w.ctx))
+        match &s.value {
+            None => false,
+            Some(w) => w.message.is_none() && self.gives(w.ctx),
+        }
+    }
+
+    // Where the first receive stands that can be given a message.
+    fn give_place(&self, list: &[Spot<Asking>]) -> Option<usize>
+        ensures { result ≡ position (holds (gets self.now)) list.now }
+    {
+        list.iter().position(|s| self.gives_at(s))
+    }
+
+    // The first receive that can be given a message. They are searched through.
+    fn search_give(&self) -> Option<OpName>
+        ensures { result ≡ option_map (λ (w : AskingType). w.op) (find (gets self.now) self.now.waiting.items) }
+    {
+        let list = self.waiting.receives();
+        name_at(list, self.give_place(list))
+    }
+
+    // The same, where not all contexts that are worth it are looked at: raw, none is.
+    fn give_left(&self) -> Option<OpName>
+        ensures { result ≡ (if self.now.raw || not self.now.ready.whole then option_map (λ (w : AskingType). w.op) (find (gets self.now) self.now.waiting.items) else None) }
+    {
+        if self.raw || !self.ready.is_whole() {
+            return self.search_give();
+        }
+        None
     }
 
     // The live request may go out again.
@@ -422,68 +513,52 @@ impl Request {
             || (out.when.0 <= self.tick.0 && self.tick.0 - out.when.0 >= self.options.resend)
     }
 
-    // Where the first of these live requests stands that may go out again.
-    fn due_among(&self, live: &[Live]) -> Option<usize>
-        ensures { result ≡ position (is_due self.now.options.resend self.now.tick self.now.ports.items self.now.seats.items) live.now }
+    // A live request stands there that may go out again.
+    fn is_due_at(&self, s: &Spot<Live>) -> bool
+        ensures { result ≡ holds (is_due self.now.options.resend self.now.tick self.now.ports.items self.now.seats.items) s.now }
     {
-        live.iter().position(|x| self.is_due(x))
-    }
-
-    // Where the first live request stands that may go out again. Those that are calm are not looked at.
-    fn due_from(&self) -> Option<usize>
-        ensures bound { IfSome result (λ i. i < length self.now.live.items) }
-        ensures place { IsCalm self.now → result ≡ position (is_due self.now.options.resend self.now.tick self.now.ports.items self.now.seats.items) self.now.live.items }
-    {
-        let live = self.live.as_slice();
-        if self.calm >= live.len() {
-            return None;
-        }
-        match self.due_among(&live[self.calm..]) {
-            None => None,
-            Some(i) => Some(self.calm + i),
+        match &s.value {
+            None => false,
+            Some(x) => self.is_due(x),
         }
     }
 
-    // The same. All before it are calm then.
-    fn due_place(&mut self) -> Option<usize>
-        ensures same { self.new ≡ record self.old { calm = self.new.calm } }
+    // Where the first of these stands that may go out again.
+    fn due_among(&self, list: &[Spot<Live>]) -> Option<usize>
+        ensures { result ≡ position (holds (is_due self.now.options.resend self.now.tick self.now.ports.items self.now.seats.items)) list.now }
+    {
+        list.iter().position(|s| self.is_due_at(s))
+    }
+
+    // The context of the first live request that may go out again. Those that are skipped are not looked at, and all
+    // before it are skipped then.
+    fn next_due(&mut self) -> Option<Ctx>
+        ensures same { self.new ≡ record self.old { live = self.new.live } }
+        ensures live { self.new.live.items ≡ self.old.live.items }
         ensures calm { IsCalm self.old → IsCalm self.new }
-        ensures bound { IfSome result (λ i. i < length self.old.live.items) }
-        ensures place { IsCalm self.old → result ≡ position (is_due self.old.options.resend self.old.tick self.old.ports.items self.old.seats.items) self.old.live.items }
+        ensures ctx { IsCalm self.old → result ≡ option_map live_ctx (find (is_due self.old.options.resend self.old.tick self.old.ports.items self.old.seats.items) self.old.live.items) }
     {
-        let place = self.due_from();
-        self.calm = reached(place, self.live.len());
-        place
+        let rest = self.live.rest();
+        let place = self.due_among(rest);
+        let ctx = ctx_at(rest, place);
+        self.live.skip(place);
+        ctx
     }
 
     // What can go out on this pipe: the first send, or a request that is due again.
     fn next_out(&mut self, pipe: PipeId) -> Offer
-        ensures same { self.new ≡ record self.old { calm = self.new.calm } }
+        ensures same { self.new ≡ record self.old { live = self.new.live } }
+        ensures live { self.new.live.items ≡ self.old.live.items }
         ensures calm { IsCalm self.old → IsCalm self.new }
         ensures offer { IsCalm self.old → result ≡ out_offer pipe (find is_sending self.old.waiting.items) (find (is_due self.old.options.resend self.old.tick self.old.ports.items self.old.seats.items) self.old.live.items) }
     {
-        match send_place(&self.waiting) {
-            Some(i) => Offer::Send {
-                op: self.waiting[i].op,
-                pipe,
-            },
-            None => match self.due_place() {
+        match self.waiting.first_send() {
+            Some(op) => Offer::Send { op, pipe },
+            None => match self.next_due() {
                 None => Offer::Idle,
-                Some(i) => Offer::Again {
-                    ctx: self.live.ctx_at(i),
-                    pipe,
-                },
+                Some(ctx) => Offer::Again { ctx, pipe },
             },
         }
-    }
-
-    // A receive of the context is pending.
-    fn is_receiving(&self, c: Ctx) -> bool
-        ensures { result ≡ list_any (is_receiving_on c) self.now.waiting.items }
-    {
-        self.waiting
-            .iter()
-            .any(|w| w.message.is_none() && w.ctx.0 == c.0)
     }
 
     // The state of the context has no place for it: a receive wants a live request, and no other receive.
@@ -491,15 +566,13 @@ impl Request {
         ensures { result ≡ ask_state self.now.waiting.items self.now.live.items c verb }
     {
         match verb {
-            Verb::Recv => !self.live.has(c) || self.is_receiving(c),
+            Verb::Recv => !self.live.has(c) || self.waiting.is_receiving(c),
             Verb::Send => false,
         }
     }
 }
 
 impl Proto for Request {
-    ghost use Rattle.std.specs.Prelude.{◌-◌, ◌+◌};
-    ghost use Rattle.std.specs.Vec.{vec_len, vec_capacity};
     ghost use Rattle.proto_reqrep.specs.Reqs.{Ties, req_kind, work_left};
     ghost use Rattle.proto_reqrep.specs.ReqLaws as laws;
 
@@ -507,7 +580,7 @@ impl Proto for Request {
 
     ghost ties = { Ties };
 
-    ghost room = { λ m. vec_capacity m.waiting - vec_len m.waiting };
+    ghost room = { λ m. m.waiting.room };
 
     ghost left = { work_left };
 
@@ -528,10 +601,7 @@ impl Proto for Request {
     }
 
     fn reserve(&mut self, slots: u32) -> Result<(), NoMemory> {
-        match self.waiting.reserve(slots as usize) {
-            Ok(()) => Ok(()),
-            Err(_) => Err(NoMemory),
-        }
+        self.waiting.reserve(slots)
     }
 
     fn up(&mut self, p: PipeId) -> Result<(), UpFault> {
@@ -543,7 +613,7 @@ impl Proto for Request {
 
     fn down(&mut self, p: PipeId) {
         self.ports.forget(p);
-        self.calm = 0;
+        self.live.skip_none();
     }
 
     fn wants(&self, p: PipeId) -> bool {
@@ -554,7 +624,7 @@ impl Proto for Request {
     fn frame(&mut self, p: PipeId, m: Message) -> Verdict
         requires { m.header ≡ [] }
         ensures kept { (t : Moment) → Lawful (also t (Frame p m.body)) → Ties self.old t → Frames (Ties self.new) result t p m.body }
-        ensures room { vec_capacity self.old.waiting - vec_len self.old.waiting ≤ vec_capacity self.new.waiting - vec_len self.new.waiting }
+        ensures room { self.old.waiting.room ≤ self.new.waiting.room }
         ensures memory { self.old.raw ≡ false → result ≢ Verdict.NoMemory }
     {
         if self.raw {
@@ -565,7 +635,12 @@ impl Proto for Request {
             Some(id) => {
                 let mut message = m;
                 let _ = message.trim(4);
-                self.live.keep_reply(id, Kept { pipe: p, message });
+                keep_reply(
+                    &mut self.live,
+                    &mut self.ready,
+                    id,
+                    Kept { pipe: p, message },
+                );
                 Verdict::Fine
             }
         }
@@ -591,6 +666,7 @@ impl Proto for Request {
     fn begin(&mut self, op: OpName, c: Ctx, act: Act) -> Result<(), Message> {
         match act {
             Act::Recv => {
+                look_at(&mut self.ready, &self.live, c);
                 wait(&mut self.waiting, op, c, None);
                 Ok(())
             }
@@ -620,20 +696,21 @@ impl Proto for Request {
         ensures offered { (t : Moment) → Lawful t → Calm t.z (past t) → Ties self.old t → IsOffered result t }
         ensures copies { (op : OpName) → result ≡ Offer.Flood op → (t : Moment) → Lawful t → Calm t.z (past t) → Ties self.old t → length (up (past t)) ≤ 0 }
         ensures left { work_left self.new ≤ work_left self.old }
-        ensures room { vec_capacity self.old.waiting - vec_len self.old.waiting ≤ vec_capacity self.new.waiting - vec_len self.new.waiting }
+        ensures room { self.old.waiting.room ≤ self.new.waiting.room }
         ensures next { (op : OpName) (p : ℕ) → result ≡ Offer.Send op p → (t : Moment) → Ties self.old t → IsNextPipe t p }
         ensures resend { (c p : ℕ) → result ≡ Offer.Again c p → (t : Moment) → Ties self.old t → IsNextPipe t p }
     {
-        if let Some(i) = orphan_place(&self.waiting) {
+        if let Some(op) = self.waiting.first_left() {
             return Offer::Finish {
-                op: self.waiting[i].op,
+                op,
                 cause: Cause::Superseded,
             };
         }
-        if let Some(i) = self.give_place() {
-            return Offer::Give {
-                op: self.waiting[i].op,
-            };
+        if let Some(op) = next_reply(self.raw, &mut self.ready, &self.live, &self.waiting) {
+            return Offer::Give { op };
+        }
+        if let Some(op) = self.give_left() {
+            return Offer::Give { op };
         }
         match self.ports.free_port(self.last_pipe) {
             None => Offer::Idle,
@@ -675,15 +752,12 @@ impl Proto for Request {
     }
 
     fn won(&mut self, op: OpName, out: Option<PipeId>) -> Option<Message> {
-        match take(&mut self.waiting, op) {
+        match self.waiting.take(op) {
             None => None,
             Some(w) => {
                 let ctx = w.ctx;
                 match w.message {
-                    None => {
-                        self.calm = self.calm.saturating_sub(1);
-                        self.give(ctx)
-                    }
+                    None => self.give(ctx),
                     Some(m) => Some(self.send(ctx, m, out)),
                 }
             }
@@ -691,12 +765,11 @@ impl Proto for Request {
     }
 
     fn lost(&mut self, op: OpName) -> Option<Message> {
-        match take(&mut self.waiting, op) {
+        match self.waiting.take(op) {
             None => None,
             Some(w) => {
                 if !self.raw && !w.is_orphan {
                     let _ = self.live.take_live(w.ctx);
-                    self.calm = self.calm.saturating_sub(1);
                     leave_behind(&mut self.waiting, w.ctx);
                 }
                 w.message
@@ -707,7 +780,7 @@ impl Proto for Request {
     fn clock(&mut self, now: Tick) {
         self.tick = now;
         self.seats.wet();
-        self.calm = 0;
+        self.live.skip_none();
     }
 
     fn open_ctx(&mut self, c: Ctx) -> Result<(), NoMemory> {
@@ -716,7 +789,6 @@ impl Proto for Request {
 
     fn close_ctx(&mut self, c: Ctx) {
         let _ = self.live.take_live(c);
-        self.calm = self.calm.saturating_sub(1);
         self.seats.close(c);
     }
 
@@ -729,7 +801,7 @@ impl Proto for Request {
 
     fn close(&mut self) {
         self.live.clear();
-        self.calm = 0;
+        self.ready.clear();
         self.kept.clear();
     }
 }

@@ -1,5 +1,5 @@
-use Rattle.std.proofs.Common.{◌≡◌, ◌∙◌, refl, ap, sym, length, ◌-◌, Some}
-use Rattle.std.specs.Prelude.{slice_get, nat_lt}
+use Rattle.std.proofs.Common.{◌≡◌, ◌∙◌, sym, length, ◌-◌, Some}
+use Rattle.std.specs.Prelude.{slice_get}
 use Rattle.proto_reqrep.proofs.Ordered.{all_before, some_length}
 use Rattle.proto_reqrep.proofs.contexts.are_before.Goals as goal
 

@@ -1,9 +1,7 @@
-use Rattle.std.proofs.Common.{◌≡◌, ◌∙◌, rules, sym, ap, Some, None}
+use Rattle.std.proofs.Common.{◌∙◌, rules}
 use Rattle.std.specs.Prelude.{not}
-use Rattle.std.specs.List.{position}
 use Rattle.std.proofs.lemmas.Fn.{filter_same}
 use Rattle.proto_reqrep.specs.Backlogs.{is_of}
-use Rattle.proto_reqrep.specs.Ordered.{AreOrdered}
 use Rattle.proto_reqrep.proofs.Positions.{not_found, without_none, without_at}
 use Rattle.proto_reqrep.proofs.Ordered.{without_is, here}
 use Rattle.proto_reqrep.proofs.contexts.take_out.Goals as goal

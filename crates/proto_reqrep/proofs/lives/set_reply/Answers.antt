@@ -1,10 +1,16 @@
-use Rattle.std.proofs.Common.{◌∙◌, sym}
+use Rattle.std.proofs.Common.{◌∙◌, sym, ap, length, take, slice_set}
 use Rattle.proto_reqrep.specs.Reqs.{waits_for, with_kept}
-use Rattle.proto_reqrep.proofs.Positions.{not_found, with_none, with_at}
+use Rattle.proto_reqrep.specs.Spots.{held}
+use Rattle.proto_reqrep.specs.declared.spots.Spot.{Spot}
+use Rattle.proto_reqrep.proofs.Positions.{with_none}
+use Rattle.proto_reqrep.proofs.Spotted.{not_there, changed_there, front_same}
 use Rattle.proto_reqrep.proofs.lives.set_reply.Goals as goal
 
-pub returns-in-None : goal.returns-in-None
-returns-in-None c = with_none (waits_for c.args.id) (with_kept c.args.kept) c.args.live.now (not_found (waits_for c.args.id) c.args.live.now (sym c.requires ∙ c.in-None.is))
+pub returns-in-None-clause-held : goal.returns-in-None-clause-held
+returns-in-None-clause-held c = with_none (waits_for c.args.id) (with_kept c.args.kept) (held c.args.list.now) (not_there (waits_for c.args.id) c.args.list.now (sym c.requires ∙ c.in-None.is))
 
-pub returns-in-Some : goal.returns-in-Some
-returns-in-Some c = with_at (waits_for c.args.id) (with_kept c.args.kept) c.args.live.now c.in-Some.i c.index-live-i.result (sym c.requires ∙ c.in-Some.is)
+pub returns-in-Some-clause-held : goal.returns-in-Some-clause-held
+returns-in-Some-clause-held c = ap (λ (s : Spot _). held (slice_set c.args.list.now c.in-Some.i s)) c.answer_spot.ensures ∙ changed_there (waits_for c.args.id) (with_kept c.args.kept) c.args.list.now c.in-Some.i c.index-list-i.result (sym c.requires ∙ c.in-Some.is)
+
+pub returns-in-Some-clause-front : goal.returns-in-Some-clause-front
+returns-in-Some-clause-front c = λ n. ap (λ (s : Spot _). length (held (take n (slice_set c.args.list.now c.in-Some.i s)))) c.answer_spot.ensures ∙ front_same (with_kept c.args.kept) n c.args.list.now c.in-Some.i c.index-list-i.result

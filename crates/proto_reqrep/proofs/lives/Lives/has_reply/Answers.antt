@@ -1,22 +1,30 @@
-use Rattle.std.proofs.Common.{◌≡◌, ◌∙◌, sym, ap, Some}
+use Rattle.std.proofs.Common.{◌≡◌, ◌∙◌, sym, ap, subst, true, Some, None, List, map, refl, Option, ℕ}
 use Rattle.std.specs.Prelude.{find}
-use Rattle.std.specs.List.{list_any, position}
-use Rattle.proto_reqrep.specs.Lives.{LivesView}
-use Rattle.proto_reqrep.specs.Reqs.{is_live_on, keeps_reply}
+use Rattle.std.specs.List.{position, list_any}
+use Rattle.sp_history.specs.Once.{AreDistinct}
+use Rattle.proto_reqrep.specs.Backlogs.{IsIndexed}
+use Rattle.proto_reqrep.specs.Numbers.{is_known}
+use Rattle.proto_reqrep.specs.Lives.{LivesView, is_answered}
+use Rattle.proto_reqrep.specs.Reqs.{is_live_on, live_ctx, keeps_reply}
+use Rattle.proto_reqrep.specs.Spots.{holds, held}
+use Rattle.proto_reqrep.specs.declared.spots.Spot.{Spot}
 use Rattle.proto_reqrep.specs.declared.req.Live.{Live}
-use Rattle.proto_reqrep.proofs.Positions.{found_at, not_found}
 use Rattle.proto_reqrep.proofs.Indexed.{no_reply, one_reply}
+use Rattle.proto_reqrep.proofs.Spotted.{any_held}
 use Rattle.proto_reqrep.proofs.lives.Lives.has_reply.Goals as goal
 
-pub returns-in-None : goal.returns-in-None
-returns-in-None c = sym (no_reply c.args.c c.args.self.now.items (not_found (is_live_on c.args.c) c.args.self.now.items (sym c.in-None.ensures)))
+its : (xs : List Live) (x : Option Live) (n : ℕ) → AreDistinct (map live_ctx xs) → find (is_live_on n) xs ≡ x → is_answered x ≡ list_any (keeps_reply n) xs
+its xs None n h f = sym (no_reply n xs f)
+its xs (Some x) n h f = one_reply n xs x h f
 
-pub returns-in-Some : goal.returns-in-Some
-returns-in-Some c =
+pub returns-then-not-self : goal.returns-then-not-self
+returns-then-not-self c = c.any_reply_on.ensures ∙ ap (list_any (holds (keeps_reply c.args.c))) c.deref.ensures.value ∙ any_held (keeps_reply c.args.c) c.self.inside.list.items ∙ ap (λ (v : LivesView). list_any (keeps_reply c.args.c) v.items) c.self.view_is
+
+pub returns : goal.returns
+returns c =
+    let e = c.deref-3.ensures.value in
+    let index : c.self.inside.is_indexed ≡ true → IsIndexed live_ctx (is_known c.self.inside.by_ctx) (held c.deref-3.result.now) = λ h. subst (λ (xs : List (Spot _)). IsIndexed live_ctx (is_known c.self.inside.by_ctx) (held xs)) (sym e) (c.self.invariant.by_number h).by_ctx in
     let P = is_live_on c.args.c in
-    let xs = c.self.inside.list.items in
-    let e : c.args.self.now.items ≡ xs = ap (λ (v : LivesView). v.items) (sym c.self.view_is) in
-    let at : position P xs ≡ Some c.in-Some.i = ap (position P) (sym e) ∙ sym c.in-Some.ensures in
-    let x = c.index.result.now in
-    let f : find P xs ≡ Some x = found_at P xs c.in-Some.i x at ∙ ap (λ (v : Live). Some v) (sym c.index.ensures) in
-    c.is_answered.ensures ∙ one_reply c.args.c xs x (c.self.invariant c.if-not-self.false).by_ctx.1 f ∙ ap (list_any (keeps_reply c.args.c)) (sym e)
+    let ss = c.self.inside.list.items in
+    c.is_answered_at.ensures P (c.ctx_place.ensures index ∙ ap (position (holds P)) (e ∙ sym c.deref-2.ensures.value)) ∙ ap (λ (xs : List (Spot _)). is_answered (find P (held xs))) c.deref-2.ensures.value
+    ∙ its (held ss) (find P (held ss)) c.args.c (c.self.invariant.by_number c.if-not-self.false).by_ctx.1 refl ∙ ap (λ (v : LivesView). list_any (keeps_reply c.args.c) v.items) c.self.view_is

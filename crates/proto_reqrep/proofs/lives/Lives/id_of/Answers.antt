@@ -1,21 +1,17 @@
-use Rattle.std.proofs.Common.{◌≡◌, ◌∙◌, sym, ap, Some}
-use Rattle.std.specs.Prelude.{find, option_map}
+use Rattle.std.proofs.Common.{◌≡◌, ◌∙◌, sym, ap, subst, true, List}
+use Rattle.std.specs.Prelude.{find}
 use Rattle.std.specs.List.{position}
+use Rattle.std.specs.Option.{option_map}
+use Rattle.proto_reqrep.specs.Backlogs.{IsIndexed}
+use Rattle.proto_reqrep.specs.Numbers.{is_known}
 use Rattle.proto_reqrep.specs.Lives.{LivesView}
-use Rattle.proto_reqrep.specs.Reqs.{is_live_on, live_id}
-use Rattle.proto_reqrep.specs.declared.req.Live.{Live}
-use Rattle.proto_reqrep.proofs.Positions.{found_at, not_found}
+use Rattle.proto_reqrep.specs.Reqs.{is_live_on, live_ctx, live_id}
+use Rattle.proto_reqrep.specs.Spots.{holds, held}
+use Rattle.proto_reqrep.specs.declared.spots.Spot.{Spot}
 use Rattle.proto_reqrep.proofs.lives.Lives.id_of.Goals as goal
 
-pub returns-in-None : goal.returns-in-None
-returns-in-None c = ap (option_map live_id) (sym (not_found (is_live_on c.args.c) c.args.self.now.items (sym c.in-None.ensures)))
-
-pub returns-in-Some : goal.returns-in-Some
-returns-in-Some c =
-    let P = is_live_on c.args.c in
-    let xs = c.self.inside.list.items in
-    let e : c.args.self.now.items ≡ xs = ap (λ (v : LivesView). v.items) (sym c.self.view_is) in
-    let at : position P xs ≡ Some c.in-Some.i = ap (position P) (sym e) ∙ sym c.in-Some.ensures in
-    let x = c.index.result.now in
-    let f : find P xs ≡ Some x = found_at P xs c.in-Some.i x at ∙ ap (λ (v : Live). Some v) (sym c.index.ensures) in
-    ap (option_map live_id) (sym f ∙ ap (find P) (sym e))
+pub returns : goal.returns
+returns c =
+    let e = c.deref-2.ensures.value in
+    let index : c.self.inside.is_indexed ≡ true → IsIndexed live_ctx (is_known c.self.inside.by_ctx) (held c.deref-2.result.now) = λ h. subst (λ (xs : List (Spot _)). IsIndexed live_ctx (is_known c.self.inside.by_ctx) (held xs)) (sym e) (c.self.invariant.by_number h).by_ctx in
+    c.id_at.ensures (is_live_on c.args.c) (c.ctx_place.ensures index ∙ ap (position (holds (is_live_on c.args.c))) (e ∙ sym c.deref.ensures.value)) ∙ ap (λ (xs : List (Spot _)). option_map live_id (find (is_live_on c.args.c) (held xs))) c.deref.ensures.value ∙ ap (λ (v : LivesView). option_map live_id (find (is_live_on c.args.c) v.items)) c.self.view_is

@@ -1,15 +1,91 @@
-use Rattle.std.proofs.Common.{refl}
-use Rattle.proto_reqrep.specs.Reqs.{waits_for, with_kept}
+use Rattle.std.proofs.Common.{◌≡◌, ◌∙◌, sym, ap, subst, true, List, arith, length, take, refl}
+use Rattle.std.specs.Prelude.{find}
+use Rattle.std.specs.Vec.{with_items}
+use Rattle.std.specs.List.{position}
+use Rattle.std.specs.Option.{option_map}
+use Rattle.proto_reqrep.specs.Backlogs.{IsIndexed}
+use Rattle.proto_reqrep.specs.Numbers.{is_known}
+use Rattle.proto_reqrep.specs.Lives.{LivesView}
+use Rattle.proto_reqrep.specs.Reqs.{live_ctx, live_id, waits_for, with_kept, with_found}
+use Rattle.proto_reqrep.specs.Spots.{holds, held}
+use Rattle.proto_reqrep.specs.declared.spots.Spot.{Spot}
+use Rattle.proto_reqrep.proofs.Spotted.{items_are}
 use Rattle.proto_reqrep.proofs.Indexed.{found_same}
-use Rattle.proto_reqrep.proofs.Coming.{found_written}
+use Rattle.proto_reqrep.proofs.Working.{length_same}
 use Rattle.proto_reqrep.proofs.lives.Lives.keep_reply.Goals as goal
 
-pub invariant_of-self : goal.invariant_of-self
-invariant_of-self c = λ h.
-    let live = found_written (waits_for c.args.id) (with_kept c.args.kept) c.self.inside.list c.set_reply.new.live c.deref_mut.result.now c.deref_mut.ensures.value c.set_reply.ensures in
-    found_same (waits_for c.args.id) (with_kept c.args.kept) c.self.inside.by_ctx c.self.inside.by_id c.self.inside.list.items _ (λ x. refl) (λ x. refl) (c.self.invariant h) live
+pub set_reply-requires : goal.set_reply-requires
+set_reply-requires c =
+    let P = waits_for c.args.id in
+    let f = with_kept c.args.kept in
+    let v = c.self.inside.list in
+    let ss = v.items in
+    let e = c.deref.ensures.value in
+    let d = c.deref_mut.ensures.value in
+    let index : c.self.inside.is_indexed ≡ true → IsIndexed live_id (is_known c.self.inside.by_id) (held c.deref.result.now) = λ h. subst (λ (xs : List (Spot _)). IsIndexed live_id (is_known c.self.inside.by_id) (held xs)) (sym e) (c.self.invariant.by_number h).by_id in
+    let at : c.id_place-place.result ≡ position (holds P) ss = c.id_place-place.ensures index ∙ ap (position (holds P)) e in
+    at ∙ sym (ap (position (holds P)) d)
 
-pub returns : goal.returns
-returns c =
-    let live = found_written (waits_for c.args.id) (with_kept c.args.kept) c.self.inside.list c.set_reply.new.live c.deref_mut.result.now c.deref_mut.ensures.value c.set_reply.ensures in
-    rw (← c.self.view_is) live
+pub invariant_of-self : goal.invariant_of-self
+invariant_of-self c =
+    let P = waits_for c.args.id in
+    let f = with_kept c.args.kept in
+    let v = c.self.inside.list in
+    let ss = v.items in
+    let e = c.deref.ensures.value in
+    let d = c.deref_mut.ensures.value in
+    let index : c.self.inside.is_indexed ≡ true → IsIndexed live_id (is_known c.self.inside.by_id) (held c.deref.result.now) = λ h. subst (λ (xs : List (Spot _)). IsIndexed live_id (is_known c.self.inside.by_id) (held xs)) (sym e) (c.self.invariant.by_number h).by_id in
+    let at : c.id_place-place.result ≡ position (holds P) ss = c.id_place-place.ensures index ∙ ap (position (holds P)) e in
+    let ts = c.set_reply.new.list in
+    let same : (with_items v ts).items ≡ ts = items_are v ts (c.set_reply.ensures.len ∙ ap length d) in
+    let whole : held (with_items v ts).items ≡ with_found P f (held ss) = ap held same ∙ c.set_reply.ensures.held ∙ ap (λ (xs : List (Spot _)). with_found P f (held xs)) d in
+    let long = ap length same ∙ c.set_reply.ensures.len ∙ ap length d in
+    let bound = c.self.invariant.bound in
+    record {
+      by_number = λ h. found_same P f c.self.inside.by_ctx c.self.inside.by_id (held ss) _ (λ x. refl) (λ x. refl) (c.self.invariant.by_number h) whole;
+      number = c.self.invariant.number ∙ sym (ap length whole ∙ length_same P f (held ss));
+      bound = omega (arith, long, bound);
+    }
+
+pub returns-clause-items : goal.returns-clause-items
+returns-clause-items c =
+    let P = waits_for c.args.id in
+    let f = with_kept c.args.kept in
+    let v = c.self.inside.list in
+    let ss = v.items in
+    let e = c.deref.ensures.value in
+    let d = c.deref_mut.ensures.value in
+    let index : c.self.inside.is_indexed ≡ true → IsIndexed live_id (is_known c.self.inside.by_id) (held c.deref.result.now) = λ h. subst (λ (xs : List (Spot _)). IsIndexed live_id (is_known c.self.inside.by_id) (held xs)) (sym e) (c.self.invariant.by_number h).by_id in
+    let at : c.id_place-place.result ≡ position (holds P) ss = c.id_place-place.ensures index ∙ ap (position (holds P)) e in
+    let ts = c.set_reply.new.list in
+    let same : (with_items v ts).items ≡ ts = items_are v ts (c.set_reply.ensures.len ∙ ap length d) in
+    let whole : held (with_items v ts).items ≡ with_found P f (held ss) = ap held same ∙ c.set_reply.ensures.held ∙ ap (λ (xs : List (Spot _)). with_found P f (held xs)) d in
+    whole ∙ ap (λ (w : LivesView). with_found P f w.items) c.self.view_is
+
+pub returns-clause-calm : goal.returns-clause-calm
+returns-clause-calm c =
+    let P = waits_for c.args.id in
+    let f = with_kept c.args.kept in
+    let v = c.self.inside.list in
+    let ss = v.items in
+    let e = c.deref.ensures.value in
+    let d = c.deref_mut.ensures.value in
+    let index : c.self.inside.is_indexed ≡ true → IsIndexed live_id (is_known c.self.inside.by_id) (held c.deref.result.now) = λ h. subst (λ (xs : List (Spot _)). IsIndexed live_id (is_known c.self.inside.by_id) (held xs)) (sym e) (c.self.invariant.by_number h).by_id in
+    let at : c.id_place-place.result ≡ position (holds P) ss = c.id_place-place.ensures index ∙ ap (position (holds P)) e in
+    let ts = c.set_reply.new.list in
+    let same : (with_items v ts).items ≡ ts = items_are v ts (c.set_reply.ensures.len ∙ ap length d) in
+    let whole : held (with_items v ts).items ≡ with_found P f (held ss) = ap held same ∙ c.set_reply.ensures.held ∙ ap (λ (xs : List (Spot _)). with_found P f (held xs)) d in
+    let n = c.self.inside.skipped in
+    ap (λ (xs : List (Spot _)). length (held (take n xs))) same ∙ c.set_reply.ensures.front n ∙ ap (λ (xs : List (Spot _)). length (held (take n xs))) d ∙ ap (λ (w : LivesView). w.calm) c.self.view_is
+
+pub returns-clause-ctx : goal.returns-clause-ctx
+returns-clause-ctx c =
+    let P = waits_for c.args.id in
+    let f = with_kept c.args.kept in
+    let v = c.self.inside.list in
+    let ss = v.items in
+    let e = c.deref.ensures.value in
+    let d = c.deref_mut.ensures.value in
+    let index : c.self.inside.is_indexed ≡ true → IsIndexed live_id (is_known c.self.inside.by_id) (held c.deref.result.now) = λ h. subst (λ (xs : List (Spot _)). IsIndexed live_id (is_known c.self.inside.by_id) (held xs)) (sym e) (c.self.invariant.by_number h).by_id in
+    let at : c.id_place-place.result ≡ position (holds P) ss = c.id_place-place.ensures index ∙ ap (position (holds P)) e in
+    c.ctx_at-ctx.ensures P (at ∙ ap (position (holds P)) (sym c.deref-2.ensures.value)) ∙ ap (λ (xs : List (Spot _)). option_map live_ctx (find P (held xs))) c.deref-2.ensures.value ∙ ap (λ (w : LivesView). option_map live_ctx (find P w.items)) c.self.view_is

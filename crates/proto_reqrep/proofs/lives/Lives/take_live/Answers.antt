@@ -1,43 +1,175 @@
-use Rattle.std.proofs.Common.{◌≡◌, ◌∙◌, sym, ap, Some}
+use Rattle.std.proofs.Common.{◌≡◌, ◌∙◌, sym, ap, subst, true, Some, None, List, arith, length, take}
 use Rattle.std.specs.Prelude.{find}
-use Rattle.std.specs.List.{position}
+use Rattle.std.specs.Vec.{with_items}
+use Rattle.std.specs.List.{position, list_any}
+use Rattle.proto_reqrep.specs.Backlogs.{IsIndexed}
+use Rattle.proto_reqrep.specs.Numbers.{is_known}
 use Rattle.proto_reqrep.specs.Lives.{LivesView}
-use Rattle.proto_reqrep.specs.Reqs.{is_live_on, without_live}
-use Rattle.proto_reqrep.specs.declared.req.Live.{Live}
-use Rattle.proto_reqrep.proofs.Positions.{found_at, not_found, without_none, without_at}
+use Rattle.proto_reqrep.specs.Reqs.{is_live_on, live_ctx}
+use Rattle.proto_reqrep.specs.Spots.{holds, held}
+use Rattle.proto_reqrep.specs.declared.spots.Spot.{Spot}
+use Rattle.proto_reqrep.specs.Reqs.{without_found}
+use Rattle.proto_reqrep.proofs.Positions.{without_none}
 use Rattle.proto_reqrep.proofs.Indexed.{found_less}
+use Rattle.proto_reqrep.proofs.Spotted.{not_there, never, inside, fewer_one, items_are, none_before_is}
 use Rattle.proto_reqrep.proofs.lives.Lives.take_live.Goals as goal
 
-pub invariant_of-self : goal.invariant_of-self
-invariant_of-self c = λ h.
+pub empty-requires : goal.empty-requires
+empty-requires c =
     let P = is_live_on c.args.c in
-    let xs = c.self.inside.list.items in
-    let e : c.args.self.now.items ≡ xs = ap (λ (v : LivesView). v.items) (sym c.self.view_is) in
-    let at : position P xs ≡ Some c.in-Some.i = ap (position P) (sym e) ∙ sym c.in-Some.ensures in
-    let x = c.remove-x.result in
-    let f : find P xs ≡ Some x = found_at P xs c.in-Some.i x at ∙ ap (λ (v : Live). Some v) (sym c.remove-x.ensures.value) in
-    found_less c.args.c c.self.inside.by_ctx c.self.inside.by_id c.lose.new.by_ctx c.lose.new.by_id xs c.remove-x.new.self.items x (c.self.invariant h) f c.lose.ensures.ctx c.lose.ensures.id
-    (c.remove-x.ensures.items ∙ without_at P xs c.in-Some.i x at)
+    let v = c.self.inside.list in
+    let ss = v.items in
+    let e = c.deref.ensures.value in
+    let index : c.self.inside.is_indexed ≡ true → IsIndexed live_ctx (is_known c.self.inside.by_ctx) (held c.deref.result.now) = λ h. subst (λ (xs : List (Spot _)). IsIndexed live_ctx (is_known c.self.inside.by_ctx) (held xs)) (sym e) (c.self.invariant.by_number h).by_ctx in
+    let f = c.deref_mut.ensures.value in
+    let at : position (holds P) ss ≡ Some c.in-Some.i = ap (position (holds P)) (sym e) ∙ sym (c.in-Some.ensures index) in
+    let there : position (holds P) c.deref_mut.result.now ≡ Some c.in-Some.i = ap (position (holds P)) f ∙ at in
+    inside P c.deref_mut.result.now c.in-Some.i there
+
+pub invariant_of-self : goal.invariant_of-self
+invariant_of-self c =
+    let P = is_live_on c.args.c in
+    let v = c.self.inside.list in
+    let ss = v.items in
+    let e = c.deref.ensures.value in
+    let index : c.self.inside.is_indexed ≡ true → IsIndexed live_ctx (is_known c.self.inside.by_ctx) (held c.deref.result.now) = λ h. subst (λ (xs : List (Spot _)). IsIndexed live_ctx (is_known c.self.inside.by_ctx) (held xs)) (sym e) (c.self.invariant.by_number h).by_ctx in
+    let f = c.deref_mut.ensures.value in
+    let at : position (holds P) ss ≡ Some c.in-Some.i = ap (position (holds P)) (sym e) ∙ sym (c.in-Some.ensures index) in
+    let there : position (holds P) c.deref_mut.result.now ≡ Some c.in-Some.i = ap (position (holds P)) f ∙ at in
+    absurd (never P c.deref_mut.result.now c.in-Some.i there (c.in-None-empty.ensures.found P there))
+
+pub invariant_of-self-in-Some-empty : goal.invariant_of-self-in-Some-empty
+invariant_of-self-in-Some-empty c =
+    let P = is_live_on c.args.c in
+    let v = c.self.inside.list in
+    let ss = v.items in
+    let e = c.deref.ensures.value in
+    let index : c.self.inside.is_indexed ≡ true → IsIndexed live_ctx (is_known c.self.inside.by_ctx) (held c.deref.result.now) = λ h. subst (λ (xs : List (Spot _)). IsIndexed live_ctx (is_known c.self.inside.by_ctx) (held xs)) (sym e) (c.self.invariant.by_number h).by_ctx in
+    let f = c.deref_mut.ensures.value in
+    let at : position (holds P) ss ≡ Some c.in-Some.i = ap (position (holds P)) (sym e) ∙ sym (c.in-Some.ensures index) in
+    let there : position (holds P) c.deref_mut.result.now ≡ Some c.in-Some.i = ap (position (holds P)) f ∙ at in
+    let x = c.in-Some-empty.x in
+    let found : find P (held ss) ≡ Some x = sym (c.in-Some-empty.ensures.found P there ∙ ap (λ (xs : List (Spot _)). find P (held xs)) f) in
+    let ts = c.empty.new.list in
+    let same : (with_items v ts).items ≡ ts = items_are v ts (c.empty.ensures.len ∙ ap length f) in
+    let rest : held ts ≡ without_found P (held ss) = c.empty.ensures.rest P there ∙ ap (λ (xs : List (Spot _)). without_found P (held xs)) f in
+    let whole : held (with_items v ts).items ≡ without_found P (held ss) = ap held same ∙ rest in
+    let long = ap length same ∙ c.empty.ensures.len ∙ ap length f in
+    let bound = c.self.invariant.bound in
+    let m = c.self.invariant.number in
+    let alive = c.saturating_sub-self-inside.ensures in
+    let fewer = fewer_one P (held ss) x found in
+    let less = ap length whole in
+    record {
+      by_number = λ h. found_less c.args.c c.self.inside.by_ctx c.self.inside.by_id c.lose.new.by_ctx c.lose.new.by_id (held ss) _ x (c.self.invariant.by_number h) found c.lose.ensures.ctx c.lose.ensures.id whole;
+      number = omega (arith, alive, m, fewer, less);
+      bound = omega (arith, long, bound);
+    }
 
 pub returns-in-None-clause-found : goal.returns-in-None-clause-found
-returns-in-None-clause-found c = sym (not_found (is_live_on c.args.c) c.args.self.now.items (sym c.in-None.ensures))
+returns-in-None-clause-found c =
+    let P = is_live_on c.args.c in
+    let v = c.self.inside.list in
+    let ss = v.items in
+    let e = c.deref.ensures.value in
+    let index : c.self.inside.is_indexed ≡ true → IsIndexed live_ctx (is_known c.self.inside.by_ctx) (held c.deref.result.now) = λ h. subst (λ (xs : List (Spot _)). IsIndexed live_ctx (is_known c.self.inside.by_ctx) (held xs)) (sym e) (c.self.invariant.by_number h).by_ctx in
+    let none : find P c.args.self.now.items ≡ None = ap (λ (v : LivesView). find P v.items) (sym c.self.view_is) ∙ ap (λ (xs : List (Spot _)). find P (held xs)) (sym e) ∙ not_there P c.deref.result.now (sym (c.in-None.ensures index)) in
+    sym none
 
 pub returns-in-None-clause-rest : goal.returns-in-None-clause-rest
-returns-in-None-clause-rest c = without_none (is_live_on c.args.c) c.args.self.now.items (not_found (is_live_on c.args.c) c.args.self.now.items (sym c.in-None.ensures))
-
-pub returns-in-Some-clause-found : goal.returns-in-Some-clause-found
-returns-in-Some-clause-found c =
+returns-in-None-clause-rest c =
     let P = is_live_on c.args.c in
-    let xs = c.self.inside.list.items in
-    let e : c.args.self.now.items ≡ xs = ap (λ (v : LivesView). v.items) (sym c.self.view_is) in
-    let at : position P xs ≡ Some c.in-Some.i = ap (position P) (sym e) ∙ sym c.in-Some.ensures in
-    let x = c.remove-x.result in
-    sym (ap (find P) e ∙ found_at P xs c.in-Some.i x at ∙ ap (λ (v : Live). Some v) (sym c.remove-x.ensures.value))
+    let v = c.self.inside.list in
+    let ss = v.items in
+    let e = c.deref.ensures.value in
+    let index : c.self.inside.is_indexed ≡ true → IsIndexed live_ctx (is_known c.self.inside.by_ctx) (held c.deref.result.now) = λ h. subst (λ (xs : List (Spot _)). IsIndexed live_ctx (is_known c.self.inside.by_ctx) (held xs)) (sym e) (c.self.invariant.by_number h).by_ctx in
+    let none : find P c.args.self.now.items ≡ None = ap (λ (v : LivesView). find P v.items) (sym c.self.view_is) ∙ ap (λ (xs : List (Spot _)). find P (held xs)) (sym e) ∙ not_there P c.deref.result.now (sym (c.in-None.ensures index)) in
+    without_none P c.args.self.now.items none
 
-pub returns-in-Some-clause-rest : goal.returns-in-Some-clause-rest
-returns-in-Some-clause-rest c =
+pub returns-in-None-empty : goal.returns-in-None-empty
+returns-in-None-empty c =
     let P = is_live_on c.args.c in
-    let xs = c.self.inside.list.items in
-    let e : c.args.self.now.items ≡ xs = ap (λ (v : LivesView). v.items) (sym c.self.view_is) in
-    let at : position P xs ≡ Some c.in-Some.i = ap (position P) (sym e) ∙ sym c.in-Some.ensures in
-    c.remove-x.ensures.items ∙ without_at P xs c.in-Some.i c.remove-x.result at ∙ ap (without_live c.args.c) (sym e)
+    let v = c.self.inside.list in
+    let ss = v.items in
+    let e = c.deref.ensures.value in
+    let index : c.self.inside.is_indexed ≡ true → IsIndexed live_ctx (is_known c.self.inside.by_ctx) (held c.deref.result.now) = λ h. subst (λ (xs : List (Spot _)). IsIndexed live_ctx (is_known c.self.inside.by_ctx) (held xs)) (sym e) (c.self.invariant.by_number h).by_ctx in
+    let f = c.deref_mut.ensures.value in
+    let at : position (holds P) ss ≡ Some c.in-Some.i = ap (position (holds P)) (sym e) ∙ sym (c.in-Some.ensures index) in
+    let there : position (holds P) c.deref_mut.result.now ≡ Some c.in-Some.i = ap (position (holds P)) f ∙ at in
+    absurd (never P c.deref_mut.result.now c.in-Some.i there (c.in-None-empty.ensures.found P there))
+
+pub returns-in-Some-empty-clause-found : goal.returns-in-Some-empty-clause-found
+returns-in-Some-empty-clause-found c =
+    let P = is_live_on c.args.c in
+    let v = c.self.inside.list in
+    let ss = v.items in
+    let e = c.deref.ensures.value in
+    let index : c.self.inside.is_indexed ≡ true → IsIndexed live_ctx (is_known c.self.inside.by_ctx) (held c.deref.result.now) = λ h. subst (λ (xs : List (Spot _)). IsIndexed live_ctx (is_known c.self.inside.by_ctx) (held xs)) (sym e) (c.self.invariant.by_number h).by_ctx in
+    let f = c.deref_mut.ensures.value in
+    let at : position (holds P) ss ≡ Some c.in-Some.i = ap (position (holds P)) (sym e) ∙ sym (c.in-Some.ensures index) in
+    let there : position (holds P) c.deref_mut.result.now ≡ Some c.in-Some.i = ap (position (holds P)) f ∙ at in
+    let x = c.in-Some-empty.x in
+    let found : find P (held ss) ≡ Some x = sym (c.in-Some-empty.ensures.found P there ∙ ap (λ (xs : List (Spot _)). find P (held xs)) f) in
+    let ts = c.empty.new.list in
+    let same : (with_items v ts).items ≡ ts = items_are v ts (c.empty.ensures.len ∙ ap length f) in
+    let rest : held ts ≡ without_found P (held ss) = c.empty.ensures.rest P there ∙ ap (λ (xs : List (Spot _)). without_found P (held xs)) f in
+    let whole : held (with_items v ts).items ≡ without_found P (held ss) = ap held same ∙ rest in
+    sym found ∙ ap (λ (w : LivesView). find P w.items) c.self.view_is
+
+pub returns-in-Some-empty-clause-rest : goal.returns-in-Some-empty-clause-rest
+returns-in-Some-empty-clause-rest c =
+    let P = is_live_on c.args.c in
+    let v = c.self.inside.list in
+    let ss = v.items in
+    let e = c.deref.ensures.value in
+    let index : c.self.inside.is_indexed ≡ true → IsIndexed live_ctx (is_known c.self.inside.by_ctx) (held c.deref.result.now) = λ h. subst (λ (xs : List (Spot _)). IsIndexed live_ctx (is_known c.self.inside.by_ctx) (held xs)) (sym e) (c.self.invariant.by_number h).by_ctx in
+    let f = c.deref_mut.ensures.value in
+    let at : position (holds P) ss ≡ Some c.in-Some.i = ap (position (holds P)) (sym e) ∙ sym (c.in-Some.ensures index) in
+    let there : position (holds P) c.deref_mut.result.now ≡ Some c.in-Some.i = ap (position (holds P)) f ∙ at in
+    let x = c.in-Some-empty.x in
+    let found : find P (held ss) ≡ Some x = sym (c.in-Some-empty.ensures.found P there ∙ ap (λ (xs : List (Spot _)). find P (held xs)) f) in
+    let ts = c.empty.new.list in
+    let same : (with_items v ts).items ≡ ts = items_are v ts (c.empty.ensures.len ∙ ap length f) in
+    let rest : held ts ≡ without_found P (held ss) = c.empty.ensures.rest P there ∙ ap (λ (xs : List (Spot _)). without_found P (held xs)) f in
+    let whole : held (with_items v ts).items ≡ without_found P (held ss) = ap held same ∙ rest in
+    whole ∙ ap (λ (w : LivesView). without_found P w.items) c.self.view_is
+
+pub returns-in-Some-empty-clause-calm : goal.returns-in-Some-empty-clause-calm
+returns-in-Some-empty-clause-calm c = λ Q h.
+    let P = is_live_on c.args.c in
+    let v = c.self.inside.list in
+    let ss = v.items in
+    let e = c.deref.ensures.value in
+    let index : c.self.inside.is_indexed ≡ true → IsIndexed live_ctx (is_known c.self.inside.by_ctx) (held c.deref.result.now) = λ h. subst (λ (xs : List (Spot _)). IsIndexed live_ctx (is_known c.self.inside.by_ctx) (held xs)) (sym e) (c.self.invariant.by_number h).by_ctx in
+    let f = c.deref_mut.ensures.value in
+    let at : position (holds P) ss ≡ Some c.in-Some.i = ap (position (holds P)) (sym e) ∙ sym (c.in-Some.ensures index) in
+    let there : position (holds P) c.deref_mut.result.now ≡ Some c.in-Some.i = ap (position (holds P)) f ∙ at in
+    let x = c.in-Some-empty.x in
+    let found : find P (held ss) ≡ Some x = sym (c.in-Some-empty.ensures.found P there ∙ ap (λ (xs : List (Spot _)). find P (held xs)) f) in
+    let ts = c.empty.new.list in
+    let same : (with_items v ts).items ≡ ts = items_are v ts (c.empty.ensures.len ∙ ap length f) in
+    let rest : held ts ≡ without_found P (held ss) = c.empty.ensures.rest P there ∙ ap (λ (xs : List (Spot _)). without_found P (held xs)) f in
+    let whole : held (with_items v ts).items ≡ without_found P (held ss) = ap held same ∙ rest in
+    let n = c.self.inside.skipped in
+    none_before_is Q n (with_items v ts).items ∙ ap (λ (xs : List (Spot _)). list_any (holds Q) (take n xs)) same ∙ c.empty.ensures.none Q n (ap (λ (xs : List (Spot _)). list_any (holds Q) (take n xs)) f ∙ sym (none_before_is Q n ss) ∙ ap (λ (w : LivesView). list_any Q (take w.calm w.items)) c.self.view_is ∙ h)
+
+pub returns-in-Some-empty-clause-len : goal.returns-in-Some-empty-clause-len
+returns-in-Some-empty-clause-len c =
+    let P = is_live_on c.args.c in
+    let v = c.self.inside.list in
+    let ss = v.items in
+    let e = c.deref.ensures.value in
+    let index : c.self.inside.is_indexed ≡ true → IsIndexed live_ctx (is_known c.self.inside.by_ctx) (held c.deref.result.now) = λ h. subst (λ (xs : List (Spot _)). IsIndexed live_ctx (is_known c.self.inside.by_ctx) (held xs)) (sym e) (c.self.invariant.by_number h).by_ctx in
+    let f = c.deref_mut.ensures.value in
+    let at : position (holds P) ss ≡ Some c.in-Some.i = ap (position (holds P)) (sym e) ∙ sym (c.in-Some.ensures index) in
+    let there : position (holds P) c.deref_mut.result.now ≡ Some c.in-Some.i = ap (position (holds P)) f ∙ at in
+    let x = c.in-Some-empty.x in
+    let found : find P (held ss) ≡ Some x = sym (c.in-Some-empty.ensures.found P there ∙ ap (λ (xs : List (Spot _)). find P (held xs)) f) in
+    let ts = c.empty.new.list in
+    let same : (with_items v ts).items ≡ ts = items_are v ts (c.empty.ensures.len ∙ ap length f) in
+    let rest : held ts ≡ without_found P (held ss) = c.empty.ensures.rest P there ∙ ap (λ (xs : List (Spot _)). without_found P (held xs)) f in
+    let whole : held (with_items v ts).items ≡ without_found P (held ss) = ap held same ∙ rest in
+    let fewer = fewer_one P (held ss) x found in
+    let less = ap length whole in
+    let was = ap (λ (w : LivesView). length w.items) c.self.view_is in
+    omega (arith, fewer, less, was)

@@ -1,7 +1,5 @@
-use Rattle.std.proofs.Common.{◌≡◌, ◌∙◌, sym, ap, Some, None}
+use Rattle.std.proofs.Common.{◌∙◌, ap}
 use Rattle.std.specs.Prelude.{is_some}
-use Rattle.std.specs.List.{position, list_any}
-use Rattle.proto_reqrep.specs.Places.{PlacesView}
 use Rattle.proto_reqrep.specs.Reps.{is_home}
 use Rattle.proto_reqrep.proofs.Ordered.{some_place}
 use Rattle.proto_reqrep.proofs.places.Places.has.Goals as goal

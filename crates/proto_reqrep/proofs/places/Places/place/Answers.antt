@@ -1,10 +1,8 @@
-use Rattle.std.proofs.Common.{◌≡◌, ◌∙◌, rules, sym, ap, subst, map, true, false, Some, None, filter}
-use Rattle.std.specs.Prelude.{not, is_some, ◌==◌}
-use Rattle.std.specs.List.{position, list_all, list_any}
-use Rattle.proto_reqrep.specs.declared.rep.Place.{Place}
-use Rattle.proto_reqrep.specs.Ordered.{is_before, AreOrdered}
+use Rattle.std.proofs.Common.{◌∙◌, sym, ap, subst}
+use Rattle.std.specs.List.{position}
+use Rattle.proto_reqrep.specs.Ordered.{AreOrdered}
 use Rattle.proto_reqrep.specs.Places.{PlacesView}
-use Rattle.proto_reqrep.specs.Reps.{is_home, ctx_of, origin_at}
+use Rattle.proto_reqrep.specs.Reps.{is_home, ctx_of}
 use Rattle.proto_reqrep.proofs.places.Places.place.Goals as goal
 
 pub returns : goal.returns

@@ -1,10 +1,5 @@
-use Rattle.std.proofs.Common.{◌≡◌, ◌∙◌, rules, sym, ap, subst, map, true, false, Some, None, filter}
-use Rattle.std.specs.Prelude.{not, is_some, ◌==◌}
-use Rattle.std.specs.List.{position, list_all, list_any}
-use Rattle.proto_reqrep.specs.declared.rep.Place.{Place}
-use Rattle.proto_reqrep.specs.Ordered.{is_before, AreOrdered}
-use Rattle.proto_reqrep.specs.Places.{PlacesView}
-use Rattle.proto_reqrep.specs.Reps.{is_home, ctx_of, origin_at}
+use Rattle.std.proofs.Common.{◌∙◌, ap, map}
+use Rattle.proto_reqrep.specs.Reps.{ctx_of}
 use Rattle.proto_reqrep.proofs.Homes.{places_written}
 use Rattle.proto_reqrep.proofs.Ordered.{ordered_same}
 use Rattle.proto_reqrep.proofs.places.Places.unstore.Goals as goal

@@ -1,64 +1,27 @@
-use Rattle.std.proofs.Common.{refl}
-use Rattle.proto_reqrep.specs.declared.ports.Way.TheVariants as ways
-use Rattle.proto_reqrep.proofs.Offered.{send_none, send_at, offer_none, offer_way}
+use Rattle.std.proofs.Common.{◌≡◌, ◌∙◌, sym, ap, Some, None}
+use Rattle.std.specs.Prelude.{find}
+use Rattle.proto_reqrep.specs.Reps.{is_ready, send_offer}
+use Rattle.proto_reqrep.proofs.Spotted.{not_there, found_there}
+use Rattle.proto_reqrep.proofs.Offered.{ready_sends}
 use Rattle.proto_reqrep.proofs.rep.Reply.next_send.Goals as goal
 
 pub returns-in-None : goal.returns-in-None
-returns-in-None c = let m = c.args.self.now in send_none m.raw m.ports.items m.ports.items m.waiting.items refl c.in-None.ensures
-
-pub returns-in-None-answer : goal.returns-in-None-answer
-returns-in-None-answer c =
+returns-in-None c =
     let m = c.args.self.now in
-    let w = c.index-w.result.now in
-    offer_none m.raw m.ports.items m.waiting.items w (send_at m.raw m.ports.items m.ports.items m.waiting.items c.in-Some.i w refl c.in-Some.ensures c.index-w.ensures) c.in-None-answer.is
+    let P = is_ready m.raw m.ports.items in
+    let none : find P m.waiting.items ≡ None = sym (c.sends-list.ensures P (ready_sends m.raw m.ports.items)) ∙ not_there P c.sends-list.result.now (sym c.in-None.ensures) in
+    sym (ap (send_offer m.raw m.ports.items) none)
 
-pub returns-in-To : goal.returns-in-To
-returns-in-To c =
+pub returns-in-None-value : goal.returns-in-None-value
+returns-in-None-value c =
     let m = c.args.self.now in
-    let w = c.index-w.result.now in
-    offer_way
-    m.raw
-    m.ports.items
-    m.ports.items
-    m.waiting.items
-    w
-    c.in-Some-answer.r
-    (ways.To c.in-To.pipe)
-    refl
-    (send_at m.raw m.ports.items m.ports.items m.waiting.items c.in-Some.i w refl c.in-Some.ensures c.index-w.ensures)
-    c.in-Some-answer.is
-    c.in-To.ensures
+    let P = is_ready m.raw m.ports.items in
+    let none : find P m.waiting.items ≡ None = sym (c.sends-list.ensures P (ready_sends m.raw m.ports.items)) ∙ found_there P c.sends-list.result.now c.in-Some.i c.index-list-i.result (sym c.in-Some.ensures) ∙ c.in-None-value.is in
+    sym (ap (send_offer m.raw m.ports.items) none)
 
-pub returns-in-Full : goal.returns-in-Full
-returns-in-Full c =
+pub returns-in-Some-value : goal.returns-in-Some-value
+returns-in-Some-value c =
     let m = c.args.self.now in
-    let w = c.index-w.result.now in
-    offer_way
-    m.raw
-    m.ports.items
-    m.ports.items
-    m.waiting.items
-    w
-    c.in-Some-answer.r
-    ways.Full
-    refl
-    (send_at m.raw m.ports.items m.ports.items m.waiting.items c.in-Some.i w refl c.in-Some.ensures c.index-w.ensures)
-    c.in-Some-answer.is
-    c.in-Full.ensures
-
-pub returns-in-Nowhere : goal.returns-in-Nowhere
-returns-in-Nowhere c =
-    let m = c.args.self.now in
-    let w = c.index-w.result.now in
-    offer_way
-    m.raw
-    m.ports.items
-    m.ports.items
-    m.waiting.items
-    w
-    c.in-Some-answer.r
-    ways.Nowhere
-    refl
-    (send_at m.raw m.ports.items m.ports.items m.waiting.items c.in-Some.i w refl c.in-Some.ensures c.index-w.ensures)
-    c.in-Some-answer.is
-    c.in-Nowhere.ensures
+    let P = is_ready m.raw m.ports.items in
+    let it : find P m.waiting.items ≡ Some c.in-Some-value.w = sym (c.sends-list.ensures P (ready_sends m.raw m.ports.items)) ∙ found_there P c.sends-list.result.now c.in-Some.i c.index-list-i.result (sym c.in-Some.ensures) ∙ c.in-Some-value.is in
+    c.send_of.ensures ∙ sym (ap (send_offer m.raw m.ports.items) it)

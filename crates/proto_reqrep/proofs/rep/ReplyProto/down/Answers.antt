@@ -1,7 +1,8 @@
 use Rattle.std.proofs.Common.{refl, ◌<◌, arith}
 use Rattle.proto_reqrep.specs.declared.rep.Reply.{Reply}
 use Rattle.proto_reqrep.specs.Ports.{free_count}
-use Rattle.proto_reqrep.proofs.Replied.{down_ties, down_left}
+use Rattle.proto_reqrep.proofs.Replied.{down_ties}
+use Rattle.proto_reqrep.proofs.Knowing.{down_free}
 use Rattle.proto_reqrep.proofs.rep.ReplyProto.down.Goals as goal
 
 pub returns-clause-down : goal.returns-clause-down
@@ -15,5 +16,5 @@ pub returns-clause-left : goal.returns-clause-left
 returns-clause-left c =
     λ t op s b l h k.
     let was = c.args.self.now in
-    let less : free_count c.forget.new.self.items < free_count was.ports.items = down_left was t op c.args.p s b c.forget.new.self.items h k c.forget.ensures in
+    let less : free_count c.forget.new.self.items < free_count was.ports.items = down_free c.forget.new.self.items was.ports.items t c.args.p h.pipes c.forget.ensures k.not_full k.is_up in
     omega (arith, less)

@@ -1,7 +1,8 @@
 use Rattle.std.proofs.Common.{refl, ◌<◌, arith}
 use Rattle.proto_reqrep.specs.declared.rep.Reply.{Reply}
 use Rattle.proto_reqrep.specs.Ports.{free_count}
-use Rattle.proto_reqrep.proofs.Replied.{full_ties, full_left}
+use Rattle.proto_reqrep.proofs.Replied.{full_ties}
+use Rattle.proto_reqrep.proofs.Knowing.{full_free}
 use Rattle.proto_reqrep.proofs.rep.ReplyProto.full.Goals as goal
 
 pub returns-clause-full : goal.returns-clause-full
@@ -15,5 +16,5 @@ pub returns-clause-left : goal.returns-clause-left
 returns-clause-left c =
     λ t op s b l h k.
     let was = c.args.self.now in
-    let less : free_count c.mark.new.self.items < free_count was.ports.items = full_left was t op c.args.p s b c.mark.new.self.items h k c.mark.ensures in
+    let less : free_count c.mark.new.self.items < free_count was.ports.items = full_free c.mark.new.self.items was.ports.items t c.args.p h.pipes c.mark.ensures k.not_full k.is_up in
     omega (arith, less)

@@ -1,5 +1,4 @@
-use Rattle.std.proofs.Common.{refl, arith, ◌∙◌, sym, ap, subst, ◌≡◌}
-use Rattle.std.specs.VecDeque.{deque_len, deque_capacity}
+use Rattle.std.proofs.Common.{refl, arith, ◌∙◌, sym, ap, subst, ◌≡◌, length}
 use Rattle.proto_reqrep.specs.Ports.{free_count}
 use Rattle.proto_reqrep.specs.Reps.{Gives}
 use Rattle.sp_history.specs.declared.parts.Begun.{Begun}
@@ -31,19 +30,19 @@ pub returns-in-Some-answer-clause-dropped : goal.returns-in-Some-answer-clause-d
 returns-in-Some-answer-clause-dropped c =
     λ t s o l h k.
     let was = c.args.self.now in
-    let is : Reply = record { alloc = was.alloc; role = was.role; raw = was.raw; options = was.options; ports = was.ports; kept = was.kept; waiting = c.take.new.waiting; places = was.places } in (
+    let is : Reply = record { alloc = was.alloc; role = was.role; raw = was.raw; options = was.options; ports = was.ports; kept = was.kept; waiting = c.take.new.self; places = was.places } in (
       dropped_ties was is t c.args.op h c.take.ensures.rest refl refl refl (refl, refl, refl),
-      (omega (arith, c.in-Some.ensures.len), omega (arith, c.in-Some.ensures.len, c.take.ensures.capacity, was.waiting.small.1)),
+      (omega (arith, c.in-Some.ensures.len), omega (arith, c.in-Some.ensures.room)),
     )
 
 pub returns-in-Some-answer-clause-sent : goal.returns-in-Some-answer-clause-sent
 returns-in-Some-answer-clause-sent c =
     λ t p s b o l h k.
     let was = c.args.self.now in
-    let is : Reply = record { alloc = was.alloc; role = was.role; raw = was.raw; options = was.options; ports = was.ports; kept = was.kept; waiting = c.take.new.waiting; places = was.places } in (
+    let is : Reply = record { alloc = was.alloc; role = was.role; raw = was.raw; options = was.options; ports = was.ports; kept = was.kept; waiting = c.take.new.self; places = was.places } in (
       c.outward.ensures ∙ rw c.in-Some-answer.is (goes_out was t c.args.op p s b c.in-Some.w c.in-Some-answer.r h k (sym c.in-Some.ensures.found) (taken was t c.args.op s c.in-Some.w h k.pending c.in-Some.ensures.found) c.in-Some-answer.is),
       sent_ties was is t c.args.op p b h c.take.ensures.rest refl refl refl (refl, refl, refl),
-      (omega (arith, c.in-Some.ensures.len), omega (arith, c.in-Some.ensures.len, c.take.ensures.capacity, was.waiting.small.1)),
+      (omega (arith, c.in-Some.ensures.len), omega (arith, c.in-Some.ensures.room)),
     )
 
 pub returns-in-None-answer-clause-given : goal.returns-in-None-answer-clause-given
@@ -54,12 +53,12 @@ returns-in-None-answer-clause-given c =
     let same = c.give.ensures.same in
     let g : Gives s.ctx c.give.result was is = subst (λ (q : Begun). Gives q.ctx c.give.result was is) (taken was t c.args.op s c.in-Some.w h k.pending c.in-Some.ensures.found) c.give.ensures.given in
     let given = given_ties was is t c.args.op s m c.give.result g.0 h k g.1 (ap (λ q. q.items) same.4 ∙ c.take.ensures.rest) same.3 (same.0, same.1, same.2) in
-    let long : deque_len is.waiting ≡ deque_len c.take.new.waiting = ap (λ q. deque_len q) same.4 in
-    let wide : deque_capacity is.waiting ≡ deque_capacity c.take.new.waiting = ap (λ q. deque_capacity q) same.4 in
+    let long : length is.waiting.items ≡ length c.take.new.self.items = ap (λ q. length q.items) same.4 in
+    let wide : is.waiting.room ≡ c.take.new.self.room = ap (λ q. q.room) same.4 in
     let free : free_count is.ports.items ≡ free_count was.ports.items = ap (λ v. free_count v.items) same.3 in (
       given.0,
       given.1,
-      (omega (arith, long, free, c.in-Some.ensures.len), omega (arith, long, wide, c.in-Some.ensures.len, c.take.ensures.capacity, was.waiting.small.1)),
+      (omega (arith, long, free, c.in-Some.ensures.len), omega (arith, wide, c.in-Some.ensures.room)),
     )
 
 pub returns-in-None-answer-clause-flooded : goal.returns-in-None-answer-clause-flooded

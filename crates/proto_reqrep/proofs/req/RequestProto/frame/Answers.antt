@@ -31,7 +31,7 @@ returns-in-Some-clause-kept c =
     let was = c.args.self.now in
     let k : Kept = record { pipe = c.args.p; message = c.trim.new.self } in
     let one : first_word c.args.m.body ≡ Some c.in-Some.id = sym (c.in-Some.ensures ∙ ap first_word c.body.ensures) in
-    let live = c.keep_reply.ensures in (
+    let live = c.keep_reply.ensures.live in (
       long_frame was t c.args.p c.args.m.body h (some_word _ c.in-Some.id one),
       (
         h.0,
@@ -39,6 +39,6 @@ returns-in-Some-clause-kept c =
         λ r. not_both r c.if-self.false,
         asked_live live (reply_asked was t c.args.p c.in-Some.id c.args.m.body k c.if-self.false h one (trimmed_is c.args.p c.args.m c.trim.new.self c.trim.result c.trim.ensures c.requires (some_word _ c.in-Some.id one))),
         opened_as was.live.items _ was.seats.items _ _ (ctxs_replied c.in-Some.id k was.live.items _ live) h.4,
-        none_changed (is_due was.options.resend was.tick was.ports.items was.seats.items) (waits_for c.in-Some.id) (with_kept k) was.calm was.live.items _ (λ x. refl) live h.5,
+        (rw c.keep_reply.ensures.calm (none_changed (is_due was.options.resend was.tick was.ports.items was.seats.items) (waits_for c.in-Some.id) (with_kept k) was.live.calm was.live.items _ (λ x. refl) live h.5.0), c.keep_reply.ensures.ready was.waiting.items h.5.1),
       ),
     )

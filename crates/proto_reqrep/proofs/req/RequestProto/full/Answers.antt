@@ -6,7 +6,7 @@ use Rattle.proto_reqrep.proofs.Calming.{calm_ports}
 use Rattle.proto_reqrep.proofs.req.RequestProto.full.Goals as goal
 
 pub returns-clause-full : goal.returns-clause-full
-returns-clause-full c = λ t l h. (h.0, full_knows c.mark.new.self.items c.args.self.now.ports.items t c.args.p l h.1 c.mark.ensures, h.2, h.3, h.4, calm_ports c.args.self.now.options.resend c.args.self.now.tick c.args.self.now.calm c.args.self.now.ports.items c.mark.new.self.items c.args.self.now.seats.items c.args.self.now.live.items (marked c.args.p) (λ x. refl) c.mark.ensures h.5)
+returns-clause-full c = λ t l h. (h.0, full_knows c.mark.new.self.items c.args.self.now.ports.items t c.args.p l h.1 c.mark.ensures, h.2, h.3, h.4, (calm_ports c.args.self.now.options.resend c.args.self.now.tick c.args.self.now.live.calm c.args.self.now.ports.items c.mark.new.self.items c.args.self.now.seats.items c.args.self.now.live.items (marked c.args.p) (λ x. refl) c.mark.ensures h.5.0, h.5.1))
 
 pub returns-clause-left : goal.returns-clause-left
 returns-clause-left c =

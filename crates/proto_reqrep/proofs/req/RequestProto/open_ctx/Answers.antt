@@ -8,4 +8,4 @@ pub returns-clause-opened : goal.returns-clause-opened
 returns-clause-opened c =
     on_ok_weaker c.open.result (λ items t l h.
     let was = c.args.self.now in
-    (h.0, h.1, h.2, h.3, opened_seats items (opened_more was t c.args.c l h), calm_opened was.options.resend was.tick was.calm c.args.c was.ports.items was.seats.items c.open.new.self.items was.live.items items h.5)) c.open.ensures.more
+    (h.0, h.1, h.2, h.3, opened_seats items (opened_more was t c.args.c l h), (calm_opened was.options.resend was.tick was.live.calm c.args.c was.ports.items was.seats.items c.open.new.self.items was.live.items items h.5.0, h.5.1))) c.open.ensures.more

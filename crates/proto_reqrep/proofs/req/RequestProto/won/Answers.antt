@@ -1,7 +1,6 @@
 use Rattle.std.proofs.Common.{◌∙◌, sym, ap, arith, ◌++◌}
 use Rattle.sp_msg.specs.Views.{MessageView}
 use Rattle.sp_history.specs.Lists.{word}
-use Rattle.std.specs.Vec.{vec_len, vec_capacity}
 use Rattle.proto_reqrep.specs.declared.req.Request.{Request as Machine}
 use Rattle.proto_reqrep.proofs.Winning.{given_all, sent_all}
 use Rattle.proto_reqrep.proofs.Standing.{none_taken, is_begun, recv_isnt_send, send_isnt_recv}
@@ -18,10 +17,9 @@ returns-in-None-message-clause-given c =
     λ t s m o l h k.
     let was = c.args.self.now in
     let f = c.in-Some.ensures.found in
-    let all = given_all was c.give.new.self c.take.new.waiting t c.args.op s c.in-Some.w h f c.take.ensures.rest (c.give.ensures.same ∙ sym (ap (λ (x : Machine). record { raw = was.raw; options = was.options; tick = was.tick; last_id = was.last_id; last_pipe = x.last_pipe; ports = was.ports; kept = c.give.new.self.kept; live = c.give.new.self.live; calm = x.calm; waiting = c.take.new.waiting; seats = was.seats }) c.give.ensures.same)) m c.give.result k c.in-None-message.is (ap (λ (x : Machine). x.last_pipe) c.give.ensures.same) (ap (λ (x : Machine). x.calm) c.give.ensures.same ∙ c.saturating_sub-self.ensures) c.give.ensures.raw c.give.ensures.cooked in
-    let long = ap (λ (x : Machine). vec_len x.waiting) c.give.ensures.same in
-    let wide = ap (λ (x : Machine). vec_capacity x.waiting) c.give.ensures.same in
-    (all.0, all.1, (all.2, omega (arith, long, wide, c.in-Some.ensures.len, c.take.ensures.capacity, was.waiting.ok.1)))
+    let all = given_all was c.give.new.self c.take.new.self t c.args.op s c.in-Some.w h f c.take.ensures.rest (c.give.ensures.same ∙ sym (ap (λ (x : Machine). record { raw = was.raw; options = was.options; tick = was.tick; last_id = was.last_id; last_pipe = x.last_pipe; ports = was.ports; kept = c.give.new.self.kept; live = c.give.new.self.live; waiting = c.take.new.self; ready = was.ready; seats = was.seats }) c.give.ensures.same)) m c.give.result k c.in-None-message.is (ap (λ (x : Machine). x.last_pipe) c.give.ensures.same) c.give.ensures.calm c.give.ensures.raw c.give.ensures.cooked in
+    let room = ap (λ (x : Machine). x.waiting.room) c.give.ensures.same in
+    (all.0, all.1, (all.2, omega (arith, room, c.in-Some.ensures.room)))
 
 pub returns-in-None-message-clause-sent : goal.returns-in-None-message-clause-sent
 returns-in-None-message-clause-sent c = λ t p s b o l h k. recv_isnt_send t c.args.op p s b c.in-Some.w k (is_begun c.args.self.now t c.args.op s c.in-Some.w h k.pending c.in-Some.ensures.found) c.in-None-message.is
@@ -34,7 +32,6 @@ returns-in-Some-message-clause-sent c =
     λ t p s b o l h k.
     let was = c.args.self.now in
     let f = c.in-Some.ensures.found in
-    let all = sent_all was c.send.new.self c.take.new.waiting t c.args.op s c.in-Some.w h f c.take.ensures.rest (c.send.ensures.same ∙ sym (ap (λ (x : Machine). record { raw = was.raw; options = was.options; tick = was.tick; last_id = was.last_id; last_pipe = c.send.new.self.last_pipe; ports = was.ports; kept = x.kept; live = c.send.new.self.live; calm = x.calm; waiting = c.take.new.waiting; seats = was.seats }) c.send.ensures.same)) p b c.in-Some-message.m c.send.result k c.in-Some-message.is (ap (λ (x : Machine). x.kept) c.send.ensures.same) (c.send.ensures.pipe p o) (ap (λ (x : Machine). x.calm) c.send.ensures.same) (λ r. let v = c.send.ensures.raw r in (v.0 ∙ c.in-Some-message.m-is, v.1)) (λ r. c.send.ensures.cooked r p o) (λ r y g. c.send.ensures.message r p o y g ∙ ap (λ (v : MessageView). word y.id ++ v.body) c.in-Some-message.m-is) in
-    let long = ap (λ (x : Machine). vec_len x.waiting) c.send.ensures.same in
-    let wide = ap (λ (x : Machine). vec_capacity x.waiting) c.send.ensures.same in
-    (all.0, all.1, (all.2, omega (arith, long, wide, c.in-Some.ensures.len, c.take.ensures.capacity, was.waiting.ok.1)))
+    let all = sent_all was c.send.new.self c.take.new.self t c.args.op s c.in-Some.w h f c.take.ensures.rest (c.send.ensures.same ∙ sym (ap (λ (x : Machine). record { raw = was.raw; options = was.options; tick = was.tick; last_id = was.last_id; last_pipe = c.send.new.self.last_pipe; ports = was.ports; kept = x.kept; live = c.send.new.self.live; waiting = c.take.new.self; ready = was.ready; seats = was.seats }) c.send.ensures.same)) p b c.in-Some-message.m c.send.result k c.in-Some-message.is (ap (λ (x : Machine). x.kept) c.send.ensures.same) (c.send.ensures.pipe p o) c.send.ensures.calm (λ r. let v = c.send.ensures.raw r in (v.0 ∙ c.in-Some-message.m-is, v.1)) (λ r. c.send.ensures.cooked r p o) (λ r y g. c.send.ensures.message r p o y g ∙ ap (λ (v : MessageView). word y.id ++ v.body) c.in-Some-message.m-is) in
+    let room = ap (λ (x : Machine). x.waiting.room) c.send.ensures.same in
+    (all.0, all.1, (all.2, omega (arith, room, c.in-Some.ensures.room)))

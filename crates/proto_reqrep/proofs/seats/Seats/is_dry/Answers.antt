@@ -1,15 +1,7 @@
-use Rattle.std.proofs.Common.{◌≡◌, ◌∙◌, rules, sym, ap, subst, map, true, false, Some, None, filter, ◌++◌, ◌∷◌, []}
-use Rattle.std.specs.Prelude.{not, is_some, find, ◌==◌}
-use Rattle.std.specs.List.{position, list_all, list_any}
-use Rattle.proto_reqrep.specs.declared.req.Seat.{Seat}
-use Rattle.proto_reqrep.specs.Backlogs.{is_of}
-use Rattle.proto_reqrep.specs.Ordered.{is_before, AreOrdered}
-use Rattle.proto_reqrep.specs.Seats.{SeatsView, AreSeated}
-use Rattle.proto_reqrep.specs.Reqs.{seat_ctx, dry_at, dried, wetted, without_found}
-use Rattle.proto_reqrep.proofs.Positions.{not_found, without_none, without_at}
-use Rattle.proto_reqrep.proofs.Ordered.{ordered_same, ordered_more, ordered_filtered, some_place}
-use Rattle.proto_reqrep.proofs.Seated.{dry_none, wet_already, none_wet, wet_ctxs, dry_ctxs, wet_more, wet_less}
-use Rattle.proto_reqrep.proofs.Coming.{any_written}
+use Rattle.std.proofs.Common.{◌∙◌, sym, ap}
+use Rattle.proto_reqrep.specs.Seats.{SeatsView}
+use Rattle.proto_reqrep.specs.Reqs.{dry_at}
+use Rattle.proto_reqrep.proofs.Seated.{dry_none}
 use Rattle.proto_reqrep.proofs.seats.Seats.is_dry.Goals as goal
 
 pub returns-then-self : goal.returns-then-self

@@ -1,15 +1,10 @@
-use Rattle.std.proofs.Common.{◌≡◌, ◌∙◌, rules, sym, ap, subst, map, true, false, Some, None, filter, ◌++◌, ◌∷◌, []}
-use Rattle.std.specs.Prelude.{not, is_some, find, ◌==◌}
-use Rattle.std.specs.List.{position, list_all, list_any}
+use Rattle.std.proofs.Common.{◌≡◌, ◌∙◌, rules, sym, ap, subst, true, false, ◌++◌, ◌∷◌, []}
+use Rattle.std.specs.List.{list_all, list_any}
 use Rattle.proto_reqrep.specs.declared.req.Seat.{Seat}
-use Rattle.proto_reqrep.specs.Backlogs.{is_of}
 use Rattle.proto_reqrep.specs.Ordered.{is_before, AreOrdered}
-use Rattle.proto_reqrep.specs.Seats.{SeatsView, AreSeated}
-use Rattle.proto_reqrep.specs.Reqs.{seat_ctx, dry_at, dried, wetted, without_found}
-use Rattle.proto_reqrep.proofs.Positions.{not_found, without_none, without_at}
-use Rattle.proto_reqrep.proofs.Ordered.{ordered_same, ordered_more, ordered_filtered, some_place}
-use Rattle.proto_reqrep.proofs.Seated.{dry_none, wet_already, none_wet, wet_ctxs, dry_ctxs, wet_more, wet_less}
-use Rattle.proto_reqrep.proofs.Coming.{any_written}
+use Rattle.proto_reqrep.specs.Reqs.{seat_ctx}
+use Rattle.proto_reqrep.proofs.Ordered.{ordered_more}
+use Rattle.proto_reqrep.proofs.Seated.{wet_more}
 use Rattle.proto_reqrep.proofs.seats.Seats.open.Goals as goal
 
 pub invariant_of-self : goal.invariant_of-self

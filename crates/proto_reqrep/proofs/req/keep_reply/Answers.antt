@@ -1,0 +1,12 @@
+use Rattle.std.proofs.Common.{◌≡◌, ◌∙◌, ap, sym, rules}
+use Rattle.proto_reqrep.specs.Hints.{covers}
+use Rattle.proto_reqrep.proofs.Hinted.{ready_kept, ready_unkept}
+use Rattle.proto_reqrep.proofs.req.keep_reply.Goals as goal
+
+pub returns-in-None-clause-ready : goal.returns-in-None-clause-ready
+returns-in-None-clause-ready c = λ ws r. ready_unkept c.args.ready.now c.args.live.now.items c.keep_reply.new.self.items ws c.args.id c.args.kept c.keep_reply.ensures.items c.in-None.ensures.ctx r
+
+pub returns-in-Some-clause-ready : goal.returns-in-Some-clause-ready
+returns-in-Some-clause-ready c = λ ws r.
+    let is : c.c.inside.0 ≡ c.in-Some.c = search rules in
+    ready_kept c.args.ready.now c.add.new.self c.args.live.now.items c.keep_reply.new.self.items ws c.args.id c.args.kept c.in-Some.c c.keep_reply.ensures.items c.in-Some.ensures.ctx (ap (covers c.add.new.self) (sym is) ∙ c.add.ensures.more) c.add.ensures.same r
