@@ -1,5 +1,7 @@
 pub mod Indexed
 pub mod Knowing
+pub mod Looking
+pub mod Ordered
 pub mod Published
 pub mod Seating
 pub mod Subscribed

@@ -1,6 +1,6 @@
 -- The contexts of a sub, one by one.
 use Rattle.std.proofs.Common.{◌≡◌, refl, ap, sym, ◌∙◌, subst, List, [], ◌∷◌, ◌++◌, ℕ, zero, suc, ◌+◌, Bool, true, false, cond, arith, Some, None, length, map, take, drop, slice_index_or, slice_set, ◌<◌, ◌≤◌, add-one}
-use Rattle.std.specs.Prelude.{Result, Ok, Err, Vec, find, filter, not, nat_lt, ◌||◌, ◌==◌}
+use Rattle.std.specs.Prelude.{Result, Ok, Err, OnErr, Vec, find, filter, not, nat_lt, ◌||◌, ◌==◌}
 use Rattle.std.specs.Vec.{with_items}
 use Rattle.std.specs.List.{list_any, position, position_or_len, slice_get}
 use Rattle.std.proofs.lemmas.Bool.Decides.{nat_tests}
@@ -70,6 +70,11 @@ pub switch_one : {E : Type 0} (r : Result Bool E) (c : ℕ) (xs : List SeatView)
 switch_one (Ok true) c xs i d v topic on h s = (s.0, ap (slice_set xs i) s.1 ∙ with_at (is_home c) (switched on topic) xs i d h)
 switch_one (Ok false) c xs i d v topic on h s = (s.0, same_at (is_home c) xs i d v h s.1)
 switch_one (Err e) c xs i d v topic on h s = (s.0, same_at (is_home c) xs i d v h s.1)
+
+-- no out of memory where one is taken off
+pub one_off : {E : Type 0} (r : Result Bool E) (x v : SeatView) (topic : List ℕ) (on : Bool) → on ≡ false → Switches r x v topic on → OnErr r ⊥
+one_off (Ok b) x v topic on e s = tt
+one_off (Err y) x v topic on e s = let no : false ≡ true = sym e ∙ s.0 in absurd cc
 
 with_long : (P : SeatView → Bool) (f : SeatView → SeatView) (xs : List SeatView) → length (with_found P f xs) ≡ length xs
 with_long P f [] = refl

@@ -1,6 +1,6 @@
 -- A sub stands for its history after each call.
 use Rattle.std.proofs.Common.{◌≡◌, refl, ap, sym, ◌∙◌, subst, List, [], ◌∷◌, ◌++◌, ℕ, Bool, true, false, cond, arith, Option, Some, None, length, map, slice_index_or, ◌<◌, ◌≤◌}
-use Rattle.std.specs.Prelude.{find, filter, drop, not, nat_lt, ◌&&◌, ◌||◌, ◌==◌, Result, Ok, Err, OnErr}
+use Rattle.std.specs.Prelude.{find, filter, drop, not, nat_lt, ◌&&◌, ◌||◌, ◌==◌, Result, Ok, Err}
 use Rattle.std.specs.List.{list_all, list_any, position}
 use Rattle.std.specs.Option.{option_map}
 use Rattle.std.proofs.lemmas.Bool.Decides.{nat_tests}
@@ -42,10 +42,12 @@ use Rattle.sp_proto.specs.declared.Verdict.TheVariants as verdicts
 use Rattle.sp_proto.specs.Machines.{CanGive, CanSend, CanDrop, IsIdle, Frames, Topics, switch_of, message_of}
 use Rattle.proto_pubsub.specs.declared.subscribe.Subscribe.{Subscribe}
 use Rattle.proto_pubsub.specs.declared.subscribe.Waiting.{Waiting}
-use Rattle.proto_pubsub.specs.Seats.{SeatView, is_home, kept_in, takes_frame, added, fresh_seat, given_from, emptied, switched, first_in, with_found, SwitchesIn, StopsAt}
-use Rattle.proto_pubsub.specs.Subs.{Ties, NeedsCopy, seat_at, view_of, begun_of, is_for, is_ready, keeps_at, is_kept, without_first}
+use Rattle.proto_pubsub.specs.Seats.{SeatView, is_home, kept_in, takes_frame, added, fresh_seat, given_from, emptied, switched, first_in, with_found, ctx_of, AreOrdered, InOrder, SwitchesIn, StopsAt}
+use Rattle.proto_pubsub.specs.Subs.{Ties, NeedsCopy, seat_at, view_of, begun_of, is_for, is_ready, keeps_at, is_kept, without_first, NoneBefore}
 use Rattle.proto_pubsub.proofs.Knowing.{IsRising, allowed, allowed_before, apart, rising, only_zero, AreHome, homes, home_of, pool_home, kept_home, nothing}
 use Rattle.proto_pubsub.proofs.Seating.{found_at, not_found, long_with, found_seat, any_seat, changed, each, map_same, shut, stands, is_at, stopped}
+use Rattle.proto_pubsub.proofs.Ordered.{numbers, ordered_is}
+use Rattle.proto_pubsub.proofs.Looking.{before_first, before_end, more_before, still_before, given_kept, switched_kept, emptied_kept, opened_kept, shut_kept, looks_on, looks_anew}
 use Rattle.proto_pubsub.proofs.Taking.{find_begun, find_own, without_all, first_of_its}
 
 pub is_sub : (m : Subscribe) (t : Moment) → Ties m t → t.z.role ≡ role.Sub
@@ -56,6 +58,10 @@ is_raw m t h = ap (λ (k : Kind). k.raw) h.kind
 
 is_options : (m : Subscribe) (t : Moment) → Ties m t → t.z.options ≡ m.options
 is_options m t h = ap (λ (k : Kind). k.options) h.kind
+
+-- its contexts stand in order
+pub in_order : (m : Subscribe) (t : Moment) (xs : List SeatView) → Ties m t → xs ≡ m.seats.items → InOrder xs
+in_order m t xs h e = subst AreOrdered (sym (ap (map ctx_of) (e ∙ h.seats) ∙ numbers m.options.queue (λ c. pool t.z (past t) c) (λ c. topics (past t) c) (ctxs (past t)))) h.order
 
 -- what is kept in the pools, and the topics, at a moment
 abbrev pub pools : Moment → ℕ → List Item
@@ -128,18 +134,20 @@ module _ (m : Subscribe) (t : Moment) (p : ℕ) (v : MessageView) (h : Ties m t)
   well_formed : malformed t.z (past t) p v.body ≡ false
   well_formed = rw (is_sub m t h) refl
 
-  pub whole_ties : (n : Subscribe) → n.seats.items ≡ map (kept_in m.raw m.options v) m.seats.items → n.waiting ≡ m.waiting → (n.raw ≡ m.raw) × (n.options ≡ m.options) → Frames (Ties n) verdicts.Fine t p v.body
-  whole_ties n e w same = (
+  pub whole_ties : (n : Subscribe) → n.seats.items ≡ map (kept_in m.raw m.options v) m.seats.items → n.waiting ≡ m.waiting → n.looked ≡ 0 → (n.raw ≡ m.raw) × (n.options ≡ m.options) → Frames (Ties n) verdicts.Fine t p v.body
+  whole_ties n e w z same = (
     well_formed,
     record {
       kind = rw (same.0, same.1) h.kind;
       seats = rw same.1 (e ∙ ap (map (kept_in m.raw m.options v)) h.seats ∙ each (kept_in m.raw m.options v) (seat_at m.options.queue (pools t) (tops t)) (seat_at m.options.queue (pools (also t (Frame p v.body))) (tops t)) (ctxs (past t)) takes_in);
+      order = h.order;
       pending = rw w h.pending;
+      looked = looks_anew n z;
     },
   )
 
-  pub dry_ties : (n : Subscribe) (d : ℕ) → StopsAt (takes_frame m.raw m.options v.body) (kept_in m.raw m.options v) d m.seats.items n.seats.items → n.waiting ≡ m.waiting → (n.raw ≡ m.raw) × (n.options ≡ m.options) → Frames (Ties n) (verdicts.Dry d) t p v.body
-  dry_ties n d stops w same =
+  pub dry_ties : (n : Subscribe) (d : ℕ) → StopsAt (takes_frame m.raw m.options v.body) (kept_in m.raw m.options v) d m.seats.items n.seats.items → n.waiting ≡ m.waiting → n.looked ≡ 0 → (n.raw ≡ m.raw) × (n.options ≡ m.options) → Frames (Ties n) (verdicts.Dry d) t p v.body
+  dry_ties n d stops w z same =
       let before = sym h.seats ∙ stops.before in (
         well_formed,
         rw (is_sub m t h) refl,
@@ -147,7 +155,9 @@ module _ (m : Subscribe) (t : Moment) (p : ℕ) (v : MessageView) (h : Ties m t)
         record {
           kind = rw (same.0, same.1) h.kind;
           seats = rw same.1 (stops.after ∙ stopped m.options.queue (pools t) (tops t) (pools (also (also t (Frame p v.body)) (Dry d))) (tops t) (kept_in m.raw m.options v) d (ctxs (past t)) stops.done stops.rest stops.at (rising t.z (past t) a) before stops.here low high);
+          order = h.order;
           pending = rw w h.pending;
+          looked = looks_anew n z;
         },
       )
     where
@@ -324,21 +334,49 @@ idle m t l h f =
       no_flood = λ q. let k : false ≡ true = rw (is_sub m t h) at q in absurd cc;
     }
 
-pub can_give_at : (m : Subscribe) (t : Moment) (xs : List SeatView) (i : ℕ) (w : Waiting) → Lawful t → Ties m t → xs ≡ m.seats.items → Some i ≡ position (is_ready xs) m.waiting.items → w ≡ slice_index_or m.waiting.items i w → (s : Begun) × (x : Message) × CanGive t w.op s x
-can_give_at m t xs i w l h e f g =
-    can_give m t w l h (found_at (is_ready m.seats.items) m.waiting.items i w (sym (subst (λ (ys : List SeatView). Some i ≡ position (is_ready ys) m.waiting.items) e f)) ∙ ap (λ (v : Waiting). Some v) (sym g))
+-- the place of the first that is ready
+pub place_of : (m : Subscribe) (t : Moment) (xs : List SeatView) (r : Option ℕ) → Ties m t → xs ≡ m.seats.items → (NoneBefore (is_ready xs) m.looked m.waiting.items → r ≡ position (is_ready xs) m.waiting.items) → r ≡ position (is_ready m.seats.items) m.waiting.items
+place_of m t xs r h e f = g h.looked
+  where
+    g : NoneBefore (is_ready m.seats.items) m.looked m.waiting.items → r ≡ position (is_ready m.seats.items) m.waiting.items
+    g = subst (λ (ys : List SeatView). NoneBefore (is_ready ys) m.looked m.waiting.items → r ≡ position (is_ready ys) m.waiting.items) e f
 
-pub idle_at : (m : Subscribe) (t : Moment) (xs : List SeatView) → Lawful t → Ties m t → xs ≡ m.seats.items → None ≡ position (is_ready xs) m.waiting.items → IsIdle t
-idle_at m t xs l h e f = idle m t l h (not_found (is_ready m.seats.items) m.waiting.items (sym (subst (λ (ys : List SeatView). None ≡ position (is_ready ys) m.waiting.items) e f)))
+pub can_give_at : (m : Subscribe) (t : Moment) (xs : List SeatView) (i : ℕ) (w : Waiting) (r : Option ℕ) → Lawful t → Ties m t → xs ≡ m.seats.items → Some i ≡ r → (NoneBefore (is_ready xs) m.looked m.waiting.items → r ≡ position (is_ready xs) m.waiting.items) → w ≡ slice_index_or m.waiting.items i w
+    → (s : Begun) × (x : Message) × CanGive t w.op s x
+can_give_at m t xs i w r l h e f g k = can_give m t w l h (found_at (is_ready m.seats.items) m.waiting.items i w (sym (f ∙ place_of m t xs r h e g)) ∙ ap (λ (v : Waiting). Some v) (sym k))
 
--- ---- Begin
+pub idle_at : (m : Subscribe) (t : Moment) (xs : List SeatView) (r : Option ℕ) → Lawful t → Ties m t → xs ≡ m.seats.items → None ≡ r → (NoneBefore (is_ready xs) m.looked m.waiting.items → r ≡ position (is_ready xs) m.waiting.items) → IsIdle t
+idle_at m t xs r l h e f g = idle m t l h (not_found (is_ready m.seats.items) m.waiting.items (sym (f ∙ place_of m t xs r h e g)))
 
-pub begun_ties : (m n : Subscribe) (t : Moment) (w : Waiting) (deadline : Option ℕ) → Ties m t → n.waiting.items ≡ m.waiting.items ++ w ∷ [] → n.seats ≡ m.seats → (n.raw ≡ m.raw) × (n.options ≡ m.options) → Ties n (also t (Begin w.op t.caller w.ctx Recv deadline))
-begun_ties m n t w deadline h e s same =
+-- the receives were looked at up to this place
+pub looked_ties : (m n : Subscribe) (t : Moment) → Ties m t → n.seats ≡ m.seats → n.waiting ≡ m.waiting → NoneBefore (is_ready m.seats.items) n.looked m.waiting.items → (n.raw ≡ m.raw) × (n.options ≡ m.options) → Ties n t
+looked_ties m n t h s w k same =
     record {
       kind = rw (same.0, same.1) h.kind;
       seats = rw (s, same.1) h.seats;
+      order = h.order;
+      pending = rw w h.pending;
+      looked = rw (s, w) k;
+    }
+
+-- up to the one that is ready
+pub looked_to : (m : Subscribe) (t : Moment) (xs : List SeatView) (i : ℕ) (d : Waiting) (r : Option ℕ) → Ties m t → xs ≡ m.seats.items → Some i ≡ r → (NoneBefore (is_ready xs) m.looked m.waiting.items → r ≡ position (is_ready xs) m.waiting.items) → NoneBefore (is_ready m.seats.items) i m.waiting.items
+looked_to m t xs i d r h e f g = before_first (is_ready m.seats.items) m.waiting.items i d (f ∙ place_of m t xs r h e g)
+
+-- all
+pub looked_all : (m : Subscribe) (t : Moment) (xs : List SeatView) (n : ℕ) (r : Option ℕ) → Ties m t → xs ≡ m.seats.items → None ≡ r → n ≡ length m.waiting.items → (NoneBefore (is_ready xs) m.looked m.waiting.items → r ≡ position (is_ready xs) m.waiting.items) → NoneBefore (is_ready m.seats.items) n m.waiting.items
+looked_all m t xs n r h e f l g = before_end (is_ready m.seats.items) m.waiting.items n l (f ∙ place_of m t xs r h e g)
+
+-- ---- Begin
+
+pub begun_ties : (m n : Subscribe) (t : Moment) (w : Waiting) (deadline : Option ℕ) → Ties m t → n.waiting.items ≡ m.waiting.items ++ w ∷ [] → n.seats ≡ m.seats → n.looked ≡ m.looked → (n.raw ≡ m.raw) × (n.options ≡ m.options) → Ties n (also t (Begin w.op t.caller w.ctx Recv deadline))
+begun_ties m n t w deadline h e s k same =
+    record {
+      kind = rw (same.0, same.1) h.kind;
+      seats = rw (s, same.1) h.seats;
+      order = h.order;
       pending = ap (map begun_of) e ∙ map-append begun_of m.waiting.items (w ∷ []) ∙ ap (λ (ss : List Begun). ss ++ begun_of w ∷ []) h.pending;
+      looked = rw (s, k, e) (more_before (is_ready m.seats.items) m.waiting.items (w ∷ []) m.looked h.looked);
     }
 
 -- ---- Ends
@@ -365,12 +403,14 @@ taken m t op s w h p f =
 left_over : (m : Subscribe) (t : Moment) (op : OpName) (ws : List Waiting) → AreAllowed t.z (past t) → Ties m t → ws ≡ without_first op m.waiting.items → map begun_of ws ≡ without_begun (pend (past t)) op
 left_over m t op ws a h e = ap (map begun_of) e ∙ without_all op m.waiting.items (is_own m t a h op) ∙ ap (λ (ss : List Begun). without_begun ss op) h.pending
 
-pub lost_ties : (m n : Subscribe) (t : Moment) (op : OpName) (cause : Cause) (by : ℕ) → AreAllowed t.z (past t) → Ties m t → n.waiting.items ≡ without_first op m.waiting.items → n.seats ≡ m.seats → (n.raw ≡ m.raw) × (n.options ≡ m.options) → Ties n (also t (End op (Gone cause by)))
-lost_ties m n t op cause by a h e s same =
+pub lost_ties : (m n : Subscribe) (t : Moment) (op : OpName) (cause : Cause) (by : ℕ) → AreAllowed t.z (past t) → Ties m t → n.waiting.items ≡ without_first op m.waiting.items → n.seats ≡ m.seats → ((P : Waiting → Bool) → NoneBefore P m.looked m.waiting.items → NoneBefore P n.looked n.waiting.items) → (n.raw ≡ m.raw) × (n.options ≡ m.options) → Ties n (also t (End op (Gone cause by)))
+lost_ties m n t op cause by a h e s k same =
     record {
       kind = rw (same.0, same.1) h.kind;
       seats = rw (s, same.1) h.seats;
+      order = h.order;
       pending = left_over m t op n.waiting.items a h e;
+      looked = rw s (k (is_ready m.seats.items) h.looked);
     }
 
 pub no_message : (s : Begun) (w : Waiting) → begun_of w ≡ s → None ≡ message_of s.act
@@ -409,16 +449,21 @@ module _ (m n : Subscribe) (t : Moment) (op : OpName) (s : Begun) (text : Messag
   on : (e : ℕ) → is_on_pool t.z e (pending (past t) op) ≡ (s.ctx == e)
   on e = ap (is_on_pool t.z e) c.pending ∙ ap (λ n. n == e) (pool_home t.z (past t) s.ctx (is_sub m t h) a home)
 
-  pub given_ties : (xs : List SeatView) → xs ≡ m.seats.items → n.seats.items ≡ with_found (is_home s.ctx) given_from xs → n.waiting.items ≡ without_first op m.waiting.items → (n.raw ≡ m.raw) × (n.options ≡ m.options) → Ties n (also t (End op (Won (Received text))))
-  given_ties xs e f w same =
+  pub given_ties : (xs : List SeatView) → xs ≡ m.seats.items → n.seats.items ≡ with_found (is_home s.ctx) given_from xs → n.waiting.items ≡ without_first op m.waiting.items → ((P : Waiting → Bool) → NoneBefore P m.looked m.waiting.items → NoneBefore P n.looked n.waiting.items) → (n.raw ≡ m.raw) × (n.options ≡ m.options) → Ties n (also t (End op (Won (Received text))))
+  given_ties xs e f w k same =
       record {
         kind = rw (same.0, same.1) h.kind;
         seats = rw same.1 (f ∙ ap (with_found (is_home s.ctx) given_from) (e ∙ h.seats) ∙ changed m.options.queue (pools t) (tops t) (pools (also t (End op (Won (Received text))))) (tops t) given_from s.ctx (ctxs (past t)) (rising t.z (past t) a) here others);
+        order = h.order;
         pending = left_over m t op n.waiting.items a h w;
+        looked = k (is_ready n.seats.items) (still_before (is_ready m.seats.items) (is_ready n.seats.items) nothing_more m.waiting.items m.looked h.looked);
       }
     where
       itself : (k : ℕ) → (k == k) ≡ true
       itself k = grind (arith, nat_tests)
+
+      nothing_more : (x : Waiting) → is_ready m.seats.items x ≡ false → is_ready n.seats.items x ≡ false
+      nothing_more x q = ap (λ (ys : List SeatView). keeps_at ys x.ctx) (f ∙ ap (with_found (is_home s.ctx) given_from) e) ∙ given_kept (is_home s.ctx) m.seats.items x.ctx q
 
       fewer : (is : List Item) → drop 1 (map view_of is) ≡ map view_of (drop 1 is)
       fewer [] = refl
@@ -437,13 +482,13 @@ pub gives_from : (m n : Subscribe) (t : Moment) (op : OpName) (s : Begun) (text 
 gives_from m n t op s text l h c w own r xs e f = gives m n t op s text l h c r xs e (f ∙ ap (λ (q : Begun). first_in (find (is_home q.ctx) xs)) own)
 
 pub given_from_ties : (m n : Subscribe) (t : Moment) (op : OpName) (s : Begun) (text : Message) → Lawful t → Ties m t → CanGive t op s text → (w : Waiting) → begun_of w ≡ s → (xs : List SeatView) → xs ≡ m.seats.items → n.seats.items ≡ with_found (is_home w.ctx) given_from xs → n.waiting.items ≡ without_first op m.waiting.items
-    → (n.raw ≡ m.raw) × (n.options ≡ m.options) → Ties n (also t (End op (Won (Received text))))
-given_from_ties m n t op s text l h c w own xs e f g same = given_ties m n t op s text l h c xs e (f ∙ ap (λ (q : Begun). with_found (is_home q.ctx) given_from xs) own) g same
+    → ((P : Waiting → Bool) → NoneBefore P m.looked m.waiting.items → NoneBefore P n.looked n.waiting.items) → (n.raw ≡ m.raw) × (n.options ≡ m.options) → Ties n (also t (End op (Won (Received text))))
+given_from_ties m n t op s text l h c w own xs e f g k same = given_ties m n t op s text l h c xs e (f ∙ ap (λ (q : Begun). with_found (is_home q.ctx) given_from xs) own) g k same
 
 -- ---- Contexts
 
-pub opened_ties : (m n : Subscribe) (t : Moment) (c : ℕ) → Lawful (also t (Ctx c Open)) → Ties m t → n.seats.items ≡ m.seats.items ++ fresh_seat m.options.queue c ∷ [] → n.waiting ≡ m.waiting → (n.raw ≡ m.raw) × (n.options ≡ m.options) → Ties n (also t (Ctx c Open))
-opened_ties m n t c l h e w same =
+pub opened_ties : (m n : Subscribe) (t : Moment) (c : ℕ) → Lawful (also t (Ctx c Open)) → Ties m t → n.seats.items ≡ m.seats.items ++ fresh_seat m.options.queue c ∷ [] → n.waiting ≡ m.waiting → n.looked ≡ m.looked → (n.raw ≡ m.raw) × (n.options ≡ m.options) → Ties n (also t (Ctx c Open))
+opened_ties m n t c l h e w k same =
     let now = l.turn.0.itself.1 in
     let none = nothing t.z Everywhere (past t) c (is_sub m t h) (allowed_before t (Ctx c Open) l) (omega (arith, now)) in
     let new : fresh_seat m.options.queue c ≡ seat_at m.options.queue (pools t) (tops t) c =
@@ -451,26 +496,32 @@ opened_ties m n t c l h e w same =
     record {
       kind = rw (same.0, same.1) h.kind;
       seats = rw same.1 (e ∙ ap (λ (xs : List SeatView). xs ++ fresh_seat m.options.queue c ∷ []) h.seats ∙ ap (λ (x : SeatView). map (seat_at m.options.queue (pools t) (tops t)) (ctxs (past t)) ++ x ∷ []) new ∙ sym (map-append (seat_at m.options.queue (pools t) (tops t)) (ctxs (past t)) (c ∷ [])));
+      order = ordered_is (ctxs (past (also t (Ctx c Open)))) (rising t.z (past (also t (Ctx c Open))) (allowed (also t (Ctx c Open)) l));
       pending = rw w h.pending;
+      looked = looks_on m n h.looked w k (λ d q. ap (λ (xs : List SeatView). keeps_at xs d) e ∙ opened_kept m.options.queue c m.seats.items d q);
     }
 
-pub shut_ties : (m n : Subscribe) (t : Moment) (c : ℕ) → Ties m t → n.seats.items ≡ filter (λ (x : SeatView). not (x.ctx == c)) m.seats.items → n.waiting ≡ m.waiting → (n.raw ≡ m.raw) × (n.options ≡ m.options) → Ties n (also t (Ctx c Shut))
-shut_ties m n t c h e w same =
+pub shut_ties : (m n : Subscribe) (t : Moment) (c : ℕ) → Lawful (also t (Ctx c Shut)) → Ties m t → n.seats.items ≡ filter (λ (x : SeatView). not (x.ctx == c)) m.seats.items → n.waiting ≡ m.waiting → n.looked ≡ m.looked → (n.raw ≡ m.raw) × (n.options ≡ m.options) → Ties n (also t (Ctx c Shut))
+shut_ties m n t c l h e w k same =
     record {
       kind = rw (same.0, same.1) h.kind;
       seats = rw same.1 (e ∙ ap (filter (λ (x : SeatView). not (x.ctx == c))) h.seats ∙ shut m.options.queue (pools t) (tops t) (pools (also t (Ctx c Shut))) (tops (also t (Ctx c Shut))) c (ctxs (past t)) others);
+      order = ordered_is (ctxs (past (also t (Ctx c Shut)))) (rising t.z (past (also t (Ctx c Shut))) (allowed (also t (Ctx c Shut)) l));
       pending = rw w h.pending;
+      looked = looks_on m n h.looked w k (λ d q. ap (λ (xs : List SeatView). keeps_at xs d) e ∙ shut_kept c m.seats.items d q);
     }
   where
     others : (k : ℕ) → (c == k) ≡ false → seat_at m.options.queue (pools t) (tops t) k ≡ seat_at m.options.queue (pools (also t (Ctx c Shut))) (tops (also t (Ctx c Shut))) k
     others k f = sym (ap (λ b. let x : SeatView = record { ctx = k; topics = cond b [] (tops t k); places = m.options.queue; kept = map view_of (cond b [] (pools t k)) } in x) f)
 
-pub closed_ties : (m n : Subscribe) (t : Moment) (totals : Totals) → Ties m t → n.seats.items ≡ map emptied m.seats.items → n.waiting ≡ m.waiting → (n.raw ≡ m.raw) × (n.options ≡ m.options) → Ties n (also t (Close totals))
-closed_ties m n t totals h e w same =
+pub closed_ties : (m n : Subscribe) (t : Moment) (totals : Totals) → Ties m t → n.seats.items ≡ map emptied m.seats.items → n.waiting ≡ m.waiting → n.looked ≡ m.looked → (n.raw ≡ m.raw) × (n.options ≡ m.options) → Ties n (also t (Close totals))
+closed_ties m n t totals h e w k same =
     record {
       kind = rw (same.0, same.1) h.kind;
       seats = rw same.1 (e ∙ ap (map emptied) h.seats ∙ each emptied (seat_at m.options.queue (pools t) (tops t)) (seat_at m.options.queue (λ c. []) (tops t)) (ctxs (past t)) (λ c k. refl));
+      order = h.order;
       pending = rw w h.pending;
+      looked = looks_on m n h.looked w k (λ d q. ap (λ (xs : List SeatView). keeps_at xs d) e ∙ emptied_kept m.seats.items d);
     }
 
 -- ---- Pipes
@@ -480,7 +531,9 @@ down_ties m t p why h =
     record {
       kind = h.kind;
       seats = h.seats ∙ map_same (seat_at m.options.queue (pools t) (tops t)) (seat_at m.options.queue (pools (also t (Down p why))) (tops t)) (ctxs (past t)) stays;
+      order = h.order;
       pending = h.pending;
+      looked = h.looked;
     }
   where
     same : (r : Role) (is : List Item) → r ≡ role.Sub → is ≡ cond (is_reply r) (filter (λ (i : Item). not (is_from p i)) is) is
@@ -500,7 +553,7 @@ filters P (i ∷ is) = go (P i.message.body) (filters P is)
     go true h = ap (λ (vs : List MessageView). view_of i ∷ vs) h
     go false h = h
 
-module _ (m n : Subscribe) (t : Moment) (c : ℕ) (topic : List ℕ) (l : Lawful t) (h : Ties m t) (open_ : has (ctxs (past t)) c ≡ true) (w : n.waiting ≡ m.waiting) (same : (n.raw ≡ m.raw) × (n.options ≡ m.options)) where
+module _ (m n : Subscribe) (t : Moment) (c : ℕ) (topic : List ℕ) (l : Lawful t) (h : Ties m t) (open_ : has (ctxs (past t)) c ≡ true) (w : n.waiting ≡ m.waiting) (mark : n.looked ≡ m.looked) (same : (n.raw ≡ m.raw) × (n.options ≡ m.options)) where
   itself : (k : ℕ) → (k == k) ≡ true
   itself k = grind (arith, nat_tests)
 
@@ -533,7 +586,9 @@ module _ (m n : Subscribe) (t : Moment) (c : ℕ) (topic : List ℕ) (l : Lawful
       record {
         kind = rw (same.0, same.1) h.kind;
         seats = rw same.1 (e ∙ h.seats);
+        order = h.order;
         pending = rw w h.pending;
+        looked = looks_on m n h.looked w mark (λ d k. ap (λ (xs : List SeatView). keeps_at xs d) e ∙ k);
       }
 
   found : (xs : List SeatView) → xs ≡ m.seats.items → find (is_home c) xs ≡ Some (seat_at m.options.queue (pools t) (tops t) c)
@@ -551,7 +606,9 @@ module _ (m n : Subscribe) (t : Moment) (c : ℕ) (topic : List ℕ) (l : Lawful
               rw same.1 (q.1 ∙ ap (with_found (is_home c) (switched on topic)) (e ∙ h.seats)
               ∙ changed m.options.queue (pools t) (tops t) (pools (also t (Topic c topic (switch_of on)))) (tops (also t (Topic c topic (switch_of on)))) (switched on topic) c (ctxs (past t)) (rising t.z (past t) (allowed t l)) (switched_at on) (others on)
               ∙ ap (map (seat_at m.options.queue (pools (also t (Topic c topic (switch_of on)))) (tops (also t (Topic c topic (switch_of on)))))) (sym (ctxs_same on)));
+          order = subst AreOrdered (sym (ctxs_same on)) h.order;
           pending = rw w h.pending ∙ sym (pend_same on);
+          looked = looks_on m n h.looked w mark (λ d k. ap (λ (xs : List SeatView). keeps_at xs d) (q.1 ∙ ap (with_found (is_home c) (switched on topic)) e) ∙ switched_kept on topic (is_home c) m.seats.items d k);
         },
       )
       go (Ok false) q = (q.0, unchanged (q.1 ∙ e))
@@ -562,9 +619,3 @@ long_switched r None c xs ys topic on s = ap length s.0
 long_switched (Ok true) (Some x) c xs ys topic on s = long_with (is_home c) (switched on topic) ys xs s.1
 long_switched (Ok false) (Some x) c xs ys topic on s = ap length s.1
 long_switched (Err e) (Some x) c xs ys topic on s = ap length s.1
-
--- no out of memory where one is taken off
-pub switched_off : {E : Type 0} (r : Result Bool E) (o : Option SeatView) (c : ℕ) (xs ys : List SeatView) (topic : List ℕ) (on : Bool) → on ≡ false → SwitchesIn r o c xs ys topic on → OnErr r ⊥
-switched_off (Ok b) o c xs ys topic on e s = tt
-switched_off (Err x) None c xs ys topic on e s = let no : Err x ≡ Ok false = s.1 in absurd cc
-switched_off (Err x) (Some y) c xs ys topic on e s = let no : false ≡ true = sym e ∙ s.0 in absurd cc

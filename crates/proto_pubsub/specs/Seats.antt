@@ -1,5 +1,5 @@
 -- A context of a sub, and what becomes of it.
-use Rattle.std.specs.Prelude.{◌≡◌, ℕ, ◌==◌, ◌||◌, ◌&&◌, Bool, true, false, not, nat_lt, if◌then◌else◌, List, [], ◌∷◌, ◌++◌, length, map, drop, filter, Option, Some, None, Result, Ok, Err}
+use Rattle.std.specs.Prelude.{◌≡◌, ℕ, ⊤, ◌<◌, ◌==◌, ◌||◌, ◌&&◌, Bool, true, false, not, nat_lt, if◌then◌else◌, List, [], ◌∷◌, ◌++◌, length, map, drop, filter, Option, Some, None, Result, Ok, Err}
 use Rattle.sp_msg.specs.Views.{MessageView}
 use Rattle.sp_history.specs.declared.setting.Options.{Options}
 use Rattle.sp_history.specs.Lists.{same_bytes, head_of}
@@ -63,6 +63,23 @@ switched false t x = without_topic t x
 -- the context has this number
 abbrev pub is_home : ℕ → SeatView → Bool
 is_home c x = x.ctx == c
+
+abbrev pub ctx_of : SeatView → ℕ
+ctx_of x = x.ctx
+
+-- each number is above this one
+abbrev pub AreOver : ℕ → List ℕ → Type 0
+AreOver n [] = ⊤
+AreOver n (c ∷ cs) = (n < c) × AreOver n cs
+
+-- each number is below those after it
+abbrev pub AreOrdered : List ℕ → Type 0
+AreOrdered [] = ⊤
+AreOrdered (c ∷ cs) = AreOver c cs × AreOrdered cs
+
+-- they stand in the order of their numbers
+abbrev pub InOrder : List SeatView → Type 0
+InOrder xs = AreOrdered (map ctx_of xs)
 
 -- its oldest message
 abbrev pub first_in : Option SeatView → Option MessageView

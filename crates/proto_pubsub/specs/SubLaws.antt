@@ -1,6 +1,6 @@
 -- The laws of a sub as a machine.
 use Rattle.std.specs.Prelude.{◌≡◌, [], map}
-use Rattle.std.proofs.Common.{refl, ap, ◌∙◌}
+use Rattle.std.proofs.Common.{refl, ap, subst, ◌∙◌}
 use Rattle.sp_history.specs.declared.entry.Entry.{Entry}
 use Rattle.sp_history.specs.Kept.{pool}
 use Rattle.sp_history.specs.Past.{pend, ctxs, topics}
@@ -8,6 +8,7 @@ use Rattle.sp_history.specs.Moments.{Moment, Lawful, past, also, IsSilent}
 use Rattle.sp_proto.specs.Kinds.{Starts, kind_of}
 use Rattle.sp_proto.specs.Readings.{stays}
 use Rattle.proto_pubsub.specs.declared.subscribe.Subscribe.{Subscribe}
+use Rattle.proto_pubsub.specs.Seats.{AreOrdered}
 use Rattle.proto_pubsub.specs.Subs.{Ties, Stands, sub_kind, seat_at}
 
 pub kinds : (m : Subscribe) (t : Moment) → Ties m t → kind_of t.z ≡ sub_kind m.raw m.options
@@ -21,5 +22,7 @@ anew m t e h slots callers caller =
     record {
       kind = refl;
       seats = h.seats ∙ ap (λ before. map (seat_at m.options.queue (λ c. pool t.z before c) (λ c. topics before c)) (ctxs before)) e;
+      order = subst AreOrdered (ap ctxs e) h.order;
       pending = h.pending ∙ ap pend e;
+      looked = h.looked;
     }

@@ -1,5 +1,6 @@
 -- What a sub stands for.
-use Rattle.std.specs.Prelude.{◌≡◌, ℕ, ◌||◌, Bool, true, false, not, nat_lt, if◌then◌else◌, List, [], ◌∷◌, length, map, find, Option, Some, None}
+use Rattle.std.specs.Prelude.{◌≡◌, ℕ, ◌≤◌, ◌||◌, Bool, true, false, not, nat_lt, if◌then◌else◌, List, [], ◌∷◌, length, map, take, find, Option, Some, None}
+use Rattle.std.specs.List.{list_any}
 use Rattle.sp_base.specs.declared.OpName.{OpName}
 use Rattle.sp_base.specs.declared.role.Role.TheVariants as role
 use Rattle.sp_msg.specs.Views.{MessageView}
@@ -15,7 +16,7 @@ use Rattle.sp_history.specs.Past.{ctxs}
 use Rattle.sp_history.specs.Moments.{Moment}
 use Rattle.sp_proto.specs.Kinds.{Kind}
 use Rattle.sp_proto.specs.Readings.{Reading, reading}
-use Rattle.proto_pubsub.specs.Seats.{SeatView, is_home}
+use Rattle.proto_pubsub.specs.Seats.{SeatView, is_home, AreOrdered}
 use Rattle.proto_pubsub.specs.declared.subscribe.Subscribe.{Subscribe}
 use Rattle.proto_pubsub.specs.declared.subscribe.Waiting.{Waiting}
 
@@ -54,12 +55,18 @@ keeps_at xs c = is_kept (find (is_home c) xs)
 abbrev pub is_ready : List SeatView → Waiting → Bool
 is_ready xs w = keeps_at xs w.ctx
 
--- The sub is of this kind, has these contexts, each with memory for `queue` messages, with what is kept for each and with
--- its topics, and these receives wait
+-- none of the elements before the place passes the test
+abbrev pub NoneBefore : {A : Type 0} → (A → Bool) → ℕ → List A → Type 0
+NoneBefore P n xs = (n ≤ length xs) × (list_any P (take n xs) ≡ false)
+
+-- The sub is of this kind, has these contexts by rising number, each with memory for `queue` messages, with what is kept
+-- for each and with its topics, these receives wait, and nothing is kept for those before the mark
 pub record Shows (m : Subscribe) (k : Kind) (is : ℕ → List Item) (ts : ℕ → List (List ℕ)) (cs : List ℕ) (ss : List Begun) : Type 0 where
   pub kind : k ≡ sub_kind m.raw m.options
   pub seats : m.seats.items ≡ map (seat_at m.options.queue is ts) cs
+  pub order : AreOrdered cs
   pub pending : map begun_of m.waiting.items ≡ ss
+  pub looked : NoneBefore (is_ready m.seats.items) m.looked m.waiting.items
 
 -- it shows what it reads of a moment
 abbrev pub Stands : Subscribe → Reading → Type 0

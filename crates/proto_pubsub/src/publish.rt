@@ -19,7 +19,7 @@ use sp_msg::Message;
 use sp_proto::{Act, CheckError, Offer, Proto, UpFault, Verb, Verdict};
 use std::alloc::Global;
 
-/// A pub: it sends.
+/// A pub (nng_pub(7)), cooked or raw: it sends.
 #[derive(Drop)]
 pub struct Publish {
     alloc: Global,

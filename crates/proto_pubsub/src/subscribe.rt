@@ -1,11 +1,11 @@
 //! The machine of sub (nng_sub(7)), cooked and raw.
 //!
 //! Each open context has topics, and a queue of at most `queue` messages, whose places are taken when it is opened. A frame
-//! is kept for each context of which a topic is a beginning of it, the empty topic of each; raw, for the one context that
+//! is kept for each context of which a topic is a prefix of it, the empty topic of each; raw, for the one context that
 //! there is. A full queue discards its oldest message or the new one, as `prefer_new` says. The last open context keeps the
 //! frame itself, each other one a copy, which is made before anything is discarded; the first that finds no memory is
 //! told, and contexts of greater numbers go without as well.
-ghost use Rattle.std.specs.Prelude.{◌≡◌, ◌-◌, ◌+◌, ◌≤◌, ◌==◌, ◌≢◌, ℕ, [], ◌∷◌, true, Some, None, IfOk, map, filter, find, length, take, drop, ◌++◌, not, option_to_list};
+ghost use Rattle.std.specs.Prelude.{◌≡◌, ◌-◌, ◌+◌, ◌≤◌, ◌<◌, ◌==◌, ◌≢◌, Bool, ℕ, [], ◌∷◌, true, false, Some, None, IfOk, IfSome, OnErr, nat_lt, map, filter, find, length, take, drop, ◌++◌, not, option_to_list};
 ghost use Rattle.std.specs.VecDeque.{deque_len, deque_capacity};
 ghost use Rattle.std.specs.Option.{option_map};
 ghost use Rattle.std.specs.List.{position, list_any};
@@ -15,8 +15,9 @@ ghost use Rattle.sp_history.specs.Moments.{Moment, Lawful, past, also};
 ghost use Rattle.sp_history.specs.Past.{ctxs};
 ghost use Rattle.sp_proto.specs.Kinds.{Starts};
 ghost use Rattle.sp_proto.specs.Machines.{Frames};
-ghost use Rattle.proto_pubsub.specs.Seats.{kept_in, takes_frame, emptied, fresh_seat, given_from, is_home, first_in, with_found, SwitchesIn, StopsAt};
-ghost use Rattle.proto_pubsub.specs.Subs.{Ties, NeedsCopy, sub_kind, is_for, is_ready, keeps_at, without_first};
+ghost use Rattle.proto_pubsub.specs.Seats.{kept_in, takes_frame, emptied, fresh_seat, given_from, is_home, first_in, with_found, SwitchesIn, StopsAt, SeatView, InOrder};
+ghost use Rattle.proto_pubsub.specs.Subs.{Ties, NeedsCopy, sub_kind, is_for, is_ready, keeps_at, without_first, NoneBefore};
+ghost use Rattle.proto_pubsub.specs.declared.subscribe.Waiting.{Waiting as WaitingType};
 
 use crate::seats::Seat;
 use sp_base::{Ctx, NoMemory, OpName, PipeId, Role, Tick};
@@ -33,35 +34,52 @@ struct Waiting {
     ctx: Ctx,
 }
 
-/// A sub: it receives.
+/// A sub (nng_sub(7)), cooked or raw: it receives.
 #[derive(Drop)]
 pub struct Subscribe {
     alloc: Global,
     raw: bool,
     options: Options,
-    /// In the order in which they were opened.
+    /// In the order in which they were opened, which is that of their numbers.
     seats: Vec<Seat>,
     /// In the order of their begins.
     waiting: VecDeque<Waiting>,
+    /// Nothing is kept for the receives before this place.
+    looked: usize,
 }
 
-// Where the context stands.
-fn home(seats: &[Seat], c: Ctx) -> Option<usize>
-    ensures { result ≡ position (is_home c) seats.now }
+// Its number is below this one.
+fn is_before(seat: &Seat, c: Ctx) -> bool
+    ensures { result ≡ nat_lt seat.now.ctx c }
 {
-    seats.iter().position(|x| x.is_of(c))
+    seat.ctx().0 < c.0
+}
+
+// Where the context stands, by halving.
+fn home(seats: &[Seat], c: Ctx) -> Option<usize>
+    ensures place { InOrder seats.now → result ≡ position (is_home c) seats.now }
+    ensures inside { IfSome result (λ i. i < length seats.now) }
+{
+    let i = seats.partition_point(|x| is_before(x, c));
+    if i >= seats.len() {
+        return None;
+    }
+    if !seats[i].is_of(c) {
+        return None;
+    }
+    Some(i)
 }
 
 // The context is open.
 fn is_open(seats: &[Seat], c: Ctx) -> bool
-    ensures { result ≡ list_any (is_home c) seats.now }
+    ensures { InOrder seats.now → result ≡ list_any (is_home c) seats.now }
 {
-    seats.iter().any(|x| x.is_of(c))
+    home(seats, c).is_some()
 }
 
 // Something is kept for the context.
 fn keeps_for(seats: &[Seat], c: Ctx) -> bool
-    ensures { result ≡ keeps_at seats.now c }
+    ensures { InOrder seats.now → result ≡ keeps_at seats.now c }
 {
     match home(seats, c) {
         None => false,
@@ -69,11 +87,17 @@ fn keeps_for(seats: &[Seat], c: Ctx) -> bool
     }
 }
 
-// Where the first receive stands for which something is kept.
-fn ready_place(seats: &[Seat], waiting: &VecDeque<Waiting>) -> Option<usize>
-    ensures { result ≡ position (is_ready seats.now) waiting.now.items }
+// Where the first receive stands for which something is kept. Those before the place are not looked at.
+fn ready_place(seats: &[Seat], waiting: &VecDeque<Waiting>, looked: usize) -> Option<usize>
+    ensures place { InOrder seats.now → NoneBefore (is_ready seats.now) looked waiting.now.items → result ≡ position (is_ready seats.now) waiting.now.items }
+    ensures inside { (i : ℕ) → result ≡ Some i → i < deque_len waiting.now }
 {
-    waiting.iter().position(|w| keeps_for(seats, w.ctx))
+    for i in looked..waiting.len() {
+        if keeps_for(seats, waiting[i].ctx) {
+            return Some(i);
+        }
+    }
+    None
 }
 
 // Where the operation stands.
@@ -83,19 +107,31 @@ fn place_of(waiting: &VecDeque<Waiting>, op: OpName) -> Option<usize>
     waiting.iter().position(|w| w.op.slot == op.slot && w.op.generation == op.generation)
 }
 
+// The place, when the element at `i` is taken out.
+fn moved(looked: usize, i: usize) -> usize
+    ensures before { i < looked → result + 1 ≡ looked }
+    ensures behind { looked ≤ i → result ≡ looked }
+{
+    if i < looked { looked - 1 } else { looked }
+}
+
 // Takes the operation out.
-fn take(waiting: &mut VecDeque<Waiting>, op: OpName) -> Option<Waiting>
+fn take(waiting: &mut VecDeque<Waiting>, looked: &mut usize, op: OpName) -> Option<Waiting>
     ensures found { result ≡ find (is_for op) waiting.old.items }
     ensures rest { waiting.new.items ≡ without_first op waiting.old.items }
     ensures len { deque_len waiting.new + length (option_to_list result) ≡ deque_len waiting.old }
     ensures capacity { deque_capacity waiting.new ≡ deque_capacity waiting.old }
+    ensures looked { (P : WaitingType → Bool) → NoneBefore P looked.old waiting.old.items → NoneBefore P looked.new waiting.new.items }
 {
     match place_of(waiting, op) {
         None => None,
-        Some(i) => match waiting.remove(i) {
-            Some(w) => Some(w),
-            None => None,
-        },
+        Some(i) => {
+            *looked = moved(*looked, i);
+            match waiting.remove(i) {
+                Some(w) => Some(w),
+                None => None,
+            }
+        }
     }
 }
 
@@ -137,8 +173,8 @@ fn keep_in_all(seats: &mut [Seat], raw: bool, options: Options, m: Message) -> O
 
 // The oldest message of the context, which is kept no longer.
 fn give(seats: &mut [Seat], c: Ctx) -> Option<Message>
-    ensures given { result ≡ first_in (find (is_home c) seats.old) }
-    ensures rest { seats.new ≡ with_found (is_home c) given_from seats.old }
+    ensures given { InOrder seats.old → result ≡ first_in (find (is_home c) seats.old) }
+    ensures rest { InOrder seats.old → seats.new ≡ with_found (is_home c) given_from seats.old }
 {
     match home(seats, c) {
         None => None,
@@ -148,11 +184,24 @@ fn give(seats: &mut [Seat], c: Ctx) -> Option<Message>
 
 // Puts a topic of the context on, or takes it off. Answers whether that changed something.
 fn switch(seats: &mut [Seat], alloc: Global, c: Ctx, t: &[u8], on: bool) -> Result<bool, NoMemory>
-    ensures { SwitchesIn result (find (is_home c) seats.old) c seats.old seats.new t.now on }
+    ensures switched { InOrder seats.old → SwitchesIn result (find (is_home c) seats.old) c seats.old seats.new t.now on }
+    ensures off { on ≡ false → OnErr result ⊥ }
 {
     match home(seats, c) {
         None => Ok(false),
         Some(i) => seats[i].switch(alloc, t, on),
+    }
+}
+
+// The context is shut.
+fn shut(seats: &mut Vec<Seat>, c: Ctx)
+    ensures { InOrder seats.old.items → seats.new.items ≡ filter (λ (x : SeatView). not (is_home c x)) seats.old.items }
+{
+    match home(seats, c) {
+        None => {}
+        Some(i) => {
+            let _ = seats.remove(i);
+        }
     }
 }
 
@@ -187,6 +236,7 @@ impl Subscribe {
             options,
             seats,
             waiting: VecDeque::new(alloc),
+            looked: 0,
         })
     }
 }
@@ -243,7 +293,7 @@ impl Proto for Subscribe {
     }
 
     /// It has memory for all that it keeps, and the last open context gets the frame itself, so where one alone is open it
-    /// never lacks memory.
+    /// is never out of memory.
     fn frame(&mut self, p: PipeId, m: Message) -> Verdict
         requires { m.header ≡ [] }
         ensures kept { (t : Moment) → Lawful (also t (Frame p m.body)) → Ties self.old t → Frames (Ties self.new) result t p m.body }
@@ -253,6 +303,7 @@ impl Proto for Subscribe {
         ensures dry { (t : Moment) (c : ℕ) → Lawful (also t (Frame p m.body)) → Ties self.old t → result ≡ Verdict.Dry c → NeedsCopy t.z (past t) c p m.body }
     {
         let _ = p;
+        self.looked = 0;
         match keep_in_all(&mut self.seats, self.raw, self.options, m) {
             None => Verdict::Fine,
             Some(c) => Verdict::Dry(c),
@@ -289,11 +340,17 @@ impl Proto for Subscribe {
     fn fresh(&mut self) {}
 
     fn offer(&mut self) -> Offer {
-        match ready_place(&self.seats, &self.waiting) {
-            None => Offer::Idle,
-            Some(i) => Offer::Give {
-                op: self.waiting[i].op,
-            },
+        match ready_place(&self.seats, &self.waiting, self.looked) {
+            None => {
+                self.looked = self.waiting.len();
+                Offer::Idle
+            }
+            Some(i) => {
+                self.looked = i;
+                Offer::Give {
+                    op: self.waiting[i].op,
+                }
+            }
         }
     }
 
@@ -321,14 +378,14 @@ impl Proto for Subscribe {
 
     fn won(&mut self, op: OpName, out: Option<PipeId>) -> Option<Message> {
         let _ = out;
-        match take(&mut self.waiting, op) {
+        match take(&mut self.waiting, &mut self.looked, op) {
             None => None,
             Some(w) => give(&mut self.seats, w.ctx),
         }
     }
 
     fn lost(&mut self, op: OpName) -> Option<Message> {
-        let _ = take(&mut self.waiting, op);
+        let _ = take(&mut self.waiting, &mut self.looked, op);
         None
     }
 
@@ -343,7 +400,7 @@ impl Proto for Subscribe {
     }
 
     fn close_ctx(&mut self, c: Ctx) {
-        self.seats.retain(|x| !x.is_of(c));
+        shut(&mut self.seats, c);
     }
 
     fn topic(&mut self, c: Ctx, t: &[u8], on: bool) -> Result<bool, NoMemory> {

@@ -1,5 +1,5 @@
 //! Frames at a sub, and sends of a pub.
-use crate::moves::{come, opens, send, take_offer, ups};
+use crate::moves::{come, opens, receive, send, take_offer, ups};
 use crate::timing::{now, row};
 use proto_pubsub::{Publish, Subscribe};
 use sp_base::{Ctx, NoMemory, PipeId, Role};
@@ -11,6 +11,9 @@ use std::time::Clock;
 
 /// How many frames come.
 const FRAMES: u32 = 1_000;
+
+/// How many times a machine is asked what can be done.
+const OFFERS: u32 = 1_000;
 
 /// How many sends begin.
 const SENDS: u32 = 16;
@@ -77,13 +80,37 @@ fn with_contexts<R: AllocGlobal + Clock + Eprint>(rt: &R, contexts: u32) -> Resu
     Ok(())
 }
 
-/// Each count of topics and of contexts.
+// A receive begins on each of so many contexts, and then nothing can be done.
+fn with_receives<R: AllocGlobal + Clock + Eprint>(rt: &R, contexts: u32) -> Result<(), NoMemory> {
+    let mut options = Options::usual(Role::Sub, 0);
+    options.queue = 1;
+    let mut sub = Subscribe::new(rt.alloc(), options, false)?;
+    opens(&mut sub, contexts)?;
+    let start = now(rt);
+    for i in 0..contexts {
+        receive(&mut sub, i, Ctx(i + 1))?;
+        take_offer(&mut sub, 0);
+    }
+    row(rt, "a receive begins at a sub", contexts, start, contexts);
+    let start = now(rt);
+    for _ in 0..OFFERS {
+        take_offer(&mut sub, 0);
+    }
+    row(rt, "an idle offer of a sub", contexts, start, OFFERS);
+    Ok(())
+}
+
+/// Each count of topics, of contexts and of receives.
 pub fn frames<R: AllocGlobal + Clock + Eprint>(rt: &R) -> Result<(), NoMemory> {
     with_topics(rt, 1)?;
     with_topics(rt, 100)?;
     with_topics(rt, 10_000)?;
     with_contexts(rt, 1)?;
     with_contexts(rt, 1_000)?;
+    with_receives(rt, 1)?;
+    with_receives(rt, 100)?;
+    with_receives(rt, 1_000)?;
+    with_receives(rt, 4_000)?;
     Ok(())
 }
 

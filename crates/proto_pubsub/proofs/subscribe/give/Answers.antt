@@ -4,13 +4,13 @@ use Rattle.proto_pubsub.proofs.Seating.{found_at, not_found, with_at, with_none}
 use Rattle.proto_pubsub.proofs.subscribe.give.Goals as goal
 
 pub returns-in-None-clause-given : goal.returns-in-None-clause-given
-returns-in-None-clause-given c = sym (ap first_in (not_found (is_home c.args.c) c.args.seats.now (sym c.in-None.ensures)))
+returns-in-None-clause-given c = λ o. sym (ap first_in (not_found (is_home c.args.c) c.args.seats.now (sym (c.in-None.ensures.place o))))
 
 pub returns-in-None-clause-rest : goal.returns-in-None-clause-rest
-returns-in-None-clause-rest c = with_none (is_home c.args.c) given_from c.args.seats.now (not_found (is_home c.args.c) c.args.seats.now (sym c.in-None.ensures))
+returns-in-None-clause-rest c = λ o. with_none (is_home c.args.c) given_from c.args.seats.now (not_found (is_home c.args.c) c.args.seats.now (sym (c.in-None.ensures.place o)))
 
 pub returns-in-Some-clause-given : goal.returns-in-Some-clause-given
-returns-in-Some-clause-given c = c.give.ensures.given ∙ sym (ap first_in (found_at (is_home c.args.c) c.args.seats.now c.in-Some.i c.index-seats-i.result (sym c.in-Some.ensures)))
+returns-in-Some-clause-given c = λ o. c.give.ensures.given ∙ sym (ap first_in (found_at (is_home c.args.c) c.args.seats.now c.in-Some.i c.index-seats-i.result (sym (c.in-Some.ensures.place o))))
 
 pub returns-in-Some-clause-rest : goal.returns-in-Some-clause-rest
-returns-in-Some-clause-rest c = rw c.give.ensures.rest (with_at (is_home c.args.c) given_from c.args.seats.now c.in-Some.i c.index-seats-i.result (sym c.in-Some.ensures))
+returns-in-Some-clause-rest c = λ o. rw c.give.ensures.rest (with_at (is_home c.args.c) given_from c.args.seats.now c.in-Some.i c.index-seats-i.result (sym (c.in-Some.ensures.place o)))

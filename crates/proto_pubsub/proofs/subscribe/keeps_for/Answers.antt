@@ -7,9 +7,9 @@ use Rattle.proto_pubsub.proofs.Seating.{found_at, not_found}
 use Rattle.proto_pubsub.proofs.subscribe.keeps_for.Goals as goal
 
 pub returns-in-None : goal.returns-in-None
-returns-in-None c = sym (ap is_kept (not_found (is_home c.args.c) c.args.seats.now (sym c.in-None.ensures)))
+returns-in-None c = λ o. sym (ap is_kept (not_found (is_home c.args.c) c.args.seats.now (sym (c.in-None.ensures.place o))))
 
 pub returns-in-Some : goal.returns-in-Some
-returns-in-Some c =
+returns-in-Some c = λ o.
     let at : c.index-seats-i.result ≡ slice_index_or c.args.seats.now c.in-Some.i c.index-seats-i.result = search rules in
-    ap not c.is_empty.ensures ∙ ap (λ (x : SeatView). not (is_nil x.kept)) at ∙ sym (ap is_kept (found_at (is_home c.args.c) c.args.seats.now c.in-Some.i c.index-seats-i.result (sym c.in-Some.ensures)))
+    ap not c.is_empty.ensures ∙ ap (λ (x : SeatView). not (is_nil x.kept)) at ∙ sym (ap is_kept (found_at (is_home c.args.c) c.args.seats.now c.in-Some.i c.index-seats-i.result (sym (c.in-Some.ensures.place o))))

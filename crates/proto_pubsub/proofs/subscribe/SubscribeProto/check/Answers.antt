@@ -1,7 +1,7 @@
 use Rattle.std.proofs.Common.{◌≡◌, true, false, rules, subst, ◌∙◌}
 use Rattle.std.specs.Prelude.{not, ◌||◌, ◌==◌}
 use Rattle.sp_proto.specs.declared.Verb.TheVariants as verbs
-use Rattle.proto_pubsub.proofs.Subscribed.{no_state, does_is, open_is, zero_is, cooked_is}
+use Rattle.proto_pubsub.proofs.Subscribed.{in_order, no_state, does_is, open_is, zero_is, cooked_is}
 use Rattle.proto_pubsub.proofs.subscribe.SubscribeProto.check.Goals.{else-self-via-then-self+else-c-ne0, else-self-via-else-self}
 use Rattle.proto_pubsub.proofs.subscribe.SubscribeProto.check.Goals as goal
 
@@ -12,7 +12,7 @@ returns-then-not-is_open c =
     let is : c.c.inside.0 ≡ c.args.c = search rules in
     let recv : c.args.verb ≡ verbs.Recv = search rules in
     let ok : ((c.args.c == 0) || not m.raw) ≡ true = elim c.else-self.branch [ else-self-via-then-self+else-c-ne0 w ↦ zero_is _ _ (subst (λ n. n ≡ 0) is w.if-c-ne0.false) | else-self-via-else-self w ↦ cooked_is _ _ w.if-self.false ] in
-    (does_is m t c.args.c act true h (v ∙ recv) ok, open_is m t c.args.c c.deref.result.now false c.is_open.result h c.deref.ensures.value c.is_open.ensures c.if-not-is_open.true)
+    (does_is m t c.args.c act true h (v ∙ recv) ok, open_is m t c.args.c c.deref.result.now false c.is_open.result h c.deref.ensures.value (c.is_open.ensures (in_order m t c.deref.result.now h c.deref.ensures.value)) c.if-not-is_open.true)
 
 pub returns : goal.returns
 returns c =
@@ -21,4 +21,4 @@ returns c =
     let is : c.c.inside.0 ≡ c.args.c = search rules in
     let recv : c.args.verb ≡ verbs.Recv = search rules in
     let ok : ((c.args.c == 0) || not m.raw) ≡ true = elim c.else-self.branch [ else-self-via-then-self+else-c-ne0 w ↦ zero_is _ _ (subst (λ n. n ≡ 0) is w.if-c-ne0.false) | else-self-via-else-self w ↦ cooked_is _ _ w.if-self.false ] in
-    (does_is m t c.args.c act true h (v ∙ recv) ok, open_is m t c.args.c c.deref.result.now true c.is_open.result h c.deref.ensures.value c.is_open.ensures c.if-not-is_open.false, no_state m t c.args.c act h)
+    (does_is m t c.args.c act true h (v ∙ recv) ok, open_is m t c.args.c c.deref.result.now true c.is_open.result h c.deref.ensures.value (c.is_open.ensures (in_order m t c.deref.result.now h c.deref.ensures.value)) c.if-not-is_open.false, no_state m t c.args.c act h)

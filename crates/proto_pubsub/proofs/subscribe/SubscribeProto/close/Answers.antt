@@ -13,5 +13,5 @@ returns-clause-closed c =
     let olds = c.deref_mut.ensures.value in
     let seats : (with_items was.seats c.clear.new.seats).items ≡ map emptied was.seats.items =
     seats_written was.seats c.clear.new.seats c.deref_mut.result.now olds (long_map emptied c.clear.new.seats c.deref_mut.result.now c.clear.ensures) ∙ c.clear.ensures ∙ ap (map emptied) olds in
-    let is : Subscribe = record { alloc = was.alloc; raw = was.raw; options = was.options; seats = with_items was.seats c.clear.new.seats; waiting = was.waiting } in
-    closed_ties was is t totals h seats refl (refl, refl)
+    let is : Subscribe = record { alloc = was.alloc; raw = was.raw; options = was.options; seats = with_items was.seats c.clear.new.seats; waiting = was.waiting; looked = was.looked } in
+    closed_ties was is t totals h seats refl refl (refl, refl)

@@ -17,8 +17,8 @@ returns-in-None-clause-kept c =
     let olds = c.deref_mut.ensures.value in
     let all = c.keep_in_all.ensures.whole c.in-None.is in
     let seats = seats_written was.seats c.keep_in_all.new.seats c.deref_mut.result.now olds (long_map (kept_in was.raw was.options c.args.m) c.keep_in_all.new.seats c.deref_mut.result.now all) ∙ all ∙ ap (map (kept_in was.raw was.options c.args.m)) olds in
-    let is : Subscribe = record { alloc = was.alloc; raw = was.raw; options = was.options; seats = with_items was.seats c.keep_in_all.new.seats; waiting = was.waiting } in
-    whole_ties was t c.args.p c.args.m h (allowed_before t (Frame c.args.p c.args.m.body) l) c.requires is seats refl (refl, refl)
+    let is : Subscribe = record { alloc = was.alloc; raw = was.raw; options = was.options; seats = with_items was.seats c.keep_in_all.new.seats; waiting = was.waiting; looked = 0 } in
+    whole_ties was t c.args.p c.args.m h (allowed_before t (Frame c.args.p c.args.m.body) l) c.requires is seats refl refl (refl, refl)
 
 pub returns-in-Some-clause-kept : goal.returns-in-Some-clause-kept
 returns-in-Some-clause-kept c =
@@ -29,11 +29,11 @@ returns-in-Some-clause-kept c =
     let st : StopsAt (takes_frame was.raw was.options c.args.m.body) (kept_in was.raw was.options c.args.m) d c.deref_mut.result.now c.keep_in_all.new.seats = c.in-Some.ensures.stops d refl in
     let written : (with_items was.seats c.keep_in_all.new.seats).items ≡ c.keep_in_all.new.seats =
     seats_written was.seats c.keep_in_all.new.seats c.deref_mut.result.now olds (long_stops (takes_frame was.raw was.options c.args.m.body) (kept_in was.raw was.options c.args.m) d c.deref_mut.result.now c.keep_in_all.new.seats st) in
-    let is : Subscribe = record { alloc = was.alloc; raw = was.raw; options = was.options; seats = with_items was.seats c.keep_in_all.new.seats; waiting = was.waiting } in
+    let is : Subscribe = record { alloc = was.alloc; raw = was.raw; options = was.options; seats = with_items was.seats c.keep_in_all.new.seats; waiting = was.waiting; looked = 0 } in
     let stops : StopsAt (takes_frame was.raw was.options c.args.m.body) (kept_in was.raw was.options c.args.m) d was.seats.items is.seats.items =
     subst (λ (ys : List SeatView). StopsAt (takes_frame was.raw was.options c.args.m.body) (kept_in was.raw was.options c.args.m) d was.seats.items ys) (sym written)
     (subst (λ (xs : List SeatView). StopsAt (takes_frame was.raw was.options c.args.m.body) (kept_in was.raw was.options c.args.m) d xs c.keep_in_all.new.seats) olds st) in
-    dry_ties was t c.args.p c.args.m h (allowed_before t (Frame c.args.p c.args.m.body) l) c.requires is d stops refl (refl, refl)
+    dry_ties was t c.args.p c.args.m h (allowed_before t (Frame c.args.p c.args.m.body) l) c.requires is d stops refl refl (refl, refl)
 
 pub returns-in-Some-clause-one : goal.returns-in-Some-clause-one
 returns-in-Some-clause-one c =

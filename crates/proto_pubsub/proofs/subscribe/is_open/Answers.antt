@@ -1,0 +1,8 @@
+use Rattle.std.proofs.Common.{◌∙◌, ap}
+use Rattle.std.specs.Prelude.{is_some}
+use Rattle.proto_pubsub.specs.Seats.{is_home}
+use Rattle.proto_pubsub.proofs.Ordered.{some_place}
+use Rattle.proto_pubsub.proofs.subscribe.is_open.Goals as goal
+
+pub returns : goal.returns
+returns c = λ o. c.is_some.ensures ∙ ap is_some (c.home.ensures.place o) ∙ some_place (is_home c.args.c) c.args.seats.now
