@@ -1,6 +1,7 @@
 //! Copies of a send to all that no pipe took: none is left when the send ends.
 ghost use Rattle.std.specs.Prelude.{◌≤◌, ◌<◌, ◌+◌};
 
+use crate::checks::holds;
 use crate::moves::{op, sends};
 use proto_bus::Bus;
 use proto_pubsub::Publish;
@@ -53,12 +54,12 @@ fn a_send_to_all_leaves_no_copy(rt: HostRuntime) -> Result<(), Fail> {
     let alloc = rt.alloc();
     let mut survey = Survey::new(alloc, Options::usual(Role::Surveyor, 0), false)?;
     survey.reserve(2)?;
-    assert!(rt; leave_no_copies(&mut survey, alloc));
+    holds(&rt, leave_no_copies(&mut survey, alloc));
     let mut bus = Bus::new(alloc, Options::usual(Role::Bus, 0), false)?;
     bus.reserve(2)?;
-    assert!(rt; leave_no_copies(&mut bus, alloc));
+    holds(&rt, leave_no_copies(&mut bus, alloc));
     let mut publish = Publish::new(alloc, Options::usual(Role::Pub, 0), false)?;
     publish.reserve(2)?;
-    assert!(rt; leave_no_copies(&mut publish, alloc));
+    holds(&rt, leave_no_copies(&mut publish, alloc));
     Ok(())
 }

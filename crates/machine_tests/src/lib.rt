@@ -4,6 +4,8 @@
 #[cfg(test)]
 mod bus;
 #[cfg(test)]
+mod checks;
+#[cfg(test)]
 mod copies;
 #[cfg(test)]
 mod many;
@@ -20,6 +22,8 @@ mod replies;
 mod requests;
 #[cfg(test)]
 mod resends;
+#[cfg(test)]
+mod steps;
 #[cfg(test)]
 mod subs;
 #[cfg(test)]

@@ -1,5 +1,6 @@
 //! Forty pipes or contexts at once: what is kept, and what goes out again, comes in its order.
-use crate::moves::{comes, is_wire, op, wins};
+use crate::checks::holds;
+use crate::moves::{comes, is_wire, op, sends, wins};
 use proto_reqrep::{Reply, Request};
 use proto_survey::Survey;
 use sp_base::{Ctx, PipeId, Role};
@@ -42,114 +43,164 @@ fn has_next<M: Proto>(m: &mut M, slot: u32, bytes: &[u8]) -> bool {
     m.offer() == Offer::Give { op: op(slot) } && wins(m, op(slot), None, bytes)
 }
 
+// The frames of a cooked rep come in their order, and the pipe of each then wants another one.
+fn gives_requests<M: Proto>(m: &mut M) -> bool {
+    for p in 1..PIPES {
+        let n = u32::from(p);
+        if !has_next(m, n, &[113]) || !m.wants(PipeId(n)) {
+            return false;
+        }
+    }
+    true
+}
+
+// Those of a raw rep do, each behind the number of its pipe.
+fn gives_raw_requests<M: Proto>(m: &mut M) -> bool {
+    for p in 1..PIPES {
+        if !has_next(m, u32::from(p), &[0, 0, 0, p, 128, 0, 0, p, 113]) {
+            return false;
+        }
+    }
+    true
+}
+
+// Those of a raw req or surveyor do, as they came.
+fn gives_raw_replies<M: Proto>(m: &mut M) -> bool {
+    for p in 1..PIPES {
+        if !has_next(m, u32::from(p), &[128, 0, 0, p, 113]) {
+            return false;
+        }
+    }
+    true
+}
+
 #[test]
 fn forty_requests_are_kept_and_come_in_their_order(rt: HostRuntime) -> Result<(), Fail> {
     let mut rep = Reply::new(rt.alloc(), Options::usual(Role::Rep, 0), false)?;
-    assert!(rt; fills(&mut rep, rt.alloc()));
-    for p in 1..PIPES {
-        assert!(rt; has_next(&mut rep, u32::from(p), &[113]));
-        assert!(rt; rep.wants(PipeId(u32::from(p))));
-    }
+    holds(&rt, fills(&mut rep, rt.alloc()));
+    holds(&rt, gives_requests(&mut rep));
     let mut raw = Reply::new(rt.alloc(), Options::usual(Role::Rep, 0), true)?;
-    assert!(rt; fills(&mut raw, rt.alloc()));
-    for p in 1..PIPES {
-        assert!(rt; has_next(&mut raw, u32::from(p), &[0, 0, 0, p, 128, 0, 0, p, 113]));
-    }
+    holds(&rt, fills(&mut raw, rt.alloc()));
+    holds(&rt, gives_raw_requests(&mut raw));
     Ok(())
 }
 
 #[test]
 fn forty_raw_replies_are_kept_and_come_in_their_order(rt: HostRuntime) -> Result<(), Fail> {
     let mut req = Request::new(rt.alloc(), Options::usual(Role::Req, 0), true)?;
-    assert!(rt; fills(&mut req, rt.alloc()));
-    for p in 1..PIPES {
-        assert!(rt; has_next(&mut req, u32::from(p), &[128, 0, 0, p, 113]));
-    }
+    holds(&rt, fills(&mut req, rt.alloc()));
+    holds(&rt, gives_raw_replies(&mut req));
     let mut survey = Survey::new(rt.alloc(), Options::usual(Role::Surveyor, 0), true)?;
-    assert!(rt; fills(&mut survey, rt.alloc()));
-    for p in 1..PIPES {
-        assert!(rt; has_next(&mut survey, u32::from(p), &[128, 0, 0, p, 113]));
-    }
+    holds(&rt, fills(&mut survey, rt.alloc()));
+    holds(&rt, gives_raw_replies(&mut survey));
     Ok(())
 }
 
 // The context opens, where it is another than that of the socket.
-fn opens(req: &mut Request, c: u8) -> bool {
-    c == 0 || req.open_ctx(Ctx(u32::from(c))).is_ok()
+fn opens<M: Proto>(m: &mut M, c: u8) -> bool {
+    c == 0 || m.open_ctx(Ctx(u32::from(c))).is_ok()
 }
 
 // A request of the context begins, whose id ends in its number, and goes out on pipe 1.
-fn asks(req: &mut Request, c: u8, m: Message) -> bool {
+fn asks<M: Proto>(m: &mut M, alloc: Global, c: u8) -> bool {
     let slot = u32::from(c);
-    if req.reserve(1).is_err() || req.begin(op(slot), Ctx(slot), Act::Send(m)).is_err() {
+    if m.reserve(1).is_err() || !sends(m, alloc, slot, Ctx(slot), &[c]) {
         return false;
     }
     let out = Offer::Send {
         op: op(slot),
         pipe: PipeId(1),
     };
-    req.offer() == out && wins(req, op(slot), Some(PipeId(1)), &[128, 0, 0, c, c])
+    m.offer() == out && wins(m, op(slot), Some(PipeId(1)), &[128, 0, 0, c, c])
 }
 
 // The request of the context goes out again on pipe 2.
-fn asks_again(req: &mut Request, c: u8) -> bool {
+fn asks_again<M: Proto>(m: &mut M, c: u8) -> bool {
     let ctx = Ctx(u32::from(c));
     let again = Offer::Again {
         ctx,
         pipe: PipeId(2),
     };
-    if req.offer() != again {
+    if m.offer() != again {
         return false;
     }
-    match req.again(ctx, PipeId(2)) {
+    match m.again(ctx, PipeId(2)) {
         None => false,
-        Some(m) => is_wire(&m, &[128, 0, 0, c, c]),
+        Some(message) => is_wire(&message, &[128, 0, 0, c, c]),
     }
+}
+
+// Each context asks on pipe 1, and again on pipe 2 where that goes down.
+fn asks_twice<M: Proto>(m: &mut M, alloc: Global) -> bool {
+    if m.up(PipeId(1)).is_err() {
+        return false;
+    }
+    for c in 0..CONTEXTS {
+        if !opens(m, c) || !asks(m, alloc, c) {
+            return false;
+        }
+    }
+    if m.up(PipeId(2)).is_err() {
+        return false;
+    }
+    m.down(PipeId(1));
+    for c in 0..CONTEXTS {
+        if !asks_again(m, c) {
+            return false;
+        }
+    }
+    m.offer() == Offer::Idle
 }
 
 #[test]
 fn each_of_forty_requests_goes_out_again(rt: HostRuntime) -> Result<(), Fail> {
     let mut req = Request::new(rt.alloc(), Options::usual(Role::Req, 0), false)?;
-    assert!(rt; req.up(PipeId(1)).is_ok());
-    for c in 0..CONTEXTS {
-        assert!(rt; opens(&mut req, c));
-        assert!(rt; asks(&mut req, c, Message::from_body(rt.alloc(), &[c])?));
-    }
-    assert!(rt; req.up(PipeId(2)).is_ok());
-    req.down(PipeId(1));
-    for c in 0..CONTEXTS {
-        assert!(rt; asks_again(&mut req, c));
-    }
-    assert!(rt; req.offer() == Offer::Idle);
+    holds(&rt, asks_twice(&mut req, rt.alloc()));
     Ok(())
 }
 
+// The context asks on pipe 1, and its receive waits.
+fn waits<M: Proto>(m: &mut M, alloc: Global, c: u8) -> bool {
+    if !opens(m, c) || !asks(m, alloc, c) || m.reserve(1).is_err() {
+        return false;
+    }
+    let n = u32::from(c);
+    m.begin(op(n), Ctx(n), Act::Recv).is_ok()
+        && m.check(Ctx(n), Verb::Recv) == Err(CheckError::State)
+}
+
 // The reply of the context comes, is given to its receive, and nothing more can be done.
-fn is_answered(req: &mut Request, alloc: Global, c: u8) -> bool {
+fn is_answered<M: Proto>(m: &mut M, alloc: Global, c: u8) -> bool {
     let slot = op(u32::from(c));
     let reply = [128, 0, 0, c, 114, c];
-    comes(req, alloc, PipeId(1), &reply, Verdict::Fine)
-        && req.offer() == Offer::Give { op: slot }
-        && wins(req, slot, None, &[114, c])
-        && req.offer() == Offer::Idle
+    comes(m, alloc, PipeId(1), &reply, Verdict::Fine)
+        && m.offer() == Offer::Give { op: slot }
+        && wins(m, slot, None, &[114, c])
+        && m.offer() == Offer::Idle
+        && m.check(Ctx(u32::from(c)), Verb::Recv) == Err(CheckError::State)
+}
+
+// Each context asks on pipe 1, and each is answered, the last one first.
+fn answers_all<M: Proto>(m: &mut M, alloc: Global) -> bool {
+    if m.up(PipeId(1)).is_err() {
+        return false;
+    }
+    for c in 0..CONTEXTS {
+        if !waits(m, alloc, c) {
+            return false;
+        }
+    }
+    for i in 0..CONTEXTS {
+        if !is_answered(m, alloc, CONTEXTS - 1 - i) {
+            return false;
+        }
+    }
+    true
 }
 
 #[test]
 fn each_of_forty_replies_goes_to_its_context(rt: HostRuntime) -> Result<(), Fail> {
     let mut req = Request::new(rt.alloc(), Options::usual(Role::Req, 0), false)?;
-    assert!(rt; req.up(PipeId(1)).is_ok());
-    for c in 0..CONTEXTS {
-        assert!(rt; opens(&mut req, c));
-        assert!(rt; asks(&mut req, c, Message::from_body(rt.alloc(), &[c])?));
-        req.reserve(1)?;
-        let n = u32::from(c);
-        assert!(rt; req.begin(op(n), Ctx(n), Act::Recv).is_ok());
-        assert!(rt; req.check(Ctx(n), Verb::Recv) == Err(CheckError::State));
-    }
-    for i in 0..CONTEXTS {
-        let c = CONTEXTS - 1 - i;
-        assert!(rt; is_answered(&mut req, rt.alloc(), c));
-        assert!(rt; req.check(Ctx(u32::from(c)), Verb::Recv) == Err(CheckError::State));
-    }
+    holds(&rt, answers_all(&mut req, rt.alloc()));
     Ok(())
 }

@@ -30,16 +30,6 @@ pub fn wins<M: Proto>(m: &mut M, op: OpName, out: Option<PipeId>, bytes: &[u8]) 
     }
 }
 
-/// The pending operation ends without success, and hands this message back.
-pub fn loses<M: Proto>(m: &mut M, op: OpName, bytes: &[u8]) -> bool
-    ensures { M.room m.old ≤ M.room m.new }
-{
-    match m.lost(op) {
-        None => false,
-        Some(message) => is_wire(&message, bytes),
-    }
-}
-
 /// A receive of the context is given this message at once.
 pub fn gets<M: Proto>(m: &mut M, slot: u32, c: Ctx, bytes: &[u8]) -> bool
     requires { 0 < M.room m.old }
@@ -52,14 +42,6 @@ pub fn gets<M: Proto>(m: &mut M, slot: u32, c: Ctx, bytes: &[u8]) -> bool
         return false;
     }
     wins(m, op(slot), None, bytes)
-}
-
-/// A receive of the context begins.
-pub fn asks<M: Proto>(m: &mut M, slot: u32, c: Ctx) -> bool
-    requires { 0 < M.room m.old }
-    ensures { M.room m.old ≤ M.room m.new + 1 }
-{
-    m.begin(op(slot), c, Act::Recv).is_ok()
 }
 
 /// A send of the body begins on the context, if there is memory for it.

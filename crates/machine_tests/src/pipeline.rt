@@ -1,133 +1,108 @@
 //! Push and pull: whose turn it is, and what is kept.
+use crate::checks::{holds, plays};
+use crate::steps::Step;
 use proto_pipeline::{Pull, Push};
-use sp_base::{Ctx, OpName, PipeId, Role};
+use sp_base::{NoMemory, PipeId, Role};
 use sp_history::setting::Options;
 use sp_msg::Message;
-use sp_proto::{Act, CheckError, Offer, Proto, Verb, Verdict};
+use sp_proto::{CheckError, Proto, Verb, Verdict};
 use std::alloc::Global;
 use std::test::Fail;
 
-const FIRST: OpName = OpName {
-    slot: 0,
-    generation: 1,
-};
+fn pull(alloc: Global) -> Result<Pull, NoMemory> {
+    Pull::new(alloc, Options::usual(Role::Pull, 0), false)
+}
 
-const SECOND: OpName = OpName {
-    slot: 1,
-    generation: 1,
-};
-
-// A message with a header of one word.
-fn headed(alloc: Global, body: &[u8]) -> Result<Message, Fail> {
-    let mut m = Message::from_body(alloc, body)?;
-    m.header_append_u32(7)?;
-    Ok(m)
+fn push(alloc: Global, raw: bool) -> Result<Push, NoMemory> {
+    Push::new(alloc, Options::usual(Role::Push, 0), raw)
 }
 
 #[test]
 fn a_pull_gives_what_came_first(rt: HostRuntime) -> Result<(), Fail> {
-    let options = Options::usual(Role::Pull, 0);
-    let mut pull = Pull::new(rt.alloc(), options, false)?;
-    pull.reserve(2)?;
-    assert!(rt; pull.up(PipeId(1)).is_ok());
-    assert!(rt; pull.up(PipeId(2)).is_ok());
-    assert!(rt; pull.frame(PipeId(2), Message::from_body(rt.alloc(), b"x")?) == Verdict::Fine);
-    assert!(rt; !pull.wants(PipeId(2)));
-    assert!(rt; pull.wants(PipeId(1)));
-    assert!(rt; pull.frame(PipeId(1), Message::from_body(rt.alloc(), b"y")?) == Verdict::Fine);
-    pull.down(PipeId(2));
-    assert!(rt; pull.begin(FIRST, Ctx(0), Act::Recv).is_ok());
-    assert!(rt; pull.begin(SECOND, Ctx(0), Act::Recv).is_ok());
-    assert!(rt; pull.offer() == Offer::Give { op: FIRST });
-    assert!(rt; pull.lost(FIRST).is_none());
-    assert!(rt; pull.offer() == Offer::Give { op: SECOND });
-    match pull.won(SECOND, None) {
-        None => assert!(rt; false),
-        Some(m) => assert!(rt; m.body() == b"x".as_slice()),
-    }
-    assert!(rt; pull.offer() == Offer::Idle);
+    let steps = [
+        Step::Reserve(2),
+        Step::Up(1),
+        Step::Up(2),
+        Step::Frame(2, b"x"),
+        Step::Wants(2, false),
+        Step::Wants(1, true),
+        Step::Frame(1, b"y"),
+        Step::Down(2),
+        Step::Receive(0, 0),
+        Step::Receive(1, 0),
+        Step::CanGive(0),
+        Step::Loses(0),
+        Step::CanGive(1),
+        Step::Gets(1, b"", b"x"),
+        Step::Idle,
+    ];
+    plays(&rt, rt.alloc(), &mut pull(rt.alloc())?, &steps);
     Ok(())
 }
 
 #[test]
 fn a_push_sends_the_body_on_a_pipe_with_room(rt: HostRuntime) -> Result<(), Fail> {
-    let options = Options::usual(Role::Push, 0);
-    let mut push = Push::new(rt.alloc(), options, true)?;
-    push.reserve(2)?;
-    assert!(rt; push.up(PipeId(1)).is_ok());
-    assert!(rt; push.up(PipeId(2)).is_ok());
-    assert!(rt;
-        push.begin(FIRST, Ctx(0), Act::Send(headed(rt.alloc(), b"x")?))
-            .is_ok()
-    );
-    assert!(rt;
-        push.begin(SECOND, Ctx(0), Act::Send(headed(rt.alloc(), b"y")?))
-            .is_ok()
-    );
-    push.full(PipeId(1));
-    let on_second = Offer::Send {
-        op: FIRST,
-        pipe: PipeId(2),
-    };
-    assert!(rt; push.offer() == on_second);
-    match push.won(FIRST, Some(PipeId(2))) {
-        None => assert!(rt; false),
-        Some(m) => assert!(rt; m.header().is_empty() && m.body() == b"x".as_slice()),
-    }
-    push.full(PipeId(2));
-    assert!(rt; push.offer() == Offer::Idle);
-    push.fresh();
-    match push.lost(SECOND) {
-        None => assert!(rt; false),
-        Some(m) => assert!(rt; m.header().len() == 4 && m.body() == b"y".as_slice()),
-    }
-    assert!(rt; push.offer() == Offer::Idle);
+    let steps = [
+        Step::Reserve(2),
+        Step::Up(1),
+        Step::Up(2),
+        Step::Send(0, 0, &[7], b"x"),
+        Step::Send(1, 0, &[7], b"y"),
+        Step::Full(1),
+        Step::CanSend(0, 2),
+        Step::GoesOut(0, 2, b"", b"x"),
+        Step::Full(2),
+        Step::Idle,
+        Step::Fresh,
+        Step::HandsBack(1, &[0, 0, 0, 7], b"y"),
+        Step::Idle,
+    ];
+    plays(&rt, rt.alloc(), &mut push(rt.alloc(), true)?, &steps);
     Ok(())
+}
+
+// A frame with a header of one word comes on pipe 1.
+fn comes_headed(push: &mut Push, alloc: Global) -> Result<bool, Fail> {
+    let mut m = Message::from_body(alloc, b"x")?;
+    m.header_append_u32(7)?;
+    Ok(push.frame(PipeId(1), m) == Verdict::Fine)
 }
 
 #[test]
 fn a_push_takes_its_pipes_in_turn(rt: HostRuntime) -> Result<(), Fail> {
-    let mut push = Push::new(rt.alloc(), Options::usual(Role::Push, 0), false)?;
-    push.reserve(2)?;
-    assert!(rt; push.up(PipeId(1)).is_ok());
-    assert!(rt; push.up(PipeId(2)).is_ok());
-    assert!(rt; push.frame(PipeId(1), headed(rt.alloc(), b"x")?) == Verdict::Fine);
-    assert!(rt;
-        push.begin(FIRST, Ctx(0), Act::Send(headed(rt.alloc(), b"x")?))
-            .is_ok()
-    );
-    assert!(rt;
-        push.begin(SECOND, Ctx(0), Act::Send(headed(rt.alloc(), b"y")?))
-            .is_ok()
-    );
-    let first = Offer::Send {
-        op: FIRST,
-        pipe: PipeId(1),
-    };
-    assert!(rt; push.offer() == first);
-    assert!(rt; push.won(FIRST, Some(PipeId(1))).is_some());
-    let second = Offer::Send {
-        op: SECOND,
-        pipe: PipeId(2),
-    };
-    assert!(rt; push.offer() == second);
-    push.full(PipeId(2));
-    let again = Offer::Send {
-        op: SECOND,
-        pipe: PipeId(1),
-    };
-    assert!(rt; push.offer() == again);
+    let mut push = push(rt.alloc(), false)?;
+    let before = [Step::Reserve(2), Step::Up(1), Step::Up(2)];
+    plays(&rt, rt.alloc(), &mut push, &before);
+    holds(&rt, comes_headed(&mut push, rt.alloc())?);
+    let steps = [
+        Step::Send(0, 0, &[7], b"x"),
+        Step::Send(1, 0, &[7], b"y"),
+        Step::CanSend(0, 1),
+        Step::GoesOut(0, 1, b"", b"x"),
+        Step::CanSend(1, 2),
+        Step::Full(2),
+        Step::CanSend(1, 1),
+    ];
+    plays(&rt, rt.alloc(), &mut push, &steps);
     Ok(())
 }
 
 #[test]
 fn each_does_one_thing(rt: HostRuntime) -> Result<(), Fail> {
-    let pull = Pull::new(rt.alloc(), Options::usual(Role::Pull, 0), false)?;
-    let push = Push::new(rt.alloc(), Options::usual(Role::Push, 0), false)?;
-    let no = Err(CheckError::NotSupported);
-    assert!(rt; pull.role() == Role::Pull && push.role() == Role::Push);
-    assert!(rt; pull.check(Ctx(0), Verb::Recv).is_ok() && pull.check(Ctx(0), Verb::Send) == no);
-    assert!(rt; push.check(Ctx(0), Verb::Send).is_ok() && push.check(Ctx(0), Verb::Recv) == no);
-    assert!(rt; pull.check(Ctx(5), Verb::Recv) == no && push.check(Ctx(5), Verb::Send) == no);
+    const NO: Result<(), CheckError> = Err(CheckError::NotSupported);
+    let of_pull = [
+        Step::Is(Role::Pull, false),
+        Step::Check(0, Verb::Recv, Ok(())),
+        Step::Check(0, Verb::Send, NO),
+        Step::Check(5, Verb::Recv, NO),
+    ];
+    plays(&rt, rt.alloc(), &mut pull(rt.alloc())?, &of_pull);
+    let of_push = [
+        Step::Is(Role::Push, false),
+        Step::Check(0, Verb::Send, Ok(())),
+        Step::Check(0, Verb::Recv, NO),
+        Step::Check(5, Verb::Send, NO),
+    ];
+    plays(&rt, rt.alloc(), &mut push(rt.alloc(), false)?, &of_push);
     Ok(())
 }

@@ -1,69 +1,53 @@
 //! A publisher: to whom a publication goes.
+use crate::checks::plays;
+use crate::steps::Step;
 use proto_pubsub::Publish;
-use sp_base::{Ctx, OpName, PipeId, Role};
+use sp_base::{NoMemory, Role};
 use sp_history::setting::Options;
-use sp_msg::Message;
-use sp_proto::{Act, CheckError, Offer, Proto, Verb, Verdict};
+use sp_proto::{CheckError, Verb};
+use std::alloc::Global;
 use std::test::Fail;
 
-const FIRST: OpName = OpName {
-    slot: 0,
-    generation: 1,
-};
-
-const SECOND: OpName = OpName {
-    slot: 1,
-    generation: 1,
-};
+fn publisher(alloc: Global, raw: bool) -> Result<Publish, NoMemory> {
+    Publish::new(alloc, Options::usual(Role::Pub, 0), raw)
+}
 
 #[test]
 fn a_pub_sends_to_all(rt: HostRuntime) -> Result<(), Fail> {
-    let mut publisher = Publish::new(rt.alloc(), Options::usual(Role::Pub, 0), false)?;
-    publisher.reserve(2)?;
-    assert!(rt; publisher.role() == Role::Pub && !publisher.raw());
-    assert!(rt; publisher.up(PipeId(1)).is_ok());
-    assert!(rt; publisher.up(PipeId(2)).is_ok());
-    let mut m = Message::from_body(rt.alloc(), b"m")?;
-    m.header_append_u32(1)?;
-    assert!(rt; publisher.begin(FIRST, Ctx(0), Act::Send(m)).is_ok());
-    assert!(rt; publisher.offer() == Offer::Flood { op: FIRST });
-    assert!(rt; publisher.goes_to(FIRST, PipeId(1)) && publisher.goes_to(FIRST, PipeId(2)));
-    match publisher.flood(FIRST, PipeId(2)) {
-        None => assert!(rt; false),
-        Some(out) => assert!(rt; out.header().is_empty() && out.body() == b"m".as_slice()),
-    }
-    publisher.full(PipeId(1));
-    assert!(rt; publisher.won(FIRST, None).is_none());
-    assert!(rt; publisher.offer() == Offer::Idle);
+    let steps = [
+        Step::Reserve(2),
+        Step::Is(Role::Pub, false),
+        Step::Up(1),
+        Step::Up(2),
+        Step::Send(0, 0, &[1], b"m"),
+        Step::CanFlood(0),
+        Step::GoesTo(0, 1, true),
+        Step::GoesTo(0, 2, true),
+        Step::Copy(0, 2, b"", b"m"),
+        Step::Full(1),
+        Step::Ends(0),
+        Step::Idle,
+    ];
+    plays(&rt, rt.alloc(), &mut publisher(rt.alloc(), false)?, &steps);
     Ok(())
 }
 
 #[test]
 fn a_frame_is_malformed(rt: HostRuntime) -> Result<(), Fail> {
-    let mut publisher = Publish::new(rt.alloc(), Options::usual(Role::Pub, 0), true)?;
-    publisher.reserve(2)?;
-    assert!(rt; publisher.raw());
-    assert!(rt; publisher.up(PipeId(1)).is_ok());
-    assert!(rt; publisher.wants(PipeId(1)) && !publisher.keeps(Ctx(0)));
-    assert!(rt;
-        publisher.frame(PipeId(1), Message::from_body(rt.alloc(), b"")?) == Verdict::Malformed
-    );
-    publisher.down(PipeId(1));
-    assert!(rt; publisher.check(Ctx(0), Verb::Send).is_ok());
-    assert!(rt; publisher.check(Ctx(0), Verb::Recv) == Err(CheckError::NotSupported));
-    assert!(rt; publisher.check(Ctx(5), Verb::Send) == Err(CheckError::NotSupported));
-    assert!(rt;
-        publisher
-            .begin(
-                SECOND,
-                Ctx(0),
-                Act::Send(Message::from_body(rt.alloc(), b"m")?)
-            )
-            .is_ok()
-    );
-    match publisher.lost(SECOND) {
-        None => assert!(rt; false),
-        Some(back) => assert!(rt; back.body() == b"m".as_slice()),
-    }
+    let steps = [
+        Step::Reserve(2),
+        Step::Is(Role::Pub, true),
+        Step::Up(1),
+        Step::Wants(1, true),
+        Step::Keeps(0, false),
+        Step::Malformed(1, b""),
+        Step::Down(1),
+        Step::Check(0, Verb::Send, Ok(())),
+        Step::Check(0, Verb::Recv, Err(CheckError::NotSupported)),
+        Step::Check(5, Verb::Send, Err(CheckError::NotSupported)),
+        Step::Send(1, 0, &[], b"m"),
+        Step::HandsBack(1, b"", b"m"),
+    ];
+    plays(&rt, rt.alloc(), &mut publisher(rt.alloc(), true)?, &steps);
     Ok(())
 }

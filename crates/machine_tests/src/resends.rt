@@ -1,104 +1,104 @@
 //! Requests go to the pipes in turn, and go out again where their pipe goes down.
-use crate::moves::{is_wire, op, wins};
+use crate::checks::{holds, plays};
+use crate::moves::sends;
+use crate::steps::Step;
 use proto_reqrep::Request;
-use sp_base::{Ctx, PipeId, Role, Tick};
+use sp_base::{Ctx, PipeId, Role};
 use sp_history::setting::Options;
-use sp_msg::Message;
-use sp_proto::{Act, Offer, Proto};
+use sp_proto::{Offer, Proto};
+use std::alloc::Global;
 use std::test::Fail;
 
 #[test]
 fn a_request_goes_out_again(rt: HostRuntime) -> Result<(), Fail> {
+    let steps = [
+        Step::Reserve(1),
+        Step::Up(1),
+        Step::Send(0, 0, &[], b"a"),
+        Step::GoesOut(0, 1, &[128, 0, 0, 0], b"a"),
+        Step::Up(2),
+        Step::Clock(1_000),
+        Step::Idle,
+        Step::Down(1),
+        Step::CanResend(0, 2),
+        Step::Resend(0, 2, &[128, 0, 0, 0], b"a"),
+        Step::Idle,
+        Step::Clock(60_999),
+        Step::Idle,
+        Step::Clock(61_000),
+        Step::CanResend(0, 2),
+        Step::Full(2),
+        Step::Idle,
+    ];
     let mut req = Request::new(rt.alloc(), Options::usual(Role::Req, 0), false)?;
-    req.reserve(1)?;
-    assert!(rt; req.up(PipeId(1)).is_ok());
-    assert!(rt;
-        req.begin(
-            op(0),
-            Ctx(0),
-            Act::Send(Message::from_body(rt.alloc(), b"a")?)
-        )
-        .is_ok()
-    );
-    assert!(rt; wins(&mut req, op(0), Some(PipeId(1)), &[128, 0, 0, 0, 97]));
-    assert!(rt; req.up(PipeId(2)).is_ok());
-    req.clock(Tick(1_000));
-    assert!(rt; req.offer() == Offer::Idle);
-    req.down(PipeId(1));
-    let again = Offer::Again {
-        ctx: Ctx(0),
-        pipe: PipeId(2),
-    };
-    assert!(rt; req.offer() == again);
-    match req.again(Ctx(0), PipeId(2)) {
-        None => assert!(rt; false),
-        Some(m) => assert!(rt; is_wire(&m, &[128, 0, 0, 0, 97])),
-    }
-    assert!(rt; req.offer() == Offer::Idle);
-    req.clock(Tick(60_999));
-    assert!(rt; req.offer() == Offer::Idle);
-    req.clock(Tick(61_000));
-    assert!(rt; req.offer() == again);
-    req.full(PipeId(2));
-    assert!(rt; req.offer() == Offer::Idle);
+    plays(&rt, rt.alloc(), &mut req, &steps);
     Ok(())
 }
 
-// A send of the message begins, and goes out where it is offered.
-fn goes_out(req: &mut Request, slot: u32, m: Message) -> Offer {
-    if req.reserve(1).is_err() || req.begin(op(slot), Ctx(0), Act::Send(m)).is_err() {
-        return Offer::Idle;
+// A send begins, and goes out where it is offered. The pipe on which it does.
+fn goes_out<M: Proto>(m: &mut M, alloc: Global, slot: u32) -> Option<u32> {
+    if m.reserve(1).is_err() || !sends(m, alloc, slot, Ctx(0), b"a") {
+        return None;
     }
-    let offer = req.offer();
-    if let Offer::Send { op, pipe } = offer {
-        let _ = req.won(op, Some(pipe));
+    match m.offer() {
+        Offer::Send { op, pipe } => {
+            let _ = m.won(op, Some(pipe));
+            Some(pipe.0)
+        }
+        _ => None,
     }
-    offer
 }
 
-fn offers_send(offer: Offer, pipe: u32) -> bool {
-    match offer {
-        Offer::Send { pipe: p, .. } => p.0 == pipe,
-        _ => false,
+// Requests go out on pipe 1, then on pipe 2 and so on; and on pipe 2 where the other one is full.
+fn take_turns<M: Proto>(m: &mut M, alloc: Global) -> bool {
+    if m.up(PipeId(1)).is_err() || m.up(PipeId(2)).is_err() {
+        return false;
     }
+    for pipe in [1, 2, 1, 2, 1, 2] {
+        m.fresh();
+        if goes_out(m, alloc, pipe) != Some(pipe) {
+            return false;
+        }
+    }
+    m.fresh();
+    m.full(PipeId(1));
+    goes_out(m, alloc, 0) == Some(2)
 }
 
 #[test]
 fn six_requests_go_to_two_pipes_in_turn(rt: HostRuntime) -> Result<(), Fail> {
     for raw in [false, true] {
         let mut req = Request::new(rt.alloc(), Options::usual(Role::Req, 0), raw)?;
-        assert!(rt; req.up(PipeId(1)).is_ok());
-        assert!(rt; req.up(PipeId(2)).is_ok());
-        for pipe in [1, 2, 1, 2, 1, 2] {
-            req.fresh();
-            let offer = goes_out(&mut req, pipe, Message::from_body(rt.alloc(), b"a")?);
-            assert!(rt; offers_send(offer, pipe));
-        }
-        req.fresh();
-        req.full(PipeId(1));
-        let offer = goes_out(&mut req, 0, Message::from_body(rt.alloc(), b"a")?);
-        assert!(rt; offers_send(offer, 2));
+        holds(&rt, take_turns(&mut req, rt.alloc()));
     }
     Ok(())
 }
 
 #[test]
 fn a_pipe_that_hangs_is_not_the_next_again(rt: HostRuntime) -> Result<(), Fail> {
+    let steps = [
+        Step::Up(1),
+        Step::Up(2),
+        Step::Send(0, 0, &[], b"a"),
+        Step::CanSend(0, 1),
+        Step::GoesOut(0, 1, &[128, 0, 0, 0], b"a"),
+        Step::Fresh,
+        Step::Clock(60_000),
+        Step::CanResend(0, 2),
+        Step::Resend(0, 2, &[128, 0, 0, 0], b"a"),
+        Step::Idle,
+        Step::Fresh,
+        Step::Clock(120_000),
+        Step::CanResend(0, 1),
+        Step::Resend(0, 1, &[128, 0, 0, 0], b"a"),
+        Step::Idle,
+        Step::Fresh,
+        Step::Clock(180_000),
+        Step::CanResend(0, 2),
+        Step::Resend(0, 2, &[128, 0, 0, 0], b"a"),
+        Step::Idle,
+    ];
     let mut req = Request::new(rt.alloc(), Options::usual(Role::Req, 0), false)?;
-    assert!(rt; req.up(PipeId(1)).is_ok());
-    assert!(rt; req.up(PipeId(2)).is_ok());
-    let offer = goes_out(&mut req, 0, Message::from_body(rt.alloc(), b"a")?);
-    assert!(rt; offers_send(offer, 1));
-    for (tick, pipe) in [(60_000, 2), (120_000, 1), (180_000, 2)] {
-        req.fresh();
-        req.clock(Tick(tick));
-        let again = Offer::Again {
-            ctx: Ctx(0),
-            pipe: PipeId(pipe),
-        };
-        assert!(rt; req.offer() == again);
-        assert!(rt; req.again(Ctx(0), PipeId(pipe)).is_some());
-        assert!(rt; req.offer() == Offer::Idle);
-    }
+    plays(&rt, rt.alloc(), &mut req, &steps);
     Ok(())
 }

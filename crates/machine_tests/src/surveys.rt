@@ -1,208 +1,201 @@
 //! Surveys: their responses, until they are over or replaced.
-ghost use Rattle.std.specs.Prelude.{◌≤◌};
-
-use crate::moves::{asks, comes, is_wire, op, sends, wins};
+use crate::checks::plays;
+use crate::steps::Step;
 use proto_survey::Survey;
-use sp_base::{Ctx, OpName, PipeId, Role, Tick};
+use sp_base::{NoMemory, Role};
 use sp_history::entry::Cause;
 use sp_history::setting::Options;
-use sp_msg::Message;
-use sp_proto::{Act, CheckError, Offer, Proto, Verb, Verdict};
+use sp_proto::{CheckError, Verb};
+use std::alloc::Global;
 use std::test::Fail;
 
-const ONE: PipeId = PipeId(1);
-
-const TWO: PipeId = PipeId(2);
-
-// The copy for the pipe has these bytes.
-fn goes<M: Proto>(m: &mut M, op: OpName, p: PipeId, bytes: &[u8]) -> bool
-    ensures { M.room m.old ≤ M.room m.new }
-{
-    match m.flood(op, p) {
-        None => false,
-        Some(message) => is_wire(&message, bytes),
-    }
+fn survey(alloc: Global, raw: bool) -> Result<Survey, NoMemory> {
+    Survey::new(alloc, Options::usual(Role::Surveyor, 0), raw)
 }
 
-// The send goes to the pipe 1 with these bytes, and is won.
-fn floods<M: Proto>(m: &mut M, op: OpName, bytes: &[u8]) -> bool
-    ensures { M.room m.old ≤ M.room m.new }
-{
-    let flood = m.offer() == (Offer::Flood { op });
-    let sent = goes(m, op, ONE, bytes);
-    m.won(op, None).is_none() && flood && sent
-}
-
-// The receive is offered a message, and gets these bytes.
-fn is_given<M: Proto>(m: &mut M, op: OpName, bytes: &[u8]) -> bool
-    ensures { M.room m.old ≤ M.room m.new }
-{
-    let offered = m.offer() == (Offer::Give { op });
-    let given = wins(m, op, None, bytes);
-    offered && given
-}
-
-// The receive is to end for this cause, and does.
-fn is_ended<M: Proto>(m: &mut M, op: OpName, cause: Cause) -> bool
-    ensures { M.room m.old ≤ M.room m.new }
-{
-    let offered = m.offer() == (Offer::Finish { op, cause });
-    m.lost(op).is_none() && offered
+// A surveyor that keeps one response for a survey.
+fn narrow(alloc: Global) -> Result<Survey, NoMemory> {
+    let mut options = Options::usual(Role::Surveyor, 0);
+    options.queue = 1;
+    Survey::new(alloc, options, false)
 }
 
 #[test]
 fn a_survey_gives_its_responses_until_it_is_over(rt: HostRuntime) -> Result<(), Fail> {
-    let alloc = rt.alloc();
-    let mut survey = Survey::new(alloc, Options::usual(Role::Surveyor, 0), false)?;
-    survey.reserve(8)?;
-    assert!(rt; survey.role() == Role::Surveyor && !survey.raw());
-    assert!(rt; survey.check(Ctx(0), Verb::Recv) == Err(CheckError::State));
-    assert!(rt; survey.check(Ctx(1), Verb::Recv) == Err(CheckError::NoEntry));
-    assert!(rt; survey.check(Ctx(0), Verb::Send).is_ok());
-    assert!(rt; survey.up(ONE).is_ok());
-    assert!(rt; survey.up(TWO).is_ok());
-    let send = op(0);
-    assert!(rt; sends(&mut survey, alloc, 0, Ctx(0), b"s"));
-    assert!(rt; survey.offer() == (Offer::Flood { op: send }));
-    assert!(rt; survey.goes_to(send, ONE) && survey.goes_to(send, TWO));
-    assert!(rt; goes(&mut survey, send, ONE, &[128, 0, 0, 0, 115]));
-    assert!(rt; goes(&mut survey, send, TWO, &[128, 0, 0, 0, 115]));
-    assert!(rt; survey.won(send, None).is_none());
-    assert!(rt; comes(&mut survey, alloc, ONE, &[128, 0, 0, 0, 97], Verdict::Fine));
-    assert!(rt; survey.wants(TWO));
-    assert!(rt; comes(&mut survey, alloc, TWO, &[128, 0, 0, 0, 98], Verdict::Fine));
-    survey.down(TWO);
-    assert!(rt; survey.check(Ctx(0), Verb::Recv).is_ok());
-    assert!(rt; asks(&mut survey, 1, Ctx(0)));
-    assert!(rt; is_given(&mut survey, op(1), b"a"));
-    assert!(rt; asks(&mut survey, 2, Ctx(0)));
-    assert!(rt; is_given(&mut survey, op(2), b"b"));
-    assert!(rt; asks(&mut survey, 3, Ctx(0)));
-    survey.clock(Tick(999));
-    assert!(rt; survey.offer() == Offer::Idle);
-    survey.clock(Tick(1_000));
-    assert!(rt; is_ended(&mut survey, op(3), Cause::SurveyOver));
-    assert!(rt; comes(&mut survey, alloc, ONE, &[128, 0, 0, 0, 99], Verdict::Fine));
-    assert!(rt; !survey.keeps(Ctx(0)));
-    assert!(rt; survey.check(Ctx(0), Verb::Recv) == Err(CheckError::State));
+    let steps = [
+        Step::Reserve(8),
+        Step::Is(Role::Surveyor, false),
+        Step::Check(0, Verb::Recv, Err(CheckError::State)),
+        Step::Check(1, Verb::Recv, Err(CheckError::NoEntry)),
+        Step::Check(0, Verb::Send, Ok(())),
+        Step::Up(1),
+        Step::Up(2),
+        Step::Send(0, 0, &[], b"s"),
+        Step::CanFlood(0),
+        Step::GoesTo(0, 1, true),
+        Step::GoesTo(0, 2, true),
+        Step::Copy(0, 1, &[128, 0, 0, 0], b"s"),
+        Step::Copy(0, 2, &[128, 0, 0, 0], b"s"),
+        Step::Ends(0),
+        Step::Frame(1, &[128, 0, 0, 0, 97]),
+        Step::Wants(2, true),
+        Step::Frame(2, &[128, 0, 0, 0, 98]),
+        Step::Down(2),
+        Step::Check(0, Verb::Recv, Ok(())),
+        Step::Receive(1, 0),
+        Step::CanGive(1),
+        Step::Gets(1, b"", b"a"),
+        Step::Receive(2, 0),
+        Step::CanGive(2),
+        Step::Gets(2, b"", b"b"),
+        Step::Receive(3, 0),
+        Step::Clock(999),
+        Step::Idle,
+        Step::Clock(1_000),
+        Step::CanFinish(3, Cause::SurveyOver),
+        Step::Loses(3),
+        Step::Frame(1, &[128, 0, 0, 0, 99]),
+        Step::Keeps(0, false),
+        Step::Check(0, Verb::Recv, Err(CheckError::State)),
+    ];
+    plays(&rt, rt.alloc(), &mut survey(rt.alloc(), false)?, &steps);
     Ok(())
 }
 
 #[test]
 fn a_newer_survey_replaces_the_older(rt: HostRuntime) -> Result<(), Fail> {
-    let alloc = rt.alloc();
-    let mut options = Options::usual(Role::Surveyor, 0);
-    options.queue = 1;
-    let mut survey = Survey::new(alloc, options, false)?;
-    survey.reserve(8)?;
-    assert!(rt; survey.up(ONE).is_ok());
-    assert!(rt; sends(&mut survey, alloc, 0, Ctx(0), b"s"));
-    assert!(rt; floods(&mut survey, op(0), &[128, 0, 0, 0, 115]));
-    assert!(rt; asks(&mut survey, 1, Ctx(0)));
-    assert!(rt; asks(&mut survey, 2, Ctx(0)));
-    assert!(rt; sends(&mut survey, alloc, 3, Ctx(0), b"t"));
-    assert!(rt; floods(&mut survey, op(3), &[128, 0, 0, 1, 116]));
-    assert!(rt; is_ended(&mut survey, op(1), Cause::Superseded));
-    assert!(rt; is_ended(&mut survey, op(2), Cause::Superseded));
-    assert!(rt; survey.offer() == Offer::Idle);
-    // A receive that is cancelled leaves the survey live; a queue of one keeps the first response.
-    assert!(rt; asks(&mut survey, 4, Ctx(0)));
-    assert!(rt; survey.lost(op(4)).is_none());
-    assert!(rt; comes(&mut survey, alloc, ONE, &[128, 0, 0, 0, 120], Verdict::Fine));
-    assert!(rt; comes(&mut survey, alloc, ONE, &[128, 0, 0, 1, 97], Verdict::Fine));
-    assert!(rt; comes(&mut survey, alloc, ONE, &[128, 0, 0, 1, 98], Verdict::Fine));
-    assert!(rt; asks(&mut survey, 5, Ctx(0)));
-    assert!(rt; is_given(&mut survey, op(5), b"a"));
-    assert!(rt; !survey.keeps(Ctx(0)));
-    assert!(rt; comes(&mut survey, alloc, ONE, &[128, 0, 0], Verdict::Malformed));
+    let steps = [
+        Step::Reserve(8),
+        Step::Up(1),
+        Step::Send(0, 0, &[], b"s"),
+        Step::CanFlood(0),
+        Step::Copy(0, 1, &[128, 0, 0, 0], b"s"),
+        Step::Ends(0),
+        Step::Receive(1, 0),
+        Step::Receive(2, 0),
+        Step::Send(3, 0, &[], b"t"),
+        Step::CanFlood(3),
+        Step::Copy(3, 1, &[128, 0, 0, 1], b"t"),
+        Step::Ends(3),
+        Step::CanFinish(1, Cause::Superseded),
+        Step::Loses(1),
+        Step::CanFinish(2, Cause::Superseded),
+        Step::Loses(2),
+        Step::Idle,
+        // A receive that is cancelled leaves the survey live; a queue of one keeps the first response.
+        Step::Receive(4, 0),
+        Step::Loses(4),
+        Step::Frame(1, &[128, 0, 0, 0, 120]),
+        Step::Frame(1, &[128, 0, 0, 1, 97]),
+        Step::Frame(1, &[128, 0, 0, 1, 98]),
+        Step::Receive(5, 0),
+        Step::CanGive(5),
+        Step::Gets(5, b"", b"a"),
+        Step::Keeps(0, false),
+        Step::Malformed(1, &[128, 0, 0]),
+    ];
+    plays(&rt, rt.alloc(), &mut narrow(rt.alloc())?, &steps);
     Ok(())
 }
 
 #[test]
 fn each_context_has_its_survey(rt: HostRuntime) -> Result<(), Fail> {
-    let alloc = rt.alloc();
-    let mut survey = Survey::new(alloc, Options::usual(Role::Surveyor, 0), false)?;
-    survey.reserve(8)?;
-    assert!(rt; survey.up(ONE).is_ok());
-    survey.open_ctx(Ctx(1))?;
-    assert!(rt; sends(&mut survey, alloc, 0, Ctx(0), b"s"));
-    assert!(rt; floods(&mut survey, op(0), &[128, 0, 0, 0, 115]));
-    survey.clock(Tick(600));
-    assert!(rt; sends(&mut survey, alloc, 3, Ctx(1), b"t"));
-    assert!(rt; floods(&mut survey, op(3), &[128, 0, 0, 1, 116]));
-    assert!(rt; comes(&mut survey, alloc, ONE, &[128, 0, 0, 1, 98], Verdict::Fine));
-    assert!(rt; asks(&mut survey, 1, Ctx(0)));
-    assert!(rt; asks(&mut survey, 2, Ctx(1)));
-    assert!(rt; is_given(&mut survey, op(2), b"b"));
-    survey.clock(Tick(1_000));
-    assert!(rt; is_ended(&mut survey, op(1), Cause::SurveyOver));
-    assert!(rt; survey.check(Ctx(1), Verb::Recv).is_ok());
-    survey.close_ctx(Ctx(1));
-    assert!(rt; survey.check(Ctx(1), Verb::Recv) == Err(CheckError::NoEntry));
+    let steps = [
+        Step::Reserve(8),
+        Step::Up(1),
+        Step::Open(1),
+        Step::Send(0, 0, &[], b"s"),
+        Step::CanFlood(0),
+        Step::Copy(0, 1, &[128, 0, 0, 0], b"s"),
+        Step::Ends(0),
+        Step::Clock(600),
+        Step::Send(3, 1, &[], b"t"),
+        Step::CanFlood(3),
+        Step::Copy(3, 1, &[128, 0, 0, 1], b"t"),
+        Step::Ends(3),
+        Step::Frame(1, &[128, 0, 0, 1, 98]),
+        Step::Receive(1, 0),
+        Step::Receive(2, 1),
+        Step::CanGive(2),
+        Step::Gets(2, b"", b"b"),
+        Step::Clock(1_000),
+        Step::CanFinish(1, Cause::SurveyOver),
+        Step::Loses(1),
+        Step::Check(1, Verb::Recv, Ok(())),
+        Step::Shut(1),
+        Step::Check(1, Verb::Recv, Err(CheckError::NoEntry)),
+    ];
+    plays(&rt, rt.alloc(), &mut survey(rt.alloc(), false)?, &steps);
     Ok(())
 }
 
 #[test]
 fn a_response_goes_to_the_first_receive_of_its_context(rt: HostRuntime) -> Result<(), Fail> {
-    let alloc = rt.alloc();
-    let mut survey = Survey::new(alloc, Options::usual(Role::Surveyor, 0), false)?;
-    survey.reserve(8)?;
-    assert!(rt; survey.up(ONE).is_ok());
-    survey.open_ctx(Ctx(1))?;
-    assert!(rt; sends(&mut survey, alloc, 0, Ctx(0), b"s"));
-    assert!(rt; floods(&mut survey, op(0), &[128, 0, 0, 0, 115]));
-    assert!(rt; sends(&mut survey, alloc, 3, Ctx(1), b"t"));
-    assert!(rt; floods(&mut survey, op(3), &[128, 0, 0, 1, 116]));
-    assert!(rt; asks(&mut survey, 1, Ctx(1)));
-    assert!(rt; asks(&mut survey, 2, Ctx(1)));
-    // No receive waits for this one.
-    assert!(rt; comes(&mut survey, alloc, ONE, &[128, 0, 0, 0, 97], Verdict::Fine));
-    assert!(rt; survey.offer() == Offer::Idle);
-    assert!(rt; comes(&mut survey, alloc, ONE, &[128, 0, 0, 1, 98], Verdict::Fine));
-    assert!(rt; is_given(&mut survey, op(1), b"b"));
-    assert!(rt; survey.offer() == Offer::Idle);
-    assert!(rt; asks(&mut survey, 4, Ctx(0)));
-    assert!(rt; is_given(&mut survey, op(4), b"a"));
-    assert!(rt; comes(&mut survey, alloc, ONE, &[128, 0, 0, 1, 99], Verdict::Fine));
-    assert!(rt; is_given(&mut survey, op(2), b"c"));
+    let steps = [
+        Step::Reserve(8),
+        Step::Up(1),
+        Step::Open(1),
+        Step::Send(0, 0, &[], b"s"),
+        Step::CanFlood(0),
+        Step::Copy(0, 1, &[128, 0, 0, 0], b"s"),
+        Step::Ends(0),
+        Step::Send(3, 1, &[], b"t"),
+        Step::CanFlood(3),
+        Step::Copy(3, 1, &[128, 0, 0, 1], b"t"),
+        Step::Ends(3),
+        Step::Receive(1, 1),
+        Step::Receive(2, 1),
+        // No receive waits for this one.
+        Step::Frame(1, &[128, 0, 0, 0, 97]),
+        Step::Idle,
+        Step::Frame(1, &[128, 0, 0, 1, 98]),
+        Step::CanGive(1),
+        Step::Gets(1, b"", b"b"),
+        Step::Idle,
+        Step::Receive(4, 0),
+        Step::CanGive(4),
+        Step::Gets(4, b"", b"a"),
+        Step::Frame(1, &[128, 0, 0, 1, 99]),
+        Step::CanGive(2),
+        Step::Gets(2, b"", b"c"),
+    ];
+    plays(&rt, rt.alloc(), &mut survey(rt.alloc(), false)?, &steps);
     Ok(())
 }
 
 #[test]
 fn a_survey_has_a_copy_for_each_pipe_that_is_up(rt: HostRuntime) -> Result<(), Fail> {
-    let alloc = rt.alloc();
-    let mut survey = Survey::new(alloc, Options::usual(Role::Surveyor, 0), false)?;
-    survey.reserve(2)?;
-    assert!(rt; survey.up(ONE).is_ok());
-    assert!(rt; survey.up(TWO).is_ok());
-    survey.down(TWO);
-    assert!(rt; sends(&mut survey, alloc, 0, Ctx(0), b"s"));
-    assert!(rt; goes(&mut survey, op(0), ONE, &[128, 0, 0, 0, 115]));
-    assert!(rt; survey.flood(op(0), TWO).is_none());
+    let steps = [
+        Step::Reserve(2),
+        Step::Up(1),
+        Step::Up(2),
+        Step::Down(2),
+        Step::Send(0, 0, &[], b"s"),
+        Step::Copy(0, 1, &[128, 0, 0, 0], b"s"),
+        Step::NoCopy(0, 2),
+    ];
+    plays(&rt, rt.alloc(), &mut survey(rt.alloc(), false)?, &steps);
     Ok(())
 }
 
 #[test]
 fn a_raw_surveyor_keeps_its_header(rt: HostRuntime) -> Result<(), Fail> {
-    let alloc = rt.alloc();
-    let mut survey = Survey::new(alloc, Options::usual(Role::Surveyor, 0), true)?;
-    survey.reserve(2)?;
-    assert!(rt; survey.up(ONE).is_ok());
-    let mut m = Message::from_body(alloc, b"q")?;
-    m.header_append_u32(0x8000_002a)?;
-    assert!(rt; survey.begin(op(0), Ctx(0), Act::Send(m)).is_ok());
-    assert!(rt; floods(&mut survey, op(0), &[128, 0, 0, 42, 113]));
-    assert!(rt; survey.check(Ctx(0), Verb::Recv).is_ok());
-    assert!(rt; survey.check(Ctx(3), Verb::Send) == Err(CheckError::NotSupported));
-    assert!(rt; comes(&mut survey, alloc, ONE, &[128, 0, 0, 42, 97], Verdict::Fine));
-    assert!(rt; !survey.wants(ONE) && survey.wants(TWO));
-    assert!(rt; asks(&mut survey, 3, Ctx(0)));
-    match survey.won(op(3), None) {
-        None => assert!(rt; false),
-        Some(m) => {
-            assert!(rt; m.header() == [128, 0, 0, 42].as_slice() && m.body() == b"a".as_slice())
-        }
-    }
-    assert!(rt; comes(&mut survey, alloc, ONE, &[128, 0, 0], Verdict::Malformed));
+    let steps = [
+        Step::Reserve(2),
+        Step::Up(1),
+        Step::Send(0, 0, &[0x8000_002a], b"q"),
+        Step::CanFlood(0),
+        Step::Copy(0, 1, &[128, 0, 0, 42], b"q"),
+        Step::Ends(0),
+        Step::Check(0, Verb::Recv, Ok(())),
+        Step::Check(3, Verb::Send, Err(CheckError::NotSupported)),
+        Step::Frame(1, &[128, 0, 0, 42, 97]),
+        Step::Wants(1, false),
+        Step::Wants(2, true),
+        Step::Receive(3, 0),
+        Step::Gets(3, &[128, 0, 0, 42], b"a"),
+        Step::Malformed(1, &[128, 0, 0]),
+    ];
+    plays(&rt, rt.alloc(), &mut survey(rt.alloc(), true)?, &steps);
     Ok(())
 }
