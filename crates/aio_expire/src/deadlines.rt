@@ -1,4 +1,4 @@
-// The deadlines of the slots' operations, in order.
+//! The deadlines of the slots' operations, in order.
 ghost use Rattle.std.specs.Prelude.{ℕ, ◌≡◌, ◌↔◌, ◌+◌, ◌<◌, ◌≤◌, Some, None, [], ◌∷◌, ◌++◌, length, map, drop, take, replicate, vec_capacity, IsTrue, IfOk};
 ghost use Rattle.aio_expire.specs.Schedule.{IsSchedule, IsOrdered, AreTimed, IsPlace, IsEntryOf, count_of, is_before, is_due, due_of, later_than, others_than, put_in, op_of};
 

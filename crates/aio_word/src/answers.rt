@@ -1,4 +1,4 @@
-// What the calls answer.
+//! What the calls return.
 use crate::phase::Phase;
 
 /// A slot whose generations are used up.

@@ -1,5 +1,5 @@
-// The calls, as an operation lives: it begins, the core and the callers race to end it, and the core finds how it
-// ended. Then the seats are joined.
+//! The calls, as an operation lives: it begins, the core and the callers race to end it, and the core finds how it
+//! ended. Then the seats are joined.
 ghost use Rattle.std.specs.Prelude.{◌≡◌, ◌<◌, true, IfOk, MatchResult};
 ghost use Rattle.aio_word.specs.declared.phase.Phase.TheVariants.{Cancelled, Expired};
 ghost use Rattle.aio_word.specs.Word.{is_core_end, is_call_end, is_decided};

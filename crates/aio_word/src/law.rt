@@ -1,4 +1,4 @@
-// What the rule of the words gives.
+//! What the rule of the words gives.
 ghost use Rattle.std.specs.Prelude.{◌≡◌, ℕ, ◌<◌, true};
 ghost use Rattle.atomic_table.specs.Table.{State};
 ghost use Rattle.aio_word.specs.declared.rule.Entry.{Entry};

@@ -1,3 +1,5 @@
+//! The phases of an operation, from its begin to its end.
+
 /// How an operation stands. It is numbered so in a word, from 0.
 #[derive(Clone, Copy, PartialEq, Eq, Debug)]
 pub enum Phase {

@@ -1,4 +1,4 @@
-// A word is one number: the generation times 2^24, plus who ended it times 2^8, plus the number of its phase.
+//! A word is one number: the generation times 2^24, plus who ended it times 2^8, plus the number of its phase.
 ghost use Rattle.std.specs.Prelude.{◌≡◌, ◌^◌, ◌<◌};
 ghost use Rattle.aio_word.specs.Word.{code, word_of, generation_of, by_of, phase_of};
 

@@ -1,3 +1,4 @@
+//! Addresses of each transport, right and wrong, with the place of each fault.
 use sp_base::{Addr, AddrError, Host};
 use std::alloc::Global;
 use std::test::Fail;

@@ -1,3 +1,4 @@
+//! Numbers of errors, and of listeners with the schemes of their addresses.
 use sp_base::{AddrError, ListenerSchemes, NoMemory, Scheme, SpError};
 use std::test::Fail;
 

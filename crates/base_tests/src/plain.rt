@@ -1,3 +1,4 @@
+//! Numbers of roles, the generator, bytes, greetings, and the outside in memory: files, links and nets.
 ghost use Rattle.std.specs.Prelude.{◌≡◌, true};
 ghost use Rattle.sp_base.specs.Addresses.{is_dialable};
 

@@ -1,6 +1,5 @@
 //! How fast nngcat's run goes over a link in memory: a pull that prints, and a push that sends; and how fast bodies are
-//! printed. What is printed is the
-//! same at any speed: what each run came to. The rates go to standard error.
+//! printed. What is printed is the same at any speed: what each run came to. The rates go to standard error.
 #![tactic(auto)]
 
 mod texts;

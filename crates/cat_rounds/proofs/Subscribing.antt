@@ -202,7 +202,7 @@ subscribed s s' p u took was planned = go took.said.2
 pub has_zero : (s : SingleView) (p : Player) → IsBefore s p → has (ctxs (past_of s.seen)) 0 ≡ true
 has_zero s p was = ap (λ (cs : List ℕ). has cs 0) (ctx_zero (play_of p.script) (past_of s.seen) (subst (λ (past : List Entry). IsTrue (each (keeps_topics (play_of p.script)) past)) (open_is (past_of s.seen) was.play.is_open) was.play.so_far.topics))
 
--- so a topic isn't refused for want of it
+-- so a topic isn't refused because it is missing
 pub no_entry : (s s' : SingleView) (p : Player) (u : List ℕ) (why : TopicError) → why ≡ topic.NoEntry → IsBefore s p → TookOne (λ z h t. SubscribedBy (Err why) z h t 0 u) s s' → ⊥
 no_entry s s' p u why is was took = refused (subst (λ (e : TopicError). AreSettling took.turn.entries × RefusedTopic true e s.setting (past_of s.seen) 0 u) is took.said)
   where

@@ -1,9 +1,17 @@
 //! A plan is played on one socket: the rounds of a run, from the first listen to the last link that is given back.
 //!
 //! A round is one turn of the pace. It ticks, has one turn of the ends, and then serves the pipes and goes on with the
-//! play, again and again while messages move. `player` has the play: the operation that is under way, what was counted,
-//! and what is next. `game` has the parts of a run with what stands between two rounds, `topics` puts a sub's topics on
-//! before the first round, `rounds` says what a round does, and `whole` has the beginning and the end.
+//! play, again and again while messages move.
+//!
+//! Who owns what: `play` is handed the machine, which goes into a socket with this one caller. A `Game` owns the parts
+//! of a run: the socket, the ends with all links that aren't pipes yet, the player, and the names within the process.
+//! Net, pace and sink are the caller's, and are lent to each round. At the end every link is back with the net, and
+//! what is left is a `CatEnd`: the status and the record.
+//!
+//! `player` has the play: the operation that is under way, what was counted, and what is next (`next`). `game` has the
+//! parts of a run with what stands between two rounds, `topics` puts a sub's topics on before the first round, `rounds`
+//! says what a round does, and `whole` has the beginning and the end. To read: `whole`, then `rounds`, then `player`;
+//! what stands between two rounds is `RunStands` (`specs/Going`).
 #![tactic(auto)]
 
 mod game;

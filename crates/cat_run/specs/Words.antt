@@ -1,4 +1,4 @@
--- How a run answers to words that have no plan.
+-- What a run returns for words that have no plan.
 use Rattle.std.specs.Prelude.{◌≡◌, ◌⊎◌, ℕ, List}
 use Rattle.cat_text.specs.Plans.{IsPlanned, IsUsage}
 use Rattle.cat_play.specs.declared.ends.Status.{Status}

@@ -456,8 +456,7 @@ pub struct RealPace<R: Clock + Drop> {
 }
 
 impl<R: Clock + Drop> RealPace<R> {
-    /// A pace whose ticks count from now on. Fails where the clock or the machine's readiness does, or for want of
-    /// memory.
+    /// A pace whose ticks count from now on. Fails where the clock or the machine's readiness does, or out of memory.
     pub fn new<N: std::net::Net>(rt: R, net: &N, alloc: Global) -> io::Result<RealPace<R>>
         ensures { IfOk result (λ p. (p.left ≡ 2 ^ 64 - 1) × (p.over ≡ false)) }
     {

@@ -1,3 +1,4 @@
+//! A net in memory by itself, and runs whose links are lost, refused or given back.
 use cat_fakes::{ALL, HELLO_80, HELLO_81, PULL, TURNS, link_of, outgoing, play, words};
 use cat_run::{Status, run};
 use sp_base::{Addr, Host, Link, LinkRead, Linked, Listened, Net};

@@ -1,3 +1,5 @@
+//! Runs that come to nothing: wrong words, a listen or an output that fails, a pace that is over; and what is said of
+//! each status.
 ghost use Rattle.sp_fakes.specs.Nets.{net_view};
 
 use cat_fakes::{ALL, HELLO_80, Outside, PULL, TURNS, incoming, link_of, play, unlinked, words};

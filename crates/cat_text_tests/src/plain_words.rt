@@ -378,7 +378,7 @@ fn pushed(list: &mut Vec<String>, alloc: Global, word: &str) -> Result<(), NoMem
     Ok(())
 }
 
-/// The front with a value behind it, if one is under way.
+/// The prefix with a value behind it, if one is under way.
 fn valued(alloc: Global, front: &[String], value: usize) -> Result<Vec<String>, NoMemory> {
     let mut list = Vec::new(alloc);
     for word in front {
@@ -448,7 +448,7 @@ fn is_right_with_value(alloc: Global, front: &[String], value: usize) -> Result<
     }
 }
 
-/// Whether the words are the beginning of some right list.
+/// Whether the words are a prefix of some right list.
 pub fn is_front(alloc: Global, front: &[String]) -> Result<bool, NoMemory> {
     for value in 0..5usize {
         if is_right_with_value(alloc, front, value)? {
@@ -458,7 +458,7 @@ pub fn is_front(alloc: Global, front: &[String]) -> Result<bool, NoMemory> {
     Ok(false)
 }
 
-/// How many words from the front are the beginning of some right list.
+/// How many words the longest prefix has with which some right list begins.
 pub fn stop_of(alloc: Global, words: &[String]) -> Result<usize, NoMemory> {
     let mut most: usize = 0;
     for n in 0..words.len() {

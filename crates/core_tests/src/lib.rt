@@ -1,4 +1,4 @@
-//! Tests of cores over machines and wires in memory, with exact answers, numbers, totals and bytes.
+//! Tests of cores over machines and wires in memory, with exact results, numbers, totals and bytes.
 #![tactic(auto)]
 
 #[cfg(test)]

@@ -201,7 +201,7 @@ fn is_gone(rt: &impl Abort, outcome: Option<Outcome>, why: Cause, who: u32) {
     assert!(rt; gone(rt, outcome, why, who).is_none());
 }
 
-// This operation alone falls due.
+// This operation alone is due.
 fn are_due(rt: &impl Abort, names: &[OpName], op: OpName) {
     assert_eq!(rt; names.len(), 1);
     match names.first() {

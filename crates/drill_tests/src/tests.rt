@@ -1,4 +1,4 @@
-//! What drills print.
+//! What drills print, and that their tasks go through their gates and meet there.
 ghost use Rattle.std.specs.Prelude.{◌≡◌};
 
 use cat_drill::{Gate, OpenGate, drill};

@@ -1,4 +1,4 @@
-//! The wire.
+//! A wire of any of the three transports: each call is that of the wire inside.
 ghost use Rattle.std.specs.Prelude.{◌≡◌, true};
 ghost use Rattle.sp_msg.specs.Wires.{AfterPull, AfterRoom, AfterPut, AfterFlush, AfterShut, may_flush};
 ghost use Rattle.end_wire.specs.EndWires.{shown, Stands, Pulled, Roomed, Flushed, Puts, Shuts, IsOverLanes, IsLinkUnder};

@@ -7,7 +7,7 @@ use Rattle.sp_spec.specs.SpTcp.{hello, IsBadGreeting}
 pub hello_long : (n : ℕ) → length (hello n) ≡ 8
 hello_long n = refl
 
--- a front of a list is taken from it
+-- a prefix of a list is taken from it
 front_taken : (xs ys : List ℕ) → IsPrefix xs ys → take (length xs) ys ≡ xs
 front_taken xs ys f = ap (take (length xs)) f.1 ∙ take-append-le (length xs) xs f.0 (omega arith) ∙ take_all (length xs) xs (omega arith)
 

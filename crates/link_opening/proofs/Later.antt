@@ -69,7 +69,7 @@ module _ (came more : List ℕ) where
 front_later : (xs came more : List ℕ) → IsPrefix xs came → IsPrefix xs (came ++ more)
 front_later xs came more f = (f.0 ++ more, ap (λ (v : List ℕ). v ++ more) f.1 ∙ append_assoc xs f.0 more)
 
--- of two lists that go on to one, the shorter is a front of the longer
+-- of two lists that go on to one, the shorter is a prefix of the longer
 front_of : (xs ys more rest : List ℕ) → ys ++ more ≡ xs ++ rest → length xs ≤ length ys → IsPrefix xs ys
 front_of xs ys more rest e fits =
     let is : take (length xs) ys ≡ xs = sym (take-append-le (length xs) ys more fits) ∙ ap (take (length xs)) e ∙ take-append-le (length xs) xs rest (omega arith) ∙ take_all (length xs) xs (omega arith) in

@@ -1,4 +1,4 @@
-//! Worked openings.
+//! Links in memory that are opened by a greeting, by serving and by asking, with exact bytes.
 ghost use Rattle.std.specs.Prelude.{IfOk};
 ghost use Rattle.sp_base.specs.Steps.{IsNew};
 ghost use Rattle.sp_fakes.specs.MemLinks.{link_view};

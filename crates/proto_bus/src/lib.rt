@@ -1,9 +1,17 @@
 //! The machine of bus (nng_bus(7)), cooked and raw.
 //!
-//! A send goes to every pipe that is up and has room, in the turn of its begin. It takes a copy for each of them then, so
-//! that going out takes no memory. Raw, a header of 4 bytes or more leaves out the pipe that its first word names, so that
-//! a message which is sent as it was received doesn't go back. Frames are kept, at most `queue` in all, whose places are
-//! taken when the bus is made; a further one is discarded. Raw, the header of what came is the id of its pipe.
+//! A send goes to every pipe that is up and has room, in the turn of its begin. It takes a copy for each of them then,
+//! so that going out takes no memory. Raw, a header of 4 bytes or more leaves out the pipe that its first word names,
+//! so that a message which is sent as it was received doesn't go back. Frames are kept, at most `queue` in all, whose
+//! places are taken when the bus is made; a further one is discarded. Raw, the header of what came is the id of its
+//! pipe.
+//!
+//! Who owns what: a `Bus` owns what it keeps, the messages of the sends that wait (`Pending`), and the copies of the
+//! send that is going out. Of its pipes it knows only how many are up: the core asks for each by `goes_to`, and hands
+//! it its copy.
+//!
+//! To read: `Ties` of `specs/Buses`, then the calls of `Proto` below. What a flood is to the copies stands in
+//! `proto_floods`.
 #![tactic(auto)]
 
 ghost use Rattle.std.specs.Prelude.{◌≡◌, ◌<◌, ◌≤◌, ◌+◌, ◌∷◌, ◌++◌, ℕ, List, [], IfOk, IsOk, IfErr, OnOk, OnErr, Option, true, find, filter, length, is_some, Some, None, if◌then◌else◌, nat_lt};
@@ -29,7 +37,7 @@ use sp_msg::Message;
 use sp_proto::{Act, CheckError, Offer, Proto, UpFault, Verb, Verdict};
 use std::alloc::Global;
 
-/// A bus: it sends and receives.
+/// A bus (nng_bus(7)), cooked or raw: it sends and receives.
 #[derive(Drop)]
 pub struct Bus {
     alloc: Global,
@@ -156,7 +164,7 @@ impl Proto for Bus {
         true
     }
 
-    /// It has the places of all that it keeps, so it never lacks memory for a frame.
+    /// It has the places of all that it keeps, so it is never out of memory for a frame.
     fn frame(&mut self, p: PipeId, m: Message) -> Verdict
         requires { m.header ≡ [] }
         ensures kept { (t : Moment) → Lawful (also t (Frame p m.body)) → Ties self.old t → Frames (Ties self.new) result t p m.body }

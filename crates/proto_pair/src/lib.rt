@@ -1,8 +1,14 @@
 //! The machine of pair (nng_pair(7)), version 0 of its protocol, cooked and raw, which differ in nothing here.
 //!
 //! At most one pipe is up. It keeps one message and wants no further frame before a receive got that, so one place
-//! suffices and no frame lacks memory. What it keeps stays when the pipe goes down. A send goes to the pipe when that has
-//! room, in the order of the begins; its body alone goes out.
+//! suffices and it is never out of memory for a frame. What it keeps stays when the pipe goes down. A send goes to the
+//! pipe when that has room, in the order of the begins; its body alone goes out.
+//!
+//! Who owns what: a `Pair` owns the message that is kept and, in its `Pending`, those of the sends that wait. Of its
+//! pipe it knows the number, and whether it was found full in this turn; the wire is the core's.
+//!
+//! It is the smallest machine, so whoever writes one reads it first. `Ties` of `specs/Pairs` says for which moments of
+//! a history a pair stands. Each call of `Proto` below leads from one moment to the next.
 #![tactic(auto)]
 
 ghost use Rattle.std.specs.Prelude.{◌≡◌, ◌≢◌, ◌+◌, ◌<◌, ◌≤◌, ℕ, List, [], Option, IfOk, IfErr, OnOk, OnErr, Err, IsTrue};
@@ -32,7 +38,7 @@ struct Port {
     is_full: bool,
 }
 
-/// A pair: it sends and receives.
+/// A pair (nng_pair(7)) of version 0, cooked or raw: it sends and receives.
 #[derive(Drop)]
 pub struct Pair {
     raw: bool,
@@ -135,7 +141,7 @@ impl Proto for Pair {
         self.pending.reserve(slots)
     }
 
-    /// It has the place of the pipe, so it never lacks memory for one.
+    /// It has the place of the pipe, so it is never out of memory for one.
     fn up(&mut self, p: PipeId) -> Result<(), UpFault>
         ensures up { OnOk result ((t : Moment) (place : ℕ) (name : WireName) → NoFlood t → Takes (Ties self.old) (Ties self.new) t (Up p place name)) }
         ensures alone { OnOk result ((t : Moment) → Lawful t → Ties self.old t → IsTrue (is_pair t.z.role) → up (past t) ≡ []) }
@@ -164,7 +170,7 @@ impl Proto for Pair {
         self.kept.is_none()
     }
 
-    /// It has the place of the message, so it never lacks memory for a frame.
+    /// It has the place of the message, so it is never out of memory for a frame.
     fn frame(&mut self, p: PipeId, m: Message) -> Verdict
         requires { m.header ≡ [] }
         ensures kept { (t : Moment) → Lawful (also t (Frame p m.body)) → Ties self.old t → Frames (Ties self.new) result t p m.body }
@@ -189,7 +195,7 @@ impl Proto for Pair {
         Ok(())
     }
 
-    /// It has the place of the operation, so it never lacks memory for one.
+    /// It has the place of the operation, so it is never out of memory for one.
     fn begin(&mut self, op: OpName, c: Ctx, act: Act) -> Result<(), Message>
         requires { 0 < places_left self.old }
         ensures begun { OnOk result ((t : Moment) (deadline : Option ℕ) → NoFlood t → Takes (Ties self.old) (Ties self.new) t (Begin op t.caller c (entry_act act) deadline)) }

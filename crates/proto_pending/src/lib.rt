@@ -1,7 +1,16 @@
 //! The operations that a machine has pending: its receives and its sends, each in the order of their begins.
 //!
 //! A machine that serves receives in their order and sends in theirs asks for the first of each, and ends one, which is
-//! found at once where it is the first. The places are taken beforehand, so that a begin takes no memory.
+//! found at once where it is the first. One that ends elsewhere is found by a search. The places are taken beforehand,
+//! by `reserve`, so that a begin takes no memory.
+//!
+//! Who owns what: the machine owns its `Pending`, and this owns the message of each send, as it was begun, until the
+//! send ends; then it is handed out. Names of operations are the core's, and nothing here decides who ended one.
+//!
+//! `Pending` has all calls. To read: `specs/Waits` first, where `Holds p ss` says that just the operations of a
+//! history's `pend` are pending; then the calls in the order of an operation's life (`reserve`, `push`,
+//! `first_receive`, `first_send`, `end`). `proofs/Firsts` says what the first of each is to a history; a new machine
+//! cites it.
 #![tactic(auto)]
 
 ghost use Rattle.std.specs.Prelude.{◌≡◌, ◌+◌, ◌<◌, ◌≤◌, ℕ, List, [], ◌∷◌, ◌++◌, true, false, Some, find, filter, length, option_to_list, IfNone, OnOk};

@@ -139,7 +139,7 @@ pub fn sends<P: Proto, W: Wire, R: Wait + Abort>(
     sent(rt, driver.begin_send(rt, c, m, None))
 }
 
-/// The moment is this tick. How many operations fall due.
+/// The moment is this tick. How many operations are due then.
 pub fn due<P: Proto, W: Wire, R: Wait + Abort>(
     rt: &R,
     alloc: Global,

@@ -1,4 +1,4 @@
-//! Tests of cores over the machines of each role and wires in memory, with exact answers, totals and bytes.
+//! Tests of cores over the machines of each role and wires in memory, with exact results, totals and bytes.
 #![tactic(auto)]
 
 #[cfg(test)]

@@ -12,7 +12,7 @@ use std::alloc::Global;
 use std::process::Abort;
 use std::sync::Wait;
 
-/// It gives one frame or none, answers the same each time that it is asked for room, and keeps what is put.
+/// It gives one frame or none, returns the same each time that it is asked for room, and keeps what is put.
 #[derive(Drop)]
 pub struct OutWire {
     alloc: Global,
@@ -20,7 +20,7 @@ pub struct OutWire {
     frame: Option<Bytes>,
     /// It ends after that.
     ends: bool,
-    /// What it answers where it is asked for room.
+    /// What it returns where it is asked for room.
     room: Room,
     /// How often it was asked for room.
     asked: u32,

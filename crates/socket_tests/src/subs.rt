@@ -1,4 +1,4 @@
-//! What a sub's socket answers of its contexts and topics.
+//! What a sub's socket returns of its contexts and topics.
 ghost use Rattle.std.specs.Prelude.{◌≡◌};
 ghost use Rattle.sp_proto.specs.Kinds.{Kind, Starts};
 ghost use Rattle.proto_pubsub.specs.Subs.{Ties as SubTies};

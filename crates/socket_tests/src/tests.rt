@@ -89,7 +89,7 @@ fn a_receive_times_out_at_its_deadline(rt: HostRuntime) {
     assert_eq!(rt; finish(&rt, alloc, socket, list).len(), 0);
 }
 
-// A name that falls due after it was cancelled is a loss of the caller that ticks.
+// A name that is due after it was cancelled is a loss of the caller that ticks.
 #[test]
 fn a_tick_loses_what_was_cancelled(rt: HostRuntime) {
     let alloc = rt.alloc();

@@ -130,7 +130,7 @@ fn receive_now_one<P: Proto, W: Wire, R: Wait + Abort>(
     }
 }
 
-// So many times serves, and then receives at once; answers how many messages it has received.
+// So many times serves, and then receives at once; returns how many messages it has received.
 fn receive_now<P: Proto, W: Wire, R: Wait + Abort>(
     rt: &R,
     socket: &Socket<P, W>,

@@ -1,4 +1,4 @@
--- What is found in a past, and words of the laws about it. All of it is own.
+-- What is found in a past, and words of the laws about it.
 use Rattle.std.specs.Prelude.{◌≡◌, ℕ, zero, suc, ◌-◌, ◌^◌, ◌≤◌, nat_le, nat_lt, Bool, true, false, not, ◌||◌, ⊤, if◌then◌else◌, List, [], ◌∷◌, ◌++◌, Option, Some, None}
 use Rattle.std.specs.List.{list_all}
 use Rattle.sp_base.specs.declared.OpName.{OpName}

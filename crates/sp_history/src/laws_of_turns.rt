@@ -42,7 +42,7 @@ pub fn the_last_of_a_slot_was_begun()
     ensures { (z : Setting) (history : List (Turn Entry)) (slot : ℕ) → Legal z history → 0 < begins (past_of history) slot → 1 ≤ begin_count (past_of history) (record { slot = slot; generation = begins (past_of history) slot }) }
 {}
 
-/// A begin is refused for want of a slot just where each slot is taken.
+/// A begin is refused because no slot is free just where each slot is taken.
 pub fn slots_are_taken()
     ensures means { (z : Setting) (past : List Entry) → has_no_slot z past ≡ true → (slot : ℕ) → slot < z.slots → is_taken past slot ≡ true }
     ensures enough { (z : Setting) (past : List Entry) → ((slot : ℕ) → slot < z.slots → is_taken past slot ≡ true) → has_no_slot z past ≡ true }

@@ -45,7 +45,7 @@ split x (y ∷ ys) (inr m) d =
     let no : is_named x.op y ≡ false = unnamed x y (apart (map slot_of ys) y.op.slot x.op.slot d.0 (among_in x ys m)) in
     record { fs = y ∷ r.fs; gs = r.gs; is = ap (λ (zs : List Pending). y ∷ zs) r.is; left = rw no (ap (λ (zs : List Pending). y ∷ zs) r.left) }
 
--- ---- Lines
+-- ---- Buckets
 
 module _ (p : Pending → Bool) where
   not_in_filter : (xs : List Pending) (i : ℕ) → NotIn i (map slot_of xs) → NotIn i (map slot_of (filter p xs))
@@ -140,7 +140,7 @@ module _ (slots : ℕ) (places : List (Option Pending)) where
   all_placed [] h = refl
   all_placed (x ∷ xs) h = ap (λ (o : Option Pending). with_one o (placed places (map slot_of xs))) h.1 ∙ ap (λ (zs : List Pending). x ∷ zs) (all_placed xs h.2)
 
-  -- the operation of a slot in a line
+  -- the operation of a slot in a bucket
   on_line : (n i : ℕ) (xs : List Pending) → ArePlaced slots places xs → IsIn i (map slot_of (in_line slots n xs)) → (x : Pending) × (place_at places i ≡ Some x) × (line_of slots x.ctx ≡ n) × (i < slots)
   on_line n i [] h m = absurd m
   on_line n i (x ∷ xs) h m = go (λ k. on_line n i xs h.2 k) (line_of slots x.ctx == n) refl m
@@ -156,7 +156,7 @@ module _ (slots : ℕ) (places : List (Option Pending)) where
       let y = on_line m j xs h b in
       o (sym x.2 ∙ ap (λ (z : Pending). line_of slots z.ctx) (same_Some x.0 y.0 (sym x.1 ∙ ap (place_at places) s ∙ y.1)) ∙ y.2)
 
-  -- a member of one line's ring is none of another's
+  -- a member of one bucket's ring is none of another's
   elsewhere : (n m i : ℕ) (xs : List Pending) → n ≢ m → ArePlaced slots places xs → IsIn i ((slots + n) ∷ map slot_of (in_line slots n xs)) → NotIn i ((slots + m) ∷ map slot_of (in_line slots m xs))
   elsewhere n m i xs o h (inl s) =
       ((λ t. o (omega (arith, s, t))), subst (λ (k : ℕ). NotIn k (map slot_of (in_line slots m xs))) s (head_out (slots + n) (in_line slots m xs) (omega arith) (placed_filter (λ x. line_of slots x.ctx == m) slots places xs h)))
@@ -201,7 +201,7 @@ module _ (slots : ℕ) (places more : List (Option Pending)) (o l p q : Rings) (
         lines_before = ap length pl.1 ∙ length-set (set l.before.items (slots + line_of slots x.ctx) i) i (at l.before.items (slots + line_of slots x.ctx)) ∙ length-set l.before.items (slots + line_of slots x.ctx) i ∙ h.lines_before;
       }
     where
-      -- the last of its line
+      -- the last of its bucket
       in_ring : IsIn (at l.before.items (slots + line_of slots x.ctx)) ((slots + line_of slots x.ctx) ∷ map slot_of (in_line slots (line_of slots x.ctx) xs))
       in_ring = last_in l.after.items l.before.items (slots + line_of slots x.ctx) (map slot_of (in_line slots (line_of slots x.ctx) xs)) (slots + line_of slots x.ctx) (h.in_lines (line_of slots x.ctx) lx)
 

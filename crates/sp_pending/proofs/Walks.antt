@@ -1,4 +1,4 @@
--- A walk along a line: what is left of it, and what is left when an operation is taken out.
+-- A walk along a bucket: what is left of it, and what is left when an operation is taken out.
 use Rattle.std.proofs.Common.{◌≡◌, refl, ap, sym, ◌∙◌, subst, List, [], ◌∷◌, ◌++◌, ℕ, Bool, true, false, cond, Option, Some, inl, inr}
 use Rattle.std.specs.Prelude.{map, filter, not, ◌≢◌, ◌==◌}
 use Rattle.sp_base.specs.declared.OpName.{OpName}
@@ -72,7 +72,7 @@ step x xs m d =
       gone_in = subst (λ (o : Option Pending). IsNextIn o (others_than x.op xs)) (sym next) (subst (IsNextIn (first_of s.gs)) (sym s.left) (next_there s.fs s.gs));
     }
 
--- ---- In a line of all
+-- ---- In the list of all
 
 module _ (p q : Pending → Bool) where
   filters : (xs : List Pending) → filter p (filter q xs) ≡ filter q (filter p xs)
@@ -97,7 +97,7 @@ among_line slots n x (y ∷ ys) m = go (line_of slots y.ctx == n) refl m (λ k. 
     go true e (inr k) again = let r = again k in (inr r.0, r.1)
     go false e k again = let r = again k in (inr r.0, r.1)
 
--- the step in the line of the operation
+-- the step in the bucket of the operation
 pub line_step : (slots n : ℕ) (x : Pending) (xs : List Pending) → IsAmong x (in_line slots n xs) → Differ (map slot_of xs) → Step x (in_line slots n xs)
 line_step slots n x xs m d = step x (in_line slots n xs) m (differ_filter (λ y. line_of slots y.ctx == n) xs d)
 

@@ -17,11 +17,11 @@ is_named op x = (x.op.slot == op.slot) && (x.op.generation == op.generation)
 abbrev pub slot_of : Pending → ℕ
 slot_of x = x.op.slot
 
--- the line of the context
+-- the bucket of the context
 abbrev pub line_of : ℕ → ℕ → ℕ
 line_of slots c = c % slots
 
--- those of a line
+-- those of a bucket
 abbrev pub in_line : ℕ → ℕ → List Pending → List Pending
 in_line slots n xs = filter (λ x. line_of slots x.ctx == n) xs
 
@@ -44,12 +44,12 @@ abbrev pub from_on : OpName → List Pending → List Pending
 from_on op [] = []
 from_on op (x ∷ xs) = if is_named op x then x ∷ xs else from_on op xs
 
--- what is left of a line, from the next one on
+-- what is left of a bucket, from the next one on
 abbrev pub left_of : Option Pending → List Pending → List Pending
 left_of None xs = []
 left_of (Some x) xs = from_on x.op xs
 
--- the next one, if any, stands in the line
+-- the next one, if any, stands in the bucket
 abbrev pub IsNextIn : Option Pending → List Pending → Type 0
 IsNextIn None xs = Unit {0}
 IsNextIn (Some x) xs = IsAmong x xs
@@ -99,7 +99,7 @@ placed places (i ∷ is) = with_one (place_at places i) (placed places is)
 abbrev pub shown : ℕ → List (Option Pending) → Rings → List Pending
 shown slots places order = placed places (walk order.after.items slots slots slots)
 
--- these are kept, in rings: all of them in one, and each line in one of its own
+-- these are kept, in rings: all of them in one, and each bucket in one of its own
 pub record Keeps (slots : ℕ) (places : List (Option Pending)) (order lines : Rings) (items : List Pending) : Type 0 where
   pub some : 0 < slots
   pub few : slots ≤ 4096

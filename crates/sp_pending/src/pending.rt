@@ -1,7 +1,8 @@
 //! The operations that are pending: all of them in the order of their begins, and those of each context.
 //!
-//! A context has a line, that of its number's remainder by the slots. Contexts are numbered one after the other, so two
-//! that are open share one only where as many contexts as slots were opened from the one to the other.
+//! Contexts are in buckets (`line` in names here): a context's bucket is its number's remainder by the slots. Contexts
+//! are numbered one after the other, so two that are open share one only where as many contexts as slots were opened
+//! from the one to the other.
 ghost use Rattle.std.specs.Prelude.{◌≡◌, ◌<◌, ◌≤◌, ◌+◌, ◌==◌, ◌++◌, ◌∷◌, [], map, length, replicate, None, IfOk};
 ghost use Rattle.sp_pending.specs.declared.pending.Pending.{Pending as PendingType};
 ghost use Rattle.sp_pending.specs.Pendings.{NotIn, Differ, IsAmong, FindsOn, slot_of, others_than, in_line, line_of, first_of, behind};
@@ -45,7 +46,7 @@ pub struct PendingOps {
     places: Vec<Option<Pending>>,
     // All slots of pending operations, in the order of their begins, behind the place `slots`.
     order: Rings,
-    // Those of each line, behind the place `slots` and its number.
+    // Those of each bucket, behind the place `slots` and its number.
     lines: Rings,
 }
 
@@ -84,7 +85,7 @@ impl PendingOps {
         })
     }
 
-    // The place before the first of the context's line.
+    // The place before the first of the context's bucket.
     fn head_of(&self, ctx: Ctx) -> u32
         ensures head { result ≡ self.now.slots + line_of self.now.slots ctx }
         ensures line { line_of self.now.slots ctx < self.now.slots }
@@ -126,7 +127,7 @@ impl PendingOps {
         self.places[slot as usize]
     }
 
-    /// The first in the line of the context.
+    /// The first in the bucket of the context.
     pub fn first_in_line(&self, ctx: Ctx) -> Option<Pending>
         ensures { result ≡ first_of (in_line self.now.slots (line_of self.now.slots ctx) self.now.items) }
     {
@@ -138,7 +139,7 @@ impl PendingOps {
         self.places[slot as usize]
     }
 
-    /// The next in the line of the pending operation.
+    /// The next in the bucket of the pending operation.
     pub fn next_in_line(&self, x: &Pending) -> Option<Pending>
         requires { IsAmong x.now self.now.items }
         ensures apart { Differ (map slot_of self.now.items) }

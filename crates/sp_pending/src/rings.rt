@@ -1,4 +1,4 @@
-//! Rings of places.
+//! Rings of places: doubly linked lists that end where they began, by the numbers of their places.
 ghost use Rattle.std.specs.Prelude.{◌≡◌, ◌<◌, ℕ, length, IfOk};
 ghost use Rattle.sp_pending.specs.Rings.{at, AreAlone, PutsLast, TakesOut};
 

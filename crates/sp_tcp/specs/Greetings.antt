@@ -1,4 +1,4 @@
--- What a greeting answers to the bytes that were fed.
+-- What a greeting returns for the bytes that were fed.
 use Rattle.std.specs.Prelude.{◌≡◌, ◌≤◌, ◌<◌, ◌++◌, ℕ, Bool, true, false, List, length, take}
 use Rattle.sp_spec.specs.Outside.{IsPrefix}
 use Rattle.sp_spec.specs.SpTcp.{hello}

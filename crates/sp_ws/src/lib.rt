@@ -3,10 +3,10 @@
 //! `Frames` is the seam to the crate that frames messages. The one real implementation, `Socket`, holds a `tungstenite`
 //! socket over a stream in memory: what the link gives is fed to it, and what it writes is kept until the link takes
 //! it. Of that crate's own state nothing is known between two calls, since a change of its stream (`get_mut`) has no
-//! clause; so what is promised is promised call by call, by logs of what its reads gave and of what was sent.
+//! clause. So what is promised is promised call by call, by logs of what its reads gave and of what was sent.
 //!
 //! `WsWire` owns the link and the frames. A message that was put stays in hand until `room` or `flush` sends it, each
-//! once and in order; then the places at which their frames end are kept, so that it is known how many are not wholly
+//! once and in order. Then the places at which their frames end are kept, so that it is known how many are not wholly
 //! written.
 #![tactic(auto)]
 

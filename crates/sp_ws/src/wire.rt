@@ -1,4 +1,4 @@
-//! The wire.
+//! The wire over WebSocket: a link and its frames, with what each call of `Wire` does to them.
 ghost use Rattle.std.specs.Prelude.{◌≡◌, ◌≤◌, ◌<◌, ◌++◌, ◌∷◌, ℕ, [], true, false, MatchResult, length};
 ghost use Rattle.sp_base.specs.Steps.{AfterShut as LinkShut};
 ghost use Rattle.sp_msg.specs.Views.{wire_text};

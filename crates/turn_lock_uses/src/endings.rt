@@ -6,7 +6,7 @@ ghost use Rattle.turn_lock.specs.Passes.{IsReady, FitsIn};
 use std::sync::Wait;
 use turn_lock::{PassList, Stands, TurnLock, TurnPass};
 
-/// Gives the two passes that were out, and ends the lock. What each pass had seen is a beginning of the whole
+/// Gives the two passes that were out, and ends the lock. What each pass had seen is a prefix of the whole
 /// history, and its own turns are exactly those of its number.
 pub fn end_with_two<S: Stands, R: Wait>(
     rt: &R,

@@ -1,4 +1,4 @@
-//! The label of a core.
+//! The label of a small core: what no turn of it changes.
 ghost use base.Fml.{ftrue};
 ghost use Rattle.atomic_table.specs.Seated.{TableId, table_id_coded};
 

@@ -1,3 +1,4 @@
+//! Messages, the plain reader, the TCP wire and the wire in memory, with exact bytes, counts and refusals.
 ghost use Rattle.std.specs.Prelude.{◌≡◌, true, IfOk};
 
 use super::*;

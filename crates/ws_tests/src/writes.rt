@@ -26,7 +26,7 @@ fn quiet(
 }
 
 // What a wire on this side writes after it pulled all of these bytes, which are no message; nothing where the pull or
-// the flush answers otherwise.
+// the flush returns otherwise.
 fn answered<R: Wait>(alloc: Global, rt: &R, side: Side, bytes: &[u8]) -> Result<Vec<u8>, NoMemory> {
     let script = pieces(alloc, bytes, 100, LinkStep::NotYet)?;
     let link = MemLink::new(alloc, script, 100, Vec::new(alloc));
@@ -98,7 +98,7 @@ fn sixteen_messages_wait_at_most(rt: HostRuntime) -> Result<(), Fail> {
     Ok(())
 }
 
-// How many messages a wire takes whose write with this number fails, what it answers then, and how much was written.
+// How many messages a wire takes whose write with this number fails, what it returns then, and how much was written.
 fn until_it_fails<R: Wait>(
     alloc: Global,
     rt: &R,

@@ -3,7 +3,7 @@ use Rattle.sp_pending.specs.Pendings.{IsNextIn, in_line, left_of, line_of}
 use Rattle.sp_pending.proofs.Walks.{AreLeft}
 use Rattle.sp_pending.proofs.pending.PendingOps.some_on.Given as goal
 
--- the next one stands in the line, and those of the context are not behind it yet
+-- the next one stands in the bucket, and those of the context are not behind it yet
 abbrev pub invariant-loop-next : goal.invariant-loop-next
 invariant-loop-next l =
     record {
