@@ -1,17 +1,13 @@
 -- The laws of a bus as a machine.
-use Rattle.std.specs.Prelude.{◌≡◌, [], length, map}
-use Rattle.std.proofs.Common.{refl, ap, subst, ◌∙◌}
-use Rattle.sp_history.specs.Kept.{pool}
-use Rattle.sp_history.specs.Past.{pend, up}
+use Rattle.std.specs.Prelude.{◌≡◌, []}
 use Rattle.sp_history.specs.declared.entry.Entry.{Entry}
 use Rattle.sp_history.specs.declared.parts.Begun.{Begun}
 use Rattle.sp_history.specs.Moments.{Moment, Lawful, past, also, IsSilent}
 use Rattle.sp_proto.specs.Kinds.{Starts, kind_of}
-use Rattle.sp_proto.specs.Readings.{Reading, stays}
+use Rattle.sp_proto.specs.Readings.{Reading, stays, starts}
 use Rattle.proto_floods.proofs.Flooding.{silently}
-use Rattle.proto_pending.specs.Waits.{Holds}
 use Rattle.proto_bus.specs.declared.Bus.{Bus}
-use Rattle.proto_bus.specs.Buses.{Ties, Stands, IsFlood, bus_kind, message_in}
+use Rattle.proto_bus.specs.Buses.{Ties, Stands, IsFlood, bus_kind}
 
 pub kinds : (m : Bus) (t : Moment) → Ties m t → kind_of t.z ≡ bus_kind m.raw m.options
 kinds m t h = h.0.kind
@@ -20,14 +16,4 @@ pub silent : (m : Bus) (t : Moment) (e : Entry) → IsSilent e → Lawful (also 
 silent m t e h l k = (stays Stands m t e h k.0, silently _ t e (λ (r : Reading) (s : Begun). IsFlood r.kind.raw m.left_out m.copies.items s.act) h k.1)
 
 pub anew : (m : Bus) (t : Moment) → past t ≡ [] → Ties m t → Starts Ties m (bus_kind m.raw m.options)
-anew m t e h slots callers caller = (
-  record {
-    kind = refl;
-    pipes = h.0.pipes ∙ ap (λ before. length (up before)) e;
-    items = h.0.items ∙ ap (λ before. map message_in (pool t.z before 0)) e;
-    places = h.0.places;
-    pending = subst (λ before. Holds m.pending (pend before)) e h.0.pending;
-    contexts = refl;
-  },
-  λ l. tt,
-)
+anew m t e h slots callers caller = (starts Stands m t (bus_kind m.raw m.options) (kinds m t h) e h.0 slots callers caller, λ l. tt)

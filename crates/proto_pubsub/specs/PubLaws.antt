@@ -1,15 +1,11 @@
 -- The laws of a pub as a machine.
-use Rattle.std.specs.Prelude.{◌≡◌, [], length}
-use Rattle.std.proofs.Common.{refl, subst}
-use Rattle.sp_history.specs.Kept.{pool}
-use Rattle.sp_history.specs.Past.{pend, up}
+use Rattle.std.specs.Prelude.{◌≡◌, []}
 use Rattle.sp_history.specs.declared.entry.Entry.{Entry}
 use Rattle.sp_history.specs.declared.parts.Begun.{Begun}
 use Rattle.sp_history.specs.Moments.{Moment, Lawful, past, also, IsSilent}
 use Rattle.sp_proto.specs.Kinds.{Starts, kind_of}
-use Rattle.sp_proto.specs.Readings.{Reading, stays}
+use Rattle.sp_proto.specs.Readings.{Reading, stays, starts}
 use Rattle.proto_floods.proofs.Flooding.{silently}
-use Rattle.proto_pending.specs.Waits.{Holds}
 use Rattle.proto_pubsub.specs.declared.publish.Publish.{Publish}
 use Rattle.proto_pubsub.specs.Pubs.{Ties, Stands, IsFlood, pub_kind}
 
@@ -20,13 +16,4 @@ pub silent : (m : Publish) (t : Moment) (e : Entry) → IsSilent e → Lawful (a
 silent m t e h l k = (stays Stands m t e h k.0, silently _ t e (λ (r : Reading) (s : Begun). IsFlood m.copies.items s.act) h k.1)
 
 pub anew : (m : Publish) (t : Moment) → past t ≡ [] → Ties m t → Starts Ties m (pub_kind m.raw m.options)
-anew m t e h slots callers caller = (
-  record {
-    kind = refl;
-    pipes = subst (λ before. m.pipes ≡ length (up before)) e h.0.pipes;
-    items = subst (λ before. pool t.z before 0 ≡ []) e h.0.items;
-    pending = subst (λ before. Holds m.pending (pend before)) e h.0.pending;
-    contexts = refl;
-  },
-  λ l. tt,
-)
+anew m t e h slots callers caller = (starts Stands m t (pub_kind m.raw m.options) (kinds m t h) e h.0 slots callers caller, λ l. tt)

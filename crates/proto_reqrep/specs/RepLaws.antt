@@ -4,8 +4,7 @@ use Rattle.std.proofs.Common.{refl, false}
 use Rattle.sp_history.specs.declared.entry.Entry.{Entry}
 use Rattle.sp_history.specs.Moments.{Moment, Lawful, past, also, IsSilent}
 use Rattle.sp_proto.specs.Kinds.{Starts, kind_of}
-use Rattle.sp_proto.specs.Readings.{stays}
-use Rattle.proto_reqrep.specs.Anew.{starts}
+use Rattle.sp_proto.specs.Readings.{stays, starts}
 use Rattle.proto_reqrep.specs.declared.rep.Reply.{Reply}
 use Rattle.proto_reqrep.specs.declared.rep.Waiting.{Waiting}
 use Rattle.proto_reqrep.specs.Reps.{Ties, Stands, role_of, reply_kind}

@@ -4,8 +4,7 @@ use Rattle.std.proofs.Common.{refl, ap, sym}
 use Rattle.sp_history.specs.declared.entry.Entry.{Entry}
 use Rattle.sp_history.specs.Moments.{Moment, Lawful, past, also, IsSilent}
 use Rattle.sp_proto.specs.Kinds.{Starts, kind_of}
-use Rattle.sp_proto.specs.Readings.{stays}
-use Rattle.proto_reqrep.specs.Anew.{starts}
+use Rattle.sp_proto.specs.Readings.{stays, starts}
 use Rattle.proto_reqrep.specs.declared.req.Asking.{Asking}
 use Rattle.proto_reqrep.specs.declared.req.Request.{Request as Machine}
 use Rattle.proto_reqrep.specs.Reqs.{Ties, Stands, req_kind}

@@ -4,9 +4,8 @@ use Rattle.sp_history.specs.declared.entry.Entry.{Entry}
 use Rattle.sp_history.specs.declared.parts.Begun.{Begun}
 use Rattle.sp_history.specs.Moments.{Moment, Lawful, past, also, IsSilent}
 use Rattle.sp_proto.specs.Kinds.{Starts, kind_of}
-use Rattle.sp_proto.specs.Readings.{Reading, stays}
+use Rattle.sp_proto.specs.Readings.{Reading, stays, starts}
 use Rattle.proto_floods.proofs.Flooding.{silently}
-use Rattle.proto_reqrep.specs.Anew.{starts}
 use Rattle.proto_survey.specs.declared.survey.Survey.{Survey}
 use Rattle.proto_survey.specs.Surveys.{Ties, Stands, IsFlood, survey_kind}
 

@@ -1,22 +1,26 @@
 -- All that a machine reads of a moment, and that an entry of which no protocol is told leaves it as it was.
-use Rattle.std.specs.Prelude.{◌≡◌, ℕ, Bool, false, List, [], ◌∷◌, ◌++◌, Option}
-use Rattle.std.proofs.Common.{refl, subst}
+use Rattle.std.specs.Prelude.{◌≡◌, ⊤, ℕ, Bool, false, List, [], ◌∷◌, ◌++◌, Option}
+use Rattle.std.proofs.Common.{refl, ap, sym, subst}
+use Rattle.std.proofs.Math.Path.{fun_ext}
 use Rattle.sp_base.specs.declared.OpName.{OpName}
+use Rattle.sp_history.specs.declared.entry.Act.{Act}
+use Rattle.sp_history.specs.declared.entry.Act.TheVariants as acts
 use Rattle.sp_history.specs.declared.entry.Entry.{Entry}
 use Rattle.sp_history.specs.declared.entry.Entry.TheVariants.{Up, Down, Out, Met, NoUp, Quiet, Stall, Clear, Taken, Took}
 use Rattle.sp_history.specs.declared.parts.Begun.{Begun}
 use Rattle.sp_history.specs.declared.parts.Item.{Item}
 use Rattle.sp_history.specs.declared.parts.Origin.{Origin}
 use Rattle.sp_history.specs.declared.parts.Requests.{Requests}
+use Rattle.sp_history.specs.declared.setting.Setting.{Setting}
 use Rattle.sp_history.specs.Lists.{without}
 use Rattle.sp_history.specs.Past.{pend, ctxs, topics, up, ups, now}
 use Rattle.sp_history.specs.Kept.{pool, stored, route}
 use Rattle.sp_history.specs.Requests.{requests}
-use Rattle.sp_history.specs.Sends.{bytes_of}
+use Rattle.sp_history.specs.Sends.{bytes_of, bytes_of_act}
 use Rattle.sp_history.specs.Settled.{has_full, is_dry}
 use Rattle.sp_history.specs.Legal.{is_part_of_send}
 use Rattle.sp_history.specs.Moments.{Moment, past, also, IsSilent}
-use Rattle.sp_proto.specs.Kinds.{Kind, kind_of}
+use Rattle.sp_proto.specs.Kinds.{Kind, Starts, kind_of, setting_of, start}
 
 -- the pipes that are up, in the order in which they were last put to use: came up, or got a message
 abbrev pub in_turn : List Entry → List ℕ
@@ -90,3 +94,30 @@ leaves t _ h = absurd h
 -- so a machine that depends on the reading alone stands as before
 pub stays : {M : Type 0} (Stands : M → Reading → Type 0) (m : M) (t : Moment) (e : Entry) → IsSilent e → Stands m (reading t) → Stands m (reading (also t e))
 stays Stands m t e h k = subst (Stands m) (leaves t e h).0 k
+
+-- ---- An empty past
+
+abbrev IsNil : List Entry → Type 0
+IsNil [] = ⊤
+IsNil (e ∷ es) = ⊥
+
+-- it is the one that a socket of this kind begins with
+pub reads_alike : (t : Moment) (slots callers caller : ℕ) → past t ≡ [] → reading t ≡ reading (start (setting_of (kind_of t.z) slots callers) caller)
+reads_alike t slots callers caller e = go t.turn t.before e
+  where
+    other : Setting
+    other = setting_of (kind_of t.z) slots callers
+
+    bytes : (s : Begun) (a : Act) → bytes_of_act t.z [] s a ≡ bytes_of_act other [] s a
+    bytes s acts.Recv = refl
+    bytes s (acts.Send m) = refl
+
+    go : (turn before : List Entry) → turn ++ before ≡ [] → reading (record { z = t.z; caller = t.caller; before = before; turn = turn }) ≡ reading (start other caller)
+    go [] [] h = ap (λ (f : Begun → Option (List ℕ)). record (reading (start other caller)) { bytes = f }) (fun_ext (λ s. bytes s s.act))
+    go [] (e ∷ before) h = absurd (subst IsNil (sym h) tt)
+    go (e ∷ turn) before h = absurd (subst IsNil (sym h) tt)
+
+-- so a machine that depends on the reading alone stands for the empty past of every socket of its kind
+pub starts : {M : Type 0} (Stands : M → Reading → Type 0) (m : M) (t : Moment) (k : Kind) → kind_of t.z ≡ k → past t ≡ [] → Stands m (reading t) → Starts (λ (n : M) (u : Moment). Stands n (reading u)) m k
+starts Stands m t k h e s slots callers caller =
+    subst (λ (j : Kind). Stands m (reading (start (setting_of j slots callers) caller))) h (subst (Stands m) (reads_alike t slots callers caller e) s)
