@@ -1,4 +1,4 @@
 pub mod Ordered
-pub mod Counted
-pub mod Kept
+pub mod EntryCounts
+pub mod Schedules
 pub mod Found

@@ -7,11 +7,11 @@ use lib.ListN.{get_elem?}
 use Rattle.atomic_table.proofs.Lists.{set_here}
 use Rattle.aio_word.specs.declared.phase.Phase.{Phase}
 use Rattle.aio_word.specs.declared.phase.Phase.TheVariants.{Idle}
-use Rattle.aio_word.specs.declared.rule.Entry.{Entry}
-use Rattle.aio_word.specs.declared.rule.Kept.{Kept}
-use Rattle.aio_word.specs.declared.rule.Role.{Role}
-use Rattle.aio_word.specs.declared.rule.Role.TheVariants.{Core, Caller, Note, Spent}
-use Rattle.aio_word.specs.declared.rule.View.{View}
+use Rattle.aio_word.specs.declared.rule.ShownOperation.{ShownOperation}
+use Rattle.aio_word.specs.declared.rule.JoinedWins.{JoinedWins}
+use Rattle.aio_word.specs.declared.rule.SeatRole.{SeatRole}
+use Rattle.aio_word.specs.declared.rule.SeatRole.TheVariants.{Core, Caller, Note, Spent}
+use Rattle.aio_word.specs.declared.rule.WordsView.{WordsView}
 use Rattle.aio_word.specs.Word.{is_decided}
 use Rattle.aio_word.specs.Views.{shown, times, Stands, Each}
 use Rattle.aio_word.specs.Rule.{Fate, Lawful, owns, IsEnd, IsRead, IsOwner, IsKept, IsCore, IsCaller, Knows, Ruled}
@@ -26,33 +26,33 @@ module _ (n : ℕ) (s : St) (r : Ruled n s) where
   word : ℕ → ℕ
   word i = get_or s.words i 0
 
-  core_of : (c : View) → (h : HasCore s.views c) → IsCore r.fate r.seat r.made h.0.0 n r.generation c
-  core_of c h = subst (λ (p : Role). Knows r.fate r.seat r.made h.0.0 n r.generation p c) h.1 (r.views h.0.0 c h.0.1)
+  core_of : (c : WordsView) → (h : HasCore s.views c) → IsCore r.fate r.seat r.made h.0.0 n r.generation c
+  core_of c h = subst (λ (p : SeatRole). Knows r.fate r.seat r.made h.0.0 n r.generation p c) h.1 (r.views h.0.0 c h.0.1)
 
-  owner_of : (k : ℕ) (wins : List Entry) (h : HasWins s.views k wins) → IsOwner r.fate r.seat r.made h.1.0 k wins
+  owner_of : (k : ℕ) (wins : List ShownOperation) (h : HasWins s.views k wins) → IsOwner r.fate r.seat r.made h.1.0 k wins
   owner_of k wins h = ⊎_elim
       (λ (t : (h.0.role ≡ Caller) × (h.0.number ≡ k) × (h.0.wins ≡ wins)).
-      let c : IsCaller r.fate r.seat r.made h.1.0 n h.0 = subst (λ (p : Role). Knows r.fate r.seat r.made h.1.0 n r.generation p h.0) t.0 (r.views h.1.0 h.0 h.1.1) in
-      subst (λ (z : ℕ × List Entry). IsOwner r.fate r.seat r.made h.1.0 z.0 z.1) (λ i. (t.1 i, t.2 i)) c.owner)
-      (λ (t : (h.0.role ≡ Core) × Stands (let x : Kept = record { number = k; wins = wins } in x) h.0.kept).
-      Each-at (λ (q : Kept). IsOwner r.fate r.seat r.made h.1.0 q.number q.wins) h.0.kept (record { number = k; wins = wins }) t.1 (core_of h.0 (h.1, t.0)).kept)
+      let c : IsCaller r.fate r.seat r.made h.1.0 n h.0 = subst (λ (p : SeatRole). Knows r.fate r.seat r.made h.1.0 n r.generation p h.0) t.0 (r.views h.1.0 h.0 h.1.1) in
+      subst (λ (z : ℕ × List ShownOperation). IsOwner r.fate r.seat r.made h.1.0 z.0 z.1) (λ i. (t.1 i, t.2 i)) c.owner)
+      (λ (t : (h.0.role ≡ Core) × Stands (let x : JoinedWins = record { number = k; wins = wins } in x) h.0.kept).
+      Each-at (λ (q : JoinedWins). IsOwner r.fate r.seat r.made h.1.0 q.number q.wins) h.0.kept (record { number = k; wins = wins }) t.1 (core_of h.0 (h.1, t.0)).kept)
       h.2
 
   module _ (i : ℕ) (inside : i < n) where
-    abbrev e : Entry
+    abbrev e : ShownOperation
     e = shown i (get_or s.words i 0)
 
     is_now : e ≡ now n s r i
     is_now = shows_now n s r i inside
 
     current : e.generation ≡ r.generation i
-    current = ap (λ (z : Entry). z.generation) is_now
+    current = ap (λ (z : ShownOperation). z.generation) is_now
 
     truth : r.fate i e.generation ≡ (e.phase, e.by)
-    truth = subst (λ (z : Entry). r.fate i z.generation ≡ (z.phase, z.by)) (sym is_now) refl
+    truth = subst (λ (z : ShownOperation). r.fate i z.generation ≡ (z.phase, z.by)) (sym is_now) refl
 
     lawful : Lawful e.phase e.by
-    lawful = subst (λ (z : Entry). Lawful z.phase z.by) (sym is_now) (r.lawful i (r.generation i))
+    lawful = subst (λ (z : ShownOperation). Lawful z.phase z.by) (sym is_now) (r.lawful i (r.generation i))
 
     idle : (e.phase ≡ Idle) ↔ (e.generation ≡ 0)
     idle = (
@@ -71,48 +71,48 @@ module _ (n : ℕ) (s : St) (r : Ruled n s) where
       clash : r.fate i g ≡ (Idle, 0) → ⊥
       clash is = true≢false (sym d ∙ ap (λ (f : Fate). is_decided f.0) is)
 
-  was_begun : (c : View) → HasCore s.views c → (x : Entry) → is_decided x.phase ≡ true → r.fate x.slot x.generation ≡ (x.phase, x.by) → WasBegun n c x
+  was_begun : (c : WordsView) → HasCore s.views c → (x : ShownOperation) → is_decided x.phase ≡ true → r.fate x.slot x.generation ≡ (x.phase, x.by) → WasBegun n c x
   was_begun c h x d is = let p = placed x.slot x.generation (ap (λ (f : Fate). is_decided f.0) is ∙ d) in let g = (core_of c h).generations x.slot p.0 in (p.0, p.1, let q = p.2 in omega arith)
 
-  fate_lawful : (x : Entry) → r.fate x.slot x.generation ≡ (x.phase, x.by) → Lawful x.phase x.by
+  fate_lawful : (x : ShownOperation) → r.fate x.slot x.generation ≡ (x.phase, x.by) → Lawful x.phase x.by
   fate_lawful x is = subst (λ (f : Fate). Lawful f.0 f.1) is (r.lawful x.slot x.generation)
 
   -- an operation that stands in a list of ends stands there as it ended
-  stands_as : (P : Entry → Type 0) (es : List Entry) (x : Entry) → ((y : Entry) → P y → r.fate y.slot y.generation ≡ (y.phase, y.by)) → Each P es → r.fate x.slot x.generation ≡ (x.phase, x.by) → 0 < times x.slot x.generation es → Stands x es
-  stands_as P es x f all is there = let t = some_named x.slot x.generation es there in subst (λ (z : Entry). Stands z es) (one_entry r.fate t.0 x (f t.0 (Each-at P es t.0 t.1 all)) is t.2 t.3) t.1
+  stands_as : (P : ShownOperation → Type 0) (es : List ShownOperation) (x : ShownOperation) → ((y : ShownOperation) → P y → r.fate y.slot y.generation ≡ (y.phase, y.by)) → Each P es → r.fate x.slot x.generation ≡ (x.phase, x.by) → 0 < times x.slot x.generation es → Stands x es
+  stands_as P es x f all is there = let t = some_named x.slot x.generation es there in subst (λ (z : ShownOperation). Stands z es) (one_entry r.fate t.0 x (f t.0 (Each-at P es t.0 t.1 all)) is t.2 t.3) t.1
 
-  wins_stands : (k : ℕ) (wins : List Entry) → HasWins s.views k wins → (x : Entry) → r.fate x.slot x.generation ≡ (x.phase, x.by) → (times x.slot x.generation wins ≡ owns x.by k) × (x.by ≡ k → Stands x wins)
+  wins_stands : (k : ℕ) (wins : List ShownOperation) → HasWins s.views k wins → (x : ShownOperation) → r.fate x.slot x.generation ≡ (x.phase, x.by) → (times x.slot x.generation wins ≡ owns x.by k) × (x.by ≡ k → Stands x wins)
   wins_stands k wins h x is =
       let o = (owner_of k wins h).wins_are in
       let n' : times x.slot x.generation wins ≡ owns x.by k = o.once x.slot x.generation ∙ ap (λ (f : Fate). owns f.1 k) is in
       (n', λ by. stands_as (λ y. IsEnd r.fate y × (y.by ≡ k)) wins x (λ y p. p.0.1) o.ends is (let a = n' ∙ owned x.by k by in omega arith))
 
-  ends_stands : (c : View) → HasCore s.views c → (x : Entry) → r.fate x.slot x.generation ≡ (x.phase, x.by) → 0 < times x.slot x.generation c.ends → Stands x c.ends
+  ends_stands : (c : WordsView) → HasCore s.views c → (x : ShownOperation) → r.fate x.slot x.generation ≡ (x.phase, x.by) → 0 < times x.slot x.generation c.ends → Stands x c.ends
   ends_stands c h x is there = stands_as (IsEnd r.fate) c.ends x (λ y p. p.1) (core_of c h).ends is there
 
-  end_of : (c : View) → HasCore s.views c → (x : Entry) → Stands x c.ends → IsEnd r.fate x
+  end_of : (c : WordsView) → HasCore s.views c → (x : ShownOperation) → Stands x c.ends → IsEnd r.fate x
   end_of c h x st = Each-at (IsEnd r.fate) c.ends x st (core_of c h).ends
 
-  reads_of : (j : ℕ) (v : View) (p : Role) → v.role ≡ p → p ≢ Spent → Knows r.fate r.seat r.made j n r.generation p v → Each (IsRead r.fate) v.reads
+  reads_of : (j : ℕ) (v : WordsView) (p : SeatRole) → v.role ≡ p → p ≢ Spent → Knows r.fate r.seat r.made j n r.generation p v → Each (IsRead r.fate) v.reads
   reads_of j v Core is other c = c.reads
   reads_of j v Caller is other c = c.reads
   reads_of j v Note is other c = c
   reads_of j v Spent is other c = absurd (other refl)
 
   -- an operation that is open stands in no ends
-  open_ends_of : (c : View) → HasCore s.views c → (i g : ℕ) → is_decided (r.fate i g).0 ≡ false → times i g c.ends ≡ 0
+  open_ends_of : (c : WordsView) → HasCore s.views c → (i g : ℕ) → is_decided (r.fate i g).0 ≡ false → times i g c.ends ≡ 0
   open_ends_of c h i g o = dite (ℕ_discrete (times i g c.ends) 0) (λ z. z)
       (λ there. let t = some_named i g c.ends (omega arith) in
       let p = end_of c h t.0 t.1 in
       absurd (true≢false (sym (subst (λ (z : ℕ × ℕ). is_decided (r.fate z.0 z.1).0 ≡ true) (λ k. (t.2 k, t.3 k)) (ap (λ (f : Fate). is_decided f.0) p.1 ∙ p.0)) ∙ o)))
 
-  core_there : (c : View) × HasCore s.views c
+  core_there : (c : WordsView) × HasCore s.views c
   core_there = let h = r.held 0 (omega arith) in ⊎_elim
       (λ (t : (h.0.role ≡ Core) × ((0 ≡ 0) ⊎ IsKept 0 h.0.kept)). (h.0, ((r.seat 0, h.1), t.0)))
       (λ (t : (h.0.role ≡ Caller) × (h.0.number ≡ 0) × (0 < 0)). let z = t.2 in absurd (omega arith))
       h.2
 
-  wins_there : (k : ℕ) → 0 < k → k ≤ r.made → (wins : List Entry) × HasWins s.views k wins
+  wins_there : (k : ℕ) → 0 < k → k ≤ r.made → (wins : List ShownOperation) × HasWins s.views k wins
   wins_there k pos small = let h = r.held k small in ⊎_elim
       (λ (t : (h.0.role ≡ Core) × ((k ≡ 0) ⊎ IsKept k h.0.kept)). ⊎_elim
       (λ (z : k ≡ 0). absurd (omega arith))
@@ -144,14 +144,14 @@ module _ (n : ℕ) (s : St) (r : Ruled n s) where
     now_ends = λ c h i inside x st same. one_entry r.fate x (e i inside) (end_of c h x st).1 (truth i inside) same.0 same.1;
     past = λ c h i g inside p q. let k = core_of c h in k.past i g inside p (let a = k.generations i inside in omega arith);
     past_wins = λ c h k wins w x st. wins_stands k wins w x (end_of c h x st).1;
-    agree = λ c h k wins w x y sx sy same. one_entry r.fate y x (Each-at (λ (z : Entry). IsEnd r.fate z × (z.by ≡ k)) wins y sy (owner_of k wins w).wins_are.ends).0.1 (end_of c h x sx).1 same.0 same.1;
+    agree = λ c h k wins w x y sx sy same. one_entry r.fate y x (Each-at (λ (z : ShownOperation). IsEnd r.fate z × (z.by ≡ k)) wins y sy (owner_of k wins w).wins_are.ends).0.1 (end_of c h x sx).1 same.0 same.1;
     only_ends = λ c h x st. let p = end_of c h x st in (was_begun c h x p.0 p.1, p.0, fate_lawful x p.1);
-    only_wins = λ c h k wins w x st. let o = owner_of k wins w in let p = Each-at (λ (y : Entry). IsEnd r.fate y × (y.by ≡ k)) wins x st o.wins_are.ends in
+    only_wins = λ c h k wins w x st. let o = owner_of k wins w in let p = Each-at (λ (y : ShownOperation). IsEnd r.fate y × (y.by ≡ k)) wins x st o.wins_are.ends in
         (was_begun c h x p.0.0 p.0.1, p.0.0, fate_lawful x p.0.1, p.1, o.number.0);
     apart = λ k l wins others w o x y sx sy same.
-        let p = Each-at (λ (z : Entry). IsEnd r.fate z × (z.by ≡ k)) wins x sx (owner_of k wins w).wins_are.ends in
-        let q = Each-at (λ (z : Entry). IsEnd r.fate z × (z.by ≡ l)) others y sy (owner_of l others o).wins_are.ends in
-        sym p.1 ∙ (ap (λ (z : Entry). z.by) (sym (one_entry r.fate y x q.0.1 p.0.1 same.0 same.1)) ∙ q.1);
+        let p = Each-at (λ (z : ShownOperation). IsEnd r.fate z × (z.by ≡ k)) wins x sx (owner_of k wins w).wins_are.ends in
+        let q = Each-at (λ (z : ShownOperation). IsEnd r.fate z × (z.by ≡ l)) others y sy (owner_of l others o).wins_are.ends in
+        sym p.1 ∙ (ap (λ (z : ShownOperation). z.by) (sym (one_entry r.fate y x q.0.1 p.0.1 same.0 same.1)) ∙ q.1);
     numbers = λ c h i inside.
         let few = r.numbers i (e i inside).generation in
         let by : (r.fate i (e i inside).generation).1 ≡ (e i inside).by = ap (λ (f : Fate). f.1) (truth i inside) in
@@ -173,5 +173,5 @@ module _ (n : ℕ) (s : St) (r : Ruled n s) where
   }
 
 -- after a step the rule is known of the seat's view
-pub known : (n : ℕ) (s : St) (words : List ℕ) (id : ℕ) (v w : View) → v.slots ≡ n → get_elem? s.views id ≡ some v → Ruled n record { words = words; homes = s.homes; views = set s.views id w } → IsKnown v.slots w
+pub known : (n : ℕ) (s : St) (words : List ℕ) (id : ℕ) (v w : WordsView) → v.slots ≡ n → get_elem? s.views id ≡ some v → Ruled n record { words = words; homes = s.homes; views = set s.views id w } → IsKnown v.slots w
 known n s words id v w slots at r = subst (λ (m : ℕ). IsKnown m w) (sym slots) (words, set s.views id w, holds n record { words = words; homes = s.homes; views = set s.views id w } r, (id, set_here s.views id w (at_length s.views id v at)))

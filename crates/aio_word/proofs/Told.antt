@@ -4,8 +4,8 @@ use mathlib.Core.Logic.{dite}
 use native.Mathlib.Decide.{ℕ_discrete}
 use Rattle.aio_word.specs.declared.phase.Phase.{Phase}
 use Rattle.aio_word.specs.declared.phase.Phase.TheVariants.{Idle, Pending, Won, Shut, Superseded, SurveyOver, Cancelled, Expired}
-use Rattle.aio_word.specs.declared.rule.Entry.{Entry}
-use Rattle.aio_word.specs.declared.rule.View.{View}
+use Rattle.aio_word.specs.declared.rule.ShownOperation.{ShownOperation}
+use Rattle.aio_word.specs.declared.rule.WordsView.{WordsView}
 use Rattle.aio_word.specs.Word.{is_decided, is_core_end, is_call_end}
 use Rattle.aio_word.specs.Views.{entry, times, Stands, Each}
 use Rattle.aio_word.specs.Rule.{Fate, Lawful, owns, IsEnd, IsRead, IsWins, IsOwner, IsCore, IsCaller}
@@ -13,29 +13,29 @@ use Rattle.aio_word.specs.Answers.{IsBegun, Agrees, AgreesEnded, IsTold, IsFound
 use Rattle.aio_word.proofs.Entries.{Each-map, Each-at, some_named, owned}
 
 -- two entries of one operation that both say its fate are one
-pub one_entry : (fate : ℕ → ℕ → Fate) (d e : Entry) → fate d.slot d.generation ≡ (d.phase, d.by) → fate e.slot e.generation ≡ (e.phase, e.by) → d.slot ≡ e.slot → d.generation ≡ e.generation → d ≡ e
+pub one_entry : (fate : ℕ → ℕ → Fate) (d e : ShownOperation) → fate d.slot d.generation ≡ (d.phase, d.by) → fate e.slot e.generation ≡ (e.phase, e.by) → d.slot ≡ e.slot → d.generation ≡ e.generation → d ≡ e
 one_entry fate d e hd he s g =
     let same : fate d.slot d.generation ≡ fate e.slot e.generation = λ k. fate (s k) (g k) in
     let f : (d.phase, d.by) ≡ (e.phase, e.by) = sym hd ∙ (same ∙ he) in
     λ k. entry (s k) (g k) (f k).0 (f k).1
 
-module _ (fate : ℕ → ℕ → Fate) (e : Entry) (is : fate e.slot e.generation ≡ (e.phase, e.by)) where
-  agrees_reads : (es : List Entry) → Each (IsRead fate) es → Agrees e es
+module _ (fate : ℕ → ℕ → Fate) (e : ShownOperation) (is : fate e.slot e.generation ≡ (e.phase, e.by)) where
+  agrees_reads : (es : List ShownOperation) → Each (IsRead fate) es → Agrees e es
   agrees_reads es h = Each-map (IsRead fate) (λ d. is_decided d.phase ≡ true → d.slot ≡ e.slot → d.generation ≡ e.generation → d ≡ e) (λ d r t a b. one_entry fate d e (r t) is a b) es h
 
-  agrees_ends : (es : List Entry) → Each (IsEnd fate) es → AgreesEnded e es
+  agrees_ends : (es : List ShownOperation) → Each (IsEnd fate) es → AgreesEnded e es
   agrees_ends es h = Each-map (IsEnd fate) (λ d. d.slot ≡ e.slot → d.generation ≡ e.generation → (is_decided d.phase ≡ true) × (d ≡ e)) (λ d r a b. (r.0, one_entry fate d e r.1 is a b)) es h
 
-  pub told : (k : ℕ) (wins : List Entry) → IsWins fate k wins → IsTold k wins e
+  pub told : (k : ℕ) (wins : List ShownOperation) → IsWins fate k wins → IsTold k wins e
   told k wins r d = (
     (λ by. let one : times e.slot e.generation wins ≡ 1 = r.once e.slot e.generation ∙ (ap (λ (f : Fate). owns f.1 k) is ∙ owned e.by k by) in
         let s = some_named e.slot e.generation wins (omega arith) in
-        let t = Each-at (λ (z : Entry). IsEnd fate z × (z.by ≡ k)) wins s.0 s.1 r.ends in
-        subst (λ (z : Entry). Stands z wins) (one_entry fate s.0 e t.0.1 is s.2 s.3) s.1),
-    (λ s. (Each-at (λ (z : Entry). IsEnd fate z × (z.by ≡ k)) wins e s r.ends).1),
+        let t = Each-at (λ (z : ShownOperation). IsEnd fate z × (z.by ≡ k)) wins s.0 s.1 r.ends in
+        subst (λ (z : ShownOperation). Stands z wins) (one_entry fate s.0 e t.0.1 is s.2 s.3) s.1),
+    (λ s. (Each-at (λ (z : ShownOperation). IsEnd fate z × (z.by ≡ k)) wins e s r.ends).1),
   )
 
-  pub found : (seat : ℕ → ℕ) (made at n : ℕ) (generation : ℕ → ℕ) (v : View) → IsCore fate seat made at n generation v → e.slot < n → e.generation ≡ generation e.slot → IsBegun e → (fate e.slot e.generation).1 ≤ made → IsFound v e
+  pub found : (seat : ℕ → ℕ) (made at n : ℕ) (generation : ℕ → ℕ) (v : WordsView) → IsCore fate seat made at n generation v → e.slot < n → e.generation ≡ generation e.slot → IsBegun e → (fate e.slot e.generation).1 ≤ made → IsFound v e
   found seat made at n generation v c inside now begun few = record {
     current = now ∙ sym (c.generations e.slot inside);
     begun = begun;
@@ -48,7 +48,7 @@ module _ (fate : ℕ → ℕ → Fate) (e : Entry) (is : fate e.slot e.generatio
     made = let b : (fate e.slot e.generation).1 ≡ e.by = ap (λ (f : Fate). f.1) is in omega (arith, few, b, c.made_is);
   }
 
-  pub seen : (seat : ℕ → ℕ) (made at n : ℕ) (v : View) → IsCaller fate seat made at n v → IsBegun e → IsSeen v e
+  pub seen : (seat : ℕ → ℕ) (made at n : ℕ) (v : WordsView) → IsCaller fate seat made at n v → IsBegun e → IsSeen v e
   seen seat made at n v c begun = record { begun = begun; told = told v.number v.wins c.owner.wins_are }
 
 pub core_end : (p : Phase) → is_core_end p ≡ true → (is_decided p ≡ true) × Lawful p 0 × (p ≢ Idle)
@@ -72,8 +72,8 @@ call_end Cancelled k h a b = (refl, (a, b), λ e. cc)
 call_end Expired k h a b = (refl, (a, b), λ e. cc)
 
 -- an operation that is pending stands in no ends
-pub unended : (v : View) (e : Entry) → is_decided e.phase ≡ false → IsFound v e → times e.slot e.generation v.ends ≡ 0
+pub unended : (v : WordsView) (e : ShownOperation) → is_decided e.phase ≡ false → IsFound v e → times e.slot e.generation v.ends ≡ 0
 unended v e still_open f = dite (ℕ_discrete (times e.slot e.generation v.ends) 0) (λ z. z)
     (λ some. let s = some_named e.slot e.generation v.ends (omega arith) in
-    let t = Each-at (λ (d : Entry). d.slot ≡ e.slot → d.generation ≡ e.generation → (is_decided d.phase ≡ true) × (d ≡ e)) v.ends s.0 s.1 f.ends s.2 s.3 in
-    absurd (true≢false (sym t.0 ∙ (ap (λ (d : Entry). is_decided d.phase) t.1 ∙ still_open))))
+    let t = Each-at (λ (d : ShownOperation). d.slot ≡ e.slot → d.generation ≡ e.generation → (is_decided d.phase ≡ true) × (d ≡ e)) v.ends s.0 s.1 f.ends s.2 s.3 in
+    absurd (true≢false (sym t.0 ∙ (ap (λ (d : ShownOperation). is_decided d.phase) t.1 ∙ still_open))))

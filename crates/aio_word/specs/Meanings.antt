@@ -3,7 +3,7 @@ use Rattle.std.specs.Prelude.{◌≡◌, ℕ, true, ◌+◌, ◌-◌, ◌^◌, �
 use Rattle.sp_base.specs.declared.OpName.{OpName}
 use Rattle.aio_word.specs.declared.phase.Phase.{Phase}
 use Rattle.aio_word.specs.declared.phase.Phase.TheVariants.{Pending}
-use Rattle.aio_word.specs.declared.rule.View.{View}
+use Rattle.aio_word.specs.declared.rule.WordsView.{WordsView}
 use Rattle.aio_word.specs.declared.answers.Decided.{Decided}
 use Rattle.aio_word.specs.declared.answers.Decided.TheVariants.{Mine, Other}
 use Rattle.aio_word.specs.declared.answers.Raced.{Raced}
@@ -15,18 +15,18 @@ use Rattle.aio_word.specs.Views.{saw}
 use Rattle.aio_word.specs.Answers.{CoreSaw, CoreTook, CallTook, CallEnded, CallStale, of_op}
 
 -- the next generation of the slot has begun
-abbrev pub BeganAt : View → OpName → View → Type 0
+abbrev pub BeganAt : WordsView → OpName → WordsView → Type 0
 BeganAt v op w = (op.generation ≡ slice_index v.generations op.slot + 1) × (op.generation < 2 ^ 40) × (w ≡ record v { generations = slice_set v.generations op.slot op.generation })
 
 -- the name of the slot's next operation
-abbrev pub IsNextName : View → OpName → Type 0
+abbrev pub IsNextName : WordsView → OpName → Type 0
 IsNextName v op = (op.generation ≡ slice_index v.generations op.slot + 1) × (op.generation < 2 ^ 40)
 
 -- the slot has had its last generation
-abbrev pub IsWorn : View → ℕ → Type 0
+abbrev pub IsWorn : WordsView → ℕ → Type 0
 IsWorn v slot = slice_index v.generations slot ≡ 2 ^ 40 - 1
 
-abbrev pub MatchDecided : Decided → View → OpName → Phase → View → Type 0
+abbrev pub MatchDecided : Decided → WordsView → OpName → Phase → WordsView → Type 0
 MatchDecided Mine v op to w = CoreTook v op to w
 MatchDecided (Other phase by) v op to w = (is_decided phase ≡ true) × CoreSaw v (of_op op phase by) w
 
@@ -34,12 +34,12 @@ MatchDecided (Other phase by) v op to w = (is_decided phase ≡ true) × CoreSaw
 abbrev pub IsOpen : ℕ → OpName → Type 0
 IsOpen slots op = (op.slot < slots) × (0 < op.generation)
 
-abbrev pub MatchRaced : Raced → View → ℕ → OpName → Phase → View → Type 0
+abbrev pub MatchRaced : Raced → WordsView → ℕ → OpName → Phase → WordsView → Type 0
 MatchRaced raced.Won v slots op to w = IsOpen slots op × CallTook v op to w
 MatchRaced (raced.Ended phase by) v slots op to w = IsOpen slots op × CallEnded v op phase by w
 MatchRaced raced.Stale v slots op to w = CallStale v slots op w
 
-abbrev pub MatchPolled : Polled → View → ℕ → OpName → View → Type 0
+abbrev pub MatchPolled : Polled → WordsView → ℕ → OpName → WordsView → Type 0
 MatchPolled polled.Pending v slots op w = IsOpen slots op × (w ≡ saw v (of_op op Pending 0))
 MatchPolled (polled.Ended phase by) v slots op w = IsOpen slots op × CallEnded v op phase by w
 MatchPolled polled.Stale v slots op w = CallStale v slots op w

@@ -1,7 +1,7 @@
 -- Words and seats, as contracts see them.
 use Rattle.std.specs.Prelude.{◌≡◌, ℕ}
 use Rattle.atomic_table.specs.Seated.{TableId}
-use Rattle.aio_word.specs.declared.rule.View.{View}
+use Rattle.aio_word.specs.declared.rule.WordsView.{WordsView}
 
 -- which words, how many slots they have, and how many callers
 pub record Named : Type 0 where
@@ -12,7 +12,7 @@ pub record Named : Type 0 where
 -- whose words a seat is of, and what it knows
 pub record Sight : Type 0 where
   pub words : TableId
-  pub view : View
+  pub view : WordsView
 
 -- the seat of the same caller of the same words
 abbrev pub IsSameSeat : Sight → Sight → Type 0

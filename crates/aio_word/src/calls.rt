@@ -12,7 +12,9 @@ ghost use Rattle.aio_word.specs.Meanings.{MatchDecided, MatchRaced, MatchPolled,
 
 use crate::answers::{Decided, Look, Polled, Raced, Worn};
 use crate::phase::Phase;
-use crate::rule::{Begins, Decides, Joined, Learns, Looks, Noted, Polls, Races, View, WordsRule};
+use crate::rule::{
+    Begins, Decides, Joined, Learns, Looks, Noted, Polls, Races, WordsRule, WordsView,
+};
 use crate::seats::{CallSeat, CoreSeat};
 use crate::word::{LAST, by_in, generation_in, phase_in, word_with};
 use atomic_table::Table;
@@ -26,7 +28,7 @@ use std::sync::Arc;
 #[derive(Drop)]
 pub struct Words {
     // The words, by slot, under the rule.
-    pub(crate) table: Arc<Table<(), View, u32, WordsRule, Global>, Global>,
+    pub(crate) table: Arc<Table<(), WordsView, u32, WordsRule, Global>, Global>,
     // Slots are the numbers below this.
     pub(crate) slots: u32,
     // Callers are numbered from 1 to this.

@@ -13,7 +13,7 @@
 //! exchanges took. At the end the core joins the callers' seats, and then its ends and their wins agree
 //! (`Words::join`).
 //!
-//! What a seat knows is ghost: it is a `View`, which grows at the seat's own steps. `Rule` in specs/ says what holds
+//! What a seat knows is ghost: it is a `WordsView`, which grows at the seat's own steps. `Rule` in specs/ says what holds
 //! between any two steps of any threads, and `OneWinner` says what that gives (`rule_gives_one_winner`); each step is
 //! proved to keep the rule for every interleaving. Every step is sequentially consistent. Nothing waits, and only
 //! `words` and `Words::share` take memory.
@@ -33,5 +33,5 @@ pub use calls::Words;
 pub use law::{rule_gives_one_winner, wins_are_the_callers};
 pub use make::words;
 pub use phase::Phase;
-pub use rule::{Entry, Kept, Role, View, WordsRule};
+pub use rule::{JoinedWins, SeatRole, ShownOperation, WordsRule, WordsView};
 pub use seats::{CallSeat, CoreSeat, SeatList};

@@ -21,7 +21,7 @@ const TURNS: u64 = 1_000_000;
 
 /// What a run came to.
 #[derive(Clone, Copy, Debug)]
-struct Ran {
+struct MeasuredRun {
     status: Status,
     printed: usize,
     written: usize,
@@ -43,7 +43,7 @@ fn over<R: AllocGlobal + Wait + Threads + Sync>(
     rt: &R,
     words: &[String],
     text: Vec<u8>,
-) -> Result<Ran, NoMemory> {
+) -> Result<MeasuredRun, NoMemory> {
     let alloc = rt.alloc();
     let mut script = Vec::new(alloc);
     script.push(LinkStep::Bytes(Bytes::from_vec(text)))?;
@@ -60,7 +60,7 @@ fn over<R: AllocGlobal + Wait + Threads + Sync>(
         Some(link) => link.written().len(),
         None => 0,
     };
-    Ok(Ran {
+    Ok(MeasuredRun {
         status: end.status,
         printed: out.text().len(),
         written,
@@ -93,7 +93,7 @@ fn pull<R: AllocGlobal + Wait + Threads + Sync>(
     rt: &R,
     body: &[u8],
     count: u32,
-) -> Result<Ran, NoMemory> {
+) -> Result<MeasuredRun, NoMemory> {
     let words = words(rt.alloc(), "--pull", "--raw", &[], count)?;
     let text = text_of(rt.alloc(), 0x50, body, count)?;
     over(rt, &words, text)
@@ -104,7 +104,7 @@ fn push<R: AllocGlobal + Wait + Threads + Sync>(
     rt: &R,
     body: &[u8],
     count: u32,
-) -> Result<Ran, NoMemory> {
+) -> Result<MeasuredRun, NoMemory> {
     let words = words(rt.alloc(), "--push", "--data=", body, count)?;
     let text = text_of(rt.alloc(), 0x51, &[], 0)?;
     over(rt, &words, text)
@@ -116,7 +116,7 @@ fn tell(
     name: &str,
     size: usize,
     count: u32,
-    ran: Ran,
+    ran: MeasuredRun,
     start: Instant,
 ) -> io::Result<()> {
     let micros = start.elapsed(rt)?.as_micros().max(1);

@@ -11,18 +11,18 @@ use Rattle.sp_msg.specs.declared.wire.WireFlush.{WireFlush}
 use Rattle.sp_msg.specs.declared.wire.WireFlush.TheVariants as flushes
 use Rattle.sp_msg.specs.Wires.{with_text, AfterPull, AfterRoom, AfterPut, AfterFlush, AfterShut, RoomAs, FlushedAs}
 use Rattle.cat_drill.specs.Feeds.{IsFeed}
-use Rattle.sp_lane.specs.declared.item.Item.{Item}
-use Rattle.sp_lane.specs.declared.item.Item.TheVariants as items
+use Rattle.sp_lane.specs.declared.item.LaneItem.{LaneItem}
+use Rattle.sp_lane.specs.declared.item.LaneItem.TheVariants as items
 use Rattle.sp_lane.specs.Items.{texts}
 use Rattle.sp_lane.specs.Lanes.{InView, OutView, has_end}
 use Rattle.sp_lane.specs.LaneWires.{LaneWireView, LanePulled, LaneRoomed, LaneFlushed, SameLanes, Pushed, TriedEnd, is_lost}
 
-pub texts_more : (xs : List Item) (m : MessageView) → texts (xs ++ items.Message m ∷ []) ≡ texts xs ++ wire_text m ∷ []
+pub texts_more : (xs : List LaneItem) (m : MessageView) → texts (xs ++ items.Message m ∷ []) ≡ texts xs ++ wire_text m ∷ []
 texts_more [] m = refl
 texts_more (items.Message x ∷ xs) m = ap (λ (ts : List (List ℕ)). wire_text x ∷ ts) (texts_more xs m)
 texts_more (items.End ∷ xs) m = texts_more xs m
 
-texts_end : (xs : List Item) → texts (xs ++ items.End ∷ []) ≡ texts xs
+texts_end : (xs : List LaneItem) → texts (xs ++ items.End ∷ []) ≡ texts xs
 texts_end [] = refl
 texts_end (items.Message x ∷ xs) = ap (λ (ts : List (List ℕ)). wire_text x ∷ ts) (texts_end xs)
 texts_end (items.End ∷ xs) = texts_end xs

@@ -6,20 +6,20 @@ use Rattle.std.proofs.lemmas.List.{append-nil}
 use Rattle.turn_lock.specs.declared.turn.Turn.{Turn}
 use Rattle.sp_base.specs.declared.OpName.{OpName}
 use Rattle.sp_base.specs.declared.role.Role.TheVariants.{Pull}
-use Rattle.sp_history.specs.declared.entry.Act.TheVariants.{Recv, Send}
+use Rattle.sp_history.specs.declared.entry.RecordedAct.TheVariants.{Recv, Send}
 use Rattle.sp_history.specs.declared.entry.Completion.TheVariants.{Received, Sent}
 use Rattle.sp_history.specs.declared.entry.Ending.TheVariants.{Won, Gone}
 use Rattle.sp_history.specs.declared.entry.Entry.{Entry}
 use Rattle.sp_history.specs.declared.entry.Entry.TheVariants.{Up, Frame, Unkept, Begin, End, Close}
 use Rattle.sp_history.specs.declared.entry.Totals.{Totals}
-use Rattle.sp_history.specs.declared.entry.Message.{Message}
+use Rattle.sp_history.specs.declared.entry.RecordedMessage.{RecordedMessage}
 use Rattle.sp_history.specs.declared.setting.Setting.{Setting}
 use Rattle.sp_history.specs.declared.parts.Begun.{Begun}
 use Rattle.sp_history.specs.Frames.{message, malformed}
 use Rattle.sp_history.specs.Past.{is_of, pend, pending, without_begun, is_closed, counts, totals, up_to_most, onto, past_of, past_from, frames, name_of, ups}
 use Rattle.sp_history.specs.Legal.{is_recv, comes_after_close, Allowed, Follows, LegalFrom, Legal}
 use Rattle.sp_history.specs.Given.{given, arrived, frame_total, as_pull}
-use Rattle.sp_history.specs.declared.entry.WireName.{WireName}
+use Rattle.sp_history.specs.declared.entry.WireNumbers.{WireNumbers}
 use Rattle.sp_core.specs.Standing.{HasFirst}
 use Rattle.sp_core.specs.Closing.{closed_totals}
 use Rattle.sp_history.proofs.OnceHolds.{has_value}
@@ -108,7 +108,7 @@ length_more : {A : Type 0} (xs : List A) (x : A) → length (xs ++ x ∷ []) ≡
 length_more [] x = refl
 length_more (y ∷ xs) x = omega (arith, length_more xs x)
 
-sends_none : (k : ℕ) (z : Setting) (before : List Entry) (op : OpName) (caller c : ℕ) (m : Message) (d : Option ℕ) → z.role ≡ Pull → Allowed z k before (Begin op caller c (Send m) d) → ⊥
+sends_none : (k : ℕ) (z : Setting) (before : List Entry) (op : OpName) (caller c : ℕ) (m : RecordedMessage) (d : Option ℕ) → z.role ≡ Pull → Allowed z k before (Begin op caller c (Send m) d) → ⊥
 sends_none k z before op caller c m d role a = let does = a.itself.role_does in search (role, does, rules)
 
 tallied_step : (z : Setting) → z.role ≡ Pull → (k : ℕ) (before : List Entry) (e : Entry) → Tallied before → Allowed z k before e → Tallied (e ∷ before)
@@ -171,22 +171,22 @@ frames_most (Frame q b ∷ past) p = go (q == p) (frames_most past p)
     go false h = omega (arith, h)
 frames_most (_ ∷ past) p = frames_most past p
 
-body_of : Message → List ℕ
+body_of : RecordedMessage → List ℕ
 body_of m = m.body
 
-bodies_more : (ms : List Message) (b : List ℕ) → map (λ (m : Message). m.body) (ms ++ message [] b ∷ []) ≡ map (λ (m : Message). m.body) ms ++ b ∷ []
+bodies_more : (ms : List RecordedMessage) (b : List ℕ) → map (λ (m : RecordedMessage). m.body) (ms ++ message [] b ∷ []) ≡ map (λ (m : RecordedMessage). m.body) ms ++ b ∷ []
 bodies_more [] b = refl
 bodies_more (m ∷ ms) b = ap (λ (xs : List (List ℕ)). m.body ∷ xs) (bodies_more ms b)
 
-are_frames : (z : Setting) (past : List Entry) (p : ℕ) → length (arrived z past) ≡ frame_total past → length (frames past p) ≡ frame_total past → map (λ (m : Message). m.body) (arrived z past) ≡ frames past p
+are_frames : (z : Setting) (past : List Entry) (p : ℕ) → length (arrived z past) ≡ frame_total past → length (frames past p) ≡ frame_total past → map (λ (m : RecordedMessage). m.body) (arrived z past) ≡ frames past p
 are_frames z [] p a f = refl
 are_frames z (Unkept u ∷ Frame q b ∷ past) p a f = absurd (omega (arith, a, arrived_most z past))
 are_frames z (Frame q b ∷ past) p a f = go (malformed z past q b) (q == p) a f (arrived_most z past) (frames_most past p) (are_frames z past p)
   where
     go : (c d : Bool) → length (cond c (arrived z past) (arrived z past ++ message [] b ∷ [])) ≡ frame_total past + 1 → length (cond d (frames past p ++ b ∷ []) (frames past p)) ≡ frame_total past + 1
         → length (arrived z past) ≤ frame_total past → length (frames past p) ≤ frame_total past
-        → (length (arrived z past) ≡ frame_total past → length (frames past p) ≡ frame_total past → map (λ (m : Message). m.body) (arrived z past) ≡ frames past p)
-        → map (λ (m : Message). m.body) (cond c (arrived z past) (arrived z past ++ message [] b ∷ [])) ≡ cond d (frames past p ++ b ∷ []) (frames past p)
+        → (length (arrived z past) ≡ frame_total past → length (frames past p) ≡ frame_total past → map (λ (m : RecordedMessage). m.body) (arrived z past) ≡ frames past p)
+        → map (λ (m : RecordedMessage). m.body) (cond c (arrived z past) (arrived z past ++ message [] b ∷ [])) ≡ cond d (frames past p ++ b ∷ []) (frames past p)
     go true d a f am fm again = absurd (omega (arith, a, am))
     go false false a f am fm again = absurd (omega (arith, f, fm))
     go false true a f am fm again =
@@ -202,15 +202,15 @@ none_left : {A : Type 0} (xs : List A) → length xs ≡ 0 → xs ≡ []
 none_left [] h = refl
 none_left (x ∷ xs) h = absurd (omega (arith, h))
 
-pub gives_frames : (y : Setting) (h : List (Turn Entry)) (p n : ℕ) → Legal (as_pull y) h → length (given (past_of h)) ≡ n → frame_total (past_of h) ≡ n → length (frames (past_of h) p) ≡ n → map (λ (m : Message). m.body) (given (past_of h)) ≡ frames (past_of h) p
+pub gives_frames : (y : Setting) (h : List (Turn Entry)) (p n : ℕ) → Legal (as_pull y) h → length (given (past_of h)) ≡ n → frame_total (past_of h) ≡ n → length (frames (past_of h) p) ≡ n → map (λ (m : RecordedMessage). m.body) (given (past_of h)) ≡ frames (past_of h) p
 gives_frames y h p n l g t f =
     let o = pull_gives y h l in
     let both = length_both (given (past_of h)) o.rest in
     let am = arrived_most (as_pull y) (past_of h) in
     let sizes = ap length o.in_order in
     let none : o.rest ≡ [] = none_left o.rest (omega (arith, g, t, both, am, sizes)) in
-    let all : given (past_of h) ≡ arrived (as_pull y) (past_of h) = sym (append-nil (given (past_of h))) ∙ ap (λ (xs : List Message). given (past_of h) ++ xs) (sym none) ∙ o.in_order in
-    ap (map (λ (m : Message). m.body)) all ∙ are_frames (as_pull y) (past_of h) p (sym (ap length all) ∙ g ∙ sym t) (f ∙ sym t)
+    let all : given (past_of h) ≡ arrived (as_pull y) (past_of h) = sym (append-nil (given (past_of h))) ∙ ap (λ (xs : List RecordedMessage). given (past_of h) ++ xs) (sym none) ∙ o.in_order in
+    ap (map (λ (m : RecordedMessage). m.body)) all ∙ are_frames (as_pull y) (past_of h) p (sym (ap length all) ∙ g ∙ sym t) (f ∙ sym t)
 
 -- ---- The name of a pipe stays
 
@@ -238,14 +238,14 @@ totals_given y h g t l c =
     let s = (summed (as_pull y) h refl (legal_front (as_pull y) [] h g l)).closes t c in
     let r = stays (as_pull y) (past_of h) g s.1 (legal_rest (as_pull y) [] h g l) in
     let e = past_both [] h g in
-    (s.0.0 ∙ ap (λ (ms : List Message). up_to_most (length ms)) (sym (ap given e ∙ r.given_is)), s.0.1 ∙ ap up_to_most (sym (ap frame_total e ∙ r.frames_are)), ap is_closed e ∙ r.closed)
+    (s.0.0 ∙ ap (λ (ms : List RecordedMessage). up_to_most (length ms)) (sym (ap given e ∙ r.given_is)), s.0.1 ∙ ap up_to_most (sym (ap frame_total e ∙ r.frames_are)), ap is_closed e ∙ r.closed)
 
 under_most : (n m : ℕ) → n ≡ up_to_most m → n ≤ 1000000 → m ≡ n
 under_most n m h low = omega (arith, h, low)
 
 -- a drill that has given as many as its one lane had gives them all
 pub gives_all : (y : Setting) (h g : List (Turn Entry)) (p n : ℕ) (t : Totals) (came : List (List ℕ)) → Legal (as_pull y) (h ++ g) → closed_totals (past_of h) ≡ Some t → t.won ≡ n → t.frames ≡ n → n ≤ 1000000
-    → came ≡ frames (past_of (h ++ g)) p → length came ≡ n → map (λ (m : Message). m.body) (given (past_of (h ++ g))) ≡ came
+    → came ≡ frames (past_of (h ++ g)) p → length came ≡ n → map (λ (m : RecordedMessage). m.body) (given (past_of (h ++ g))) ≡ came
 gives_all y h g p n t came l c won fs low is size =
     let s = totals_given y h g t l c in
     gives_frames y (h ++ g) p n l (under_most n _ (sym won ∙ s.0) low) (under_most n _ (sym fs ∙ s.1) low) (ap length (sym is) ∙ size) ∙ sym is
@@ -256,7 +256,7 @@ same_pipe : (p : ℕ) → (p == p) ≡ true
 same_pipe p = grind (arith, nat_tests)
 
 -- after the turn in which the pipe came up it has its name
-pub attached_named : (z : Setting) (h : List (Turn Entry)) (t : Turn Entry) (p place : ℕ) (name : WireName) → Legal z (h ++ t ∷ []) → p ≡ ups (past_of h) + 1 → HasFirst (Up p place name) t → (name_of (past_of (h ++ t ∷ [])) p ≡ Some name.numbers) × (p ≤ ups (past_of (h ++ t ∷ [])))
+pub attached_named : (z : Setting) (h : List (Turn Entry)) (t : Turn Entry) (p place : ℕ) (name : WireNumbers) → Legal z (h ++ t ∷ []) → p ≡ ups (past_of h) + 1 → HasFirst (Up p place name) t → (name_of (past_of (h ++ t ∷ [])) p ≡ Some name.numbers) × (p ≤ ups (past_of (h ++ t ∷ [])))
 attached_named z h t p place name l is f =
     let turn = (legal_rest z [] h (t ∷ []) l).0 in
     let follows = (subst (λ (es : List Entry). Follows z t.number (past_of h) es) f.entries turn.entries).1 in

@@ -2,8 +2,8 @@ mod Laws
 mod Values
 mod Feeding
 mod Due
-mod Calling
-mod Finishing
+mod DrillCallers
+mod EndOfDrill
 mod Sourcing
-mod Opening
+mod DrillBeginning
 mod Crossing

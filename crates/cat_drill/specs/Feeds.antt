@@ -7,7 +7,7 @@ use Rattle.cat_play.specs.Drilling.{values, bodies}
 use Rattle.sp_msg.specs.Views.{OverLanes}
 use Rattle.sp_lane.specs.Items.{texts}
 use Rattle.sp_lane.specs.LaneWires.{LaneWireView}
-use Rattle.cat_drill.specs.declared.source.Source.{Source}
+use Rattle.cat_drill.specs.declared.source.DrillSource.{DrillSource}
 
 -- the wire has the name of its lanes; and what came is what was taken, unless a message was lost
 pub record IsFeed (w : LaneWireView) (lost : Bool) : Type 0 where
@@ -20,7 +20,7 @@ value_after x zero = x
 value_after x (suc n) = value_after (next_value x) n
 
 -- the first values are in the lane or were taken from it, and it knows the last of them and their sum
-pub record IsSource (s : Source) : Type 0 where
+pub record IsSource (s : DrillSource) : Type 0 where
   pub begun : has_end s.lane.put ≡ false
   pub texts_are : texts s.lane.put ≡ bodies s.count
   pub value_is : s.value ≡ value_after 0 s.count

@@ -13,7 +13,7 @@ ghost use Rattle.cat_drill.specs.Feeds.{IsSource};
 ghost use Rattle.cat_drill.specs.Ending.{IsFedBy, IsCrew, IsOut, IsWhole, ClosesWith, CameFrom};
 
 use crate::feed::Feed;
-use crate::source::Source;
+use crate::source::DrillSource;
 use crate::tasks::Crew;
 use sp_base::PipeId;
 use sp_lane::{LaneOut, finish};
@@ -116,7 +116,7 @@ pub fn sum_of_all<R: Wait>(
     rt: &R,
     wires: WireList<Feed>,
     pipe: PipeId,
-    source: Source,
+    source: DrillSource,
     totals: Totals,
     record_: &Record,
     count: u32,
@@ -128,7 +128,7 @@ pub fn sum_of_all<R: Wait>(
     requires closes { (seen : List (Turn Entry)) × IsFedBy pipe source.lane.name seen × ClosesWith totals seen record_.now.turns }
     ensures { IfSome result (λ total. GivesAll count record_.now.turns × (total ≡ list_sum (values count) % 2 ^ 64)) }
 {
-    let Source {
+    let DrillSource {
         lane,
         value: _,
         total,

@@ -3,5 +3,5 @@ pub use crate::ending::{Closed, close_all, drop_all};
 pub use crate::feed::Feed;
 pub use crate::rounds::{begin_all, collect_all, contend, rounds};
 pub use crate::run::{crew_of, lanes};
-pub use crate::source::Source;
+pub use crate::source::DrillSource;
 pub use crate::tasks::{Crew, work};

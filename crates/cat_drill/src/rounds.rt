@@ -5,7 +5,7 @@ ghost use Rattle.cat_drill.specs.Ending.{IsCrew};
 ghost use Rattle.cat_drill.specs.Feeds.{IsSource};
 
 use crate::calls::{begin_one, collect_one, serve_one};
-use crate::source::Source;
+use crate::source::DrillSource;
 use crate::tasks::{Crew, Gate, all_work};
 use sp_base::{OpName, Tick};
 use sp_msg::Wire;
@@ -246,7 +246,7 @@ pub fn rounds<P: Proto + Send, W: Wire + Send, G: Gate + Sync, R: Wait + Threads
     socket: &Socket<P, W>,
     gate: &G,
     crew: Crew<P, W>,
-    source: &mut Source,
+    source: &mut DrillSource,
     count: u32,
 ) -> Crew<P, W>
     requires crew { IsCrew socket.now crew.main crew.two crew.three crew.four [] }

@@ -15,7 +15,7 @@ ghost use Rattle.sp_socket.specs.Passes.{new_list};
 use crate::ending::{Closed, close_all, drop_all, sum_of_all};
 use crate::feed::Feed;
 use crate::rounds::rounds;
-use crate::source::Source;
+use crate::source::DrillSource;
 use crate::tasks::{Crew, Gate};
 use cat_play::ends::Status;
 use proto_pipeline::Pull;
@@ -41,14 +41,14 @@ pub struct DrillEnd {
 }
 
 /// The lane of a drill, and the wire that is fed from it.
-pub fn lanes(alloc: Global) -> Result<(Source, Feed), NoMemory>
+pub fn lanes(alloc: Global) -> Result<(DrillSource, Feed), NoMemory>
     ensures source { IfOk result (λ made. IsSource made.0) }
     ensures unused { IfOk result (λ made. IsUnused made.1) }
     ensures name { IfOk result (λ made. (out : List ℕ) × (made.1.name ≡ OverLanes out made.0.lane.name)) }
 {
     let (input, output) = lane(alloc, LANE)?;
     let (silent, _) = lane(alloc, 1)?;
-    let source = Source {
+    let source = DrillSource {
         lane: input,
         value: 0,
         total: 0,
@@ -167,7 +167,7 @@ fn play<R: Wait + Threads + Sync, G: Gate + Sync, S: Sink>(
     socket: Socket<Pull, Feed>,
     list: SocketPasses<Pull, Feed>,
     crew: Crew<Pull, Feed>,
-    source: Source,
+    source: DrillSource,
     pipe: PipeId,
     count: u32,
     gate: &G,
@@ -198,7 +198,7 @@ fn drill_on<R: Wait + Threads + Sync, G: Gate + Sync, S: Sink>(
     alloc: Global,
     socket: Socket<Pull, Feed>,
     mut list: SocketPasses<Pull, Feed>,
-    source: Source,
+    source: DrillSource,
     feed: Feed,
     count: u32,
     gate: &G,

@@ -13,7 +13,7 @@ const MOST: u32 = 64;
 
 /// The end at which messages are put, and what was put there.
 #[derive(Drop)]
-pub struct Source {
+pub struct DrillSource {
     pub lane: LaneIn,
     /// The last value that was put, 0 before the first.
     pub value: u64,
@@ -30,7 +30,7 @@ fn added(total: u64, value: u64) -> u64
     total.wrapping_add(value)
 }
 
-impl Source {
+impl DrillSource {
     // Puts the next value, if the lane isn't full. Whether it was put.
     fn put_one<R: Wait>(&mut self, rt: &R, alloc: Global) -> Result<bool, NoMemory>
         requires source { IsSource self.old }

@@ -4,7 +4,7 @@ use Rattle.turn_lock.specs.declared.turn.Turn.{Turn}
 use Rattle.sp_base.specs.declared.OpName.{OpName}
 use Rattle.sp_base.specs.declared.role.Role.{Role}
 use Rattle.sp_history.specs.declared.entry.Entry.{Entry}
-use Rattle.sp_history.specs.declared.entry.WireName.{WireName}
+use Rattle.sp_history.specs.declared.entry.WireNumbers.{WireNumbers}
 use Rattle.sp_history.specs.declared.setting.Setting.{Setting}
 use Rattle.sp_history.specs.Options.{usual}
 use Rattle.cat_text.specs.declared.plan.Format.TheVariants as formats
@@ -29,7 +29,7 @@ turn entries = record { number = 1; entries = entries }
 abbrev pub op : ℕ → ℕ → OpName
 op slot generation = record { slot = slot; generation = generation }
 
-abbrev pub unnamed : WireName
+abbrev pub unnamed : WireNumbers
 unnamed = record { numbers = [] }
 
 -- how many items counted, and what was printed

@@ -4,8 +4,8 @@ use Rattle.std.specs.List.{flat_map}
 use Rattle.sp_base.specs.declared.OpName.{OpName}
 use Rattle.sp_base.specs.declared.role.Role.{Role}
 use Rattle.sp_base.specs.declared.role.Role.TheVariants.{Pair0, Pub, Sub, Req, Rep, Push, Pull, Surveyor, Respondent, Bus}
-use Rattle.sp_history.specs.declared.entry.Act.{Act}
-use Rattle.sp_history.specs.declared.entry.Act.TheVariants.{Recv, Send}
+use Rattle.sp_history.specs.declared.entry.RecordedAct.{RecordedAct}
+use Rattle.sp_history.specs.declared.entry.RecordedAct.TheVariants.{Recv, Send}
 use Rattle.sp_history.specs.declared.entry.Completion.TheVariants.{Received, Sent}
 use Rattle.sp_history.specs.declared.entry.Cause.TheVariants.{TimedOut, SurveyOver}
 use Rattle.sp_history.specs.declared.entry.Ending.{Ending}
@@ -152,7 +152,7 @@ is_timed_out (Some (Gone TimedOut by)) = true
 is_timed_out _ = false
 
 -- the act is a receive, or a send, as the flag says
-abbrev pub is_kind : Bool → Option Act → Bool
+abbrev pub is_kind : Bool → Option RecordedAct → Bool
 is_kind receives None = false
 is_kind receives (Some Recv) = receives
 is_kind receives (Some (Send m)) = not receives

@@ -9,7 +9,7 @@ use Rattle.sp_base.specs.declared.role.Role.TheVariants.{Pull}
 use Rattle.sp_base.specs.declared.addr.Addr.TheVariants as addrs
 use Rattle.sp_base.specs.declared.addr.Host.TheVariants as hosts
 use Rattle.sp_base.specs.declared.addr.Scheme.TheVariants as schemes
-use Rattle.sp_history.specs.declared.entry.Act.TheVariants.{Recv}
+use Rattle.sp_history.specs.declared.entry.RecordedAct.TheVariants.{Recv}
 use Rattle.sp_history.specs.declared.entry.Completion.TheVariants.{Received}
 use Rattle.sp_history.specs.declared.entry.Ending.TheVariants.{Won}
 use Rattle.sp_history.specs.declared.entry.Why.TheVariants as whys

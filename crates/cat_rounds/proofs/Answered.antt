@@ -7,15 +7,15 @@ use Rattle.turn_lock.specs.declared.turn.Turn.{Turn}
 use Rattle.sp_base.specs.declared.OpName.{OpName}
 use Rattle.sp_base.specs.declared.role.Role.{Role}
 use Rattle.sp_base.specs.declared.role.Role.TheVariants as roles
-use Rattle.sp_history.specs.declared.entry.Act.TheVariants.{Send}
+use Rattle.sp_history.specs.declared.entry.RecordedAct.TheVariants.{Send}
 use Rattle.sp_history.specs.declared.entry.Completion.TheVariants.{Received, Sent}
 use Rattle.sp_history.specs.declared.entry.Ending.{Ending}
 use Rattle.sp_history.specs.declared.entry.Ending.TheVariants.{Won, Gone}
 use Rattle.sp_history.specs.declared.entry.Entry.{Entry}
 use Rattle.sp_history.specs.declared.entry.Entry.TheVariants.{Begin, End, Frame, Out, Unkept, Took, Tick, Ctx, Close}
 use Rattle.sp_history.specs.declared.parts.Begun.{Begun}
-use Rattle.sp_history.specs.declared.parts.Ended.{Ended}
-use Rattle.sp_history.specs.declared.parts.Request.{Request}
+use Rattle.sp_history.specs.declared.parts.OperationEnd.{OperationEnd}
+use Rattle.sp_history.specs.declared.parts.LiveRequest.{LiveRequest}
 use Rattle.sp_history.specs.declared.parts.Requests.{Requests}
 use Rattle.sp_history.specs.declared.parts.How.{How}
 use Rattle.sp_history.specs.declared.parts.How.TheVariants as how
@@ -31,34 +31,34 @@ use Rattle.cat_play.specs.Plans.{Play}
 use Rattle.cat_play.specs.Scripts.{under_way, last_result, counts_for, asks_anew, count_in, timed_out_in, timed_out, counted, is_kind, is_timed_out, has_reached, over}
 use Rattle.cat_play.specs.Playing.{each, alternates, is_in_turn}
 use Rattle.cat_play.proofs.Stepping.{open_is}
-use Rattle.cat_rounds.specs.declared.player.Over.{Over}
-use Rattle.cat_rounds.specs.declared.player.Over.TheVariants as overs
+use Rattle.cat_rounds.specs.declared.player.PlayEnd.{PlayEnd}
+use Rattle.cat_rounds.specs.declared.player.PlayEnd.TheVariants as overs
 use Rattle.cat_rounds.specs.declared.player.Player.{Player}
 use Rattle.cat_rounds.specs.Lasting.{play_of, PlayStands, IsOver, IsUnderWay}
-use Rattle.cat_rounds.proofs.Ordered.{is_op_means, none_means, later_rule, uncollected_has_end, over_in, open_over, going}
+use Rattle.cat_rounds.proofs.BeginOrder.{is_op_means, none_means, later_rule, uncollected_has_end, over_in, open_over, going}
 use Rattle.cat_rounds.proofs.Surveying.{Plain, before, plain_past, out_ctx, frame_ctx, left_true, right_true, same_zero, never}
 use Rattle.cat_rounds.proofs.Unsent.{asked_none}
 
 -- ---- One operation at a time
 
 -- what is pending is the operation under way, on context 0, and is not collected
-abbrev IsAlone : Option OpName → List Begun → List Ended → Type 0
+abbrev IsAlone : Option OpName → List Begun → List OperationEnd → Type 0
 IsAlone w [] es = ⊤
-IsAlone w (s ∷ []) es = (w ≡ Some s.op) × (s.ctx ≡ 0) × (list_any (λ (e : Ended). is_of s.op e.begun) es ≡ false)
+IsAlone w (s ∷ []) es = (w ≡ Some s.op) × (s.ctx ≡ 0) × (list_any (λ (e : OperationEnd). is_of s.op e.begun) es ≡ false)
 IsAlone w (s ∷ x ∷ ss) es = ⊥
 
-pends_none : (ss : List Begun) (es : List Ended) → IsAlone None ss es → ss ≡ []
+pends_none : (ss : List Begun) (es : List OperationEnd) → IsAlone None ss es → ss ≡ []
 pends_none [] es a = refl
 pends_none (s ∷ []) es a = let no : None ≡ Some s.op = a.0 in cc
 pends_none (s ∷ x ∷ ss) es a = elim a [ ]
 
 -- no operation of the slot is there, so not this one
-not_there : (op : OpName) (es : List Ended) → list_any (λ (e : Ended). is_at op.slot e.begun) es ≡ false → list_any (λ (e : Ended). is_of op e.begun) es ≡ false
+not_there : (op : OpName) (es : List OperationEnd) → list_any (λ (e : OperationEnd). is_at op.slot e.begun) es ≡ false → list_any (λ (e : OperationEnd). is_of op e.begun) es ≡ false
 not_there op [] h = refl
 not_there op (e ∷ es) h = go (is_at op.slot e.begun) refl (is_of op e.begun) refl h (not_there op es)
   where
-    go : (a : Bool) → is_at op.slot e.begun ≡ a → (b : Bool) → is_of op e.begun ≡ b → (a || list_any (λ (x : Ended). is_at op.slot x.begun) es) ≡ false
-        → (list_any (λ (x : Ended). is_at op.slot x.begun) es ≡ false → list_any (λ (x : Ended). is_of op x.begun) es ≡ false) → (b || list_any (λ (x : Ended). is_of op x.begun) es) ≡ false
+    go : (a : Bool) → is_at op.slot e.begun ≡ a → (b : Bool) → is_of op e.begun ≡ b → (a || list_any (λ (x : OperationEnd). is_at op.slot x.begun) es) ≡ false
+        → (list_any (λ (x : OperationEnd). is_at op.slot x.begun) es ≡ false → list_any (λ (x : OperationEnd). is_of op x.begun) es ≡ false) → (b || list_any (λ (x : OperationEnd). is_of op x.begun) es) ≡ false
     go true i b j h again = cc
     go false i false j h again = again h
     go false i true j h again =
@@ -71,7 +71,7 @@ free_there false true h = cc
 free_there false false h = refl
 
 -- the end of one that is pending alone leaves none
-end_alone : (w : Option OpName) (op : OpName) (ss : List Begun) (es : List Ended) → IsAlone w ss es → (s : Begun) → find (is_of op) ss ≡ Some s → (ss ≡ s ∷ []) × (is_of op s ≡ true)
+end_alone : (w : Option OpName) (op : OpName) (ss : List Begun) (es : List OperationEnd) → IsAlone w ss es → (s : Begun) → find (is_of op) ss ≡ Some s → (ss ≡ s ∷ []) × (is_of op s ≡ true)
 end_alone w op [] es a s f = cc
 end_alone w op (x ∷ []) es a s f = go (is_of op x) refl f
   where
@@ -102,11 +102,11 @@ alone z play (Took op k ∷ past) p =
     let was = alone z play past (before z play (Took op k) past p) in
     subst (λ (ss : List Begun). IsAlone None ss (uncollected (Took op k ∷ past))) (sym (taken (pend past) is was p.allowed.0.1.itself.2)) tt
   where
-    taken : (ss : List Begun) → under_way past ≡ Some op → IsAlone (under_way past) ss (uncollected past) → list_any (λ (e : Ended). is_of op e.begun) (uncollected past) ≡ true → ss ≡ []
+    taken : (ss : List Begun) → under_way past ≡ Some op → IsAlone (under_way past) ss (uncollected past) → list_any (λ (e : OperationEnd). is_of op e.begun) (uncollected past) ≡ true → ss ≡ []
     taken [] is a there = refl
     taken (s ∷ []) is a there =
         let named : s.op ≡ op = let both : Some s.op ≡ Some op = sym a.0 ∙ is in cc in
-        let no : true ≡ false = sym there ∙ subst (λ (o : OpName). list_any (λ (e : Ended). is_of o e.begun) (uncollected past) ≡ false) named a.2 in cc
+        let no : true ≡ false = sym there ∙ subst (λ (o : OpName). list_any (λ (e : OperationEnd). is_of o e.begun) (uncollected past) ≡ false) named a.2 in cc
     taken (s ∷ x ∷ ss) is a there = elim a [ ]
 alone z play (e ∷ past) p = alone z play past (before z play e past p)
 
@@ -129,14 +129,14 @@ ends_one z play op ending past p =
 
 -- ---- Requests on context 0
 
-abbrev elsewhere : List Request → List Request
-elsewhere rs = filter (λ (r : Request). not (has (0 ∷ []) r.ctx)) rs
+abbrev elsewhere : List LiveRequest → List LiveRequest
+elsewhere rs = filter (λ (r : LiveRequest). not (has (0 ∷ []) r.ctx)) rs
 
 -- no live request is on another context, and none has left an operation behind
 abbrev AreZero : Requests → Type 0
 AreZero rs = (elsewhere rs.live ≡ []) × (rs.orphans ≡ [])
 
-zero_map : (f : Request → Request) → ((r : Request) → (f r).ctx ≡ r.ctx) → (rs : List Request) → elsewhere rs ≡ [] → elsewhere (map f rs) ≡ []
+zero_map : (f : LiveRequest → LiveRequest) → ((r : LiveRequest) → (f r).ctx ≡ r.ctx) → (rs : List LiveRequest) → elsewhere rs ≡ [] → elsewhere (map f rs) ≡ []
 zero_map f same [] h = refl
 zero_map f same (r ∷ rs) h = go (has (0 ∷ []) r.ctx) refl h (zero_map f same rs)
   where
@@ -147,7 +147,7 @@ zero_map f same (r ∷ rs) h = go (has (0 ∷ []) r.ctx) refl h (zero_map f same
 -- the requests of context 0 end, and nothing is pending
 ended_on : (c : ℕ) (why : How) (rs : Requests) → c ≡ 0 → AreZero rs → ((end_on (c ∷ []) why [] rs).live ≡ []) × ((end_on (c ∷ []) why [] rs).orphans ≡ [])
 ended_on c why rs zero a = (
-  subst (λ (n : ℕ). filter (λ (r : Request). not (has (n ∷ []) r.ctx)) rs.live ≡ []) (sym zero) a.0,
+  subst (λ (n : ℕ). filter (λ (r : LiveRequest). not (has (n ∷ []) r.ctx)) rs.live ≡ []) (sym zero) a.0,
   rw a.1 refl,
 )
 
@@ -157,11 +157,11 @@ none_zero rs none behind = (ap elsewhere none, behind)
 -- one begins there
 begun_zero : (z : Setting) (t c : ℕ) (body : List ℕ) (rs : Requests) → c ≡ 0 → rs.live ≡ [] → rs.orphans ≡ [] → AreZero (begin_on z t c body rs)
 begun_zero z t c body rs zero none behind = (
-  subst (λ (xs : List Request). elsewhere (xs ++ new c ∷ []) ≡ []) (sym none) (subst (λ (n : ℕ). elsewhere (new n ∷ []) ≡ []) (sym zero) refl),
+  subst (λ (xs : List LiveRequest). elsewhere (xs ++ new c ∷ []) ≡ []) (sym none) (subst (λ (n : ℕ). elsewhere (new n ∷ []) ≡ []) (sym zero) refl),
   behind,
 )
   where
-    new : ℕ → Request
+    new : ℕ → LiveRequest
     new n = record { ctx = n; id = next_id z rs; body = body; birth = t; last_out = None; replies = [] }
 
 -- the operation ended without a reply that is still to come
@@ -304,7 +304,7 @@ over_closes z play (e ∷ past) req open_ orders turns o under =
     over_closes z play past req open_ (later_rule alternates e past orders) (later_rule (is_in_turn z play) e past turns) o under
 
 -- the player says so rightly
-pub is_over_so : (o : Over) (z : Setting) (p : Player) (past : List Entry) → (o ≡ overs.Open → ⊥) → IsOver o z (play_of p.script) past → over z (play_of p.script) past ≡ true
+pub is_over_so : (o : PlayEnd) (z : Setting) (p : Player) (past : List Entry) → (o ≡ overs.Open → ⊥) → IsOver o z (play_of p.script) past → over z (play_of p.script) past ≡ true
 is_over_so overs.Open z p past n i = absurd (n refl)
 is_over_so overs.Finished z p past n i = go (has_reached p.script.count (counted z (play_of p.script) past)) (timed_out true past) (timed_out false past) i
   where

@@ -7,9 +7,9 @@ use Rattle.sp_base.specs.declared.OpName.{OpName}
 use Rattle.sp_base.specs.declared.role.Role.{Role}
 use Rattle.sp_base.specs.declared.role.Role.TheVariants as roles
 use Rattle.sp_base.specs.Roles.{can_send, can_receive}
-use Rattle.sp_history.specs.declared.entry.Act.{Act}
-use Rattle.sp_history.specs.declared.entry.Act.TheVariants.{Recv, Send}
-use Rattle.sp_history.specs.declared.entry.Message.{Message}
+use Rattle.sp_history.specs.declared.entry.RecordedAct.{RecordedAct}
+use Rattle.sp_history.specs.declared.entry.RecordedAct.TheVariants.{Recv, Send}
+use Rattle.sp_history.specs.declared.entry.RecordedMessage.{RecordedMessage}
 use Rattle.sp_history.specs.declared.entry.Ending.{Ending}
 use Rattle.sp_history.specs.declared.entry.Entry.{Entry}
 use Rattle.sp_history.specs.declared.entry.Entry.TheVariants.{Begin, Ctx}
@@ -34,15 +34,15 @@ use Rattle.cat_play.specs.Scripts.{under_way, last_result, last_send, receives_n
 use Rattle.cat_play.specs.Playing.{is_send, each, keeps_topics, is_left, may_rest, found_over, is_refused, is_kept_back, waits_for_pipe, waits_for_interval, deadline_for, carries_data, is_spaced}
 use Rattle.cat_play.specs.Steps.{AddsNone, HasOne, moves_play, moves_ends}
 use Rattle.cat_play.proofs.Stepping.{is_left_stays, last_result_stays, open_is}
-use Rattle.cat_rounds.specs.declared.player.Over.{Over}
-use Rattle.cat_rounds.specs.declared.player.Over.TheVariants as overs
+use Rattle.cat_rounds.specs.declared.player.PlayEnd.{PlayEnd}
+use Rattle.cat_rounds.specs.declared.player.PlayEnd.TheVariants as overs
 use Rattle.cat_rounds.specs.declared.player.Player.{Player}
 use Rattle.cat_rounds.specs.Lasting.{play_of, PlayStands, IsOver, IsLast, IsDue, HasPlayed, AreOn}
 use Rattle.cat_rounds.specs.Stepping.{Stands, GoesOnBy, Rested, step_for}
-use Rattle.cat_rounds.proofs.Subscribed.{still_on, on_turn}
+use Rattle.cat_rounds.proofs.TopicsStay.{still_on, on_turn}
 use Rattle.cat_rounds.proofs.Silent.{adds_one, now_stays}
 use Rattle.cat_rounds.proofs.Settling.{settling_silent, settling_linkless, none_around}
-use Rattle.cat_rounds.proofs.Standing.{play_stays, texts_stay_so, over_kept}
+use Rattle.cat_rounds.proofs.PlaysStay.{play_stays, texts_stay_so, over_kept}
 use Rattle.cat_rounds.proofs.Through.{BeginLeaves, begin_leaves, send_notes, MayBeginNow, begin_goes_on}
 use Rattle.cat_rounds.proofs.Surveying.{next_stays}
 
@@ -116,7 +116,7 @@ all_taken z past h = no_slot_where z past (λ i l. one i (h i l))
     one i (inl e) = rw e refl
     one i (inr e) = rw (not_less (begins past i) e) (or_true (not (is_free past i)))
 
-state_of_send : (role : Role) (z : Setting) (past : List Entry) (m n : Message) → state_for role z past 0 (Send m) ≡ state_for role z past 0 (Send n)
+state_of_send : (role : Role) (z : Setting) (past : List Entry) (m n : RecordedMessage) → state_for role z past 0 (Send m) ≡ state_for role z past 0 (Send n)
 state_of_send roles.Req z past m n = refl
 state_of_send roles.Surveyor z past m n = refl
 state_of_send roles.Rep z past m n = refl
@@ -128,7 +128,7 @@ state_of_send roles.Push z past m n = refl
 state_of_send roles.Pull z past m n = refl
 state_of_send roles.Bus z past m n = refl
 
-kept_back : (z : Setting) (past : List Entry) (b : Bool) (act : Act) → is_kind b (Some act) ≡ true → is_state z past 0 act ≡ true → is_kept_back z past b ≡ true
+kept_back : (z : Setting) (past : List Entry) (b : Bool) (act : RecordedAct) → is_kind b (Some act) ≡ true → is_state z past 0 act ≡ true → is_kept_back z past b ≡ true
 kept_back z past true Recv k s = s
 kept_back z past true (Send m) k s = cc
 kept_back z past false Recv k s = cc
@@ -145,7 +145,7 @@ rests : (z : Setting) (play : Play) (past : List Entry) → is_refused z play pa
 rests z play past e =
     last_or (over z play past || not (is_receive_next z play past) && (waits_for_pipe play past || waits_for_interval play past) || found_over z play past) (is_refused z play past) e
 
-does_it : (role : Role) (b r : Bool) (last : Option Ending) (act : Act) → is_kind (receives_next role b r last) (Some act) ≡ true → does role act ≡ true
+does_it : (role : Role) (b r : Bool) (last : Option Ending) (act : RecordedAct) → is_kind (receives_next role b r last) (Some act) ≡ true → does role act ≡ true
 does_it role b r last Recv k = may_receive role b r last k
 does_it role b r last (Send m) k = may_send role b r last (flip (receives_next role b r last) k)
   where
@@ -153,7 +153,7 @@ does_it role b r last (Send m) k = may_send role b r last (flip (receives_next r
     flip true h = cc
     flip false h = refl
 
-refused_means : (z : Setting) (play : Play) (past : List Entry) (act : Act) (e : BeginError) → z.role ≡ play.role → is_closed past ≡ false → IsTrue (each (keeps_topics play) past)
+refused_means : (z : Setting) (play : Play) (past : List Entry) (act : RecordedAct) (e : BeginError) → z.role ≡ play.role → is_closed past ≡ false → IsTrue (each (keeps_topics play) past)
     → is_kind (is_receive_next z play past) (Some act) ≡ true → RefusedFor e z past 0 act → (e ≡ error.NoMemory → ⊥) → is_refused z play past ≡ true
 refused_means z play past act error.Closed role open_ topics kind why not_memory = cc
 refused_means z play past act error.NotSupported role open_ topics kind (open_too, why) not_memory =
@@ -169,7 +169,7 @@ refused_means z play past act error.Busy role open_ topics kind (open_too, check
 refused_means z play past act error.NoMemory role open_ topics kind why not_memory = elim (not_memory refl) [ ]
 
 -- where a begin was refused for another cause than being out of memory, nothing can begin
-pub refused_rests : {says : Setting → List (Turn Entry) → Turn Entry → Type 0} (s s' : SingleView) (took : TookOne says s s') (p : Player) (t : ℕ) (act : Act) (e : BeginError)
+pub refused_rests : {says : Setting → List (Turn Entry) → Turn Entry → Type 0} (s s' : SingleView) (took : TookOne says s s') (p : Player) (t : ℕ) (act : RecordedAct) (e : BeginError)
     → AreSettling took.turn.entries → Stands s p t → is_left (past_of s.seen) ≡ false → is_kind (is_receive_next s.setting (play_of p.script) (past_of s.seen)) (Some act) ≡ true
     → RefusedFor e s.setting (past_of (s.seen ++ took.turn ∷ [])) 0 act → (e ≡ error.NoMemory → ⊥) → HasPlayed s'.setting s'.seen p
 refused_rests s s' took p t act e settles was left kind why not_memory =
@@ -199,7 +199,7 @@ refused_rests s s' took p t act e settles was left kind why not_memory =
 -- ---- An operation is under way
 
 -- the facts of a begin that the player makes
-pub record Makes (s : SingleView) (p : Player) (op : OpName) (act : Act) (d : Option ℕ) : Type 0 where
+pub record Makes (s : SingleView) (p : Player) (op : OpName) (act : RecordedAct) (d : Option ℕ) : Type 0 where
   pub free : p.op ≡ None
   pub open_ : p.over ≡ overs.Open
   pub next : is_kind (is_receive_next s.setting (play_of p.script) (past_of s.seen)) (Some act) ≡ true
@@ -215,24 +215,24 @@ pub record HasBegun (s s' : SingleView) (p : Player) (t : ℕ) (op : OpName) (se
   pub played : is_left (past_of s.seen) ≡ false → HasPlayed s'.setting s'.seen (record p { op = Some op; last_send = sent })
   pub texts_are : texts (play_of p.script) (past_of s'.seen) ≡ texts (play_of p.script) (past_of s.seen)
 
-has_one : (op : OpName) (act : Act) (d : Option ℕ) (t : Turn Entry) → (b : HasBegin op 1 0 act d t) → HasOne (Begin op 1 0 act d) t b.early b.late
+has_one : (op : OpName) (act : RecordedAct) (d : Option ℕ) (t : Turn Entry) → (b : HasBegin op 1 0 act d t) → HasOne (Begin op 1 0 act d) t b.early b.late
 has_one op act d t b = record { stands = b.entries; before = settling_silent b.early b.early_settles; after = settling_silent b.late b.late_settles; no_close = refl }
 
 under_none : (o : Option OpName) (h : List (Turn Entry)) → o ≡ None → Rattle.cat_rounds.specs.Lasting.IsUnderWay o h → under_way (past_of h) ≡ None
 under_none None h e u = u
 under_none (Some op) h e u = cc
 
-is_open : (o : Over) (z : Setting) (play : Play) (past : List Entry) → o ≡ overs.Open → IsOver o z play past → over z play past ≡ false
+is_open : (o : PlayEnd) (z : Setting) (play : Play) (past : List Entry) → o ≡ overs.Open → IsOver o z play past → over z play past ≡ false
 is_open overs.Open z play past e h = h
 is_open overs.Finished z play past e h = cc
 is_open overs.SendTimedOut z play past e h = cc
 
 -- what the player notes of its last send
-abbrev pub noted : Act → Option ℕ → ℕ → Option ℕ
+abbrev pub noted : RecordedAct → Option ℕ → ℕ → Option ℕ
 noted Recv sent t = sent
 noted (Send m) sent t = Some t
 
-pub has_begun : {says : Setting → List (Turn Entry) → Turn Entry → Type 0} (s s' : SingleView) (took : TookOne says s s') (p : Player) (t : ℕ) (op : OpName) (act : Act) (d : Option ℕ)
+pub has_begun : {says : Setting → List (Turn Entry) → Turn Entry → Type 0} (s s' : SingleView) (took : TookOne says s s') (p : Player) (t : ℕ) (op : OpName) (act : RecordedAct) (d : Option ℕ)
     → HasBegin op 1 0 act d took.turn → IsOpen 1 op s'.seen → Stands s p t → Makes s p op act d → HasBegun s s' p t op (noted act p.last_send t)
 has_begun s s' took p t op act d begin opens was makes =
     record {
@@ -269,10 +269,10 @@ has_begun s s' took p t op act d begin opens was makes =
           spaced = makes.spaced;
         }
 
-    sent_now : (a : Act) → a ≡ act → last_send (past_of (s.seen ++ took.turn ∷ [])) ≡ noted a p.last_send t
+    sent_now : (a : RecordedAct) → a ≡ act → last_send (past_of (s.seen ++ took.turn ∷ [])) ≡ noted a p.last_send t
     sent_now Recv e = leaves.received (sym e) ∙ was.play.sent
     sent_now (Send m) e =
-        send_notes s.seen took.turn begin.early begin.late op 1 0 act d one (subst (λ (a : Act). is_kind false (Some a) ≡ true) e refl) ∙ ap (λ n. Some n) (sym was.now_is)
+        send_notes s.seen took.turn begin.early begin.late op 1 0 act d one (subst (λ (a : RecordedAct). is_kind false (Some a) ≡ true) e refl) ∙ ap (λ n. Some n) (sym was.now_is)
 
     play_now : IsOpen 1 op (s.seen ++ took.turn ∷ []) → PlayStands s.setting (s.seen ++ took.turn ∷ []) (record p { op = Some op; last_send = noted act p.last_send t })
     play_now open_ =

@@ -27,8 +27,8 @@ use Rattle.cat_play.specs.Scripts.{over, has_ticked}
 use Rattle.cat_play.specs.Spending.{ticks_where, late_ticks, stalled_turns, is_stall, stalls_from, down_total, out_total, IsPrompt, EndsSoon}
 use Rattle.cat_play.specs.Steps.{AddsNone, moves_play, moves_ends}
 use Rattle.cat_play.proofs.Stepping.{stays}
-use Rattle.cat_rounds.specs.declared.player.Over.{Over}
-use Rattle.cat_rounds.specs.declared.player.Over.TheVariants as overs
+use Rattle.cat_rounds.specs.declared.player.PlayEnd.{PlayEnd}
+use Rattle.cat_rounds.specs.declared.player.PlayEnd.TheVariants as overs
 use Rattle.cat_rounds.specs.declared.player.Player.{Player}
 use Rattle.cat_rounds.specs.declared.player.Script.{Script}
 use Rattle.cat_rounds.specs.declared.rounds.Round.{Round}
@@ -39,10 +39,10 @@ use Rattle.cat_rounds.specs.Built.{IsBuilt, IsBuiltData, IsBody, FinishesTo, Fin
 use Rattle.cat_rounds.specs.Going.{has_more}
 use Rattle.cat_rounds.specs.Late.{late_at, IsLateBy, RoundIsLate, StallsMore}
 use Rattle.sp_ends.specs.Standing.{Beginning, LinkEndsView}
-use Rattle.cat_rounds.proofs.Beginning.{script_of}
+use Rattle.cat_rounds.proofs.BeforeRounds.{script_of}
 use Rattle.cat_rounds.proofs.Silent.{keeps_all}
 use Rattle.cat_rounds.proofs.Settling.{settling_silent}
-use Rattle.cat_rounds.proofs.Ticks.{first_tick, tick_of}
+use Rattle.cat_rounds.proofs.PlayTicks.{first_tick, tick_of}
 use Rattle.cat_rounds.proofs.Through.{turn_past}
 
 -- ---- Turns with a stall
@@ -144,8 +144,8 @@ same_at : (b : Bool) (m : ℕ) → b ≡ false → cond b (m + 1) m ≡ m
 same_at true m e = cc
 same_at false m e = refl
 
-is_early : (o : Over) (z : Setting) (play : Play) (past : List Entry) → IsOver o z play past → o ≡ overs.Open → over z play past ≡ false
-is_early o z play past is e = subst (λ (x : Over). IsOver x z play past) e is
+is_early : (o : PlayEnd) (z : Setting) (play : Play) (past : List Entry) → IsOver o z play past → o ≡ overs.Open → over z play past ≡ false
+is_early o z play past is e = subst (λ (x : PlayEnd). IsOver x z play past) e is
 
 late_counted : (s s' : SingleView) (p : Player) (n : ℕ) → TookOne (λ z h t. Ticks h t n) s s' → PlayStands s.setting s.seen p → late_at s' p ≡ cond (over s.setting (play_of p.script) (past_of s.seen)) (late_at s p + 1) (late_at s p)
 late_counted s s' p n took was =
@@ -187,7 +187,7 @@ module _ (s s1 s2 : SingleView) (p q : Player) (same : q.script ≡ p.script) (w
   drains_late (rounds.Ends why) s3 last more = late_of 1 s3 p q same (omega (arith, was, tick.late, tick.stalled, rest.late, rest.stalled, last.late, last.stalled))
 
 -- open, or not
-pub open_or : (o : Over) → (o ≡ overs.Open) ⊎ (o ≡ overs.Open → ⊥)
+pub open_or : (o : PlayEnd) → (o ≡ overs.Open) ⊎ (o ≡ overs.Open → ⊥)
 open_or overs.Open = inl refl
 open_or overs.Finished = inr (λ e. cc)
 open_or overs.SendTimedOut = inr (λ e. cc)

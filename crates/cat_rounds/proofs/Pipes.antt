@@ -6,7 +6,7 @@ use Rattle.turn_lock.specs.declared.turn.Turn.{Turn}
 use Rattle.sp_base.specs.declared.OpName.{OpName}
 use Rattle.sp_base.specs.declared.role.Role.{Role}
 use Rattle.sp_base.specs.declared.role.Role.TheVariants as roles
-use Rattle.sp_history.specs.declared.entry.Act.TheVariants.{Recv, Send}
+use Rattle.sp_history.specs.declared.entry.RecordedAct.TheVariants.{Recv, Send}
 use Rattle.sp_history.specs.declared.entry.Cause.TheVariants as causes
 use Rattle.sp_history.specs.declared.entry.Ending.{Ending}
 use Rattle.sp_history.specs.declared.entry.Entry.{Entry}
@@ -29,7 +29,7 @@ use Rattle.cat_rounds.specs.Lasting.{play_of, HasSurveys, HasPlayed, PlayStands,
 use Rattle.cat_rounds.proofs.Surveying.{Plain, before, plain_past, first_asks}
 use Rattle.cat_rounds.specs.Stepping.{KnowsPipes, NotedAs, Stands}
 use Rattle.cat_rounds.proofs.Begins.{at_new}
-use Rattle.cat_rounds.proofs.Counting.{has_body}
+use Rattle.cat_rounds.proofs.WhatCounts.{has_body}
 use Rattle.cat_rounds.proofs.Rounding.{ServesSo}
 
 -- ---- A play that only sends

@@ -18,7 +18,7 @@ use Rattle.sp_single.specs.Singles.{SingleView}
 use Rattle.link_opening.specs.Origins.{run_ways}
 use Rattle.sp_ends.specs.Standing.{Beginning, LinkEndsView, NetStands}
 use Rattle.sp_ends.specs.Leaving.{LinksLeft}
-use Rattle.sp_ends.proofs.Standing.{linkless}
+use Rattle.sp_ends.proofs.EndsStay.{linkless}
 use Rattle.cat_text.specs.declared.plan.CatPlan.{CatPlan}
 use Rattle.cat_play.specs.declared.ends.Status.{Status}
 use Rattle.cat_play.specs.declared.ends.Status.TheVariants as status
@@ -29,14 +29,14 @@ use Rattle.cat_play.specs.Scripts.{texts, counted, has_reached, timed_out}
 use Rattle.cat_play.specs.Spending.{Spends, listens_of, dials_of}
 use Rattle.cat_play.specs.Steps.{AddsNone, moves_ends}
 use Rattle.cat_play.proofs.Stepping.{none_first, none_rest}
-use Rattle.cat_rounds.specs.declared.player.Over.{Over}
-use Rattle.cat_rounds.specs.declared.player.Over.TheVariants as overs
+use Rattle.cat_rounds.specs.declared.player.PlayEnd.{PlayEnd}
+use Rattle.cat_rounds.specs.declared.player.PlayEnd.TheVariants as overs
 use Rattle.cat_rounds.specs.declared.player.Player.{Player}
 use Rattle.cat_rounds.specs.Lasting.{play_of, IsOver}
 use Rattle.cat_rounds.specs.Going.{RunStands, PrintsTo, IsDryAt, is_dry_at}
 use Rattle.cat_rounds.specs.Built.{EndsFor, Follows, FinishesTo, FinishesAs}
 use Rattle.cat_rounds.proofs.Silent.{keeps_all}
-use Rattle.cat_rounds.proofs.Standing.{over_kept}
+use Rattle.cat_rounds.proofs.PlaysStay.{over_kept}
 use Rattle.cat_rounds.proofs.Asked.{AreAsked, were_asked}
 
 -- ---- Turns that move no end
@@ -74,12 +74,12 @@ or_of : (a b : Bool) → IsTrue (a || b) → IsTrue a ⊎ IsTrue b
 or_of true b h = inl refl
 or_of false b h = inr h
 
-finished_is : (o : Over) (z : Setting) (play : Play) (past : List Entry) → o ≡ overs.Finished → IsOver o z play past → IsFinished z play past
+finished_is : (o : PlayEnd) (z : Setting) (play : Play) (past : List Entry) → o ≡ overs.Finished → IsOver o z play past → IsFinished z play past
 finished_is o z play past e is =
-    or_of (has_reached play.count (counted z play past)) (timed_out true past) (subst (λ (o : Over). IsOver o z play past) e is)
+    or_of (has_reached play.count (counted z play past)) (timed_out true past) (subst (λ (o : PlayEnd). IsOver o z play past) e is)
 
-timed_out_is : (o : Over) (z : Setting) (play : Play) (past : List Entry) → o ≡ overs.SendTimedOut → IsOver o z play past → IsTrue (timed_out false past)
-timed_out_is o z play past e is = subst (λ (o : Over). IsOver o z play past) e is
+timed_out_is : (o : PlayEnd) (z : Setting) (play : Play) (past : List Entry) → o ≡ overs.SendTimedOut → IsOver o z play past → IsTrue (timed_out false past)
+timed_out_is o z play past e is = subst (λ (o : PlayEnd). IsOver o z play past) e is
 
 prints : (st : Status) (before now : Option (List ℕ)) (h : List (Turn Entry)) (p : Player) (ts : List (List ℕ)) (old new : World) → old.sink.text ≡ before → new.sink.text ≡ now → ts ≡ texts (play_of p.script) (past_of h) → PrintsTo st before now h p → Printed st ts old new
 prints status.OutFault before now h p ts old new b n e (piece, cut, is) =

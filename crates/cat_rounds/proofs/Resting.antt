@@ -12,7 +12,7 @@ use Rattle.sp_single.specs.Singles.{SingleView, TookOne, Ticks}
 use Rattle.sp_ends.specs.Turning.{Quietly}
 use Rattle.cat_play.specs.Scripts.{under_way}
 use Rattle.cat_play.specs.Steps.{AddsNone, moves_ends, moves_play}
-use Rattle.cat_rounds.specs.declared.player.Over.TheVariants as overs
+use Rattle.cat_rounds.specs.declared.player.PlayEnd.TheVariants as overs
 use Rattle.cat_rounds.specs.declared.player.Player.{Player}
 use Rattle.cat_rounds.specs.declared.rounds.Going.TheVariants as goings
 use Rattle.cat_rounds.specs.declared.rounds.Round.{Round}

@@ -21,13 +21,13 @@ use Rattle.sp_single.specs.Singles.{TookOne}
 use Rattle.sp_spec.specs.Outside.{grown}
 use Rattle.cat_play.specs.Scripts.{texts, joined}
 use Rattle.cat_play.specs.Steps.{moves_ends, moves_play}
-use Rattle.cat_rounds.specs.declared.player.Over.TheVariants as overs
+use Rattle.cat_rounds.specs.declared.player.PlayEnd.TheVariants as overs
 use Rattle.cat_rounds.specs.declared.player.Player.{Player}
 use Rattle.cat_rounds.specs.Lasting.{play_of, PlayStands, IsUnderWay, HasPrinted, HasServed, MayTick, AreOn}
 use Rattle.cat_rounds.specs.Going.{AreCleared, has_more}
 use Rattle.cat_rounds.specs.Stepping.{Stands, GoesOnBy, SameScript}
 use Rattle.cat_rounds.proofs.Silent.{keeps_all, adds_then, swept_stays}
-use Rattle.cat_rounds.proofs.Ordered.{goes_on_while_busy, free_pends_none}
+use Rattle.cat_rounds.proofs.BeginOrder.{goes_on_while_busy, free_pends_none}
 use Rattle.cat_rounds.proofs.Cleared.{is_stall, all_cleared}
 use Rattle.cat_play.proofs.Stepping.{open_is}
 use Rattle.sp_history.proofs.Appending.{LegalFrom-front}
@@ -38,7 +38,7 @@ use Rattle.cat_rounds.proofs.Unsent.{IsSilent, nothing_sent, sends_once}
 use Rattle.cat_rounds.proofs.Answered.{is_over_so, none_live}
 use Rattle.std.proofs.lemmas.Bool.Decides.{nat_tests}
 use Rattle.sp_history.specs.Past.{pend}
-use Rattle.cat_rounds.proofs.Standing.{a_serve_serves}
+use Rattle.cat_rounds.proofs.PlaysStay.{a_serve_serves}
 use Rattle.cat_rounds.proofs.Begins.{at_new, goes_on_by, silent_stands, silent_texts}
 
 -- ---- Turns without a tick leave the pipes served

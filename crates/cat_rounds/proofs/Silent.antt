@@ -17,7 +17,7 @@ use Rattle.cat_play.specs.Scripts.{has_ticked, last_send}
 use Rattle.cat_play.specs.Playing.{PlaysSoFar, was_swept, is_swept, is_tick, has_tick, past_under}
 use Rattle.cat_play.specs.Steps.{moves_play, AddsNone}
 use Rattle.cat_play.proofs.Stepping.{stays, goes_on, under_is, reverse_more}
-use Rattle.cat_play.proofs.Turning.{silent_turn, silent_tick, none_any}
+use Rattle.cat_play.proofs.OneEntryTurns.{silent_turn, silent_tick, none_any}
 
 -- ---- Turns one by one
 

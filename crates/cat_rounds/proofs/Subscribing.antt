@@ -33,20 +33,20 @@ use Rattle.cat_play.specs.Scripts.{joined, has_ticked, has_begun, under_way, las
 use Rattle.cat_play.specs.Playing.{each, keeps_topics, is_left}
 use Rattle.cat_play.specs.Steps.{moves_play, moves_ends, MayPlay, HasOne}
 use Rattle.cat_play.proofs.Stepping.{stays, goes_on, open_is, under_way_stays, last_result_stays, is_left_stays}
-use Rattle.cat_play.proofs.Turning.{turn_of_one}
+use Rattle.cat_play.proofs.OneEntryTurns.{turn_of_one}
 use Rattle.cat_rounds.specs.declared.player.Player.{Player}
 use Rattle.cat_rounds.specs.Lasting.{play_of, PlayStands, IsUnderWay, IsLast, IsDue, AreOn, HasPrinted, MayTick}
 use Rattle.cat_rounds.specs.Going.{RunStands, PacedTo, is_dry_at}
 use Rattle.cat_rounds.specs.Starting.{CanSubscribe, IsBefore, Prepares}
 use Rattle.cat_rounds.proofs.Silent.{adds_one, adds_nothing, last_send_stays, ticked_stays}
 use Rattle.cat_rounds.proofs.Settling.{settling_silent, settling_linkless, none_around}
-use Rattle.cat_rounds.proofs.Standing.{play_stays, texts_stay_so, over_kept}
-use Rattle.cat_rounds.proofs.Subscribed.{topics_stay}
+use Rattle.cat_rounds.proofs.PlaysStay.{play_stays, texts_stay_so, over_kept}
+use Rattle.cat_rounds.proofs.TopicsStay.{topics_stay}
 use Rattle.cat_rounds.proofs.Through.{through, upon, stays_open, count_in_stays, texts_in_stay, timed_in_stays}
 use Rattle.cat_rounds.proofs.Begins.{at_new, sound_new, goes_on_by, ctx_zero}
 use Rattle.cat_rounds.proofs.Rounding.{goes_then}
-use Rattle.cat_rounds.proofs.Opening.{run_linkless}
-use Rattle.cat_rounds.proofs.Counted.{no_ticks}
+use Rattle.cat_rounds.proofs.WholeRounds.{run_linkless}
+use Rattle.cat_rounds.proofs.AllRounds.{no_ticks}
 
 -- ---- What silent entries leave
 

@@ -4,14 +4,14 @@ use Rattle.std.specs.Prelude.{drop, map, max, if◌then◌else◌, not, ◌&&◌
 use Rattle.std.proofs.lemmas.Bool.Decides.{nat_tests}
 use Rattle.sp_base.specs.declared.role.Role.{Role}
 use Rattle.sp_base.specs.declared.role.Role.TheVariants as roles
-use Rattle.sp_history.specs.declared.entry.Act.TheVariants.{Recv, Send}
+use Rattle.sp_history.specs.declared.entry.RecordedAct.TheVariants.{Recv, Send}
 use Rattle.sp_history.specs.declared.entry.Completion.TheVariants.{Received, Sent}
 use Rattle.sp_history.specs.declared.entry.Ending.{Ending}
 use Rattle.sp_history.specs.declared.entry.Ending.TheVariants.{Won, Gone}
 use Rattle.sp_history.specs.declared.entry.Entry.{Entry}
 use Rattle.sp_history.specs.declared.entry.Entry.TheVariants.{Begin, End, Frame, Out, Unkept, Tick, Ctx, Close}
 use Rattle.sp_history.specs.declared.parts.Begun.{Begun}
-use Rattle.sp_history.specs.declared.parts.Request.{Request}
+use Rattle.sp_history.specs.declared.parts.LiveRequest.{LiveRequest}
 use Rattle.sp_history.specs.declared.parts.Requests.{Requests}
 use Rattle.sp_history.specs.declared.parts.How.TheVariants as how
 use Rattle.sp_history.specs.declared.setting.Setting.{Setting}
@@ -121,7 +121,7 @@ next_stays z play entries past role none same =
 -- ---- Which survey is live
 
 -- there is none, or one on context 0 that was begun at this moment
-abbrev IsShape : Option ℕ → List Request → Type 0
+abbrev IsShape : Option ℕ → List LiveRequest → Type 0
 IsShape None [] = ⊤
 IsShape None (r ∷ rs) = ⊥
 IsShape (Some since) [] = ⊥
@@ -134,7 +134,7 @@ alive None t = None
 alive (Some since) t = if nat_le (since + 1000) t then None else Some since
 
 -- a change that leaves context and birth
-shape_map : (f : Request → Request) → ((r : Request) → (f r).ctx ≡ r.ctx) → ((r : Request) → (f r).birth ≡ r.birth) → (o : Option ℕ) (rs : List Request) → IsShape o rs → IsShape o (map f rs)
+shape_map : (f : LiveRequest → LiveRequest) → ((r : LiveRequest) → (f r).ctx ≡ r.ctx) → ((r : LiveRequest) → (f r).birth ≡ r.birth) → (o : Option ℕ) (rs : List LiveRequest) → IsShape o rs → IsShape o (map f rs)
 shape_map f c b None [] s = s
 shape_map f c b None (r ∷ rs) s = s
 shape_map f c b (Some since) [] s = s
@@ -142,36 +142,36 @@ shape_map f c b (Some since) (r ∷ []) s = (c r ∙ s.0, b r ∙ s.1)
 shape_map f c b (Some since) (r ∷ x ∷ rs) s = s
 
 -- the survey of context 0 ends
-shape_ends : (o : Option ℕ) (rs : List Request) → IsShape o rs → filter (λ (r : Request). not (has (0 ∷ []) r.ctx)) rs ≡ []
+shape_ends : (o : Option ℕ) (rs : List LiveRequest) → IsShape o rs → filter (λ (r : LiveRequest). not (has (0 ∷ []) r.ctx)) rs ≡ []
 shape_ends None [] s = refl
 shape_ends None (r ∷ rs) s = elim s [ ]
 shape_ends (Some since) [] s = elim s [ ]
 shape_ends (Some since) (r ∷ []) s = rw s.0 refl
 shape_ends (Some since) (r ∷ x ∷ rs) s = elim s [ ]
 
-either : (b : Bool) (r : Request) → (P : Request → Type 0) → (f g : Request) → P f → P g → P (if b then f else g)
+either : (b : Bool) (r : LiveRequest) → (P : LiveRequest → Type 0) → (f g : LiveRequest) → P f → P g → P (if b then f else g)
 either true r P f g x y = x
 either false r P f g x y = y
 
-pub out_ctx : (t p : ℕ) (b : List ℕ) (r : Request) → (with_out t p b r).ctx ≡ r.ctx
-out_ctx t p b r = either (same_bytes b (wire_of r)) r (λ (x : Request). x.ctx ≡ r.ctx) (record r { last_out = Some (record { pipe = p; when = t }) }) r refl refl
+pub out_ctx : (t p : ℕ) (b : List ℕ) (r : LiveRequest) → (with_out t p b r).ctx ≡ r.ctx
+out_ctx t p b r = either (same_bytes b (wire_of r)) r (λ (x : LiveRequest). x.ctx ≡ r.ctx) (record r { last_out = Some (record { pipe = p; when = t }) }) r refl refl
 
-out_birth : (t p : ℕ) (b : List ℕ) (r : Request) → (with_out t p b r).birth ≡ r.birth
-out_birth t p b r = either (same_bytes b (wire_of r)) r (λ (x : Request). x.birth ≡ r.birth) (record r { last_out = Some (record { pipe = p; when = t }) }) r refl refl
+out_birth : (t p : ℕ) (b : List ℕ) (r : LiveRequest) → (with_out t p b r).birth ≡ r.birth
+out_birth t p b r = either (same_bytes b (wire_of r)) r (λ (x : LiveRequest). x.birth ≡ r.birth) (record r { last_out = Some (record { pipe = p; when = t }) }) r refl refl
 
-pub frame_ctx : (z : Setting) (past : List Entry) (p : ℕ) (b : List ℕ) (r : Request) → (with_frame z past p b r).ctx ≡ r.ctx
+pub frame_ctx : (z : Setting) (past : List Entry) (p : ℕ) (b : List ℕ) (r : LiveRequest) → (with_frame z past p b r).ctx ≡ r.ctx
 frame_ctx z past p b r =
-    either (not (malformed z past p b) && is_for b r && has_room z r) r (λ (x : Request). x.ctx ≡ r.ctx) (record r { replies = r.replies ++ plain_item p (drop 4 b) ∷ [] }) r refl refl
+    either (not (malformed z past p b) && is_for b r && has_room z r) r (λ (x : LiveRequest). x.ctx ≡ r.ctx) (record r { replies = r.replies ++ plain_item p (drop 4 b) ∷ [] }) r refl refl
 
-frame_birth : (z : Setting) (past : List Entry) (p : ℕ) (b : List ℕ) (r : Request) → (with_frame z past p b r).birth ≡ r.birth
+frame_birth : (z : Setting) (past : List Entry) (p : ℕ) (b : List ℕ) (r : LiveRequest) → (with_frame z past p b r).birth ≡ r.birth
 frame_birth z past p b r =
-    either (not (malformed z past p b) && is_for b r && has_room z r) r (λ (x : Request). x.birth ≡ r.birth) (record r { replies = r.replies ++ plain_item p (drop 4 b) ∷ [] }) r refl refl
+    either (not (malformed z past p b) && is_for b r && has_room z r) r (λ (x : LiveRequest). x.birth ≡ r.birth) (record r { replies = r.replies ++ plain_item p (drop 4 b) ∷ [] }) r refl refl
 
-taken_ctx : (c : ℕ) (r : Request) → (with_taken c r).ctx ≡ r.ctx
-taken_ctx c r = either (is_on c r) r (λ (x : Request). x.ctx ≡ r.ctx) (record r { replies = drop 1 r.replies }) r refl refl
+taken_ctx : (c : ℕ) (r : LiveRequest) → (with_taken c r).ctx ≡ r.ctx
+taken_ctx c r = either (is_on c r) r (λ (x : LiveRequest). x.ctx ≡ r.ctx) (record r { replies = drop 1 r.replies }) r refl refl
 
-taken_birth : (c : ℕ) (r : Request) → (with_taken c r).birth ≡ r.birth
-taken_birth c r = either (is_on c r) r (λ (x : Request). x.birth ≡ r.birth) (record r { replies = drop 1 r.replies }) r refl refl
+taken_birth : (c : ℕ) (r : LiveRequest) → (with_taken c r).birth ≡ r.birth
+taken_birth c r = either (is_on c r) r (λ (x : LiveRequest). x.birth ≡ r.birth) (record r { replies = drop 1 r.replies }) r refl refl
 
 shape_end : (z : Setting) → is_req z.role ≡ false → (ending : Ending) (s : Option Begun) (ss : List Begun) (rs : Requests) (o : Option ℕ) → IsShape o rs.live → IsShape o (after_end z ending s ss rs).live
 shape_end z other ending None ss rs o h = h
@@ -185,12 +185,12 @@ shape_ticks : (z : Setting) → is_req z.role ≡ false → z.options.survey ≡
 unfolding after_moment
 shape_ticks z other time None t n ss rs later h = rw other (none rs.live h)
   where
-    none : (xs : List Request) → IsShape None xs → IsShape None (filter (λ (r : Request). not (has (over_at z n rs) r.ctx)) xs)
+    none : (xs : List LiveRequest) → IsShape None xs → IsShape None (filter (λ (r : LiveRequest). not (has (over_at z n rs) r.ctx)) xs)
     none [] h = tt
     none (x ∷ xs) h = elim h [ ]
 shape_ticks z other time (Some since) t n ss rs later h = rw other (go (nat_le (since + 1000) t) refl (nat_le (since + 1000) n) refl rs.live refl h)
   where
-    go : (a : Bool) → nat_le (since + 1000) t ≡ a → (b : Bool) → nat_le (since + 1000) n ≡ b → (xs : List Request) → rs.live ≡ xs → IsShape (if a then None else Some since) xs → IsShape (if b then None else Some since) (filter (λ (r : Request). not (has (map (λ (r : Request). r.ctx) (filter (is_over z n) rs.live)) r.ctx)) xs)
+    go : (a : Bool) → nat_le (since + 1000) t ≡ a → (b : Bool) → nat_le (since + 1000) n ≡ b → (xs : List LiveRequest) → rs.live ≡ xs → IsShape (if a then None else Some since) xs → IsShape (if b then None else Some since) (filter (λ (r : LiveRequest). not (has (map (λ (r : LiveRequest). r.ctx) (filter (is_over z n) rs.live)) r.ctx)) xs)
     go true e true k [] is h = tt
     go true e false k xs is h = (let bad : ⊥ = clash e k in elim bad [ ])
       where
@@ -200,11 +200,11 @@ shape_ticks z other time (Some since) t n ss rs later h = rw other (go (nat_le (
     go false e b k [] is h = elim h [ ]
     go false e true k (x ∷ []) is h =
         let over : is_over z n x ≡ true = rw (time, h.1) k in
-        let all : map (λ (r : Request). r.ctx) (filter (is_over z n) rs.live) ≡ x.ctx ∷ [] = rw (is, over) refl in
+        let all : map (λ (r : LiveRequest). r.ctx) (filter (is_over z n) rs.live) ≡ x.ctx ∷ [] = rw (is, over) refl in
         rw (all, h.0) tt
     go false e false k (x ∷ []) is h =
         let open_ : is_over z n x ≡ false = rw (time, h.1) k in
-        let all : map (λ (r : Request). r.ctx) (filter (is_over z n) rs.live) ≡ [] = rw (is, open_) refl in
+        let all : map (λ (r : LiveRequest). r.ctx) (filter (is_over z n) rs.live) ≡ [] = rw (is, open_) refl in
         rw all h
     go false e b k (x ∷ y ∷ xs) is h = elim h [ ]
 
@@ -223,12 +223,12 @@ not_yet : (n : ℕ) → nat_le (n + 1000) n ≡ false
 not_yet n = grind (arith, nat_tests)
 
 -- a survey on context 0, begun now
-abbrev begun : ℕ → ℕ → List ℕ → ℕ → Request
+abbrev begun : ℕ → ℕ → List ℕ → ℕ → LiveRequest
 begun c id body n = record { ctx = c; id = id; body = body; birth = n; last_out = None; replies = [] }
 
-begun_shape : (c n id : ℕ) (body : List ℕ) (o : Option ℕ) (rs : List Request) → c ≡ 0 → IsShape o rs → IsShape (alive (Some n) n) (filter (λ (r : Request). not (has (c ∷ []) r.ctx)) rs ++ begun c id body n ∷ [])
+begun_shape : (c n id : ℕ) (body : List ℕ) (o : Option ℕ) (rs : List LiveRequest) → c ≡ 0 → IsShape o rs → IsShape (alive (Some n) n) (filter (λ (r : LiveRequest). not (has (c ∷ []) r.ctx)) rs ++ begun c id body n ∷ [])
 begun_shape c n id body o rs zero s =
-    subst (λ (k : ℕ). IsShape (alive (Some n) n) (filter (λ (r : Request). not (has (k ∷ []) r.ctx)) rs ++ begun k id body n ∷ [])) (sym zero) (subst (λ (xs : List Request). IsShape (alive (Some n) n) (xs ++ begun 0 id body n ∷ [])) (sym (shape_ends o rs s)) (subst (λ (b : Bool). IsShape (if b then None else Some n) (begun 0 id body n ∷ [])) (sym (not_yet n)) (refl, refl)))
+    subst (λ (k : ℕ). IsShape (alive (Some n) n) (filter (λ (r : LiveRequest). not (has (k ∷ []) r.ctx)) rs ++ begun k id body n ∷ [])) (sym zero) (subst (λ (xs : List LiveRequest). IsShape (alive (Some n) n) (xs ++ begun 0 id body n ∷ [])) (sym (shape_ends o rs s)) (subst (λ (b : Bool). IsShape (if b then None else Some n) (begun 0 id body n ∷ [])) (sym (not_yet n)) (refl, refl)))
 
 pub never : {A : Type 0} → false ≡ true → A
 never e = cc
@@ -276,7 +276,7 @@ shape z other time play (Unkept q ∷ Frame r b ∷ past) p =
     shape z other time play past (before z play (Frame r b) past (before z play (Unkept q) (Frame r b ∷ past) p))
 shape z other time play (e ∷ past) p = shape z other time play past (before z play e past p)
 
-found : (o : Option ℕ) (rs : List Request) → IsShape o rs → is_some (find (is_on 0) rs) ≡ is_some o
+found : (o : Option ℕ) (rs : List LiveRequest) → IsShape o rs → is_some (find (is_on 0) rs) ≡ is_some o
 found None [] s = refl
 found None (r ∷ rs) s = elim s [ ]
 found (Some since) [] s = elim s [ ]

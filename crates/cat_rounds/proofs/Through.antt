@@ -4,8 +4,8 @@ use Rattle.std.specs.Prelude.{not, ◌&&◌, ◌||◌, if◌then◌else◌, is_s
 use Rattle.std.proofs.lemmas.Bool.Decides.{nat_tests}
 use Rattle.turn_lock.specs.declared.turn.Turn.{Turn}
 use Rattle.sp_base.specs.declared.OpName.{OpName}
-use Rattle.sp_history.specs.declared.entry.Act.{Act}
-use Rattle.sp_history.specs.declared.entry.Act.TheVariants.{Recv, Send}
+use Rattle.sp_history.specs.declared.entry.RecordedAct.{RecordedAct}
+use Rattle.sp_history.specs.declared.entry.RecordedAct.TheVariants.{Recv, Send}
 use Rattle.sp_history.specs.declared.entry.Ending.{Ending}
 use Rattle.sp_history.specs.declared.entry.Entry.{Entry}
 use Rattle.sp_history.specs.declared.entry.Entry.TheVariants.{Begin, Took, Close}
@@ -24,12 +24,12 @@ use Rattle.cat_play.specs.Playing.{PlaysSoFar, is_left, is_surveyor, waits_for_p
 use Rattle.cat_play.specs.Steps.{moves_play, is_close, MayPlay, HasOne}
 use Rattle.cat_play.proofs.Stepping.{stays, goes_on, open_is, under_way_stays, last_result_stays, is_left_stays}
 use Rattle.cat_play.proofs.Staying.{over_stays}
-use Rattle.cat_play.proofs.Turning.{turn_of_one}
+use Rattle.cat_play.proofs.OneEntryTurns.{turn_of_one}
 use Rattle.cat_rounds.specs.Lasting.{AreOn}
-use Rattle.cat_rounds.proofs.Subscribed.{topics_stay, still_on}
+use Rattle.cat_rounds.proofs.TopicsStay.{topics_stay, still_on}
 use Rattle.cat_rounds.proofs.Silent.{last_send_stays, now_stays, closed_stays}
 use Rattle.cat_rounds.proofs.Surveying.{SameSurvey, asks_stay, silent_surveys, next_stays, counts_same}
-use Rattle.cat_rounds.proofs.Ordered.{uncollected_has_end, end_stays, over_in, open_over}
+use Rattle.cat_rounds.proofs.BeginOrder.{uncollected_has_end, end_stays, over_in, open_over}
 
 -- ---- The past of the turn
 
@@ -90,7 +90,7 @@ stays_open h t early late e one open_ =
     no_close _ h = refl
 
 -- what a turn with this begin leaves
-pub record BeginLeaves (z : Setting) (play : Play) (op : OpName) (act : Act) (h h' : List (Turn Entry)) : Type 0 where
+pub record BeginLeaves (z : Setting) (play : Play) (op : OpName) (act : RecordedAct) (h h' : List (Turn Entry)) : Type 0 where
   pub open_ : is_closed (past_of h') ≡ false
   pub under : under_way (past_of h') ≡ Some op
   pub result : last_result (past_of h') ≡ last_result (past_of h)
@@ -103,7 +103,7 @@ pub record BeginLeaves (z : Setting) (play : Play) (op : OpName) (act : Act) (h 
   pub now_is : now (past_of h') ≡ now (past_of h)
   pub topics_are : topics (past_of h') 0 ≡ topics (past_of h) 0
 
-pub begin_leaves : (z : Setting) (play : Play) (h : List (Turn Entry)) (t : Turn Entry) (early late : List Entry) (op : OpName) (k c : ℕ) (act : Act) (d : Option ℕ)
+pub begin_leaves : (z : Setting) (play : Play) (h : List (Turn Entry)) (t : Turn Entry) (early late : List Entry) (op : OpName) (k c : ℕ) (act : RecordedAct) (d : Option ℕ)
     → HasOne (Begin op k c act d) t early late → is_closed (past_of h) ≡ false → BeginLeaves z play op act h (h ++ t ∷ [])
 begin_leaves z play h t early late op k c act d one open_ =
     record {
@@ -123,7 +123,7 @@ begin_leaves z play h t early late op k c act d one open_ =
     open_more : is_closed (past_of (h ++ t ∷ [])) ≡ false
     open_more = stays_open h t early late (Begin op k c act d) one open_
 
-    by_act : (a : Act) → a ≡ Recv → last_send (Begin op k c a d ∷ onto early (past_of h)) ≡ last_send (onto early (past_of h))
+    by_act : (a : RecordedAct) → a ≡ Recv → last_send (Begin op k c a d ∷ onto early (past_of h)) ≡ last_send (onto early (past_of h))
     by_act Recv e = refl
     by_act (Send m) e = cc
 
@@ -132,7 +132,7 @@ begin_leaves z play h t early late op k c act d one open_ =
         rw (count_in_stays z play entries past none, timed_in_stays true entries past none, timed_in_stays false entries past none) refl
 
 -- a turn that begins a send notes its moment
-pub send_notes : (h : List (Turn Entry)) (t : Turn Entry) (early late : List Entry) (op : OpName) (k c : ℕ) (act : Act) (d : Option ℕ)
+pub send_notes : (h : List (Turn Entry)) (t : Turn Entry) (early late : List Entry) (op : OpName) (k c : ℕ) (act : RecordedAct) (d : Option ℕ)
     → HasOne (Begin op k c act d) t early late → is_kind false (Some act) ≡ true → last_send (past_of (h ++ t ∷ [])) ≡ Some (now (past_of h))
 send_notes h t early late op k c Recv d one kind = cc
 send_notes h t early late op k c (Send m) d one kind =
@@ -145,7 +145,7 @@ same_self None = refl
 same_self (Some a) = grind (arith, nat_tests)
 
 -- the facts of a begin that may come, before its turn
-pub record MayBeginNow (z : Setting) (play : Play) (past : List Entry) (op : OpName) (k : ℕ) (act : Act) (d : Option ℕ) : Type 0 where
+pub record MayBeginNow (z : Setting) (play : Play) (past : List Entry) (op : OpName) (k : ℕ) (act : RecordedAct) (d : Option ℕ) : Type 0 where
   pub open_ : is_closed past ≡ false
   pub role : z.role ≡ play.role
   pub pipe : (is_send (Begin op k 0 act d) && waits_for_pipe play past) ≡ false
@@ -157,7 +157,7 @@ pub record MayBeginNow (z : Setting) (play : Play) (past : List Entry) (op : OpN
   pub deadline : d ≡ deadline_for play past act
   pub spaced : is_spaced play past (Begin op k 0 act d) ≡ true
 
-begin_may : (z : Setting) (play : Play) (past entries : List Entry) (op : OpName) (k : ℕ) (act : Act) (d : Option ℕ) → none_of moves_play entries ≡ true → MayBeginNow z play past op k act d → MayPlay z play (onto entries past) (Begin op k 0 act d)
+begin_may : (z : Setting) (play : Play) (past entries : List Entry) (op : OpName) (k : ℕ) (act : RecordedAct) (d : Option ℕ) → none_of moves_play entries ≡ true → MayBeginNow z play past op k act d → MayPlay z play (onto entries past) (Begin op k 0 act d)
 begin_may z play past entries op k act d none may =
     record {
       topics = still_on play.topics past (onto entries past) (topics_stay entries past none) may.topics_on;
@@ -176,20 +176,20 @@ begin_may z play past entries op k act d none may =
     kind_now : is_kind (is_receive_next z play (onto entries past)) (Some act) ≡ true
     kind_now = ap (λ n. is_kind n (Some act)) (next_stays z play entries past may.role none (last_result_stays entries past none)) ∙ may.next
 
-    data_kept : (a : Act) → carries_data play past (Begin op k 0 a d) ≡ true → carries_data play (onto entries past) (Begin op k 0 a d) ≡ true
+    data_kept : (a : RecordedAct) → carries_data play past (Begin op k 0 a d) ≡ true → carries_data play (onto entries past) (Begin op k 0 a d) ≡ true
     data_kept Recv h = refl
     data_kept (Send m) h = h
 
-    deadline_kept : (a : Act) → deadline_for play (onto entries past) a ≡ deadline_for play past a
+    deadline_kept : (a : RecordedAct) → deadline_for play (onto entries past) a ≡ deadline_for play past a
     deadline_kept Recv = rw (now_stays entries past none) refl
     deadline_kept (Send m) = rw (now_stays entries past none) refl
 
-    spaced_kept : (a : Act) → is_spaced play past (Begin op k 0 a d) ≡ true → is_spaced play (onto entries past) (Begin op k 0 a d) ≡ true
+    spaced_kept : (a : RecordedAct) → is_spaced play past (Begin op k 0 a d) ≡ true → is_spaced play (onto entries past) (Begin op k 0 a d) ≡ true
     spaced_kept Recv h = refl
     spaced_kept (Send m) h = rw (last_send_stays entries past none, now_stays entries past none) h
 
 -- so the play goes on with the turn
-pub begin_goes_on : (z : Setting) (play : Play) (h : List (Turn Entry)) (t : Turn Entry) (early late : List Entry) (op : OpName) (k : ℕ) (act : Act) (d : Option ℕ)
+pub begin_goes_on : (z : Setting) (play : Play) (h : List (Turn Entry)) (t : Turn Entry) (early late : List Entry) (op : OpName) (k : ℕ) (act : RecordedAct) (d : Option ℕ)
     → HasOne (Begin op k 0 act d) t early late → MayBeginNow z play (past_of h) op k act d → PlaysSoFar z play h → PlaysSoFar z play (h ++ t ∷ [])
 begin_goes_on z play h t early late op k act d one may was =
     goes_on z play h t may.open_ was (turn_of_one z play h t (Begin op k 0 act d) early late one (begin_may z play (past_of h) early op k act d one.before may) may.pipe (λ tick. cc))

@@ -6,11 +6,11 @@ use Rattle.turn_lock.specs.declared.turn.Turn.{Turn}
 use Rattle.sp_history.specs.declared.entry.Completion.TheVariants.{Received, Sent}
 use Rattle.sp_history.specs.declared.entry.Ending.{Ending}
 use Rattle.sp_history.specs.declared.entry.Ending.TheVariants.{Won, Gone}
-use Rattle.sp_history.specs.declared.entry.Gate.TheVariants.{Shut}
+use Rattle.sp_history.specs.declared.entry.ContextChange.TheVariants.{Shut}
 use Rattle.sp_history.specs.declared.entry.Entry.{Entry}
 use Rattle.sp_history.specs.declared.entry.Entry.TheVariants.{Begin, End, Frame, Out, Full, Down, Unkept, Tick, Ctx, Close}
 use Rattle.sp_history.specs.declared.parts.Begun.{Begun}
-use Rattle.sp_history.specs.declared.parts.Request.{Request}
+use Rattle.sp_history.specs.declared.parts.LiveRequest.{LiveRequest}
 use Rattle.sp_history.specs.declared.parts.Requests.{Requests}
 use Rattle.sp_history.specs.declared.parts.How.TheVariants as how
 use Rattle.sp_history.specs.declared.setting.Setting.{Setting}
@@ -31,7 +31,7 @@ map_none : {A B : Type 0} (f : A → B) (xs : List A) → map f xs ≡ [] → xs
 map_none f [] h = refl
 map_none f (x ∷ xs) h = cc
 
-either_none : (b : Bool) (xs ys : List Request) → xs ≡ [] → ys ≡ [] → (if b then xs else ys) ≡ []
+either_none : (b : Bool) (xs ys : List LiveRequest) → xs ≡ [] → ys ≡ [] → (if b then xs else ys) ≡ []
 either_none true xs ys h k = h
 either_none false xs ys h k = k
 
@@ -41,12 +41,12 @@ end_none z (Won Sent) (Some s) ss rs h = h
 end_none z (Won (Received m)) (Some s) ss rs h = go (is_req z.role)
   where
     go : (b : Bool) → (if b then end_on (s.ctx ∷ []) how.Answered ss rs else record rs { live = map (with_taken s.ctx) rs.live }).live ≡ []
-    go true = ap (λ (xs : List Request). filter (λ r. not (has (s.ctx ∷ []) r.ctx)) xs) h
-    go false = ap (λ (xs : List Request). map (with_taken s.ctx) xs) h
+    go true = ap (λ (xs : List LiveRequest). filter (λ r. not (has (s.ctx ∷ []) r.ctx)) xs) h
+    go false = ap (λ (xs : List LiveRequest). map (with_taken s.ctx) xs) h
 end_none z (Gone cause by) (Some s) ss rs h = go (is_req z.role)
   where
     go : (b : Bool) → (if b then end_on (s.ctx ∷ []) how.GivenUp ss rs else rs).live ≡ []
-    go true = ap (λ (xs : List Request). filter (λ r. not (has (s.ctx ∷ []) r.ctx)) xs) h
+    go true = ap (λ (xs : List LiveRequest). filter (λ r. not (has (s.ctx ∷ []) r.ctx)) xs) h
     go false = h
 
 moment_none : (z : Setting) (t : ℕ) (ss : List Begun) (rs : Requests) → rs.live ≡ [] → (after_moment z t ss rs).live ≡ []
@@ -55,16 +55,16 @@ moment_none z t ss rs h = go (is_req z.role)
   where
     go : (b : Bool) → (if b then rs else end_on (over_at z t rs) how.Over ss rs).live ≡ []
     go true = h
-    go false = ap (λ (xs : List Request). filter (λ r. not (has (over_at z t rs) r.ctx)) xs) h
+    go false = ap (λ (xs : List LiveRequest). filter (λ r. not (has (over_at z t rs) r.ctx)) xs) h
 
 pub asked_none : (z : Setting) (e : Entry) (past : List Entry) → is_begin e ≡ false → (asked z past).live ≡ [] → (asked z (e ∷ past)).live ≡ []
 asked_none z (Begin op k c act d) past b h = cc
 asked_none z (End op ending) past b h =
     end_none z ending (of_live (asked z past) (pending past op)) (without_begun (pend past) op) (asked z past) h
-asked_none z (Out p x) past b h = ap (λ (xs : List Request). map (with_out (now past) p x) xs) h
+asked_none z (Out p x) past b h = ap (λ (xs : List LiveRequest). map (with_out (now past) p x) xs) h
 asked_none z (Unkept p) (Frame q x ∷ past) b h = map_none (with_frame z past q x) (asked z past).live h
-asked_none z (Frame p x) past b h = ap (λ (xs : List Request). map (with_frame z past p x) xs) h
-asked_none z (Ctx c Shut) past b h = ap (λ (xs : List Request). filter (λ r. not (has (c ∷ []) r.ctx)) xs) h
+asked_none z (Frame p x) past b h = ap (λ (xs : List LiveRequest). map (with_frame z past p x) xs) h
+asked_none z (Ctx c Shut) past b h = ap (λ (xs : List LiveRequest). filter (λ r. not (has (c ∷ []) r.ctx)) xs) h
 asked_none z (Tick t due) past b h = moment_none z t (pend past) (asked z past) h
 asked_none z (Close totals) past b h = refl
 asked_none z _ past b h = h

@@ -15,7 +15,7 @@ use Rattle.cat_play.specs.declared.ends.Status.{Status}
 use Rattle.cat_play.specs.declared.ends.Status.TheVariants as status
 use Rattle.cat_play.specs.Running.{has_dry_miss}
 use Rattle.sp_history.specs.Found.{ticks}
-use Rattle.cat_rounds.specs.declared.player.Over.TheVariants as overs
+use Rattle.cat_rounds.specs.declared.player.PlayEnd.TheVariants as overs
 use Rattle.cat_rounds.specs.declared.player.Player.{Player}
 use Rattle.cat_rounds.specs.declared.rounds.Round.{Round}
 use Rattle.cat_rounds.specs.declared.rounds.Round.TheVariants as rounds

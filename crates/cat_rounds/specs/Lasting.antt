@@ -17,11 +17,11 @@ use Rattle.cat_text.specs.Drafts.{needs_data}
 use Rattle.cat_play.specs.Plans.{Play}
 use Rattle.cat_play.specs.Scripts.{has_ticked, under_way, last_result, last_send, counted, texts, joined, has_reached, timed_out, over}
 use Rattle.cat_play.specs.Playing.{PlaysSoFar, may_rest, was_swept, is_left}
-use Rattle.cat_rounds.specs.declared.next.Last.{Last}
-use Rattle.cat_rounds.specs.declared.next.Last.TheVariants as lasts
+use Rattle.cat_rounds.specs.declared.next.LastCollected.{LastCollected}
+use Rattle.cat_rounds.specs.declared.next.LastCollected.TheVariants as lasts
 use Rattle.cat_rounds.specs.declared.player.Script.{Script}
-use Rattle.cat_rounds.specs.declared.player.Over.{Over}
-use Rattle.cat_rounds.specs.declared.player.Over.TheVariants as overs
+use Rattle.cat_rounds.specs.declared.player.PlayEnd.{PlayEnd}
+use Rattle.cat_rounds.specs.declared.player.PlayEnd.TheVariants as overs
 use Rattle.cat_rounds.specs.declared.player.Player.{Player}
 
 -- ---- The play that is played
@@ -45,7 +45,7 @@ is_survey_over (Some since) t = nat_le (since + 1000) t
 -- ---- What the code knows
 
 -- what was collected last
-abbrev pub IsLast : Last → Option EndingType → Type 0
+abbrev pub IsLast : LastCollected → Option EndingType → Type 0
 IsLast lasts.Nothing r = r ≡ None
 IsLast lasts.Received (Some (Won (Received m))) = ⊤
 IsLast lasts.Sent (Some (Won Sent)) = ⊤
@@ -61,7 +61,7 @@ IsDue (Some count) None n = ⊥
 IsDue (Some count) (Some due) n = n + due ≡ count
 
 -- whether the play is over, and why
-abbrev pub IsOver : Over → Setting → Play → List Entry → Type 0
+abbrev pub IsOver : PlayEnd → Setting → Play → List Entry → Type 0
 IsOver overs.Open z play past = over z play past ≡ false
 IsOver overs.Finished z play past = IsTrue (has_reached play.count (counted z play past) || timed_out true past)
 IsOver overs.SendTimedOut z play past = IsTrue (timed_out false past)
@@ -114,7 +114,7 @@ pub record MayTick (z : Setting) (h : List (Turn Entry)) (p : Player) : Type 0 w
   pub busy : IsTrue (not (has_ticked (past_of h)) || is_some (under_way (past_of h)) || may_rest z (play_of p.script) (past_of h))
 
 -- a play of no items is over before it begins
-abbrev pub over_at : Option ℕ → Over
+abbrev pub over_at : Option ℕ → PlayEnd
 over_at (Some zero) = overs.Finished
 over_at _ = overs.Open
 

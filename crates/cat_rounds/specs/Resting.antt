@@ -10,7 +10,7 @@ use Rattle.sp_core.specs.Tallies.{moves}
 use Rattle.sp_single.specs.Singles.{SingleView}
 use Rattle.cat_play.specs.Scripts.{under_way}
 use Rattle.cat_play.specs.Steps.{AddsNone, moves_ends}
-use Rattle.cat_rounds.specs.declared.player.Over.TheVariants as overs
+use Rattle.cat_rounds.specs.declared.player.PlayEnd.TheVariants as overs
 use Rattle.cat_rounds.specs.declared.player.Player.{Player}
 use Rattle.cat_rounds.specs.declared.rounds.Going.{Going}
 use Rattle.cat_rounds.specs.declared.rounds.Going.TheVariants as goings

@@ -22,12 +22,12 @@ use Rattle.cat_play.specs.Scripts.{texts}
 use Rattle.cat_play.specs.Playing.{is_surveyor}
 use Rattle.cat_play.specs.Running.{IsCutShort}
 use Rattle.cat_play.specs.Steps.{AddsNone, moves_ends}
-use Rattle.cat_rounds.specs.declared.next.Last.{Last}
-use Rattle.cat_rounds.specs.declared.next.Last.TheVariants as lasts
-use Rattle.cat_rounds.specs.declared.player.Over.{Over}
-use Rattle.cat_rounds.specs.declared.player.Over.TheVariants as overs
-use Rattle.cat_rounds.specs.declared.player.Step.{Step}
-use Rattle.cat_rounds.specs.declared.player.Step.TheVariants as steps
+use Rattle.cat_rounds.specs.declared.next.LastCollected.{LastCollected}
+use Rattle.cat_rounds.specs.declared.next.LastCollected.TheVariants as lasts
+use Rattle.cat_rounds.specs.declared.player.PlayEnd.{PlayEnd}
+use Rattle.cat_rounds.specs.declared.player.PlayEnd.TheVariants as overs
+use Rattle.cat_rounds.specs.declared.player.StepResult.{StepResult}
+use Rattle.cat_rounds.specs.declared.player.StepResult.TheVariants as steps
 use Rattle.cat_rounds.specs.declared.player.Collecting.{Collecting}
 use Rattle.cat_rounds.specs.declared.player.Collecting.TheVariants as collecting
 use Rattle.cat_rounds.specs.declared.player.Script.{Script}
@@ -65,7 +65,7 @@ abbrev pub HasPrintedCut : Option (List ℕ) → Option (List ℕ) → List (Tur
 HasPrintedCut before now h p =
     (piece : List ℕ) × IsCutShort (texts (play_of p.script) (past_of h)) piece × (now ≡ grown before piece)
 
-abbrev pub PrintedAfter : Step → Option (List ℕ) → Option (List ℕ) → List (Turn Entry) → Player → Type 0
+abbrev pub PrintedAfter : StepResult → Option (List ℕ) → Option (List ℕ) → List (Turn Entry) → Player → Type 0
 PrintedAfter steps.Begun before now h p = HasPrinted before now h p
 PrintedAfter steps.Rests before now h p = HasPrinted before now h p
 PrintedAfter steps.OutFault before now h p = HasPrintedCut before now h p
@@ -100,21 +100,21 @@ abbrev pub is_last_item : Bool → Option ℕ → Bool
 is_last_item true (Some due) = due == 1
 is_last_item _ due = false
 
-abbrev pub over_after : Bool → Over → Over
+abbrev pub over_after : Bool → PlayEnd → PlayEnd
 over_after true o = overs.Finished
 over_after false o = o
 
 -- the player after an operation came to this: whether it counts, and what was collected last
-abbrev pub counts_one : Bool → Last → Player → Player
+abbrev pub counts_one : Bool → LastCollected → Player → Player
 counts_one c last p = record p { last = last; due = less_due c p.due; over = over_after (is_last_item c p.due) p.over }
 
 -- the player after an operation timed out, a receive or a send
-abbrev pub over_for : Bool → Over
+abbrev pub over_for : Bool → PlayEnd
 over_for true = overs.Finished
 over_for false = overs.SendTimedOut
 
 -- the table of what counts, by whether no survey is live and by what was collected last
-abbrev pub counts_for_last : Script → Bool → Last → Bool
+abbrev pub counts_for_last : Script → Bool → LastCollected → Bool
 counts_for_last s is_over lasts.Nothing = false
 counts_for_last s is_over lasts.Gone = false
 counts_for_last s is_over lasts.SurveyOver = is_surveyor s.role
@@ -133,7 +133,7 @@ abbrev pub AsCounted : Player → Player → Type 0
 AsCounted counted new = new ≡ record counted { text = new.text }
 
 -- the same, with what it counts
-abbrev pub AsLast : Bool → Last → Player → Player → Type 0
+abbrev pub AsLast : Bool → LastCollected → Player → Player → Type 0
 AsLast is_over last old new = AsCounted (counts_one (counts_for_last old.script is_over last) last old) new
 
 -- the player after an outcome. The flag says whether no survey is live
@@ -156,14 +156,14 @@ PutsPiece _ piece before now = ⊥
 -- ---- The step
 
 -- where the step went well: what had ended is collected, and an operation is under way, or none can be
-abbrev pub Rested : Step → SingleView → Player → Type 0
+abbrev pub Rested : StepResult → SingleView → Player → Type 0
 Rested steps.Begun s p = HasPlayed s.setting s.seen p
 Rested steps.Rests s p = HasPlayed s.setting s.seen p
 Rested steps.OutFault s p = ⊤
 Rested steps.NoMemory s p = ⊤
 
 -- what a step came to whose begin was refused
-abbrev pub step_for : BeginError → Step
+abbrev pub step_for : BeginError → StepResult
 step_for error.NoMemory = steps.NoMemory
 step_for _ = steps.Rests
 

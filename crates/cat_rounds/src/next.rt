@@ -4,7 +4,7 @@ ghost use Rattle.sp_history.specs.declared.entry.Ending.{Ending as EndingType};
 ghost use Rattle.std.specs.Prelude.{Option, Some};
 ghost use Rattle.sp_history.specs.declared.entry.Ending.TheVariants.{Won};
 ghost use Rattle.sp_history.specs.declared.entry.Completion.TheVariants.{Received, Sent};
-ghost use Rattle.sp_history.specs.declared.entry.Message.{Message as MessageType};
+ghost use Rattle.sp_history.specs.declared.entry.RecordedMessage.{RecordedMessage as RecordedMessageType};
 ghost use Rattle.sp_history.specs.Setting.{floods};
 ghost use Rattle.cat_play.specs.Scripts as scripts;
 ghost use Rattle.cat_rounds.specs.Lasting.{IsLast};
@@ -13,7 +13,7 @@ use sp_base::Role;
 
 /// What the operation came to that was collected last.
 #[derive(Clone, Copy, Debug, PartialEq, Eq)]
-pub enum Last {
+pub enum LastCollected {
     /// None was collected yet.
     Nothing,
     /// A receive got a message.
@@ -27,7 +27,7 @@ pub enum Last {
 }
 
 /// Whether the next call is a receive. The second flag says whether no survey is live.
-pub(crate) fn receives_next(role: Role, has_data: bool, is_over: bool, last: Last) -> bool
+pub(crate) fn receives_next(role: Role, has_data: bool, is_over: bool, last: LastCollected) -> bool
     ensures { (r : Option EndingType) → IsLast last r → result ≡ scripts.receives_next role has_data is_over r }
 {
     match role {
@@ -35,26 +35,26 @@ pub(crate) fn receives_next(role: Role, has_data: bool, is_over: bool, last: Las
         Role::Surveyor => !is_over,
         Role::Push | Role::Pub => false,
         Role::Pair0 | Role::Bus => !has_data,
-        Role::Req => last == Last::Sent,
-        Role::Rep | Role::Respondent => !(has_data && last == Last::Received),
+        Role::Req => last == LastCollected::Sent,
+        Role::Rep | Role::Respondent => !(has_data && last == LastCollected::Received),
     }
 }
 
 /// Whether what was collected last counts. The second flag says whether no survey is live.
-pub(crate) fn counts(role: Role, has_data: bool, is_over: bool, last: Last) -> bool
+pub(crate) fn counts(role: Role, has_data: bool, is_over: bool, last: LastCollected) -> bool
     ensures { (r : Option EndingType) → IsLast last r → result ≡ scripts.counts_for role has_data is_over r }
 {
     match last {
-        Last::Nothing | Last::Gone => false,
-        Last::SurveyOver => role == Role::Surveyor,
-        Last::Received => counts_received(role, has_data, is_over),
-        Last::Sent => counts_sent(role, has_data, is_over),
+        LastCollected::Nothing | LastCollected::Gone => false,
+        LastCollected::SurveyOver => role == Role::Surveyor,
+        LastCollected::Received => counts_received(role, has_data, is_over),
+        LastCollected::Sent => counts_sent(role, has_data, is_over),
     }
 }
 
 // Whether a message that was received counts: of a surveyor, whether its survey is found over there.
 fn counts_received(role: Role, has_data: bool, is_over: bool) -> bool
-    ensures { (m : MessageType) → result ≡ scripts.counts_for role has_data is_over (Some (Won (Received m))) }
+    ensures { (m : RecordedMessageType) → result ≡ scripts.counts_for role has_data is_over (Some (Won (Received m))) }
 {
     match role {
         Role::Surveyor => is_over,

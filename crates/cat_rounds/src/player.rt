@@ -11,7 +11,7 @@ ghost use Rattle.sp_history.specs.Setting.{floods};
 ghost use Rattle.cat_rounds.specs.Resting.{IsKept};
 ghost use Rattle.cat_rounds.specs.Stepping.{KnowsPipes, Stands, GoesOnBy, SameScript, PrintedAfter, PrintedThen, Sinks, Puts, PutsPiece, PutsFor, NotedAs, Rested, counts_one, counts_for_last, over_for, step_for, gone_for, CollectsLast};
 
-use crate::next::{Last, counts, floods, receives_next};
+use crate::next::{LastCollected, counts, floods, receives_next};
 use cat_text::{Format, TopicList, push_text};
 use sp_base::{Bytes, Ctx, NoMemory, Role, Sink, Sunk, Tick};
 use sp_msg::{Message, Wire};
@@ -51,7 +51,7 @@ pub struct Script {
 
 /// How a play ended.
 #[derive(Clone, Copy, Debug, PartialEq, Eq)]
-pub enum Over {
+pub enum PlayEnd {
     /// It goes on.
     Open,
     /// The count is reached, or a receive timed out.
@@ -62,7 +62,7 @@ pub enum Over {
 
 /// What a step came to.
 #[derive(Clone, Copy, Debug, PartialEq, Eq)]
-pub enum Step {
+pub enum StepResult {
     /// The next operation is under way.
     Begun,
     /// An operation is under way, or nothing can begin.
@@ -94,11 +94,11 @@ pub struct Player {
     op: Option<Op>,
     /// How many items more count before it is over; none is never.
     due: Option<u32>,
-    last: Last,
+    last: LastCollected,
     /// The tick at which the last send was begun.
     last_send: Option<Tick>,
     /// How it ended, or that it goes on.
-    pub over: Over,
+    pub over: PlayEnd,
     /// Where the texts are put together.
     text: Vec<u8>,
 }
@@ -115,16 +115,16 @@ fn hold(place: &mut Option<Op>, op: Op)
 }
 
 // What a step came to whose begin was refused.
-fn step_for(error: BeginError) -> Step
+fn step_for(error: BeginError) -> StepResult
     ensures { result ≡ step_for error }
 {
     match error {
-        BeginError::NoMemory => Step::NoMemory,
-        BeginError::Closed => Step::Rests,
-        BeginError::NotSupported => Step::Rests,
-        BeginError::NoEntry => Step::Rests,
-        BeginError::State => Step::Rests,
-        BeginError::Busy => Step::Rests,
+        BeginError::NoMemory => StepResult::NoMemory,
+        BeginError::Closed => StepResult::Rests,
+        BeginError::NotSupported => StepResult::Rests,
+        BeginError::NoEntry => StepResult::Rests,
+        BeginError::State => StepResult::Rests,
+        BeginError::Busy => StepResult::Rests,
     }
 }
 
@@ -145,16 +145,16 @@ impl Player {
     {
         let count = script.count;
         let over = if count == Some(0) {
-            Over::Finished
+            PlayEnd::Finished
         } else {
-            Over::Open
+            PlayEnd::Open
         };
         Player {
             alloc,
             script,
             op: None,
             due: count,
-            last: Last::Nothing,
+            last: LastCollected::Nothing,
             last_send: None,
             over,
             text: Vec::new(alloc),
@@ -169,7 +169,7 @@ impl Player {
         out: &mut S,
         now: Tick,
         has_pipe: bool,
-    ) -> Step
+    ) -> StepResult
         requires stands { Stands single.old self.old now }
         requires pipes { KnowsPipes has_pipe single.old self.old }
         ensures stands { Stands single.new self.new now }
@@ -177,15 +177,15 @@ impl Player {
         ensures goes_on { GoesOnBy single.old single.new }
         ensures rested { Rested result single.new self.new }
         ensures printed { (before : Option (List ℕ)) → HasPrinted before (S.seen out.old).text single.old.seen self.old → PrintedAfter result before (S.seen out.new).text single.new.seen self.new }
-        ensures sinks { Sinks (result ≡ Step.OutFault) (S.seen out.old) (S.seen out.new) }
-        ensures begun { result ≡ Step.Begun → is_some self.new.op ≡ true }
-        ensures kept { result ≡ Step.Rests → IsKept self.old.op self.new.op }
+        ensures sinks { Sinks (result ≡ StepResult.OutFault) (S.seen out.old) (S.seen out.new) }
+        ensures begun { result ≡ StepResult.Begun → is_some self.new.op ≡ true }
+        ensures kept { result ≡ StepResult.Rests → IsKept self.old.op self.new.op }
     {
         match self.collect(rt, single, out, now) {
             Collecting::Free => self.begin(rt, single, now, has_pipe),
-            Collecting::NotYet => Step::Rests,
-            Collecting::OutFault => Step::OutFault,
-            Collecting::NoMemory => Step::NoMemory,
+            Collecting::NotYet => StepResult::Rests,
+            Collecting::OutFault => StepResult::OutFault,
+            Collecting::NoMemory => StepResult::NoMemory,
         }
     }
 
@@ -230,11 +230,11 @@ impl Player {
     {
         match outcome {
             Outcome::Received(m) => {
-                self.count(Last::Received, now);
+                self.count(LastCollected::Received, now);
                 self.print(&m, out)
             }
             Outcome::Sent => {
-                self.count(Last::Sent, now);
+                self.count(LastCollected::Sent, now);
                 Collecting::Free
             }
             Outcome::Gone { cause, by: _, back } => {
@@ -250,14 +250,14 @@ impl Player {
         ensures gone { self.new ≡ gone_for (is_survey_over self.old.last_send now) cause receives self.old }
     {
         match cause {
-            Cause::SurveyOver => self.count(Last::SurveyOver, now),
+            Cause::SurveyOver => self.count(LastCollected::SurveyOver, now),
             Cause::TimedOut => self.timed_out(receives),
-            Cause::Cancelled | Cause::Closed | Cause::Superseded => self.last = Last::Gone,
+            Cause::Cancelled | Cause::Closed | Cause::Superseded => self.last = LastCollected::Gone,
         }
     }
 
     // The operation that was collected came to this.
-    fn count(&mut self, last: Last, now: Tick)
+    fn count(&mut self, last: LastCollected, now: Tick)
         requires due { self.old.due ≡ Some 0 → ⊥ }
         ensures { self.new ≡ counts_one (counts_for_last self.old.script (is_survey_over self.old.last_send now) last) last self.old }
     {
@@ -278,7 +278,7 @@ impl Player {
             Some(n) => {
                 self.due = Some(n - 1);
                 if n == 1 {
-                    self.over = Over::Finished;
+                    self.over = PlayEnd::Finished;
                 }
             }
         }
@@ -296,13 +296,13 @@ impl Player {
 
     // An operation ended with its deadline, a receive or a send.
     fn timed_out(&mut self, receives: bool)
-        ensures { self.new ≡ record self.old { last = Last.Gone; over = over_for receives } }
+        ensures { self.new ≡ record self.old { last = LastCollected.Gone; over = over_for receives } }
     {
-        self.last = Last::Gone;
+        self.last = LastCollected::Gone;
         self.over = if receives {
-            Over::Finished
+            PlayEnd::Finished
         } else {
-            Over::SendTimedOut
+            PlayEnd::SendTimedOut
         };
     }
 
@@ -332,7 +332,7 @@ impl Player {
         single: &mut Single<P, W>,
         now: Tick,
         has_pipe: bool,
-    ) -> Step
+    ) -> StepResult
         requires stands { Stands single.old self.old now }
         requires free { self.old.op ≡ None }
         requires pipes { KnowsPipes has_pipe single.old self.old }
@@ -342,12 +342,12 @@ impl Player {
         ensures goes_on { GoesOnBy single.old single.new }
         ensures rested { Rested result single.new self.new }
         ensures texts { texts (play_of self.old.script) (past_of single.new.seen) ≡ texts (play_of self.old.script) (past_of single.old.seen) }
-        ensures fault { result ≡ Step.OutFault → ⊥ }
-        ensures begun { result ≡ Step.Begun → is_some self.new.op ≡ true }
-        ensures kept { result ≡ Step.Rests → self.new.op ≡ None }
+        ensures fault { result ≡ StepResult.OutFault → ⊥ }
+        ensures begun { result ≡ StepResult.Begun → is_some self.new.op ≡ true }
+        ensures kept { result ≡ StepResult.Rests → self.new.op ≡ None }
     {
-        if self.over != Over::Open {
-            return Step::Rests;
+        if self.over != PlayEnd::Open {
+            return StepResult::Rests;
         }
         let is_over = self.is_survey_over(now);
         if receives_next(
@@ -358,7 +358,7 @@ impl Player {
         ) {
             self.begin_recv(rt, single, now)
         } else if self.waits_for_pipe(has_pipe) || self.is_within_interval(now) {
-            Step::Rests
+            StepResult::Rests
         } else {
             self.begin_send(rt, single, now)
         }
@@ -369,26 +369,26 @@ impl Player {
         rt: &R,
         single: &mut Single<P, W>,
         now: Tick,
-    ) -> Step
+    ) -> StepResult
         requires stands { Stands single.old self.old now }
         requires free { self.old.op ≡ None }
         requires left { is_left (past_of single.old.seen) ≡ false }
-        requires open_ { self.old.over ≡ Over.Open }
+        requires open_ { self.old.over ≡ PlayEnd.Open }
         requires next { is_receive_next single.old.setting (play_of self.old.script) (past_of single.old.seen) ≡ true }
         ensures stands { Stands single.new self.new now }
         ensures script { SameScript self.old self.new }
         ensures goes_on { GoesOnBy single.old single.new }
         ensures rested { Rested result single.new self.new }
         ensures texts { texts (play_of self.old.script) (past_of single.new.seen) ≡ texts (play_of self.old.script) (past_of single.old.seen) }
-        ensures fault { result ≡ Step.OutFault → ⊥ }
-        ensures begun { result ≡ Step.Begun → is_some self.new.op ≡ true }
-        ensures kept { result ≡ Step.Rests → self.new.op ≡ None }
+        ensures fault { result ≡ StepResult.OutFault → ⊥ }
+        ensures begun { result ≡ StepResult.Begun → is_some self.new.op ≡ true }
+        ensures kept { result ≡ StepResult.Rests → self.new.op ≡ None }
     {
         match single.begin_recv(rt, CTX, after(now, self.script.recv_timeout)) {
-            Err(_) => Step::Rests,
+            Err(_) => StepResult::Rests,
             Ok(op) => {
                 hold(&mut self.op, op);
-                Step::Begun
+                StepResult::Begun
             }
         }
     }
@@ -412,11 +412,11 @@ impl Player {
         rt: &R,
         single: &mut Single<P, W>,
         now: Tick,
-    ) -> Step
+    ) -> StepResult
         requires stands { Stands single.old self.old now }
         requires free { self.old.op ≡ None }
         requires left { is_left (past_of single.old.seen) ≡ false }
-        requires open_ { self.old.over ≡ Over.Open }
+        requires open_ { self.old.over ≡ PlayEnd.Open }
         requires next { is_receive_next single.old.setting (play_of self.old.script) (past_of single.old.seen) ≡ false }
         requires pipe { waits_for_pipe (play_of self.old.script) (past_of single.old.seen) ≡ false }
         requires spaced { waits_for_interval (play_of self.old.script) (past_of single.old.seen) ≡ false }
@@ -425,19 +425,19 @@ impl Player {
         ensures goes_on { GoesOnBy single.old single.new }
         ensures rested { Rested result single.new self.new }
         ensures texts { texts (play_of self.old.script) (past_of single.new.seen) ≡ texts (play_of self.old.script) (past_of single.old.seen) }
-        ensures fault { result ≡ Step.OutFault → ⊥ }
-        ensures begun { result ≡ Step.Begun → is_some self.new.op ≡ true }
-        ensures kept { result ≡ Step.Rests → self.new.op ≡ None }
+        ensures fault { result ≡ StepResult.OutFault → ⊥ }
+        ensures begun { result ≡ StepResult.Begun → is_some self.new.op ≡ true }
+        ensures kept { result ≡ StepResult.Rests → self.new.op ≡ None }
     {
         let Ok(m) = self.message() else {
-            return Step::NoMemory;
+            return StepResult::NoMemory;
         };
         match single.begin_send(rt, CTX, m, after(now, self.script.send_timeout)) {
             Err((error, _)) => step_for(error),
             Ok(op) => {
                 hold(&mut self.op, op);
                 self.last_send = Some(now);
-                Step::Begun
+                StepResult::Begun
             }
         }
     }

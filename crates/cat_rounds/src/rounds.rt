@@ -11,7 +11,7 @@ ghost use Rattle.cat_rounds.specs.Resting.{IsKept, IsAtRest, MovesStill, RoundMo
 ghost use Rattle.cat_rounds.specs.Going.{RunStands, RoundStands, GoesTo, RoundGoesTo, WentOrOver, PacedTo, TicksOnce, PrintsTo, PrintsGoing, PrintsRound, TurnsNames, IsDryAt, is_dry_at, past_now, has_more};
 
 use crate::game::Game;
-use crate::player::{Over, Step};
+use crate::player::{PlayEnd, StepResult};
 use cat_play::ends::Status;
 use sp_base::{Link, Net, Pace, Paced, Sink, Tick};
 use sp_proto::Proto;
@@ -128,11 +128,11 @@ impl<P: Proto, L: Link> Game<P, L> {
         ensures sinks { Sinks (result ≡ Going.OutFault) (S.seen out.old) (S.seen out.new) }
         ensures same { SameScript self.old.player self.new.player × (self.new.ends ≡ self.old.ends) }
         ensures names { self.new.inproc ≡ self.old.inproc }
-        ensures over { self.old.player.over ≢ Over.Open → result ≡ Going.Over }
+        ensures over { self.old.player.over ≢ PlayEnd.Open → result ≡ Going.Over }
         ensures moved { MovesStill result self.old.single self.new.single }
     {
         'sweeps: for _ in 0..SWEEPS {
-            if self.player.over != Over::Open {
+            if self.player.over != PlayEnd::Open {
                 return Going::Over;
             }
             match self.sweep(rt, out, now) {
@@ -186,10 +186,10 @@ impl<P: Proto, L: Link> Game<P, L> {
         let mut moved = false;
         'steps: for _ in 0..STEPS {
             match self.player.step(rt, &mut self.single, out, now, has_pipe) {
-                Step::Begun => moved = true,
-                Step::Rests => return Going::Rests(moved),
-                Step::OutFault => return Going::OutFault,
-                Step::NoMemory => return Going::NoMemory,
+                StepResult::Begun => moved = true,
+                StepResult::Rests => return Going::Rests(moved),
+                StepResult::OutFault => return Going::OutFault,
+                StepResult::NoMemory => return Going::NoMemory,
             }
         }
         Going::Rests(moved)
@@ -198,7 +198,7 @@ impl<P: Proto, L: Link> Game<P, L> {
     // The play is over: the run ends as soon as no pipe has something left to write.
     fn drain<R: Wait>(&mut self, rt: &R) -> Round
         requires stands { (now : ℕ) × Stands self.old.single self.old.player now }
-        requires over { self.old.player.over ≢ Over.Open }
+        requires over { self.old.player.over ≢ PlayEnd.Open }
         requires free { self.old.player.op ≡ None }
         ensures stands { (now : ℕ) → Stands self.old.single self.old.player now → Stands self.new.single self.new.player now }
         ensures goes_on { GoesOnBy self.old.single self.new.single }
@@ -216,9 +216,9 @@ impl<P: Proto, L: Link> Game<P, L> {
             return Round::Goes(false);
         }
         match self.player.over {
-            Over::SendTimedOut => Round::Ends(Status::SendTimedOut),
-            Over::Finished => Round::Ends(Status::Done),
-            Over::Open => unreachable!(),
+            PlayEnd::SendTimedOut => Round::Ends(Status::SendTimedOut),
+            PlayEnd::Finished => Round::Ends(Status::Done),
+            PlayEnd::Open => unreachable!(),
         }
     }
 }

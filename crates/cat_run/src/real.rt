@@ -6,7 +6,7 @@ ghost use Rattle.std.specs.Prelude.{ℕ, List, None, ◌≡◌, ◌<◌, ◌-◌
 ghost use Rattle.sp_base.specs.Steps.{IsNew};
 ghost use Rattle.cat_run.specs.Real.{counts_view, real_net_view, unasked_net};
 
-use crate::back::Returned;
+use crate::back::ReturnedLinks;
 pub use crate::wake::Wakes;
 use crate::wake::{ANY, Mark};
 use mio::net::{TcpListener, TcpStream};
@@ -157,7 +157,7 @@ pub struct TcpNet<R: std::net::Net + Drop> {
     dialing: Vec<Dialing>,
     schemes: ListenerSchemes,
     opened: u32,
-    back: Returned,
+    back: ReturnedLinks,
     faults: u64,
     idles: u64,
 }
@@ -175,7 +175,7 @@ impl<R: std::net::Net + Drop> TcpNet<R> {
             dialing: Vec::new(alloc),
             schemes: ListenerSchemes::new(alloc),
             opened: 0,
-            back: Returned::none(),
+            back: ReturnedLinks::none(),
             faults: 0,
             idles: 0,
         }

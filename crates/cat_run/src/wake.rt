@@ -10,7 +10,7 @@ pub(crate) const ANY: Token = Token(usize::MAX);
 
 /// A mark for each link, by the token of its socket.
 #[derive(Drop)]
-struct Marks {
+struct ReadyMarks {
     ready: Vec<bool>,
     // The tokens that no link has.
     free: Vec<usize>,
@@ -20,24 +20,24 @@ struct Marks {
 #[derive(Drop)]
 pub struct Wakes {
     pub(crate) registry: Registry,
-    marks: Rc<RefCell<Marks>>,
+    marks: Rc<RefCell<ReadyMarks>>,
 }
 
 /// The mark of one link. Where there was no memory for one the link counts as ready.
 #[derive(Drop)]
 pub(crate) struct Mark {
-    place: Option<Place>,
+    place: Option<MarkPlace>,
 }
 
 // Where the mark of a link stands.
 #[derive(Drop)]
-struct Place {
-    marks: Rc<RefCell<Marks>>,
+struct MarkPlace {
+    marks: Rc<RefCell<ReadyMarks>>,
     token: usize,
 }
 
 // A token that no link has; its mark says ready.
-fn draw(marks: &mut Marks) -> Option<usize> {
+fn draw(marks: &mut ReadyMarks) -> Option<usize> {
     match marks.free.pop() {
         Some(token) => {
             set(marks, token, true);
@@ -51,7 +51,7 @@ fn draw(marks: &mut Marks) -> Option<usize> {
     }
 }
 
-fn set(marks: &mut Marks, token: usize, ready: bool) {
+fn set(marks: &mut ReadyMarks, token: usize, ready: bool) {
     if let Some(mark) = marks.ready.get_mut(token) {
         *mark = ready;
     }
@@ -60,7 +60,7 @@ fn set(marks: &mut Marks, token: usize, ready: bool) {
 impl Wakes {
     /// No mark so far.
     pub(crate) fn new(registry: Registry, alloc: Global) -> io::Result<Wakes> {
-        let marks = Marks {
+        let marks = ReadyMarks {
             ready: Vec::new(alloc),
             free: Vec::new(alloc),
         };
@@ -83,10 +83,10 @@ impl Wakes {
         }
     }
 
-    fn place(&self) -> Option<Place> {
+    fn place(&self) -> Option<MarkPlace> {
         let marks = self.marks.clone().ok()?;
         let token = draw(&mut *self.marks.try_borrow_mut().ok()?)?;
-        Some(Place { marks, token })
+        Some(MarkPlace { marks, token })
     }
 
     /// Takes note of the sockets that are ready, and says whether there are any.
@@ -113,7 +113,7 @@ impl Wakes {
     }
 }
 
-impl Place {
+impl MarkPlace {
     fn is_ready(&self) -> bool {
         match self.marks.try_borrow() {
             Ok(marks) => match marks.ready.get(self.token) {

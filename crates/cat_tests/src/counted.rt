@@ -95,7 +95,7 @@ const DIALS: &[&str] = &["--pull", "--dial", "tcp://127.0.0.1:5555", "--count", 
 
 /// How often a run called its net and read its links.
 #[derive(Clone, Copy)]
-struct Calls {
+struct CountedCalls {
     accepts: u32,
     dials: u32,
     reads: u32,
@@ -106,7 +106,7 @@ fn calls_of<R: AllocGlobal + Wait + Threads + Sync>(
     rt: &R,
     texts: &[&str],
     turns: u64,
-) -> Result<Calls, NoMemory> {
+) -> Result<CountedCalls, NoMemory> {
     let alloc = rt.alloc();
     let mut links = Vec::new(alloc);
     for _ in 0..3 {
@@ -126,7 +126,7 @@ fn calls_of<R: AllocGlobal + Wait + Threads + Sync>(
     let list = words(alloc, texts)?;
     let end = run(rt, &list, &mut net, &mut files, &mut pace, &mut out, 0);
     let is_over = end.status == Status::Over;
-    Ok(Calls {
+    Ok(CountedCalls {
         accepts: if is_over { net.accepts } else { 0 },
         dials: if is_over { net.dials } else { 0 },
         reads: if is_over { net.reads } else { 0 },

@@ -150,13 +150,13 @@ fn complaints(rt: HostRuntime) -> Result<(), Fail> {
 
 /// A net in memory that remembers where it was asked to listen.
 #[derive(Drop)]
-struct Heard {
+struct RememberingNet {
     net: MemNet,
     host: Host,
     port: u16,
 }
 
-impl Net for Heard {
+impl Net for RememberingNet {
     type L = NetLink;
 
     ghost seen = { λ n. net_view n.net };
@@ -186,7 +186,7 @@ impl Net for Heard {
 fn it_listens_at_the_address_of_the_words(rt: HostRuntime) -> Result<(), Fail> {
     let alloc = rt.alloc();
     let list = words(alloc, PULL)?;
-    let mut net = Heard {
+    let mut net = RememberingNet {
         net: MemNet::new(alloc, Vec::new(alloc), Vec::new(alloc), Vec::new(alloc))?,
         host: Host::Any,
         port: 0,

@@ -24,13 +24,13 @@ fn talker(alloc: Global, count: u32) -> Result<MemLink, NoMemory> {
 
 /// A pace in memory that counts what it was told.
 #[derive(Drop)]
-struct Told {
+struct CountingPace {
     pace: MemPace,
     moved: u32,
     rested: u32,
 }
 
-impl Pace for Told {
+impl Pace for CountingPace {
     ghost seen = { λ p. pace_view p.pace };
 
     fn turn(&mut self, moved: bool) -> Paced {
@@ -53,7 +53,7 @@ fn the_pace_is_told_whether_messages_move(rt: HostRuntime) -> Result<(), Fail> {
     lists.push(links)?;
     let mut net = MemNet::new(alloc, lists, Vec::new(alloc), Vec::new(alloc))?;
     let mut files = MemFiles::new(alloc, Vec::new(alloc), Vec::new(alloc));
-    let mut pace = Told {
+    let mut pace = CountingPace {
         pace: MemPace::new(200, 1),
         moved: 0,
         rested: 0,

@@ -2,8 +2,8 @@
 
 use crate::plain_texts::text_of;
 use crate::plain_words::{
-    Kind, Said, address_of, drill_of, formats_of, is_right, number_of, plan_of, roles_of, stop_of,
-    times, value_of,
+    ListedOption, OptionKind, address_of, drill_of, formats_of, is_right, number_of, plan_of,
+    roles_of, stop_of, times, value_of,
 };
 use cat_text::{CatPlan, Data, End, Format, Plan, PlanError, print};
 use sp_base::{Addr, Bytes, NoMemory, Role};
@@ -175,11 +175,11 @@ fn has_ends(
     alloc: Global,
     ends: &[End],
     words: &[String],
-    list: &[Said],
+    list: &[ListedOption],
 ) -> Result<bool, NoMemory> {
     let mut k: usize = 0;
     for said in list {
-        if let Kind::Valued(n) = said.kind {
+        if let OptionKind::Valued(n) = said.kind {
             if n < 2 {
                 if !is_end(alloc, ends.get(k), n, value_of(words, *said))? {
                     return Ok(false);
@@ -191,13 +191,13 @@ fn has_ends(
     Ok(k == ends.len())
 }
 
-fn has_topics(topics: &[Bytes], role: Role, words: &[String], list: &[Said]) -> bool {
+fn has_topics(topics: &[Bytes], role: Role, words: &[String], list: &[ListedOption]) -> bool {
     if role == Role::Sub && times(list, 4) == 0 {
         return topics.len() == 1 && topics[0].as_slice().is_empty();
     }
     let mut k: usize = 0;
     for said in list {
-        if said.kind == Kind::Valued(4) {
+        if said.kind == OptionKind::Valued(4) {
             match topics.get(k) {
                 Some(topic) => {
                     if topic.as_slice() != value_of(words, *said) {
@@ -213,23 +213,23 @@ fn has_topics(topics: &[Bytes], role: Role, words: &[String], list: &[Said]) -> 
 }
 
 /// The value of the option of this number, if it is there.
-fn value_at<'a>(words: &'a [String], list: &[Said], n: usize) -> Option<&'a [u8]> {
+fn value_at<'a>(words: &'a [String], list: &[ListedOption], n: usize) -> Option<&'a [u8]> {
     for said in list {
-        if said.kind == Kind::Valued(n) {
+        if said.kind == OptionKind::Valued(n) {
             return Some(value_of(words, *said));
         }
     }
     None
 }
 
-fn number_at(words: &[String], list: &[Said], n: usize) -> Option<u64> {
+fn number_at(words: &[String], list: &[ListedOption], n: usize) -> Option<u64> {
     match value_at(words, list, n) {
         Some(text) => number_of(text, 4_294_967_295),
         None => None,
     }
 }
 
-fn has_data(data: &Data, words: &[String], list: &[Said]) -> bool {
+fn has_data(data: &Data, words: &[String], list: &[ListedOption]) -> bool {
     match data {
         Data::None => value_at(words, list, 2).is_none() && value_at(words, list, 3).is_none(),
         Data::Text(text) => value_at(words, list, 2) == Some(text.as_slice()),
@@ -238,7 +238,7 @@ fn has_data(data: &Data, words: &[String], list: &[Said]) -> bool {
 }
 
 /// After how many items such a play ends.
-fn count_of(role: Role, words: &[String], list: &[Said]) -> Option<u64> {
+fn count_of(role: Role, words: &[String], list: &[ListedOption]) -> Option<u64> {
     let has_body = times(list, 2).saturating_add(times(list, 3)) == 1;
     let sends_first = match role {
         Role::Push => true,
@@ -274,7 +274,7 @@ fn agrees(
     alloc: Global,
     plan: &CatPlan,
     words: &[String],
-    list: &[Said],
+    list: &[ListedOption],
 ) -> Result<bool, NoMemory> {
     let role = plan.role;
     let ends = has_ends(alloc, plan.ends.as_slice(), words, list)?;

@@ -52,7 +52,7 @@ const FORMATS: [(&str, Format); 5] = [
 
 /// What an option is.
 #[derive(Clone, Copy, Debug, PartialEq, Eq)]
-pub enum Kind {
+pub enum OptionKind {
     Role(Role),
     Format(Format),
     /// One with a value, by its number.
@@ -61,40 +61,40 @@ pub enum Kind {
 
 /// An option of a list: what it is, and the word and the byte at which its value begins.
 #[derive(Clone, Copy, Debug)]
-pub struct Said {
-    pub kind: Kind,
+pub struct ListedOption {
+    pub kind: OptionKind,
     pub word: usize,
     pub from: usize,
 }
 
-fn role_of(text: &[u8]) -> Option<Kind> {
+fn role_of(text: &[u8]) -> Option<OptionKind> {
     for (name, role) in &ROLES {
         if name.as_bytes() == text {
-            return Some(Kind::Role(*role));
+            return Some(OptionKind::Role(*role));
         }
     }
     None
 }
 
-fn format_of(text: &[u8]) -> Option<Kind> {
+fn format_of(text: &[u8]) -> Option<OptionKind> {
     for (name, format) in &FORMATS {
         if name.as_bytes() == text {
-            return Some(Kind::Format(*format));
+            return Some(OptionKind::Format(*format));
         }
     }
     None
 }
 
-fn valued_of(text: &[u8]) -> Option<Kind> {
+fn valued_of(text: &[u8]) -> Option<OptionKind> {
     for i in 0..VALUED.len() {
         if VALUED[i].as_bytes() == text {
-            return Some(Kind::Valued(i));
+            return Some(OptionKind::Valued(i));
         }
     }
     None
 }
 
-fn kind_of(text: &[u8]) -> Option<Kind> {
+fn kind_of(text: &[u8]) -> Option<OptionKind> {
     if let Some(kind) = role_of(text) {
         return Some(kind);
     }
@@ -115,7 +115,7 @@ fn equals_of(word: &[u8]) -> Option<usize> {
 }
 
 /// The option that begins with the word at `i`.
-fn option_at(words: &[String], i: usize) -> Option<Said> {
+fn option_at(words: &[String], i: usize) -> Option<ListedOption> {
     let Some(word) = words.get(i) else {
         return None;
     };
@@ -126,8 +126,8 @@ fn option_at(words: &[String], i: usize) -> Option<Said> {
                 return None;
             }
             match kind_of(&bytes[..cut]) {
-                Some(Kind::Valued(n)) => Some(Said {
-                    kind: Kind::Valued(n),
+                Some(OptionKind::Valued(n)) => Some(ListedOption {
+                    kind: OptionKind::Valued(n),
                     word: i,
                     from: cut + 1,
                 }),
@@ -135,7 +135,7 @@ fn option_at(words: &[String], i: usize) -> Option<Said> {
             }
         }
         None => match kind_of(bytes) {
-            Some(kind) => Some(Said {
+            Some(kind) => Some(ListedOption {
                 kind,
                 word: i.saturating_add(1),
                 from: 0,
@@ -146,8 +146,8 @@ fn option_at(words: &[String], i: usize) -> Option<Said> {
 }
 
 /// The list cut into options; None where it can't be cut so.
-pub fn options_of(alloc: Global, words: &[String]) -> Result<Option<Vec<Said>>, NoMemory> {
-    let mut list: Vec<Said> = Vec::new(alloc);
+pub fn options_of(alloc: Global, words: &[String]) -> Result<Option<Vec<ListedOption>>, NoMemory> {
+    let mut list: Vec<ListedOption> = Vec::new(alloc);
     let mut next: usize = 0;
     for i in 0..words.len() {
         if i == next {
@@ -155,7 +155,7 @@ pub fn options_of(alloc: Global, words: &[String]) -> Result<Option<Vec<Said>>, 
                 return Ok(None);
             };
             next = i + 1;
-            if let Kind::Valued(_) = said.kind {
+            if let OptionKind::Valued(_) = said.kind {
                 next = said.word.max(i).saturating_add(1);
             }
             list.push(said)?;
@@ -169,7 +169,7 @@ pub fn options_of(alloc: Global, words: &[String]) -> Result<Option<Vec<Said>>, 
 }
 
 /// The value of an option.
-pub fn value_of(words: &[String], said: Said) -> &[u8] {
+pub fn value_of(words: &[String], said: ListedOption) -> &[u8] {
     match words.get(said.word) {
         Some(word) => {
             let bytes = word.as_bytes();
@@ -242,10 +242,10 @@ fn is_value(alloc: Global, n: usize, value: &[u8]) -> Result<bool, NoMemory> {
 }
 
 /// How many options of the list have this number.
-pub fn times(list: &[Said], n: usize) -> usize {
+pub fn times(list: &[ListedOption], n: usize) -> usize {
     let mut count: usize = 0;
     for said in list {
-        if said.kind == Kind::Valued(n) {
+        if said.kind == OptionKind::Valued(n) {
             count = count.saturating_add(1);
         }
     }
@@ -253,11 +253,11 @@ pub fn times(list: &[Said], n: usize) -> usize {
 }
 
 /// The last role of the list, and how many there are.
-pub fn roles_of(list: &[Said]) -> (Option<Role>, usize) {
+pub fn roles_of(list: &[ListedOption]) -> (Option<Role>, usize) {
     let mut role = None;
     let mut count: usize = 0;
     for said in list {
-        if let Kind::Role(r) = said.kind {
+        if let OptionKind::Role(r) = said.kind {
             role = Some(r);
             count = count.saturating_add(1);
         }
@@ -266,11 +266,11 @@ pub fn roles_of(list: &[Said]) -> (Option<Role>, usize) {
 }
 
 /// The last format of the list, and how many there are.
-pub fn formats_of(list: &[Said]) -> (Format, usize) {
+pub fn formats_of(list: &[ListedOption]) -> (Format, usize) {
     let mut format = Format::None;
     let mut count: usize = 0;
     for said in list {
-        if let Kind::Format(f) = said.kind {
+        if let OptionKind::Format(f) = said.kind {
             format = f;
             count = count.saturating_add(1);
         }
@@ -287,7 +287,7 @@ fn takes_no_data(role: Role) -> bool {
 }
 
 /// Whether the numbers of the options are right: the table of how often each may come.
-fn is_counted(list: &[Said]) -> bool {
+fn is_counted(list: &[ListedOption]) -> bool {
     let (role, roles) = roles_of(list);
     let Some(role) = role else {
         return false;
@@ -310,9 +310,9 @@ fn is_counted(list: &[Said]) -> bool {
         && (role == Role::Sub || topics == 0)
 }
 
-fn has_values(alloc: Global, words: &[String], list: &[Said]) -> Result<bool, NoMemory> {
+fn has_values(alloc: Global, words: &[String], list: &[ListedOption]) -> Result<bool, NoMemory> {
     for said in list {
-        if let Kind::Valued(n) = said.kind {
+        if let OptionKind::Valued(n) = said.kind {
             if said.word >= words.len() || !is_value(alloc, n, value_of(words, *said))? {
                 return Ok(false);
             }
@@ -322,7 +322,7 @@ fn has_values(alloc: Global, words: &[String], list: &[Said]) -> Result<bool, No
 }
 
 /// The options of a list that has a plan without a drill.
-pub fn plan_of(alloc: Global, words: &[String]) -> Result<Option<Vec<Said>>, NoMemory> {
+pub fn plan_of(alloc: Global, words: &[String]) -> Result<Option<Vec<ListedOption>>, NoMemory> {
     let Some(list) = options_of(alloc, words)? else {
         return Ok(None);
     };

@@ -6,7 +6,7 @@ use Rattle.sp_base.specs.declared.OpName.{OpName}
 use Rattle.turn_lock.specs.declared.turn.Turn.{Turn}
 use Rattle.sp_msg.specs.Views.{WireView}
 use Rattle.sp_history.specs.declared.parts.Begun.{Begun}
-use Rattle.sp_history.specs.declared.entry.Act.{Act}
+use Rattle.sp_history.specs.declared.entry.RecordedAct.{RecordedAct}
 use Rattle.sp_history.specs.declared.entry.Entry.{Entry}
 use Rattle.sp_history.specs.declared.entry.Entry.TheVariants.{Up, Taken, Begin, End, Took, Close}
 use Rattle.sp_history.specs.declared.entry.Totals.{Totals}
@@ -26,7 +26,7 @@ use Rattle.sp_core.specs.Moving.{IsSettling, AreSettling}
 use Rattle.sp_core.specs.Standing.{StandsFor, HasBegin, HasFirst, BeganBy}
 use Rattle.sp_msg.specs.Views.{MessageView}
 use Rattle.sp_proto.specs.Kinds.{text_of}
-use Rattle.sp_history.specs.declared.entry.Act.TheVariants.{Recv}
+use Rattle.sp_history.specs.declared.entry.RecordedAct.TheVariants.{Recv}
 use Rattle.sp_history.specs.declared.entry.Ending.{Ending}
 use Rattle.sp_history.specs.declared.entry.Ending.TheVariants.{Won, Gone as GoneEnd}
 use Rattle.sp_history.specs.declared.entry.Completion.TheVariants.{Received}
@@ -74,7 +74,7 @@ serving_plain (e ∷ es) h = (serves_plain e h.0, serving_plain es h.1)
 pub first_plain : (e : Entry) (t : Turn Entry) → IsPlain e → HasFirst e t → ArePlain t.entries
 first_plain e t h f = subst ArePlain (sym f.entries) (h, settling_plain f.late f.late_settles)
 
-pub began_plain : (e : BeginError) (z : Setting) (h : List (Turn Entry)) (t : Turn Entry) (k c : ℕ) (act : Act) (d : Option ℕ) → BeganBy (Err e) z h t k c act d → ArePlain t.entries
+pub began_plain : (e : BeginError) (z : Setting) (h : List (Turn Entry)) (t : Turn Entry) (k c : ℕ) (act : RecordedAct) (d : Option ℕ) → BeganBy (Err e) z h t k c act d → ArePlain t.entries
 began_plain e z h t k c act d b = settling_plain t.entries b.0
 
 pub attached_plain : (r : Result ℕ AttachError) (z : Setting) (h : List (Turn Entry)) (t : Turn Entry) (place : ℕ) (name : List ℕ) → AttachedBy r z h t place name → ArePlain t.entries
@@ -134,7 +134,7 @@ held_plain : (past : List Entry) (ops : List OpName) (es : List Entry) → ArePl
 held_plain past ops [] h a = a
 held_plain past ops (e ∷ es) h a = held_plain (e ∷ past) ops es h.1 (held_entry past ops e h.0 a)
 
-held_begin : (past : List Entry) (ops : List OpName) (op : OpName) (c : ℕ) (act : Act) (d : Option ℕ) → AreHeld past ops → AreHeld (Begin op 1 c act d ∷ past) (ops ++ op ∷ [])
+held_begin : (past : List Entry) (ops : List OpName) (op : OpName) (c : ℕ) (act : RecordedAct) (d : Option ℕ) → AreHeld past ops → AreHeld (Begin op 1 c act d ∷ past) (ops ++ op ∷ [])
 held_begin past ops op c act d a o =
     subst (λ (n : ℕ). (n + took_count past o ≤ cond (same_op op o) (begin_count past o + 1) (begin_count past o)) × (0 < n → cond (same_op op o) (Some 1) (caller_of past o) ≡ Some 1)) (sym (count-append ops op o)) (go (same_op op o) (a o))
   where
@@ -229,7 +229,7 @@ module _ {P W : Type 0} (ties : P → Moment → Type 0) (room : P → ℕ) (sho
       → d.op_words.words ≡ c.op_words.words → Drives ties room shown d s o n ops
   now_turn c d s o n ops p t r z x st now same = more_turn c d s o n ops ops p t st (held_now r z p.history t x ops now p.held) same
 
-  pub begun_turn : (c d : Core P W) (s o : Sight) (n : ℕ) (ops more : List OpName) (p : Drives ties room shown c s o n ops) (t : Turn Entry) (op : OpName) (x : ℕ) (act : Act) (dl : Option ℕ) → StandsFor ties room shown d (p.history ++ t ∷ [])
+  pub begun_turn : (c d : Core P W) (s o : Sight) (n : ℕ) (ops more : List OpName) (p : Drives ties room shown c s o n ops) (t : Turn Entry) (op : OpName) (x : ℕ) (act : RecordedAct) (dl : Option ℕ) → StandsFor ties room shown d (p.history ++ t ∷ [])
       → HasBegin op 1 x act dl t → d.op_words.words ≡ c.op_words.words → more ≡ ops ++ op ∷ [] → Drives ties room shown d s o n more
   begun_turn c d s o n ops more p t op x act dl st b same is =
       let early : AreHeld (onto b.early (past_of p.history)) ops = held_plain (past_of p.history) ops b.early (settling_plain b.early b.early_settles) p.held in

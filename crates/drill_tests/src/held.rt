@@ -24,7 +24,7 @@ const LOOKS: u32 = 1_000_000;
 
 /// What a wire and the tasks at their gates tell each other: each is 0 until it is set.
 #[derive(Drop)]
-struct Marks {
+struct TaskMarks {
     /// 1 once the wire is pulled.
     pulled: AtomicU64,
     /// 1 once the task at its gate saw that.
@@ -73,7 +73,7 @@ fn count_unless(count: &AtomicU64, mark: &AtomicU64) {
 #[derive(Drop)]
 struct HeldFeed {
     feed: Feed,
-    marks: Arc<Marks>,
+    marks: Arc<TaskMarks>,
     // Whether it was pulled.
     done: bool,
 }
@@ -121,7 +121,7 @@ impl Wire for HeldFeed {
 /// Holds the third task until the wire is being pulled, and counts those of the first two that are early.
 #[derive(Drop)]
 struct HeldGate {
-    marks: Arc<Marks>,
+    marks: Arc<TaskMarks>,
 }
 
 impl Gate for HeldGate {
@@ -137,7 +137,7 @@ impl Gate for HeldGate {
 /// Holds the two that serve until the other two are at their gates, and those until the wire was pulled twice.
 #[derive(Drop)]
 struct LateGate {
-    marks: Arc<Marks>,
+    marks: Arc<TaskMarks>,
 }
 
 impl Gate for LateGate {
@@ -153,7 +153,7 @@ impl Gate for LateGate {
 }
 
 // Comes to a gate, and stays there until the wire was pulled twice.
-fn stay(marks: &Marks) {
+fn stay(marks: &TaskMarks) {
     marks.there.fetch_add(1, Ordering::SeqCst);
     comes_to(&marks.pulls, 2);
 }
@@ -213,8 +213,8 @@ fn is_round<R: AllocGlobal + Wait + Threads + Sync, G: Gate + Sync>(
 }
 
 // No mark is set.
-fn unmarked(alloc: Global) -> Result<Arc<Marks>, Fail> {
-    let marks = Marks {
+fn unmarked(alloc: Global) -> Result<Arc<TaskMarks>, Fail> {
+    let marks = TaskMarks {
         pulled: AtomicU64::new(0),
         passed: AtomicU64::new(0),
         met: AtomicU64::new(0),

@@ -12,7 +12,7 @@ use std::test::Fail;
 
 /// What a put of a text came to.
 #[derive(Clone, Copy, Debug, PartialEq, Eq)]
-enum Answer {
+enum PutAnswer {
     Done,
     /// The same message came back.
     Full,
@@ -21,20 +21,20 @@ enum Answer {
 }
 
 // Puts a message of this text.
-fn put<R: Wait>(rt: &R, alloc: Global, input: &mut LaneIn, text: &[u8]) -> Result<Answer, Fail>
+fn put<R: Wait>(rt: &R, alloc: Global, input: &mut LaneIn, text: &[u8]) -> Result<PutAnswer, Fail>
     ensures { input.new.name ≡ input.old.name }
 {
     let m = Message::from_body(alloc, text)?;
     if input.is_ended() {
-        return Ok(Answer::Wrong);
+        return Ok(PutAnswer::Wrong);
     }
     Ok(match input.put(rt, m) {
-        Put::Done => Answer::Done,
+        Put::Done => PutAnswer::Done,
         Put::Full(back) => {
             if back.body() == text {
-                Answer::Full
+                PutAnswer::Full
             } else {
-                Answer::Wrong
+                PutAnswer::Wrong
             }
         }
     })
@@ -56,11 +56,11 @@ fn a_full_lane_takes_again_and_an_empty_one_gives_again(rt: HostRuntime) -> Resu
     let alloc = rt.alloc();
     let (mut input, mut output) = lane(alloc, 1)?;
     assert!(rt; matches!(output.take(&rt), Taken::Empty));
-    assert_eq!(rt; put(&rt, alloc, &mut input, b"a")?, Answer::Done);
-    assert_eq!(rt; put(&rt, alloc, &mut input, b"b")?, Answer::Full);
+    assert_eq!(rt; put(&rt, alloc, &mut input, b"a")?, PutAnswer::Done);
+    assert_eq!(rt; put(&rt, alloc, &mut input, b"b")?, PutAnswer::Full);
     assert!(rt; gives(&rt, &mut output, b"a"));
     assert!(rt; matches!(output.take(&rt), Taken::Empty));
-    assert_eq!(rt; put(&rt, alloc, &mut input, b"b")?, Answer::Done);
+    assert_eq!(rt; put(&rt, alloc, &mut input, b"b")?, PutAnswer::Done);
     assert!(rt; gives(&rt, &mut output, b"b"));
     Ok(())
 }
@@ -70,7 +70,7 @@ fn fill<R: Wait>(rt: &R, alloc: Global, input: &mut LaneIn, most: u32) -> Result
     ensures { input.new.name ≡ input.old.name }
 {
     for n in 0..most {
-        if put(rt, alloc, input, b"x")? != Answer::Done {
+        if put(rt, alloc, input, b"x")? != PutAnswer::Done {
             return Ok(n);
         }
     }

@@ -12,7 +12,7 @@ ghost use Rattle.cat_drill.specs.Feeds.{IsSource};
 use aio_word::Phase;
 use cat_drill::OpenGate;
 use cat_drill::parts::{
-    Closed, Crew, Feed, Source, begin_all, close_all, collect_all, contend, crew_of, drop_all,
+    Closed, Crew, DrillSource, Feed, begin_all, close_all, collect_all, contend, crew_of, drop_all,
     lanes, rounds, work,
 };
 use proto_pipeline::Pull;
@@ -300,7 +300,7 @@ fn are_of_rounds(totals: Totals, messages: u16, rounds: u16) -> bool {
 
 /// What is done on the socket of a drill.
 #[derive(Clone, Copy)]
-enum Job {
+enum DrillJob {
     /// The first half of a round, in which so many messages come.
     Half(Half, u16),
     /// All rounds of a drill of so many messages.
@@ -314,7 +314,7 @@ fn raced<R: Wait + Threads + Sync>(
     socket: Socket<Pull, Feed>,
     list: SocketPasses<Pull, Feed>,
     crew: Crew<Pull, Feed>,
-    mut source: Source,
+    mut source: DrillSource,
     half: Half,
     messages: u16,
 ) -> bool
@@ -340,7 +340,7 @@ fn went_round<R: Wait + Threads + Sync>(
     socket: Socket<Pull, Feed>,
     list: SocketPasses<Pull, Feed>,
     crew: Crew<Pull, Feed>,
-    mut source: Source,
+    mut source: DrillSource,
     messages: u16,
 ) -> bool
     requires list { IsOut socket list }
@@ -362,9 +362,9 @@ fn does<R: Wait + Threads + Sync>(
     alloc: Global,
     socket: Socket<Pull, Feed>,
     mut list: SocketPasses<Pull, Feed>,
-    source: Source,
+    source: DrillSource,
     feed: Feed,
-    job: Job,
+    job: DrillJob,
 ) -> bool
     requires list { list ≡ new_list socket drill_setting }
     requires words { (socket.words.slots ≡ 256) × (socket.words.callers ≡ 4) }
@@ -374,14 +374,14 @@ fn does<R: Wait + Threads + Sync>(
     let mut crew = crew_of(&mut list, &socket);
     let up = socket.attach(rt, &mut crew.main, feed, 0).is_ok();
     let right = match job {
-        Job::Half(half, n) => raced(rt, alloc, socket, list, crew, source, half, n),
-        Job::Rounds(n) => went_round(rt, alloc, socket, list, crew, source, n),
+        DrillJob::Half(half, n) => raced(rt, alloc, socket, list, crew, source, half, n),
+        DrillJob::Rounds(n) => went_round(rt, alloc, socket, list, crew, source, n),
     };
     up && right
 }
 
 // Whether it comes to what it should, on a socket of its own.
-fn is_right<R: AllocGlobal + Wait + Threads + Sync>(rt: &R, job: Job) -> Result<bool, Fail> {
+fn is_right<R: AllocGlobal + Wait + Threads + Sync>(rt: &R, job: DrillJob) -> Result<bool, Fail> {
     let alloc = rt.alloc();
     let (source, feed) = lanes(alloc)?;
     let machine = Pull::new(alloc, Options::usual(Role::Pull, 0), false)?;
@@ -397,28 +397,28 @@ fn is_right<R: AllocGlobal + Wait + Threads + Sync>(rt: &R, job: Job) -> Result<
 
 #[test]
 fn each_task_does_its_part(rt: HostRuntime) -> Result<(), Fail> {
-    assert!(rt; is_right(&rt, Job::Half(Half::InTurn, 2))?);
+    assert!(rt; is_right(&rt, DrillJob::Half(Half::InTurn, 2))?);
     Ok(())
 }
 
 #[test]
 fn each_task_does_its_part_at_once(rt: HostRuntime) -> Result<(), Fail> {
-    assert!(rt; is_right(&rt, Job::Half(Half::AtOnce, 0))?);
+    assert!(rt; is_right(&rt, DrillJob::Half(Half::AtOnce, 0))?);
     Ok(())
 }
 
 #[test]
 fn each_task_does_its_part_while_messages_come(rt: HostRuntime) -> Result<(), Fail> {
-    assert!(rt; is_right(&rt, Job::Half(Half::AtOnce, 64))?);
+    assert!(rt; is_right(&rt, DrillJob::Half(Half::AtOnce, 64))?);
     Ok(())
 }
 
 // 64 messages go in one round, 130 in three.
 #[test]
 fn each_round_begins_and_ends_its_receives(rt: HostRuntime) -> Result<(), Fail> {
-    assert!(rt; is_right(&rt, Job::Rounds(64))?);
-    assert!(rt; is_right(&rt, Job::Rounds(130))?);
-    assert!(rt; is_right(&rt, Job::Half(Half::Untouched, 0))?);
+    assert!(rt; is_right(&rt, DrillJob::Rounds(64))?);
+    assert!(rt; is_right(&rt, DrillJob::Rounds(130))?);
+    assert!(rt; is_right(&rt, DrillJob::Half(Half::Untouched, 0))?);
     Ok(())
 }
 

@@ -119,7 +119,7 @@ fn each_task_passes_its_gate_once_a_round(rt: HostRuntime) {
 
 /// Holds the first and the last task until each has seen the other.
 #[derive(Drop)]
-struct Held {
+struct MeetingGate {
     first: AtomicU64,
     last: AtomicU64,
     /// How many tasks saw the other one.
@@ -138,7 +138,7 @@ fn meets(mine: &AtomicU64, other: &AtomicU64, met: &AtomicU64) {
     }
 }
 
-impl Gate for Held {
+impl Gate for MeetingGate {
     fn pass(&self, task: u32) {
         match task {
             1 => meets(&self.first, &self.last, &self.met),
@@ -151,7 +151,7 @@ impl Gate for Held {
 // In one round the first and the last task run at the same time.
 #[test]
 fn held_drill(rt: HostRuntime) {
-    let held = Held {
+    let held = MeetingGate {
         first: AtomicU64::new(0),
         last: AtomicU64::new(0),
         met: AtomicU64::new(0),

@@ -1,4 +1,4 @@
 pub mod Renaming
 pub mod Beginning
 pub mod OverLink
-pub mod Numbers
+pub mod WayNumbers

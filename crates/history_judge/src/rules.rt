@@ -21,8 +21,10 @@ use history_judge_requests::kept::{kept, stored};
 use history_judge_requests::requests::{how_ended, live_on, request_of};
 use history_judge_requests::sends::{is_due_again, is_sent, unclaimed};
 use sp_base::{Bytes, Ctx, NoMemory, OpName, PipeId, Role};
-use sp_history::entry::{Act, Cause, Completion, Ending, Entry, Gate, Message, Why};
-use sp_history::parts::{Begun, Ended, How, Item, Request};
+use sp_history::entry::{
+    Cause, Completion, ContextChange, Ending, Entry, RecordedAct, RecordedMessage, Why,
+};
+use sp_history::parts::{Begun, How, Item, LiveRequest, OperationEnd};
 use sp_history::setting::Setting;
 use std::alloc::Global;
 use std::collections::LinkedList;
@@ -30,10 +32,10 @@ use std::collections::LinkedList;
 // ---- Small words
 
 /// The act is a receive.
-pub fn is_recv(act: &Act) -> bool
+pub fn is_recv(act: &RecordedAct) -> bool
     ensures { result ≡ is_recv act.now }
 {
-    matches!(act, Act::Recv)
+    matches!(act, RecordedAct::Recv)
 }
 
 fn is_recv_on(c: Ctx, s: &Begun) -> bool
@@ -48,7 +50,7 @@ fn any_at(slot: u32, ss: &LinkedList<Begun>) -> bool
     ss.iter().any(|s| s.op.slot == slot)
 }
 
-fn any_ended_at(slot: u32, es: &LinkedList<Ended>) -> bool
+fn any_ended_at(slot: u32, es: &LinkedList<OperationEnd>) -> bool
     ensures { result ≡ list_any (λ e. is_at slot e.begun) es.now }
 {
     es.iter().any(|e| e.begun.op.slot == slot)
@@ -84,12 +86,12 @@ pub fn has_topic(ts: &LinkedList<Bytes>, t: &[u8]) -> bool
     ts.iter().any(|u| same_bytes(u.as_slice(), t))
 }
 
-fn does(role: Role, act: &Act) -> bool
+fn does(role: Role, act: &RecordedAct) -> bool
     ensures { result ≡ does role act.now }
 {
     match act {
-        Act::Recv => role.receives(),
-        Act::Send(_) => role.sends(),
+        RecordedAct::Recv => role.receives(),
+        RecordedAct::Send(_) => role.sends(),
     }
 }
 
@@ -100,7 +102,7 @@ fn any_recv_on(c: Ctx, ss: &LinkedList<Begun>) -> bool
 }
 
 fn recv_state(alloc: Global, z: Setting, past: &Past, c: Ctx) -> Result<bool, NoMemory>
-    ensures { IfOk result (λ r. r ≡ state_for z.role z (entries_of past.now) c Act.Recv) }
+    ensures { IfOk result (λ r. r ≡ state_for z.role z (entries_of past.now) c RecordedAct.Recv) }
 {
     match z.role {
         Role::Req => {
@@ -119,8 +121,14 @@ fn recv_state(alloc: Global, z: Setting, past: &Past, c: Ctx) -> Result<bool, No
     }
 }
 
-fn send_state(alloc: Global, z: Setting, past: &Past, c: Ctx, m: &Message) -> Result<bool, NoMemory>
-    ensures { IfOk result (λ r. r ≡ state_for z.role z (entries_of past.now) c (Act.Send m.now)) }
+fn send_state(
+    alloc: Global,
+    z: Setting,
+    past: &Past,
+    c: Ctx,
+    m: &RecordedMessage,
+) -> Result<bool, NoMemory>
+    ensures { IfOk result (λ r. r ≡ state_for z.role z (entries_of past.now) c (RecordedAct.Send m.now)) }
 {
     match z.role {
         Role::Rep | Role::Respondent => Ok(stored(alloc, z, past, c)?.is_none()),
@@ -130,15 +138,21 @@ fn send_state(alloc: Global, z: Setting, past: &Past, c: Ctx, m: &Message) -> Re
 }
 
 /// A begin on the context is refused for the protocol's state.
-pub fn is_state(alloc: Global, z: Setting, past: &Past, c: Ctx, act: &Act) -> Result<bool, NoMemory>
+pub fn is_state(
+    alloc: Global,
+    z: Setting,
+    past: &Past,
+    c: Ctx,
+    act: &RecordedAct,
+) -> Result<bool, NoMemory>
     ensures { IfOk result (λ r. r ≡ is_state z (entries_of past.now) c act.now) }
 {
     if z.raw {
         return Ok(false);
     }
     match act {
-        Act::Recv => recv_state(alloc, z, past, c),
-        Act::Send(m) => send_state(alloc, z, past, c, m),
+        RecordedAct::Recv => recv_state(alloc, z, past, c),
+        RecordedAct::Send(m) => send_state(alloc, z, past, c, m),
     }
 }
 
@@ -187,7 +201,7 @@ fn unshut(alloc: Global, past: &Past) -> Result<LinkedList<Ctx>, NoMemory>
             let cs = unshut(alloc, before)?;
             add_ctx(pending(alloc, before, *op)?, cs)
         }
-        Past::After(Entry::Ctx(c, Gate::Shut), before) => {
+        Past::After(Entry::Ctx(c, ContextChange::Shut), before) => {
             let cs = unshut(alloc, before)?;
             without_ctx(cs, *c)
         }
@@ -307,7 +321,12 @@ fn is_after_any_frame(past: &Past) -> bool
     matches!(past, Past::After(Entry::Frame(_, _), _))
 }
 
-fn is_due_on(alloc: Global, z: Setting, past: &Past, r: Option<Request>) -> Result<bool, NoMemory>
+fn is_due_on(
+    alloc: Global,
+    z: Setting,
+    past: &Past,
+    r: Option<LiveRequest>,
+) -> Result<bool, NoMemory>
     ensures { IfOk result (λ b. b ≡ is_due_on z (entries_of past.now) r) }
 {
     match r {
@@ -343,7 +362,7 @@ pub fn may_begin(
     op: OpName,
     caller: u32,
     c: Ctx,
-    act: &Act,
+    act: &RecordedAct,
 ) -> Result<Option<Fault>, NoMemory>
     ensures { IfOk result (λ f. Finds f (MayBegin z k (entries_of past.now) op caller c act.now)) }
 {
@@ -391,7 +410,7 @@ fn first_recv_on(c: Ctx, ss: LinkedList<Begun>) -> Option<OpName>
     }
 }
 
-fn oldest(items: LinkedList<Item>) -> Option<Message>
+fn oldest(items: LinkedList<Item>) -> Option<RecordedMessage>
     ensures { result ≡ option_map (λ i. i.message) (head_of items) }
 {
     let mut items = items;
@@ -407,7 +426,7 @@ fn are_equal(a: &[u8], b: &[u8]) -> bool
     a == b
 }
 
-fn is_message(found: Option<Message>, m: &Message) -> bool
+fn is_message(found: Option<RecordedMessage>, m: &RecordedMessage) -> bool
     ensures { IsTrue result ↔ (found ≡ Some m.now) }
 {
     match found {
@@ -431,7 +450,7 @@ fn may_receive(
     z: Setting,
     past: &Past,
     s: &Begun,
-    m: &Message,
+    m: &RecordedMessage,
 ) -> Result<Option<Fault>, NoMemory>
     ensures { IfOk result (λ f. Finds f (MayReceive z (entries_of past.now) s.now m.now)) }
 {

@@ -31,8 +31,8 @@ use history_judge_requests::kept::{kept, wanted};
 use history_judge_requests::requests::requests;
 use history_judge_requests::sends::{is_due_again, targets};
 use sp_base::{Bytes, Ctx, NoMemory, OpName, PipeId, Tick};
-use sp_history::entry::{Entry, Gate, Switch, Totals, Why};
-use sp_history::parts::{Begun, Orphan, Request};
+use sp_history::entry::{ContextChange, Entry, Switch, Totals, Why};
+use sp_history::parts::{Begun, LiveRequest, Orphan};
 use sp_history::setting::Setting;
 use std::alloc::Global;
 use std::collections::LinkedList;
@@ -361,8 +361,8 @@ fn may_come(
         Entry::End(op, ending) => may_finish(alloc, z, past, *op, ending),
         Entry::Took(op, caller) => may_take(alloc, k, past, *op, *caller),
         Entry::Tick(t, ops) => may_tick(alloc, past, *t, ops),
-        Entry::Ctx(c, Gate::Open) => may_open(z, past, *c),
-        Entry::Ctx(c, Gate::Shut) => may_shut(alloc, past, *c),
+        Entry::Ctx(c, ContextChange::Open) => may_open(z, past, *c),
+        Entry::Ctx(c, ContextChange::Shut) => may_shut(alloc, past, *c),
         Entry::Topic(c, t, Switch::On) => may_put_on(alloc, z, past, *c, t),
         Entry::Topic(c, t, Switch::Off) => may_take_off(alloc, z, past, *c, t),
         Entry::Dry(c) => may_be_dry(alloc, z, past, *c),
@@ -439,7 +439,7 @@ fn request_settled(
     z: Setting,
     past: &Past,
     fulls: &LinkedList<PipeId>,
-    r: &Request,
+    r: &LiveRequest,
 ) -> Result<bool, NoMemory>
     ensures { IfOk result (λ b. b ≡ request_settled z (entries_of past.now) (has fulls.now) r.now) }
 {
@@ -496,7 +496,7 @@ fn requests_settled(
     z: Setting,
     past: &Past,
     fulls: &LinkedList<PipeId>,
-    live: LinkedList<Request>,
+    live: LinkedList<LiveRequest>,
 ) -> Result<bool, NoMemory>
     ensures { IfOk result (λ r. r ≡ list_all (request_settled z (entries_of past.now) (has fulls.now)) live) }
 {

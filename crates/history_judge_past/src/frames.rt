@@ -9,7 +9,7 @@ ghost use Rattle.history_judge_past.specs.Story.{entries_of};
 use crate::lists::word;
 use crate::story::Past;
 use sp_base::{Bytes, NoMemory, PipeId, Role};
-use sp_history::entry::Message;
+use sp_history::entry::RecordedMessage;
 use sp_history::parts::{Back, Item};
 use sp_history::setting::Setting;
 use std::alloc::Global;
@@ -188,7 +188,7 @@ fn item(
     Ok(Item {
         pipe: p,
         words,
-        message: Message { header, body },
+        message: RecordedMessage { header, body },
     })
 }
 

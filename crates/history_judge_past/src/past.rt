@@ -8,8 +8,8 @@ ghost use Rattle.history_judge_past.specs.Story.{entries_of};
 use crate::lists::{find_begun, same_bytes, same_op, without_begun, without_ctx, without_pipe};
 use crate::story::{Past, copy_act, copy_bytes, copy_ending};
 use sp_base::{Bytes, Ctx, NoMemory, OpName, PipeId, Tick};
-use sp_history::entry::{Act, Ending, Entry, Gate, Switch, Totals};
-use sp_history::parts::{Begun, Ended, Timer};
+use sp_history::entry::{ContextChange, Ending, Entry, RecordedAct, Switch, Totals};
+use sp_history::parts::{Begun, OperationEnd, Timer};
 use std::alloc::Global;
 use std::collections::LinkedList;
 
@@ -72,7 +72,7 @@ pub fn untaken(alloc: Global, past: &Past) -> Result<LinkedList<PipeId>, NoMemor
     }
 }
 
-fn begun(alloc: Global, op: OpName, c: Ctx, act: &Act) -> Result<Begun, NoMemory>
+fn begun(alloc: Global, op: OpName, c: Ctx, act: &RecordedAct) -> Result<Begun, NoMemory>
     ensures { IfOk result (λ s. s ≡ record { op = op; ctx = c; act = act.now }) }
 {
     let act = copy_act(alloc, act)?;
@@ -106,7 +106,10 @@ pub fn pending(alloc: Global, past: &Past, op: OpName) -> Result<Option<Begun>, 
 }
 
 /// All ended operations but this one.
-pub fn without_ended(es: LinkedList<Ended>, op: OpName) -> Result<LinkedList<Ended>, NoMemory>
+pub fn without_ended(
+    es: LinkedList<OperationEnd>,
+    op: OpName,
+) -> Result<LinkedList<OperationEnd>, NoMemory>
     ensures { IfOk result (λ kept. kept ≡ filter (λ e. not (same_op e.begun.op op)) es) }
 {
     let mut es = es;
@@ -124,10 +127,10 @@ pub fn without_ended(es: LinkedList<Ended>, op: OpName) -> Result<LinkedList<End
 
 fn add_ended(
     alloc: Global,
-    es: LinkedList<Ended>,
+    es: LinkedList<OperationEnd>,
     ending: &Ending,
     s: Option<Begun>,
-) -> Result<LinkedList<Ended>, NoMemory>
+) -> Result<LinkedList<OperationEnd>, NoMemory>
     ensures { IfOk result (λ found. found ≡ es ++ ended_as ending.now s) }
 {
     let mut es = es;
@@ -135,14 +138,14 @@ fn add_ended(
         None => Ok(es),
         Some(s) => {
             let ending = copy_ending(alloc, ending)?;
-            es.push_back(Ended { begun: s, ending })?;
+            es.push_back(OperationEnd { begun: s, ending })?;
             Ok(es)
         }
     }
 }
 
 /// The operations that ended and were not collected, in the order of their ends.
-pub fn uncollected(alloc: Global, past: &Past) -> Result<LinkedList<Ended>, NoMemory>
+pub fn uncollected(alloc: Global, past: &Past) -> Result<LinkedList<OperationEnd>, NoMemory>
     ensures { IfOk result (λ found. found ≡ uncollected (entries_of past.now)) }
 {
     match past {
@@ -372,7 +375,7 @@ pub fn opened(past: &Past) -> Result<u64, NoMemory>
 {
     match past {
         Past::Start => Ok(0),
-        Past::After(Entry::Ctx(_, Gate::Open), before) => one_more(opened(before)?),
+        Past::After(Entry::Ctx(_, ContextChange::Open), before) => one_more(opened(before)?),
         Past::After(_, before) => opened(before),
     }
 }
@@ -387,12 +390,12 @@ pub fn ctxs(alloc: Global, past: &Past) -> Result<LinkedList<Ctx>, NoMemory>
             contexts.push_back(Ctx(0))?;
             Ok(contexts)
         }
-        Past::After(Entry::Ctx(c, Gate::Open), before) => {
+        Past::After(Entry::Ctx(c, ContextChange::Open), before) => {
             let mut contexts = ctxs(alloc, before)?;
             contexts.push_back(*c)?;
             Ok(contexts)
         }
-        Past::After(Entry::Ctx(c, Gate::Shut), before) => {
+        Past::After(Entry::Ctx(c, ContextChange::Shut), before) => {
             let contexts = ctxs(alloc, before)?;
             without_ctx(contexts, *c)
         }
@@ -438,7 +441,7 @@ pub fn topics(alloc: Global, past: &Past, c: Ctx) -> Result<LinkedList<Bytes>, N
                 Ok(ts)
             }
         }
-        Past::After(Entry::Ctx(d, Gate::Shut), before) => {
+        Past::After(Entry::Ctx(d, ContextChange::Shut), before) => {
             if d.0 == c.0 {
                 Ok(LinkedList::new(alloc))
             } else {

@@ -3,7 +3,7 @@
 ghost use Rattle.std.specs.Prelude.{◌≡◌, IfOk};
 
 use sp_base::{Bytes, NoMemory};
-use sp_history::entry::{Act, Completion, Ending, Entry, Message};
+use sp_history::entry::{Completion, Ending, Entry, RecordedAct, RecordedMessage};
 use std::alloc::Global;
 
 /// The entries of a history so far, the newest first.
@@ -23,21 +23,21 @@ pub fn copy_bytes(alloc: Global, b: &Bytes) -> Result<Bytes, NoMemory>
 }
 
 /// The same message, in memory of its own.
-pub fn copy_message(alloc: Global, m: &Message) -> Result<Message, NoMemory>
+pub fn copy_message(alloc: Global, m: &RecordedMessage) -> Result<RecordedMessage, NoMemory>
     ensures { IfOk result (λ copy. copy ≡ m.now) }
 {
     let header = copy_bytes(alloc, &m.header)?;
     let body = copy_bytes(alloc, &m.body)?;
-    Ok(Message { header, body })
+    Ok(RecordedMessage { header, body })
 }
 
 /// The same act, in memory of its own.
-pub fn copy_act(alloc: Global, act: &Act) -> Result<Act, NoMemory>
+pub fn copy_act(alloc: Global, act: &RecordedAct) -> Result<RecordedAct, NoMemory>
     ensures { IfOk result (λ copy. copy ≡ act.now) }
 {
     match act {
-        Act::Recv => Ok(Act::Recv),
-        Act::Send(m) => Ok(Act::Send(copy_message(alloc, m)?)),
+        RecordedAct::Recv => Ok(RecordedAct::Recv),
+        RecordedAct::Send(m) => Ok(RecordedAct::Send(copy_message(alloc, m)?)),
     }
 }
 

@@ -17,8 +17,8 @@ use history_judge_past::lists::{has_ctx, is_empty, matches, same_op};
 use history_judge_past::past::{ctxs, now, pending, topics};
 use history_judge_past::story::Past;
 use sp_base::{Bytes, Ctx, NoMemory, OpName, PipeId, Role};
-use sp_history::entry::{Completion, Ending, Entry, Gate, Switch};
-use sp_history::parts::{Begun, Item, Keeping, Origin, Request};
+use sp_history::entry::{Completion, ContextChange, Ending, Entry, Switch};
+use sp_history::parts::{Begun, Item, Keeping, LiveRequest, Origin};
 use sp_history::setting::Setting;
 use std::alloc::Global;
 use std::collections::LinkedList;
@@ -299,7 +299,7 @@ fn pool_keeping(
             let items = pool_keeping(alloc, z, Keeping::Everywhere, before, c)?;
             after_down(z, *p, items)
         }
-        Past::After(Entry::Ctx(d, Gate::Shut), before) => {
+        Past::After(Entry::Ctx(d, ContextChange::Shut), before) => {
             let items = pool_keeping(alloc, z, Keeping::Everywhere, before, c)?;
             Ok(after_shut(alloc, *d, c, items))
         }
@@ -315,7 +315,7 @@ fn pool(alloc: Global, z: Setting, past: &Past, c: Ctx) -> Result<LinkedList<Ite
     pool_keeping(alloc, z, Keeping::Everywhere, past, c)
 }
 
-fn replies_of(alloc: Global, r: Option<Request>) -> LinkedList<Item>
+fn replies_of(alloc: Global, r: Option<LiveRequest>) -> LinkedList<Item>
     ensures { result ≡ replies_of r }
 {
     match r {
@@ -410,7 +410,7 @@ fn given_from(alloc: Global, z: Setting, past: &Past, c: Ctx) -> Result<Option<O
                 given_from(alloc, z, before, c)
             }
         }
-        Past::After(Entry::Ctx(d, Gate::Shut), before) => {
+        Past::After(Entry::Ctx(d, ContextChange::Shut), before) => {
             if d.0 == c.0 {
                 Ok(None)
             } else {

@@ -9,7 +9,7 @@ use history_judge_past::frames::{after_word, is_req, malformed, plain_item};
 use history_judge_past::lists::{first_word, is_empty, is_number, same_bytes, word};
 use history_judge_past::story::Past;
 use sp_base::{Bytes, Ctx, NoMemory, PipeId, Tick};
-use sp_history::parts::{LastOut, Request, Requests};
+use sp_history::parts::{LastOut, LiveRequest, Requests};
 use sp_history::setting::Setting;
 use std::alloc::Global;
 use std::collections::LinkedList;
@@ -35,13 +35,13 @@ fn after(id: u32) -> u32
     }
 }
 
-fn has_id(id: u32, live: &LinkedList<Request>) -> bool
+fn has_id(id: u32, live: &LinkedList<LiveRequest>) -> bool
     ensures { result ≡ list_any (has_id id) live.now }
 {
     live.iter().any(|r| r.id == id)
 }
 
-fn free_from(tries: usize, live: &LinkedList<Request>, id: u32) -> u32
+fn free_from(tries: usize, live: &LinkedList<LiveRequest>, id: u32) -> u32
     ensures { result ≡ free_from tries live.now id }
 {
     if tries == 0 {
@@ -68,14 +68,14 @@ pub fn next_id(z: Setting, rs: &Requests) -> u32
 // ---- One request
 
 /// It is of this context.
-pub fn is_on(c: Ctx, r: &Request) -> bool
+pub fn is_on(c: Ctx, r: &LiveRequest) -> bool
     ensures { result ≡ is_on c r.now }
 {
     r.ctx.0 == c.0
 }
 
 /// What goes out for it.
-pub fn wire_of(alloc: Global, r: &Request) -> Result<Bytes, NoMemory>
+pub fn wire_of(alloc: Global, r: &LiveRequest) -> Result<Bytes, NoMemory>
     ensures { IfOk result (λ b. b ≡ wire_of r.now) }
 {
     let mut whole = Bytes::from_slice(alloc, &word(r.id))?;
@@ -83,13 +83,13 @@ pub fn wire_of(alloc: Global, r: &Request) -> Result<Bytes, NoMemory>
     Ok(whole)
 }
 
-fn is_for(b: &[u8], r: &Request) -> bool
+fn is_for(b: &[u8], r: &LiveRequest) -> bool
     ensures { result ≡ is_for b.now r.now }
 {
     is_number(first_word(b), r.id)
 }
 
-fn has_room(z: Setting, r: &Request) -> bool
+fn has_room(z: Setting, r: &LiveRequest) -> bool
     ensures { result ≡ has_room z r.now }
 {
     if is_req(z.role) {
@@ -105,8 +105,8 @@ pub fn with_out(
     t: Tick,
     p: PipeId,
     b: &[u8],
-    r: Request,
-) -> Result<Request, NoMemory>
+    r: LiveRequest,
+) -> Result<LiveRequest, NoMemory>
     ensures { IfOk result (λ s. s ≡ with_out t p b.now r) }
 {
     let mut r = r;
@@ -124,8 +124,8 @@ pub fn with_frame(
     past: &Past,
     p: PipeId,
     b: &[u8],
-    r: Request,
-) -> Result<Request, NoMemory>
+    r: LiveRequest,
+) -> Result<LiveRequest, NoMemory>
     ensures { IfOk result (λ s. s ≡ with_frame z (entries_of past.now) p b.now r) }
 {
     let mut r = r;
@@ -136,7 +136,7 @@ pub fn with_frame(
 }
 
 /// Its oldest reply was given.
-pub fn with_taken(c: Ctx, r: Request) -> Request
+pub fn with_taken(c: Ctx, r: LiveRequest) -> LiveRequest
     ensures { result ≡ with_taken c r }
 {
     let mut r = r;
@@ -147,7 +147,7 @@ pub fn with_taken(c: Ctx, r: Request) -> Request
 }
 
 /// The time of the survey is over.
-pub fn is_over(z: Setting, t: Tick, r: &Request) -> bool
+pub fn is_over(z: Setting, t: Tick, r: &LiveRequest) -> bool
     ensures { result ≡ is_over z t r.now }
 {
     z.options.survey <= t.0 && r.birth.0 <= t.0 - z.options.survey

@@ -13,8 +13,8 @@ use history_judge_past::lists::{has_ctx, same_op, without_begun};
 use history_judge_past::past::{now, pend, pending};
 use history_judge_past::story::{Past, copy_bytes};
 use sp_base::{Bytes, Ctx, NoMemory, OpName, PipeId, Tick};
-use sp_history::entry::{Act, Completion, Ending, Entry, Gate, Message};
-use sp_history::parts::{Begun, How, Item, Orphan, Request, Requests};
+use sp_history::entry::{Completion, ContextChange, Ending, Entry, RecordedAct, RecordedMessage};
+use sp_history::parts::{Begun, How, Item, LiveRequest, Orphan, Requests};
 use sp_history::setting::Setting;
 use std::alloc::Global;
 use std::collections::LinkedList;
@@ -26,8 +26,8 @@ fn all_with_out(
     t: Tick,
     p: PipeId,
     b: &[u8],
-    live: LinkedList<Request>,
-) -> Result<LinkedList<Request>, NoMemory>
+    live: LinkedList<LiveRequest>,
+) -> Result<LinkedList<LiveRequest>, NoMemory>
     ensures { IfOk result (λ found. found ≡ map (with_out t p b.now) live) }
 {
     let mut live = live;
@@ -48,8 +48,8 @@ fn all_with_frame(
     past: &Past,
     p: PipeId,
     b: &[u8],
-    live: LinkedList<Request>,
-) -> Result<LinkedList<Request>, NoMemory>
+    live: LinkedList<LiveRequest>,
+) -> Result<LinkedList<LiveRequest>, NoMemory>
     ensures { IfOk result (λ found. found ≡ map (with_frame z (entries_of past.now) p b.now) live) }
 {
     let mut live = live;
@@ -64,7 +64,10 @@ fn all_with_frame(
     }
 }
 
-fn all_with_taken(c: Ctx, live: LinkedList<Request>) -> Result<LinkedList<Request>, NoMemory>
+fn all_with_taken(
+    c: Ctx,
+    live: LinkedList<LiveRequest>,
+) -> Result<LinkedList<LiveRequest>, NoMemory>
     ensures { IfOk result (λ found. found ≡ map (with_taken c) live) }
 {
     let mut live = live;
@@ -111,7 +114,10 @@ fn bereft(
     }
 }
 
-fn not_on(live: LinkedList<Request>, cs: &LinkedList<Ctx>) -> Result<LinkedList<Request>, NoMemory>
+fn not_on(
+    live: LinkedList<LiveRequest>,
+    cs: &LinkedList<Ctx>,
+) -> Result<LinkedList<LiveRequest>, NoMemory>
     ensures { IfOk result (λ kept. kept ≡ filter (λ r. not (has cs.now r.ctx)) live) }
 {
     let mut live = live;
@@ -192,7 +198,7 @@ fn begin_on(
 {
     let mut rs = rs;
     let id = next_id(z, &rs);
-    rs.live.push_back(Request {
+    rs.live.push_back(LiveRequest {
         ctx: c,
         id,
         body,
@@ -273,13 +279,13 @@ fn without_orphan(op: OpName, rs: Requests) -> Result<Requests, NoMemory>
 #[derive(Drop)]
 struct Over {
     cs: LinkedList<Ctx>,
-    live: LinkedList<Request>,
+    live: LinkedList<LiveRequest>,
 }
 
 fn add_over(
     z: Setting,
     t: Tick,
-    r: &Request,
+    r: &LiveRequest,
     cs: LinkedList<Ctx>,
 ) -> Result<LinkedList<Ctx>, NoMemory>
     ensures { IfOk result (λ found. found ≡ (if is_over z t r.now then r.now.ctx ∷ cs else cs)) }
@@ -295,7 +301,7 @@ fn over_ctxs(
     alloc: Global,
     z: Setting,
     t: Tick,
-    live: LinkedList<Request>,
+    live: LinkedList<LiveRequest>,
 ) -> Result<Over, NoMemory>
     ensures { IfOk result (λ r. (r.cs ≡ map (λ r. r.ctx) (filter (is_over z t) live)) × (r.live ≡ live)) }
 {
@@ -354,7 +360,7 @@ fn after_begin(
     z: Setting,
     before: &Past,
     c: Ctx,
-    m: &Message,
+    m: &RecordedMessage,
     rs: Requests,
 ) -> Result<Requests, NoMemory>
     ensures { IfOk result (λ found. found ≡ begin_on z (now (entries_of before.now)) c m.now.body (end_on (c ∷ []) How.Replaced (pend (entries_of before.now)) rs)) }
@@ -431,7 +437,7 @@ fn asked(alloc: Global, z: Setting, past: &Past) -> Result<Requests, NoMemory>
 {
     match past {
         Past::Start => Ok(none(alloc)),
-        Past::After(Entry::Begin(_, _, c, Act::Send(m), _), before) => {
+        Past::After(Entry::Begin(_, _, c, RecordedAct::Send(m), _), before) => {
             let rs = asked(alloc, z, before)?;
             after_begin(alloc, z, before, *c, m, rs)
         }
@@ -451,7 +457,7 @@ fn asked(alloc: Global, z: Setting, past: &Past) -> Result<Requests, NoMemory>
             let rs = asked(alloc, z, before)?;
             after_frame(alloc, z, before, *p, b.as_slice(), rs)
         }
-        Past::After(Entry::Ctx(c, Gate::Shut), before) => {
+        Past::After(Entry::Ctx(c, ContextChange::Shut), before) => {
             let rs = asked(alloc, z, before)?;
             end_on(&one_ctx(alloc, *c)?, How::Shut, pend(alloc, before)?, rs)
         }
@@ -475,7 +481,7 @@ pub fn requests(alloc: Global, z: Setting, past: &Past) -> Result<Requests, NoMe
     }
 }
 
-fn first_on(c: Ctx, live: LinkedList<Request>) -> Option<Request>
+fn first_on(c: Ctx, live: LinkedList<LiveRequest>) -> Option<LiveRequest>
     ensures { result ≡ find (is_on c) live }
 {
     let mut live = live;
@@ -492,7 +498,12 @@ fn first_on(c: Ctx, live: LinkedList<Request>) -> Option<Request>
 }
 
 /// The live request of the context.
-pub fn live_on(alloc: Global, z: Setting, past: &Past, c: Ctx) -> Result<Option<Request>, NoMemory>
+pub fn live_on(
+    alloc: Global,
+    z: Setting,
+    past: &Past,
+    c: Ctx,
+) -> Result<Option<LiveRequest>, NoMemory>
     ensures { IfOk result (λ found. found ≡ live_on z (entries_of past.now) c) }
 {
     let rs = requests(alloc, z, past)?;
@@ -505,7 +516,7 @@ pub fn request_of(
     z: Setting,
     past: &Past,
     s: &Begun,
-) -> Result<Option<Request>, NoMemory>
+) -> Result<Option<LiveRequest>, NoMemory>
     ensures { IfOk result (λ found. found ≡ request_of z (entries_of past.now) s.now) }
 {
     let rs = requests(alloc, z, past)?;

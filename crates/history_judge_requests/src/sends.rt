@@ -19,8 +19,8 @@ use history_judge_past::lists::{
 use history_judge_past::past::{now, pend, up};
 use history_judge_past::story::{Past, copy_bytes};
 use sp_base::{Bytes, NoMemory, OpName, PipeId, Role};
-use sp_history::entry::{Act, Entry, Message};
-use sp_history::parts::{Begun, LastOut, Origin, Request};
+use sp_history::entry::{Entry, RecordedAct, RecordedMessage};
+use sp_history::parts::{Begun, LastOut, LiveRequest, Origin};
 use sp_history::setting::Setting;
 use std::alloc::Global;
 use std::collections::LinkedList;
@@ -84,8 +84,8 @@ pub fn targets(
     ensures { IfOk result (λ r. r ≡ targets z (entries_of past.now) s.now) }
 {
     match &s.act {
-        Act::Recv => Ok(LinkedList::new(alloc)),
-        Act::Send(m) => {
+        RecordedAct::Recv => Ok(LinkedList::new(alloc)),
+        RecordedAct::Send(m) => {
             let origin = route(alloc, z, past, s.op)?;
             may_all_go(up(alloc, past)?, z, &origin, m.header.as_slice())
         }
@@ -109,7 +109,7 @@ fn traced(alloc: Global, origin: &Option<Origin>, body: &Bytes) -> Result<Option
     }
 }
 
-fn asked_bytes(alloc: Global, r: &Option<Request>) -> Result<Option<Bytes>, NoMemory>
+fn asked_bytes(alloc: Global, r: &Option<LiveRequest>) -> Result<Option<Bytes>, NoMemory>
     ensures { IfOk result (λ b. b ≡ option_map wire_of r.now) }
 {
     match r {
@@ -122,8 +122,8 @@ fn bytes_for(
     alloc: Global,
     z: Setting,
     origin: &Option<Origin>,
-    r: &Option<Request>,
-    m: &Message,
+    r: &Option<LiveRequest>,
+    m: &RecordedMessage,
 ) -> Result<Option<Bytes>, NoMemory>
     ensures { IfOk result (λ b. b ≡ bytes_for z.role z.raw origin.now r.now m.now) }
 {
@@ -158,8 +158,8 @@ pub fn bytes_of(
     ensures { IfOk result (λ b. b ≡ bytes_of z (entries_of past.now) s.now) }
 {
     match &s.act {
-        Act::Recv => Ok(None),
-        Act::Send(m) => {
+        RecordedAct::Recv => Ok(None),
+        RecordedAct::Send(m) => {
             let origin = route(alloc, z, past, s.op)?;
             let r = request_of(alloc, z, past, s)?;
             bytes_for(alloc, z, &origin, &r, m)
@@ -190,7 +190,12 @@ fn is_lost(alloc: Global, z: Setting, past: &Past, out: Option<LastOut>) -> Resu
 }
 
 /// The request may go out again.
-pub fn is_due_again(alloc: Global, z: Setting, past: &Past, r: &Request) -> Result<bool, NoMemory>
+pub fn is_due_again(
+    alloc: Global,
+    z: Setting,
+    past: &Past,
+    r: &LiveRequest,
+) -> Result<bool, NoMemory>
     ensures { IfOk result (λ b. b ≡ is_due_again z (entries_of past.now) r.now) }
 {
     if !is_empty(&r.replies) {
@@ -204,7 +209,7 @@ fn any_again(
     z: Setting,
     past: &Past,
     b: &[u8],
-    live: LinkedList<Request>,
+    live: LinkedList<LiveRequest>,
 ) -> Result<bool, NoMemory>
     ensures { IfOk result (λ found. found ≡ list_any (λ r. is_due_again z (entries_of past.now) r && same_bytes (wire_of r) b.now) live) }
 {

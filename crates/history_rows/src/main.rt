@@ -20,7 +20,7 @@ use turn_lock::Turn;
 
 /// How many rows were begun, how many had which verdict, and of how many it was another one than was said.
 #[derive(Clone, Copy)]
-struct Tally {
+struct RowTally {
     rows: u32,
     right: u32,
     illegal: u32,
@@ -47,33 +47,33 @@ fn begin_row(alloc: Global, line: &str) -> Result<Row> {
     })
 }
 
-fn counted(tally: Tally, verdict: Judgement) -> Tally {
+fn counted(tally: RowTally, verdict: Judgement) -> RowTally {
     match verdict {
-        Judgement::Right => Tally {
+        Judgement::Right => RowTally {
             right: tally.right.saturating_add(1),
             ..tally
         },
-        Judgement::Illegal(_) => Tally {
+        Judgement::Illegal(_) => RowTally {
             illegal: tally.illegal.saturating_add(1),
             ..tally
         },
-        Judgement::Unsettled(_) => Tally {
+        Judgement::Unsettled(_) => RowTally {
             unsettled: tally.unsettled.saturating_add(1),
             ..tally
         },
     }
 }
 
-fn another(rt: &impl Print, title: &str, found: &str, tally: Tally) -> Result<Tally> {
+fn another(rt: &impl Print, title: &str, found: &str, tally: RowTally) -> Result<RowTally> {
     println!(rt; "{title} : {found}")?;
-    Ok(Tally {
+    Ok(RowTally {
         others: tally.others.saturating_add(1),
         ..tally
     })
 }
 
 /// Judges the row, if there is one.
-fn end_row<R: Print + AllocGlobal>(rt: &R, row: Option<Row>, tally: Tally) -> Result<Tally> {
+fn end_row<R: Print + AllocGlobal>(rt: &R, row: Option<Row>, tally: RowTally) -> Result<RowTally> {
     let Some(
         Row {
             title,
@@ -114,7 +114,7 @@ fn add_turn(alloc: Global, row: Option<Row>, line: &str) -> Result<Row> {
 }
 
 fn main(rt: HostRuntime) -> Result<()> {
-    let mut tally = Tally {
+    let mut tally = RowTally {
         rows: 0,
         right: 0,
         illegal: 0,

@@ -21,7 +21,8 @@
 
 use sp_base::{Bytes, Ctx, NoMemory, OpName, PipeId, Role, Tick};
 use sp_history::entry::{
-    Act, Cause, Completion, Ending, Entry, Gate, Message, Miss, Switch, Totals, Why, WireName,
+    Cause, Completion, ContextChange, Ending, Entry, Miss, RecordedAct, RecordedMessage, Switch,
+    Totals, Why, WireNumbers,
 };
 use sp_history::setting::{Options, Setting};
 use std::alloc::{AllocError, AllocFailed, Global};
@@ -129,9 +130,9 @@ fn bytes_of(alloc: Global, text: &str) -> Result<Bytes, Unread> {
     }
 }
 
-fn message_of(alloc: Global, text: &str) -> Result<Message, Unread> {
+fn message_of(alloc: Global, text: &str) -> Result<RecordedMessage, Unread> {
     match text.split_once('/') {
-        Some((header, body)) => Ok(Message {
+        Some((header, body)) => Ok(RecordedMessage {
             header: bytes_of(alloc, header)?,
             body: bytes_of(alloc, body)?,
         }),
@@ -204,7 +205,7 @@ fn extras_of(k: u32, words: &[&str]) -> Result<Extras, Unread> {
     Ok(extras)
 }
 
-fn begin_of(op: &str, act: Act, k: u32, more: &[&str]) -> Result<Entry, Unread> {
+fn begin_of(op: &str, act: RecordedAct, k: u32, more: &[&str]) -> Result<Entry, Unread> {
     let extras = extras_of(k, more)?;
     Ok(Entry::Begin(
         op_of(op)?,
@@ -222,7 +223,7 @@ fn pipe_of(text: &str) -> Result<PipeId, Unread> {
 fn up_of(alloc: Global, text: &str) -> Result<Entry, Unread> {
     let p = small(text)?;
     let numbers = Bytes::from_slice(alloc, &[])?;
-    Ok(Entry::Up(PipeId(p), p, WireName { numbers }))
+    Ok(Entry::Up(PipeId(p), p, WireNumbers { numbers }))
 }
 
 fn tick_of(alloc: Global, t: &str, ops: &[&str]) -> Result<Entry, Unread> {
@@ -253,8 +254,8 @@ fn of_pipe(name: &str, p: PipeId) -> Result<Entry, Unread> {
         "unkept" => Ok(Entry::Unkept(p)),
         "taken" => Ok(Entry::Taken(p)),
         "dry" => Ok(Entry::Dry(Ctx(p.0))),
-        "open" => Ok(Entry::Ctx(Ctx(p.0), Gate::Open)),
-        "shut" => Ok(Entry::Ctx(Ctx(p.0), Gate::Shut)),
+        "open" => Ok(Entry::Ctx(Ctx(p.0), ContextChange::Open)),
+        "shut" => Ok(Entry::Ctx(Ctx(p.0), ContextChange::Shut)),
         "met" => Ok(Entry::Met(p.0)),
         _ => Err(Unread),
     }
@@ -283,10 +284,10 @@ fn entry_of(alloc: Global, k: u32, words: &[&str]) -> Result<Entry, Unread> {
     let first = word(words, 1)?;
     match name {
         "up" => up_of(alloc, first),
-        "recv" => begin_of(first, Act::Recv, k, after(words, 2)),
+        "recv" => begin_of(first, RecordedAct::Recv, k, after(words, 2)),
         "send" => begin_of(
             first,
-            Act::Send(message_of(alloc, word(words, 2)?)?),
+            RecordedAct::Send(message_of(alloc, word(words, 2)?)?),
             k,
             after(words, 3),
         ),

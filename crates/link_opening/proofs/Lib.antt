@@ -2,7 +2,7 @@ pub mod Cells
 pub mod Greetings
 pub mod Requests
 pub mod Owing
-pub mod Trying
+pub mod OpeningTries
 pub mod Loops
-pub mod Fresh
+pub mod NewOpenings
 pub mod Later

@@ -13,7 +13,7 @@ use Rattle.link_opening.specs.declared.opening.Progress.TheVariants as progress
 use Rattle.link_opening.specs.declared.opening.Heard.TheVariants as heard
 use Rattle.link_opening.specs.Openings.{IsBad, Begins}
 use Rattle.link_opening.specs.Going.{Stands, IsOwn, IsMissing, IsHearing, IsLater, IsSame, IsSaying, SaidTo, HeardTo, TakenIn}
-use Rattle.link_opening.proofs.Trying.{later_on, same_after}
+use Rattle.link_opening.proofs.OpeningTries.{later_on, same_after}
 
 -- while it is written
 pub record Saying {L : Type 0} (seen : L → LinkView) (old new : Opening L) : Type 0 where

@@ -12,7 +12,7 @@ use Rattle.link_opening.specs.declared.way.Way.{Way}
 use Rattle.link_opening.specs.declared.way.Way.TheVariants as ways
 use Rattle.link_opening.specs.Keys.{key_of}
 use Rattle.link_opening.specs.Openings.{IsMore, OpensWith, IsGood, Begins, Owes, Judges, PartOf}
-use Rattle.link_opening.specs.declared.judge.Part.{Part}
+use Rattle.link_opening.specs.declared.judge.PeerPart.{PeerPart}
 use Rattle.link_opening.proofs.Greetings.{part_or_whole}
 use Rattle.link_opening.proofs.Requests.{one_request}
 
@@ -53,14 +53,14 @@ owes_one role (ways.Asks addr start) u first a came owed b x o = one_request rol
 
 -- ---- Judging
 
-pub judges_request : (role : Role) (path came : List ℕ) (head : Head) (part : Part) → ServerAnswers head came role path → PartOf head part → Judges role (ways.Serves path) part came
-judges_request role path came heads.More part x p = subst (λ (q : Part). Judges role (ways.Serves path) q came) (sym p) x
-judges_request role path came (heads.Good u a) part x p = subst (λ (q : Part). Judges role (ways.Serves path) q came) (sym p) x
-judges_request role path came (heads.Bad f) part x p = subst (λ (q : Part). Judges role (ways.Serves path) q came) (sym p) (f, x)
-judges_request role path came heads.NoMemory part x p = subst (λ (q : Part). Judges role (ways.Serves path) q came) (sym p) tt
+pub judges_request : (role : Role) (path came : List ℕ) (head : Head) (part : PeerPart) → ServerAnswers head came role path → PartOf head part → Judges role (ways.Serves path) part came
+judges_request role path came heads.More part x p = subst (λ (q : PeerPart). Judges role (ways.Serves path) q came) (sym p) x
+judges_request role path came (heads.Good u a) part x p = subst (λ (q : PeerPart). Judges role (ways.Serves path) q came) (sym p) x
+judges_request role path came (heads.Bad f) part x p = subst (λ (q : PeerPart). Judges role (ways.Serves path) q came) (sym p) (f, x)
+judges_request role path came heads.NoMemory part x p = subst (λ (q : PeerPart). Judges role (ways.Serves path) q came) (sym p) tt
 
-pub judges_response : (role : Role) (addr : Addr) (start : ℕ) (came : List ℕ) (head : Head) (part : Part) → ClientAnswers head came (key_of start) role → PartOf head part → Judges role (ways.Asks addr start) part came
-judges_response role addr start came heads.More part x p = subst (λ (q : Part). Judges role (ways.Asks addr start) q came) (sym p) x
-judges_response role addr start came (heads.Good u a) part x p = subst (λ (q : Part). Judges role (ways.Asks addr start) q came) (sym p) x
-judges_response role addr start came (heads.Bad f) part x p = subst (λ (q : Part). Judges role (ways.Asks addr start) q came) (sym p) (f, x)
-judges_response role addr start came heads.NoMemory part x p = subst (λ (q : Part). Judges role (ways.Asks addr start) q came) (sym p) tt
+pub judges_response : (role : Role) (addr : Addr) (start : ℕ) (came : List ℕ) (head : Head) (part : PeerPart) → ClientAnswers head came (key_of start) role → PartOf head part → Judges role (ways.Asks addr start) part came
+judges_response role addr start came heads.More part x p = subst (λ (q : PeerPart). Judges role (ways.Asks addr start) q came) (sym p) x
+judges_response role addr start came (heads.Good u a) part x p = subst (λ (q : PeerPart). Judges role (ways.Asks addr start) q came) (sym p) x
+judges_response role addr start came (heads.Bad f) part x p = subst (λ (q : PeerPart). Judges role (ways.Asks addr start) q came) (sym p) (f, x)
+judges_response role addr start came heads.NoMemory part x p = subst (λ (q : PeerPart). Judges role (ways.Asks addr start) q came) (sym p) tt

@@ -15,8 +15,8 @@ use Rattle.sp_upgrade.specs.declared.head.HeadFault.{HeadFault}
 use Rattle.cat_play.specs.Openings.{Ways, peer_number}
 use Rattle.link_opening.specs.declared.way.Way.{Way}
 use Rattle.link_opening.specs.declared.way.Way.TheVariants as ways
-use Rattle.link_opening.specs.declared.judge.Part.{Part}
-use Rattle.link_opening.specs.declared.judge.Part.TheVariants as parts
+use Rattle.link_opening.specs.declared.judge.PeerPart.{PeerPart}
+use Rattle.link_opening.specs.declared.judge.PeerPart.TheVariants as parts
 use Rattle.link_opening.specs.Keys.{key_of}
 
 -- the scheme of the links that begin so
@@ -82,14 +82,14 @@ openings role IsKnown =
 
 -- ---- Judging
 
-abbrev pub Judges : Role → Way → Part → List ℕ → Type 0
+abbrev pub Judges : Role → Way → PeerPart → List ℕ → Type 0
 Judges role way parts.More came = IsMore role way came
 Judges role way (parts.Good used answer) came = OpensWith role way used answer came
 Judges role way parts.Bad came = IsBad role way came
 Judges role way parts.NoMemory came = ⊤
 
 -- the same answer
-abbrev pub PartOf : Head → Part → Type 0
+abbrev pub PartOf : Head → PeerPart → Type 0
 PartOf heads.More part = part ≡ parts.More
 PartOf (heads.Good used answer) part = part ≡ parts.Good used answer
 PartOf (heads.Bad fault) part = part ≡ parts.Bad

@@ -10,7 +10,7 @@ use sp_upgrade::{Head, client_answer, server_head};
 use std::alloc::Global;
 
 /// What all bytes that came come to.
-pub enum Part {
+pub enum PeerPart {
     /// The peer's part isn't whole yet.
     More,
     /// The peer's part is the first `used` bytes, and `answer` is to be written for it.
@@ -22,7 +22,7 @@ pub enum Part {
 }
 
 /// What the bytes that came come to, on a link that begins in this way.
-pub(crate) fn judge(alloc: Global, role: Role, way: &Way, came: &[u8]) -> Part
+pub(crate) fn judge(alloc: Global, role: Role, way: &Way, came: &[u8]) -> PeerPart
     ensures { Judges role way.now result came.now }
 {
     match way {
@@ -32,19 +32,19 @@ pub(crate) fn judge(alloc: Global, role: Role, way: &Way, came: &[u8]) -> Part
     }
 }
 
-fn judge_greeting(alloc: Global, role: Role, came: &[u8]) -> Part
+fn judge_greeting(alloc: Global, role: Role, came: &[u8]) -> PeerPart
     ensures { Judges role ways.Greeting result came.now }
 {
     let greeting = Greeting::new(role.peer());
     let wanted = greeting.hello();
     let count = came.len().min(8);
     if !is_same(&came[..count], &wanted[..count]) {
-        return Part::Bad;
+        return PeerPart::Bad;
     }
     if count < 8 {
-        return Part::More;
+        return PeerPart::More;
     }
-    Part::Good {
+    PeerPart::Good {
         used: 8,
         answer: nothing(alloc),
     }
@@ -56,16 +56,16 @@ fn is_same(a: &[u8], b: &[u8]) -> bool
     a == b
 }
 
-fn part_of(head: Head) -> Part
+fn part_of(head: Head) -> PeerPart
     ensures { PartOf head result }
 {
     match head {
-        Head::More => Part::More,
-        Head::Good { used, answer } => Part::Good {
+        Head::More => PeerPart::More,
+        Head::Good { used, answer } => PeerPart::Good {
             used: used as usize,
             answer,
         },
-        Head::Bad(_) => Part::Bad,
-        Head::NoMemory => Part::NoMemory,
+        Head::Bad(_) => PeerPart::Bad,
+        Head::NoMemory => PeerPart::NoMemory,
     }
 }

@@ -4,7 +4,7 @@ ghost use Rattle.sp_base.specs.Steps.{IsNew};
 ghost use Rattle.link_opening.specs.Openings.{CanBegin, Begins};
 ghost use Rattle.link_opening.specs.Going.{Stands, IsUnderWay, IsHearing, IsLater, IsFresh, SaidTo, HeardTo, OpenedTo, TakenIn, IsOpened};
 
-use crate::judge::{Part, judge};
+use crate::judge::{PeerPart, judge};
 use crate::way::{Way, first_text, nothing};
 use sp_base::{Bytes, Link, LinkRead, LinkWrite, NoMemory, Role};
 use std::alloc::Global;
@@ -183,10 +183,10 @@ impl<L: Link> Opening<L> {
             return Heard::NoMemory;
         }
         match judge(alloc, self.role, &self.way, self.came.as_slice()) {
-            Part::More => Heard::More,
-            Part::Bad => Heard::Bad,
-            Part::NoMemory => Heard::NoMemory,
-            Part::Good { used, answer } => {
+            PeerPart::More => Heard::More,
+            PeerPart::Bad => Heard::Bad,
+            PeerPart::NoMemory => Heard::NoMemory,
+            PeerPart::Good { used, answer } => {
                 if self.own.append(answer.as_slice()).is_err() {
                     return Heard::NoMemory;
                 }

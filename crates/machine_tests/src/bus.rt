@@ -1,6 +1,6 @@
 //! A bus: who is sent what, and what is kept.
 use crate::checks::plays;
-use crate::steps::Step;
+use crate::steps::Call;
 use proto_bus::Bus;
 use sp_base::{NoMemory, Role};
 use sp_history::setting::Options;
@@ -22,18 +22,18 @@ fn keeping(alloc: Global, queue: u32) -> Result<Bus, NoMemory> {
 #[test]
 fn a_bus_sends_to_all(rt: HostRuntime) -> Result<(), Fail> {
     let steps = [
-        Step::Reserve(2),
-        Step::Is(Role::Bus, false),
-        Step::Up(1),
-        Step::Up(2),
-        Step::Send(0, 0, &[1], b"m"),
-        Step::CanFlood(0),
-        Step::GoesTo(0, 1, true),
-        Step::GoesTo(0, 2, true),
-        Step::Copy(0, 2, b"", b"m"),
-        Step::Full(1),
-        Step::Ends(0),
-        Step::Idle,
+        Call::Reserve(2),
+        Call::Is(Role::Bus, false),
+        Call::Up(1),
+        Call::Up(2),
+        Call::Send(0, 0, &[1], b"m"),
+        Call::CanFlood(0),
+        Call::GoesTo(0, 1, true),
+        Call::GoesTo(0, 2, true),
+        Call::Copy(0, 2, b"", b"m"),
+        Call::Full(1),
+        Call::Ends(0),
+        Call::Idle,
     ];
     plays(&rt, rt.alloc(), &mut bus(rt.alloc(), false)?, &steps);
     Ok(())
@@ -42,17 +42,17 @@ fn a_bus_sends_to_all(rt: HostRuntime) -> Result<(), Fail> {
 #[test]
 fn a_raw_bus_does_not_send_back(rt: HostRuntime) -> Result<(), Fail> {
     let steps = [
-        Step::Reserve(2),
-        Step::Up(1),
-        Step::Up(2),
-        Step::Frame(1, b"m"),
-        Step::Receive(0, 0),
-        Step::CanGive(0),
-        Step::PassesOn(0, 1, &[0, 0, 0, 1], b"m"),
-        Step::GoesTo(1, 1, false),
-        Step::GoesTo(1, 2, true),
-        Step::HandsBack(1, &[0, 0, 0, 1], b"m"),
-        Step::Idle,
+        Call::Reserve(2),
+        Call::Up(1),
+        Call::Up(2),
+        Call::Frame(1, b"m"),
+        Call::Receive(0, 0),
+        Call::CanGive(0),
+        Call::PassesOn(0, 1, &[0, 0, 0, 1], b"m"),
+        Call::GoesTo(1, 1, false),
+        Call::GoesTo(1, 2, true),
+        Call::HandsBack(1, &[0, 0, 0, 1], b"m"),
+        Call::Idle,
     ];
     plays(&rt, rt.alloc(), &mut bus(rt.alloc(), true)?, &steps);
     Ok(())
@@ -61,18 +61,18 @@ fn a_raw_bus_does_not_send_back(rt: HostRuntime) -> Result<(), Fail> {
 #[test]
 fn a_full_bus_discards_what_comes(rt: HostRuntime) -> Result<(), Fail> {
     let steps = [
-        Step::Reserve(2),
-        Step::Up(1),
-        Step::Frame(1, b"a"),
-        Step::Wants(1, true),
-        Step::Frame(1, b"b"),
-        Step::Down(1),
-        Step::Receive(0, 0),
-        Step::Gets(0, b"", b"a"),
-        Step::Keeps(0, false),
-        Step::Check(0, Verb::Send, Ok(())),
-        Step::Check(0, Verb::Recv, Ok(())),
-        Step::Check(5, Verb::Send, Err(CheckError::NotSupported)),
+        Call::Reserve(2),
+        Call::Up(1),
+        Call::Frame(1, b"a"),
+        Call::Wants(1, true),
+        Call::Frame(1, b"b"),
+        Call::Down(1),
+        Call::Receive(0, 0),
+        Call::Gets(0, b"", b"a"),
+        Call::Keeps(0, false),
+        Call::Check(0, Verb::Send, Ok(())),
+        Call::Check(0, Verb::Recv, Ok(())),
+        Call::Check(5, Verb::Send, Err(CheckError::NotSupported)),
     ];
     plays(&rt, rt.alloc(), &mut keeping(rt.alloc(), 1)?, &steps);
     Ok(())
@@ -80,7 +80,7 @@ fn a_full_bus_discards_what_comes(rt: HostRuntime) -> Result<(), Fail> {
 
 #[test]
 fn a_bus_without_places_keeps_nothing(rt: HostRuntime) -> Result<(), Fail> {
-    let steps = [Step::Up(1), Step::Frame(1, b"a"), Step::Keeps(0, false)];
+    let steps = [Call::Up(1), Call::Frame(1, b"a"), Call::Keeps(0, false)];
     plays(&rt, rt.alloc(), &mut keeping(rt.alloc(), 0)?, &steps);
     Ok(())
 }

@@ -1,6 +1,6 @@
 //! A pair: one peer, and what waits for it.
 use crate::checks::plays;
-use crate::steps::Step;
+use crate::steps::Call;
 use proto_pair::Pair;
 use sp_base::{NoMemory, Role};
 use sp_history::setting::Options;
@@ -15,24 +15,24 @@ fn pair(alloc: Global, raw: bool) -> Result<Pair, NoMemory> {
 #[test]
 fn a_pair_has_one_peer(rt: HostRuntime) -> Result<(), Fail> {
     let steps = [
-        Step::Reserve(2),
-        Step::Is(Role::Pair0, false),
-        Step::Up(1),
-        Step::Refused(2),
-        Step::Wants(1, true),
-        Step::Frame(1, b"abc"),
-        Step::Wants(1, false),
-        Step::Keeps(0, true),
-        Step::Down(1),
-        Step::Up(2),
-        Step::Wants(2, false),
-        Step::Receive(0, 0),
-        Step::Receive(1, 0),
-        Step::Loses(0),
-        Step::CanGive(1),
-        Step::Gets(1, b"", b"abc"),
-        Step::Idle,
-        Step::Keeps(0, false),
+        Call::Reserve(2),
+        Call::Is(Role::Pair0, false),
+        Call::Up(1),
+        Call::Refused(2),
+        Call::Wants(1, true),
+        Call::Frame(1, b"abc"),
+        Call::Wants(1, false),
+        Call::Keeps(0, true),
+        Call::Down(1),
+        Call::Up(2),
+        Call::Wants(2, false),
+        Call::Receive(0, 0),
+        Call::Receive(1, 0),
+        Call::Loses(0),
+        Call::CanGive(1),
+        Call::Gets(1, b"", b"abc"),
+        Call::Idle,
+        Call::Keeps(0, false),
     ];
     plays(&rt, rt.alloc(), &mut pair(rt.alloc(), false)?, &steps);
     Ok(())
@@ -41,18 +41,18 @@ fn a_pair_has_one_peer(rt: HostRuntime) -> Result<(), Fail> {
 #[test]
 fn sends_wait_for_the_peer_in_order(rt: HostRuntime) -> Result<(), Fail> {
     let steps = [
-        Step::Reserve(2),
-        Step::Send(0, 0, &[5], b"x"),
-        Step::Send(1, 0, &[5], b"y"),
-        Step::Idle,
-        Step::Up(1),
-        Step::CanSend(0, 1),
-        Step::GoesOut(0, 1, b"", b"x"),
-        Step::Full(1),
-        Step::Idle,
-        Step::Fresh,
-        Step::HandsBack(1, &[0, 0, 0, 5], b"y"),
-        Step::Idle,
+        Call::Reserve(2),
+        Call::Send(0, 0, &[5], b"x"),
+        Call::Send(1, 0, &[5], b"y"),
+        Call::Idle,
+        Call::Up(1),
+        Call::CanSend(0, 1),
+        Call::GoesOut(0, 1, b"", b"x"),
+        Call::Full(1),
+        Call::Idle,
+        Call::Fresh,
+        Call::HandsBack(1, &[0, 0, 0, 5], b"y"),
+        Call::Idle,
     ];
     plays(&rt, rt.alloc(), &mut pair(rt.alloc(), true)?, &steps);
     Ok(())
@@ -61,9 +61,9 @@ fn sends_wait_for_the_peer_in_order(rt: HostRuntime) -> Result<(), Fail> {
 #[test]
 fn a_pair_has_no_contexts(rt: HostRuntime) -> Result<(), Fail> {
     let steps = [
-        Step::Check(0, Verb::Send, Ok(())),
-        Step::Check(0, Verb::Recv, Ok(())),
-        Step::Check(5, Verb::Recv, Err(CheckError::NotSupported)),
+        Call::Check(0, Verb::Send, Ok(())),
+        Call::Check(0, Verb::Recv, Ok(())),
+        Call::Check(5, Verb::Recv, Err(CheckError::NotSupported)),
     ];
     plays(&rt, rt.alloc(), &mut pair(rt.alloc(), false)?, &steps);
     Ok(())

@@ -1,6 +1,6 @@
 //! Push and pull: whose turn it is, and what is kept.
 use crate::checks::{holds, plays};
-use crate::steps::Step;
+use crate::steps::Call;
 use proto_pipeline::{Pull, Push};
 use sp_base::{NoMemory, PipeId, Role};
 use sp_history::setting::Options;
@@ -20,21 +20,21 @@ fn push(alloc: Global, raw: bool) -> Result<Push, NoMemory> {
 #[test]
 fn a_pull_gives_what_came_first(rt: HostRuntime) -> Result<(), Fail> {
     let steps = [
-        Step::Reserve(2),
-        Step::Up(1),
-        Step::Up(2),
-        Step::Frame(2, b"x"),
-        Step::Wants(2, false),
-        Step::Wants(1, true),
-        Step::Frame(1, b"y"),
-        Step::Down(2),
-        Step::Receive(0, 0),
-        Step::Receive(1, 0),
-        Step::CanGive(0),
-        Step::Loses(0),
-        Step::CanGive(1),
-        Step::Gets(1, b"", b"x"),
-        Step::Idle,
+        Call::Reserve(2),
+        Call::Up(1),
+        Call::Up(2),
+        Call::Frame(2, b"x"),
+        Call::Wants(2, false),
+        Call::Wants(1, true),
+        Call::Frame(1, b"y"),
+        Call::Down(2),
+        Call::Receive(0, 0),
+        Call::Receive(1, 0),
+        Call::CanGive(0),
+        Call::Loses(0),
+        Call::CanGive(1),
+        Call::Gets(1, b"", b"x"),
+        Call::Idle,
     ];
     plays(&rt, rt.alloc(), &mut pull(rt.alloc())?, &steps);
     Ok(())
@@ -43,19 +43,19 @@ fn a_pull_gives_what_came_first(rt: HostRuntime) -> Result<(), Fail> {
 #[test]
 fn a_push_sends_the_body_on_a_pipe_with_room(rt: HostRuntime) -> Result<(), Fail> {
     let steps = [
-        Step::Reserve(2),
-        Step::Up(1),
-        Step::Up(2),
-        Step::Send(0, 0, &[7], b"x"),
-        Step::Send(1, 0, &[7], b"y"),
-        Step::Full(1),
-        Step::CanSend(0, 2),
-        Step::GoesOut(0, 2, b"", b"x"),
-        Step::Full(2),
-        Step::Idle,
-        Step::Fresh,
-        Step::HandsBack(1, &[0, 0, 0, 7], b"y"),
-        Step::Idle,
+        Call::Reserve(2),
+        Call::Up(1),
+        Call::Up(2),
+        Call::Send(0, 0, &[7], b"x"),
+        Call::Send(1, 0, &[7], b"y"),
+        Call::Full(1),
+        Call::CanSend(0, 2),
+        Call::GoesOut(0, 2, b"", b"x"),
+        Call::Full(2),
+        Call::Idle,
+        Call::Fresh,
+        Call::HandsBack(1, &[0, 0, 0, 7], b"y"),
+        Call::Idle,
     ];
     plays(&rt, rt.alloc(), &mut push(rt.alloc(), true)?, &steps);
     Ok(())
@@ -71,17 +71,17 @@ fn comes_headed(push: &mut Push, alloc: Global) -> Result<bool, Fail> {
 #[test]
 fn a_push_takes_its_pipes_in_turn(rt: HostRuntime) -> Result<(), Fail> {
     let mut push = push(rt.alloc(), false)?;
-    let before = [Step::Reserve(2), Step::Up(1), Step::Up(2)];
+    let before = [Call::Reserve(2), Call::Up(1), Call::Up(2)];
     plays(&rt, rt.alloc(), &mut push, &before);
     holds(&rt, comes_headed(&mut push, rt.alloc())?);
     let steps = [
-        Step::Send(0, 0, &[7], b"x"),
-        Step::Send(1, 0, &[7], b"y"),
-        Step::CanSend(0, 1),
-        Step::GoesOut(0, 1, b"", b"x"),
-        Step::CanSend(1, 2),
-        Step::Full(2),
-        Step::CanSend(1, 1),
+        Call::Send(0, 0, &[7], b"x"),
+        Call::Send(1, 0, &[7], b"y"),
+        Call::CanSend(0, 1),
+        Call::GoesOut(0, 1, b"", b"x"),
+        Call::CanSend(1, 2),
+        Call::Full(2),
+        Call::CanSend(1, 1),
     ];
     plays(&rt, rt.alloc(), &mut push, &steps);
     Ok(())
@@ -91,17 +91,17 @@ fn a_push_takes_its_pipes_in_turn(rt: HostRuntime) -> Result<(), Fail> {
 fn each_does_one_thing(rt: HostRuntime) -> Result<(), Fail> {
     const NO: Result<(), CheckError> = Err(CheckError::NotSupported);
     let of_pull = [
-        Step::Is(Role::Pull, false),
-        Step::Check(0, Verb::Recv, Ok(())),
-        Step::Check(0, Verb::Send, NO),
-        Step::Check(5, Verb::Recv, NO),
+        Call::Is(Role::Pull, false),
+        Call::Check(0, Verb::Recv, Ok(())),
+        Call::Check(0, Verb::Send, NO),
+        Call::Check(5, Verb::Recv, NO),
     ];
     plays(&rt, rt.alloc(), &mut pull(rt.alloc())?, &of_pull);
     let of_push = [
-        Step::Is(Role::Push, false),
-        Step::Check(0, Verb::Send, Ok(())),
-        Step::Check(0, Verb::Recv, NO),
-        Step::Check(5, Verb::Send, NO),
+        Call::Is(Role::Push, false),
+        Call::Check(0, Verb::Send, Ok(())),
+        Call::Check(0, Verb::Recv, NO),
+        Call::Check(5, Verb::Send, NO),
     ];
     plays(&rt, rt.alloc(), &mut push(rt.alloc(), false)?, &of_push);
     Ok(())

@@ -1,6 +1,6 @@
 //! A rep answers whom it was asked by, and bounds how far a request came. A respondent is a rep in all of this.
 use crate::checks::{holds, plays};
-use crate::steps::Step;
+use crate::steps::Call;
 use proto_reqrep::{Reply, Respond};
 use sp_base::Role;
 use sp_history::setting::Options;
@@ -46,7 +46,7 @@ const EIGHT_WORDS: [u8; 32] = [
 ];
 
 // A rep and a respondent both answer each step as it says.
-fn both(rt: &impl Abort, alloc: Global, raw: bool, steps: &[Step<'_>]) -> Result<(), Fail> {
+fn both(rt: &impl Abort, alloc: Global, raw: bool, steps: &[Call<'_>]) -> Result<(), Fail> {
     let rep = Options::usual(Role::Rep, 0);
     plays(rt, alloc, &mut Reply::new(alloc, rep, raw)?, steps);
     let respondent = Options::usual(Role::Respondent, 0);
@@ -57,22 +57,22 @@ fn both(rt: &impl Abort, alloc: Global, raw: bool, steps: &[Step<'_>]) -> Result
 #[test]
 fn a_reply_goes_back_by_its_backtrace(rt: HostRuntime) -> Result<(), Fail> {
     let steps = [
-        Step::Reserve(2),
-        Step::Up(1),
-        Step::Frame(1, &[0, 0, 0, 7, 128, 0, 0, 42, 113]),
-        Step::Wants(1, false),
-        Step::Check(0, Verb::Send, Err(CheckError::State)),
-        Step::Receive(0, 0),
-        Step::CanGive(0),
-        Step::Gets(0, b"", b"q"),
-        Step::Check(0, Verb::Send, Ok(())),
-        Step::Send(1, 0, &[], b"a"),
-        Step::Check(0, Verb::Send, Err(CheckError::State)),
-        Step::CanSend(1, 1),
-        Step::Full(1),
-        Step::Idle,
-        Step::Fresh,
-        Step::GoesOut(1, 1, &[0, 0, 0, 7, 128, 0, 0, 42], b"a"),
+        Call::Reserve(2),
+        Call::Up(1),
+        Call::Frame(1, &[0, 0, 0, 7, 128, 0, 0, 42, 113]),
+        Call::Wants(1, false),
+        Call::Check(0, Verb::Send, Err(CheckError::State)),
+        Call::Receive(0, 0),
+        Call::CanGive(0),
+        Call::Gets(0, b"", b"q"),
+        Call::Check(0, Verb::Send, Ok(())),
+        Call::Send(1, 0, &[], b"a"),
+        Call::Check(0, Verb::Send, Err(CheckError::State)),
+        Call::CanSend(1, 1),
+        Call::Full(1),
+        Call::Idle,
+        Call::Fresh,
+        Call::GoesOut(1, 1, &[0, 0, 0, 7, 128, 0, 0, 42], b"a"),
     ];
     both(&rt, rt.alloc(), false, &steps)
 }
@@ -80,20 +80,20 @@ fn a_reply_goes_back_by_its_backtrace(rt: HostRuntime) -> Result<(), Fail> {
 #[test]
 fn a_frame_that_is_cut_short_is_malformed(rt: HostRuntime) -> Result<(), Fail> {
     let steps = [
-        Step::Reserve(1),
-        Step::Up(1),
-        Step::Up(2),
-        Step::Malformed(1, &[0, 0, 0, 1]),
-        Step::Malformed(1, b""),
-        Step::Malformed(1, &[128, 0, 0]),
-        Step::Frame(2, &NINE_HOPS),
-        Step::Frame(2, &EIGHT_WORDS),
-        Step::Wants(2, true),
-        Step::Frame(2, &[128, 0, 0, 5, 113]),
-        Step::Wants(2, false),
-        Step::Receive(0, 0),
-        Step::CanGive(0),
-        Step::Gets(0, b"", b"q"),
+        Call::Reserve(1),
+        Call::Up(1),
+        Call::Up(2),
+        Call::Malformed(1, &[0, 0, 0, 1]),
+        Call::Malformed(1, b""),
+        Call::Malformed(1, &[128, 0, 0]),
+        Call::Frame(2, &NINE_HOPS),
+        Call::Frame(2, &EIGHT_WORDS),
+        Call::Wants(2, true),
+        Call::Frame(2, &[128, 0, 0, 5, 113]),
+        Call::Wants(2, false),
+        Call::Receive(0, 0),
+        Call::CanGive(0),
+        Call::Gets(0, b"", b"q"),
     ];
     both(&rt, rt.alloc(), false, &steps)
 }
@@ -101,16 +101,16 @@ fn a_frame_that_is_cut_short_is_malformed(rt: HostRuntime) -> Result<(), Fail> {
 #[test]
 fn seven_hops_are_not_too_far_and_eight_are(rt: HostRuntime) -> Result<(), Fail> {
     let steps = [
-        Step::Reserve(2),
-        Step::Up(1),
-        Step::Frame(1, &SEVEN_HOPS),
-        Step::Receive(0, 0),
-        Step::CanGive(0),
-        Step::Gets(0, b"", b"q"),
-        Step::Send(1, 0, &[], b"q"),
-        Step::GoesOut(1, 1, &SEVEN_HOPS[..32], b"q"),
-        Step::Frame(1, &EIGHT_HOPS),
-        Step::Wants(1, true),
+        Call::Reserve(2),
+        Call::Up(1),
+        Call::Frame(1, &SEVEN_HOPS),
+        Call::Receive(0, 0),
+        Call::CanGive(0),
+        Call::Gets(0, b"", b"q"),
+        Call::Send(1, 0, &[], b"q"),
+        Call::GoesOut(1, 1, &SEVEN_HOPS[..32], b"q"),
+        Call::Frame(1, &EIGHT_HOPS),
+        Call::Wants(1, true),
     ];
     both(&rt, rt.alloc(), false, &steps)
 }
@@ -118,14 +118,14 @@ fn seven_hops_are_not_too_far_and_eight_are(rt: HostRuntime) -> Result<(), Fail>
 #[test]
 fn one_hop_is_all_where_the_limit_is_one(rt: HostRuntime) -> Result<(), Fail> {
     let steps = [
-        Step::Reserve(1),
-        Step::Up(1),
-        Step::Frame(1, &[0, 0, 0, 1, 128, 0, 0, 5]),
-        Step::Wants(1, true),
-        Step::Frame(1, &[128, 0, 0, 5]),
-        Step::Receive(0, 0),
-        Step::CanGive(0),
-        Step::Gets(0, b"", b""),
+        Call::Reserve(1),
+        Call::Up(1),
+        Call::Frame(1, &[0, 0, 0, 1, 128, 0, 0, 5]),
+        Call::Wants(1, true),
+        Call::Frame(1, &[128, 0, 0, 5]),
+        Call::Receive(0, 0),
+        Call::CanGive(0),
+        Call::Gets(0, b"", b""),
     ];
     let mut options = Options::usual(Role::Rep, 0);
     options.ttl = 1;
@@ -149,18 +149,18 @@ fn one_hop_is_all_where_the_limit_is_one(rt: HostRuntime) -> Result<(), Fail> {
 #[test]
 fn requests_of_a_pipe_that_is_down_are_gone(rt: HostRuntime) -> Result<(), Fail> {
     let steps = [
-        Step::Reserve(3),
-        Step::Up(1),
-        Step::Up(2),
-        Step::Frame(1, &[128, 0, 0, 1, 97]),
-        Step::Frame(2, &[128, 0, 0, 2, 98]),
-        Step::Down(1),
-        Step::Receive(0, 0),
-        Step::CanGive(0),
-        Step::Gets(0, b"", b"b"),
-        Step::Receive(1, 0),
-        Step::Idle,
-        Step::Check(0, Verb::Send, Err(CheckError::State)),
+        Call::Reserve(3),
+        Call::Up(1),
+        Call::Up(2),
+        Call::Frame(1, &[128, 0, 0, 1, 97]),
+        Call::Frame(2, &[128, 0, 0, 2, 98]),
+        Call::Down(1),
+        Call::Receive(0, 0),
+        Call::CanGive(0),
+        Call::Gets(0, b"", b"b"),
+        Call::Receive(1, 0),
+        Call::Idle,
+        Call::Check(0, Verb::Send, Err(CheckError::State)),
     ];
     both(&rt, rt.alloc(), false, &steps)
 }
@@ -168,17 +168,17 @@ fn requests_of_a_pipe_that_is_down_are_gone(rt: HostRuntime) -> Result<(), Fail>
 #[test]
 fn a_reply_to_a_pipe_that_is_down_goes_nowhere(rt: HostRuntime) -> Result<(), Fail> {
     let steps = [
-        Step::Reserve(2),
-        Step::Up(1),
-        Step::Frame(1, &[128, 0, 0, 1, 97]),
-        Step::Receive(0, 0),
-        Step::CanGive(0),
-        Step::Gets(0, b"", b"a"),
-        Step::Down(1),
-        Step::Send(1, 0, &[], b"x"),
-        Step::CanDrop(1),
-        Step::EndsNowhere(1),
-        Step::Idle,
+        Call::Reserve(2),
+        Call::Up(1),
+        Call::Frame(1, &[128, 0, 0, 1, 97]),
+        Call::Receive(0, 0),
+        Call::CanGive(0),
+        Call::Gets(0, b"", b"a"),
+        Call::Down(1),
+        Call::Send(1, 0, &[], b"x"),
+        Call::CanDrop(1),
+        Call::EndsNowhere(1),
+        Call::Idle,
     ];
     both(&rt, rt.alloc(), false, &steps)
 }
@@ -186,22 +186,22 @@ fn a_reply_to_a_pipe_that_is_down_goes_nowhere(rt: HostRuntime) -> Result<(), Fa
 #[test]
 fn two_contexts_answer_their_own(rt: HostRuntime) -> Result<(), Fail> {
     let steps = [
-        Step::Reserve(4),
-        Step::Open(1),
-        Step::Up(1),
-        Step::Up(2),
-        Step::Frame(1, &[128, 0, 0, 1, 97]),
-        Step::Frame(2, &[128, 0, 0, 2, 98]),
-        Step::Receive(0, 1),
-        Step::CanGive(0),
-        Step::Gets(0, b"", b"a"),
-        Step::Receive(1, 0),
-        Step::CanGive(1),
-        Step::Gets(1, b"", b"b"),
-        Step::Send(2, 0, &[], b"B"),
-        Step::GoesOut(2, 2, &[128, 0, 0, 2], b"B"),
-        Step::Send(3, 1, &[], b"A"),
-        Step::GoesOut(3, 1, &[128, 0, 0, 1], b"A"),
+        Call::Reserve(4),
+        Call::Open(1),
+        Call::Up(1),
+        Call::Up(2),
+        Call::Frame(1, &[128, 0, 0, 1, 97]),
+        Call::Frame(2, &[128, 0, 0, 2, 98]),
+        Call::Receive(0, 1),
+        Call::CanGive(0),
+        Call::Gets(0, b"", b"a"),
+        Call::Receive(1, 0),
+        Call::CanGive(1),
+        Call::Gets(1, b"", b"b"),
+        Call::Send(2, 0, &[], b"B"),
+        Call::GoesOut(2, 2, &[128, 0, 0, 2], b"B"),
+        Call::Send(3, 1, &[], b"A"),
+        Call::GoesOut(3, 1, &[128, 0, 0, 1], b"A"),
     ];
     both(&rt, rt.alloc(), false, &steps)
 }
@@ -209,15 +209,15 @@ fn two_contexts_answer_their_own(rt: HostRuntime) -> Result<(), Fail> {
 #[test]
 fn a_raw_replier_shows_its_pipe_and_the_backtrace(rt: HostRuntime) -> Result<(), Fail> {
     let steps = [
-        Step::Reserve(3),
-        Step::Up(1),
-        Step::Frame(1, &[128, 0, 0, 42, 113]),
-        Step::Receive(0, 0),
-        Step::CanGive(0),
-        Step::PassesOn(0, 1, &[0, 0, 0, 1, 128, 0, 0, 42], b"q"),
-        Step::GoesOut(1, 1, &[128, 0, 0, 42], b"q"),
-        Step::Send(2, 0, &[9, 2_147_483_690], b"q"),
-        Step::CanDrop(2),
+        Call::Reserve(3),
+        Call::Up(1),
+        Call::Frame(1, &[128, 0, 0, 42, 113]),
+        Call::Receive(0, 0),
+        Call::CanGive(0),
+        Call::PassesOn(0, 1, &[0, 0, 0, 1, 128, 0, 0, 42], b"q"),
+        Call::GoesOut(1, 1, &[128, 0, 0, 42], b"q"),
+        Call::Send(2, 0, &[9, 2_147_483_690], b"q"),
+        Call::CanDrop(2),
     ];
     both(&rt, rt.alloc(), true, &steps)
 }
@@ -225,13 +225,13 @@ fn a_raw_replier_shows_its_pipe_and_the_backtrace(rt: HostRuntime) -> Result<(),
 #[test]
 fn fifteen_words_make_a_header_of_64_bytes(rt: HostRuntime) -> Result<(), Fail> {
     let steps = [
-        Step::Reserve(2),
-        Step::Up(1),
-        Step::Frame(1, &FIFTEEN_WORDS),
-        Step::Receive(0, 0),
-        Step::CanGive(0),
-        Step::PassesOn(0, 1, &LONGEST_HEADER, b"q"),
-        Step::GoesOut(1, 1, &FIFTEEN_WORDS[..60], b"q"),
+        Call::Reserve(2),
+        Call::Up(1),
+        Call::Frame(1, &FIFTEEN_WORDS),
+        Call::Receive(0, 0),
+        Call::CanGive(0),
+        Call::PassesOn(0, 1, &LONGEST_HEADER, b"q"),
+        Call::GoesOut(1, 1, &FIFTEEN_WORDS[..60], b"q"),
     ];
     let mut options = Options::usual(Role::Rep, 0);
     options.ttl = 15;
@@ -255,17 +255,17 @@ fn fifteen_words_make_a_header_of_64_bytes(rt: HostRuntime) -> Result<(), Fail> 
 #[test]
 fn the_ninth_word_is_too_far_for_a_respondent(rt: HostRuntime) -> Result<(), Fail> {
     let steps = [
-        Step::Reserve(2),
-        Step::Up(1),
-        Step::Frame(1, &NINE_HOPS),
-        Step::Wants(1, true),
-        Step::Malformed(1, &[127, 0, 0, 1]),
-        Step::Frame(1, &[255, 0, 0, 5, 113]),
-        Step::Receive(0, 0),
-        Step::CanGive(0),
-        Step::Gets(0, b"", b"q"),
-        Step::Send(1, 0, &[], b"r"),
-        Step::GoesOut(1, 1, &[255, 0, 0, 5], b"r"),
+        Call::Reserve(2),
+        Call::Up(1),
+        Call::Frame(1, &NINE_HOPS),
+        Call::Wants(1, true),
+        Call::Malformed(1, &[127, 0, 0, 1]),
+        Call::Frame(1, &[255, 0, 0, 5, 113]),
+        Call::Receive(0, 0),
+        Call::CanGive(0),
+        Call::Gets(0, b"", b"q"),
+        Call::Send(1, 0, &[], b"r"),
+        Call::GoesOut(1, 1, &[255, 0, 0, 5], b"r"),
     ];
     let options = Options::usual(Role::Respondent, 0);
     let mut respondent = Respond::new(rt.alloc(), options, false)?;
@@ -276,14 +276,14 @@ fn the_ninth_word_is_too_far_for_a_respondent(rt: HostRuntime) -> Result<(), Fai
 #[test]
 fn the_ninth_word_is_too_far_for_a_raw_respondent(rt: HostRuntime) -> Result<(), Fail> {
     let steps = [
-        Step::Is(Role::Respondent, true),
-        Step::Reserve(1),
-        Step::Up(2),
-        Step::Frame(2, &EIGHT_WORDS),
-        Step::Wants(2, true),
-        Step::Frame(2, &[128, 0, 0, 42, 113]),
-        Step::Receive(0, 0),
-        Step::Gets(0, &[0, 0, 0, 2, 128, 0, 0, 42], b"q"),
+        Call::Is(Role::Respondent, true),
+        Call::Reserve(1),
+        Call::Up(2),
+        Call::Frame(2, &EIGHT_WORDS),
+        Call::Wants(2, true),
+        Call::Frame(2, &[128, 0, 0, 42, 113]),
+        Call::Receive(0, 0),
+        Call::Gets(0, &[0, 0, 0, 2, 128, 0, 0, 42], b"q"),
     ];
     let options = Options::usual(Role::Respondent, 0);
     let mut respondent = Respond::new(rt.alloc(), options, true)?;

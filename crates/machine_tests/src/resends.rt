@@ -1,7 +1,7 @@
 //! Requests go to the pipes in turn, and go out again where their pipe goes down.
 use crate::checks::{holds, plays};
 use crate::moves::sends;
-use crate::steps::Step;
+use crate::steps::Call;
 use proto_reqrep::Request;
 use sp_base::{Ctx, PipeId, Role};
 use sp_history::setting::Options;
@@ -12,23 +12,23 @@ use std::test::Fail;
 #[test]
 fn a_request_goes_out_again(rt: HostRuntime) -> Result<(), Fail> {
     let steps = [
-        Step::Reserve(1),
-        Step::Up(1),
-        Step::Send(0, 0, &[], b"a"),
-        Step::GoesOut(0, 1, &[128, 0, 0, 0], b"a"),
-        Step::Up(2),
-        Step::Clock(1_000),
-        Step::Idle,
-        Step::Down(1),
-        Step::CanResend(0, 2),
-        Step::Resend(0, 2, &[128, 0, 0, 0], b"a"),
-        Step::Idle,
-        Step::Clock(60_999),
-        Step::Idle,
-        Step::Clock(61_000),
-        Step::CanResend(0, 2),
-        Step::Full(2),
-        Step::Idle,
+        Call::Reserve(1),
+        Call::Up(1),
+        Call::Send(0, 0, &[], b"a"),
+        Call::GoesOut(0, 1, &[128, 0, 0, 0], b"a"),
+        Call::Up(2),
+        Call::Clock(1_000),
+        Call::Idle,
+        Call::Down(1),
+        Call::CanResend(0, 2),
+        Call::Resend(0, 2, &[128, 0, 0, 0], b"a"),
+        Call::Idle,
+        Call::Clock(60_999),
+        Call::Idle,
+        Call::Clock(61_000),
+        Call::CanResend(0, 2),
+        Call::Full(2),
+        Call::Idle,
     ];
     let mut req = Request::new(rt.alloc(), Options::usual(Role::Req, 0), false)?;
     plays(&rt, rt.alloc(), &mut req, &steps);
@@ -77,26 +77,26 @@ fn six_requests_go_to_two_pipes_in_turn(rt: HostRuntime) -> Result<(), Fail> {
 #[test]
 fn a_pipe_that_hangs_is_not_the_next_again(rt: HostRuntime) -> Result<(), Fail> {
     let steps = [
-        Step::Up(1),
-        Step::Up(2),
-        Step::Send(0, 0, &[], b"a"),
-        Step::CanSend(0, 1),
-        Step::GoesOut(0, 1, &[128, 0, 0, 0], b"a"),
-        Step::Fresh,
-        Step::Clock(60_000),
-        Step::CanResend(0, 2),
-        Step::Resend(0, 2, &[128, 0, 0, 0], b"a"),
-        Step::Idle,
-        Step::Fresh,
-        Step::Clock(120_000),
-        Step::CanResend(0, 1),
-        Step::Resend(0, 1, &[128, 0, 0, 0], b"a"),
-        Step::Idle,
-        Step::Fresh,
-        Step::Clock(180_000),
-        Step::CanResend(0, 2),
-        Step::Resend(0, 2, &[128, 0, 0, 0], b"a"),
-        Step::Idle,
+        Call::Up(1),
+        Call::Up(2),
+        Call::Send(0, 0, &[], b"a"),
+        Call::CanSend(0, 1),
+        Call::GoesOut(0, 1, &[128, 0, 0, 0], b"a"),
+        Call::Fresh,
+        Call::Clock(60_000),
+        Call::CanResend(0, 2),
+        Call::Resend(0, 2, &[128, 0, 0, 0], b"a"),
+        Call::Idle,
+        Call::Fresh,
+        Call::Clock(120_000),
+        Call::CanResend(0, 1),
+        Call::Resend(0, 1, &[128, 0, 0, 0], b"a"),
+        Call::Idle,
+        Call::Fresh,
+        Call::Clock(180_000),
+        Call::CanResend(0, 2),
+        Call::Resend(0, 2, &[128, 0, 0, 0], b"a"),
+        Call::Idle,
     ];
     let mut req = Request::new(rt.alloc(), Options::usual(Role::Req, 0), false)?;
     plays(&rt, rt.alloc(), &mut req, &steps);

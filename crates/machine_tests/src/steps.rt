@@ -11,7 +11,7 @@ use std::alloc::Global;
 /// A call, and what it answers. Pipes, contexts and slots stand by their numbers, and a slot stands for its first
 /// operation. Of a message the header comes first, then the body.
 #[derive(Clone, Copy)]
-pub enum Step<'a> {
+pub enum Call<'a> {
     /// It is a machine of this role, raw or not.
     Is(Role, bool),
     /// There is memory for the pending operations of so many slots.
@@ -86,7 +86,7 @@ pub enum Step<'a> {
 }
 
 /// The number of the first step that is answered otherwise, from 0 on.
-pub fn first_wrong<M: Proto>(m: &mut M, alloc: Global, steps: &[Step<'_>]) -> Option<usize> {
+pub fn first_wrong<M: Proto>(m: &mut M, alloc: Global, steps: &[Call<'_>]) -> Option<usize> {
     for (i, step) in steps.iter().enumerate() {
         if !is_right(m, alloc, *step) {
             return Some(i);
@@ -96,45 +96,45 @@ pub fn first_wrong<M: Proto>(m: &mut M, alloc: Global, steps: &[Step<'_>]) -> Op
 }
 
 // What is there, and pipes.
-fn is_right<M: Proto>(m: &mut M, alloc: Global, step: Step<'_>) -> bool {
+fn is_right<M: Proto>(m: &mut M, alloc: Global, step: Call<'_>) -> bool {
     match step {
-        Step::Is(role, raw) => m.role() == role && m.raw() == raw,
-        Step::Reserve(slots) => m.reserve(slots).is_ok(),
-        Step::Up(p) => m.up(PipeId(p)).is_ok(),
-        Step::Refused(p) => m.up(PipeId(p)) == Err(UpFault::Refused),
-        Step::Wants(p, wanted) => m.wants(PipeId(p)) == wanted,
-        Step::Frame(p, body) => comes(m, alloc, PipeId(p), body, Verdict::Fine),
-        Step::Malformed(p, body) => comes(m, alloc, PipeId(p), body, Verdict::Malformed),
-        Step::Keeps(c, kept) => m.keeps(Ctx(c)) == kept,
-        Step::Check(c, verb, answer) => m.check(Ctx(c), verb) == answer,
+        Call::Is(role, raw) => m.role() == role && m.raw() == raw,
+        Call::Reserve(slots) => m.reserve(slots).is_ok(),
+        Call::Up(p) => m.up(PipeId(p)).is_ok(),
+        Call::Refused(p) => m.up(PipeId(p)) == Err(UpFault::Refused),
+        Call::Wants(p, wanted) => m.wants(PipeId(p)) == wanted,
+        Call::Frame(p, body) => comes(m, alloc, PipeId(p), body, Verdict::Fine),
+        Call::Malformed(p, body) => comes(m, alloc, PipeId(p), body, Verdict::Malformed),
+        Call::Keeps(c, kept) => m.keeps(Ctx(c)) == kept,
+        Call::Check(c, verb, answer) => m.check(Ctx(c), verb) == answer,
         _ => is_told(m, step) || is_right_of_operations(m, alloc, step),
     }
 }
 
 // The machine is told something, and answers nothing.
-fn is_told<M: Proto>(m: &mut M, step: Step<'_>) -> bool {
+fn is_told<M: Proto>(m: &mut M, step: Call<'_>) -> bool {
     match step {
-        Step::Down(p) => m.down(PipeId(p)),
-        Step::Full(p) => m.full(PipeId(p)),
-        Step::Fresh => m.fresh(),
-        Step::Clock(now) => m.clock(Tick(now)),
-        Step::Shut(c) => m.close_ctx(Ctx(c)),
-        Step::EndsNowhere(slot) => {
+        Call::Down(p) => m.down(PipeId(p)),
+        Call::Full(p) => m.full(PipeId(p)),
+        Call::Fresh => m.fresh(),
+        Call::Clock(now) => m.clock(Tick(now)),
+        Call::Shut(c) => m.close_ctx(Ctx(c)),
+        Call::EndsNowhere(slot) => {
             let _ = m.won(op(slot), None);
         }
-        Step::Close => m.close(),
+        Call::Close => m.close(),
         _ => return false,
     }
     true
 }
 
 // Contexts, and how operations begin.
-fn is_right_of_operations<M: Proto>(m: &mut M, alloc: Global, step: Step<'_>) -> bool {
+fn is_right_of_operations<M: Proto>(m: &mut M, alloc: Global, step: Call<'_>) -> bool {
     match step {
-        Step::Open(c) => m.open_ctx(Ctx(c)).is_ok(),
-        Step::Topic(c, topic, on, changes) => m.topic(Ctx(c), topic, on) == Ok(changes),
-        Step::Receive(slot, c) => begins(m, slot, c, Act::Recv),
-        Step::Send(slot, c, header, body) => match message(alloc, header, body) {
+        Call::Open(c) => m.open_ctx(Ctx(c)).is_ok(),
+        Call::Topic(c, topic, on, changes) => m.topic(Ctx(c), topic, on) == Ok(changes),
+        Call::Receive(slot, c) => begins(m, slot, c, Act::Recv),
+        Call::Send(slot, c, header, body) => match message(alloc, header, body) {
             None => false,
             Some(message) => begins(m, slot, c, Act::Send(message)),
         },
@@ -146,21 +146,21 @@ fn is_right_of_operations<M: Proto>(m: &mut M, alloc: Global, step: Step<'_>) ->
 }
 
 // What the machine is to offer.
-fn offered(step: Step<'_>) -> Option<Offer> {
+fn offered(step: Call<'_>) -> Option<Offer> {
     Some(match step {
-        Step::Idle => Offer::Idle,
-        Step::CanGive(slot) => Offer::Give { op: op(slot) },
-        Step::CanSend(slot, p) => Offer::Send {
+        Call::Idle => Offer::Idle,
+        Call::CanGive(slot) => Offer::Give { op: op(slot) },
+        Call::CanSend(slot, p) => Offer::Send {
             op: op(slot),
             pipe: PipeId(p),
         },
-        Step::CanFlood(slot) => Offer::Flood { op: op(slot) },
-        Step::CanDrop(slot) => Offer::Drop { op: op(slot) },
-        Step::CanFinish(slot, cause) => Offer::Finish {
+        Call::CanFlood(slot) => Offer::Flood { op: op(slot) },
+        Call::CanDrop(slot) => Offer::Drop { op: op(slot) },
+        Call::CanFinish(slot, cause) => Offer::Finish {
             op: op(slot),
             cause,
         },
-        Step::CanResend(c, p) => Offer::Again {
+        Call::CanResend(c, p) => Offer::Again {
             ctx: Ctx(c),
             pipe: PipeId(p),
         },
@@ -169,27 +169,27 @@ fn offered(step: Step<'_>) -> Option<Offer> {
 }
 
 // How sends go on.
-fn is_right_of_sends<M: Proto>(m: &mut M, step: Step<'_>) -> bool {
+fn is_right_of_sends<M: Proto>(m: &mut M, step: Call<'_>) -> bool {
     match step {
-        Step::GoesTo(slot, p, goes) => m.goes_to(op(slot), PipeId(p)) == goes,
-        Step::Copy(slot, p, header, body) => is_message(m.flood(op(slot), PipeId(p)), header, body),
-        Step::NoCopy(slot, p) => m.flood(op(slot), PipeId(p)).is_none(),
-        Step::Resend(c, p, header, body) => is_message(m.again(Ctx(c), PipeId(p)), header, body),
+        Call::GoesTo(slot, p, goes) => m.goes_to(op(slot), PipeId(p)) == goes,
+        Call::Copy(slot, p, header, body) => is_message(m.flood(op(slot), PipeId(p)), header, body),
+        Call::NoCopy(slot, p) => m.flood(op(slot), PipeId(p)).is_none(),
+        Call::Resend(c, p, header, body) => is_message(m.again(Ctx(c), PipeId(p)), header, body),
         _ => is_right_of_ends(m, step),
     }
 }
 
 // How operations end.
-fn is_right_of_ends<M: Proto>(m: &mut M, step: Step<'_>) -> bool {
+fn is_right_of_ends<M: Proto>(m: &mut M, step: Call<'_>) -> bool {
     match step {
-        Step::Gets(slot, header, body) => is_message(m.won(op(slot), None), header, body),
-        Step::PassesOn(from, to, header, body) => passes_on(m, from, to, header, body),
-        Step::GoesOut(slot, p, header, body) => {
+        Call::Gets(slot, header, body) => is_message(m.won(op(slot), None), header, body),
+        Call::PassesOn(from, to, header, body) => passes_on(m, from, to, header, body),
+        Call::GoesOut(slot, p, header, body) => {
             is_message(m.won(op(slot), Some(PipeId(p))), header, body)
         }
-        Step::Ends(slot) => m.won(op(slot), None).is_none(),
-        Step::HandsBack(slot, header, body) => is_message(m.lost(op(slot)), header, body),
-        Step::Loses(slot) => m.lost(op(slot)).is_none(),
+        Call::Ends(slot) => m.won(op(slot), None).is_none(),
+        Call::HandsBack(slot, header, body) => is_message(m.lost(op(slot)), header, body),
+        Call::Loses(slot) => m.lost(op(slot)).is_none(),
         _ => false,
     }
 }

@@ -16,12 +16,12 @@ use Rattle.sp_history.specs.declared.setting.Options.{Options}
 use Rattle.sp_history.specs.declared.entry.Entry.{Entry}
 use Rattle.sp_history.specs.declared.entry.Entry.TheVariants.{Up, Down, Frame, Full, Out, End}
 use Rattle.sp_history.specs.declared.entry.Why.{Why}
-use Rattle.sp_history.specs.declared.entry.WireName.{WireName}
-use Rattle.sp_history.specs.declared.entry.Act.TheVariants.{Send}
+use Rattle.sp_history.specs.declared.entry.WireNumbers.{WireNumbers}
+use Rattle.sp_history.specs.declared.entry.RecordedAct.TheVariants.{Send}
 use Rattle.sp_history.specs.declared.entry.Cause.{Cause}
 use Rattle.sp_history.specs.declared.entry.Ending.TheVariants.{Won, Gone}
 use Rattle.sp_history.specs.declared.entry.Completion.TheVariants.{Received, Sent}
-use Rattle.sp_history.specs.declared.entry.Message.{Message}
+use Rattle.sp_history.specs.declared.entry.RecordedMessage.{RecordedMessage}
 use Rattle.sp_history.specs.declared.parts.Begun.{Begun}
 use Rattle.sp_history.specs.declared.parts.Item.{Item}
 use Rattle.sp_history.specs.declared.parts.Origin.{Origin}
@@ -37,13 +37,13 @@ use Rattle.sp_proto.specs.Kinds.{Kind, text_of}
 use Rattle.sp_proto.specs.Machines.{CanGive, CanFlood, IsIdle, NoFlood, message_of}
 use Rattle.proto_floods.specs.Copies.{AreCopies}
 use Rattle.proto_floods.proofs.Copying.{pool_down, each_init}
-use Rattle.proto_floods.proofs.Flooding.{no_flood, goes_on, pipe_down, pipe_full, turn_begins}
+use Rattle.proto_floods.proofs.FloodTurns.{no_flood, goes_on, pipe_down, pipe_full, turn_begins}
 use Rattle.proto_floods.proofs.Sending.{a_send, is_a_send, is_a_receive, won_send, the_flood, can_flood as first_floods, none_sending, goes_to, goes_out, send_ends, receive_ends}
 use Rattle.proto_pending.specs.Waits.{Holds, is_receive, is_send, first_name}
 use Rattle.proto_pending.proofs.Firsts.{first_found, passes_first, first_on, no_receives, none_kept, no_sends, first_is, none_first}
 use Rattle.proto_bus.specs.declared.Bus.{Bus}
 use Rattle.proto_bus.specs.Buses.{Ties, IsFlood, message_in, receiver_of, left_out_of, header_of}
-use Rattle.proto_floods.proofs.Counting.{counted_up, counted_down}
+use Rattle.proto_floods.proofs.PipeCounts.{counted_up, counted_down}
 
 pub is_bus : (m : Bus) (t : Moment) → Ties m t → t.z.role ≡ role.Bus
 is_bus m t h = ap (λ (k : Kind). k.role) h.0.kind
@@ -62,7 +62,7 @@ kept_bus z before c h = rw h refl
 
 -- ---- Pipes
 
-pub up_ties : (m n : Bus) (t : Moment) (p place : ℕ) (name : WireName) → NoFlood t → Lawful (also t (Up p place name)) → Ties m t → n ≡ record m { pipes = min (m.pipes + 1) (2 ^ 64 - 1) } → Ties n (also t (Up p place name))
+pub up_ties : (m n : Bus) (t : Moment) (p place : ℕ) (name : WireNumbers) → NoFlood t → Lawful (also t (Up p place name)) → Ties m t → n ≡ record m { pipes = min (m.pipes + 1) (2 ^ 64 - 1) } → Ties n (also t (Up p place name))
 up_ties m n t p place name calm l h same = (
   record {
     kind = rw same h.0.kind;
@@ -91,7 +91,7 @@ down_ties m n t p why l h same = (
 pub full_ties : (m : Bus) (t : Moment) (p : ℕ) → Ties m t → Ties m (also t (Full p))
 full_ties m t p h = (h.0, pipe_full _ _ t p (it_floods t.z (is_bus m t h)) h.1)
 
-bytes_are : (z : Setting) (before : List Entry) (s : Begun) (m : Message) → z.role ≡ role.Bus → s.act ≡ Send m → bytes_of z before s ≡ Some m.body
+bytes_are : (z : Setting) (before : List Entry) (s : Begun) (m : RecordedMessage) → z.role ≡ role.Bus → s.act ≡ Send m → bytes_of z before s ≡ Some m.body
 bytes_are z before s m h e = rw (e, h) refl
 
 -- ---- It goes out
@@ -134,18 +134,18 @@ flood_ties m n t op p s b copy l h c items same =
 pub can_flood : (m : Bus) (t : Moment) (op : OpName) → Ties m t → Some op ≡ first_name (filter is_send (pend (past t))) → (s : Begun) × (b : List ℕ) × CanFlood t op s b
 can_flood m t op h e = first_floods t op (it_floods t.z (is_bus m t h)) (λ s x. bytes_are t.z (past t) s x (is_bus m t h)) h.0.pending.apart e
 
-head_map : (is : List Item) (x : Message) (xs : List Message) → x ∷ xs ≡ map message_in is → option_map message_in (head_of is) ≡ Some x
+head_map : (is : List Item) (x : RecordedMessage) (xs : List RecordedMessage) → x ∷ xs ≡ map message_in is → option_map message_in (head_of is) ≡ Some x
 head_map [] x xs h = absurd cc
-head_map (i ∷ is) x xs h = let first : x ≡ i.message = cc in ap (λ (y : Message). Some y) (sym first)
+head_map (i ∷ is) x xs h = let first : x ≡ i.message = cc in ap (λ (y : RecordedMessage). Some y) (sym first)
 
 nothing_kept : (is : List Item) → [] ≡ map message_in is → is ≡ []
 nothing_kept [] h = refl
 nothing_kept (i ∷ is) h = absurd cc
 
-pub gives : (m : Bus) (t : Moment) (op : OpName) → Ties m t → Some op ≡ receiver_of m.kept.items (pend (past t)) → (s : Begun) × (text : Message) × CanGive t op s text
+pub gives : (m : Bus) (t : Moment) (op : OpName) → Ties m t → Some op ≡ receiver_of m.kept.items (pend (past t)) → (s : Begun) × (text : RecordedMessage) × CanGive t op s text
 gives m t op h e = go m.kept.items refl e
   where
-    go : (ks : List MessageView) → m.kept.items ≡ ks → Some op ≡ receiver_of ks (pend (past t)) → (s : Begun) × (text : Message) × CanGive t op s text
+    go : (ks : List MessageView) → m.kept.items ≡ ks → Some op ≡ receiver_of ks (pend (past t)) → (s : Begun) × (text : RecordedMessage) × CanGive t op s text
     go [] k q = absurd cc
     go (v ∷ vs) k q =
         let s = first_is (filter is_receive (pend (past t))) op q in
@@ -188,7 +188,7 @@ idle m t h none wait =
 -- ---- Ends
 
 -- a send is lost
-pub lost_send : (m n : Bus) (t : Moment) (op : OpName) (s : Begun) (x : Message) (cause : Cause) (by : ℕ) → Ties m t → pending (past t) op ≡ Some s → Some x ≡ message_of s.act → Holds n.pending (without_begun (pend (past t)) op) → n ≡ record m { pending = n.pending; copies = n.copies } → Ties n (also t (End op (Gone cause by)))
+pub lost_send : (m n : Bus) (t : Moment) (op : OpName) (s : Begun) (x : RecordedMessage) (cause : Cause) (by : ℕ) → Ties m t → pending (past t) op ≡ Some s → Some x ≡ message_of s.act → Holds n.pending (without_begun (pend (past t)) op) → n ≡ record m { pending = n.pending; copies = n.copies } → Ties n (also t (End op (Gone cause by)))
 lost_send m n t op s x cause by h p e holds same = (
   record {
     kind = rw same h.0.kind;
@@ -229,7 +229,7 @@ flooded_ties m n t op s l h p holds same = (
 )
 
 -- a receive is given the oldest
-pub given_ties : (m n : Bus) (t : Moment) (op : OpName) (s : Begun) (text : Message) (r : Option MessageView) → Ties m t → CanGive t op s text → Holds n.pending (without_begun (pend (past t)) op) → r ≡ slice_get m.kept.items 0 → n.kept ≡ buffer (drop 1 m.kept.items) m.kept.capacity → n ≡ record m { pending = n.pending; kept = n.kept }
+pub given_ties : (m n : Bus) (t : Moment) (op : OpName) (s : Begun) (text : RecordedMessage) (r : Option MessageView) → Ties m t → CanGive t op s text → Holds n.pending (without_begun (pend (past t)) op) → r ≡ slice_get m.kept.items 0 → n.kept ≡ buffer (drop 1 m.kept.items) m.kept.capacity → n ≡ record m { pending = n.pending; kept = n.kept }
     → (option_map text_of r ≡ Some text) × Ties n (also t (End op (Won (Received text))))
 given_ties m n t op s text r h c holds first rest same = go m.kept.items refl
   where
@@ -242,7 +242,7 @@ given_ties m n t op s text r h c holds first rest same = go m.kept.items refl
         on : is_on_pool t.z 0 (pending (past t) op) ≡ true
         on = rw (c.pending, is_bus m t h) refl
 
-    rest_of : (is : List Item) (x : Message) (xs : List Message) → x ∷ xs ≡ map message_in is → xs ≡ map message_in (drop 1 is)
+    rest_of : (is : List Item) (x : RecordedMessage) (xs : List RecordedMessage) → x ∷ xs ≡ map message_in is → xs ≡ map message_in (drop 1 is)
     rest_of [] x xs e = absurd cc
     rest_of (i ∷ is) x xs e = cc
 
@@ -326,7 +326,7 @@ module _ (m : Bus) (t : Moment) (p : ℕ) (v : MessageView) (h : Ties m t) where
         record {
           kind = h.0.kind;
           pipes = h.0.pipes;
-          items = ap (map text_of) items ∙ map-append text_of m.kept.items (x ∷ []) ∙ ap (λ (y : Message). map text_of m.kept.items ++ y ∷ []) text ∙ ap (λ (ys : List Message). ys ++ message_in item ∷ []) h.0.items ∙ sym (map-append message_in (pool t.z (past t) 0) (item ∷ [])) ∙ ap (map message_in) (sym now);
+          items = ap (map text_of) items ∙ map-append text_of m.kept.items (x ∷ []) ∙ ap (λ (y : RecordedMessage). map text_of m.kept.items ++ y ∷ []) text ∙ ap (λ (ys : List RecordedMessage). ys ++ message_in item ∷ []) h.0.items ∙ sym (map-append message_in (pool t.z (past t) 0) (item ∷ [])) ∙ ap (map message_in) (sym now);
           places = ap (λ (b : Buffer MessageView). b.capacity) more ∙ h.0.places;
           pending = h.0.pending;
           contexts = h.0.contexts;

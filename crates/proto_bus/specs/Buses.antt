@@ -3,16 +3,16 @@ use Rattle.std.specs.Prelude.{◌≡◌, ℕ, Bool, true, false, ⊤, List, [], 
 use Rattle.sp_base.specs.declared.OpName.{OpName}
 use Rattle.sp_base.specs.declared.role.Role.TheVariants as role
 use Rattle.sp_msg.specs.Views.{MessageView}
-use Rattle.sp_history.specs.declared.entry.Act.{Act}
-use Rattle.sp_history.specs.declared.entry.Act.TheVariants.{Recv, Send}
-use Rattle.sp_history.specs.declared.entry.Message.{Message}
+use Rattle.sp_history.specs.declared.entry.RecordedAct.{RecordedAct}
+use Rattle.sp_history.specs.declared.entry.RecordedAct.TheVariants.{Recv, Send}
+use Rattle.sp_history.specs.declared.entry.RecordedMessage.{RecordedMessage}
 use Rattle.sp_history.specs.declared.parts.Begun.{Begun}
 use Rattle.sp_history.specs.declared.parts.Item.{Item}
 use Rattle.sp_history.specs.declared.setting.Options.{Options}
 use Rattle.sp_history.specs.Lists.{first_word, word}
 use Rattle.sp_history.specs.Moments.{Moment}
 use Rattle.sp_proto.specs.Kinds.{Kind, text_of}
-use Rattle.sp_proto.specs.Readings.{Reading, reading}
+use Rattle.sp_proto.specs.Readings.{MomentReading, reading}
 use Rattle.proto_floods.specs.Copies.{AreCopies, HasFlood}
 use Rattle.proto_pending.specs.Waits.{Holds, is_receive, count, room, first_name}
 use Rattle.proto_bus.specs.declared.Bus.{Bus}
@@ -20,7 +20,7 @@ use Rattle.proto_bus.specs.declared.Bus.{Bus}
 abbrev pub bus_kind : Bool → Options → Kind
 bus_kind raw options = record { role = role.Bus; raw = raw; options = options }
 
-abbrev pub message_in : Item → Message
+abbrev pub message_in : Item → RecordedMessage
 message_in i = i.message
 
 -- how many operations are left to be offered at most
@@ -47,7 +47,7 @@ header_of true p = word p
 header_of false p = []
 
 -- the copies are those of the send, and this pipe is left out
-abbrev pub IsFlood : Bool → Option ℕ → List MessageView → Act → Type 0
+abbrev pub IsFlood : Bool → Option ℕ → List MessageView → RecordedAct → Type 0
 IsFlood raw out copies Recv = ⊤
 IsFlood raw out copies (Send m) = (out ≡ left_out_of raw m.header) × AreCopies m.body copies
 
@@ -62,7 +62,7 @@ pub record Shows (m : Bus) (k : Kind) (us : List ℕ) (is : List Item) (ss : Lis
   pub contexts : cs ≡ 0 ∷ []
 
 -- it shows what it reads of a moment
-abbrev pub Stands : Bus → Reading → Type 0
+abbrev pub Stands : Bus → MomentReading → Type 0
 Stands m r = Shows m r.kind r.up (r.pool 0) r.pend r.ctxs
 
 abbrev pub Ties : Bus → Moment → Type 0

@@ -5,13 +5,13 @@ use Rattle.std.proofs.lemmas.Bool.{not-true, not_from_true, not_from_false}
 use Rattle.std.proofs.lemmas.Bool.Decides.{nat_tests}
 use Rattle.std.proofs.lemmas.Option.{cond_some, same_Some}
 use Rattle.sp_base.specs.declared.OpName.{OpName}
-use Rattle.sp_history.specs.declared.entry.Act.{Act}
-use Rattle.sp_history.specs.declared.entry.Act.TheVariants.{Recv, Send}
+use Rattle.sp_history.specs.declared.entry.RecordedAct.{RecordedAct}
+use Rattle.sp_history.specs.declared.entry.RecordedAct.TheVariants.{Recv, Send}
 use Rattle.sp_history.specs.declared.entry.Completion.TheVariants.{Sent}
 use Rattle.sp_history.specs.declared.entry.Ending.{Ending}
 use Rattle.sp_history.specs.declared.entry.Ending.TheVariants.{Won}
 use Rattle.sp_history.specs.declared.entry.Entry.TheVariants.{End, Out}
-use Rattle.sp_history.specs.declared.entry.Message.{Message}
+use Rattle.sp_history.specs.declared.entry.RecordedMessage.{RecordedMessage}
 use Rattle.sp_history.specs.declared.parts.Begun.{Begun}
 use Rattle.sp_history.specs.Setting.{floods}
 use Rattle.sp_history.specs.Lists.{has, head_of, same_op}
@@ -28,7 +28,7 @@ use Rattle.proto_pending.proofs.Splits.{find_passing, without_passing, other_sta
 use Rattle.proto_pending.proofs.Firsts.{first_found, passes_first, first_is}
 use Rattle.proto_floods.specs.Copies.{HasCopies, IsOnlyFlood, HasFlood}
 use Rattle.proto_floods.proofs.Copying.{lawful_before, went_out}
-use Rattle.proto_floods.proofs.Flooding.{no_flood, goes_on}
+use Rattle.proto_floods.proofs.FloodTurns.{no_flood, goes_on}
 
 -- what is found passes the test
 pub passes : {X : Type 0} (f : X → Bool) (xs : List X) (x : X) → find f xs ≡ Some x → f x ≡ true
@@ -46,15 +46,15 @@ of_some (Some x) P h = h x refl
 
 -- ---- Sends and receives
 
-pub a_send : (a : Act) → is_recv a ≡ false → (m : Message) × (a ≡ Send m)
+pub a_send : (a : RecordedAct) → is_recv a ≡ false → (m : RecordedMessage) × (a ≡ Send m)
 a_send Recv h = absurd cc
 a_send (Send m) h = (m, refl)
 
-pub is_a_send : (a : Act) (x : Message) → Some x ≡ message_of a → is_recv a ≡ false
+pub is_a_send : (a : RecordedAct) (x : RecordedMessage) → Some x ≡ message_of a → is_recv a ≡ false
 is_a_send Recv x h = absurd cc
 is_a_send (Send m) x h = refl
 
-pub is_a_receive : (a : Act) → None ≡ message_of a → is_recv a ≡ true
+pub is_a_receive : (a : RecordedAct) → None ≡ message_of a → is_recv a ≡ true
 is_a_receive Recv h = refl
 is_a_receive (Send m) h = absurd cc
 
@@ -75,7 +75,7 @@ the_flood n AreOf t op s l h p is = go (sending (pend (past t))) (h l) (find_pas
         (ap (λ (rest : List Begun). x ∷ rest) f.2 ∙ ap (λ (y : Begun). y ∷ []) same, f.0, subst AreOf same f.1)
 
 -- the first send can go to many pipes, where its bytes are its message's body
-pub can_flood : (t : Moment) (op : OpName) → floods t.z.role ≡ true → ((s : Begun) (m : Message) → s.act ≡ Send m → bytes_of t.z (past t) s ≡ Some m.body) → AreApart (pend (past t)) → Some op ≡ first_name (sending (pend (past t))) → (s : Begun) × (b : List ℕ) × CanFlood t op s b
+pub can_flood : (t : Moment) (op : OpName) → floods t.z.role ≡ true → ((s : Begun) (m : RecordedMessage) → s.act ≡ Send m → bytes_of t.z (past t) s ≡ Some m.body) → AreApart (pend (past t)) → Some op ≡ first_name (sending (pend (past t))) → (s : Begun) × (b : List ℕ) × CanFlood t op s b
 can_flood t op f bytes apart e =
     let s = first_is (sending (pend (past t))) op e in
     let is : is_recv s.0.act ≡ false = not-true (is_recv s.0.act) (passes_first is_send (pend (past t)) s.0 s.1) in
@@ -114,8 +114,8 @@ has_filter f (u ∷ us) p h = go (u == p) refl (f u) refl h (has_filter f us p)
     go false e false g k again = again k
 
 -- a pipe that is up is a target where the role lets the message go there
-pub goes_to : (t : Moment) (s : Begun) (m : Message) (p : ℕ) → s.act ≡ Send m → has (up (past t)) p ≡ true → has (targets t.z (past t) s) p ≡ may_go t.z.role t.z.raw (route t.z (past t) s.op) m.header p
-goes_to t s m p is h = ap (λ (a : Act). has (targets_of t.z (past t) s.op a) p) is ∙ has_filter (may_go t.z.role t.z.raw (route t.z (past t) s.op) m.header) (up (past t)) p h
+pub goes_to : (t : Moment) (s : Begun) (m : RecordedMessage) (p : ℕ) → s.act ≡ Send m → has (up (past t)) p ≡ true → has (targets t.z (past t) s) p ≡ may_go t.z.role t.z.raw (route t.z (past t) s.op) m.header p
+goes_to t s m p is h = ap (λ (a : RecordedAct). has (targets_of t.z (past t) s.op a) p) is ∙ has_filter (may_go t.z.role t.z.raw (route t.z (past t) s.op) m.header) (up (past t)) p h
 
 -- it goes out on one pipe more
 pub goes_out : (n m : ℕ) (AreOf BeOf : Begun → Type 0) (t : Moment) (op : OpName) (s : Begun) (b : List ℕ) (p : ℕ) → Lawful t → HasFlood t n AreOf → CanFlood t op s b → BeOf s → HasFlood (also t (Out p b)) m BeOf

@@ -12,12 +12,12 @@ use Rattle.sp_history.specs.declared.setting.Setting.{Setting}
 use Rattle.sp_history.specs.declared.entry.Entry.{Entry}
 use Rattle.sp_history.specs.declared.entry.Entry.TheVariants.{Down, Frame, Full, Out, End}
 use Rattle.sp_history.specs.declared.entry.Why.{Why}
-use Rattle.sp_history.specs.declared.entry.Act.{Act}
-use Rattle.sp_history.specs.declared.entry.Act.TheVariants.{Recv, Send}
+use Rattle.sp_history.specs.declared.entry.RecordedAct.{RecordedAct}
+use Rattle.sp_history.specs.declared.entry.RecordedAct.TheVariants.{Recv, Send}
 use Rattle.sp_history.specs.declared.entry.Cause.{Cause}
 use Rattle.sp_history.specs.declared.entry.Ending.TheVariants.{Won, Gone}
 use Rattle.sp_history.specs.declared.entry.Completion.TheVariants.{Received, Sent}
-use Rattle.sp_history.specs.declared.entry.Message.{Message}
+use Rattle.sp_history.specs.declared.entry.RecordedMessage.{RecordedMessage}
 use Rattle.sp_history.specs.declared.parts.Begun.{Begun}
 use Rattle.sp_history.specs.declared.parts.Item.{Item}
 use Rattle.sp_history.specs.declared.parts.Origin.{Origin}
@@ -37,7 +37,7 @@ use Rattle.sp_proto.specs.declared.Offer.TheVariants as offer
 use Rattle.proto_pending.specs.Waits.{Holds, is_receive, is_send, first_name}
 use Rattle.proto_pending.proofs.Firsts.{first_found, passes_first, first_on, no_receives, none_kept, no_sends, first_of_all, first_is, none_first}
 use Rattle.proto_pair.specs.declared.Pair.{Pair}
-use Rattle.proto_pair.specs.declared.Port.{Port}
+use Rattle.proto_pair.specs.declared.PairPort.{PairPort}
 use Rattle.proto_pair.specs.Pairs.{Ties, port_of, marked, message_in, free, receiver_of, send_offer, to_pipe}
 
 pub is_pair : (m : Pair) (t : Moment) → Ties m t → t.z.role ≡ role.Pair0
@@ -54,31 +54,31 @@ same_number n = grind (arith, nat_tests)
 
 -- ---- The pipe
 
-module _ (full : ℕ → Bool) (o : Option Port) (us : List ℕ) (h : option_to_list o ≡ map (port_of full) us) where
+module _ (full : ℕ → Bool) (o : Option PairPort) (us : List ℕ) (h : option_to_list o ≡ map (port_of full) us) where
   -- where none is known, none is up
   none_up : o ≡ None → us ≡ []
-  none_up e = go us (sym (ap (λ (p : Option Port). option_to_list p) e) ∙ h)
+  none_up e = go us (sym (ap (λ (p : Option PairPort). option_to_list p) e) ∙ h)
     where
       go : (vs : List ℕ) → [] ≡ map (port_of full) vs → vs ≡ []
       go [] q = refl
       go (v ∷ vs) q = absurd cc
 
-  one_up : (x : Port) → o ≡ Some x → (us ≡ x.pipe ∷ []) × (full x.pipe ≡ x.is_full)
-  one_up x e = go us (sym (ap (λ (p : Option Port). option_to_list p) e) ∙ h)
+  one_up : (x : PairPort) → o ≡ Some x → (us ≡ x.pipe ∷ []) × (full x.pipe ≡ x.is_full)
+  one_up x e = go us (sym (ap (λ (p : Option PairPort). option_to_list p) e) ∙ h)
     where
       go : (vs : List ℕ) → x ∷ [] ≡ map (port_of full) vs → (vs ≡ x.pipe ∷ []) × (full x.pipe ≡ x.is_full)
       go [] q = absurd cc
       go (v ∷ []) q =
           let is : x ≡ port_of full v = cc in
-          let pipe : x.pipe ≡ v = ap (λ (y : Port). y.pipe) is in
-          (ap (λ n. n ∷ []) (sym pipe), ap full pipe ∙ sym (ap (λ (y : Port). y.is_full) is))
+          let pipe : x.pipe ≡ v = ap (λ (y : PairPort). y.pipe) is in
+          (ap (λ n. n ∷ []) (sym pipe), ap full pipe ∙ sym (ap (λ (y : PairPort). y.is_full) is))
       go (v ∷ w ∷ vs) q = absurd cc
 
   -- a pipe that is up is the one that is known
-  the_pipe : (p : ℕ) → has us p ≡ true → (x : Port) × (o ≡ Some x) × (x.pipe ≡ p) × (us ≡ p ∷ [])
+  the_pipe : (p : ℕ) → has us p ≡ true → (x : PairPort) × (o ≡ Some x) × (x.pipe ≡ p) × (us ≡ p ∷ [])
   the_pipe p up = go o refl
     where
-      go : (q : Option Port) → o ≡ q → (x : Port) × (o ≡ Some x) × (x.pipe ≡ p) × (us ≡ p ∷ [])
+      go : (q : Option PairPort) → o ≡ q → (x : PairPort) × (o ≡ Some x) × (x.pipe ≡ p) × (us ≡ p ∷ [])
       go None e = let no : false ≡ true = rw (none_up e) at up in absurd cc
       go (Some x) e =
           let one = one_up x e in
@@ -93,7 +93,7 @@ module _ (full : ℕ → Bool) (o : Option Port) (us : List ℕ) (h : option_to_
   pub ports_marked : (is_full : Bool) (now : ℕ → Bool) → ((q : ℕ) → has us q ≡ true → now q ≡ is_full) → option_to_list (marked is_full o) ≡ map (port_of now) us
   ports_marked is_full now each = go o refl
     where
-      go : (q : Option Port) → o ≡ q → option_to_list (marked is_full q) ≡ map (port_of now) us
+      go : (q : Option PairPort) → o ≡ q → option_to_list (marked is_full q) ≡ map (port_of now) us
       go None e = rw (none_up e) refl
       go (Some x) e =
           let one = one_up x e in
@@ -106,15 +106,15 @@ all_go : (raw : Bool) (o : Option Origin) (header : List ℕ) (us : List ℕ) �
 all_go raw o header [] = refl
 all_go raw o header (u ∷ us) = ap (λ rest. u ∷ rest) (all_go raw o header us)
 
-targets_are : (z : Setting) (before : List Entry) (s : Begun) (m : Message) → z.role ≡ role.Pair0 → s.act ≡ Send m → targets z before s ≡ up before
+targets_are : (z : Setting) (before : List Entry) (s : Begun) (m : RecordedMessage) → z.role ≡ role.Pair0 → s.act ≡ Send m → targets z before s ≡ up before
 targets_are z before s m h e =
     let P : Role → Type 0 = λ r. filter (may_go r z.raw (route z before s.op) m.header) (up before) ≡ up before in
     rw e (subst P (sym h) (all_go z.raw (route z before s.op) m.header (up before)))
 
-bytes_are : (z : Setting) (before : List Entry) (s : Begun) (m : Message) → z.role ≡ role.Pair0 → s.act ≡ Send m → bytes_of z before s ≡ Some m.body
+bytes_are : (z : Setting) (before : List Entry) (s : Begun) (m : RecordedMessage) → z.role ≡ role.Pair0 → s.act ≡ Send m → bytes_of z before s ≡ Some m.body
 bytes_are z before s m h e = rw (e, h) refl
 
-a_send : (a : Act) → not (is_recv a) ≡ true → (m : Message) × (a ≡ Send m)
+a_send : (a : RecordedAct) → not (is_recv a) ≡ true → (m : RecordedMessage) × (a ≡ Send m)
 a_send Recv h = absurd cc
 a_send (Send m) h = (m, refl)
 
@@ -130,7 +130,7 @@ all_full z before full h all (s ∷ ss) = both _ _ (one s.act refl) (all_full z 
     no_reply : (r : Role) (b : Bool) → r ≡ role.Pair0 → not (is_reply r && b) ≡ true
     no_reply r b h = rw h refl
 
-    one : (a : Act) → s.act ≡ a → send_settled z before full s ≡ true
+    one : (a : RecordedAct) → s.act ≡ a → send_settled z before full s ≡ true
     one Recv e = rw e refl
     one (Send m) e =
         let all_met : list_all full (targets z before s) ≡ true = ap (list_all full) (targets_are z before s m h e) ∙ all in
@@ -152,9 +152,9 @@ idle m t h receives sends =
 
 -- ---- What is kept
 
-head_map : (is : List Item) (x : Message) → x ∷ [] ≡ map message_in is → option_map message_in (head_of is) ≡ Some x
+head_map : (is : List Item) (x : RecordedMessage) → x ∷ [] ≡ map message_in is → option_map message_in (head_of is) ≡ Some x
 head_map [] x h = absurd cc
-head_map (i ∷ is) x h = let first : x ≡ i.message = cc in ap (λ (y : Message). Some y) (sym first)
+head_map (i ∷ is) x h = let first : x ≡ i.message = cc in ap (λ (y : RecordedMessage). Some y) (sym first)
 
 nothing_kept : (is : List Item) → [] ≡ map message_in is → is ≡ []
 nothing_kept [] h = refl
@@ -164,16 +164,16 @@ abbrev tail : List Item → List Item
 tail [] = []
 tail (i ∷ is) = is
 
-one_less : (is : List Item) (x : Message) → x ∷ [] ≡ map message_in is → [] ≡ map message_in (tail is)
+one_less : (is : List Item) (x : RecordedMessage) → x ∷ [] ≡ map message_in is → [] ≡ map message_in (tail is)
 one_less [] x h = refl
 one_less (i ∷ is) x h = cc
 
 -- ---- Give
 
-pub gives : (m : Pair) (t : Moment) (op : OpName) → Ties m t → Some op ≡ receiver_of m.kept (pend (past t)) → (s : Begun) × (text : Message) × CanGive t op s text
+pub gives : (m : Pair) (t : Moment) (op : OpName) → Ties m t → Some op ≡ receiver_of m.kept (pend (past t)) → (s : Begun) × (text : RecordedMessage) × CanGive t op s text
 gives m t op h e = go m.kept refl e
   where
-    go : (o : Option MessageView) → m.kept ≡ o → Some op ≡ receiver_of o (pend (past t)) → (s : Begun) × (text : Message) × CanGive t op s text
+    go : (o : Option MessageView) → m.kept ≡ o → Some op ≡ receiver_of o (pend (past t)) → (s : Begun) × (text : RecordedMessage) × CanGive t op s text
     go None k q = absurd cc
     go (Some v) k q =
         let s = first_is (filter is_receive (pend (past t))) op q in
@@ -202,7 +202,7 @@ receives_wait m t h e = go m.kept refl e
         none_kept t.z (past t) (λ c. kept_pair t.z (past t) c (is_pair m t h) ∙ nil) (pend (past t))
     go (Some v) k q = no_receives t.z (past t) (pend (past t)) (none_first (filter is_receive (pend (past t))) q)
 
-can_send : (m : Pair) (t : Moment) (x : Port) (s : Begun) → Ties m t → m.port ≡ Some x → x.is_full ≡ false → head_of (filter is_send (pend (past t))) ≡ Some s → (b : List ℕ) × CanSend t s.op x.pipe s b
+can_send : (m : Pair) (t : Moment) (x : PairPort) (s : Begun) → Ties m t → m.port ≡ Some x → x.is_full ≡ false → head_of (filter is_send (pend (past t))) ≡ Some s → (b : List ℕ) × CanSend t s.op x.pipe s b
 can_send m t x s h e room first =
     let one = one_up (λ q. has_full t.turn q) m.port (up (past t)) h.port x e in
     let sent = a_send s.act (passes_first is_send (pend (past t)) s first) in
@@ -228,7 +228,7 @@ sends m t r h wait e = subst (λ (o : Offer). IsOffered o t) (sym e) (go m.port 
     no_room : list_all (has_full t.turn) (up (past t)) ≡ true → IsIdle t
     no_room full = idle m t h settled (all_full t.z (past t) (has_full t.turn) (is_pair m t h) full (pend (past t)))
 
-    go : (o : Option Port) → m.port ≡ o → IsOffered (send_offer o (pend (past t))) t
+    go : (o : Option PairPort) → m.port ≡ o → IsOffered (send_offer o (pend (past t))) t
     go None k = no_room (rw (none_up (λ q. has_full t.turn q) m.port (up (past t)) h.port k) refl)
     go (Some x) k = full x.is_full refl
       where
@@ -259,7 +259,7 @@ ended_ties m n t op cause by h e same =
       contexts = h.contexts;
     }
 
-pub given_ties : (m n : Pair) (t : Moment) (op : OpName) (s : Begun) (text : Message) → Ties m t → CanGive t op s text → Holds n.pending (without_begun (pend (past t)) op) → n ≡ record m { pending = n.pending; kept = None } → (option_map text_of m.kept ≡ Some text) × Ties n (also t (End op (Won (Received text))))
+pub given_ties : (m n : Pair) (t : Moment) (op : OpName) (s : Begun) (text : RecordedMessage) → Ties m t → CanGive t op s text → Holds n.pending (without_begun (pend (past t)) op) → n ≡ record m { pending = n.pending; kept = None } → (option_map text_of m.kept ≡ Some text) × Ties n (also t (End op (Won (Received text))))
 given_ties m n t op s text h c e same = go m.kept refl
   where
     oldest : option_map message_in (head_of (pool t.z (past t) 0)) ≡ Some text
@@ -307,20 +307,20 @@ sent_ties m n t op p b h e same =
     }
 
 -- what goes out is the body
-pub sent_text : (m : Pair) (t : Moment) (op : OpName) (p : ℕ) (s : Begun) (b : List ℕ) (text : Message) (old new : MessageView) → Ties m t → CanSend t op p s b → s.act ≡ Send text → Some (text_of old) ≡ Some text → new ≡ record old { header = [] } → wire_text new ≡ b
+pub sent_text : (m : Pair) (t : Moment) (op : OpName) (p : ℕ) (s : Begun) (b : List ℕ) (text : RecordedMessage) (old new : MessageView) → Ties m t → CanSend t op p s b → s.act ≡ Send text → Some (text_of old) ≡ Some text → new ≡ record old { header = [] } → wire_text new ≡ b
 sent_text m t op p s b text old new h c e is bare =
     let same : text_of old ≡ text = cc in
     let bytes : Some text.body ≡ Some b = sym (bytes_are t.z (past t) s text (is_pair m t h) e) ∙ c.bytes in
-    ap wire_text bare ∙ ap (λ (x : Message). x.body) same ∙ some_inj bytes
+    ap wire_text bare ∙ ap (λ (x : RecordedMessage). x.body) same ∙ some_inj bytes
   where
     some_inj : Some text.body ≡ Some b → text.body ≡ b
     some_inj q = cc
 
 -- one that can be sent is a send
-pub the_send : (m : Pair) (t : Moment) (op : OpName) (p : ℕ) (s : Begun) (b : List ℕ) → CanSend t op p s b → (text : Message) × (s.act ≡ Send text)
+pub the_send : (m : Pair) (t : Moment) (op : OpName) (p : ℕ) (s : Begun) (b : List ℕ) → CanSend t op p s b → (text : RecordedMessage) × (s.act ≡ Send text)
 the_send m t op p s b c = go s.act refl
   where
-    go : (a : Act) → s.act ≡ a → (text : Message) × (s.act ≡ Send text)
+    go : (a : RecordedAct) → s.act ≡ a → (text : RecordedMessage) × (s.act ≡ Send text)
     go Recv e = let no : false ≡ true = rw e at c.target in absurd cc
     go (Send text) e = (text, e)
 
@@ -354,7 +354,7 @@ is_free m t op p s b h c =
     let room : x.0.is_full ≡ false = sym one.1 ∙ ap (has_full t.turn) x.2 ∙ c.not_full in
     rw (x.1, room) refl
 
-pub none_free : (o : Option Port) → free (marked true o) ≡ 0
+pub none_free : (o : Option PairPort) → free (marked true o) ≡ 0
 none_free None = refl
 none_free (Some x) = refl
 
@@ -424,13 +424,13 @@ pub frame_ties : (m n : Pair) (t : Moment) (p : ℕ) (v : MessageView) → Lawfu
 frame_ties m n t p v l bare h same =
     let nil = wanted_none t.z (past t) p v.body (is_pair m t h) l.turn.0.itself.1 in
     let now : pool t.z (Frame p v.body ∷ past t) 0 ≡ plain_item p v.body ∷ [] = pool_frame t.z (past t) p v.body (is_pair m t h) ∙ ap (λ (is : List Item). is ++ plain_item p v.body ∷ []) nil in
-    let text : text_of v ≡ message_in (plain_item p v.body) = ap (λ (x : List ℕ). let y : Message = record { header = x; body = v.body } in y) bare in
+    let text : text_of v ≡ message_in (plain_item p v.body) = ap (λ (x : List ℕ). let y : RecordedMessage = record { header = x; body = v.body } in y) bare in
     record {
       kind = rw same h.kind;
       port = rw same h.port;
       known = h.known;
       unmet = h.unmet;
-      items = rw same (ap (λ (x : Message). x ∷ []) text ∙ ap (map message_in) (sym now));
+      items = rw same (ap (λ (x : RecordedMessage). x ∷ []) text ∙ ap (map message_in) (sym now));
       pending = rw same h.pending;
       contexts = h.contexts;
     }

@@ -4,35 +4,35 @@ use Rattle.std.specs.Option.{option_map}
 use Rattle.sp_base.specs.declared.OpName.{OpName}
 use Rattle.sp_base.specs.declared.role.Role.TheVariants as role
 use Rattle.sp_msg.specs.Views.{MessageView}
-use Rattle.sp_history.specs.declared.entry.Message.{Message}
+use Rattle.sp_history.specs.declared.entry.RecordedMessage.{RecordedMessage}
 use Rattle.sp_history.specs.declared.parts.Begun.{Begun}
 use Rattle.sp_history.specs.declared.parts.Item.{Item}
 use Rattle.sp_history.specs.declared.setting.Options.{Options}
 use Rattle.sp_history.specs.Lists.{has}
 use Rattle.sp_history.specs.Moments.{Moment}
 use Rattle.sp_proto.specs.Kinds.{Kind, text_of}
-use Rattle.sp_proto.specs.Readings.{Reading, reading}
+use Rattle.sp_proto.specs.Readings.{MomentReading, reading}
 use Rattle.sp_proto.specs.declared.Offer.{Offer}
 use Rattle.sp_proto.specs.declared.Offer.TheVariants as offer
 use Rattle.proto_pending.specs.Waits.{Holds, is_receive, is_send, count, room, first_name}
 use Rattle.proto_pair.specs.declared.Pair.{Pair}
-use Rattle.proto_pair.specs.declared.Port.{Port}
+use Rattle.proto_pair.specs.declared.PairPort.{PairPort}
 
 abbrev pub pair_kind : Bool → Options → Kind
 pair_kind raw options = record { role = role.Pair0; raw = raw; options = options }
 
 -- a pipe that is up, where these pipes are full
-abbrev pub port_of : (ℕ → Bool) → ℕ → Port
+abbrev pub port_of : (ℕ → Bool) → ℕ → PairPort
 port_of full p = record { pipe = p; is_full = full p }
 
-abbrev pub marked : Bool → Option Port → Option Port
-marked is_full port = option_map (λ (x : Port). let y : Port = record { pipe = x.pipe; is_full = is_full } in y) port
+abbrev pub marked : Bool → Option PairPort → Option PairPort
+marked is_full port = option_map (λ (x : PairPort). let y : PairPort = record { pipe = x.pipe; is_full = is_full } in y) port
 
-abbrev pub message_in : Item → Message
+abbrev pub message_in : Item → RecordedMessage
 message_in i = i.message
 
 -- the pipe may be offered to a send
-abbrev pub free : Option Port → ℕ
+abbrev pub free : Option PairPort → ℕ
 free None = 0
 free (Some x) = if x.is_full then 0 else 1
 
@@ -54,7 +54,7 @@ to_pipe p None = offer.Idle
 to_pipe p (Some op) = offer.Send op p
 
 -- the first send, where the pipe may have room
-abbrev pub send_offer : Option Port → List Begun → Offer
+abbrev pub send_offer : Option PairPort → List Begun → Offer
 send_offer None ss = offer.Idle
 send_offer (Some x) ss = if x.is_full then offer.Idle else to_pipe x.pipe (first_name (filter is_send ss))
 
@@ -70,7 +70,7 @@ pub record Shows (m : Pair) (k : Kind) (us : List ℕ) (last : ℕ) (full : ℕ 
   pub contexts : cs ≡ 0 ∷ []
 
 -- it shows what it reads of a moment
-abbrev pub Stands : Pair → Reading → Type 0
+abbrev pub Stands : Pair → MomentReading → Type 0
 Stands m r = Shows m r.kind r.up r.ups r.full (r.pool 0) r.pend r.ctxs
 
 abbrev pub Ties : Pair → Moment → Type 0

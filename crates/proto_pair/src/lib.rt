@@ -13,7 +13,7 @@
 
 ghost use Rattle.std.specs.Prelude.{◌≡◌, ◌≢◌, ◌+◌, ◌<◌, ◌≤◌, ℕ, List, [], Option, IfOk, IfErr, OnOk, OnErr, Err, IsTrue};
 ghost use Rattle.sp_history.specs.declared.entry.Entry.TheVariants.{Begin, Frame, Up};
-ghost use Rattle.sp_history.specs.declared.entry.WireName.{WireName};
+ghost use Rattle.sp_history.specs.declared.entry.WireNumbers.{WireNumbers};
 ghost use Rattle.sp_history.specs.declared.parts.Begun.{Begun};
 ghost use Rattle.sp_history.specs.Moments.{Moment, Lawful, past, also};
 ghost use Rattle.sp_history.specs.Past.{up};
@@ -32,7 +32,7 @@ use std::alloc::Global;
 
 /// The pipe that is up.
 #[derive(Clone, Copy)]
-struct Port {
+struct PairPort {
     pipe: PipeId,
     /// Whether it was found full in this turn.
     is_full: bool,
@@ -44,19 +44,19 @@ pub struct Pair {
     raw: bool,
     options: Options,
     /// The pipe that is up, if one is.
-    port: Option<Port>,
+    port: Option<PairPort>,
     /// What came, and no receive got yet.
     kept: Option<Message>,
     pending: Pending,
 }
 
 // The pipe, found full or not.
-fn mark(port: Option<Port>, is_full: bool) -> Option<Port>
+fn mark(port: Option<PairPort>, is_full: bool) -> Option<PairPort>
     ensures { result ≡ marked is_full port }
 {
     match port {
         None => None,
-        Some(x) => Some(Port {
+        Some(x) => Some(PairPort {
             pipe: x.pipe,
             is_full,
         }),
@@ -143,7 +143,7 @@ impl Proto for Pair {
 
     /// It has the place of the pipe, so it is never out of memory for one.
     fn up(&mut self, p: PipeId) -> Result<(), UpFault>
-        ensures up { OnOk result ((t : Moment) (place : ℕ) (name : WireName) → NoFlood t → Takes (Ties self.old) (Ties self.new) t (Up p place name)) }
+        ensures up { OnOk result ((t : Moment) (place : ℕ) (name : WireNumbers) → NoFlood t → Takes (Ties self.old) (Ties self.new) t (Up p place name)) }
         ensures alone { OnOk result ((t : Moment) → Lawful t → Ties self.old t → IsTrue (is_pair t.z.role) → up (past t) ≡ []) }
         ensures refused { result ≡ Err UpFault.Refused → (t : Moment) → Lawful t → Ties self.old t → IsTrue (is_pair t.z.role) × (up (past t) ≢ []) }
         ensures same { OnErr result ((t : Moment) → Ties self.old t → Ties self.new t) }
@@ -153,7 +153,7 @@ impl Proto for Pair {
         if self.port.is_some() {
             return Err(UpFault::Refused);
         }
-        self.port = Some(Port {
+        self.port = Some(PairPort {
             pipe: p,
             is_full: false,
         });

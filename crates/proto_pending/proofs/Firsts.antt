@@ -6,8 +6,8 @@ use Rattle.std.specs.Option.{option_map}
 use Rattle.std.proofs.lemmas.Bool.Decides.{nat_tests}
 use Rattle.sp_base.specs.declared.OpName.{OpName}
 use Rattle.sp_history.specs.declared.setting.Setting.{Setting}
-use Rattle.sp_history.specs.declared.entry.Act.{Act}
-use Rattle.sp_history.specs.declared.entry.Act.TheVariants.{Recv, Send}
+use Rattle.sp_history.specs.declared.entry.RecordedAct.{RecordedAct}
+use Rattle.sp_history.specs.declared.entry.RecordedAct.TheVariants.{Recv, Send}
 use Rattle.sp_history.specs.declared.entry.Entry.{Entry}
 use Rattle.sp_history.specs.declared.parts.Begun.{Begun}
 use Rattle.sp_history.specs.Lists.{has, head_of, is_nil, same_op}
@@ -116,7 +116,7 @@ module _ (z : Setting) (before : List Entry) where
       nowhere : x.act ≡ Recv → has (targets z before x) p ≡ false
       nowhere e = rw e refl
 
-      go : (b : Bool) → same_op x.op r.op ≡ b → (a : Act) → x.act ≡ a → head_of (cond (not (is_recv a)) (x ∷ filter is_send ss) (filter is_send ss)) ≡ Some r
+      go : (b : Bool) → same_op x.op r.op ≡ b → (a : RecordedAct) → x.act ≡ a → head_of (cond (not (is_recv a)) (x ∷ filter is_send ss) (filter is_send ss)) ≡ Some r
           → (head_of (filter is_send ss) ≡ Some r → list_any (λ (other : Begun). has (targets z before other) p) (begun_before r.op ss) ≡ false)
           → list_any (λ (other : Begun). has (targets z before other) p) (cond b [] (x ∷ begun_before r.op ss)) ≡ false
       go true e a f q again = refl

@@ -8,9 +8,9 @@ use Rattle.std.proofs.lemmas.List.{map-append}
 use Rattle.std.proofs.lemmas.List.Quantifiers.{position-Some}
 use Rattle.sp_base.specs.declared.OpName.{OpName}
 use Rattle.sp_msg.specs.Views.{MessageView}
-use Rattle.sp_history.specs.declared.entry.Act.{Act}
-use Rattle.sp_history.specs.declared.entry.Act.TheVariants.{Recv, Send}
-use Rattle.sp_history.specs.declared.entry.Message.{Message as Text}
+use Rattle.sp_history.specs.declared.entry.RecordedAct.{RecordedAct}
+use Rattle.sp_history.specs.declared.entry.RecordedAct.TheVariants.{Recv, Send}
+use Rattle.sp_history.specs.declared.entry.RecordedMessage.{RecordedMessage as Text}
 use Rattle.sp_history.specs.declared.parts.Begun.{Begun}
 use Rattle.sp_history.specs.Past.{is_of, without_begun}
 use Rattle.sp_history.specs.Legal.{is_at, is_recv}
@@ -189,11 +189,11 @@ act_message w s e = go w.message ∙ ap (λ (r : Begun). message_of r.act) e
     go None = refl
     go (Some m) = refl
 
-pub no_message : (a : Act) → is_recv a ≡ true → None ≡ message_of a
+pub no_message : (a : RecordedAct) → is_recv a ≡ true → None ≡ message_of a
 no_message Recv h = refl
 no_message (Send m) h = absurd cc
 
-pub sends_it : (a : Act) (m : Text) → a ≡ Send m → is_recv a ≡ false
+pub sends_it : (a : RecordedAct) (m : Text) → a ≡ Send m → is_recv a ≡ false
 sends_it a m h = rw h refl
 
 -- ---- One more

@@ -4,8 +4,8 @@ use Rattle.std.specs.Option.{option_map}
 use Rattle.std.specs.VecDeque.{deque_len, deque_capacity}
 use Rattle.sp_base.specs.declared.OpName.{OpName}
 use Rattle.sp_msg.specs.Views.{MessageView}
-use Rattle.sp_history.specs.declared.entry.Act.{Act}
-use Rattle.sp_history.specs.declared.entry.Act.TheVariants.{Recv, Send}
+use Rattle.sp_history.specs.declared.entry.RecordedAct.{RecordedAct}
+use Rattle.sp_history.specs.declared.entry.RecordedAct.TheVariants.{Recv, Send}
 use Rattle.sp_history.specs.declared.parts.Begun.{Begun}
 use Rattle.sp_history.specs.Lists.{head_of, same_op}
 use Rattle.sp_history.specs.Legal.{is_recv}
@@ -17,7 +17,7 @@ use Rattle.proto_pending.specs.declared.Pending.{Pending}
 use Rattle.proto_pending.specs.declared.Waiting.{Waiting}
 
 -- a send has a message
-abbrev pub act_of : Option MessageView → Act
+abbrev pub act_of : Option MessageView → RecordedAct
 act_of None = Recv
 act_of (Some m) = Send (text_of m)
 

@@ -12,7 +12,7 @@ use Rattle.sp_history.specs.declared.entry.Entry.{Entry}
 use Rattle.sp_history.specs.declared.entry.Entry.TheVariants.{Down, Frame, Unkept, Begin, End, Ctx, Topic, Dry, Close}
 use Rattle.sp_history.specs.declared.entry.Ending.TheVariants.{Won, Gone}
 use Rattle.sp_history.specs.declared.entry.Completion.TheVariants.{Received, Sent}
-use Rattle.sp_history.specs.declared.entry.Gate.TheVariants.{Open, Shut}
+use Rattle.sp_history.specs.declared.entry.ContextChange.TheVariants.{Open, Shut}
 use Rattle.sp_history.specs.declared.entry.Switch.TheVariants.{On, Off}
 use Rattle.sp_history.specs.declared.parts.Begun.{Begun}
 use Rattle.sp_history.specs.declared.parts.Item.{Item}

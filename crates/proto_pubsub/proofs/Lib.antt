@@ -3,6 +3,6 @@ pub mod Knowing
 pub mod Looking
 pub mod Ordered
 pub mod Published
-pub mod Seating
+pub mod SubContexts
 pub mod Subscribed
-pub mod Taking
+pub mod ReceivesLeft

@@ -7,10 +7,10 @@ use Rattle.std.proofs.lemmas.List.Quantifiers.{position-Some}
 use Rattle.sp_msg.specs.Views.{MessageView}
 use Rattle.sp_history.specs.Lists.{is_nil}
 use Rattle.proto_pubsub.specs.declared.subscribe.Subscribe.{Subscribe}
-use Rattle.proto_pubsub.specs.declared.subscribe.Waiting.{Waiting}
+use Rattle.proto_pubsub.specs.declared.subscribe.WaitingReceive.{WaitingReceive}
 use Rattle.proto_pubsub.specs.Seats.{SeatView, is_home, with_found, given_from, emptied, fresh_seat, switched}
 use Rattle.proto_pubsub.specs.Subs.{NoneBefore, is_ready, is_kept, keeps_at}
-use Rattle.proto_pubsub.proofs.Seating.{not_found}
+use Rattle.proto_pubsub.proofs.SubContexts.{not_found}
 
 neither : (a b : Bool) → (a || b) ≡ false → (a ≡ false) × (b ≡ false)
 neither true b e = absurd cc
@@ -265,7 +265,7 @@ shut_kept n (x ∷ xs) c h = go (x.ctx == n) refl (x.ctx == c) refl h (shut_kept
 
 -- nothing more is kept
 pub looks_on : (m n : Subscribe) → NoneBefore (is_ready m.seats.items) m.looked m.waiting.items → n.waiting ≡ m.waiting → n.looked ≡ m.looked → ((c : ℕ) → keeps_at m.seats.items c ≡ false → keeps_at n.seats.items c ≡ false) → NoneBefore (is_ready n.seats.items) n.looked n.waiting.items
-looks_on m n h w e k = rw (w, e) (still_before (is_ready m.seats.items) (is_ready n.seats.items) (λ (x : Waiting). k x.ctx) m.waiting.items m.looked h)
+looks_on m n h w e k = rw (w, e) (still_before (is_ready m.seats.items) (is_ready n.seats.items) (λ (x : WaitingReceive). k x.ctx) m.waiting.items m.looked h)
 
 -- all are to be looked at again
 pub looks_anew : (n : Subscribe) → n.looked ≡ 0 → NoneBefore (is_ready n.seats.items) n.looked n.waiting.items

@@ -11,12 +11,12 @@ use Rattle.sp_history.specs.declared.setting.Setting.{Setting}
 use Rattle.sp_history.specs.declared.entry.Entry.{Entry}
 use Rattle.sp_history.specs.declared.entry.Entry.TheVariants.{Up, Down, Frame, Full, Out, End}
 use Rattle.sp_history.specs.declared.entry.Why.{Why}
-use Rattle.sp_history.specs.declared.entry.WireName.{WireName}
-use Rattle.sp_history.specs.declared.entry.Act.TheVariants.{Send}
+use Rattle.sp_history.specs.declared.entry.WireNumbers.{WireNumbers}
+use Rattle.sp_history.specs.declared.entry.RecordedAct.TheVariants.{Send}
 use Rattle.sp_history.specs.declared.entry.Cause.{Cause}
 use Rattle.sp_history.specs.declared.entry.Ending.TheVariants.{Won, Gone}
 use Rattle.sp_history.specs.declared.entry.Completion.TheVariants.{Sent}
-use Rattle.sp_history.specs.declared.entry.Message.{Message}
+use Rattle.sp_history.specs.declared.entry.RecordedMessage.{RecordedMessage}
 use Rattle.sp_history.specs.declared.parts.Begun.{Begun}
 use Rattle.sp_history.specs.declared.parts.Item.{Item}
 use Rattle.sp_history.specs.declared.parts.Origin.{Origin}
@@ -32,9 +32,9 @@ use Rattle.sp_proto.specs.Kinds.{Kind}
 use Rattle.sp_proto.specs.Machines.{CanGive, CanFlood, IsIdle, NoFlood, message_of}
 use Rattle.proto_floods.specs.Copies.{AreCopies}
 use Rattle.proto_floods.proofs.Copying.{pool_down, each_init}
-use Rattle.proto_floods.proofs.Flooding.{no_flood, goes_on, pipe_down, pipe_full, turn_begins}
+use Rattle.proto_floods.proofs.FloodTurns.{no_flood, goes_on, pipe_down, pipe_full, turn_begins}
 use Rattle.proto_floods.proofs.Sending.{a_send, is_a_send, is_a_receive, won_send, the_flood, can_flood as first_floods, none_sending, goes_to, goes_out, send_ends, receive_ends}
-use Rattle.proto_floods.proofs.Counting.{counted_up, counted_down}
+use Rattle.proto_floods.proofs.PipeCounts.{counted_up, counted_down}
 use Rattle.proto_pending.specs.Waits.{Holds, is_send, first_name}
 use Rattle.proto_pending.proofs.Firsts.{none_kept, no_sends, none_first}
 use Rattle.proto_pubsub.specs.declared.publish.Publish.{Publish}
@@ -51,7 +51,7 @@ kept_pub z before c h = rw h refl
 
 -- ---- Pipes
 
-pub up_ties : (m n : Publish) (t : Moment) (p place : ℕ) (name : WireName) → NoFlood t → Lawful (also t (Up p place name)) → Ties m t → n ≡ record m { pipes = min (m.pipes + 1) (2 ^ 64 - 1) } → Ties n (also t (Up p place name))
+pub up_ties : (m n : Publish) (t : Moment) (p place : ℕ) (name : WireNumbers) → NoFlood t → Lawful (also t (Up p place name)) → Ties m t → n ≡ record m { pipes = min (m.pipes + 1) (2 ^ 64 - 1) } → Ties n (also t (Up p place name))
 up_ties m n t p place name calm l h same = (
   record {
     kind = rw same h.0.kind;
@@ -78,7 +78,7 @@ down_ties m n t p why l h same = (
 pub full_ties : (m : Publish) (t : Moment) (p : ℕ) → Ties m t → Ties m (also t (Full p))
 full_ties m t p h = (h.0, pipe_full _ _ t p (it_floods t.z (is_pub m t h)) h.1)
 
-bytes_are : (z : Setting) (before : List Entry) (s : Begun) (m : Message) → z.role ≡ role.Pub → s.act ≡ Send m → bytes_of z before s ≡ Some m.body
+bytes_are : (z : Setting) (before : List Entry) (s : Begun) (m : RecordedMessage) → z.role ≡ role.Pub → s.act ≡ Send m → bytes_of z before s ≡ Some m.body
 bytes_are z before s m h e = rw (e, h) refl
 
 -- ---- It goes out
@@ -133,7 +133,7 @@ idle m t h none =
 -- ---- Ends
 
 -- a send is lost
-pub lost_send : (m n : Publish) (t : Moment) (op : OpName) (s : Begun) (x : Message) (cause : Cause) (by : ℕ) → Ties m t → pending (past t) op ≡ Some s → Some x ≡ message_of s.act → Holds n.pending (without_begun (pend (past t)) op) → n ≡ record m { pending = n.pending; copies = n.copies } → Ties n (also t (End op (Gone cause by)))
+pub lost_send : (m n : Publish) (t : Moment) (op : OpName) (s : Begun) (x : RecordedMessage) (cause : Cause) (by : ℕ) → Ties m t → pending (past t) op ≡ Some s → Some x ≡ message_of s.act → Holds n.pending (without_begun (pend (past t)) op) → n ≡ record m { pending = n.pending; copies = n.copies } → Ties n (also t (End op (Gone cause by)))
 lost_send m n t op s x cause by h p e holds same = (
   record {
     kind = rw same h.0.kind;
@@ -171,7 +171,7 @@ flooded_ties m n t op s l h p holds same = (
 )
 
 -- no receive is given anything
-pub none_given : (m : Publish) (t : Moment) (op : OpName) (s : Begun) (text : Message) → Ties m t → CanGive t op s text → ⊥
+pub none_given : (m : Publish) (t : Moment) (op : OpName) (s : Begun) (text : RecordedMessage) → Ties m t → CanGive t op s text → ⊥
 none_given m t op s text h c =
     let nil : kept t.z (past t) s.ctx ≡ [] = kept_pub t.z (past t) s.ctx (is_pub m t h) ∙ h.0.items in
     let no : None ≡ Some text = sym (ap (λ (is : List Item). option_map (λ (i : Item). i.message) (head_of is)) nil) ∙ c.may.oldest in cc

@@ -14,16 +14,16 @@ use Rattle.sp_history.specs.declared.setting.Setting.{Setting}
 use Rattle.sp_history.specs.declared.setting.Options.{Options}
 use Rattle.sp_history.specs.declared.entry.Entry.{Entry}
 use Rattle.sp_history.specs.declared.entry.Entry.TheVariants.{Down, Frame, Begin, End, Ctx, Topic, Dry, Close}
-use Rattle.sp_history.specs.declared.entry.Gate.TheVariants.{Open, Shut}
+use Rattle.sp_history.specs.declared.entry.ContextChange.TheVariants.{Open, Shut}
 use Rattle.sp_history.specs.declared.entry.Switch.TheVariants.{Off}
-use Rattle.sp_history.specs.declared.entry.Act.{Act}
-use Rattle.sp_history.specs.declared.entry.Act.TheVariants.{Recv, Send}
+use Rattle.sp_history.specs.declared.entry.RecordedAct.{RecordedAct}
+use Rattle.sp_history.specs.declared.entry.RecordedAct.TheVariants.{Recv, Send}
 use Rattle.sp_history.specs.declared.entry.Cause.{Cause}
 use Rattle.sp_history.specs.declared.entry.Totals.{Totals}
 use Rattle.sp_history.specs.declared.entry.Why.{Why}
 use Rattle.sp_history.specs.declared.entry.Ending.TheVariants.{Won, Gone}
 use Rattle.sp_history.specs.declared.entry.Completion.TheVariants.{Received}
-use Rattle.sp_history.specs.declared.entry.Message.{Message}
+use Rattle.sp_history.specs.declared.entry.RecordedMessage.{RecordedMessage}
 use Rattle.sp_history.specs.declared.parts.Begun.{Begun}
 use Rattle.sp_history.specs.declared.parts.Item.{Item}
 use Rattle.sp_history.specs.declared.parts.Keeping.TheVariants.{Everywhere}
@@ -41,14 +41,14 @@ use Rattle.sp_proto.specs.declared.Verb.TheVariants as verbs
 use Rattle.sp_proto.specs.declared.Verdict.TheVariants as verdicts
 use Rattle.sp_proto.specs.Machines.{CanGive, CanSend, CanDrop, IsIdle, Frames, Topics, switch_of, message_of}
 use Rattle.proto_pubsub.specs.declared.subscribe.Subscribe.{Subscribe}
-use Rattle.proto_pubsub.specs.declared.subscribe.Waiting.{Waiting}
+use Rattle.proto_pubsub.specs.declared.subscribe.WaitingReceive.{WaitingReceive}
 use Rattle.proto_pubsub.specs.Seats.{SeatView, is_home, kept_in, takes_frame, added, fresh_seat, given_from, emptied, switched, first_in, with_found, ctx_of, AreOrdered, InOrder, SwitchesIn, StopsAt}
 use Rattle.proto_pubsub.specs.Subs.{Ties, NeedsCopy, seat_at, view_of, begun_of, is_for, is_ready, keeps_at, is_kept, without_first, NoneBefore}
 use Rattle.proto_pubsub.proofs.Knowing.{IsRising, allowed, allowed_before, apart, rising, only_zero, AreHome, homes, home_of, pool_home, kept_home, nothing}
-use Rattle.proto_pubsub.proofs.Seating.{found_at, not_found, long_with, found_seat, any_seat, changed, each, map_same, shut, stands, is_at, stopped}
+use Rattle.proto_pubsub.proofs.SubContexts.{found_at, not_found, long_with, found_seat, any_seat, changed, each, map_same, shut, stands, is_at, stopped}
 use Rattle.proto_pubsub.proofs.Ordered.{numbers, ordered_is}
 use Rattle.proto_pubsub.proofs.Looking.{before_first, before_end, more_before, still_before, given_kept, switched_kept, emptied_kept, opened_kept, shut_kept, looks_on, looks_anew}
-use Rattle.proto_pubsub.proofs.Taking.{find_begun, find_own, without_all, first_of_its}
+use Rattle.proto_pubsub.proofs.ReceivesLeft.{find_begun, find_own, without_all, first_of_its}
 
 pub is_sub : (m : Subscribe) (t : Moment) → Ties m t → t.z.role ≡ role.Sub
 is_sub m t h = ap (λ (k : Kind). k.role) h.kind
@@ -236,21 +236,21 @@ keeps_means m t c xs b l h k e f = f ∙ ap (λ (ys : List SeatView). keeps_at y
 pub open_is : (m : Subscribe) (t : Moment) (c : ℕ) (xs : List SeatView) (b o : Bool) → Ties m t → xs ≡ m.seats.items → o ≡ list_any (is_home c) xs → o ≡ b → has (ctxs (past t)) c ≡ b
 open_is m t c xs b o h e k f = sym (any_seat m.options.queue (pools t) (tops t) c (ctxs (past t))) ∙ ap (list_any (is_home c)) (sym h.seats ∙ sym e) ∙ sym k ∙ f
 
-pub no_state : (m : Subscribe) (t : Moment) (c : ℕ) (act : Act) → Ties m t → is_state t.z (past t) c act ≡ false
+pub no_state : (m : Subscribe) (t : Moment) (c : ℕ) (act : RecordedAct) → Ties m t → is_state t.z (past t) c act ≡ false
 no_state m t c act h = rw (is_sub m t h) refl
 
-sends_nothing : (r : Role) (act : Act) (b : Bool) → r ≡ role.Sub → verb_of act ≡ verbs.Send → (does r act && b) ≡ false
+sends_nothing : (r : Role) (act : RecordedAct) (b : Bool) → r ≡ role.Sub → verb_of act ≡ verbs.Send → (does r act && b) ≡ false
 sends_nothing r Recv b e v = absurd cc
 sends_nothing r (Send x) b e v = rw e refl
 
-pub never_sends_on : (m : Subscribe) (t : Moment) (c : ℕ) (act : Act) → Ties m t → verb_of act ≡ verbs.Send → (does t.z.role act && ((c == 0) || has_contexts t.z)) ≡ false
+pub never_sends_on : (m : Subscribe) (t : Moment) (c : ℕ) (act : RecordedAct) → Ties m t → verb_of act ≡ verbs.Send → (does t.z.role act && ((c == 0) || has_contexts t.z)) ≡ false
 never_sends_on m t c act h v = sends_nothing t.z.role act ((c == 0) || has_contexts t.z) (is_sub m t h) v
 
-does_recv : (r : Role) (act : Act) (b raw : Bool) → r ≡ role.Sub → verb_of act ≡ verbs.Recv → (does r act && (b || role_has_contexts r && not raw)) ≡ (b || not raw)
+does_recv : (r : Role) (act : RecordedAct) (b raw : Bool) → r ≡ role.Sub → verb_of act ≡ verbs.Recv → (does r act && (b || role_has_contexts r && not raw)) ≡ (b || not raw)
 does_recv r Recv b raw e v = rw e refl
 does_recv r (Send x) b raw e v = absurd cc
 
-pub does_is : (m : Subscribe) (t : Moment) (c : ℕ) (act : Act) (b : Bool) → Ties m t → verb_of act ≡ verbs.Recv → ((c == 0) || not m.raw) ≡ b → (does t.z.role act && ((c == 0) || has_contexts t.z)) ≡ b
+pub does_is : (m : Subscribe) (t : Moment) (c : ℕ) (act : RecordedAct) (b : Bool) → Ties m t → verb_of act ≡ verbs.Recv → ((c == 0) || not m.raw) ≡ b → (does t.z.role act && ((c == 0) || has_contexts t.z)) ≡ b
 does_is m t c act b h v e = does_recv t.z.role act (c == 0) t.z.raw (is_sub m t h) v ∙ ap (λ q. (c == 0) || not q) (is_raw m t h) ∙ e
 
 pub zero_is : (n : ℕ) (b : Bool) → n ≡ 0 → ((n == 0) || b) ≡ true
@@ -269,7 +269,7 @@ some_kept : (is : List Item) → not (is_nil is) ≡ true → (i : Item) × (res
 some_kept [] h = absurd cc
 some_kept (i ∷ is) h = (i, is, refl)
 
-passes : (P : Waiting → Bool) (ws : List Waiting) (w : Waiting) → find P ws ≡ Some w → P w ≡ true
+passes : (P : WaitingReceive → Bool) (ws : List WaitingReceive) (w : WaitingReceive) → find P ws ≡ Some w → P w ≡ true
 passes P [] w h = absurd cc
 passes P (x ∷ ws) w h = go (P x) refl h (passes P ws w)
   where
@@ -277,10 +277,10 @@ passes P (x ∷ ws) w h = go (P x) refl h (passes P ws w)
     some_inj q = cc
 
     go : (b : Bool) → P x ≡ b → cond b (Some x) (find P ws) ≡ Some w → (find P ws ≡ Some w → P w ≡ true) → P w ≡ true
-    go true e q again = subst (λ (v : Waiting). P v ≡ true) (some_inj q) e
+    go true e q again = subst (λ (v : WaitingReceive). P v ≡ true) (some_inj q) e
     go false e q again = again q
 
-pub can_give : (m : Subscribe) (t : Moment) (w : Waiting) → Lawful t → Ties m t → find (is_ready m.seats.items) m.waiting.items ≡ Some w → (s : Begun) × (x : Message) × CanGive t w.op s x
+pub can_give : (m : Subscribe) (t : Moment) (w : WaitingReceive) → Lawful t → Ties m t → find (is_ready m.seats.items) m.waiting.items ≡ Some w → (s : Begun) × (x : RecordedMessage) × CanGive t w.op s x
 can_give m t w l h f =
     let a = allowed t l in
     let own : pending (past t) w.op ≡ Some (begun_of w) = subst (λ (ss : List Begun). find (is_of w.op) ss ≡ Some (begun_of w)) h.pending (find_own (is_ready m.seats.items) m.waiting.items w f (is_own m t a h)) in
@@ -300,7 +300,7 @@ can_give m t w l h f =
       },
     )
 
-all_wait : (m : Subscribe) (t : Moment) (ws : List Waiting) → AreAllowed t.z (past t) → Ties m t → AreHome (ctxs (past t)) (map begun_of ws) → find (is_ready m.seats.items) ws ≡ None → list_all (receive_settled t.z (past t)) (map begun_of ws) ≡ true
+all_wait : (m : Subscribe) (t : Moment) (ws : List WaitingReceive) → AreAllowed t.z (past t) → Ties m t → AreHome (ctxs (past t)) (map begun_of ws) → find (is_ready m.seats.items) ws ≡ None → list_all (receive_settled t.z (past t)) (map begun_of ws) ≡ true
 all_wait m t [] a h home f = refl
 all_wait m t (w ∷ ws) a h home f = go (keeps_at m.seats.items w.ctx) refl f (all_wait m t ws a h home.1)
   where
@@ -315,7 +315,7 @@ all_wait m t (w ∷ ws) a h home f = go (keeps_at m.seats.items w.ctx) refl f (a
         let none : is_nil (kept t.z (past t) w.ctx) ≡ true = turned _ (sym (keeps_of m t w.ctx a h home.0) ∙ e) in
         rw none (again q)
 
-no_sends : (z : Setting) (before : List Entry) (full : ℕ → Bool) (ws : List Waiting) → list_all (send_settled z before full) (map begun_of ws) ≡ true
+no_sends : (z : Setting) (before : List Entry) (full : ℕ → Bool) (ws : List WaitingReceive) → list_all (send_settled z before full) (map begun_of ws) ≡ true
 no_sends z before full [] = refl
 no_sends z before full (w ∷ ws) = no_sends z before full ws
 
@@ -341,9 +341,9 @@ place_of m t xs r h e f = g h.looked
     g : NoneBefore (is_ready m.seats.items) m.looked m.waiting.items → r ≡ position (is_ready m.seats.items) m.waiting.items
     g = subst (λ (ys : List SeatView). NoneBefore (is_ready ys) m.looked m.waiting.items → r ≡ position (is_ready ys) m.waiting.items) e f
 
-pub can_give_at : (m : Subscribe) (t : Moment) (xs : List SeatView) (i : ℕ) (w : Waiting) (r : Option ℕ) → Lawful t → Ties m t → xs ≡ m.seats.items → Some i ≡ r → (NoneBefore (is_ready xs) m.looked m.waiting.items → r ≡ position (is_ready xs) m.waiting.items) → w ≡ slice_index_or m.waiting.items i w
-    → (s : Begun) × (x : Message) × CanGive t w.op s x
-can_give_at m t xs i w r l h e f g k = can_give m t w l h (found_at (is_ready m.seats.items) m.waiting.items i w (sym (f ∙ place_of m t xs r h e g)) ∙ ap (λ (v : Waiting). Some v) (sym k))
+pub can_give_at : (m : Subscribe) (t : Moment) (xs : List SeatView) (i : ℕ) (w : WaitingReceive) (r : Option ℕ) → Lawful t → Ties m t → xs ≡ m.seats.items → Some i ≡ r → (NoneBefore (is_ready xs) m.looked m.waiting.items → r ≡ position (is_ready xs) m.waiting.items) → w ≡ slice_index_or m.waiting.items i w
+    → (s : Begun) × (x : RecordedMessage) × CanGive t w.op s x
+can_give_at m t xs i w r l h e f g k = can_give m t w l h (found_at (is_ready m.seats.items) m.waiting.items i w (sym (f ∙ place_of m t xs r h e g)) ∙ ap (λ (v : WaitingReceive). Some v) (sym k))
 
 pub idle_at : (m : Subscribe) (t : Moment) (xs : List SeatView) (r : Option ℕ) → Lawful t → Ties m t → xs ≡ m.seats.items → None ≡ r → (NoneBefore (is_ready xs) m.looked m.waiting.items → r ≡ position (is_ready xs) m.waiting.items) → IsIdle t
 idle_at m t xs r l h e f g = idle m t l h (not_found (is_ready m.seats.items) m.waiting.items (sym (f ∙ place_of m t xs r h e g)))
@@ -360,7 +360,7 @@ looked_ties m n t h s w k same =
     }
 
 -- up to the one that is ready
-pub looked_to : (m : Subscribe) (t : Moment) (xs : List SeatView) (i : ℕ) (d : Waiting) (r : Option ℕ) → Ties m t → xs ≡ m.seats.items → Some i ≡ r → (NoneBefore (is_ready xs) m.looked m.waiting.items → r ≡ position (is_ready xs) m.waiting.items) → NoneBefore (is_ready m.seats.items) i m.waiting.items
+pub looked_to : (m : Subscribe) (t : Moment) (xs : List SeatView) (i : ℕ) (d : WaitingReceive) (r : Option ℕ) → Ties m t → xs ≡ m.seats.items → Some i ≡ r → (NoneBefore (is_ready xs) m.looked m.waiting.items → r ≡ position (is_ready xs) m.waiting.items) → NoneBefore (is_ready m.seats.items) i m.waiting.items
 looked_to m t xs i d r h e f g = before_first (is_ready m.seats.items) m.waiting.items i d (f ∙ place_of m t xs r h e g)
 
 -- all
@@ -369,7 +369,7 @@ looked_all m t xs n r h e f l g = before_end (is_ready m.seats.items) m.waiting.
 
 -- ---- Begin
 
-pub begun_ties : (m n : Subscribe) (t : Moment) (w : Waiting) (deadline : Option ℕ) → Ties m t → n.waiting.items ≡ m.waiting.items ++ w ∷ [] → n.seats ≡ m.seats → n.looked ≡ m.looked → (n.raw ≡ m.raw) × (n.options ≡ m.options) → Ties n (also t (Begin w.op t.caller w.ctx Recv deadline))
+pub begun_ties : (m n : Subscribe) (t : Moment) (w : WaitingReceive) (deadline : Option ℕ) → Ties m t → n.waiting.items ≡ m.waiting.items ++ w ∷ [] → n.seats ≡ m.seats → n.looked ≡ m.looked → (n.raw ≡ m.raw) × (n.options ≡ m.options) → Ties n (also t (Begin w.op t.caller w.ctx Recv deadline))
 begun_ties m n t w deadline h e s k same =
     record {
       kind = rw (same.0, same.1) h.kind;
@@ -382,7 +382,7 @@ begun_ties m n t w deadline h e s k same =
 -- ---- Ends
 
 -- the pending operation
-pub the_op : (m : Subscribe) (t : Moment) (op : OpName) (s : Begun) → Ties m t → pending (past t) op ≡ Some s → (w : Waiting) × (find (is_for op) m.waiting.items ≡ Some w) × (begun_of w ≡ s)
+pub the_op : (m : Subscribe) (t : Moment) (op : OpName) (s : Begun) → Ties m t → pending (past t) op ≡ Some s → (w : WaitingReceive) × (find (is_for op) m.waiting.items ≡ Some w) × (begun_of w ≡ s)
 the_op m t op s h p =
     let q : find (is_of op) (map begun_of m.waiting.items) ≡ Some s = rw h.pending p in find_begun op m.waiting.items s q
 
@@ -391,19 +391,19 @@ none_taken m t op s h p f =
     let w = the_op m t op s h p in
     let no : None ≡ Some w.0 = f ∙ w.1 in absurd cc
 
-pub taken : (m : Subscribe) (t : Moment) (op : OpName) (s : Begun) (w : Waiting) → Ties m t → pending (past t) op ≡ Some s → Some w ≡ find (is_for op) m.waiting.items → begun_of w ≡ s
+pub taken : (m : Subscribe) (t : Moment) (op : OpName) (s : Begun) (w : WaitingReceive) → Ties m t → pending (past t) op ≡ Some s → Some w ≡ find (is_for op) m.waiting.items → begun_of w ≡ s
 taken m t op s w h p f =
     let v = the_op m t op s h p in
     let same : Some w ≡ Some v.0 = f ∙ v.1 in
     ap begun_of (inj v.0 same) ∙ v.2
   where
-    inj : (v : Waiting) → Some w ≡ Some v → w ≡ v
+    inj : (v : WaitingReceive) → Some w ≡ Some v → w ≡ v
     inj v q = cc
 
-left_over : (m : Subscribe) (t : Moment) (op : OpName) (ws : List Waiting) → AreAllowed t.z (past t) → Ties m t → ws ≡ without_first op m.waiting.items → map begun_of ws ≡ without_begun (pend (past t)) op
+left_over : (m : Subscribe) (t : Moment) (op : OpName) (ws : List WaitingReceive) → AreAllowed t.z (past t) → Ties m t → ws ≡ without_first op m.waiting.items → map begun_of ws ≡ without_begun (pend (past t)) op
 left_over m t op ws a h e = ap (map begun_of) e ∙ without_all op m.waiting.items (is_own m t a h op) ∙ ap (λ (ss : List Begun). without_begun ss op) h.pending
 
-pub lost_ties : (m n : Subscribe) (t : Moment) (op : OpName) (cause : Cause) (by : ℕ) → AreAllowed t.z (past t) → Ties m t → n.waiting.items ≡ without_first op m.waiting.items → n.seats ≡ m.seats → ((P : Waiting → Bool) → NoneBefore P m.looked m.waiting.items → NoneBefore P n.looked n.waiting.items) → (n.raw ≡ m.raw) × (n.options ≡ m.options) → Ties n (also t (End op (Gone cause by)))
+pub lost_ties : (m n : Subscribe) (t : Moment) (op : OpName) (cause : Cause) (by : ℕ) → AreAllowed t.z (past t) → Ties m t → n.waiting.items ≡ without_first op m.waiting.items → n.seats ≡ m.seats → ((P : WaitingReceive → Bool) → NoneBefore P m.looked m.waiting.items → NoneBefore P n.looked n.waiting.items) → (n.raw ≡ m.raw) × (n.options ≡ m.options) → Ties n (also t (End op (Gone cause by)))
 lost_ties m n t op cause by a h e s k same =
     record {
       kind = rw (same.0, same.1) h.kind;
@@ -413,15 +413,15 @@ lost_ties m n t op cause by a h e s k same =
       looked = rw s (k (is_ready m.seats.items) h.looked);
     }
 
-pub no_message : (s : Begun) (w : Waiting) → begun_of w ≡ s → None ≡ message_of s.act
+pub no_message : (s : Begun) (w : WaitingReceive) → begun_of w ≡ s → None ≡ message_of s.act
 no_message s w e = ap (λ (q : Begun). message_of q.act) e
 
-pub never_sent : {A : Type 0} (t : Moment) (op : OpName) (p : ℕ) (s : Begun) (b : List ℕ) (w : Waiting) → CanSend t op p s b → begun_of w ≡ s → A
+pub never_sent : {A : Type 0} (t : Moment) (op : OpName) (p : ℕ) (s : Begun) (b : List ℕ) (w : WaitingReceive) → CanSend t op p s b → begun_of w ≡ s → A
 never_sent t op p s b w c e =
     let act : s.act ≡ Recv = ap (λ (q : Begun). q.act) (sym e) in
     let k : false ≡ true = rw act at c.target in absurd cc
 
-pub never_dropped : {A : Type 0} (t : Moment) (op : OpName) (s : Begun) (w : Waiting) → CanDrop t op s → begun_of w ≡ s → A
+pub never_dropped : {A : Type 0} (t : Moment) (op : OpName) (s : Begun) (w : WaitingReceive) → CanDrop t op s → begun_of w ≡ s → A
 never_dropped t op s w c e =
     let act : s.act ≡ Recv = ap (λ (q : Begun). q.act) (sym e) in
     let k : true ≡ false = rw act at c.is_send in absurd cc
@@ -430,7 +430,7 @@ never_dropped t op s w c e =
 pub never_sends : {A : Type 0} (m : Subscribe) (t : Moment) (op : OpName) (p : ℕ) (s : Begun) (b : List ℕ) → Ties m t → CanSend t op p s b → A
 never_sends m t op p s b h c = let w = the_op m t op s h c.pending in never_sent t op p s b w.0 c w.2
 
-module _ (m n : Subscribe) (t : Moment) (op : OpName) (s : Begun) (text : Message) (l : Lawful t) (h : Ties m t) (c : CanGive t op s text) where
+module _ (m n : Subscribe) (t : Moment) (op : OpName) (s : Begun) (text : RecordedMessage) (l : Lawful t) (h : Ties m t) (c : CanGive t op s text) where
   a : AreAllowed t.z (past t)
   a = allowed t l
 
@@ -449,7 +449,7 @@ module _ (m n : Subscribe) (t : Moment) (op : OpName) (s : Begun) (text : Messag
   on : (e : ℕ) → is_on_pool t.z e (pending (past t) op) ≡ (s.ctx == e)
   on e = ap (is_on_pool t.z e) c.pending ∙ ap (λ n. n == e) (pool_home t.z (past t) s.ctx (is_sub m t h) a home)
 
-  pub given_ties : (xs : List SeatView) → xs ≡ m.seats.items → n.seats.items ≡ with_found (is_home s.ctx) given_from xs → n.waiting.items ≡ without_first op m.waiting.items → ((P : Waiting → Bool) → NoneBefore P m.looked m.waiting.items → NoneBefore P n.looked n.waiting.items) → (n.raw ≡ m.raw) × (n.options ≡ m.options) → Ties n (also t (End op (Won (Received text))))
+  pub given_ties : (xs : List SeatView) → xs ≡ m.seats.items → n.seats.items ≡ with_found (is_home s.ctx) given_from xs → n.waiting.items ≡ without_first op m.waiting.items → ((P : WaitingReceive → Bool) → NoneBefore P m.looked m.waiting.items → NoneBefore P n.looked n.waiting.items) → (n.raw ≡ m.raw) × (n.options ≡ m.options) → Ties n (also t (End op (Won (Received text))))
   given_ties xs e f w k same =
       record {
         kind = rw (same.0, same.1) h.kind;
@@ -462,7 +462,7 @@ module _ (m n : Subscribe) (t : Moment) (op : OpName) (s : Begun) (text : Messag
       itself : (k : ℕ) → (k == k) ≡ true
       itself k = grind (arith, nat_tests)
 
-      nothing_more : (x : Waiting) → is_ready m.seats.items x ≡ false → is_ready n.seats.items x ≡ false
+      nothing_more : (x : WaitingReceive) → is_ready m.seats.items x ≡ false → is_ready n.seats.items x ≡ false
       nothing_more x q = ap (λ (ys : List SeatView). keeps_at ys x.ctx) (f ∙ ap (with_found (is_home s.ctx) given_from) e) ∙ given_kept (is_home s.ctx) m.seats.items x.ctx q
 
       fewer : (is : List Item) → drop 1 (map view_of is) ≡ map view_of (drop 1 is)
@@ -478,11 +478,11 @@ module _ (m n : Subscribe) (t : Moment) (op : OpName) (s : Begun) (text : Messag
       others : (k : ℕ) → has (ctxs (past t)) k ≡ true → (s.ctx == k) ≡ false → seat_at m.options.queue (pools t) (tops t) k ≡ seat_at m.options.queue (pools (also t (End op (Won (Received text))))) (tops t) k
       others k q f = ap (λ (is : List Item). let x : SeatView = record { ctx = k; topics = tops t k; places = m.options.queue; kept = map view_of is } in x) (sym (now_is k false f))
 
-pub gives_from : (m n : Subscribe) (t : Moment) (op : OpName) (s : Begun) (text : Message) → Lawful t → Ties m t → CanGive t op s text → (w : Waiting) → begun_of w ≡ s → (r : Option MessageView) (xs : List SeatView) → xs ≡ m.seats.items → r ≡ first_in (find (is_home w.ctx) xs) → option_map text_of r ≡ Some text
+pub gives_from : (m n : Subscribe) (t : Moment) (op : OpName) (s : Begun) (text : RecordedMessage) → Lawful t → Ties m t → CanGive t op s text → (w : WaitingReceive) → begun_of w ≡ s → (r : Option MessageView) (xs : List SeatView) → xs ≡ m.seats.items → r ≡ first_in (find (is_home w.ctx) xs) → option_map text_of r ≡ Some text
 gives_from m n t op s text l h c w own r xs e f = gives m n t op s text l h c r xs e (f ∙ ap (λ (q : Begun). first_in (find (is_home q.ctx) xs)) own)
 
-pub given_from_ties : (m n : Subscribe) (t : Moment) (op : OpName) (s : Begun) (text : Message) → Lawful t → Ties m t → CanGive t op s text → (w : Waiting) → begun_of w ≡ s → (xs : List SeatView) → xs ≡ m.seats.items → n.seats.items ≡ with_found (is_home w.ctx) given_from xs → n.waiting.items ≡ without_first op m.waiting.items
-    → ((P : Waiting → Bool) → NoneBefore P m.looked m.waiting.items → NoneBefore P n.looked n.waiting.items) → (n.raw ≡ m.raw) × (n.options ≡ m.options) → Ties n (also t (End op (Won (Received text))))
+pub given_from_ties : (m n : Subscribe) (t : Moment) (op : OpName) (s : Begun) (text : RecordedMessage) → Lawful t → Ties m t → CanGive t op s text → (w : WaitingReceive) → begun_of w ≡ s → (xs : List SeatView) → xs ≡ m.seats.items → n.seats.items ≡ with_found (is_home w.ctx) given_from xs → n.waiting.items ≡ without_first op m.waiting.items
+    → ((P : WaitingReceive → Bool) → NoneBefore P m.looked m.waiting.items → NoneBefore P n.looked n.waiting.items) → (n.raw ≡ m.raw) × (n.options ≡ m.options) → Ties n (also t (End op (Won (Received text))))
 given_from_ties m n t op s text l h c w own xs e f g k same = given_ties m n t op s text l h c xs e (f ∙ ap (λ (q : Begun). with_found (is_home q.ctx) given_from xs) own) g k same
 
 -- ---- Contexts

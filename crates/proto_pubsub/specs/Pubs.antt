@@ -2,14 +2,14 @@
 use Rattle.std.specs.Prelude.{◌≡◌, ℕ, Bool, ⊤, List, [], ◌∷◌, length}
 use Rattle.sp_base.specs.declared.role.Role.TheVariants as role
 use Rattle.sp_msg.specs.Views.{MessageView}
-use Rattle.sp_history.specs.declared.entry.Act.{Act}
-use Rattle.sp_history.specs.declared.entry.Act.TheVariants.{Recv, Send}
+use Rattle.sp_history.specs.declared.entry.RecordedAct.{RecordedAct}
+use Rattle.sp_history.specs.declared.entry.RecordedAct.TheVariants.{Recv, Send}
 use Rattle.sp_history.specs.declared.parts.Begun.{Begun}
 use Rattle.sp_history.specs.declared.parts.Item.{Item}
 use Rattle.sp_history.specs.declared.setting.Options.{Options}
 use Rattle.sp_history.specs.Moments.{Moment}
 use Rattle.sp_proto.specs.Kinds.{Kind}
-use Rattle.sp_proto.specs.Readings.{Reading, reading}
+use Rattle.sp_proto.specs.Readings.{MomentReading, reading}
 use Rattle.proto_floods.specs.Copies.{AreCopies, HasFlood}
 use Rattle.proto_pending.specs.Waits.{Holds, count, room}
 use Rattle.proto_pubsub.specs.declared.publish.Publish.{Publish}
@@ -26,7 +26,7 @@ abbrev pub places_left : Publish → ℕ
 places_left m = room m.pending
 
 -- the copies are those of the send
-abbrev pub IsFlood : List MessageView → Act → Type 0
+abbrev pub IsFlood : List MessageView → RecordedAct → Type 0
 IsFlood copies Recv = ⊤
 IsFlood copies (Send m) = AreCopies m.body copies
 
@@ -39,7 +39,7 @@ pub record Shows (m : Publish) (k : Kind) (us : List ℕ) (is : List Item) (ss :
   pub contexts : cs ≡ 0 ∷ []
 
 -- it shows what it reads of a moment
-abbrev pub Stands : Publish → Reading → Type 0
+abbrev pub Stands : Publish → MomentReading → Type 0
 Stands m r = Shows m r.kind r.up (r.pool 0) r.pend r.ctxs
 
 abbrev pub Ties : Publish → Moment → Type 0

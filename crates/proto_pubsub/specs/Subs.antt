@@ -4,7 +4,7 @@ use Rattle.std.specs.List.{list_any}
 use Rattle.sp_base.specs.declared.OpName.{OpName}
 use Rattle.sp_base.specs.declared.role.Role.TheVariants as role
 use Rattle.sp_msg.specs.Views.{MessageView}
-use Rattle.sp_history.specs.declared.entry.Act.TheVariants.{Recv}
+use Rattle.sp_history.specs.declared.entry.RecordedAct.TheVariants.{Recv}
 use Rattle.sp_history.specs.declared.parts.Begun.{Begun}
 use Rattle.sp_history.specs.declared.parts.Item.{Item}
 use Rattle.sp_history.specs.declared.entry.Entry.{Entry}
@@ -15,10 +15,10 @@ use Rattle.sp_history.specs.Kept.{pool, takes}
 use Rattle.sp_history.specs.Past.{ctxs}
 use Rattle.sp_history.specs.Moments.{Moment}
 use Rattle.sp_proto.specs.Kinds.{Kind}
-use Rattle.sp_proto.specs.Readings.{Reading, reading}
+use Rattle.sp_proto.specs.Readings.{MomentReading, reading}
 use Rattle.proto_pubsub.specs.Seats.{SeatView, is_home, AreOrdered}
 use Rattle.proto_pubsub.specs.declared.subscribe.Subscribe.{Subscribe}
-use Rattle.proto_pubsub.specs.declared.subscribe.Waiting.{Waiting}
+use Rattle.proto_pubsub.specs.declared.subscribe.WaitingReceive.{WaitingReceive}
 
 abbrev pub sub_kind : Bool → Options → Kind
 sub_kind raw options = record { role = role.Sub; raw = raw; options = options }
@@ -31,14 +31,14 @@ view_of i = record { header = i.message.header; body = i.message.body }
 abbrev pub seat_at : ℕ → (ℕ → List Item) → (ℕ → List (List ℕ)) → ℕ → SeatView
 seat_at places is ts c = record { ctx = c; topics = ts c; places = places; kept = map view_of (is c) }
 
-abbrev pub begun_of : Waiting → Begun
+abbrev pub begun_of : WaitingReceive → Begun
 begun_of w = record { op = w.op; ctx = w.ctx; act = Recv }
 
-abbrev pub is_for : OpName → Waiting → Bool
+abbrev pub is_for : OpName → WaitingReceive → Bool
 is_for op w = same_op w.op op
 
 -- without the first of this name
-abbrev pub without_first : OpName → List Waiting → List Waiting
+abbrev pub without_first : OpName → List WaitingReceive → List WaitingReceive
 without_first op [] = []
 without_first op (w ∷ ws) = if is_for op w then ws else w ∷ without_first op ws
 
@@ -52,7 +52,7 @@ abbrev pub keeps_at : List SeatView → ℕ → Bool
 keeps_at xs c = is_kept (find (is_home c) xs)
 
 -- something is kept for the receive
-abbrev pub is_ready : List SeatView → Waiting → Bool
+abbrev pub is_ready : List SeatView → WaitingReceive → Bool
 is_ready xs w = keeps_at xs w.ctx
 
 -- none of the elements before the place passes the test
@@ -69,7 +69,7 @@ pub record Shows (m : Subscribe) (k : Kind) (is : ℕ → List Item) (ts : ℕ �
   pub looked : NoneBefore (is_ready m.seats.items) m.looked m.waiting.items
 
 -- it shows what it reads of a moment
-abbrev pub Stands : Subscribe → Reading → Type 0
+abbrev pub Stands : Subscribe → MomentReading → Type 0
 Stands m r = Shows m r.kind r.pool r.topics r.ctxs r.pend
 
 abbrev pub Ties : Subscribe → Moment → Type 0

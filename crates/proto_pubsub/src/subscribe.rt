@@ -17,7 +17,7 @@ ghost use Rattle.sp_proto.specs.Kinds.{Starts};
 ghost use Rattle.sp_proto.specs.Machines.{Frames};
 ghost use Rattle.proto_pubsub.specs.Seats.{kept_in, takes_frame, emptied, fresh_seat, given_from, is_home, first_in, with_found, SwitchesIn, StopsAt, SeatView, InOrder};
 ghost use Rattle.proto_pubsub.specs.Subs.{Ties, NeedsCopy, sub_kind, is_for, is_ready, keeps_at, without_first, NoneBefore};
-ghost use Rattle.proto_pubsub.specs.declared.subscribe.Waiting.{Waiting as WaitingType};
+ghost use Rattle.proto_pubsub.specs.declared.subscribe.WaitingReceive.{WaitingReceive as WaitingReceiveType};
 
 use crate::seats::Seat;
 use sp_base::{Ctx, NoMemory, OpName, PipeId, Role, Tick};
@@ -29,7 +29,7 @@ use std::collections::VecDeque;
 
 /// A receive that waits.
 #[derive(Clone, Copy)]
-struct Waiting {
+struct WaitingReceive {
     op: OpName,
     ctx: Ctx,
 }
@@ -43,7 +43,7 @@ pub struct Subscribe {
     /// In the order in which they were opened, which is that of their numbers.
     seats: Vec<Seat>,
     /// In the order of their begins.
-    waiting: VecDeque<Waiting>,
+    waiting: VecDeque<WaitingReceive>,
     /// Nothing is kept for the receives before this place.
     looked: usize,
 }
@@ -88,7 +88,7 @@ fn keeps_for(seats: &[Seat], c: Ctx) -> bool
 }
 
 // Where the first receive stands for which something is kept. Those before the place are not looked at.
-fn ready_place(seats: &[Seat], waiting: &VecDeque<Waiting>, looked: usize) -> Option<usize>
+fn ready_place(seats: &[Seat], waiting: &VecDeque<WaitingReceive>, looked: usize) -> Option<usize>
     ensures place { InOrder seats.now → NoneBefore (is_ready seats.now) looked waiting.now.items → result ≡ position (is_ready seats.now) waiting.now.items }
     ensures inside { (i : ℕ) → result ≡ Some i → i < deque_len waiting.now }
 {
@@ -101,7 +101,7 @@ fn ready_place(seats: &[Seat], waiting: &VecDeque<Waiting>, looked: usize) -> Op
 }
 
 // Where the operation stands.
-fn place_of(waiting: &VecDeque<Waiting>, op: OpName) -> Option<usize>
+fn place_of(waiting: &VecDeque<WaitingReceive>, op: OpName) -> Option<usize>
     ensures { result ≡ position (is_for op) waiting.now.items }
 {
     waiting.iter().position(|w| w.op.slot == op.slot && w.op.generation == op.generation)
@@ -116,12 +116,16 @@ fn moved(looked: usize, i: usize) -> usize
 }
 
 // Takes the operation out.
-fn take(waiting: &mut VecDeque<Waiting>, looked: &mut usize, op: OpName) -> Option<Waiting>
+fn take(
+    waiting: &mut VecDeque<WaitingReceive>,
+    looked: &mut usize,
+    op: OpName,
+) -> Option<WaitingReceive>
     ensures found { result ≡ find (is_for op) waiting.old.items }
     ensures rest { waiting.new.items ≡ without_first op waiting.old.items }
     ensures len { deque_len waiting.new + length (option_to_list result) ≡ deque_len waiting.old }
     ensures capacity { deque_capacity waiting.new ≡ deque_capacity waiting.old }
-    ensures looked { (P : WaitingType → Bool) → NoneBefore P looked.old waiting.old.items → NoneBefore P looked.new waiting.new.items }
+    ensures looked { (P : WaitingReceiveType → Bool) → NoneBefore P looked.old waiting.old.items → NoneBefore P looked.new waiting.new.items }
 {
     match place_of(waiting, op) {
         None => None,
@@ -331,7 +335,8 @@ impl Proto for Subscribe {
         match act {
             Act::Send(m) => Err(m),
             Act::Recv => {
-                self.waiting.push_back_reserved(Waiting { op, ctx: c });
+                self.waiting
+                    .push_back_reserved(WaitingReceive { op, ctx: c });
                 Ok(())
             }
         }

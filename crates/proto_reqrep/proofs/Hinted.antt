@@ -7,15 +7,15 @@ use Rattle.sp_base.specs.declared.OpName.{OpName}
 use Rattle.sp_history.specs.Lists.{has, head_of}
 use Rattle.proto_reqrep.specs.declared.req.Live.{Live}
 use Rattle.proto_reqrep.specs.declared.req.Asking.{Asking}
-use Rattle.proto_reqrep.specs.declared.req.Kept.{Kept}
+use Rattle.proto_reqrep.specs.declared.req.KeptReply.{KeptReply}
 use Rattle.sp_msg.specs.Views.{MessageView}
 use Rattle.proto_reqrep.specs.declared.req.Request.{Request as Machine}
 use Rattle.proto_reqrep.specs.Hints.{HintsView, covers}
 use Rattle.proto_reqrep.specs.Reqs.{Asks, without_live, is_live_on, answers, is_missed, AreReady, IsReply, ready_on, keeps_reply, is_sending, is_receiving_on, orphaned, without_found, with_found, with_reply, with_kept, waits_for, live_ctx}
 use Rattle.proto_reqrep.proofs.Backlogged.{both_false, equal_of}
-use Rattle.proto_reqrep.proofs.Living.{same_number}
+use Rattle.proto_reqrep.proofs.RequestLives.{same_number}
 use Rattle.proto_reqrep.proofs.Calming.{none_as}
-use Rattle.proto_reqrep.proofs.Noted.{any_less, any_more}
+use Rattle.proto_reqrep.proofs.KnownOperations.{any_less, any_more}
 
 -- ---- Bools
 
@@ -71,7 +71,7 @@ module _ (q : ℕ) where
       go false f = let bad : true ≡ false = sym h ∙ any_more (keeps_reply q) xs ys x e f k in absurd cc
 
   -- with one reply more
-  pub keeps_more : (id : ℕ) (k : Kept) (xs : List Live) → list_any (keeps_reply q) (with_reply id k xs) ≡ true → (list_any (keeps_reply q) xs ≡ true) ⊎ (option_map live_ctx (find (waits_for id) xs) ≡ Some q)
+  pub keeps_more : (id : ℕ) (k : KeptReply) (xs : List Live) → list_any (keeps_reply q) (with_reply id k xs) ≡ true → (list_any (keeps_reply q) xs ≡ true) ⊎ (option_map live_ctx (find (waits_for id) xs) ≡ Some q)
   keeps_more id k [] h = inl h
   keeps_more id k (x ∷ xs) h = go (waits_for id x) h (keeps_more id k xs)
     where
@@ -239,7 +239,7 @@ ready_begun h g xs ws w c e s o r = ready_more g xs ws (ws ++ w ∷ []) w refl (
     at_it = go o
 
 -- one reply more is kept
-pub ready_kept : (h g : HintsView) (xs ys : List Live) (ws : List Asking) (id : ℕ) (k : Kept) (c : ℕ) → ys ≡ with_reply id k xs → Some c ≡ option_map live_ctx (find (waits_for id) xs) → covers g c ≡ true → ((q : ℕ) → covers h q ≡ true → covers g q ≡ true) → AreReady h xs ws → AreReady g ys ws
+pub ready_kept : (h g : HintsView) (xs ys : List Live) (ws : List Asking) (id : ℕ) (k : KeptReply) (c : ℕ) → ys ≡ with_reply id k xs → Some c ≡ option_map live_ctx (find (waits_for id) xs) → covers g c ≡ true → ((q : ℕ) → covers h q ≡ true → covers g q ≡ true) → AreReady h xs ws → AreReady g ys ws
 ready_kept h g xs ys ws id k c e f v s r = ready_answered h g xs ys ws s (λ q n. go q (keeps_more q id k xs (ap (list_any (keeps_reply q)) (sym e) ∙ n))) r
   where
     go : (q : ℕ) → (list_any (keeps_reply q) xs ≡ true) ⊎ (option_map live_ctx (find (waits_for id) xs) ≡ Some q) → (list_any (keeps_reply q) xs ≡ true) ⊎ (covers g q ≡ true)
@@ -247,7 +247,7 @@ ready_kept h g xs ys ws id k c e f v s r = ready_answered h g xs ys ws s (λ q n
     go q (inr n) = let same : c ≡ q = some_is c q (f ∙ n) in inr (ap (covers g) (sym same) ∙ v)
 
 -- none waits for the reply
-pub ready_unkept : (h : HintsView) (xs ys : List Live) (ws : List Asking) (id : ℕ) (k : Kept) → ys ≡ with_reply id k xs → None ≡ option_map live_ctx (find (waits_for id) xs) → AreReady h xs ws → AreReady h ys ws
+pub ready_unkept : (h : HintsView) (xs ys : List Live) (ws : List Asking) (id : ℕ) (k : KeptReply) → ys ≡ with_reply id k xs → None ≡ option_map live_ctx (find (waits_for id) xs) → AreReady h xs ws → AreReady h ys ws
 ready_unkept h xs ys ws id k e f r = ready_live h xs ys ws (λ q n. go q (keeps_more q id k xs (ap (list_any (keeps_reply q)) (sym e) ∙ n))) r
   where
     go : (q : ℕ) → (list_any (keeps_reply q) xs ≡ true) ⊎ (option_map live_ctx (find (waits_for id) xs) ≡ Some q) → list_any (keeps_reply q) xs ≡ true
@@ -290,7 +290,7 @@ or_both false b d k h = k h
 -- a request begins
 pub asked_ready : (m n : Machine) (c : ℕ) (body : List ℕ) (op : OpName) (x : MessageView) (ws : List Asking) → Asks c body m n → ws ≡ n.waiting.items ++ record { op = op; ctx = c; message = Some x; is_orphan = false } ∷ [] → AreReady m.ready m.live.items m.waiting.items → AreReady n.ready n.live.items ws
 asked_ready m n c body op x ws a e r =
-    let bare : (q : ℕ) → keeps_reply q a.0 ≡ false = λ q. ap (λ (o : Option Kept). (a.0.ctx == q) && is_some o) a.1.6 ∙ none (a.0.ctx == q) in
+    let bare : (q : ℕ) → keeps_reply q a.0 ≡ false = λ q. ap (λ (o : Option KeptReply). (a.0.ctx == q) && is_some o) a.1.6 ∙ none (a.0.ctx == q) in
     let live = ready_live m.ready m.live.items n.live.items m.waiting.items (λ q k. keeps_less q (is_live_on c) m.live.items (without_live c m.live.items) refl (keeps_new q (without_live c m.live.items) n.live.items a.0 (bare q) a.3 k)) r in
     let left = ready_marked m.ready n.live.items c m.waiting.items n.waiting.items a.4 live in
     rw a.13 (ready_more m.ready n.live.items n.waiting.items ws (record { op = op; ctx = c; message = Some x; is_orphan = false }) e refl left)

@@ -7,7 +7,7 @@ use Rattle.std.proofs.lemmas.Bool.Decides.{nat_tests}
 use Rattle.sp_base.specs.declared.role.Role.{Role}
 use Rattle.sp_history.specs.declared.setting.Setting.{Setting}
 use Rattle.sp_history.specs.declared.entry.Entry.{Entry}
-use Rattle.sp_history.specs.declared.entry.Act.TheVariants.{Recv}
+use Rattle.sp_history.specs.declared.entry.RecordedAct.TheVariants.{Recv}
 use Rattle.sp_history.specs.declared.parts.Begun.{Begun}
 use Rattle.sp_history.specs.Lists.{has, is_nil, is_number, same_op}
 use Rattle.sp_history.specs.Setting.{is_reply}
@@ -23,19 +23,19 @@ use Rattle.sp_history.proofs.OnceHolds.{same_op-refl}
 use Rattle.sp_proto.specs.Kinds.{text_of}
 use Rattle.sp_proto.specs.Machines.{CanGive, CanSend, CanDrop, IsIdle}
 use Rattle.proto_reqrep.specs.declared.rep.Reply.{Reply}
-use Rattle.proto_reqrep.specs.declared.rep.Kept.{Kept}
+use Rattle.proto_reqrep.specs.declared.rep.KeptRequest.{KeptRequest}
 use Rattle.proto_reqrep.specs.declared.rep.Answer.{Answer}
-use Rattle.proto_reqrep.specs.declared.rep.Waiting.{Waiting}
-use Rattle.proto_reqrep.specs.Ports.{Port}
-use Rattle.proto_reqrep.specs.declared.ports.Way.{Way}
-use Rattle.proto_reqrep.specs.declared.ports.Way.TheVariants as ways
+use Rattle.proto_reqrep.specs.declared.rep.ReplyOperation.{ReplyOperation}
+use Rattle.proto_reqrep.specs.Ports.{PortView}
+use Rattle.proto_reqrep.specs.declared.ports.Destination.{Destination}
+use Rattle.proto_reqrep.specs.declared.ports.Destination.TheVariants as ways
 use Rattle.proto_reqrep.specs.Ports.{port_of}
 use Rattle.proto_reqrep.specs.Reps.{Ties, item_of, origin_of, begun_of, act_of, is_receive, is_ready, can_go, isnt_full, target_of, way_of, out_text, Routed}
-use Rattle.proto_reqrep.proofs.Taking.{find_own}
+use Rattle.proto_reqrep.proofs.OperationsLeft.{find_own}
 use Rattle.proto_reqrep.proofs.Piping.{goes_on, is_full_at, nowhere_up, has_number, all_full}
 use Rattle.proto_reqrep.specs.Reps.{send_offer, answer_offer, way_offer}
 use Rattle.std.proofs.Common.{inl, inr}
-use Rattle.proto_reqrep.proofs.Ended.{targets_are, route_of, out_bytes}
+use Rattle.proto_reqrep.proofs.RepEnds.{targets_are, route_of, out_bytes}
 use Rattle.sp_proto.specs.Machines.{IsOffered}
 use Rattle.sp_proto.specs.declared.Offer.{Offer}
 use Rattle.sp_history.specs.Sends.{targets_of, bytes_of_act}
@@ -48,7 +48,7 @@ use Rattle.sp_history.specs.Requests.{asked, no_requests}
 -- ---- The first that passes a test
 
 -- what is ready is a send
-pub ready_sends : (raw : Bool) (xs : List Port) (w : Waiting) → is_ready raw xs w ≡ true → is_some w.answer ≡ true
+pub ready_sends : (raw : Bool) (xs : List PortView) (w : ReplyOperation) → is_ready raw xs w ≡ true → is_some w.answer ≡ true
 ready_sends raw xs w h = go w.answer h
   where
     go : (r : Option Answer) → can_go raw xs r ≡ true → is_some r ≡ true
@@ -60,7 +60,7 @@ ready_sends raw xs w h = go w.answer h
 both : (a b : Bool) → a ≡ true → b ≡ true → (a && b) ≡ true
 both a b h k = rw (h, k) refl
 
-receives_kept : (y : ReplyRole) (z : Setting) (before : List Entry) (ws : List Waiting) → z.role ≡ role_of y → pool z before 0 ≡ [] → list_all (receive_settled z before) (map begun_of ws) ≡ true
+receives_kept : (y : ReplyRole) (z : Setting) (before : List Entry) (ws : List ReplyOperation) → z.role ≡ role_of y → pool z before 0 ≡ [] → list_all (receive_settled z before) (map begun_of ws) ≡ true
 receives_kept y z before [] h e = refl
 receives_kept y z before (w ∷ ws) h e = both _ _ (either (is_recv (act_of w.answer)) (ap is_nil (kept_rep y z before w.ctx h ∙ e))) (receives_kept y z before ws h e)
   where
@@ -68,7 +68,7 @@ receives_kept y z before (w ∷ ws) h e = both _ _ (either (is_recv (act_of w.an
     either true k = k
     either false k = refl
 
-receives_none : (z : Setting) (before : List Entry) (ws : List Waiting) → find is_receive ws ≡ None → list_all (receive_settled z before) (map begun_of ws) ≡ true
+receives_none : (z : Setting) (before : List Entry) (ws : List ReplyOperation) → find is_receive ws ≡ None → list_all (receive_settled z before) (map begun_of ws) ≡ true
 receives_none z before [] h = refl
 receives_none z before (w ∷ ws) h = go w.answer h (receives_none z before ws)
   where
@@ -90,18 +90,18 @@ not_nil (u ∷ us) q h = go (q == u) refl (u == q) refl h (not_nil us q)
     go false e false f h again = again h
 
 -- a send that isn't ready finds its pipe full
-full_targets : (y : ReplyRole) (z : Setting) (before : List Entry) (full : ℕ → Bool) (raw : Bool) (w : Waiting) (r : Answer) → z.role ≡ role_of y → z.raw ≡ raw → w.answer ≡ Some r → option_map origin_of r.source ≡ route z before w.op
+full_targets : (y : ReplyRole) (z : Setting) (before : List Entry) (full : ℕ → Bool) (raw : Bool) (w : ReplyOperation) (r : Answer) → z.role ≡ role_of y → z.raw ≡ raw → w.answer ≡ Some r → option_map origin_of r.source ≡ route z before w.op
     → isnt_full (way_of raw (map (port_of full) (up before)) r) ≡ false → (q : ℕ) × (targets z before (begun_of w) ≡ filter (is_number (Some q)) (up before)) × (has (up before) q ≡ true) × (full q ≡ true)
 full_targets y z before full raw w r h k e o f =
     let at = is_full_at full (up before) (target_of raw r) (is_full_way (way_of raw (map (port_of full) (up before)) r) f) in
     (at.0, targets_are y z before raw w r h k e o ∙ ap (λ (to : Option ℕ). filter (is_number to) (up before)) at.1, at.2, at.3)
   where
-    is_full_way : (x : Way) → isnt_full x ≡ false → x ≡ ways.Full
+    is_full_way : (x : Destination) → isnt_full x ≡ false → x ≡ ways.Full
     is_full_way ways.Full h = refl
     is_full_way ways.Nowhere h = absurd cc
     is_full_way (ways.To p) h = absurd cc
 
-settled_send : (y : ReplyRole) (z : Setting) (before : List Entry) (full : ℕ → Bool) (raw : Bool) (w : Waiting) → z.role ≡ role_of y → z.raw ≡ raw → ((r : Answer) → w.answer ≡ Some r → option_map origin_of r.source ≡ route z before w.op)
+settled_send : (y : ReplyRole) (z : Setting) (before : List Entry) (full : ℕ → Bool) (raw : Bool) (w : ReplyOperation) → z.role ≡ role_of y → z.raw ≡ raw → ((r : Answer) → w.answer ≡ Some r → option_map origin_of r.source ≡ route z before w.op)
     → is_ready raw (map (port_of full) (up before)) w ≡ false → send_settled z before full (begun_of w) ≡ true
 settled_send y z before full raw w h k o f = go w.answer refl
   where
@@ -115,7 +115,7 @@ settled_send y z before full raw w h k o f = go w.answer refl
         let at = full_targets y z before full raw w r h k e (o r e) (sym (ap (λ (x : Option Answer). can_go raw (map (port_of full) (up before)) x) e) ∙ f) in
         holds (is_recv (act_of w.answer)) (targets z before (begun_of w)) at.0 at.1 at.2 at.3
 
-sends_settled : (y : ReplyRole) (z : Setting) (before : List Entry) (full : ℕ → Bool) (raw : Bool) (ws : List Waiting) → z.role ≡ role_of y → z.raw ≡ raw → Routed (λ o. route z before o) ws → find (is_ready raw (map (port_of full) (up before))) ws ≡ None
+sends_settled : (y : ReplyRole) (z : Setting) (before : List Entry) (full : ℕ → Bool) (raw : Bool) (ws : List ReplyOperation) → z.role ≡ role_of y → z.raw ≡ raw → Routed (λ o. route z before o) ws → find (is_ready raw (map (port_of full) (up before))) ws ≡ None
     → list_all (send_settled z before full) (map begun_of ws) ≡ true
 sends_settled y z before full raw [] h k o f = refl
 sends_settled y z before full raw (w ∷ ws) h k o f = go (is_ready raw (map (port_of full) (up before)) w) refl f (sends_settled y z before full raw ws h k o.1)
@@ -131,7 +131,7 @@ idle m t h r f =
       settled =
           record {
             receives = rw (← h.pending) (receives r);
-            sends = rw (← h.pending) (sends_settled m.role t.z (past t) (λ q. has_full t.turn q) m.raw m.waiting.items (is_rep m t h) (is_raw m t h) h.routed (ap (λ (xs : List Port). find (is_ready m.raw xs) m.waiting.items) (sym h.pipes.ports) ∙ f));
+            sends = rw (← h.pending) (sends_settled m.role t.z (past t) (λ q. has_full t.turn q) m.raw m.waiting.items (is_rep m t h) (is_raw m t h) h.routed (ap (λ (xs : List PortView). find (is_ready m.raw xs) m.waiting.items) (sym h.pipes.ports) ∙ f));
             again = λ q. let k : false ≡ true = sym (no_resends m.role t.z (is_rep m t h)) ∙ q in absurd cc;
             finished = ap (λ b. (cond b (asked t.z (past t)) no_requests).orphans) (asks_nothing m.role t.z (is_rep m t h));
           };
@@ -144,7 +144,7 @@ idle m t h r f =
 
 -- ---- Give
 
-first_on : (ws : List Waiting) (w : Waiting) → find is_receive ws ≡ Some w → option_map (λ (s : Begun). s.op) (find (is_recv_on w.ctx) (map begun_of ws)) ≡ Some w.op
+first_on : (ws : List ReplyOperation) (w : ReplyOperation) → find is_receive ws ≡ Some w → option_map (λ (s : Begun). s.op) (find (is_recv_on w.ctx) (map begun_of ws)) ≡ Some w.op
 first_on [] w h = absurd cc
 first_on (v ∷ ws) w h = go v.answer refl h (first_on ws w)
   where
@@ -159,12 +159,12 @@ first_on (v ∷ ws) w h = go v.answer refl h (first_on ws w)
     go None e h again =
         let is : v ≡ w = some_inj h in
         subst
-        (λ (x : Waiting). option_map (λ (s : Begun). s.op) (cond (x.ctx == w.ctx) (Some (record { op = x.op; ctx = x.ctx; act = Recv })) (find (is_recv_on w.ctx) (map begun_of ws))) ≡ Some w.op)
+        (λ (x : ReplyOperation). option_map (λ (s : Begun). s.op) (cond (x.ctx == w.ctx) (Some (record { op = x.op; ctx = x.ctx; act = Recv })) (find (is_recv_on w.ctx) (map begun_of ws))) ≡ Some w.op)
         (sym is)
         (ap (λ b. option_map (λ (s : Begun). s.op) (cond b (Some (record { op = w.op; ctx = w.ctx; act = Recv })) (find (is_recv_on w.ctx) (map begun_of ws)))) (same_number w.ctx))
     go (Some r) e h again = again h
 
-receives_act : (ws : List Waiting) (w : Waiting) → find is_receive ws ≡ Some w → is_recv (act_of w.answer) ≡ true
+receives_act : (ws : List ReplyOperation) (w : ReplyOperation) → find is_receive ws ≡ Some w → is_recv (act_of w.answer) ≡ true
 receives_act [] w h = absurd cc
 receives_act (v ∷ ws) w h = go v.answer refl h (receives_act ws w)
   where
@@ -172,10 +172,10 @@ receives_act (v ∷ ws) w h = go v.answer refl h (receives_act ws w)
     some_inj q = cc
 
     go : (r : Option Answer) → v.answer ≡ r → cond (not (is_some r)) (Some v) (find is_receive ws) ≡ Some w → (find is_receive ws ≡ Some w → is_recv (act_of w.answer) ≡ true) → is_recv (act_of w.answer) ≡ true
-    go None e h again = ap (λ (x : Waiting). is_recv (act_of x.answer)) (sym (some_inj h)) ∙ ap (λ (x : Option Answer). is_recv (act_of x)) e
+    go None e h again = ap (λ (x : ReplyOperation). is_recv (act_of x.answer)) (sym (some_inj h)) ∙ ap (λ (x : Option Answer). is_recv (act_of x)) e
     go (Some r) e h again = again h
 
-pub can_give : (m : Reply) (t : Moment) (k : Kept) (ks : List Kept) (w : Waiting) → Ties m t → m.kept.items ≡ k ∷ ks → find is_receive m.waiting.items ≡ Some w → CanGive t w.op (begun_of w) (text_of k.message)
+pub can_give : (m : Reply) (t : Moment) (k : KeptRequest) (ks : List KeptRequest) (w : ReplyOperation) → Ties m t → m.kept.items ≡ k ∷ ks → find is_receive m.waiting.items ≡ Some w → CanGive t w.op (begun_of w) (text_of k.message)
 can_give m t k ks w h e f =
     let apart = subst (λ (ss : List Begun). AreApart ss) (sym h.pending) h.apart in
     record {
@@ -191,7 +191,7 @@ can_give m t k ks w h e f =
 
 -- ---- Send and Drop
 
-no_earlier : (y : ReplyRole) (z : Setting) (before : List Entry) (full : ℕ → Bool) (raw : Bool) (ws : List Waiting) (w : Waiting) (p : ℕ) → z.role ≡ role_of y → z.raw ≡ raw → Routed (λ o. route z before o) ws
+no_earlier : (y : ReplyRole) (z : Setting) (before : List Entry) (full : ℕ → Bool) (raw : Bool) (ws : List ReplyOperation) (w : ReplyOperation) (p : ℕ) → z.role ≡ role_of y → z.raw ≡ raw → Routed (λ o. route z before o) ws
     → find (is_ready raw (map (port_of full) (up before))) ws ≡ Some w → full p ≡ false → list_any (λ other. has (targets z before other) p) (begun_before w.op (map begun_of ws)) ≡ false
 no_earlier y z before full raw [] w p h k o f n = absurd cc
 no_earlier y z before full raw (v ∷ ws) w p h k o f n = go (is_ready raw (map (port_of full) (up before)) v) refl f (no_earlier y z before full raw ws w p h k o.1)
@@ -222,20 +222,20 @@ no_earlier y z before full raw (v ∷ ws) w p h k o f n = go (is_ready raw (map 
         → list_any (λ other. has (targets z before other) p) (begun_before w.op (map begun_of (v ∷ ws))) ≡ false
     go true e f again =
         let is : v ≡ w = some_inj f in
-        subst (λ (x : Waiting). list_any (λ other. has (targets z before other) p) (cond (same_op v.op x.op) [] (begun_of v ∷ begun_before x.op (map begun_of ws))) ≡ false) is
+        subst (λ (x : ReplyOperation). list_any (λ other. has (targets z before other) p) (cond (same_op v.op x.op) [] (begun_of v ∷ begun_before x.op (map begun_of ws))) ≡ false) is
         (ap (λ b. list_any (λ other. has (targets z before other) p) (cond b [] (begun_of v ∷ begun_before v.op (map begun_of ws)))) (same_op-refl v.op))
     go false e f again = skip (same_op v.op w.op) (hasnt v.answer refl e) (again f n)
 
 is_same : (n : ℕ) → (n == n) ≡ true
 is_same n = grind (arith, nat_tests)
 
-pub can_send : (m : Reply) (t : Moment) (w : Waiting) (r : Answer) (p : ℕ) → Ties m t → find (is_ready m.raw m.ports.items) m.waiting.items ≡ Some w → w.answer ≡ Some r → way_of m.raw m.ports.items r ≡ ways.To p → CanSend t w.op p (begun_of w) (out_text m.raw r)
+pub can_send : (m : Reply) (t : Moment) (w : ReplyOperation) (r : Answer) (p : ℕ) → Ties m t → find (is_ready m.raw m.ports.items) m.waiting.items ≡ Some w → w.answer ≡ Some r → way_of m.raw m.ports.items r ≡ ways.To p → CanSend t w.op p (begun_of w) (out_text m.raw r)
 can_send m t w r p h f e g =
     let full : ℕ → Bool = λ q. has_full t.turn q in
     let apart = subst (λ (ss : List Begun). AreApart ss) (sym h.pending) h.apart in
-    let way = goes_on full (up (past t)) (target_of m.raw r) p (ap (λ (xs : List Port). way_of m.raw xs r) (sym h.pipes.ports) ∙ g) in
+    let way = goes_on full (up (past t)) (target_of m.raw r) p (ap (λ (xs : List PortView). way_of m.raw xs r) (sym h.pipes.ports) ∙ g) in
     let from : option_map origin_of r.source ≡ route t.z (past t) w.op = route_of (λ o. route t.z (past t) o) (is_ready m.raw m.ports.items) m.waiting.items w r h.routed f e in
-    let found : find (is_ready m.raw (map (port_of full) (up (past t)))) m.waiting.items ≡ Some w = ap (λ (xs : List Port). find (is_ready m.raw xs) m.waiting.items) (sym h.pipes.ports) ∙ f in
+    let found : find (is_ready m.raw (map (port_of full) (up (past t)))) m.waiting.items ≡ Some w = ap (λ (xs : List PortView). find (is_ready m.raw xs) m.waiting.items) (sym h.pipes.ports) ∙ f in
     let number : is_number (target_of m.raw r) p ≡ true = ap (λ (to : Option ℕ). is_number to p) way.0 ∙ is_same p in
     record {
       pending = ap (find (is_of w.op)) (sym h.pending) ∙ find_own (is_ready m.raw m.ports.items) m.waiting.items w f apart;
@@ -253,11 +253,11 @@ can_send m t w r p h f e g =
       one_target = no_floods m.role t.z (is_rep m t h);
     }
 
-pub can_drop : (m : Reply) (t : Moment) (w : Waiting) (r : Answer) → Calm t.z (past t) → Ties m t → find (is_ready m.raw m.ports.items) m.waiting.items ≡ Some w → w.answer ≡ Some r → way_of m.raw m.ports.items r ≡ ways.Nowhere → CanDrop t w.op (begun_of w)
+pub can_drop : (m : Reply) (t : Moment) (w : ReplyOperation) (r : Answer) → Calm t.z (past t) → Ties m t → find (is_ready m.raw m.ports.items) m.waiting.items ≡ Some w → w.answer ≡ Some r → way_of m.raw m.ports.items r ≡ ways.Nowhere → CanDrop t w.op (begun_of w)
 can_drop m t w r q h f e g =
     let full : ℕ → Bool = λ q. has_full t.turn q in
     let apart = subst (λ (ss : List Begun). AreApart ss) (sym h.pending) h.apart in
-    let none = nowhere_up full (up (past t)) (target_of m.raw r) (ap (λ (xs : List Port). way_of m.raw xs r) (sym h.pipes.ports) ∙ g) in
+    let none = nowhere_up full (up (past t)) (target_of m.raw r) (ap (λ (xs : List PortView). way_of m.raw xs r) (sym h.pipes.ports) ∙ g) in
     let from : option_map origin_of r.source ≡ route t.z (past t) w.op = route_of (λ o. route t.z (past t) o) (is_ready m.raw m.ports.items) m.waiting.items w r h.routed f e in
     record {
       pending = ap (find (is_of w.op)) (sym h.pending) ∙ find_own (is_ready m.raw m.ports.items) m.waiting.items w f apart;
@@ -272,7 +272,7 @@ can_drop m t w r q h f e g =
 pub sends_right : (m : Reply) (t : Moment) (x : Offer) → Calm t.z (past t) → Ties m t → (m.kept.items ≡ []) ⊎ (find is_receive m.waiting.items ≡ None) → x ≡ send_offer m.raw m.ports.items (find (is_ready m.raw m.ports.items) m.waiting.items) → IsOffered x t
 sends_right m t x q h r e = subst (λ (y : Offer). IsOffered y t) (sym e) (go (find (is_ready m.raw m.ports.items) m.waiting.items) refl)
   where
-    ready : (w : Waiting) (ws : List Waiting) → find (is_ready m.raw m.ports.items) ws ≡ Some w → can_go m.raw m.ports.items w.answer ≡ true
+    ready : (w : ReplyOperation) (ws : List ReplyOperation) → find (is_ready m.raw m.ports.items) ws ≡ Some w → can_go m.raw m.ports.items w.answer ≡ true
     ready w [] f = absurd cc
     ready w (v ∷ ws) f = step (is_ready m.raw m.ports.items v) refl f (ready w ws)
       where
@@ -280,18 +280,18 @@ sends_right m t x q h r e = subst (λ (y : Offer). IsOffered y t) (sym e) (go (f
         some_inj q = cc
 
         step : (b : Bool) → is_ready m.raw m.ports.items v ≡ b → cond b (Some v) (find (is_ready m.raw m.ports.items) ws) ≡ Some w → (find (is_ready m.raw m.ports.items) ws ≡ Some w → can_go m.raw m.ports.items w.answer ≡ true) → can_go m.raw m.ports.items w.answer ≡ true
-        step true k f again = ap (λ (u : Waiting). can_go m.raw m.ports.items u.answer) (sym (some_inj f)) ∙ k
+        step true k f again = ap (λ (u : ReplyOperation). can_go m.raw m.ports.items u.answer) (sym (some_inj f)) ∙ k
         step false k f again = again f
 
-    ways_right : (w : Waiting) (p : Answer) (y : Way) → find (is_ready m.raw m.ports.items) m.waiting.items ≡ Some w → w.answer ≡ Some p → way_of m.raw m.ports.items p ≡ y → isnt_full y ≡ true → IsOffered (way_offer w.op y) t
+    ways_right : (w : ReplyOperation) (p : Answer) (y : Destination) → find (is_ready m.raw m.ports.items) m.waiting.items ≡ Some w → w.answer ≡ Some p → way_of m.raw m.ports.items p ≡ y → isnt_full y ≡ true → IsOffered (way_offer w.op y) t
     ways_right w p ways.Full f g k n = absurd cc
     ways_right w p ways.Nowhere f g k n = (begun_of w, can_drop m t w p q h f g k)
     ways_right w p (ways.To u) f g k n = (begun_of w, out_text m.raw p, can_send m t w p u h f g k)
 
-    replies_right : (w : Waiting) (y : Option Answer) → find (is_ready m.raw m.ports.items) m.waiting.items ≡ Some w → w.answer ≡ y → can_go m.raw m.ports.items y ≡ true → IsOffered (answer_offer m.raw m.ports.items w.op y) t
+    replies_right : (w : ReplyOperation) (y : Option Answer) → find (is_ready m.raw m.ports.items) m.waiting.items ≡ Some w → w.answer ≡ y → can_go m.raw m.ports.items y ≡ true → IsOffered (answer_offer m.raw m.ports.items w.op y) t
     replies_right w None f g n = absurd cc
     replies_right w (Some p) f g n = ways_right w p (way_of m.raw m.ports.items p) f g refl n
 
-    go : (o : Option Waiting) → find (is_ready m.raw m.ports.items) m.waiting.items ≡ o → IsOffered (send_offer m.raw m.ports.items o) t
+    go : (o : Option ReplyOperation) → find (is_ready m.raw m.ports.items) m.waiting.items ≡ o → IsOffered (send_offer m.raw m.ports.items o) t
     go None f = idle m t h r f
     go (Some w) f = replies_right w w.answer f refl (ready w m.waiting.items f)

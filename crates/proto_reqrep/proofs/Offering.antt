@@ -8,12 +8,12 @@ use Rattle.sp_base.specs.declared.role.Role.{Role}
 use Rattle.sp_base.specs.declared.role.Role.TheVariants as role
 use Rattle.sp_msg.specs.Views.{MessageView, wire_text}
 use Rattle.sp_history.specs.declared.entry.Entry.{Entry}
-use Rattle.sp_history.specs.declared.entry.Act.TheVariants.{Send}
+use Rattle.sp_history.specs.declared.entry.RecordedAct.TheVariants.{Send}
 use Rattle.sp_history.specs.declared.entry.Cause.TheVariants as causes
-use Rattle.sp_history.specs.declared.entry.Message.{Message}
+use Rattle.sp_history.specs.declared.entry.RecordedMessage.{RecordedMessage}
 use Rattle.sp_history.specs.declared.parts.Begun.{Begun}
 use Rattle.sp_history.specs.declared.parts.Item.{Item}
-use Rattle.sp_history.specs.declared.parts.Request.{Request}
+use Rattle.sp_history.specs.declared.parts.LiveRequest.{LiveRequest}
 use Rattle.sp_history.specs.declared.parts.Requests.{Requests}
 use Rattle.sp_history.specs.declared.setting.Setting.{Setting}
 use Rattle.sp_history.specs.Lists.{has, head_of, is_nil, same_op}
@@ -33,19 +33,19 @@ use Rattle.sp_proto.specs.Readings.{out_last}
 use Rattle.sp_proto.specs.declared.Offer.{Offer}
 use Rattle.sp_proto.specs.declared.Offer.TheVariants as offers
 use Rattle.proto_reqrep.specs.Ports.{port_of, is_free, is_free_behind, next_port, or_else, next_number as next_pipe}
-use Rattle.proto_reqrep.specs.Ports.{Port}
-use Rattle.proto_reqrep.specs.declared.req.Request.{Request as Machine}
+use Rattle.proto_reqrep.specs.Ports.{PortView}
+use Rattle.proto_reqrep.specs.declared.req.Request.{LiveRequest as Machine}
 use Rattle.proto_reqrep.specs.declared.req.Live.{Live}
 use Rattle.proto_reqrep.specs.declared.req.Asking.{Asking}
 use Rattle.proto_reqrep.specs.Hints.{HintsView}
 use Rattle.proto_reqrep.proofs.Spotted.{none_find}
 use Rattle.proto_reqrep.specs.Reqs.{gets, answers, AreReady, is_receiving_on, Ties, IsNextPipe, begun_of, act_of, is_sending, is_live_on, live_ctx, request_of, is_due, out_offer, is_given, dry_at, HasLive}
 use Rattle.proto_reqrep.proofs.Orphaned.{orphan_found, all_finished}
-use Rattle.proto_reqrep.proofs.Living.{equal_of, same_number}
+use Rattle.proto_reqrep.proofs.RequestLives.{equal_of, same_number}
 use Rattle.proto_reqrep.proofs.Owning.{owned_at}
-use Rattle.proto_reqrep.proofs.Standing.{is_req_role, is_raw, flag, live_is, kept_is}
-use Rattle.proto_reqrep.proofs.Coming.{given_is}
-use Rattle.proto_reqrep.proofs.Winning.{due_is}
+use Rattle.proto_reqrep.proofs.ReqStands.{is_req_role, is_raw, flag, live_is, kept_is}
+use Rattle.proto_reqrep.proofs.ReqArrivals.{given_is}
+use Rattle.proto_reqrep.proofs.ReqWins.{due_is}
 
 some_inj : {A : Type 0} (x y : A) → Some x ≡ Some y → x ≡ y
 some_inj x y q = cc
@@ -181,7 +181,7 @@ no_gift m r w k e h = go m.raw refl r.whole refl e
         let cooked : find (answers m.live.items) m.waiting.items ≡ None = none_find (answers m.live.items) m.waiting.items (k p h (sym w ∙ q)) in
         ap (λ b. find (λ (v : Asking). not (is_sending v) && is_given b m.kept.items m.live.items v.ctx) m.waiting.items) p ∙ cooked
 
-pub can_give : (m : Machine) (t : Moment) (w : Asking) → Ties m t → list_any (λ (v : Asking). v.is_orphan) m.waiting.items ≡ false → find (is_receiving_on w.ctx) m.waiting.items ≡ Some w → is_given m.raw m.kept.items m.live.items w.ctx ≡ true → (x : Message) × CanGive t w.op (begun_of w) x
+pub can_give : (m : Machine) (t : Moment) (w : Asking) → Ties m t → list_any (λ (v : Asking). v.is_orphan) m.waiting.items ≡ false → find (is_receiving_on w.ctx) m.waiting.items ≡ Some w → is_given m.raw m.kept.items m.live.items w.ctx ≡ true → (x : RecordedMessage) × CanGive t w.op (begun_of w) x
 can_give m t w h o f given = go (kept t.z (past t) w.ctx) refl
   where
     receive : is_sending w ≡ false
@@ -210,9 +210,9 @@ can_give m t w h o f given = go (kept t.z (past t) w.ctx) refl
 
         step : (b : Bool) → m.raw ≡ b → is_some (asked_of t.z (past t) (begun_of w)) ≡ true
         step true r = let bad : true ≡ false = cooked r in absurd cc
-        step false r = ap (λ b. is_some (cond {A = Option Request} b None (live_on t.z (past t) w.ctx))) own ∙ live (find (is_live_on w.ctx) m.live.items) refl r
+        step false r = ap (λ b. is_some (cond {A = Option LiveRequest} b None (live_on t.z (past t) w.ctx))) own ∙ live (find (is_live_on w.ctx) m.live.items) refl r
 
-    go : (is : List Item) → kept t.z (past t) w.ctx ≡ is → (x : Message) × CanGive t w.op (begun_of w) x
+    go : (is : List Item) → kept t.z (past t) w.ctx ≡ is → (x : RecordedMessage) × CanGive t w.op (begun_of w) x
     go [] e = let bad : true ≡ false = sym given ∙ given_is m t w.ctx h ∙ ap (λ (l : List Item). not (is_nil l)) e in absurd cc
     go (i ∷ is) e = (
       i.message,
@@ -348,7 +348,7 @@ idle_full m t h o g f = let full = all_full (λ q. has_full t.turn q) (up (past 
 
 -- ---- Send and Again
 
-free_is : (full : ℕ → Bool) (us : List ℕ) (x : Port) → find is_free (map (port_of full) us) ≡ Some x → (has us x.pipe ≡ true) × (full x.pipe ≡ false)
+free_is : (full : ℕ → Bool) (us : List ℕ) (x : PortView) → find is_free (map (port_of full) us) ≡ Some x → (has us x.pipe ≡ true) × (full x.pipe ≡ false)
 free_is full [] x f = absurd cc
 free_is full (u ∷ us) x f = go (full u) refl f (free_is full us x)
   where
@@ -359,10 +359,10 @@ free_is full (u ∷ us) x f = go (full u) refl f (free_is full us x)
     go : (b : Bool) → full u ≡ b → cond (not b) (Some (port_of full u)) (find is_free (map (port_of full) us)) ≡ Some x → (find is_free (map (port_of full) us) ≡ Some x → (has us x.pipe ≡ true) × (full x.pipe ≡ false)) → (((u == x.pipe) || has us x.pipe) ≡ true) × (full x.pipe ≡ false)
     go true e f again = let k = again f in (or_right (u == x.pipe) _ k.0, k.1)
     go false e f again =
-        let is : u ≡ x.pipe = ap (λ (y : Port). y.pipe) (some_inj (port_of full u) x f) in
+        let is : u ≡ x.pipe = ap (λ (y : PortView). y.pipe) (some_inj (port_of full u) x f) in
         (ap (λ b. b || has us x.pipe) (subst (λ n. (u == n) ≡ true) is (same_number u)), subst (λ n. full n ≡ false) is e)
 
-behind_is : (full : ℕ → Bool) (last : ℕ) (us : List ℕ) (x : Port) → find (is_free_behind last) (map (port_of full) us) ≡ Some x → (has us x.pipe ≡ true) × (full x.pipe ≡ false)
+behind_is : (full : ℕ → Bool) (last : ℕ) (us : List ℕ) (x : PortView) → find (is_free_behind last) (map (port_of full) us) ≡ Some x → (has us x.pipe ≡ true) × (full x.pipe ≡ false)
 behind_is full last [] x f = absurd cc
 behind_is full last (u ∷ us) x f = go (full u) refl (nat_lt last u) f (behind_is full last us x)
   where
@@ -375,18 +375,18 @@ behind_is full last (u ∷ us) x f = go (full u) refl (nat_lt last u) f (behind_
     go true e a f again = let k = again f in (or_right (u == x.pipe) _ k.0, k.1)
     go false e false f again = let k = again f in (or_right (u == x.pipe) _ k.0, k.1)
     go false e true f again =
-        let is : u ≡ x.pipe = ap (λ (y : Port). y.pipe) (some_inj (port_of full u) x f) in
+        let is : u ≡ x.pipe = ap (λ (y : PortView). y.pipe) (some_inj (port_of full u) x f) in
         (ap (λ b. b || has us x.pipe) (subst (λ n. (u == n) ≡ true) is (same_number u)), subst (λ n. full n ≡ false) is e)
 
-next_is : (full : ℕ → Bool) (last : ℕ) (us : List ℕ) (x : Port) → next_port last (map (port_of full) us) ≡ Some x → (has us x.pipe ≡ true) × (full x.pipe ≡ false)
+next_is : (full : ℕ → Bool) (last : ℕ) (us : List ℕ) (x : PortView) → next_port last (map (port_of full) us) ≡ Some x → (has us x.pipe ≡ true) × (full x.pipe ≡ false)
 next_is full last us x f = go (find (is_free_behind last) (map (port_of full) us)) refl f
   where
-    go : (o : Option Port) → find (is_free_behind last) (map (port_of full) us) ≡ o → or_else o (find is_free (map (port_of full) us)) ≡ Some x → (has us x.pipe ≡ true) × (full x.pipe ≡ false)
+    go : (o : Option PortView) → find (is_free_behind last) (map (port_of full) us) ≡ o → or_else o (find is_free (map (port_of full) us)) ≡ Some x → (has us x.pipe ≡ true) × (full x.pipe ≡ false)
     go None e k = free_is full us x k
     go (Some y) e k = behind_is full last us x (e ∙ k)
 
 -- the first of the pipes, by their numbers
-find_mapped : (P : Port → Bool) (full : ℕ → Bool) (us : List ℕ) → find P (map (port_of full) us) ≡ option_map (port_of full) (find (λ q. P (port_of full q)) us)
+find_mapped : (P : PortView → Bool) (full : ℕ → Bool) (us : List ℕ) → find P (map (port_of full) us) ≡ option_map (port_of full) (find (λ q. P (port_of full q)) us)
 find_mapped P full [] = refl
 find_mapped P full (u ∷ us) = go (P (port_of full u)) (find_mapped P full us)
   where
@@ -395,17 +395,17 @@ find_mapped P full (u ∷ us) = go (P (port_of full u)) (find_mapped P full us)
     go true e = refl
     go false e = e
 
-or_mapped : (f : ℕ → Port) (x y : Option ℕ) → or_else (option_map f x) (option_map f y) ≡ option_map f (or_else x y)
+or_mapped : (f : ℕ → PortView) (x y : Option ℕ) → or_else (option_map f x) (option_map f y) ≡ option_map f (or_else x y)
 or_mapped f None y = refl
 or_mapped f (Some x) y = refl
 
 next_mapped : (full : ℕ → Bool) (last : ℕ) (us : List ℕ) → next_port last (map (port_of full) us) ≡ option_map (port_of full) (next_pipe (λ q. not (full q)) last us)
 next_mapped full last us =
-    ap (λ (o : Option Port). or_else o (find is_free (map (port_of full) us))) (find_mapped (is_free_behind last) full us)
+    ap (λ (o : Option PortView). or_else o (find is_free (map (port_of full) us))) (find_mapped (is_free_behind last) full us)
     ∙ ap (or_else (option_map (port_of full) (find (λ q. is_free_behind last (port_of full q)) us))) (find_mapped is_free full us) ∙ or_mapped (port_of full) _ _
 
 -- it is the next in the round
-pub is_next : (m : Machine) (t : Moment) (q : Port) → Ties m t → next_port m.last_pipe m.ports.items ≡ Some q → IsNextPipe t q.pipe
+pub is_next : (m : Machine) (t : Moment) (q : PortView) → Ties m t → next_port m.last_pipe m.ports.items ≡ Some q → IsNextPipe t q.pipe
 is_next m t q h f =
     let full : ℕ → Bool = λ p. has_full t.turn p in
     number (next_pipe (λ p. not (full p)) (out_last (past t)) (up (past t)))
@@ -413,7 +413,7 @@ is_next m t q h f =
   where
     number : (o : Option ℕ) → option_map (port_of (λ p. has_full t.turn p)) o ≡ Some q → o ≡ Some q.pipe
     number None e = absurd cc
-    number (Some n) e = ap (λ (x : Port). Some x.pipe) (some_inj (port_of (λ p. has_full t.turn p) n) q e)
+    number (Some n) e = ap (λ (x : PortView). Some x.pipe) (some_inj (port_of (λ p. has_full t.turn p) n) q e)
 
 pub sent_on : (n p : ℕ) (op : OpName) (a : Option Asking) (b : Option Live) → out_offer n a b ≡ offers.Send op p → n ≡ p
 sent_on n p op (Some w) b e = pipe_of w.op op n p e
@@ -477,7 +477,7 @@ can_send m t w p h o f u n = go w.message refl
         end_ true q = refl
         end_ false q =
             let own : is_orphan (requests t.z (past t)) w.op ≡ false = flag m t is_sending w h f ∙ none_at (λ (v : Asking). v.is_orphan) is_sending m.waiting.items w o f in
-            ap (λ b. option_map wire_of (cond {A = Option Request} b None (live_on t.z (past t) w.ctx))) own ∙ ap (option_map wire_of) (live_is m t w.ctx h ∙ ap (option_map request_of) (live q).1)
+            ap (λ b. option_map wire_of (cond {A = Option LiveRequest} b None (live_on t.z (past t) w.ctx))) own ∙ ap (option_map wire_of) (live_is m t w.ctx h ∙ ap (option_map request_of) (live q).1)
 
     everywhere : (x : MessageView) (y : Role) → y ≡ role.Req → (q : ℕ) → may_go y t.z.raw (route t.z (past t) w.op) x.header q ≡ true
     everywhere x y e q = rw e refl
@@ -572,7 +572,7 @@ can_again m t x p h f u n =
         nothing [] e k = absurd cc
         nothing (v ∷ vs) e k = absurd cc
 
-pub out_right : (m : Machine) (t : Moment) (q : Port) (y : Offer) → Ties m t → find (λ (v : Asking). v.is_orphan) m.waiting.items ≡ None → find (gets m) m.waiting.items ≡ None → next_port m.last_pipe m.ports.items ≡ Some q
+pub out_right : (m : Machine) (t : Moment) (q : PortView) (y : Offer) → Ties m t → find (λ (v : Asking). v.is_orphan) m.waiting.items ≡ None → find (gets m) m.waiting.items ≡ None → next_port m.last_pipe m.ports.items ≡ Some q
     → y ≡ out_offer q.pipe (find is_sending m.waiting.items) (find (is_due m.options.resend m.tick m.ports.items m.seats.items) m.live.items) → IsOffered y t
 out_right m t q y h o g f e = subst (λ (z : Offer). IsOffered z t) (sym e) (go (find is_sending m.waiting.items) refl (find (is_due m.options.resend m.tick m.ports.items m.seats.items) m.live.items) refl)
   where
@@ -584,11 +584,11 @@ out_right m t q y h o g f e = subst (λ (z : Offer). IsOffered z t) (sym e) (go 
     go None k None l = idle m t h o g (inr k) (inr l)
     go None k (Some x) l = (request_of x, can_again m t x q.pipe h l free.0 free.1)
 
-pub no_port : (o : Option Port) → None ≡ option_map (λ (x : Port). x.pipe) o → o ≡ None
+pub no_port : (o : Option PortView) → None ≡ option_map (λ (x : PortView). x.pipe) o → o ≡ None
 no_port None e = refl
 no_port (Some x) e = absurd cc
 
-pub some_port : (o : Option Port) (p : ℕ) → Some p ≡ option_map (λ (x : Port). x.pipe) o → (q : Port) × (o ≡ Some q) × (q.pipe ≡ p)
+pub some_port : (o : Option PortView) (p : ℕ) → Some p ≡ option_map (λ (x : PortView). x.pipe) o → (q : PortView) × (o ≡ Some q) × (q.pipe ≡ p)
 some_port None p e = absurd cc
 some_port (Some x) p e = (x, refl, sym (some_inj p x.pipe e))
 

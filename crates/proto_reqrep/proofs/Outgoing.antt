@@ -7,7 +7,7 @@ use Rattle.std.proofs.lemmas.Nat.{from_be_bytes-to_be_bytes_4}
 use lib.Pointwise.{bytes_decides}
 use Rattle.sp_base.specs.declared.role.Role.TheVariants as role
 use Rattle.sp_history.specs.declared.entry.Entry.{Entry}
-use Rattle.sp_history.specs.declared.parts.Request.{Request}
+use Rattle.sp_history.specs.declared.parts.LiveRequest.{LiveRequest}
 use Rattle.sp_history.specs.declared.parts.Item.{Item}
 use Rattle.sp_history.specs.declared.parts.LastOut.{LastOut}
 use Rattle.sp_history.specs.declared.setting.Setting.{Setting}
@@ -17,9 +17,9 @@ use Rattle.sp_history.specs.Frames.{malformed, plain_item}
 use Rattle.sp_history.specs.Once.{AreDistinct}
 use Rattle.sp_history.specs.Requests.{wire_of, with_out, with_frame, is_for, has_room}
 use Rattle.proto_reqrep.specs.declared.req.Live.{Live}
-use Rattle.proto_reqrep.specs.declared.req.Kept.{Kept}
+use Rattle.proto_reqrep.specs.declared.req.KeptReply.{KeptReply}
 use Rattle.proto_reqrep.specs.Reqs.{request_of, live_ctx, live_id, is_live_on, with_out_on, with_found, sent_at, AreSound, items_of, item_of, waits_for, with_kept, with_reply}
-use Rattle.proto_reqrep.proofs.Living.{equal_of, turned, same_number}
+use Rattle.proto_reqrep.proofs.RequestLives.{equal_of, turned, same_number}
 
 word_back : (n : ℕ) → n < 2 ^ 32 → from_be_bytes w32 (word n) ≡ n
 word_back n h = from_be_bytes-to_be_bytes_4 n h
@@ -59,7 +59,7 @@ module _ (c now p : ℕ) where
           ≡ cond (same_bytes (word id ++ body) (word x.id ++ x.copy.body)) (record (request_of x) { last_out = Some gone }) (request_of x) ∷ map (with_out now p (word id ++ body)) (map request_of xs)
       go true h d e k again = absurd cc
       go false h true e k again = absurd cc
-      go false h false e k again = rw (bytes_differ id x.id body x.copy.body b s.1 e) (ap (λ (rest : List Request). request_of x ∷ rest) (again h k))
+      go false h false e k again = rw (bytes_differ id x.id body x.copy.body b s.1 e) (ap (λ (rest : List LiveRequest). request_of x ∷ rest) (again h k))
 
   pub out_is : (xs : List Live) (y : Live) → AreSound xs → AreDistinct (map live_ctx xs) → AreDistinct (map live_id xs) → find (is_live_on c) xs ≡ Some y
       → map request_of (map (with_out_on c gone) xs) ≡ map (with_out now p (wire_of (request_of y))) (map request_of xs)
@@ -101,11 +101,11 @@ module _ (c now p : ℕ) where
           let rest : map request_of (map (with_out_on c gone) xs) ≡ map (with_out now p (word x.id ++ x.copy.body)) (map request_of xs) = none_out x.id x.copy.body xs s.1 s.3 away i.0 in
           let whole : request_of (record { ctx = x.ctx; id = x.id; copy = x.copy; birth = x.birth; last_out = Some gone; reply = x.reply }) ∷ map request_of (map (with_out_on c gone) xs)
           ≡ cond (same_bytes (word x.id ++ x.copy.body) (word x.id ++ x.copy.body)) (record (request_of x) { last_out = Some gone }) (request_of x) ∷ map (with_out now p (wire_of (request_of x))) (map request_of xs) =
-          rw (bytes_same (word x.id ++ x.copy.body)) (ap (λ (more : List Request). record (request_of x) { last_out = Some gone } ∷ more) rest) in
+          rw (bytes_same (word x.id ++ x.copy.body)) (ap (λ (more : List LiveRequest). record (request_of x) { last_out = Some gone } ∷ more) rest) in
           subst (λ (z : Live). request_of (record { ctx = x.ctx; id = x.id; copy = x.copy; birth = x.birth; last_out = Some gone; reply = x.reply }) ∷ map request_of (map (with_out_on c gone) xs)
           ≡ cond (same_bytes (word z.id ++ z.copy.body) (word x.id ++ x.copy.body)) (record (request_of x) { last_out = Some gone }) (request_of x) ∷ map (with_out now p (wire_of (request_of z))) (map request_of xs)) is whole
       go false e f again =
-          rw (bytes_differ y.id x.id y.copy.body x.copy.body (small xs s.3 f) s.1 (other_id xs f i.0)) (ap (λ (rest : List Request). request_of x ∷ rest) (again f))
+          rw (bytes_differ y.id x.id y.copy.body x.copy.body (small xs s.3 f) s.1 (other_id xs f i.0)) (ap (λ (rest : List LiveRequest). request_of x ∷ rest) (again f))
 
   -- where each context has one, it alone changes
   pub out_alone : (xs : List Live) → AreDistinct (map live_ctx xs) → with_found (is_live_on c) (sent_at gone) xs ≡ map (with_out_on c gone) xs
@@ -152,7 +152,7 @@ module _ (c now p : ℕ) where
 
 -- ---- A reply comes
 
-module _ (id : ℕ) (k : Kept) where
+module _ (id : ℕ) (k : KeptReply) where
   pub ids_kept : (xs : List Live) → map live_id (with_reply id k xs) ≡ map live_id xs
   ids_kept [] = refl
   ids_kept (x ∷ xs) = go (waits_for id x) (ids_kept xs)
@@ -189,7 +189,7 @@ module _ (id : ℕ) (k : Kept) where
         ∙ ap (λ (y : _). cond ((x.id == id) && cond (is_req y) (is_some x.last_out && is_nil (items_of x.reply)) (nat_lt (length (items_of x.reply)) z.options.queue)) (record (request_of x) { replies = items_of x.reply ++ plain_item p (drop 4 b) ∷ [] }) (request_of x)) r
         ∙ room x.reply refl
       where
-        some_kept : (o : Option Kept) → x.reply ≡ o → is_nil (items_of o) ≡ not (is_some o)
+        some_kept : (o : Option KeptReply) → x.reply ≡ o → is_nil (items_of o) ≡ not (is_some o)
         some_kept None q = refl
         some_kept (Some y) q = refl
 
@@ -202,17 +202,17 @@ module _ (id : ℕ) (k : Kept) where
         never true false = refl
         never false b = refl
 
-        room : (o : Option Kept) → x.reply ≡ o → cond ((x.id == id) && (is_some x.last_out && is_nil (items_of x.reply))) (record (request_of x) { replies = items_of x.reply ++ plain_item p (drop 4 b) ∷ [] }) (request_of x) ≡ cond w (request_of (with_kept k x)) (request_of x)
+        room : (o : Option KeptReply) → x.reply ≡ o → cond ((x.id == id) && (is_some x.last_out && is_nil (items_of x.reply))) (record (request_of x) { replies = items_of x.reply ++ plain_item p (drop 4 b) ∷ [] }) (request_of x) ≡ cond w (request_of (with_kept k x)) (request_of x)
         room None q =
             let none : is_some x.reply ≡ false = ap is_some q in
             let same : ((x.id == id) && is_some x.last_out && not (is_some x.reply)) ≡ ((x.id == id) && (is_some x.last_out && true)) = ap (λ y. (x.id == id) && is_some x.last_out && not y) none ∙ assoc (x.id == id) (is_some x.last_out) in
-            ap (λ (y : Option Kept). cond ((x.id == id) && (is_some x.last_out && is_nil (items_of y))) (record (request_of x) { replies = items_of y ++ plain_item p (drop 4 b) ∷ [] }) (request_of x)) q
+            ap (λ (y : Option KeptReply). cond ((x.id == id) && (is_some x.last_out && is_nil (items_of y))) (record (request_of x) { replies = items_of y ++ plain_item p (drop 4 b) ∷ [] }) (request_of x)) q
             ∙ ap (λ y. cond y (record (request_of x) { replies = plain_item p (drop 4 b) ∷ [] }) (request_of x)) (sym same ∙ e)
             ∙ ap (λ (y : Item). cond w (record (request_of x) { replies = y ∷ [] }) (request_of x)) (sym i)
         room (Some y) q =
             let some : is_some x.reply ≡ true = ap is_some q in
             let no_ : w ≡ false = sym e ∙ ap (λ y. (x.id == id) && is_some x.last_out && not y) some ∙ never (x.id == id) (is_some x.last_out) in
-            ap (λ (y : Option Kept). cond ((x.id == id) && (is_some x.last_out && is_nil (items_of y))) (record (request_of x) { replies = items_of x.reply ++ plain_item p (drop 4 b) ∷ [] }) (request_of x)) q
+            ap (λ (y : Option KeptReply). cond ((x.id == id) && (is_some x.last_out && is_nil (items_of y))) (record (request_of x) { replies = items_of x.reply ++ plain_item p (drop 4 b) ∷ [] }) (request_of x)) q
             ∙ ap (λ y. cond y (record (request_of x) { replies = items_of x.reply ++ plain_item p (drop 4 b) ∷ [] }) (request_of x)) (none (x.id == id) (is_some x.last_out))
             ∙ sym (ap (λ y. cond y (request_of (with_kept k x)) (request_of x)) no_)
           where
@@ -231,7 +231,7 @@ module _ (id : ℕ) (k : Kept) where
           go false e h again =
               let no_ : waits_for id x ≡ false = rw e refl in
               let one = frame_one r m f i x false no_ in
-              ap (λ (y : Request). y ∷ map request_of xs) (sym one) ∙ ap (λ (more : List Request). with_frame z before p b (request_of x) ∷ more) (again h)
+              ap (λ (y : LiveRequest). y ∷ map request_of xs) (sym one) ∙ ap (λ (more : List LiveRequest). with_frame z before p b (request_of x) ∷ more) (again h)
 
       pub frame_is : (xs : List Live) → AreDistinct (map live_id xs) → map request_of (with_reply id k xs) ≡ map (with_frame z before p b) (map request_of xs)
       frame_is [] d = refl
@@ -244,6 +244,6 @@ module _ (id : ℕ) (k : Kept) where
           go : (w : Bool) → waits_for id x ≡ w → map request_of (with_reply id k xs) ≡ map (with_frame z before p b) (map request_of xs) → map request_of (cond w (with_kept k x ∷ xs) (x ∷ with_reply id k xs)) ≡ with_frame z before p b (request_of x) ∷ map (with_frame z before p b) (map request_of xs)
           go true e again =
               let is : x.id ≡ id = equal_of x.id id (is_id _ _ _ e) in
-              ap (λ (y : Request). y ∷ map request_of xs) (sym (frame_one r m f i x true e)) ∙ ap (λ (more : List Request). with_frame z before p b (request_of x) ∷ more) (rest_same xs (subst (λ n. has (map live_id xs) n ≡ false) is d.0))
+              ap (λ (y : LiveRequest). y ∷ map request_of xs) (sym (frame_one r m f i x true e)) ∙ ap (λ (more : List LiveRequest). with_frame z before p b (request_of x) ∷ more) (rest_same xs (subst (λ n. has (map live_id xs) n ≡ false) is d.0))
           go false e again =
-              ap (λ (y : Request). y ∷ map request_of (with_reply id k xs)) (sym (frame_one r m f i x false e)) ∙ ap (λ (more : List Request). with_frame z before p b (request_of x) ∷ more) again
+              ap (λ (y : LiveRequest). y ∷ map request_of (with_reply id k xs)) (sym (frame_one r m f i x false e)) ∙ ap (λ (more : List LiveRequest). with_frame z before p b (request_of x) ∷ more) again

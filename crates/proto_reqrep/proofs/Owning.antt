@@ -8,10 +8,10 @@ use Rattle.sp_base.specs.declared.OpName.{OpName}
 use Rattle.sp_msg.specs.Views.{MessageView}
 use Rattle.sp_history.specs.declared.parts.LastOut.{LastOut}
 use Rattle.proto_reqrep.specs.declared.req.Live.{Live}
-use Rattle.proto_reqrep.specs.declared.req.Kept.{Kept}
+use Rattle.proto_reqrep.specs.declared.req.KeptReply.{KeptReply}
 use Rattle.proto_reqrep.specs.declared.req.Asking.{Asking}
 use Rattle.proto_reqrep.specs.Reqs.{live_ctx, is_live_on, without_live, is_asked, is_sending, without_first, orphaned, IsOf, HasLive, HaveLive, is_sending_on, is_receiving_on, AreSingle, with_out_on, with_reply, with_kept, waits_for}
-use Rattle.proto_reqrep.proofs.Living.{equal_of, turned, same_number, find_less, find_first}
+use Rattle.proto_reqrep.proofs.RequestLives.{equal_of, turned, same_number, find_less, find_first}
 use Rattle.proto_reqrep.proofs.Outgoing.{find_out}
 
 some_inj : {A : Type 0} (x y : A) → Some x ≡ Some y → x ≡ y
@@ -311,7 +311,7 @@ owned_out c now p xs (w ∷ ws) h k = (λ q. go q (h.0 q), owned_out c now p xs 
 
 -- ---- A reply comes
 
-find_kept : (id : ℕ) (k : Kept) (d : ℕ) (xs : List Live) (x : Live) → find (is_live_on d) xs ≡ Some x → (y : Live) × (find (is_live_on d) (with_reply id k xs) ≡ Some y) × (y.copy ≡ x.copy) × (y.last_out ≡ x.last_out)
+find_kept : (id : ℕ) (k : KeptReply) (d : ℕ) (xs : List Live) (x : Live) → find (is_live_on d) xs ≡ Some x → (y : Live) × (find (is_live_on d) (with_reply id k xs) ≡ Some y) × (y.copy ≡ x.copy) × (y.last_out ≡ x.last_out)
 find_kept id k d [] x f = absurd cc
 find_kept id k d (z ∷ xs) x f = go (waits_for id z) (z.ctx == d) refl f (find_kept id k d xs x)
   where
@@ -322,7 +322,7 @@ find_kept id k d (z ∷ xs) x f = go (waits_for id z) (z.ctx == d) refl f (find_
     go true false e f again = (x, rw e f, refl, refl)
     go false false e f again = let y = again f in (y.0, rw e y.1, y.2, y.3)
 
-pub owned_kept : (id : ℕ) (k : Kept) (xs : List Live) (ws : List Asking) → HaveLive xs ws → HaveLive (with_reply id k xs) ws
+pub owned_kept : (id : ℕ) (k : KeptReply) (xs : List Live) (ws : List Asking) → HaveLive xs ws → HaveLive (with_reply id k xs) ws
 owned_kept id k xs [] h = h
 owned_kept id k xs (w ∷ ws) h = (λ q. go (h.0 q), owned_kept id k xs ws h.1)
   where

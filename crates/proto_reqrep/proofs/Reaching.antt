@@ -12,12 +12,12 @@ use Rattle.sp_msg.specs.Views.{MessageView, wire_text}
 use Rattle.sp_history.specs.declared.setting.Setting.{Setting}
 use Rattle.sp_history.specs.declared.entry.Entry.{Entry}
 use Rattle.sp_history.specs.declared.entry.Entry.TheVariants.{End, Out, Ctx}
-use Rattle.sp_history.specs.declared.entry.Gate.TheVariants.{Open, Shut}
-use Rattle.sp_history.specs.declared.entry.Act.TheVariants.{Send}
+use Rattle.sp_history.specs.declared.entry.ContextChange.TheVariants.{Open, Shut}
+use Rattle.sp_history.specs.declared.entry.RecordedAct.TheVariants.{Send}
 use Rattle.sp_history.specs.declared.entry.Ending.TheVariants.{Won}
 use Rattle.sp_history.specs.declared.entry.Completion.TheVariants.{Sent}
 use Rattle.sp_history.specs.declared.parts.Begun.{Begun}
-use Rattle.sp_history.specs.declared.parts.Request.{Request}
+use Rattle.sp_history.specs.declared.parts.LiveRequest.{LiveRequest}
 use Rattle.sp_history.specs.declared.parts.Requests.{Requests}
 use Rattle.sp_history.specs.declared.parts.How.TheVariants as how
 use Rattle.sp_history.specs.Lists.{has, without, is_nil, word}
@@ -33,19 +33,19 @@ use Rattle.sp_history.proofs.Requesting.{end_makes, out_makes, shut_makes}
 use Rattle.sp_history.proofs.Backing.{legal_allowed}
 use Rattle.sp_proto.specs.Kinds.{text_of}
 use Rattle.sp_proto.specs.Machines.{CanSend, CanAgain}
-use Rattle.proto_reqrep.specs.declared.req.Request.{Request as Machine}
+use Rattle.proto_reqrep.specs.declared.req.Request.{LiveRequest as Machine}
 use Rattle.proto_reqrep.specs.declared.req.Live.{Live}
 use Rattle.proto_reqrep.specs.declared.req.Asking.{Asking}
 use Rattle.proto_reqrep.specs.Reqs.{Ties, Asked, begun_of, act_of, is_asked, is_sending, is_sending_on, without_first, without_live, live_ctx, is_live_on, request_of, with_found, sent_at, HaveLive, IsOf}
-use Rattle.proto_reqrep.proofs.Living.{equal_of, turned}
+use Rattle.proto_reqrep.proofs.RequestLives.{equal_of, turned}
 use Rattle.proto_reqrep.proofs.Owning.{owned_at, only_send}
 use Rattle.proto_reqrep.proofs.Requested.{taken, ended_alone, gone_out}
 use Rattle.sp_history.specs.declared.parts.LastOut.{LastOut}
 use Rattle.proto_reqrep.specs.Reqs.{Opened, dry_at, dried, wetted, seat_ctx}
-use Rattle.proto_reqrep.specs.declared.req.Seat.{Seat}
-use Rattle.proto_reqrep.proofs.Living.{ctx_less, gone_on}
+use Rattle.proto_reqrep.specs.declared.req.RequestContext.{RequestContext}
+use Rattle.proto_reqrep.proofs.RequestLives.{ctx_less, gone_on}
 use Rattle.proto_reqrep.proofs.Replied.{has_still, has_first}
-use Rattle.proto_reqrep.proofs.Standing.{is_req_role, is_raw, asks, asks_nothing, raw_same, raw_end, live_is, flag, is_begun}
+use Rattle.proto_reqrep.proofs.ReqStands.{is_req_role, is_raw, asks, asks_nothing, raw_same, raw_end, live_is, flag, is_begun}
 use Rattle.sp_history.proofs.LiveRequests.{next_not_dry}
 
 some_inj : {A : Type 0} (x y : A) → Some x ≡ Some y → x ≡ y
@@ -101,8 +101,8 @@ module _ (m : Machine) (t : Moment) (op : OpName) (p : ℕ) (s : Begun) (b : Lis
           (y, q, some_inj _ _ (sym (ap (option_map wire_of) one) ∙ k))
 
       go : (o : Bool) → is_orphan (requests t.z (past t)) s.op ≡ o → (is_orphan (requests t.z (past t)) s.op ≡ false) × ((y : Live) × (find (is_live_on w.ctx) m.live.items ≡ Some y) × (wire_of (request_of y) ≡ b))
-      go true q = let bad : None ≡ Some b = sym (ap (λ v. option_map wire_of (cond {A = Option Request} v None (live_on t.z (past t) s.ctx))) q) ∙ cooked in absurd cc
-      go false q = (q, found (find (is_live_on w.ctx) m.live.items) refl (sym (ap (λ v. option_map wire_of (cond {A = Option Request} v None (live_on t.z (past t) s.ctx))) q) ∙ cooked))
+      go true q = let bad : None ≡ Some b = sym (ap (λ v. option_map wire_of (cond {A = Option LiveRequest} v None (live_on t.z (past t) s.ctx))) q) ∙ cooked in absurd cc
+      go false q = (q, found (find (is_live_on w.ctx) m.live.items) refl (sym (ap (λ v. option_map wire_of (cond {A = Option LiveRequest} v None (live_on t.z (past t) s.ctx))) q) ∙ cooked))
 
   sent_flag : m.raw ≡ false → w.is_orphan ≡ false
   sent_flag r = sym (flag m t (is_asked op) w h (sym f)) ∙ ap (λ (q : Begun). is_orphan (requests t.z (past t)) q.op) sent_its ∙ (sent_request r).0
@@ -146,15 +146,15 @@ ctxs_sent c o (x ∷ xs) = go (x.ctx == c) (ctxs_sent c o xs)
     go true h = refl
     go false h = ap (λ (rest : List ℕ). x.ctx ∷ rest) h
 
-pub opened_as : (xs ys : List Live) (ss : List Seat) (cs : List ℕ) (dry : ℕ → Bool) → map live_ctx ys ≡ map live_ctx xs → Opened xs ss cs dry → Opened ys ss cs dry
+pub opened_as : (xs ys : List Live) (ss : List RequestContext) (cs : List ℕ) (dry : ℕ → Bool) → map live_ctx ys ≡ map live_ctx xs → Opened xs ss cs dry → Opened ys ss cs dry
 opened_as xs ys ss cs dry e h = record { homes = λ c k. h.homes c (ap (λ l. has l c) (sym e) ∙ k); contexts = h.contexts; dryness = h.dryness }
 
-pub opened_less : (c : ℕ) (xs : List Live) (ss : List Seat) (cs : List ℕ) (dry : ℕ → Bool) → Opened xs ss cs dry → Opened (without_live c xs) ss cs dry
+pub opened_less : (c : ℕ) (xs : List Live) (ss : List RequestContext) (cs : List ℕ) (dry : ℕ → Bool) → Opened xs ss cs dry → Opened (without_live c xs) ss cs dry
 opened_less c xs ss cs dry h = record { homes = λ d k. h.homes d (ctx_less c d xs k); contexts = h.contexts; dryness = h.dryness }
 
 -- ---- A request goes out again
 
-module _ (m : Machine) (t : Moment) (c p : ℕ) (r : Request) (h : Ties m t) (g : CanAgain t c p r) where
+module _ (m : Machine) (t : Moment) (c p : ℕ) (r : LiveRequest) (h : Ties m t) (g : CanAgain t c p r) where
   pub again_cooked : m.raw ≡ false
   again_cooked = go m.raw refl
     where
@@ -175,14 +175,14 @@ module _ (m : Machine) (t : Moment) (c p : ℕ) (r : Request) (h : Ties m t) (g 
       let has_some = asks t.z (is_req_role m t h) (is_raw m t h ∙ again_cooked) in
       let y = again_live in
       let after : requests t.z (Out p (wire_of r) ∷ past t) ≡ change_live (with_out m.tick p (wire_of (request_of y.0))) rs =
-      out_makes t.z (past t) p (wire_of r) has_some ∙ ap (λ n. change_live (with_out n p (wire_of r)) rs) (sym h.0.moment) ∙ ap (λ (q : Request). change_live (with_out m.tick p (wire_of q)) rs) (sym y.2) in
+      out_makes t.z (past t) p (wire_of r) has_some ∙ ap (λ n. change_live (with_out n p (wire_of r)) rs) (sym h.0.moment) ∙ ap (λ (q : LiveRequest). change_live (with_out m.tick p (wire_of q)) rs) (sym y.2) in
       subst (λ (q : Requests). Asked m.raw (with_found (is_live_on c) (sent_at (record { pipe = p; when = m.tick })) m.live.items) m.last_id m.waiting.items (pend (past t)) q) (sym after)
       (gone_out m.raw m.live.items m.last_id m.waiting.items (pend (past t)) rs c m.tick p y.0 y.1 (λ q. no_send m.waiting.items (h.3.owned q)) h.3)
     where
       went : again_live.0.last_out ≢ None
       went n =
           let lost : is_lost t.z (past t) r.last_out ≡ true = second (is_nil r.replies) (is_lost t.z (past t) r.last_out) g.due in
-          let none : r.last_out ≡ None = ap (λ (q : Request). q.last_out) (sym again_live.2) ∙ n in
+          let none : r.last_out ≡ None = ap (λ (q : LiveRequest). q.last_out) (sym again_live.2) ∙ n in
           let bad : false ≡ true = sym (ap (is_lost t.z (past t)) none) ∙ lost in cc
         where
           second : (a b : Bool) → (a && b) ≡ true → b ≡ true
@@ -205,15 +205,15 @@ module _ (m : Machine) (t : Moment) (c p : ℕ) (r : Request) (h : Ties m t) (g 
 
 -- ---- A context is dry
 
-pub dried_opened : (c : ℕ) (xs : List Live) (ss : List Seat) (cs : List ℕ) (dry : ℕ → Bool) → Opened xs ss cs dry → Opened xs (map (dried c) ss) cs (λ d. (c == d) || dry d)
+pub dried_opened : (c : ℕ) (xs : List Live) (ss : List RequestContext) (cs : List ℕ) (dry : ℕ → Bool) → Opened xs ss cs dry → Opened xs (map (dried c) ss) cs (λ d. (c == d) || dry d)
 dried_opened c xs ss cs dry h = record { homes = h.homes; contexts = same ss ∙ h.contexts; dryness = λ d k. marks d ss (ap (λ l. has l d) h.contexts ∙ k) ∙ ap (λ b. (c == d) || b) (h.dryness d k) }
   where
-    same : (ss : List Seat) → map seat_ctx (map (dried c) ss) ≡ map seat_ctx ss
+    same : (ss : List RequestContext) → map seat_ctx (map (dried c) ss) ≡ map seat_ctx ss
     same [] = refl
     same (s ∷ ss) = ap (λ (rest : List ℕ). s.ctx ∷ rest) (same ss)
 
     -- of another context nothing changes
-    other : (d : ℕ) (ss : List Seat) → (c == d) ≡ false → dry_at d (map (dried c) ss) ≡ dry_at d ss
+    other : (d : ℕ) (ss : List RequestContext) → (c == d) ≡ false → dry_at d (map (dried c) ss) ≡ dry_at d ss
     other d [] e = refl
     other d (s ∷ ss) e = let k = other d ss e in rw k (go (s.ctx == d) refl (s.ctx == c) refl s.is_dry)
       where
@@ -226,7 +226,7 @@ dried_opened c xs ss cs dry h = record { homes = h.homes; contexts = same ss ∙
         go true f false g false = refl
         go true f true g y = absurd (third s.ctx d c f g e)
 
-    it : (d : ℕ) (ss : List Seat) → (c == d) ≡ true → has (map seat_ctx ss) d ≡ true → dry_at d (map (dried c) ss) ≡ true
+    it : (d : ℕ) (ss : List RequestContext) → (c == d) ≡ true → has (map seat_ctx ss) d ≡ true → dry_at d (map (dried c) ss) ≡ true
     it d [] e k = absurd cc
     it d (s ∷ ss) e k = go (s.ctx == d) refl (s.ctx == c) refl s.is_dry k (it d ss e)
       where
@@ -239,21 +239,21 @@ dried_opened c xs ss cs dry h = record { homes = h.homes; contexts = same ss ∙
         go true f true g false k again = refl
         go true f false g y k again = absurd (third s.ctx d c f g e)
 
-    marks : (d : ℕ) (ss : List Seat) → has (map seat_ctx ss) d ≡ true → dry_at d (map (dried c) ss) ≡ ((c == d) || dry_at d ss)
+    marks : (d : ℕ) (ss : List RequestContext) → has (map seat_ctx ss) d ≡ true → dry_at d (map (dried c) ss) ≡ ((c == d) || dry_at d ss)
     marks d ss k = go (c == d) refl
       where
         go : (b : Bool) → (c == d) ≡ b → dry_at d (map (dried c) ss) ≡ (b || dry_at d ss)
         go true e = it d ss e k
         go false e = other d ss e
 
-pub wetted_opened : (xs : List Live) (ss : List Seat) (cs : List ℕ) (dry : ℕ → Bool) → Opened xs ss cs dry → Opened xs (map wetted ss) cs (λ d. false)
+pub wetted_opened : (xs : List Live) (ss : List RequestContext) (cs : List ℕ) (dry : ℕ → Bool) → Opened xs ss cs dry → Opened xs (map wetted ss) cs (λ d. false)
 wetted_opened xs ss cs dry h = record { homes = h.homes; contexts = same ss ∙ h.contexts; dryness = λ d k. none d ss }
   where
-    same : (ss : List Seat) → map seat_ctx (map wetted ss) ≡ map seat_ctx ss
+    same : (ss : List RequestContext) → map seat_ctx (map wetted ss) ≡ map seat_ctx ss
     same [] = refl
     same (s ∷ ss) = ap (λ (rest : List ℕ). s.ctx ∷ rest) (same ss)
 
-    none : (d : ℕ) (ss : List Seat) → dry_at d (map wetted ss) ≡ false
+    none : (d : ℕ) (ss : List RequestContext) → dry_at d (map wetted ss) ≡ false
     none d [] = refl
     none d (s ∷ ss) = rw (none d ss) (go (s.ctx == d))
       where
@@ -284,7 +284,7 @@ opened_more m t c l h =
     new : c ≡ opened (past t) + 1
     new = l.turn.0.itself.1
 
-    one : (ss : List Seat) (d : ℕ) → dry_at d (ss ++ record { ctx = c; is_dry = false } ∷ []) ≡ dry_at d ss
+    one : (ss : List RequestContext) (d : ℕ) → dry_at d (ss ++ record { ctx = c; is_dry = false } ∷ []) ≡ dry_at d ss
     one [] d = last (c == d)
       where
         last : (b : Bool) → (b && false || false) ≡ false
@@ -292,7 +292,7 @@ opened_more m t c l h =
         last false = refl
     one (s ∷ ss) d = ap (λ b. (s.ctx == d) && s.is_dry || b) (one ss d)
 
-    absent : (ss : List Seat) (d : ℕ) → has (map seat_ctx ss) d ≡ false → dry_at d ss ≡ false
+    absent : (ss : List RequestContext) (d : ℕ) → has (map seat_ctx ss) d ≡ false → dry_at d ss ≡ false
     absent [] d k = refl
     absent (s ∷ ss) d k = step (s.ctx == d) s.is_dry k (absent ss d)
       where
@@ -319,7 +319,7 @@ opened_more m t c l h =
         let above : opened (past t) < d = omega (arith, new, is) in
         absent m.seats.items d (ap (λ cs. has cs d) h.4.contexts ∙ e) ∙ sym (next_not_dry t.z (past t) d (lawful_before t (Ctx c Open) l) above)
 
-pub shut_opened : (m : Machine) (t : Moment) (c : ℕ) (ss : List Seat) → Ties m t → ss ≡ filter (λ (s : Seat). not (s.ctx == c)) m.seats.items → Opened (without_live c m.live.items) ss (without (ctxs (past t)) c) (λ d. is_dry (past t) d)
+pub shut_opened : (m : Machine) (t : Moment) (c : ℕ) (ss : List RequestContext) → Ties m t → ss ≡ filter (λ (s : RequestContext). not (s.ctx == c)) m.seats.items → Opened (without_live c m.live.items) ss (without (ctxs (past t)) c) (λ d. is_dry (past t) d)
 shut_opened m t c ss h e =
     record {
       homes = λ d k. has_still (ctxs (past t)) c d (h.4.homes d (ctx_less c d m.live.items k)) (away d k);
@@ -327,12 +327,12 @@ shut_opened m t c ss h e =
       dryness = λ d k. let q = there (ctxs (past t)) d k in ap (dry_at d) e ∙ stays d m.seats.items q.1 ∙ h.4.dryness d q.0;
     }
   where
-    less : (ss : List Seat) → map seat_ctx (filter (λ (s : Seat). not (s.ctx == c)) ss) ≡ without (map seat_ctx ss) c
+    less : (ss : List RequestContext) → map seat_ctx (filter (λ (s : RequestContext). not (s.ctx == c)) ss) ≡ without (map seat_ctx ss) c
     less [] = refl
     less (s ∷ ss) = go (s.ctx == c) (less ss)
       where
-        go : (b : Bool) → map seat_ctx (filter (λ (s : Seat). not (s.ctx == c)) ss) ≡ without (map seat_ctx ss) c
-            → map seat_ctx (cond (not b) (s ∷ filter (λ (s : Seat). not (s.ctx == c)) ss) (filter (λ (s : Seat). not (s.ctx == c)) ss)) ≡ cond (not b) (s.ctx ∷ without (map seat_ctx ss) c) (without (map seat_ctx ss) c)
+        go : (b : Bool) → map seat_ctx (filter (λ (s : RequestContext). not (s.ctx == c)) ss) ≡ without (map seat_ctx ss) c
+            → map seat_ctx (cond (not b) (s ∷ filter (λ (s : RequestContext). not (s.ctx == c)) ss) (filter (λ (s : RequestContext). not (s.ctx == c)) ss)) ≡ cond (not b) (s.ctx ∷ without (map seat_ctx ss) c) (without (map seat_ctx ss) c)
         go true k = k
         go false k = ap (λ (rest : List ℕ). s.ctx ∷ rest) k
 
@@ -358,18 +358,18 @@ shut_opened m t c ss h e =
         go false f true g k again = (refl, other x c d f g)
         go false f false g k again = again (sym (ap (λ y. y || has (without cs c) d) g) ∙ k)
 
-    stays : (d : ℕ) (ss : List Seat) → (d == c) ≡ false → dry_at d (filter (λ (s : Seat). not (s.ctx == c)) ss) ≡ dry_at d ss
+    stays : (d : ℕ) (ss : List RequestContext) → (d == c) ≡ false → dry_at d (filter (λ (s : RequestContext). not (s.ctx == c)) ss) ≡ dry_at d ss
     stays d [] q = refl
     stays d (s ∷ ss) q = go (s.ctx == c) refl (s.ctx == d) refl (stays d ss q)
       where
         third : (l m n : ℕ) → (l == m) ≡ true → (l == n) ≡ true → (n == m) ≡ false → ⊥
         third l m n a b k = grind (arith, nat_tests)
 
-        go : (a : Bool) → (s.ctx == c) ≡ a → (b : Bool) → (s.ctx == d) ≡ b → dry_at d (filter (λ (s : Seat). not (s.ctx == c)) ss) ≡ dry_at d ss
-            → dry_at d (cond (not a) (s ∷ filter (λ (s : Seat). not (s.ctx == c)) ss) (filter (λ (s : Seat). not (s.ctx == c)) ss)) ≡ (b && s.is_dry || dry_at d ss)
+        go : (a : Bool) → (s.ctx == c) ≡ a → (b : Bool) → (s.ctx == d) ≡ b → dry_at d (filter (λ (s : RequestContext). not (s.ctx == c)) ss) ≡ dry_at d ss
+            → dry_at d (cond (not a) (s ∷ filter (λ (s : RequestContext). not (s.ctx == c)) ss) (filter (λ (s : RequestContext). not (s.ctx == c)) ss)) ≡ (b && s.is_dry || dry_at d ss)
         go true f true g k = absurd (third s.ctx c d f g q)
         go true f false g k = k
-        go false f b g k = ap (λ y. y && s.is_dry || dry_at d (filter (λ (s : Seat). not (s.ctx == c)) ss)) g ∙ ap (λ y. b && s.is_dry || y) k
+        go false f b g k = ap (λ y. y && s.is_dry || dry_at d (filter (λ (s : RequestContext). not (s.ctx == c)) ss)) g ∙ ap (λ y. b && s.is_dry || y) k
 
 pub shut_asked : (m : Machine) (t : Moment) (c : ℕ) → Lawful (also t (Ctx c Shut)) → Ties m t → Asked m.raw (without_live c m.live.items) m.last_id m.waiting.items (pend (past t)) (requests t.z (Ctx c Shut ∷ past t))
 shut_asked m t c l h = go m.raw refl

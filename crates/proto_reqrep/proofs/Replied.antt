@@ -9,10 +9,10 @@ use Rattle.sp_base.specs.declared.OpName.{OpName}
 use Rattle.sp_history.specs.declared.setting.Setting.{Setting}
 use Rattle.sp_history.specs.declared.entry.Entry.{Entry}
 use Rattle.sp_history.specs.declared.entry.Entry.TheVariants.{Begin, Up, Down, Full, Ctx}
-use Rattle.sp_history.specs.declared.entry.Gate.TheVariants.{Open, Shut}
-use Rattle.sp_history.specs.declared.entry.Act.{Act}
+use Rattle.sp_history.specs.declared.entry.ContextChange.TheVariants.{Open, Shut}
+use Rattle.sp_history.specs.declared.entry.RecordedAct.{RecordedAct}
 use Rattle.sp_history.specs.declared.entry.Why.{Why}
-use Rattle.sp_history.specs.declared.entry.WireName.{WireName}
+use Rattle.sp_history.specs.declared.entry.WireNumbers.{WireNumbers}
 use Rattle.sp_history.specs.declared.parts.Begun.{Begun}
 use Rattle.sp_history.specs.declared.parts.Item.{Item}
 use Rattle.sp_history.specs.declared.parts.Origin.{Origin}
@@ -26,15 +26,15 @@ use Rattle.sp_history.specs.Moments.{Moment, Lawful, past, also, next}
 use Rattle.sp_history.proofs.OnceHolds.{same_op-refl}
 use Rattle.sp_proto.specs.Kinds.{Kind}
 use Rattle.proto_reqrep.specs.declared.rep.Reply.{Reply}
-use Rattle.proto_reqrep.specs.declared.rep.Kept.{Kept}
+use Rattle.proto_reqrep.specs.declared.rep.KeptRequest.{KeptRequest}
 use Rattle.proto_reqrep.specs.declared.rep.Source.{Source}
-use Rattle.proto_reqrep.specs.declared.rep.Place.{Place}
+use Rattle.proto_reqrep.specs.declared.rep.ReplyContext.{ReplyContext}
 use Rattle.proto_reqrep.specs.declared.rep.Answer.{Answer}
-use Rattle.proto_reqrep.specs.declared.rep.Waiting.{Waiting}
-use Rattle.proto_reqrep.specs.Ports.{Port, marked, cleared, is_below}
+use Rattle.proto_reqrep.specs.declared.rep.ReplyOperation.{ReplyOperation}
+use Rattle.proto_reqrep.specs.Ports.{PortView, marked, cleared, is_below}
 use Rattle.proto_reqrep.specs.Reps.{Ties, item_of, origin_of, origin_at, begun_of, act_of, ctx_of, Routed, AreHome}
-use Rattle.proto_reqrep.proofs.Taking.{apart_more}
-use Rattle.proto_reqrep.proofs.Knowing.{up_knows, known_below, fresh_knows, full_knows, down_knows}
+use Rattle.proto_reqrep.proofs.OperationsLeft.{apart_more}
+use Rattle.proto_reqrep.proofs.KnownPipes.{up_knows, known_below, fresh_knows, full_knows, down_knows}
 use Rattle.proto_reqrep.proofs.Homes.{opens_none, shut_ctxs, shut_origins}
 use Rattle.proto_reqrep.specs.Reps.{role_of}
 use Rattle.proto_reqrep.specs.declared.rep.ReplyRole.{ReplyRole}
@@ -53,11 +53,11 @@ kept_rep sides.Respondent z before c h = rw h refl
 
 -- ---- Frames are wanted
 
-any_from : (p : ℕ) (ks : List Kept) → list_any (is_from p) (map item_of ks) ≡ list_any (λ (k : Kept). k.pipe == p) ks
+any_from : (p : ℕ) (ks : List KeptRequest) → list_any (is_from p) (map item_of ks) ≡ list_any (λ (k : KeptRequest). k.pipe == p) ks
 any_from p [] = refl
 any_from p (k ∷ ks) = ap (λ b. (k.pipe == p) || b) (any_from p ks)
 
-pub wants_means : (y : ReplyRole) (z : Setting) (before : List Entry) (p : ℕ) (ks : List Kept) → z.role ≡ role_of y → map item_of ks ≡ pool z before 0 → not (list_any (λ (k : Kept). k.pipe == p) ks) ≡ wanted z before p
+pub wants_means : (y : ReplyRole) (z : Setting) (before : List Entry) (p : ℕ) (ks : List KeptRequest) → z.role ≡ role_of y → map item_of ks ≡ pool z before 0 → not (list_any (λ (k : KeptRequest). k.pipe == p) ks) ≡ wanted z before p
 wants_means y z before p ks h e = ap not (sym (any_from p ks)) ∙ ap (has_none_of p) (e ∙ sym (kept_rep y z before 0 h)) ∙ wanted_is y z before p h
   where
     wanted_is : (y : ReplyRole) (z : Setting) (before : List Entry) (p : ℕ) → z.role ≡ role_of y → has_none_of p (kept z before 0) ≡ wanted z before p
@@ -66,7 +66,7 @@ wants_means y z before p ks h e = ap not (sym (any_from p ks)) ∙ ap (has_none_
 
 -- ---- What is kept for a context
 
-none_left : {A : Type 0} (f : Kept → A) (n : ℕ) (ks : List Kept) → n ≡ length ks → (n == 0) ≡ is_nil (map f ks)
+none_left : {A : Type 0} (f : KeptRequest → A) (n : ℕ) (ks : List KeptRequest) → n ≡ length ks → (n == 0) ≡ is_nil (map f ks)
 none_left f n [] e = grind (arith, nat_tests)
 none_left f n (k ∷ ks) e = grind (arith, nat_tests)
 
@@ -76,22 +76,22 @@ keeps_means m t c n b h e k =
 
 -- ---- Pipes
 
-kept_without : (p : ℕ) (ks : List Kept) → map item_of (filter (λ (k : Kept). not (k.pipe == p)) ks) ≡ filter (λ i. not (is_from p i)) (map item_of ks)
+kept_without : (p : ℕ) (ks : List KeptRequest) → map item_of (filter (λ (k : KeptRequest). not (k.pipe == p)) ks) ≡ filter (λ i. not (is_from p i)) (map item_of ks)
 kept_without p [] = refl
 kept_without p (k ∷ ks) = go (k.pipe == p) (kept_without p ks)
   where
-    go : (b : Bool) → map item_of (filter (λ (k : Kept). not (k.pipe == p)) ks) ≡ filter (λ i. not (is_from p i)) (map item_of ks)
-        → map item_of (cond (not b) (k ∷ filter (λ (k : Kept). not (k.pipe == p)) ks) (filter (λ (k : Kept). not (k.pipe == p)) ks)) ≡ cond (not b) (item_of k ∷ filter (λ i. not (is_from p i)) (map item_of ks)) (filter (λ i. not (is_from p i)) (map item_of ks))
+    go : (b : Bool) → map item_of (filter (λ (k : KeptRequest). not (k.pipe == p)) ks) ≡ filter (λ i. not (is_from p i)) (map item_of ks)
+        → map item_of (cond (not b) (k ∷ filter (λ (k : KeptRequest). not (k.pipe == p)) ks) (filter (λ (k : KeptRequest). not (k.pipe == p)) ks)) ≡ cond (not b) (item_of k ∷ filter (λ i. not (is_from p i)) (map item_of ks)) (filter (λ i. not (is_from p i)) (map item_of ks))
     go true h = h
     go false h = ap (λ (rest : List Item). item_of k ∷ rest) h
 
 pool_down : (y : ReplyRole) (z : Setting) (before : List Entry) (p : ℕ) (why : Why) → z.role ≡ role_of y → pool z (Down p why ∷ before) 0 ≡ filter (λ i. not (is_from p i)) (pool z before 0)
 pool_down y z before p why h = ap (λ b. cond b (filter (λ i. not (is_from p i)) (pool z before 0)) (pool z before 0)) (replies y z h)
 
-pub up_below : (m : Reply) (t : Moment) (p place : ℕ) (name : WireName) → Lawful (also t (Up p place name)) → Ties m t → list_all (is_below p) m.ports.items ≡ true
+pub up_below : (m : Reply) (t : Moment) (p place : ℕ) (name : WireNumbers) → Lawful (also t (Up p place name)) → Ties m t → list_all (is_below p) m.ports.items ≡ true
 up_below m t p place name l h = known_below m.ports.items (up (past t)) (ups (past t)) p (λ q. has_full t.turn q) h.pipes l.turn.0.itself.0
 
-pub up_ties : (m n : Reply) (t : Moment) (p place : ℕ) (name : WireName) → Lawful (also t (Up p place name)) → Ties m t → n.ports.items ≡ m.ports.items ++ record { pipe = p; is_full = false } ∷ [] → n.kept ≡ m.kept → n.waiting ≡ m.waiting → n.places ≡ m.places
+pub up_ties : (m n : Reply) (t : Moment) (p place : ℕ) (name : WireNumbers) → Lawful (also t (Up p place name)) → Ties m t → n.ports.items ≡ m.ports.items ++ record { pipe = p; is_full = false } ∷ [] → n.kept ≡ m.kept → n.waiting ≡ m.waiting → n.places ≡ m.places
     → (n.raw ≡ m.raw) × (n.options ≡ m.options) × (n.role ≡ m.role) → Ties n (also t (Up p place name))
 up_ties m n t p place name l h e f w g same =
     record {
@@ -107,7 +107,7 @@ up_ties m n t p place name l h e f w g same =
       routed = rw w h.routed;
     }
 
-pub down_ties : (m n : Reply) (t : Moment) (p : ℕ) (why : Why) → Ties m t → n.ports.items ≡ filter (λ (x : Port). not (x.pipe == p)) m.ports.items → n.kept.items ≡ filter (λ (k : Kept). not (k.pipe == p)) m.kept.items
+pub down_ties : (m n : Reply) (t : Moment) (p : ℕ) (why : Why) → Ties m t → n.ports.items ≡ filter (λ (x : PortView). not (x.pipe == p)) m.ports.items → n.kept.items ≡ filter (λ (k : KeptRequest). not (k.pipe == p)) m.kept.items
     → n.waiting ≡ m.waiting → n.places ≡ m.places → (n.raw ≡ m.raw) × (n.options ≡ m.options) × (n.role ≡ m.role) → Ties n (also t (Down p why))
 down_ties m n t p why h e f w l same =
     record {
@@ -215,7 +215,7 @@ pool_shut : (z : Setting) (before : List Entry) (c : ℕ) → c ≢ 0 → pool z
 pool_shut z before c h =
     let away : (c == 0) ≡ false = grind (arith, nat_tests) in rw away refl
 
-pub shut_ties : (m n : Reply) (t : Moment) (c : ℕ) → Lawful (also t (Ctx c Shut)) → Ties m t → n.places.items ≡ filter (λ (x : Place). not (x.ctx == c)) m.places.items → n.ports ≡ m.ports → n.kept ≡ m.kept → n.waiting ≡ m.waiting → (n.raw ≡ m.raw) × (n.options ≡ m.options) × (n.role ≡ m.role) → Ties n (also t (Ctx c Shut))
+pub shut_ties : (m n : Reply) (t : Moment) (c : ℕ) → Lawful (also t (Ctx c Shut)) → Ties m t → n.places.items ≡ filter (λ (x : ReplyContext). not (x.ctx == c)) m.places.items → n.ports ≡ m.ports → n.kept ≡ m.kept → n.waiting ≡ m.waiting → (n.raw ≡ m.raw) × (n.options ≡ m.options) × (n.role ≡ m.role) → Ties n (also t (Ctx c Shut))
 shut_ties m n t c l h e p f w same =
     record {
       kind = rw (same.0, same.1, same.2) h.kind;
@@ -240,7 +240,7 @@ left_of : (a b : Bool) → (not a && b) ≡ true → a ≡ false
 left_of a b h = elim a as (λ v. (not v && b) ≡ true → v ≡ false) [ true ↦ λ q. absurd cc | false ↦ λ q. refl ] h
 
 -- the sends that waited, and one more
-routed_more : (routes : OpName → Option Origin) (x : Option Origin) (op : OpName) (ws : List Waiting) (w : Waiting) → w.op ≡ op → list_any (is_at op.slot) (map begun_of ws) ≡ false → Routed routes ws
+routed_more : (routes : OpName → Option Origin) (x : Option Origin) (op : OpName) (ws : List ReplyOperation) (w : ReplyOperation) → w.op ≡ op → list_any (is_at op.slot) (map begun_of ws) ≡ false → Routed routes ws
     → ((r : Answer) → w.answer ≡ Some r → option_map origin_of r.source ≡ x) → Routed (λ o. cond (same_op op o) x (routes o)) (ws ++ w ∷ [])
 routed_more routes x op [] w i h k n = (λ r e. n r e ∙ sym (ap (λ b. cond b x (routes w.op)) (subst (λ (o : OpName). same_op op o ≡ true) (sym i) (same_op-refl op))), k)
 routed_more routes x op (v ∷ ws) w i h k n = go (is_at op.slot (begun_of v)) refl h (routed_more routes x op ws w i)
@@ -256,7 +256,7 @@ routed_more routes x op (v ∷ ws) w i h k n = go (is_at op.slot (begun_of v)) r
         let other : same_op op v.op ≡ false = rw (differ v.op.slot op.slot e) refl in
         (λ r q. k.0 r q ∙ sym (ap (λ b. cond b x (routes v.op)) other), again h k.1 n)
 
-pub begun_ties : (m n : Reply) (t : Moment) (w : Waiting) (a : Act) (source : Option Source) (deadline : Option ℕ) → Lawful (also t (Begin w.op t.caller w.ctx a deadline)) → Ties m t → act_of w.answer ≡ a → ((r : Answer) → w.answer ≡ Some r → r.source ≡ source)
+pub begun_ties : (m n : Reply) (t : Moment) (w : ReplyOperation) (a : RecordedAct) (source : Option Source) (deadline : Option ℕ) → Lawful (also t (Begin w.op t.caller w.ctx a deadline)) → Ties m t → act_of w.answer ≡ a → ((r : Answer) → w.answer ≡ Some r → r.source ≡ source)
     → option_map origin_of source ≡ origin_at w.ctx m.places.items → ((d : ℕ) → origin_at d n.places.items ≡ cond (w.ctx == d) None (origin_at d m.places.items)) → map ctx_of n.places.items ≡ map ctx_of m.places.items
     → n.waiting.items ≡ m.waiting.items ++ w ∷ [] → n.ports ≡ m.ports → n.kept ≡ m.kept → (n.raw ≡ m.raw) × (n.options ≡ m.options) × (n.role ≡ m.role) → Ties n (also t (Begin w.op t.caller w.ctx a deadline))
 begun_ties m n t w a source deadline l h i j u v x e p f same =
@@ -269,7 +269,7 @@ begun_ties m n t w a source deadline l h i j u v x e p f same =
       items = rw f h.items;
       pending =
           ap (map begun_of) e ∙ map-append begun_of m.waiting.items (w ∷ []) ∙ ap (λ (ss : List Begun). ss ++ begun_of w ∷ []) h.pending
-          ∙ ap (λ (b : Act). pend (past t) ++ record { op = w.op; ctx = w.ctx; act = b } ∷ []) i;
+          ∙ ap (λ (b : RecordedAct). pend (past t) ++ record { op = w.op; ctx = w.ctx; act = b } ∷ []) i;
       apart = apart_more (pend (past t)) (record { op = w.op; ctx = w.ctx; act = a }) h.apart free;
       contexts = x ∙ h.contexts;
       homes = homes_more (ctxs (past t)) (pend (past t)) (record { op = w.op; ctx = w.ctx; act = a }) h.homes may.ctx_open;

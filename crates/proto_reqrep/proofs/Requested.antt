@@ -10,7 +10,7 @@ use Rattle.sp_history.specs.declared.entry.Entry.{Entry}
 use Rattle.sp_history.specs.declared.parts.Begun.{Begun}
 use Rattle.sp_history.specs.declared.parts.How.{How}
 use Rattle.sp_history.specs.declared.parts.Orphan.{Orphan}
-use Rattle.sp_history.specs.declared.parts.Request.{Request}
+use Rattle.sp_history.specs.declared.parts.LiveRequest.{LiveRequest}
 use Rattle.sp_history.specs.declared.parts.Requests.{Requests}
 use Rattle.sp_history.specs.declared.setting.Setting.{Setting}
 use Rattle.sp_history.specs.Lists.{has, same_op, first_word}
@@ -20,12 +20,12 @@ use Rattle.sp_history.specs.Once.{AreApart, AreDistinct, occurs}
 use Rattle.sp_history.specs.Requests.{is_orphan, orphan_of, is_bereft, end_on, without_orphan, change_live, with_out, with_frame, wire_of, next_id, begin_on}
 use Rattle.sp_history.specs.Legal.{was_superseded, is_at}
 use Rattle.proto_reqrep.specs.declared.req.Live.{Live}
-use Rattle.proto_reqrep.specs.declared.req.Kept.{Kept}
+use Rattle.proto_reqrep.specs.declared.req.KeptReply.{KeptReply}
 use Rattle.proto_reqrep.specs.declared.req.Asking.{Asking}
 use Rattle.proto_reqrep.specs.Reqs.{Asked, begun_of, is_asked, is_left, is_sending, is_sending_on, is_receiving_on, orphaned, without_first, without_live, live_ctx, live_id, is_live_on, request_of, is_superseded, with_found, sent_at, with_reply, HasLive, IsOf, item_of}
-use Rattle.proto_reqrep.proofs.Taking.{apart_without, apart_more}
+use Rattle.proto_reqrep.proofs.OperationsLeft.{apart_without, apart_more}
 use Rattle.proto_reqrep.proofs.Orphaned.{any_either, all_both, all_kept, left_more, none_more, caused, without_map, left_less}
-use Rattle.proto_reqrep.proofs.Living.{live_less, distinct_less, distinct_more, sound_less, sound_more, find_last}
+use Rattle.proto_reqrep.proofs.RequestLives.{live_less, distinct_less, distinct_more, sound_less, sound_more, find_last}
 use Rattle.proto_reqrep.proofs.Outgoing.{out_is, out_alone, ids_out, ctxs_out, sound_out, ids_kept, ctxs_kept, sound_kept, frame_is}
 use Rattle.proto_reqrep.proofs.Owning.{owned_more, owned_taken, owned_marked, owned_longer, owned_less, owned_out, owned_kept, single_more, single_taken, single_marked}
 
@@ -177,7 +177,7 @@ module _ (raw : Bool) (xs : List Live) (id : Option ℕ) (ws : List Asking) (ss 
       })
 
   -- a reply comes
-  pub reply_came : (z : Setting) (before : List Entry) (p n : ℕ) (b : List ℕ) (k : Kept) → z.role ≡ role.Req → malformed z before p b ≡ false → first_word b ≡ Some n → item_of k ≡ plain_item p (drop 4 b) → Asked raw xs id ws ss rs
+  pub reply_came : (z : Setting) (before : List Entry) (p n : ℕ) (b : List ℕ) (k : KeptReply) → z.role ≡ role.Req → malformed z before p b ≡ false → first_word b ≡ Some n → item_of k ≡ plain_item p (drop 4 b) → Asked raw xs id ws ss rs
       → Asked raw (with_reply n k xs) id ws ss (change_live (with_frame z before p b) rs)
   reply_came z before p n b k r m f i h =
       record {
@@ -223,7 +223,7 @@ module _ (raw : Bool) (xs : List Live) (id : Option ℕ) (ws : List Asking) (ss 
       → Asked raw (xs ++ x ∷ []) (Some x.id) (ws ++ w ∷ []) (ss ++ begun_of w ∷ []) (begin_on z t c body rs)
   begun_new c t w x z body o on m e eb free alone away new is_id xc xh xb xt xl xr xi h =
       record {
-        live = map-append request_of xs (x ∷ []) ∙ ap (λ (r : Request). map request_of xs ++ r ∷ []) request_is ∙ ap (λ (l : List Request). l ++ record { ctx = c; id = next_id z rs; body = body; birth = t; last_out = None; replies = [] } ∷ []) h.live;
+        live = map-append request_of xs (x ∷ []) ∙ ap (λ (r : LiveRequest). map request_of xs ++ r ∷ []) request_is ∙ ap (λ (l : List LiveRequest). l ++ record { ctx = c; id = next_id z rs; body = body; birth = t; last_out = None; replies = [] } ∷ []) h.live;
         last_id = ap (λ (n : ℕ). Some n) (sym is_id);
         ids = distinct_more live_id xs x h.ids new;
         places = distinct_more live_ctx xs x h.places (subst (λ n. has (map live_ctx xs) n ≡ false) (sym xc) away);
@@ -240,7 +240,7 @@ module _ (raw : Bool) (xs : List Live) (id : Option ℕ) (ws : List Asking) (ss 
       none op true = refl
       none op false = rw o refl
 
-      request_is : ◌≡◌ {A = Request} (request_of x) (record { ctx = c; id = next_id z rs; body = body; birth = t; last_out = None; replies = [] })
+      request_is : ◌≡◌ {A = LiveRequest} (request_of x) (record { ctx = c; id = next_id z rs; body = body; birth = t; last_out = None; replies = [] })
       request_is = rw (xc, is_id, xb, xt, xl, xr) refl
 
       found : find (is_live_on w.ctx) (xs ++ x ∷ []) ≡ Some x

@@ -4,12 +4,12 @@ use Rattle.std.specs.List.{list_any, list_all}
 use Rattle.sp_base.specs.declared.OpName.{OpName}
 use Rattle.sp_base.specs.declared.role.Role.TheVariants as role
 use Rattle.sp_msg.specs.Views.{MessageView}
-use Rattle.sp_history.specs.declared.entry.Act.{Act}
-use Rattle.sp_history.specs.declared.entry.Act.TheVariants.{Recv, Send}
+use Rattle.sp_history.specs.declared.entry.RecordedAct.{RecordedAct}
+use Rattle.sp_history.specs.declared.entry.RecordedAct.TheVariants.{Recv, Send}
 use Rattle.sp_history.specs.declared.parts.Begun.{Begun}
 use Rattle.sp_history.specs.declared.parts.Item.{Item}
 use Rattle.sp_history.specs.declared.parts.Orphan.{Orphan}
-use Rattle.sp_history.specs.declared.parts.Request.{Request}
+use Rattle.sp_history.specs.declared.parts.LiveRequest.{LiveRequest}
 use Rattle.sp_history.specs.declared.parts.Requests.{Requests}
 use Rattle.sp_history.specs.declared.parts.LastOut.{LastOut}
 use Rattle.sp_history.specs.declared.setting.Options.{Options}
@@ -21,44 +21,44 @@ use Rattle.sp_history.specs.Once.{AreApart, AreDistinct}
 use Rattle.sp_history.specs.Settled.{has_full}
 use Rattle.sp_history.specs.Moments.{Moment, past}
 use Rattle.sp_proto.specs.Kinds.{Kind, text_of}
-use Rattle.sp_proto.specs.Readings.{Reading, reading, out_last}
+use Rattle.sp_proto.specs.Readings.{MomentReading, reading, out_last}
 use Rattle.sp_proto.specs.declared.Offer.{Offer}
 use Rattle.sp_proto.specs.declared.Offer.TheVariants as offers
 use Rattle.sp_proto.specs.declared.Verb.{Verb}
 use Rattle.sp_proto.specs.declared.Verb.TheVariants as verbs
 use Rattle.sp_proto.specs.declared.Verdict.{Verdict}
 use Rattle.sp_proto.specs.declared.Verdict.TheVariants as verdict
-use Rattle.proto_reqrep.specs.Ports.{Port, Knows, is_pipe, free_count, next_number as next_pipe}
+use Rattle.proto_reqrep.specs.Ports.{PortView, Knows, is_pipe, free_count, next_number as next_pipe}
 use Rattle.proto_reqrep.specs.Lives.{StayCalm}
 use Rattle.proto_reqrep.specs.Hints.{HintsView, covers}
 use Rattle.std.specs.Option.{option_map}
-use Rattle.proto_reqrep.specs.declared.req.Request.{Request as Machine}
+use Rattle.proto_reqrep.specs.declared.req.Request.{LiveRequest as Machine}
 use Rattle.proto_reqrep.specs.declared.req.Live.{Live}
-use Rattle.proto_reqrep.specs.declared.req.Kept.{Kept}
+use Rattle.proto_reqrep.specs.declared.req.KeptReply.{KeptReply}
 use Rattle.proto_reqrep.specs.declared.req.Asking.{Asking}
-use Rattle.proto_reqrep.specs.declared.req.Seat.{Seat}
+use Rattle.proto_reqrep.specs.declared.req.RequestContext.{RequestContext}
 
 abbrev pub req_kind : Bool → Options → Kind
 req_kind raw options = record { role = role.Req; raw = raw; options = options }
 
 -- ---- Contexts
 
-abbrev pub seat_ctx : Seat → ℕ
+abbrev pub seat_ctx : RequestContext → ℕ
 seat_ctx s = s.ctx
 
 -- a copy for the context found no memory
-abbrev pub dry_at : ℕ → List Seat → Bool
-dry_at c xs = list_any (λ (s : Seat). (s.ctx == c) && s.is_dry) xs
+abbrev pub dry_at : ℕ → List RequestContext → Bool
+dry_at c xs = list_any (λ (s : RequestContext). (s.ctx == c) && s.is_dry) xs
 
-abbrev pub dried : ℕ → Seat → Seat
+abbrev pub dried : ℕ → RequestContext → RequestContext
 dried c s = record { ctx = s.ctx; is_dry = s.is_dry || (s.ctx == c) }
 
-abbrev pub wetted : Seat → Seat
+abbrev pub wetted : RequestContext → RequestContext
 wetted s = record { ctx = s.ctx; is_dry = false }
 
 -- ---- Operations
 
-abbrev pub act_of : Option MessageView → Act
+abbrev pub act_of : Option MessageView → RecordedAct
 act_of None = Recv
 act_of (Some m) = Send (text_of m)
 
@@ -99,14 +99,14 @@ is_left op w = w.is_orphan && same_op w.op op
 
 -- ---- Live requests
 
-abbrev pub item_of : Kept → Item
+abbrev pub item_of : KeptReply → Item
 item_of k = record { pipe = k.pipe; words = []; message = text_of k.message }
 
-abbrev pub items_of : Option Kept → List Item
+abbrev pub items_of : Option KeptReply → List Item
 items_of None = []
 items_of (Some k) = item_of k ∷ []
 
-abbrev pub request_of : Live → Request
+abbrev pub request_of : Live → LiveRequest
 request_of x = record { ctx = x.ctx; id = x.id; body = x.copy.body; birth = x.birth; last_out = x.last_out; replies = items_of x.reply }
 
 abbrev pub live_ctx : Live → ℕ
@@ -124,7 +124,7 @@ without_live c xs = without_found (is_live_on c) xs
 abbrev pub keeps_reply : ℕ → Live → Bool
 keeps_reply c x = (x.ctx == c) && is_some x.reply
 
-abbrev pub message_in : Option Kept → Option MessageView
+abbrev pub message_in : Option KeptReply → Option MessageView
 message_in None = None
 message_in (Some k) = Some k.message
 
@@ -136,11 +136,11 @@ reply_in (Some x) = message_in x.reply
 abbrev pub waits_for : ℕ → Live → Bool
 waits_for id x = (x.id == id) && is_some x.last_out && not (is_some x.reply)
 
-abbrev pub with_kept : Kept → Live → Live
+abbrev pub with_kept : KeptReply → Live → Live
 with_kept k x = record { ctx = x.ctx; id = x.id; copy = x.copy; birth = x.birth; last_out = x.last_out; reply = Some k }
 
 -- the first that waits for it keeps the reply
-abbrev pub with_reply : ℕ → Kept → List Live → List Live
+abbrev pub with_reply : ℕ → KeptReply → List Live → List Live
 with_reply id k xs = with_found (waits_for id) (with_kept k) xs
 
 -- it went out so
@@ -165,24 +165,24 @@ free_number (suc tries) xs id = if list_any (λ (x : Live). x.id == id) xs then 
 -- ---- What can be done
 
 -- a message can be given to a receive of the context
-abbrev pub is_given : Bool → List Kept → List Live → ℕ → Bool
+abbrev pub is_given : Bool → List KeptReply → List Live → ℕ → Bool
 is_given true ks xs c = not (is_nil ks)
 is_given false ks xs c = list_any (keeps_reply c) xs
 
 -- its pipe is down, or it is too long ago
-abbrev pub is_late : ℕ → ℕ → List Port → LastOut → Bool
+abbrev pub is_late : ℕ → ℕ → List PortView → LastOut → Bool
 is_late resend t ps o = not (list_any (is_pipe o.pipe) ps) || nat_le (o.when + resend) t
 
-abbrev pub is_late_in : ℕ → ℕ → List Port → Option LastOut → Bool
+abbrev pub is_late_in : ℕ → ℕ → List PortView → Option LastOut → Bool
 is_late_in resend t ps None = false
 is_late_in resend t ps (Some o) = is_late resend t ps o
 
 -- the live request may go out again
-abbrev pub is_due : ℕ → ℕ → List Port → List Seat → Live → Bool
+abbrev pub is_due : ℕ → ℕ → List PortView → List RequestContext → Live → Bool
 is_due resend t ps ss x = not (is_some x.reply) && (is_late_in resend t ps x.last_out && not (dry_at x.ctx ss))
 
 -- no request before this place may go out again
-abbrev pub AreCalm : ℕ → ℕ → List Port → List Seat → ℕ → List Live → Type 0
+abbrev pub AreCalm : ℕ → ℕ → List PortView → List RequestContext → ℕ → List Live → Type 0
 AreCalm resend t ps ss n xs = list_any (is_due resend t ps ss) (take n xs) ≡ false
 
 -- a receive for which a reply is kept
@@ -259,7 +259,7 @@ abbrev pub raw_item : ℕ → List ℕ → Item
 raw_item p b = record { pipe = p; words = []; message = record { header = take 4 b; body = drop 4 b } }
 
 -- a raw frame is kept
-abbrev pub KeepsRaw : Verdict → ℕ → List ℕ → List Kept → List Kept → Type 0
+abbrev pub KeepsRaw : Verdict → ℕ → List ℕ → List KeptReply → List KeptReply → Type 0
 KeepsRaw verdict.Fine p b old new = (first_word b ≢ None) × (map item_of new ≡ map item_of old ++ raw_item p b ∷ [])
 KeepsRaw verdict.Malformed p b old new = (first_word b ≡ None) × (new ≡ old)
 KeepsRaw verdict.NoMemory p b old new = (first_word b ≢ None) × (new ≡ old)
@@ -328,17 +328,17 @@ pub record Asked (raw : Bool) (xs : List Live) (id : Option ℕ) (ws : List Aski
   pub owned : raw ≡ false → HaveLive xs ws
 
 -- the open contexts, those of the live requests among them, and which are dry
-pub record Opened (xs : List Live) (seats : List Seat) (cs : List ℕ) (dry : ℕ → Bool) : Type 0 where
+pub record Opened (xs : List Live) (seats : List RequestContext) (cs : List ℕ) (dry : ℕ → Bool) : Type 0 where
   pub homes : (c : ℕ) → has (map live_ctx xs) c ≡ true → has cs c ≡ true
   pub contexts : map seat_ctx seats ≡ cs
   pub dryness : (c : ℕ) → has cs c ≡ true → dry_at c seats ≡ dry c
 
 -- raw, what it keeps
-abbrev pub Keeps : Bool → List Kept → List Item → Type 0
+abbrev pub Keeps : Bool → List KeptReply → List Item → Type 0
 Keeps raw ks is = raw ≡ true → map item_of ks ≡ is
 
 -- it stands for what it reads of a moment
-abbrev pub Stands : Machine → Reading → Type 0
+abbrev pub Stands : Machine → MomentReading → Type 0
 Stands m r =
     SetTo m.raw m.options m.tick m.last_pipe r.kind r.now r.out_last
     × Knows m.ports.items r.up r.ups r.full

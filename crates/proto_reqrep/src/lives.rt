@@ -17,7 +17,7 @@ ghost use Rattle.proto_reqrep.specs.Lives.{is_answered, StayCalm};
 ghost use Rattle.proto_reqrep.specs.Numbers.{number_at, is_known};
 
 use crate::numbers::Numbers;
-use crate::req::{Kept, Live};
+use crate::req::{KeptReply, Live};
 use crate::spots::{Spot, close_up_half, empty, hint, rest, stays};
 use sp_base::{Ctx, NoMemory};
 use sp_history::parts::LastOut;
@@ -274,7 +274,7 @@ fn send_spot(s: &mut Spot<Live>, out: LastOut)
 }
 
 // The one that stands there keeps the reply.
-fn answer_spot(s: &mut Spot<Live>, kept: Kept)
+fn answer_spot(s: &mut Spot<Live>, kept: KeptReply)
     ensures { s.new ≡ changed (with_kept kept) s.old }
 {
     match &mut s.value {
@@ -297,7 +297,7 @@ fn set_out(list: &mut [Spot<Live>], place: Option<usize>, c: Ctx, out: LastOut)
 }
 
 // The one with this id, which stands here, keeps the reply.
-fn set_reply(list: &mut [Spot<Live>], place: Option<usize>, id: u32, kept: Kept)
+fn set_reply(list: &mut [Spot<Live>], place: Option<usize>, id: u32, kept: KeptReply)
     requires { place ≡ position (holds (waits_for id)) list.old }
     ensures held { held list.new ≡ with_reply id kept (held list.old) }
     ensures front { (n : ℕ) → length (held (take n list.new)) ≡ length (held (take n list.old)) }
@@ -544,7 +544,7 @@ impl Lives {
     }
 
     /// Keeps the reply for the one that has this id and waits for one, if there is one. Returns its context.
-    pub fn keep_reply(&mut self, id: u32, kept: Kept) -> Option<Ctx>
+    pub fn keep_reply(&mut self, id: u32, kept: KeptReply) -> Option<Ctx>
         ensures ctx { result ≡ option_map live_ctx (find (waits_for id) self.old.items) }
         ensures items { self.new.items ≡ with_reply id kept self.old.items }
         ensures calm { self.new.calm ≡ self.old.calm }

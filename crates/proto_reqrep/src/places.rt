@@ -3,17 +3,17 @@ ghost use Rattle.std.specs.Prelude.{◌≡◌, ◌++◌, ◌∷◌, ◌==◌, �
 ghost use Rattle.std.specs.Option.{option_map};
 ghost use Rattle.std.specs.List.{list_any, position};
 ghost use Rattle.sp_history.specs.Lists.{has};
-ghost use Rattle.proto_reqrep.specs.declared.rep.Place.{Place as PlaceType};
+ghost use Rattle.proto_reqrep.specs.declared.rep.ReplyContext.{ReplyContext as ReplyContextType};
 ghost use Rattle.proto_reqrep.specs.Ordered.{AreOrdered};
 ghost use Rattle.proto_reqrep.specs.Reps.{is_home, origin_of, origin_at, ctx_of};
 
 use crate::contexts::{OnCtx, goes_on, place_in, take_out};
-use crate::rep::{Place, Source};
+use crate::rep::{ReplyContext, Source};
 use sp_base::{Ctx, NoMemory};
 use std::alloc::Global;
 use std::marker::Model;
 
-impl OnCtx for Place {
+impl OnCtx for ReplyContext {
     ghost ctx_of = { λ x. x.ctx };
 
     fn ctx(&self) -> Ctx {
@@ -25,7 +25,7 @@ impl OnCtx for Place {
 #[derive(Drop)]
 pub struct Places {
     /// In the order in which they were opened.
-    list: Vec<Place>,
+    list: Vec<ReplyContext>,
     /// That is the order of their numbers.
     in_order: bool,
 }
@@ -41,14 +41,14 @@ impl Model for Places {
 }
 
 // Where the place of the context stands.
-fn home(list: &[Place], in_order: bool, c: Ctx) -> Option<usize>
+fn home(list: &[ReplyContext], in_order: bool, c: Ctx) -> Option<usize>
     ensures { (in_order ≡ true → AreOrdered ctx_of list.now) → result ≡ position (is_home c) list.now }
 {
     place_in(list, in_order, c)
 }
 
 // A request is stored at the place.
-fn is_stored_at(list: &[Place], place: Option<usize>, c: Ctx) -> bool
+fn is_stored_at(list: &[ReplyContext], place: Option<usize>, c: Ctx) -> bool
     requires { place ≡ position (is_home c) list.now }
     ensures { result ≡ is_some (origin_at c list.now) }
 {
@@ -59,7 +59,7 @@ fn is_stored_at(list: &[Place], place: Option<usize>, c: Ctx) -> bool
 }
 
 // Stores a request at the place of the context.
-fn store_at(list: &mut [Place], place: Option<usize>, c: Ctx, source: Source)
+fn store_at(list: &mut [ReplyContext], place: Option<usize>, c: Ctx, source: Source)
     requires { place ≡ position (is_home c) list.old }
     ensures ctxs { map ctx_of list.new ≡ map ctx_of list.old }
     ensures stored { (d : ℕ) → has (map ctx_of list.old) c ≡ true → origin_at d list.new ≡ (if c == d then Some (origin_of source) else origin_at d list.old) }
@@ -71,7 +71,7 @@ fn store_at(list: &mut [Place], place: Option<usize>, c: Ctx, source: Source)
 }
 
 // Takes the request away that is stored at the place of the context.
-fn unstore_at(list: &mut [Place], place: Option<usize>, c: Ctx) -> Option<Source>
+fn unstore_at(list: &mut [ReplyContext], place: Option<usize>, c: Ctx) -> Option<Source>
     requires { place ≡ position (is_home c) list.old }
     ensures ctxs { map ctx_of list.new ≡ map ctx_of list.old }
     ensures result { option_map origin_of result ≡ origin_at c list.old }
@@ -89,7 +89,7 @@ impl Places {
         ensures { IfOk result (λ v. v.items ≡ record { ctx = 0; stored = None } ∷ []) }
     {
         let mut list = Vec::new(alloc);
-        match list.push(Place {
+        match list.push(ReplyContext {
             ctx: Ctx(0),
             stored: None,
         }) {
@@ -147,7 +147,7 @@ impl Places {
         ensures same { OnErr result (self.new.items ≡ self.old.items) }
     {
         let goes_on = goes_on(&self.list, self.in_order, c);
-        match self.list.push(Place {
+        match self.list.push(ReplyContext {
             ctx: c,
             stored: None,
         }) {
@@ -161,7 +161,7 @@ impl Places {
 
     /// The context is open no longer.
     pub fn close(&mut self, c: Ctx)
-        ensures { self.new.items ≡ filter (λ (x : PlaceType). not (is_home c x)) self.old.items }
+        ensures { self.new.items ≡ filter (λ (x : ReplyContextType). not (is_home c x)) self.old.items }
     {
         take_out(&mut self.list, self.in_order, c);
     }

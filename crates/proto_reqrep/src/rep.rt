@@ -10,16 +10,16 @@ ghost use Rattle.sp_history.specs.Backtrace.{back};
 ghost use Rattle.sp_history.specs.declared.parts.Back.TheVariants.{Found};
 ghost use Rattle.sp_msg.specs.Views.{wire_text};
 ghost use Rattle.sp_proto.specs.Kinds.{Starts, entry_act};
-ghost use Rattle.proto_reqrep.specs.declared.rep.Waiting.{Waiting as WaitingType};
+ghost use Rattle.proto_reqrep.specs.declared.rep.ReplyOperation.{ReplyOperation as ReplyOperationType};
 ghost use Rattle.proto_reqrep.specs.declared.rep.Answer.{Answer as AnswerType};
 ghost use Rattle.proto_reqrep.specs.Spots.{holds};
 ghost use Rattle.proto_reqrep.specs.Reps.{Ties, reply_kind, role_of, item_of, origin_of, origin_at, is_for, is_home, is_receive, is_ready, way_of, out_text, without_first, ctx_of, send_offer, Gives, act_of, state_at};
 
 use crate::backlog::{Backlog, FromPipe};
 use crate::places::Places;
-use crate::ports::{Ports, Way};
+use crate::ports::{Destination, Ports};
 use crate::spots::Spot;
-use crate::trail::{Trail, Words, first_word, scan};
+use crate::trail::{BacktraceWords, Trail, first_word, scan};
 use crate::waits::{Waiter, Waits};
 use sp_base::{Ctx, NoMemory, OpName, PipeId, Role, Tick};
 use sp_history::setting::Options;
@@ -29,13 +29,13 @@ use std::alloc::Global;
 
 /// A request that is kept. Raw, its pipe and its words stand in the header as well.
 #[derive(Drop)]
-struct Kept {
+struct KeptRequest {
     pipe: PipeId,
-    words: Words,
+    words: BacktraceWords,
     message: Message,
 }
 
-impl FromPipe for Kept {
+impl FromPipe for KeptRequest {
     ghost pipe_of = { λ k. k.pipe };
 
     fn pipe(&self) -> PipeId {
@@ -47,12 +47,12 @@ impl FromPipe for Kept {
 #[derive(Drop)]
 pub struct Source {
     pub pipe: PipeId,
-    pub words: Words,
+    pub words: BacktraceWords,
 }
 
 /// An open context, and the request that its next send answers.
 #[derive(Drop)]
-pub struct Place {
+pub struct ReplyContext {
     pub ctx: Ctx,
     pub stored: Option<Source>,
 }
@@ -66,13 +66,13 @@ struct Answer {
 
 /// An operation that waits: a send, or a receive.
 #[derive(Drop)]
-struct Waiting {
+struct ReplyOperation {
     op: OpName,
     ctx: Ctx,
     answer: Option<Answer>,
 }
 
-impl Waiter for Waiting {
+impl Waiter for ReplyOperation {
     ghost use Rattle.std.specs.Prelude.{is_some, false};
     ghost use Rattle.proto_reqrep.specs.RepLaws as laws;
 
@@ -129,15 +129,15 @@ pub struct Reply {
     options: Options,
     ports: Ports,
     /// Requests.
-    kept: Backlog<Kept>,
+    kept: Backlog<KeptRequest>,
     /// In the order of their begins.
-    waiting: Waits<Waiting>,
+    waiting: Waits<ReplyOperation>,
     /// Of the open contexts.
     places: Places,
 }
 
 // Where a send may go.
-fn way_of(raw: bool, ports: &Ports, answer: &Answer) -> Way
+fn way_of(raw: bool, ports: &Ports, answer: &Answer) -> Destination
     ensures { result ≡ way_of raw ports.now.items answer.now }
 {
     if raw {
@@ -153,17 +153,17 @@ fn way_of(raw: bool, ports: &Ports, answer: &Answer) -> Way
 }
 
 // Whether it is a send whose pipe isn't up and full.
-fn is_ready(raw: bool, ports: &Ports, w: &Waiting) -> bool
+fn is_ready(raw: bool, ports: &Ports, w: &ReplyOperation) -> bool
     ensures { result ≡ is_ready raw ports.now.items w.now }
 {
     match &w.answer {
         None => false,
-        Some(r) => way_of(raw, ports, r) != Way::Full,
+        Some(r) => way_of(raw, ports, r) != Destination::Full,
     }
 }
 
 // The same of a spot.
-fn is_ready_at(raw: bool, ports: &Ports, s: &Spot<Waiting>) -> bool
+fn is_ready_at(raw: bool, ports: &Ports, s: &Spot<ReplyOperation>) -> bool
     ensures { result ≡ holds (is_ready raw ports.now.items) s.now }
 {
     match &s.value {
@@ -173,7 +173,7 @@ fn is_ready_at(raw: bool, ports: &Ports, s: &Spot<Waiting>) -> bool
 }
 
 // Where the first such send stands.
-fn ready_place(raw: bool, ports: &Ports, list: &[Spot<Waiting>]) -> Option<usize>
+fn ready_place(raw: bool, ports: &Ports, list: &[Spot<ReplyOperation>]) -> Option<usize>
     ensures { result ≡ position (holds (is_ready raw ports.now.items)) list.now }
 {
     list.iter().position(|s| is_ready_at(raw, ports, s))
@@ -210,25 +210,25 @@ fn outward(raw: bool, answer: Answer) -> Message
 }
 
 // A frame with a whole backtrace, as it is kept.
-fn traced(alloc: Global, raw: bool, ttl: u8, p: PipeId, m: Message) -> Result<Kept, NoMemory>
+fn traced(alloc: Global, raw: bool, ttl: u8, p: PipeId, m: Message) -> Result<KeptRequest, NoMemory>
     requires header { m.header ≡ [] }
     ensures pipe { IfOk result (λ k. k.pipe ≡ p) }
     ensures kept { IfOk result (λ k. (words rest : List ℕ) → back ttl m.body ≡ Found words rest → Some (item_of k) ≡ traced_item raw p (Found words rest)) }
 {
     let mut message = m;
-    match Words::take(alloc, &mut message, ttl) {
+    match BacktraceWords::take(alloc, &mut message, ttl) {
         Err(e) => Err(e),
         Ok(words) => {
             if raw {
                 let _ = message.header_append_u32(p.0);
                 words.lead(&mut message);
-                return Ok(Kept {
+                return Ok(KeptRequest {
                     pipe: p,
-                    words: Words::none(alloc),
+                    words: BacktraceWords::none(alloc),
                     message,
                 });
             }
-            Ok(Kept {
+            Ok(KeptRequest {
                 pipe: p,
                 words,
                 message,
@@ -294,15 +294,15 @@ impl Reply {
     }
 
     // The send goes out, or nowhere.
-    fn send_of(&self, w: &Waiting) -> Offer
+    fn send_of(&self, w: &ReplyOperation) -> Offer
         ensures { result ≡ send_offer self.now.raw self.now.ports.items (Some w.now) }
     {
         match &w.answer {
             None => Offer::Idle,
             Some(r) => match way_of(self.raw, &self.ports, r) {
-                Way::To(pipe) => Offer::Send { op: w.op, pipe },
-                Way::Full => Offer::Drop { op: w.op },
-                Way::Nowhere => Offer::Drop { op: w.op },
+                Destination::To(pipe) => Offer::Send { op: w.op, pipe },
+                Destination::Full => Offer::Drop { op: w.op },
+                Destination::Nowhere => Offer::Drop { op: w.op },
             },
         }
     }
@@ -315,7 +315,7 @@ impl Reply {
         match self.kept.pop() {
             None => None,
             Some(
-                Kept {
+                KeptRequest {
                     pipe,
                     words,
                     message,
@@ -428,7 +428,7 @@ impl Proto for Reply {
     fn begin(&mut self, op: OpName, c: Ctx, act: Act) -> Result<(), Message> {
         let source = self.places.unstore(c);
         let answer = answer_of(act, source);
-        self.waiting.push(Waiting { op, ctx: c, answer });
+        self.waiting.push(ReplyOperation { op, ctx: c, answer });
         Ok(())
     }
 

@@ -13,10 +13,10 @@ ghost use Rattle.sp_history.specs.Lists.{word, head_of};
 ghost use Rattle.sp_history.specs.Requests.{next_number};
 ghost use Rattle.sp_msg.specs.Views.{wire_text};
 ghost use Rattle.sp_proto.specs.Kinds.{Starts};
-ghost use Rattle.proto_reqrep.specs.declared.req.Kept.{Kept as KeptType};
+ghost use Rattle.proto_reqrep.specs.declared.req.KeptReply.{KeptReply as KeptReplyType};
 ghost use Rattle.proto_reqrep.specs.declared.req.Live.{Live as LiveType};
 ghost use Rattle.proto_reqrep.specs.declared.req.Asking.{Asking as AskingType};
-ghost use Rattle.proto_reqrep.specs.declared.req.Seat.{Seat as SeatType};
+ghost use Rattle.proto_reqrep.specs.declared.req.RequestContext.{RequestContext as RequestContextType};
 ghost use Rattle.proto_reqrep.specs.Spots.{holds};
 ghost use Rattle.proto_reqrep.specs.Lives.{StayCalm};
 ghost use Rattle.proto_reqrep.specs.Reqs.{Ties, req_kind, is_live_on, is_asked, without_first, without_live, orphaned, with_found, sent_at, is_sending, is_due, dry_at, dried, wetted, number_after, free_number, reply_in, gets, answers, with_reply, ready_on, AreReady, IsReply, Asks, KeepsRaw, is_given, is_late, IsCalm, live_ctx, out_offer, ask_state, is_receiving_on, work_left, IsNextPipe};
@@ -42,12 +42,12 @@ const MOST_LIVE: usize = 2_147_483_647;
 
 /// A message that is kept, and the pipe that it came from.
 #[derive(Drop)]
-pub struct Kept {
+pub struct KeptReply {
     pub pipe: PipeId,
     pub message: Message,
 }
 
-impl FromPipe for Kept {
+impl FromPipe for KeptReply {
     ghost pipe_of = { λ k. k.pipe };
 
     fn pipe(&self) -> PipeId {
@@ -64,7 +64,7 @@ pub struct Live {
     pub copy: Message,
     pub birth: Tick,
     pub last_out: Option<LastOut>,
-    pub reply: Option<Kept>,
+    pub reply: Option<KeptReply>,
 }
 
 /// An operation that waits: a send has its message, as it was begun.
@@ -122,7 +122,7 @@ impl Waiter for Asking {
 
 /// An open context.
 #[derive(Clone, Copy)]
-pub struct Seat {
+pub struct RequestContext {
     pub ctx: Ctx,
     /// A copy of a request of it found no memory since the last tick.
     pub is_dry: bool,
@@ -139,7 +139,7 @@ pub struct Request {
     last_pipe: PipeId,
     ports: Ports,
     /// Raw: replies.
-    kept: Backlog<Kept>,
+    kept: Backlog<KeptReply>,
     /// Cooked: at most one of each context. None of those that are skipped may go out again.
     live: Lives,
     /// In the order of their begins.
@@ -254,8 +254,8 @@ fn next_id(live: &Lives, dice: u32, last: Option<u32>) -> u32
 // ---- Raw messages
 
 // Takes the oldest.
-fn oldest(kept: &mut Backlog<Kept>) -> Option<Message>
-    ensures first { result ≡ option_map (λ (k : KeptType). k.message) (head_of kept.old.items) }
+fn oldest(kept: &mut Backlog<KeptReply>) -> Option<Message>
+    ensures first { result ≡ option_map (λ (k : KeptReplyType). k.message) (head_of kept.old.items) }
     ensures rest { kept.new.items ≡ drop 1 kept.old.items }
 {
     match kept.pop() {
@@ -267,7 +267,7 @@ fn oldest(kept: &mut Backlog<Kept>) -> Option<Message>
 // ---- Receives that can be given a reply
 
 // A reply is kept for the request that waits for it, if there is one. Its context is looked at.
-fn keep_reply(live: &mut Lives, ready: &mut Hints, id: u32, kept: Kept)
+fn keep_reply(live: &mut Lives, ready: &mut Hints, id: u32, kept: KeptReply)
     ensures live { live.new.items ≡ with_reply id kept live.old.items }
     ensures calm { live.new.calm ≡ live.old.calm }
     ensures ready { (ws : List AskingType) → AreReady ready.old live.old.items ws → AreReady ready.new live.new.items ws }
@@ -394,14 +394,14 @@ impl Request {
     fn keep_raw(&mut self, p: PipeId, m: Message) -> Verdict
         requires { m.header ≡ [] }
         ensures same { self.new ≡ record self.old { kept = self.new.kept } }
-        ensures kept { list_any (λ (k : KeptType). k.pipe == p) self.old.kept.items ≡ false → KeepsRaw result p m.body self.old.kept.items self.new.kept.items }
+        ensures kept { list_any (λ (k : KeptReplyType). k.pipe == p) self.old.kept.items ≡ false → KeepsRaw result p m.body self.old.kept.items self.new.kept.items }
     {
         let mut message = m;
         match message.trim_u32() {
             Err(_) => Verdict::Malformed,
             Ok(word) => {
                 let _ = message.header_append_u32(word);
-                match self.kept.push(Kept { pipe: p, message }) {
+                match self.kept.push(KeptReply { pipe: p, message }) {
                     Ok(()) => Verdict::Fine,
                     Err(_) => Verdict::NoMemory,
                 }
@@ -412,7 +412,7 @@ impl Request {
     // The message that a receive of the context gets.
     fn give(&mut self, c: Ctx) -> Option<Message>
         ensures same { self.new ≡ record self.old { live = self.new.live; kept = self.new.kept } }
-        ensures raw { self.old.raw ≡ true → (result ≡ option_map (λ (k : KeptType). k.message) (head_of self.old.kept.items)) × (self.new.kept.items ≡ drop 1 self.old.kept.items) × (self.new.live ≡ self.old.live) }
+        ensures raw { self.old.raw ≡ true → (result ≡ option_map (λ (k : KeptReplyType). k.message) (head_of self.old.kept.items)) × (self.new.kept.items ≡ drop 1 self.old.kept.items) × (self.new.live ≡ self.old.live) }
         ensures cooked { self.old.raw ≡ false → (result ≡ reply_in (find (is_live_on c) self.old.live.items)) × (self.new.live.items ≡ without_live c self.old.live.items) × (self.new.kept ≡ self.old.kept) }
         ensures calm { StayCalm self.old.live self.new.live }
     {
@@ -639,7 +639,7 @@ impl Proto for Request {
                     &mut self.live,
                     &mut self.ready,
                     id,
-                    Kept { pipe: p, message },
+                    KeptReply { pipe: p, message },
                 );
                 Verdict::Fine
             }

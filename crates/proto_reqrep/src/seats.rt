@@ -1,18 +1,18 @@
 //! The seats of open contexts.
 ghost use Rattle.std.specs.Prelude.{◌≡◌, ◌++◌, ◌∷◌, ◌==◌, ℕ, [], None, Some, true, false, not, IfOk, OnOk, OnErr, filter, map};
 ghost use Rattle.std.specs.List.{list_any, position};
-ghost use Rattle.proto_reqrep.specs.declared.req.Seat.{Seat as SeatType};
+ghost use Rattle.proto_reqrep.specs.declared.req.RequestContext.{RequestContext as RequestContextType};
 ghost use Rattle.proto_reqrep.specs.Backlogs.{is_of};
 ghost use Rattle.proto_reqrep.specs.Ordered.{AreOrdered};
 ghost use Rattle.proto_reqrep.specs.Reqs.{seat_ctx, dry_at, dried, wetted};
 
 use crate::contexts::{OnCtx, goes_on, place_in, take_out};
-use crate::req::Seat;
+use crate::req::RequestContext;
 use sp_base::{Ctx, NoMemory};
 use std::alloc::Global;
 use std::marker::Model;
 
-impl OnCtx for Seat {
+impl OnCtx for RequestContext {
     ghost ctx_of = { λ s. s.ctx };
 
     fn ctx(&self) -> Ctx {
@@ -24,7 +24,7 @@ impl OnCtx for Seat {
 #[derive(Drop)]
 pub struct Seats {
     /// In the order in which they were opened.
-    list: Vec<Seat>,
+    list: Vec<RequestContext>,
     /// That is the order of their numbers.
     in_order: bool,
     /// No context is dry.
@@ -42,24 +42,24 @@ impl Model for Seats {
 }
 
 // A copy for the context found no memory.
-fn is_dry(list: &[Seat], c: Ctx) -> bool
+fn is_dry(list: &[RequestContext], c: Ctx) -> bool
     ensures { result ≡ dry_at c list.now }
 {
     list.iter().any(|s| s.ctx.0 == c.0 && s.is_dry)
 }
 
 // Dry, if it is that of this context.
-fn dried(seat: Seat, c: Ctx) -> Seat
+fn dried(seat: RequestContext, c: Ctx) -> RequestContext
     ensures { result ≡ dried c seat }
 {
-    Seat {
+    RequestContext {
         ctx: seat.ctx,
         is_dry: seat.is_dry || seat.ctx.0 == c.0,
     }
 }
 
 // A copy for the context finds no memory.
-fn dry(list: &mut [Seat], c: Ctx)
+fn dry(list: &mut [RequestContext], c: Ctx)
     ensures { list.new ≡ map (dried c) list.old }
 {
     for seat in list.iter_mut() {
@@ -68,7 +68,7 @@ fn dry(list: &mut [Seat], c: Ctx)
 }
 
 // Each may be tried again.
-fn wet(list: &mut [Seat])
+fn wet(list: &mut [RequestContext])
     ensures { list.new ≡ map wetted list.old }
 {
     for seat in list.iter_mut() {
@@ -82,7 +82,7 @@ impl Seats {
         ensures { IfOk result (λ v. v.items ≡ record { ctx = 0; is_dry = false } ∷ []) }
     {
         let mut list = Vec::new(alloc);
-        match list.push(Seat {
+        match list.push(RequestContext {
             ctx: Ctx(0),
             is_dry: false,
         }) {
@@ -97,7 +97,7 @@ impl Seats {
 
     /// The context is open.
     pub fn has(&self, c: Ctx) -> bool
-        ensures { result ≡ list_any (λ (s : SeatType). s.ctx == c) self.now.items }
+        ensures { result ≡ list_any (λ (s : RequestContextType). s.ctx == c) self.now.items }
     {
         place_in(&self.list, self.in_order, c).is_some()
     }
@@ -137,7 +137,7 @@ impl Seats {
         ensures same { OnErr result (self.new.items ≡ self.old.items) }
     {
         let goes_on = goes_on(&self.list, self.in_order, c);
-        match self.list.push(Seat {
+        match self.list.push(RequestContext {
             ctx: c,
             is_dry: false,
         }) {
@@ -151,7 +151,7 @@ impl Seats {
 
     /// The context is open no longer.
     pub fn close(&mut self, c: Ctx)
-        ensures { self.new.items ≡ filter (λ (s : SeatType). not (s.ctx == c)) self.old.items }
+        ensures { self.new.items ≡ filter (λ (s : RequestContextType). not (s.ctx == c)) self.old.items }
     {
         take_out(&mut self.list, self.in_order, c);
     }

@@ -7,7 +7,7 @@ use Rattle.sp_base.specs.declared.OpName.{OpName}
 use Rattle.sp_history.specs.declared.setting.Setting.{Setting}
 use Rattle.sp_history.specs.declared.parts.Begun.{Begun}
 use Rattle.sp_history.specs.declared.parts.Orphan.{Orphan}
-use Rattle.sp_history.specs.declared.parts.Request.{Request}
+use Rattle.sp_history.specs.declared.parts.LiveRequest.{LiveRequest}
 use Rattle.sp_history.specs.declared.parts.Requests.{Requests}
 use Rattle.sp_history.specs.declared.parts.How.TheVariants as how
 use Rattle.sp_history.specs.Lists.{has}
@@ -16,13 +16,13 @@ use Rattle.sp_history.specs.Requests.{end_on, begin_on, next_id, change_live, wi
 use Rattle.sp_history.specs.Legal.{is_at}
 use Rattle.sp_history.specs.Once.{AreApart}
 use Rattle.proto_pending.proofs.Splits.{apart_without, apart_more}
-use Rattle.proto_survey.specs.declared.waiting.Asking.{Asking}
+use Rattle.proto_survey.specs.declared.waiting.SurveyOperation.{SurveyOperation}
 use Rattle.proto_survey.specs.declared.waiting.SurveyEnd.{SurveyEnd}
 use Rattle.proto_survey.specs.Lives.{SurveyView, survey_of, survey_ctx, survey_id, fresh_survey}
 use Rattle.proto_survey.specs.Askings.{begun_of, without_first, left_by, how_of, how_in, Ends}
 use Rattle.proto_survey.specs.Surveys.{Asked}
-use Rattle.proto_survey.proofs.Living.{filter_of, distinct_left, distinct_more, turned as turned_to}
-use Rattle.proto_survey.proofs.Leaving.{without_map, ends_taken, ends_left, begun_left, ends_more}
+use Rattle.proto_survey.proofs.SurveyLives.{filter_of, distinct_left, distinct_more, turned as turned_to}
+use Rattle.proto_survey.proofs.OrphanedOperations.{without_map, ends_taken, ends_left, begun_left, ends_more}
 
 -- none of these operations is of the context
 pub none_bereft : (c : ℕ) (rs : Requests) (ss : List Begun) → list_any (λ (s : Begun). s.ctx == c) ss ≡ false → filter (is_bereft (c ∷ []) rs) ss ≡ []
@@ -36,7 +36,7 @@ none_bereft c rs (s ∷ ss) h = go (s.ctx == c) refl h (none_bereft c rs ss)
     go true e k again = absurd cc
     go false e k again = rw (turned false e) (again k)
 
-module _ (xs : List SurveyView) (id : Option ℕ) (ws : List Asking) (ss : List Begun) (rs : Requests) where
+module _ (xs : List SurveyView) (id : Option ℕ) (ws : List SurveyOperation) (ss : List Begun) (rs : Requests) where
   apart_ws : Asked xs id ws ss rs → AreApart (map begun_of ws)
   apart_ws h = subst AreApart (sym h.pending) h.apart
 
@@ -54,7 +54,7 @@ module _ (xs : List SurveyView) (id : Option ℕ) (ws : List Asking) (ss : List 
       }
 
   -- the live requests were changed
-  pub relive : (f : Request → Request) (ys : List SurveyView) → ys ≡ map survey_of (map f rs.live) → map survey_id ys ≡ map survey_id xs → map survey_ctx ys ≡ map survey_ctx xs → Asked xs id ws ss rs → Asked ys id ws ss (change_live f rs)
+  pub relive : (f : LiveRequest → LiveRequest) (ys : List SurveyView) → ys ≡ map survey_of (map f rs.live) → map survey_id ys ≡ map survey_id xs → map survey_ctx ys ≡ map survey_ctx xs → Asked xs id ws ss rs → Asked ys id ws ss (change_live f rs)
   relive f ys e i c h =
       record {
         live = e;
@@ -70,7 +70,7 @@ module _ (xs : List SurveyView) (id : Option ℕ) (ws : List Asking) (ss : List 
   pub left : (cs : List ℕ) (e : SurveyEnd) → Asked xs id ws ss rs → Asked (filter (λ (x : SurveyView). not (has cs x.ctx)) xs) id (map (left_by (has cs) e) ws) ss (end_on cs (how_of e) ss rs)
   left cs e h =
       record {
-        live = ap (filter (λ (x : SurveyView). not (has cs x.ctx))) h.live ∙ filter_of (λ (x : SurveyView). not (has cs x.ctx)) (λ (r : Request). not (has cs r.ctx)) (λ r. refl) rs.live;
+        live = ap (filter (λ (x : SurveyView). not (has cs x.ctx))) h.live ∙ filter_of (λ (x : SurveyView). not (has cs x.ctx)) (λ (r : LiveRequest). not (has cs r.ctx)) (λ r. refl) rs.live;
         last_id = h.last_id;
         ids = distinct_left survey_id (λ (x : SurveyView). not (has cs x.ctx)) xs h.ids;
         places = distinct_left survey_ctx (λ (x : SurveyView). not (has cs x.ctx)) xs h.places;
@@ -83,7 +83,7 @@ module _ (xs : List SurveyView) (id : Option ℕ) (ws : List Asking) (ss : List 
   pub shut : (c : ℕ) → list_any (λ (s : Begun). s.ctx == c) ss ≡ false → Asked xs id ws ss rs → Asked (filter (λ (x : SurveyView). not (has (c ∷ []) x.ctx)) xs) id ws ss (end_on (c ∷ []) how.Shut ss rs)
   shut c n h =
       record {
-        live = ap (filter (λ (x : SurveyView). not (has (c ∷ []) x.ctx))) h.live ∙ filter_of (λ (x : SurveyView). not (has (c ∷ []) x.ctx)) (λ (r : Request). not (has (c ∷ []) r.ctx)) (λ r. refl) rs.live;
+        live = ap (filter (λ (x : SurveyView). not (has (c ∷ []) x.ctx))) h.live ∙ filter_of (λ (x : SurveyView). not (has (c ∷ []) x.ctx)) (λ (r : LiveRequest). not (has (c ∷ []) r.ctx)) (λ r. refl) rs.live;
         last_id = h.last_id;
         ids = distinct_left survey_id (λ (x : SurveyView). not (has (c ∷ []) x.ctx)) xs h.ids;
         places = distinct_left survey_ctx (λ (x : SurveyView). not (has (c ∷ []) x.ctx)) xs h.places;
@@ -97,7 +97,7 @@ module _ (xs : List SurveyView) (id : Option ℕ) (ws : List Asking) (ss : List 
       more (o ∷ os) = ap (λ (rest : List Orphan). o ∷ rest) (more os)
 
   -- an operation begins
-  pub begun : (w : Asking) → w.ended ≡ None → list_any (is_at w.op.slot) ss ≡ false → how_in rs.orphans w.op ≡ None → Asked xs id ws ss rs → Asked xs id (ws ++ w ∷ []) (ss ++ begun_of w ∷ []) rs
+  pub begun : (w : SurveyOperation) → w.ended ≡ None → list_any (is_at w.op.slot) ss ≡ false → how_in rs.orphans w.op ≡ None → Asked xs id ws ss rs → Asked xs id (ws ++ w ∷ []) (ss ++ begun_of w ∷ []) rs
   begun w n free k h =
       record {
         live = h.live;

@@ -11,17 +11,17 @@ use Rattle.sp_msg.specs.Views.{MessageView}
 use Rattle.sp_history.specs.declared.setting.Setting.{Setting}
 use Rattle.sp_history.specs.declared.entry.Entry.{Entry}
 use Rattle.sp_history.specs.declared.entry.Entry.TheVariants.{Out, End}
-use Rattle.sp_history.specs.declared.entry.Act.{Act}
-use Rattle.sp_history.specs.declared.entry.Act.TheVariants.{Recv, Send}
+use Rattle.sp_history.specs.declared.entry.RecordedAct.{RecordedAct}
+use Rattle.sp_history.specs.declared.entry.RecordedAct.TheVariants.{Recv, Send}
 use Rattle.sp_history.specs.declared.entry.Cause.{Cause}
 use Rattle.sp_history.specs.declared.entry.Ending.{Ending}
 use Rattle.sp_history.specs.declared.entry.Ending.TheVariants.{Won, Gone}
 use Rattle.sp_history.specs.declared.entry.Completion.TheVariants.{Received, Sent}
-use Rattle.sp_history.specs.declared.entry.Message.{Message}
+use Rattle.sp_history.specs.declared.entry.RecordedMessage.{RecordedMessage}
 use Rattle.sp_history.specs.declared.parts.Begun.{Begun}
 use Rattle.sp_history.specs.declared.parts.Item.{Item}
 use Rattle.sp_history.specs.declared.parts.Origin.{Origin}
-use Rattle.sp_history.specs.declared.parts.Request.{Request}
+use Rattle.sp_history.specs.declared.parts.LiveRequest.{LiveRequest}
 use Rattle.sp_history.specs.declared.parts.Requests.{Requests}
 use Rattle.sp_history.specs.declared.parts.How.TheVariants as how
 use Rattle.sp_history.specs.Setting.{has_contexts, has_requests}
@@ -47,44 +47,44 @@ use Rattle.proto_pending.specs.Waits.{is_send}
 use Rattle.proto_pending.proofs.Firsts.{no_sends}
 use Rattle.proto_reqrep.specs.Reqs.{with_found}
 use Rattle.proto_survey.specs.declared.survey.Survey.{Survey}
-use Rattle.proto_survey.specs.declared.survey.Kept.{Kept}
-use Rattle.proto_survey.specs.declared.waiting.Asking.{Asking}
+use Rattle.proto_survey.specs.declared.survey.KeptResponse.{KeptResponse}
+use Rattle.proto_survey.specs.declared.waiting.SurveyOperation.{SurveyOperation}
 use Rattle.proto_survey.specs.declared.waiting.SurveyEnd.{SurveyEnd}
 use Rattle.proto_survey.specs.declared.waiting.SurveyEnd.TheVariants as ends
 use Rattle.proto_survey.specs.Lives.{SurveyView, view_of, survey_of, survey_ctx, survey_id, is_live_on, given_from, first_in, is_kept}
 use Rattle.proto_survey.specs.Askings.{act_of, begun_of, is_asked, is_sending, without_first, cause_is, how_of, how_in}
 use Rattle.proto_survey.specs.Surveys.{Ties, Asked, IsFlood, out_text, item_of, gets, is_given, survey_state}
-use Rattle.proto_survey.proofs.Living.{equal_of, same_number, alone, keys_kept, map_of, find_of, any_of}
-use Rattle.proto_survey.proofs.Leaving.{find_begun, begun_found, find_own, not_orphan, all_finished}
+use Rattle.proto_survey.proofs.SurveyLives.{equal_of, same_number, alone, keys_kept, map_of, find_of, any_of}
+use Rattle.proto_survey.proofs.OrphanedOperations.{find_begun, begun_found, find_own, not_orphan, all_finished}
 use Rattle.proto_survey.proofs.Asks.{taken, relive}
 use Rattle.proto_survey.proofs.Moving.{is_survey, is_raw, raw_asked, itself_mapped}
-use Rattle.proto_survey.proofs.Sending.{surveys, surveys_nothing, no_req, it_floods, out_bytes, bytes_changed, wire_taken, other_orphan}
+use Rattle.proto_survey.proofs.SurveySends.{surveys, surveys_nothing, no_req, it_floods, out_bytes, bytes_changed, wire_taken, other_orphan}
 
 -- ---- The operation of a name
 
-pub the_op : (m : Survey) (t : Moment) (op : OpName) (s : Begun) → Ties m t → pending (past t) op ≡ Some s → (w : Asking) × (find (is_asked op) m.waiting.items ≡ Some w) × (begun_of w ≡ s)
+pub the_op : (m : Survey) (t : Moment) (op : OpName) (s : Begun) → Ties m t → pending (past t) op ≡ Some s → (w : SurveyOperation) × (find (is_asked op) m.waiting.items ≡ Some w) × (begun_of w ≡ s)
 the_op m t op s h p = find_begun op m.waiting.items s (ap (find (is_of op)) h.0.4.pending ∙ p)
 
 pub none_taken : {A : Type 0} (m : Survey) (t : Moment) (op : OpName) (s : Begun) → Ties m t → pending (past t) op ≡ Some s → None ≡ find (is_asked op) m.waiting.items → A
 none_taken m t op s h p e = let v = the_op m t op s h p in let k : None ≡ Some v.0 = e ∙ v.1 in absurd cc
 
-pub is_begun : (m : Survey) (t : Moment) (op : OpName) (s : Begun) (w : Asking) → Ties m t → pending (past t) op ≡ Some s → Some w ≡ find (is_asked op) m.waiting.items → begun_of w ≡ s
+pub is_begun : (m : Survey) (t : Moment) (op : OpName) (s : Begun) (w : SurveyOperation) → Ties m t → pending (past t) op ≡ Some s → Some w ≡ find (is_asked op) m.waiting.items → begun_of w ≡ s
 is_begun m t op s w h p e = let v = the_op m t op s h p in ap begun_of (some_inj v.0 (e ∙ v.1)) ∙ v.2
   where
-    some_inj : (v : Asking) → Some w ≡ Some v → w ≡ v
+    some_inj : (v : SurveyOperation) → Some w ≡ Some v → w ≡ v
     some_inj v q = cc
 
-pub its_lost : (s : Begun) (w : Asking) → begun_of w ≡ s → option_map text_of w.message ≡ message_of s.act
+pub its_lost : (s : Begun) (w : SurveyOperation) → begun_of w ≡ s → option_map text_of w.message ≡ message_of s.act
 its_lost s w e = go w.message ∙ ap (λ (q : Begun). message_of q.act) e
   where
     go : (o : Option MessageView) → option_map text_of o ≡ message_of (act_of o)
     go None = refl
     go (Some x) = refl
 
-pub recv_is : (s : Begun) (w : Asking) → begun_of w ≡ s → w.message ≡ None → is_recv s.act ≡ true
+pub recv_is : (s : Begun) (w : SurveyOperation) → begun_of w ≡ s → w.message ≡ None → is_recv s.act ≡ true
 recv_is s w e g = sym (ap (λ (q : Begun). is_recv q.act) e) ∙ ap (λ (o : Option MessageView). is_recv (act_of o)) g
 
-pub send_is : (s : Begun) (w : Asking) → begun_of w ≡ s → is_some w.message ≡ true → is_recv s.act ≡ false
+pub send_is : (s : Begun) (w : SurveyOperation) → begun_of w ≡ s → is_some w.message ≡ true → is_recv s.act ≡ false
 send_is s w e g = sym (ap (λ (q : Begun). is_recv q.act) e) ∙ go w.message g
   where
     go : (o : Option MessageView) → is_some o ≡ true → is_recv (act_of o) ≡ false
@@ -109,10 +109,10 @@ module _ (m : Survey) (t : Moment) (p : ℕ) (b : List ℕ) (h : Ties m t) where
   out_asked : Asked m.live.items m.last_id m.waiting.items (pend (past t)) (requests t.z (Out p b ∷ past t))
   out_asked = go m.raw refl
     where
-      f : Request → Request
+      f : LiveRequest → LiveRequest
       f = with_out (now (past t)) p b
 
-      one_is : (r : Request) → survey_of r ≡ survey_of (f r)
+      one_is : (r : LiveRequest) → survey_of r ≡ survey_of (f r)
       one_is r = step (same_bytes b (wire_of r))
         where
           step : (y : Bool) → survey_of r ≡ survey_of (cond y (record r { last_out = Some (record { pipe = p; when = now (past t) }) }) r)
@@ -172,7 +172,7 @@ module _ (m : Survey) (t : Moment) (op : OpName) (s : Begun) (h : Ties m t) (p :
   plain_bytes : (ending : Ending) → ((o : Option Begun) (ss : List Begun) (rs : Requests) → after_end t.z ending o ss rs ≡ rs) → (r : Begun) → same_op op r.op ≡ false → bytes_of t.z (past t) r ≡ bytes_of t.z (End op ending ∷ past t) r
   plain_bytes ending k r e =
       let makes = plain_end t.z (past t) op ending (is_survey m t h) k in
-      bytes_changed t.z (past t) (End op ending ∷ past t) r (λ (q : Request). q) (is_survey m t h) (λ q. refl)
+      bytes_changed t.z (past t) (End op ending ∷ past t) r (λ (q : LiveRequest). q) (is_survey m t h) (λ q. refl)
       (λ f. (ap (λ (rs : Requests). is_orphan rs r.op) makes ∙ other_orphan op r.op e (requests t.z (past t)).orphans, ap (λ (rs : Requests). find (is_on r.ctx) rs.live) makes ∙ itself_mapped (live_on t.z (past t) r.ctx)))
 
   plain_asked : (ending : Ending) → ((o : Option Begun) (ss : List Begun) (rs : Requests) → after_end t.z ending o ss rs ≡ rs) → Asked m.live.items m.last_id (without_first op m.waiting.items) (without_begun (pend (past t)) op) (requests t.z (End op ending ∷ past t))
@@ -183,14 +183,14 @@ module _ (m : Survey) (t : Moment) (op : OpName) (s : Begun) (h : Ties m t) (p :
   pub lost_send : (n : Survey) (cause : Cause) (by : ℕ) → is_recv s.act ≡ false → n.waiting.items ≡ without_first op m.waiting.items → n ≡ record m { waiting = n.waiting; copies = n.copies } → Ties n (also t (End op (Gone cause by)))
   lost_send n cause by is items same =
       subst (λ (x : Survey). Ties x (also t (End op (Gone cause by)))) (sym same) (
-        (h.0.0, h.0.1, h.0.2, h.0.3, subst (λ (ws : List Asking). Asked m.live.items m.last_id ws (without_begun (pend (past t)) op) (requests t.z (End op (Gone cause by) ∷ past t))) (sym items) (plain_asked (Gone cause by) (gone_same t.z cause by (is_survey m t h)))),
+        (h.0.0, h.0.1, h.0.2, h.0.3, subst (λ (ws : List SurveyOperation). Asked m.live.items m.last_id ws (without_begun (pend (past t)) op) (requests t.z (End op (Gone cause by) ∷ past t))) (sym items) (plain_asked (Gone cause by) (gone_same t.z cause by (is_survey m t h)))),
         send_ends _ _ _ _ t op s (Gone cause by) h.1 p is,
       )
 
   pub lost_receive : (n : Survey) (cause : Cause) (by : ℕ) → is_recv s.act ≡ true → n.waiting.items ≡ without_first op m.waiting.items → n ≡ record m { waiting = n.waiting } → Ties n (also t (End op (Gone cause by)))
   lost_receive n cause by is items same =
       subst (λ (x : Survey). Ties x (also t (End op (Gone cause by)))) (sym same) (
-        (h.0.0, h.0.1, h.0.2, h.0.3, subst (λ (ws : List Asking). Asked m.live.items m.last_id ws (without_begun (pend (past t)) op) (requests t.z (End op (Gone cause by) ∷ past t))) (sym items) (plain_asked (Gone cause by) (gone_same t.z cause by (is_survey m t h)))),
+        (h.0.0, h.0.1, h.0.2, h.0.3, subst (λ (ws : List SurveyOperation). Asked m.live.items m.last_id ws (without_begun (pend (past t)) op) (requests t.z (End op (Gone cause by) ∷ past t))) (sym items) (plain_asked (Gone cause by) (gone_same t.z cause by (is_survey m t h)))),
         stays (Gone cause by) is refl (plain_bytes (Gone cause by) (gone_same t.z cause by (is_survey m t h))),
       )
 
@@ -198,7 +198,7 @@ module _ (m : Survey) (t : Moment) (op : OpName) (s : Begun) (h : Ties m t) (p :
   pub flooded_ties : (n : Survey) → Lawful (also t (End op (Won Sent))) → n.waiting.items ≡ without_first op m.waiting.items → n ≡ record m { waiting = n.waiting; copies = n.copies } → Ties n (also t (End op (Won Sent)))
   flooded_ties n l items same =
       subst (λ (x : Survey). Ties x (also t (End op (Won Sent)))) (sym same) (
-        (h.0.0, h.0.1, h.0.2, h.0.3, subst (λ (ws : List Asking). Asked m.live.items m.last_id ws (without_begun (pend (past t)) op) (requests t.z (End op (Won Sent) ∷ past t))) (sym items) (plain_asked (Won Sent) (sent_same t.z))),
+        (h.0.0, h.0.1, h.0.2, h.0.3, subst (λ (ws : List SurveyOperation). Asked m.live.items m.last_id ws (without_begun (pend (past t)) op) (requests t.z (End op (Won Sent) ∷ past t))) (sym items) (plain_asked (Won Sent) (sent_same t.z))),
         send_ends _ _ _ _ t op s (Won Sent) h.1 p (won_send t op s l p),
       )
 
@@ -216,11 +216,11 @@ live_is m t c h = ap (find (is_live_on c)) h.0.4.live ∙ find_of c (requests t.
 pub given_is : (m : Survey) (t : Moment) (c : ℕ) → Ties m t → is_given m.raw m.kept.items m.live.items c ≡ not (is_nil (kept t.z (past t) c))
 given_is m t c h = go m.raw refl
   where
-    raw_nil : (ks : List Kept) → not (is_nil ks) ≡ not (is_nil (map item_of ks))
+    raw_nil : (ks : List KeptResponse) → not (is_nil ks) ≡ not (is_nil (map item_of ks))
     raw_nil [] = refl
     raw_nil (k ∷ ks) = refl
 
-    cooked_nil : (o : Option Request) → is_kept (option_map survey_of o) ≡ not (is_nil (replies_of o))
+    cooked_nil : (o : Option LiveRequest) → is_kept (option_map survey_of o) ≡ not (is_nil (replies_of o))
     cooked_nil None = refl
     cooked_nil (Some r) = step r.replies
       where
@@ -232,10 +232,10 @@ given_is m t c h = go m.raw refl
     go true r = raw_nil m.kept.items ∙ ap (λ (is : List Item). not (is_nil is)) (h.0.3 r ∙ sym (kept_raw t.z (past t) c (is_survey m t h) (is_raw m t h ∙ r)))
     go false r = ap is_kept (live_is m t c h) ∙ cooked_nil (live_on t.z (past t) c) ∙ ap (λ (is : List Item). not (is_nil is)) (sym (kept_cooked t.z (past t) c (surveys t.z (is_survey m t h) (is_raw m t h ∙ r))))
 
-pub wants_all : (m : Survey) (t : Moment) (p : ℕ) (b : Bool) → Ties m t → (m.raw ≡ true → b ≡ not (list_any (λ (k : Kept). k.pipe == p) m.kept.items)) → (m.raw ≡ false → b ≡ true) → b ≡ wanted t.z (past t) p
+pub wants_all : (m : Survey) (t : Moment) (p : ℕ) (b : Bool) → Ties m t → (m.raw ≡ true → b ≡ not (list_any (λ (k : KeptResponse). k.pipe == p) m.kept.items)) → (m.raw ≡ false → b ≡ true) → b ≡ wanted t.z (past t) p
 wants_all m t p b h f g = go m.raw refl
   where
-    from_same : (ks : List Kept) → list_any (is_from p) (map item_of ks) ≡ list_any (λ (k : Kept). k.pipe == p) ks
+    from_same : (ks : List KeptResponse) → list_any (is_from p) (map item_of ks) ≡ list_any (λ (k : KeptResponse). k.pipe == p) ks
     from_same [] = refl
     from_same (k ∷ ks) = ap (λ q. (k.pipe == p) || q) (from_same ks)
 
@@ -251,7 +251,7 @@ wants_all m t p b h f g = go m.raw refl
 
 -- ---- A receive is given a message
 
-module _ (m : Survey) (t : Moment) (op : OpName) (s : Begun) (text : Message) (h : Ties m t) (g : CanGive t op s text) where
+module _ (m : Survey) (t : Moment) (op : OpName) (s : Begun) (text : RecordedMessage) (h : Ties m t) (g : CanGive t op s text) where
   abbrev pub given_past : List Entry
   given_past = End op (Won (Received text)) ∷ past t
 
@@ -260,7 +260,7 @@ module _ (m : Survey) (t : Moment) (op : OpName) (s : Begun) (text : Message) (h
     where
       go : (b : Bool) → is_orphan (requests t.z (past t)) s.op ≡ b → is_some (request_of t.z (past t) s) ≡ true → b ≡ false
       go false e k = refl
-      go true e k = let bad : false ≡ true = sym (ap (λ q. is_some (cond {A = Option Request} q None (live_on t.z (past t) s.ctx))) e) ∙ k in absurd cc
+      go true e k = let bad : false ≡ true = sym (ap (λ q. is_some (cond {A = Option LiveRequest} q None (live_on t.z (past t) s.ctx))) e) ∙ k in absurd cc
 
   given_makes : t.z.raw ≡ false → requests t.z given_past ≡ without_orphan op (change_live (with_taken s.ctx) (requests t.z (past t)))
   given_makes r =
@@ -285,24 +285,24 @@ module _ (m : Survey) (t : Moment) (op : OpName) (s : Begun) (text : Message) (h
           h.0.1,
           h.0.2,
           λ q. ap (map item_of) rest ∙ dropped m.kept.items ∙ ap (drop 1) (h.0.3 r) ∙ sym (ap (λ b. cond b (drop 1 (pool t.z (past t) 0)) (pool t.z (past t) 0)) (ap (is_on_pool t.z 0) g.pending ∙ on_pool t.z (is_survey m t h))),
-          subst (λ (ws : List Asking). Asked m.live.items m.last_id ws (without_begun (pend (past t)) op) (requests t.z given_past)) (sym items)
+          subst (λ (ws : List SurveyOperation). Asked m.live.items m.last_id ws (without_begun (pend (past t)) op) (requests t.z given_past)) (sym items)
               (subst (λ (rs : Requests). Asked m.live.items m.last_id (without_first op m.waiting.items) (without_begun (pend (past t)) op) rs) (raw_end t.z (past t) op (Won (Received text)) (surveys_nothing t.z (is_survey m t h) (is_raw m t h ∙ r))) (taken m.live.items m.last_id m.waiting.items (pend (past t)) (requests t.z (past t)) op h.0.4)),
         ),
         given_floods,
       )
     where
-      dropped : (ks : List Kept) → map item_of (drop 1 ks) ≡ drop 1 (map item_of ks)
+      dropped : (ks : List KeptResponse) → map item_of (drop 1 ks) ≡ drop 1 (map item_of ks)
       dropped [] = refl
       dropped (k ∷ ks) = refl
 
       on_pool : (z : Setting) → z.role ≡ role.Surveyor → is_on_pool z 0 (Some s) ≡ true
       on_pool z i = rw i refl
 
-  pub oldest_raw : m.raw ≡ true → option_map text_of (option_map (λ (k : Kept). k.message) (head_of m.kept.items)) ≡ Some text
+  pub oldest_raw : m.raw ≡ true → option_map text_of (option_map (λ (k : KeptResponse). k.message) (head_of m.kept.items)) ≡ Some text
   oldest_raw r =
       firsts m.kept.items ∙ ap (λ (is : List Item). option_map (λ (i : Item). i.message) (head_of is)) (h.0.3 r ∙ sym (kept_raw t.z (past t) s.ctx (is_survey m t h) (is_raw m t h ∙ r))) ∙ g.may.oldest
     where
-      firsts : (ks : List Kept) → option_map text_of (option_map (λ (k : Kept). k.message) (head_of ks)) ≡ option_map (λ (i : Item). i.message) (head_of (map item_of ks))
+      firsts : (ks : List KeptResponse) → option_map text_of (option_map (λ (k : KeptResponse). k.message) (head_of ks)) ≡ option_map (λ (i : Item). i.message) (head_of (map item_of ks))
       firsts [] = refl
       firsts (k ∷ ks) = refl
 
@@ -320,7 +320,7 @@ module _ (m : Survey) (t : Moment) (op : OpName) (s : Begun) (text : Message) (h
           h.0.1,
           h.0.2,
           λ q. let bad : true ≡ false = sym q ∙ r in absurd cc,
-          subst (λ (ws : List Asking). Asked n.live.items m.last_id ws (without_begun (pend (past t)) op) (requests t.z given_past)) (sym items)
+          subst (λ (ws : List SurveyOperation). Asked n.live.items m.last_id ws (without_begun (pend (past t)) op) (requests t.z given_past)) (sym items)
               (subst (λ (rs : Requests). Asked n.live.items m.last_id (without_first op m.waiting.items) (without_begun (pend (past t)) op) rs) (sym (given_makes z_raw)) (taken n.live.items m.last_id m.waiting.items (pend (past t)) (change_live (with_taken s.ctx) (requests t.z (past t))) op changed)),
         ),
         given_floods,
@@ -329,7 +329,7 @@ module _ (m : Survey) (t : Moment) (op : OpName) (s : Begun) (text : Message) (h
       one : SurveyView → SurveyView
       one y = cond (y.ctx == s.ctx) (given_from y) y
 
-      one_is : (q : Request) → one (survey_of q) ≡ survey_of (with_taken s.ctx q)
+      one_is : (q : LiveRequest) → one (survey_of q) ≡ survey_of (with_taken s.ctx q)
       one_is q = go (q.ctx == s.ctx)
         where
           dropped : (is : List Item) → drop 1 (map view_of is) ≡ map view_of (drop 1 is)
@@ -349,13 +349,13 @@ module _ (m : Survey) (t : Moment) (op : OpName) (s : Begun) (text : Message) (h
       heads [] = refl
       heads (i ∷ is) = refl
 
-      firsts : (o : Option Request) → option_map text_of (first_in (option_map survey_of o)) ≡ option_map (λ (i : Item). i.message) (head_of (replies_of o))
+      firsts : (o : Option LiveRequest) → option_map text_of (first_in (option_map survey_of o)) ≡ option_map (λ (i : Item). i.message) (head_of (replies_of o))
       firsts None = refl
       firsts (Some q) = heads q.replies
 
 -- ---- Offers
 
-none_passes : (P : Asking → Bool) (ws : List Asking) → find P ws ≡ None → list_any P ws ≡ false
+none_passes : (P : SurveyOperation → Bool) (ws : List SurveyOperation) → find P ws ≡ None → list_any P ws ≡ false
 none_passes P [] h = refl
 none_passes P (x ∷ ws) h = go (P x) h (none_passes P ws)
   where
@@ -363,7 +363,7 @@ none_passes P (x ∷ ws) h = go (P x) h (none_passes P ws)
     go true q again = absurd cc
     go false q again = again q
 
-never : (P Q : Asking → Bool) (ws : List Asking) (w : Asking) → find Q ws ≡ Some w → find P ws ≡ None → P w ≡ false
+never : (P Q : SurveyOperation → Bool) (ws : List SurveyOperation) (w : SurveyOperation) → find Q ws ≡ Some w → find P ws ≡ None → P w ≡ false
 never P Q [] w h k = absurd cc
 never P Q (x ∷ ws) w h k = go (Q x) (P x) refl h k (never P Q ws w)
   where
@@ -375,14 +375,14 @@ never P Q (x ∷ ws) w h k = go (Q x) (P x) refl h k (never P Q ws w)
     go true false e q r again = sym (ap P (some_inj q)) ∙ e
     go false false e q r again = again q r
 
-pub its_pending : (m : Survey) (t : Moment) (P : Asking → Bool) (w : Asking) → Ties m t → find P m.waiting.items ≡ Some w → pending (past t) w.op ≡ Some (begun_of w)
+pub its_pending : (m : Survey) (t : Moment) (P : SurveyOperation → Bool) (w : SurveyOperation) → Ties m t → find P m.waiting.items ≡ Some w → pending (past t) w.op ≡ Some (begun_of w)
 its_pending m t P w h f =
     ap (find (is_of w.op)) (sym h.0.4.pending) ∙ begun_found w.op m.waiting.items w (find_own P m.waiting.items w f (subst (λ (l : List Begun). AreApart l) (sym h.0.4.pending) h.0.4.apart))
 
-its_how : (m : Survey) (t : Moment) (P : Asking → Bool) (w : Asking) → Ties m t → find P m.waiting.items ≡ Some w → option_map how_of w.ended ≡ how_in (requests t.z (past t)).orphans w.op
+its_how : (m : Survey) (t : Moment) (P : SurveyOperation → Bool) (w : SurveyOperation) → Ties m t → find P m.waiting.items ≡ Some w → option_map how_of w.ended ≡ how_in (requests t.z (past t)).orphans w.op
 its_how m t P w h f = h.0.4.ends w.op w (find_own P m.waiting.items w f (subst (λ (l : List Begun). AreApart l) (sym h.0.4.pending) h.0.4.apart))
 
-pub can_flood : (m : Survey) (t : Moment) (w : Asking) → Lawful t → Ties m t → find is_sending m.waiting.items ≡ Some w → (s : Begun) × (b : List ℕ) × CanFlood t w.op s b
+pub can_flood : (m : Survey) (t : Moment) (w : SurveyOperation) → Lawful t → Ties m t → find is_sending m.waiting.items ≡ Some w → (s : Begun) × (b : List ℕ) × CanFlood t w.op s b
 can_flood m t w l h f =
     let is : is_recv (act_of w.message) ≡ false = send_is (begun_of w) w refl (passes is_sending m.waiting.items w f) in
     let p = its_pending m t is_sending w h f in
@@ -394,17 +394,17 @@ can_flood m t w l h f =
     some_bytes None k = absurd k
     some_bytes (Some b) k = (b, refl)
 
-pub enough : (m : Survey) (t : Moment) (w : Asking) → Lawful t → Ties m t → find is_sending m.waiting.items ≡ Some w → HasCopies t.z (past t) (length m.copies.items)
+pub enough : (m : Survey) (t : Moment) (w : SurveyOperation) → Lawful t → Ties m t → find is_sending m.waiting.items ≡ Some w → HasCopies t.z (past t) (length m.copies.items)
 enough m t w l h f = (the_flood _ _ t w.op (begun_of w) l h.1 (its_pending m t is_sending w h f) (send_is (begun_of w) w refl (passes is_sending m.waiting.items w f))).1
 
-abbrev pub lone : Asking → Bool
+abbrev pub lone : SurveyOperation → Bool
 lone w = is_some w.ended
 
 not_sending : (o : Option MessageView) → is_some o ≡ false → is_recv (act_of o) ≡ true
 not_sending None q = refl
 not_sending (Some x) q = absurd cc
 
-pub can_finish : (m : Survey) (t : Moment) (w : Asking) (e : SurveyEnd) (cause : Cause) → Ties m t → find is_sending m.waiting.items ≡ None → find lone m.waiting.items ≡ Some w → w.ended ≡ Some e → cause ≡ cause_is e → (s : Begun) × CanFinish t w.op s cause
+pub can_finish : (m : Survey) (t : Moment) (w : SurveyOperation) (e : SurveyEnd) (cause : Cause) → Ties m t → find is_sending m.waiting.items ≡ None → find lone m.waiting.items ≡ Some w → w.ended ≡ Some e → cause ≡ cause_is e → (s : Begun) × CanFinish t w.op s cause
 can_finish m t w e cause h none f is q =
     let p = its_pending m t lone w h f in
     let recv : is_recv (act_of w.message) ≡ true = not_sending w.message (never is_sending lone m.waiting.items w f none) in
@@ -416,7 +416,7 @@ can_finish m t w e cause h none f is q =
     go ends.Over p recv k = record { pending = p; is_finish = inr refl; may = (refl, recv, ap was_over k) }
 
 module _ (K : ℕ → Bool) where
-  first_here : (ws : List Asking) (w : Asking) → find (λ (x : Asking). not (is_sending x) && K x.ctx) ws ≡ Some w → K w.ctx ≡ true → find (is_recv_on w.ctx) (map begun_of ws) ≡ Some (begun_of w)
+  first_here : (ws : List SurveyOperation) (w : SurveyOperation) → find (λ (x : SurveyOperation). not (is_sending x) && K x.ctx) ws ≡ Some w → K w.ctx ≡ true → find (is_recv_on w.ctx) (map begun_of ws) ≡ Some (begun_of w)
   first_here [] w h k = absurd cc
   first_here (x ∷ ws) w h k = go x.message refl (K x.ctx) refl h (λ q. first_here ws w q k)
     where
@@ -430,8 +430,8 @@ module _ (K : ℕ → Bool) where
           step false q = refl
           step true q = let bad : true ≡ false = sym k ∙ ap K (sym (equal_of x.ctx w.ctx q)) ∙ e in absurd cc
 
-      go : (o : Option MessageView) → x.message ≡ o → (a : Bool) → K x.ctx ≡ a → cond (not (is_some o) && a) (Some x) (find (λ (x : Asking). not (is_sending x) && K x.ctx) ws) ≡ Some w
-          → (find (λ (x : Asking). not (is_sending x) && K x.ctx) ws ≡ Some w → find (is_recv_on w.ctx) (map begun_of ws) ≡ Some (begun_of w)) → cond (is_recv (act_of x.message) && (x.ctx == w.ctx)) (Some (begun_of x)) (find (is_recv_on w.ctx) (map begun_of ws)) ≡ Some (begun_of w)
+      go : (o : Option MessageView) → x.message ≡ o → (a : Bool) → K x.ctx ≡ a → cond (not (is_some o) && a) (Some x) (find (λ (x : SurveyOperation). not (is_sending x) && K x.ctx) ws) ≡ Some w
+          → (find (λ (x : SurveyOperation). not (is_sending x) && K x.ctx) ws ≡ Some w → find (is_recv_on w.ctx) (map begun_of ws) ≡ Some (begun_of w)) → cond (is_recv (act_of x.message) && (x.ctx == w.ctx)) (Some (begun_of x)) (find (is_recv_on w.ctx) (map begun_of ws)) ≡ Some (begun_of w)
       go (Some y) e a f q again = ap (λ (o : Option MessageView). cond (is_recv (act_of o) && (x.ctx == w.ctx)) (Some (begun_of x)) (find (is_recv_on w.ctx) (map begun_of ws))) e ∙ again q
       go None e false f q again = ap (λ b. cond (is_recv (act_of x.message) && b) (Some (begun_of x)) (find (is_recv_on w.ctx) (map begun_of ws))) (away f) ∙ none (is_recv (act_of x.message)) ∙ again q
         where
@@ -441,17 +441,17 @@ module _ (K : ℕ → Bool) where
       go None e true f q again =
           let is : x ≡ w = some_inj q in
           ap (λ (o : Option MessageView). cond (is_recv (act_of o) && (x.ctx == w.ctx)) (Some (begun_of x)) (find (is_recv_on w.ctx) (map begun_of ws))) e
-          ∙ ap (λ b. cond b (Some (begun_of x)) (find (is_recv_on w.ctx) (map begun_of ws))) (ap (λ (y : Asking). x.ctx == y.ctx) (sym is) ∙ same_number x.ctx) ∙ ap (λ (y : Asking). Some (begun_of y)) is
+          ∙ ap (λ b. cond b (Some (begun_of x)) (find (is_recv_on w.ctx) (map begun_of ws))) (ap (λ (y : SurveyOperation). x.ctx == y.ctx) (sym is) ∙ same_number x.ctx) ∙ ap (λ (y : SurveyOperation). Some (begun_of y)) is
 
 pub parts : (a b : Bool) → (a && b) ≡ true → (a ≡ true) × (b ≡ true)
 parts true b h = (refl, h)
 parts false b h = absurd cc
 
 -- a receive of these contexts
-abbrev pub is_among : (ℕ → Bool) → Asking → Bool
+abbrev pub is_among : (ℕ → Bool) → SurveyOperation → Bool
 is_among K w = not (is_sending w) && K w.ctx
 
-pub can_give : (m : Survey) (t : Moment) (w : Asking) (K : ℕ → Bool) → Ties m t → find lone m.waiting.items ≡ None → find (is_among K) m.waiting.items ≡ Some w → ((c : ℕ) → K c ≡ true → is_given m.raw m.kept.items m.live.items c ≡ true) → (s : Begun) × (x : Message) × CanGive t w.op s x
+pub can_give : (m : Survey) (t : Moment) (w : SurveyOperation) (K : ℕ → Bool) → Ties m t → find lone m.waiting.items ≡ None → find (is_among K) m.waiting.items ≡ Some w → ((c : ℕ) → K c ≡ true → is_given m.raw m.kept.items m.live.items c ≡ true) → (s : Begun) × (x : RecordedMessage) × CanGive t w.op s x
 can_give m t w K h none f g = at (kept t.z (past t) w.ctx) refl (sym (given_is m t w.ctx h) ∙ g w.ctx both.1)
   where
     both : (not (is_sending w) ≡ true) × (K w.ctx ≡ true)
@@ -470,14 +470,14 @@ can_give m t w K h none f g = at (kept t.z (past t) w.ctx) refl (sym (given_is m
 
     alive : (i : Item) (rest : List Item) → kept t.z (past t) w.ctx ≡ i ∷ rest → has_requests t.z ≡ true → is_some (request_of t.z (past t) (begun_of w)) ≡ true
     alive i rest e q =
-        ap (λ b. is_some (cond {A = Option Request} b None (live_on t.z (past t) w.ctx))) (not_orphan (requests t.z (past t)).orphans w.op (not_ended w.ended refl (never lone (is_among K) m.waiting.items w f none)))
+        ap (λ b. is_some (cond {A = Option LiveRequest} b None (live_on t.z (past t) w.ctx))) (not_orphan (requests t.z (past t)).orphans w.op (not_ended w.ended refl (never lone (is_among K) m.waiting.items w f none)))
         ∙ step (live_on t.z (past t) w.ctx) (sym (kept_cooked t.z (past t) w.ctx q) ∙ e)
       where
-        step : (o : Option Request) → replies_of o ≡ i ∷ rest → is_some o ≡ true
+        step : (o : Option LiveRequest) → replies_of o ≡ i ∷ rest → is_some o ≡ true
         step None k = absurd cc
         step (Some r) k = refl
 
-    at : (is : List Item) → kept t.z (past t) w.ctx ≡ is → not (is_nil (kept t.z (past t) w.ctx)) ≡ true → (s : Begun) × (x : Message) × CanGive t w.op s x
+    at : (is : List Item) → kept t.z (past t) w.ctx ≡ is → not (is_nil (kept t.z (past t) w.ctx)) ≡ true → (s : Begun) × (x : RecordedMessage) × CanGive t w.op s x
     at [] e q = let bad : false ≡ true = sym (ap (λ (l : List Item). not (is_nil l)) e) ∙ q in absurd cc
     at (i ∷ rest) e q = (
       begun_of w,
@@ -507,7 +507,7 @@ idle m t h sends ended given =
       no_flood = λ q. nothing_sent (pend (past t)) (subst (λ (ss : List Begun). list_any is_send ss ≡ false) h.0.4.pending (as_sends m.waiting.items (none_passes is_sending m.waiting.items sends)));
     }
   where
-    as_sends : (ws : List Asking) → list_any is_sending ws ≡ false → list_any is_send (map begun_of ws) ≡ false
+    as_sends : (ws : List SurveyOperation) → list_any is_sending ws ≡ false → list_any is_send (map begun_of ws) ≡ false
     as_sends [] q = refl
     as_sends (w ∷ ws) q = go w.message q (as_sends ws)
       where
@@ -523,7 +523,7 @@ idle m t h sends ended given =
         go true k again = absurd cc
         go false k again = again k
 
-    received : (ws : List Asking) → find (gets m) ws ≡ None → list_all (receive_settled t.z (past t)) (map begun_of ws) ≡ true
+    received : (ws : List SurveyOperation) → find (gets m) ws ≡ None → list_all (receive_settled t.z (past t)) (map begun_of ws) ≡ true
     received [] q = refl
     received (w ∷ ws) q = go w.message refl (is_given m.raw m.kept.items m.live.items w.ctx) (given_is m t w.ctx h) q (received ws)
       where
@@ -541,11 +541,11 @@ idle m t h sends ended given =
 
 -- ---- Checks
 
-pub does_is : (m : Survey) (t : Moment) (c : ℕ) (act : Act) (b : Bool) → Ties m t → ((c == 0) || not m.raw) ≡ b → (does t.z.role act && ((c == 0) || has_contexts t.z)) ≡ b
+pub does_is : (m : Survey) (t : Moment) (c : ℕ) (act : RecordedAct) (b : Bool) → Ties m t → ((c == 0) || not m.raw) ≡ b → (does t.z.role act && ((c == 0) || has_contexts t.z)) ≡ b
 does_is m t c act b h e =
     ap (λ (r : Role). does r act && ((c == 0) || role_has_contexts r && not t.z.raw)) (is_survey m t h) ∙ ap (λ q. q && ((c == 0) || not t.z.raw)) (both act) ∙ ap (λ q. (c == 0) || not q) (is_raw m t h) ∙ e
   where
-    both : (act : Act) → does role.Surveyor act ≡ true
+    both : (act : RecordedAct) → does role.Surveyor act ≡ true
     both Recv = refl
     both (Send x) = refl
 
@@ -557,11 +557,11 @@ recv_state m t c h =
     ap (λ (r : Role). state_for r t.z (past t) c Recv && not t.z.raw) (is_survey m t h) ∙ ap (λ b. not (is_some (live_on t.z (past t) c)) && not b) (is_raw m t h)
     ∙ ap (λ b. not b && not m.raw) (same (live_on t.z (past t) c) ∙ ap (λ (o : Option SurveyView). is_some o) (sym (live_is m t c h)) ∙ sym (any_of c m.live.items))
   where
-    same : (o : Option Request) → is_some o ≡ is_some (option_map survey_of o)
+    same : (o : Option LiveRequest) → is_some o ≡ is_some (option_map survey_of o)
     same None = refl
     same (Some r) = refl
 
-pub state_is : (m : Survey) (t : Moment) (c : ℕ) (act : Act) (v : Verb) → Ties m t → verb_of act ≡ v → is_state t.z (past t) c act ≡ survey_state m.raw m.live.items c v
+pub state_is : (m : Survey) (t : Moment) (c : ℕ) (act : RecordedAct) (v : Verb) → Ties m t → verb_of act ≡ v → is_state t.z (past t) c act ≡ survey_state m.raw m.live.items c v
 state_is m t c act v h e = as_verb act ∙ ap (survey_state m.raw m.live.items c) e
   where
     none : (b : Bool) → (b && false) ≡ false
@@ -580,17 +580,17 @@ state_is m t c act v h e = as_verb act ∙ ap (survey_state m.raw m.live.items c
     as_send true = refl
     as_send false = refl
 
-    as_verb : (act : Act) → is_state t.z (past t) c act ≡ survey_state m.raw m.live.items c (verb_of act)
+    as_verb : (act : RecordedAct) → is_state t.z (past t) c act ≡ survey_state m.raw m.live.items c (verb_of act)
     as_verb Recv = recv_state m t c h ∙ as_recv m.raw
     as_verb (Send x) = ap (λ (r : Role). state_for r t.z (past t) c (Send x) && not t.z.raw) (is_survey m t h) ∙ as_send m.raw
 
 -- ---- What can't be
 
-pub not_received : {A : Type 0} (t : Moment) (op : OpName) (s : Begun) (text : Message) → CanGive t op s text → is_recv s.act ≡ false → A
+pub not_received : {A : Type 0} (t : Moment) (op : OpName) (s : Begun) (text : RecordedMessage) → CanGive t op s text → is_recv s.act ≡ false → A
 not_received t op s text g f = let bad : true ≡ false = sym g.may.is_receive ∙ f in absurd cc
 
 pub not_sent : {A : Type 0} (t : Moment) (op : OpName) (s : Begun) → Lawful (also t (End op (Won Sent))) → is_recv s.act ≡ false → is_recv s.act ≡ true → A
 not_sent t op s l f g = let bad : true ≡ false = sym g ∙ f in absurd cc
 
-pub lone_ended : {A : Type 0} (m : Survey) (w : Asking) → find lone m.waiting.items ≡ Some w → w.ended ≡ None → A
+pub lone_ended : {A : Type 0} (m : Survey) (w : SurveyOperation) → find lone m.waiting.items ≡ Some w → w.ended ≡ None → A
 lone_ended m w f n = let bad : false ≡ true = sym (ap (λ (o : Option SurveyEnd). is_some o) n) ∙ passes lone m.waiting.items w f in absurd cc

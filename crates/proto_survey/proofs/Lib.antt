@@ -1,9 +1,9 @@
-pub mod Living
-pub mod Leaving
-pub mod Sending
+pub mod SurveyLives
+pub mod OrphanedOperations
+pub mod SurveySends
 pub mod Asks
 pub mod Moving
-pub mod Coming
+pub mod SurveyorArrivals
 pub mod Going
 pub mod Writing
 pub mod Receiving

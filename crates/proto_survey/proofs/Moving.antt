@@ -9,13 +9,13 @@ use Rattle.sp_history.specs.declared.setting.Setting.{Setting}
 use Rattle.sp_history.specs.declared.setting.Options.{Options}
 use Rattle.sp_history.specs.declared.entry.Entry.{Entry}
 use Rattle.sp_history.specs.declared.entry.Entry.TheVariants.{Up, Down, Full, Ctx, Tick, Close}
-use Rattle.sp_history.specs.declared.entry.Gate.TheVariants.{Open, Shut}
+use Rattle.sp_history.specs.declared.entry.ContextChange.TheVariants.{Open, Shut}
 use Rattle.sp_history.specs.declared.entry.Totals.{Totals}
 use Rattle.sp_history.specs.declared.entry.Why.{Why}
-use Rattle.sp_history.specs.declared.entry.WireName.{WireName}
+use Rattle.sp_history.specs.declared.entry.WireNumbers.{WireNumbers}
 use Rattle.sp_history.specs.declared.parts.Begun.{Begun}
 use Rattle.sp_history.specs.declared.parts.Orphan.{Orphan}
-use Rattle.sp_history.specs.declared.parts.Request.{Request}
+use Rattle.sp_history.specs.declared.parts.LiveRequest.{LiveRequest}
 use Rattle.sp_history.specs.declared.parts.Requests.{Requests}
 use Rattle.sp_history.specs.declared.parts.How.TheVariants as how
 use Rattle.sp_history.specs.Lists.{has, head_of, same_op}
@@ -29,18 +29,18 @@ use Rattle.sp_history.proofs.Requesting.{shut_makes, tick_makes, close_makes, sh
 use Rattle.sp_proto.specs.Kinds.{Kind}
 use Rattle.sp_proto.specs.Machines.{NoFlood}
 use Rattle.proto_floods.proofs.Copying.{pool_down}
-use Rattle.proto_floods.proofs.Flooding.{no_flood, goes_on, pipe_down, pipe_full, turn_begins}
-use Rattle.proto_floods.proofs.Counting.{counted_up, counted_down}
+use Rattle.proto_floods.proofs.FloodTurns.{no_flood, goes_on, pipe_down, pipe_full, turn_begins}
+use Rattle.proto_floods.proofs.PipeCounts.{counted_up, counted_down}
 use Rattle.proto_survey.specs.declared.survey.Survey.{Survey}
-use Rattle.proto_survey.specs.declared.waiting.Asking.{Asking}
+use Rattle.proto_survey.specs.declared.waiting.SurveyOperation.{SurveyOperation}
 use Rattle.proto_survey.specs.declared.waiting.SurveyEnd.TheVariants as ends
 use Rattle.proto_survey.specs.Lives.{SurveyView, survey_of, is_over, over_on, without_over}
 use Rattle.proto_survey.specs.Askings.{left_by}
 use Rattle.proto_survey.specs.Surveys.{Ties, Asked, IsFlood, without_live, item_of}
-use Rattle.proto_survey.proofs.Living.{equal_of, same_number, without_is, over_is, none_over, none_on, filter_like}
-use Rattle.proto_survey.proofs.Leaving.{left_like, none_left_by}
+use Rattle.proto_survey.proofs.SurveyLives.{equal_of, same_number, without_is, over_is, none_over, none_on, filter_like}
+use Rattle.proto_survey.proofs.OrphanedOperations.{left_like, none_left_by}
 use Rattle.proto_survey.proofs.Asks.{none_bereft, left, shut}
-use Rattle.proto_survey.proofs.Sending.{surveys, surveys_nothing, no_req, it_floods, raw_same, bytes_changed}
+use Rattle.proto_survey.proofs.SurveySends.{surveys, surveys_nothing, no_req, it_floods, raw_same, bytes_changed}
 
 pub is_survey : (m : Survey) (t : Moment) → Ties m t → t.z.role ≡ role.Surveyor
 is_survey m t h = ap (λ (k : Kind). k.role) h.0.0.kind
@@ -56,12 +56,12 @@ pub no_live : (m : Survey) (t : Moment) → Ties m t → m.raw ≡ true → m.li
 no_live m t h r = h.0.4.live ∙ ap (λ q. map survey_of (cond q (asked t.z (past t)) no_requests).live) (surveys_nothing t.z (is_survey m t h) (is_raw m t h ∙ r))
 
 -- raw, the surveys and operations are tied to every past with these operations
-pub raw_asked : (m : Survey) (t : Moment) (ws : List Asking) (ss : List Begun) (b : List Entry) → m.raw ≡ true → Ties m t → Asked m.live.items m.last_id ws ss (requests t.z (past t)) → Asked m.live.items m.last_id ws ss (requests t.z b)
+pub raw_asked : (m : Survey) (t : Moment) (ws : List SurveyOperation) (ss : List Begun) (b : List Entry) → m.raw ≡ true → Ties m t → Asked m.live.items m.last_id ws ss (requests t.z (past t)) → Asked m.live.items m.last_id ws ss (requests t.z b)
 raw_asked m t ws ss b r h a = subst (λ (rs : Requests). Asked m.live.items m.last_id ws ss rs) (raw_same t.z (past t) b (surveys_nothing t.z (is_survey m t h) (is_raw m t h ∙ r))) a
 
 -- ---- Pipes
 
-pub up_ties : (m n : Survey) (t : Moment) (p place : ℕ) (name : WireName) → NoFlood t → Lawful (also t (Up p place name)) → Ties m t → n ≡ record m { pipes = min (m.pipes + 1) (2 ^ 64 - 1) } → Ties n (also t (Up p place name))
+pub up_ties : (m n : Survey) (t : Moment) (p place : ℕ) (name : WireNumbers) → NoFlood t → Lawful (also t (Up p place name)) → Ties m t → n ≡ record m { pipes = min (m.pipes + 1) (2 ^ 64 - 1) } → Ties n (also t (Up p place name))
 up_ties m n t p place name calm l h same =
     subst (λ (x : Survey). Ties x (also t (Up p place name))) (sym same) (
       (h.0.0, counted_up t p place name m.pipes l h.0.1, h.0.2, h.0.3, h.0.4),
@@ -104,7 +104,7 @@ not_on c f (x ∷ ss) s h k = go (x.ctx == c) refl h (f x) k (not_on c f ss s)
     go false e p true q again = subst (λ (y : Begun). (y.ctx == c) ≡ false) (some_inj q) e
     go false e p false q again = again p q
 
-pub itself_mapped : (o : Option Request) → o ≡ option_map (λ (r : Request). r) o
+pub itself_mapped : (o : Option LiveRequest) → o ≡ option_map (λ (r : LiveRequest). r) o
 itself_mapped None = refl
 itself_mapped (Some r) = refl
 
@@ -116,7 +116,7 @@ module _ (m : Survey) (t : Moment) (c : ℕ) (l : Lawful (also t (Ctx c Shut))) 
   none_there = l.turn.0.itself.2
 
   shut_bytes : (s : Begun) → head_of (sending (pend (past t))) ≡ Some s → bytes_of t.z (past t) s ≡ bytes_of t.z shut_past s
-  shut_bytes s e = bytes_changed t.z (past t) shut_past s (λ (r : Request). r) (is_survey m t h) (λ r. refl) (λ r. (orphan_same r, shut_elsewhere t.z (past t) c Shut s.ctx away ∙ itself_mapped (live_on t.z (past t) s.ctx)))
+  shut_bytes s e = bytes_changed t.z (past t) shut_past s (λ (r : LiveRequest). r) (is_survey m t h) (λ r. refl) (λ r. (orphan_same r, shut_elsewhere t.z (past t) c Shut s.ctx away ∙ itself_mapped (live_on t.z (past t) s.ctx)))
     where
       differ : (x y : ℕ) → (x == y) ≡ false → y ≢ x
       differ x y f = λ q. let no : (x == y) ≡ true = subst (λ n. (x == n) ≡ true) (sym q) (same_number x) in let bad : true ≡ false = sym no ∙ f in cc
@@ -161,15 +161,15 @@ module _ (m : Survey) (t : Moment) (c : ℕ) (l : Lawful (also t (Ctx c Shut))) 
 
 -- ---- Time
 
-over_there : (z : Setting) (n c : ℕ) (rs : List Request) → has (map (λ (r : Request). r.ctx) (filter (is_over_at z n) rs)) c ≡ over_on z.options.survey n (map survey_of rs) c
+over_there : (z : Setting) (n c : ℕ) (rs : List LiveRequest) → has (map (λ (r : LiveRequest). r.ctx) (filter (is_over_at z n) rs)) c ≡ over_on z.options.survey n (map survey_of rs) c
 over_there z n c [] = refl
 over_there z n c (r ∷ rs) = go (is_over_at z n r) (r.ctx == c) (over_there z n c rs)
   where
-    go : (b a : Bool) → has (map (λ (r : Request). r.ctx) (filter (is_over_at z n) rs)) c ≡ over_on z.options.survey n (map survey_of rs) c
-        → has (map (λ (r : Request). r.ctx) (cond b (r ∷ filter (is_over_at z n) rs) (filter (is_over_at z n) rs))) c ≡ ((r.ctx == c) && b || over_on z.options.survey n (map survey_of rs) c)
+    go : (b a : Bool) → has (map (λ (r : LiveRequest). r.ctx) (filter (is_over_at z n) rs)) c ≡ over_on z.options.survey n (map survey_of rs) c
+        → has (map (λ (r : LiveRequest). r.ctx) (cond b (r ∷ filter (is_over_at z n) rs) (filter (is_over_at z n) rs))) c ≡ ((r.ctx == c) && b || over_on z.options.survey n (map survey_of rs) c)
     go true a k = one (r.ctx == c) k
       where
-        one : (x : Bool) → has (map (λ (r : Request). r.ctx) (filter (is_over_at z n) rs)) c ≡ over_on z.options.survey n (map survey_of rs) c → (x || has (map (λ (r : Request). r.ctx) (filter (is_over_at z n) rs)) c) ≡ (x && true || over_on z.options.survey n (map survey_of rs) c)
+        one : (x : Bool) → has (map (λ (r : LiveRequest). r.ctx) (filter (is_over_at z n) rs)) c ≡ over_on z.options.survey n (map survey_of rs) c → (x || has (map (λ (r : LiveRequest). r.ctx) (filter (is_over_at z n) rs)) c) ≡ (x && true || over_on z.options.survey n (map survey_of rs) c)
         one true k = refl
         one false k = k
     go false a k = k ∙ none (r.ctx == c)
@@ -188,7 +188,7 @@ module _ (m : Survey) (t : Moment) (n : ℕ) (due : List OpName) (h : Ties m t) 
   here : (c : ℕ) → over_on m.options.survey n m.live.items c ≡ has (over_at t.z n (requests t.z (past t))) c
   here c = sym (over_there t.z n c (requests t.z (past t)).live ∙ ap (λ (o : Options). over_on o.survey n (map survey_of (requests t.z (past t)).live) c) (is_options m t h) ∙ ap (λ (xs : List SurveyView). over_on m.options.survey n xs c) (sym h.0.4.live))
 
-  ticked_asked : (xs : List SurveyView) (ws : List Asking) → xs ≡ without_over m.options.survey n m.live.items → ws ≡ map (left_by (over_on m.options.survey n m.live.items) ends.Over) m.waiting.items → Asked xs m.last_id ws (pend (past t)) (requests t.z tick_past)
+  ticked_asked : (xs : List SurveyView) (ws : List SurveyOperation) → xs ≡ without_over m.options.survey n m.live.items → ws ≡ map (left_by (over_on m.options.survey n m.live.items) ends.Over) m.waiting.items → Asked xs m.last_id ws (pend (past t)) (requests t.z tick_past)
   unfolding after_moment
   ticked_asked xs ws e f = go m.raw refl
     where
@@ -200,7 +200,7 @@ module _ (m : Survey) (t : Moment) (n : ℕ) (due : List OpName) (h : Ties m t) 
           let none = no_live m t h r in
           let same : m.live.items ≡ xs = none ∙ sym (e ∙ ap (without_over m.options.survey n) none) in
           let ops : m.waiting.items ≡ ws = sym (f ∙ none_left_by (over_on m.options.survey n m.live.items) ends.Over (λ c. ap (λ (l : List SurveyView). over_on m.options.survey n l c) none) m.waiting.items) in
-          subst (λ (l : List Asking). Asked xs m.last_id l (pend (past t)) (requests t.z tick_past)) ops (subst (λ (l : List SurveyView). Asked l m.last_id m.waiting.items (pend (past t)) (requests t.z tick_past)) same (raw_asked m t m.waiting.items (pend (past t)) tick_past r h h.0.4))
+          subst (λ (l : List SurveyOperation). Asked xs m.last_id l (pend (past t)) (requests t.z tick_past)) ops (subst (λ (l : List SurveyView). Asked l m.last_id m.waiting.items (pend (past t)) (requests t.z tick_past)) same (raw_asked m t m.waiting.items (pend (past t)) tick_past r h h.0.4))
       go false r =
           let makes : requests t.z tick_past ≡ end_on cs how.Over (pend (past t)) (requests t.z (past t)) =
           tick_makes t.z (past t) n due (surveys t.z (is_survey m t h) (is_raw m t h ∙ r)) ∙ ap (λ q. cond q (requests t.z (past t)) (end_on cs how.Over (pend (past t)) (requests t.z (past t)))) (no_req t.z (is_survey m t h)) in
@@ -208,7 +208,7 @@ module _ (m : Survey) (t : Moment) (n : ℕ) (due : List OpName) (h : Ties m t) 
           e ∙ over_is (is_over m.options.survey n) m.live.items h.0.4.places ∙ filter_like (λ (x : SurveyView). not (over_on m.options.survey n m.live.items x.ctx)) (λ (x : SurveyView). not (has cs x.ctx)) (λ x. ap not (here x.ctx)) m.live.items in
           let ops : ws ≡ map (left_by (has cs) ends.Over) m.waiting.items = f ∙ left_like (over_on m.options.survey n m.live.items) (has cs) ends.Over here m.waiting.items in
           subst (λ (rs : Requests). Asked xs m.last_id ws (pend (past t)) rs) (sym makes)
-          (subst (λ (l : List Asking). Asked xs m.last_id l (pend (past t)) (end_on cs how.Over (pend (past t)) (requests t.z (past t)))) (sym ops) (subst (λ (l : List SurveyView). Asked l m.last_id (map (left_by (has cs) ends.Over) m.waiting.items) (pend (past t)) (end_on cs how.Over (pend (past t)) (requests t.z (past t)))) (sym lives) (left m.live.items m.last_id m.waiting.items (pend (past t)) (requests t.z (past t)) cs ends.Over h.0.4)))
+          (subst (λ (l : List SurveyOperation). Asked xs m.last_id l (pend (past t)) (end_on cs how.Over (pend (past t)) (requests t.z (past t)))) (sym ops) (subst (λ (l : List SurveyView). Asked l m.last_id (map (left_by (has cs) ends.Over) m.waiting.items) (pend (past t)) (end_on cs how.Over (pend (past t)) (requests t.z (past t)))) (sym lives) (left m.live.items m.last_id m.waiting.items (pend (past t)) (requests t.z (past t)) cs ends.Over h.0.4)))
 
   pub ticked_ties : (x : Survey) → NoFlood t → Lawful (also t (Tick n due)) → x ≡ record m { tick = n; live = x.live; waiting = x.waiting } → x.live.items ≡ without_over m.options.survey n m.live.items → x.waiting.items ≡ map (left_by (over_on m.options.survey n m.live.items) ends.Over) m.waiting.items → Ties x (also t (Tick n due))
   ticked_ties x calm l same live ops =

@@ -7,11 +7,11 @@ use Rattle.sp_history.specs.Lists.{has, is_nil}
 use Rattle.sp_history.specs.Once.{AreDistinct}
 use Rattle.proto_reqrep.proofs.Positions.{not_found}
 use Rattle.proto_survey.specs.declared.survey.Survey.{Survey}
-use Rattle.proto_survey.specs.declared.waiting.Asking.{Asking}
+use Rattle.proto_survey.specs.declared.waiting.SurveyOperation.{SurveyOperation}
 use Rattle.proto_survey.specs.Lives.{SurveyView, survey_ctx, is_live_on, is_kept, keeps_at}
 use Rattle.proto_survey.specs.Askings.{is_sending, receives_on}
 use Rattle.proto_survey.specs.Surveys.{gets, is_given, is_fed, IsNext}
-use Rattle.proto_survey.proofs.Living.{equal_of, same_number, turned}
+use Rattle.proto_survey.proofs.SurveyLives.{equal_of, same_number, turned}
 use Rattle.proto_survey.proofs.Going.{parts}
 
 passes : {A : Type 0} (P : A → Bool) (xs : List A) (x : A) → find P xs ≡ Some x → P x ≡ true
@@ -59,15 +59,15 @@ its_own P (y ∷ xs) x d h = go (P y) h (its_own P xs x d.1)
     go true q again = ap (λ b. cond b (Some y) (find (is_live_on x.ctx) xs)) (ap (λ (z : SurveyView). y.ctx == z.ctx) (sym (some_inj q)) ∙ same_number y.ctx) ∙ q
     go false q again = ap (λ b. cond b (Some y) (find (is_live_on x.ctx) xs)) (turned x.ctx y.ctx false (apart P xs x y.ctx q d.0)) ∙ again q
 
-fed_keeps : (ws : List Asking) (xs : List SurveyView) (x : SurveyView) → AreDistinct (map survey_ctx xs) → find (is_fed ws) xs ≡ Some x → keeps_at xs x.ctx ≡ true
+fed_keeps : (ws : List SurveyOperation) (xs : List SurveyView) (x : SurveyView) → AreDistinct (map survey_ctx xs) → find (is_fed ws) xs ≡ Some x → keeps_at xs x.ctx ≡ true
 fed_keeps ws xs x d h = ap is_kept (its_own (is_fed ws) xs x d h) ∙ (parts (not (is_nil x.replies)) (list_any (receives_on x.ctx) ws) (passes (is_fed ws) xs x h)).0
 
-fed_waits : (ws : List Asking) (xs : List SurveyView) (x : SurveyView) → find (is_fed ws) xs ≡ Some x → list_any (receives_on x.ctx) ws ≡ true
+fed_waits : (ws : List SurveyOperation) (xs : List SurveyView) (x : SurveyView) → find (is_fed ws) xs ≡ Some x → list_any (receives_on x.ctx) ws ≡ true
 fed_waits ws xs x h = (parts (not (is_nil x.replies)) (list_any (receives_on x.ctx) ws) (passes (is_fed ws) xs x h)).1
 
 -- ---- There is none
 
-unfed : (ws : List Asking) (xs : List SurveyView) (c : ℕ) → keeps_at xs c ≡ true → list_any (receives_on c) ws ≡ true → find (is_fed ws) xs ≡ None → ⊥
+unfed : (ws : List SurveyOperation) (xs : List SurveyView) (c : ℕ) → keeps_at xs c ≡ true → list_any (receives_on c) ws ≡ true → find (is_fed ws) xs ≡ None → ⊥
 unfed ws [] c k a f = absurd cc
 unfed ws (x ∷ xs) c k a f = go (x.ctx == c) refl (is_fed ws x) refl k f (unfed ws xs c)
   where
@@ -84,7 +84,7 @@ module _ (m : Survey) (r : m.raw ≡ false) (f : find (is_fed m.waiting.items) m
   or_right true b h = refl
   or_right false b h = h
 
-  nothing : (ws : List Asking) → ((c : ℕ) → list_any (receives_on c) ws ≡ true → list_any (receives_on c) m.waiting.items ≡ true) → find (gets m) ws ≡ None
+  nothing : (ws : List SurveyOperation) → ((c : ℕ) → list_any (receives_on c) ws ≡ true → list_any (receives_on c) m.waiting.items ≡ true) → find (gets m) ws ≡ None
   nothing [] sub = refl
   nothing (w ∷ ws) sub = go (is_sending w) refl (is_given m.raw m.kept.items m.live.items w.ctx) refl (nothing ws (λ c k. sub c (or_right (receives_on c w) (list_any (receives_on c) ws) k)))
     where
@@ -144,7 +144,7 @@ none_gets m c r h = sym (go (position_or_len (gets m) m.waiting.items) (length m
     any_ctx : (d : ℕ) → is_given m.raw m.kept.items m.live.items d ≡ false
     any_ctx d = ap (λ b. is_given b m.kept.items m.live.items d) r ∙ sym (ap (λ b. is_given b m.kept.items m.live.items c) r) ∙ h
 
-    none : (ws : List Asking) → list_any (gets m) ws ≡ false
+    none : (ws : List SurveyOperation) → list_any (gets m) ws ≡ false
     none [] = refl
     none (w ∷ ws) = rw (any_ctx w.ctx, none ws) (never_and (not (is_sending w)))
       where

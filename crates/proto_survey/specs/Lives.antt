@@ -3,7 +3,7 @@ use Rattle.std.specs.Prelude.{ℕ, zero, suc, ◌+◌, ◌==◌, nat_le, nat_lt,
 use Rattle.std.specs.List.{list_any}
 use Rattle.sp_msg.specs.Views.{MessageView}
 use Rattle.sp_history.specs.declared.parts.Item.{Item}
-use Rattle.sp_history.specs.declared.parts.Request.{Request}
+use Rattle.sp_history.specs.declared.parts.LiveRequest.{LiveRequest}
 use Rattle.sp_history.specs.Lists.{is_nil, head_of}
 use Rattle.proto_reqrep.specs.Reqs.{number_after}
 
@@ -19,7 +19,7 @@ abbrev pub view_of : Item → MessageView
 view_of i = record { header = i.message.header; body = i.message.body }
 
 -- what a surveyor has of a request
-abbrev pub survey_of : Request → SurveyView
+abbrev pub survey_of : LiveRequest → SurveyView
 survey_of r = record { ctx = r.ctx; id = r.id; birth = r.birth; replies = map view_of r.replies }
 
 abbrev pub survey_ctx : SurveyView → ℕ

@@ -4,8 +4,8 @@ use Rattle.sp_history.specs.declared.entry.Entry.{Entry}
 use Rattle.sp_history.specs.declared.parts.Begun.{Begun}
 use Rattle.sp_history.specs.Moments.{Moment, Lawful, past, also, IsSilent}
 use Rattle.sp_proto.specs.Kinds.{Starts, kind_of}
-use Rattle.sp_proto.specs.Readings.{Reading, stays, starts}
-use Rattle.proto_floods.proofs.Flooding.{silently}
+use Rattle.sp_proto.specs.Readings.{MomentReading, stays, starts}
+use Rattle.proto_floods.proofs.FloodTurns.{silently}
 use Rattle.proto_survey.specs.declared.survey.Survey.{Survey}
 use Rattle.proto_survey.specs.Surveys.{Ties, Stands, IsFlood, survey_kind}
 
@@ -13,7 +13,7 @@ pub kinds : (m : Survey) (t : Moment) → Ties m t → kind_of t.z ≡ survey_ki
 kinds m t h = h.0.0.kind
 
 pub silent : (m : Survey) (t : Moment) (e : Entry) → IsSilent e → Lawful (also t e) → Ties m t → Ties m (also t e)
-silent m t e h l k = (stays Stands m t e h k.0, silently _ t e (λ (r : Reading) (s : Begun). IsFlood m.raw m.last_id m.copies.items (r.bytes s)) h k.1)
+silent m t e h l k = (stays Stands m t e h k.0, silently _ t e (λ (r : MomentReading) (s : Begun). IsFlood m.raw m.last_id m.copies.items (r.bytes s)) h k.1)
 
 pub anew : (m : Survey) (t : Moment) → past t ≡ [] → Ties m t → Starts Ties m (survey_kind m.raw m.options)
 anew m t e h slots callers caller = (starts Stands m t (survey_kind m.raw m.options) (kinds m t h) e h.0 slots callers caller, λ l. tt)

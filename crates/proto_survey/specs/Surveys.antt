@@ -12,7 +12,7 @@ use Rattle.sp_history.specs.Sends.{bytes_of}
 use Rattle.sp_history.specs.Once.{AreApart, AreDistinct}
 use Rattle.sp_history.specs.Moments.{Moment, past}
 use Rattle.sp_proto.specs.Kinds.{Kind, text_of}
-use Rattle.sp_proto.specs.Readings.{Reading, reading}
+use Rattle.sp_proto.specs.Readings.{MomentReading, reading}
 use Rattle.std.specs.List.{list_any, position}
 use Rattle.std.specs.Vec.{vec_len, vec_capacity}
 use Rattle.sp_proto.specs.declared.Verb.{Verb}
@@ -22,8 +22,8 @@ use Rattle.sp_proto.specs.declared.Verdict.TheVariants as verdict
 use Rattle.proto_floods.specs.Copies.{Each, HasFlood}
 use Rattle.proto_reqrep.specs.Reqs.{without_found, with_found, raw_item}
 use Rattle.proto_survey.specs.declared.survey.Survey.{Survey}
-use Rattle.proto_survey.specs.declared.survey.Kept.{Kept}
-use Rattle.proto_survey.specs.declared.waiting.Asking.{Asking}
+use Rattle.proto_survey.specs.declared.survey.KeptResponse.{KeptResponse}
+use Rattle.proto_survey.specs.declared.waiting.SurveyOperation.{SurveyOperation}
 use Rattle.proto_survey.specs.declared.waiting.SurveyEnd.TheVariants as ends
 use Rattle.proto_survey.specs.Lives.{SurveyView, survey_of, survey_ctx, survey_id, fresh_survey, is_live_on, has_number, keeps_at, with_reply, awaits, free_number}
 use Rattle.proto_survey.specs.Askings.{begun_of, is_sending, receives_on, left_by, Ends}
@@ -62,11 +62,11 @@ Asks c m n =
     × (n.live.items ≡ without_live c m.live.items ++ fresh_survey c id m.tick ∷ []) × (n.waiting.items ≡ map (left_by (λ d. d == c) ends.Replaced) m.waiting.items)
     × (n.last_id ≡ Some id) × (n ≡ record m { last_id = n.last_id; live = n.live; waiting = n.waiting })
 
-abbrev pub item_of : Kept → Item
+abbrev pub item_of : KeptResponse → Item
 item_of k = record { pipe = k.pipe; words = []; message = text_of k.message }
 
 -- a raw frame is kept
-abbrev pub KeepsRaw : Verdict → ℕ → List ℕ → List Kept → List Kept → Type 0
+abbrev pub KeepsRaw : Verdict → ℕ → List ℕ → List KeptResponse → List KeptResponse → Type 0
 KeepsRaw verdict.Fine p b old new = (first_word b ≢ None) × (map item_of new ≡ map item_of old ++ raw_item p b ∷ [])
 KeepsRaw verdict.Malformed p b old new = (first_word b ≡ None) × (new ≡ old)
 KeepsRaw verdict.NoMemory p b old new = (first_word b ≢ None) × (new ≡ old)
@@ -82,22 +82,22 @@ abbrev pub IsAwaited : ℕ → List ℕ → List SurveyView → Type 0
 IsAwaited most b xs = (id : ℕ) × (first_word b ≡ Some id) × (list_any (awaits id most) xs ≡ true)
 
 -- a message can be given to a receive of the context
-abbrev pub is_given : Bool → List Kept → List SurveyView → ℕ → Bool
+abbrev pub is_given : Bool → List KeptResponse → List SurveyView → ℕ → Bool
 is_given true ks xs c = not (is_nil ks)
 is_given false ks xs c = keeps_at xs c
 
 -- it is a receive, and can be given a message
-abbrev pub gets : Survey → Asking → Bool
+abbrev pub gets : Survey → SurveyOperation → Bool
 gets m w = not (is_sending w) && is_given m.raw m.kept.items m.live.items w.ctx
 
 -- a response is kept for a receive that waits
-abbrev pub is_fed : List Asking → SurveyView → Bool
+abbrev pub is_fed : List SurveyOperation → SurveyView → Bool
 is_fed ws x = not (is_nil x.replies) && list_any (receives_on x.ctx) ws
 
 -- it is the first receive of some contexts, for each of which a message is kept
 abbrev pub IsNext : Survey → ℕ → Type 0
 IsNext m i =
-    (among : ℕ → Bool) × (position (λ (w : Asking). not (is_sending w) && among w.ctx) m.waiting.items ≡ Some i)
+    (among : ℕ → Bool) × (position (λ (w : SurveyOperation). not (is_sending w) && among w.ctx) m.waiting.items ≡ Some i)
     × (AreDistinct (map survey_ctx m.live.items) → (c : ℕ) → among c ≡ true → is_given m.raw m.kept.items m.live.items c ≡ true)
 
 -- the state has no place for it: cooked, a receive wants a live survey
@@ -114,12 +114,12 @@ pub record SetTo (raw : Bool) (options : Options) (tick : ℕ) (k : Kind) (t : �
   pub moment : tick ≡ t
 
 -- raw, what it keeps
-abbrev pub Keeps : Bool → List Kept → List Item → Type 0
+abbrev pub Keeps : Bool → List KeptResponse → List Item → Type 0
 Keeps raw ks is = raw ≡ true → map item_of ks ≡ is
 
 -- the live surveys, all of other ids and contexts; the pending operations, the oldest first, and which of them have no
 -- survey any more
-pub record Asked (xs : List SurveyView) (id : Option ℕ) (ws : List Asking) (ss : List Begun) (rs : Requests) : Type 0 where
+pub record Asked (xs : List SurveyView) (id : Option ℕ) (ws : List SurveyOperation) (ss : List Begun) (rs : Requests) : Type 0 where
   pub live : xs ≡ map survey_of rs.live
   pub last_id : id ≡ rs.last_id
   pub ids : AreDistinct (map survey_id xs)
@@ -135,7 +135,7 @@ IsFlood raw id copies (Some b) = Each (λ (x : MessageView). out_text raw id x �
 
 -- what it is set to and the time, how many pipes are up, the open contexts, what it keeps, and the surveys with the pending
 -- operations
-abbrev pub Stands : Survey → Reading → Type 0
+abbrev pub Stands : Survey → MomentReading → Type 0
 Stands m r =
     SetTo m.raw m.options m.tick r.kind r.now
     × (m.pipes ≡ length r.up)

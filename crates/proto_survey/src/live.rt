@@ -11,7 +11,7 @@ use std::marker::Model;
 
 /// A survey that is live.
 #[derive(Drop)]
-pub struct Live {
+pub struct LiveSurvey {
     ctx: Ctx,
     /// The first word of what went out for it and of each response.
     id: u32,
@@ -21,7 +21,7 @@ pub struct Live {
     replies: VecDeque<Message>,
 }
 
-impl Model for Live {
+impl Model for LiveSurvey {
     ghost use Rattle.proto_survey.specs.Lives.{SurveyView};
 
     ghost Value = { SurveyView };
@@ -29,12 +29,12 @@ impl Model for Live {
     ghost view = { λ x. record { ctx = x.ctx; id = x.id; birth = x.birth; replies = x.replies.items } };
 }
 
-impl Live {
+impl LiveSurvey {
     /// A survey that begins at this moment.
-    pub fn new(alloc: Global, ctx: Ctx, id: u32, birth: Tick) -> Live
+    pub fn new(alloc: Global, ctx: Ctx, id: u32, birth: Tick) -> LiveSurvey
         ensures { result ≡ fresh_survey ctx id birth }
     {
-        Live {
+        LiveSurvey {
             ctx,
             id,
             birth,

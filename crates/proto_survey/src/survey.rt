@@ -15,14 +15,14 @@ ghost use Rattle.sp_proto.specs.Machines.{NoFlood, Takes, Frames};
 ghost use Rattle.sp_proto.specs.declared.Verdict.TheVariants as verdict;
 ghost use Rattle.proto_floods.specs.Copies.{TakesCopies};
 ghost use Rattle.proto_reqrep.specs.Reqs.{number_after, with_found};
-ghost use Rattle.proto_survey.specs.declared.survey.Kept.{Kept as KeptType};
+ghost use Rattle.proto_survey.specs.declared.survey.KeptResponse.{KeptResponse as KeptResponseType};
 ghost use Rattle.proto_survey.specs.Lives.{SurveyView, is_live_on, has_number, keeps_at, first_in, given_from, with_reply, without_over, is_over, free_number};
 ghost use Rattle.proto_survey.specs.Surveys.{Ties, survey_kind, places_left, without_live, out_text, AreSame, Asks, KeepsRaw, KeepsReply, IsAwaited, gets, is_given, is_fed, IsNext, survey_state};
 
-use crate::live::Live;
+use crate::live::LiveSurvey;
 use crate::waiting::{
-    Asking, cause_of, ended_place, leave_on, leave_over, receive_place, send_place, take, wait,
-    waits_on,
+    SurveyOperation, cause_of, ended_place, leave_on, leave_over, receive_place, send_place, take,
+    wait, waits_on,
 };
 use sp_base::{Ctx, NoMemory, OpName, PipeId, Role, Tick};
 use sp_history::setting::Options;
@@ -36,7 +36,7 @@ const MOST_LIVE: usize = 2_147_483_647;
 
 /// A message that is kept, and the pipe that it came from.
 #[derive(Drop)]
-struct Kept {
+struct KeptResponse {
     pipe: PipeId,
     message: Message,
 }
@@ -55,11 +55,11 @@ pub struct Survey {
     /// The open contexts, in the order in which they were opened.
     homes: Vec<Ctx>,
     /// Cooked: at most one of each context, in the order of their begins.
-    live: Vec<Live>,
+    live: Vec<LiveSurvey>,
     /// Raw: the oldest first, at most one of each pipe.
-    kept: VecDeque<Kept>,
+    kept: VecDeque<KeptResponse>,
     /// In the order of their begins.
-    waiting: Vec<Asking>,
+    waiting: Vec<SurveyOperation>,
     /// Of the send that is pending, one for each pipe that gets it.
     copies: Vec<Message>,
 }
@@ -85,21 +85,21 @@ fn is_open(homes: &[Ctx], c: Ctx) -> bool
 // ---- Surveys that are live
 
 // Where the survey of the context stands.
-fn live_place(live: &[Live], c: Ctx) -> Option<usize>
+fn live_place(live: &[LiveSurvey], c: Ctx) -> Option<usize>
     ensures { result ≡ position (is_live_on c) live.now }
 {
     live.iter().position(|x| x.is_on(c))
 }
 
 // The context has a live survey.
-fn has_live(live: &[Live], c: Ctx) -> bool
+fn has_live(live: &[LiveSurvey], c: Ctx) -> bool
     ensures { result ≡ list_any (is_live_on c) live.now }
 {
     live.iter().any(|x| x.is_on(c))
 }
 
 // A response is kept for the context.
-fn keeps_for(live: &[Live], c: Ctx) -> bool
+fn keeps_for(live: &[LiveSurvey], c: Ctx) -> bool
     ensures { result ≡ keeps_at live.now c }
 {
     match live_place(live, c) {
@@ -109,7 +109,7 @@ fn keeps_for(live: &[Live], c: Ctx) -> bool
 }
 
 // Where a survey stands that keeps a response for a receive that waits.
-fn fed_place(live: &[Live], waiting: &[Asking]) -> Option<usize>
+fn fed_place(live: &[LiveSurvey], waiting: &[SurveyOperation]) -> Option<usize>
     ensures { result ≡ position (is_fed waiting.now) live.now }
 {
     live.iter()
@@ -117,7 +117,7 @@ fn fed_place(live: &[Live], waiting: &[Asking]) -> Option<usize>
 }
 
 // Ends the survey of the context.
-fn end_live(live: &mut Vec<Live>, c: Ctx)
+fn end_live(live: &mut Vec<LiveSurvey>, c: Ctx)
     ensures rest { live.new.items ≡ without_live c live.old.items }
     ensures len { vec_len live.new ≤ vec_len live.old }
     ensures capacity { vec_capacity live.new ≡ vec_capacity live.old }
@@ -129,21 +129,21 @@ fn end_live(live: &mut Vec<Live>, c: Ctx)
 }
 
 // Ends the surveys that are over.
-fn end_over(live: &mut Vec<Live>, time: u64, now: Tick)
+fn end_over(live: &mut Vec<LiveSurvey>, time: u64, now: Tick)
     ensures { live.new.items ≡ without_over time now live.old.items }
 {
     live.retain(|x| !x.is_over(time, now));
 }
 
 // One of them is over.
-fn has_over(live: &[Live], time: u64, now: Tick) -> bool
+fn has_over(live: &[LiveSurvey], time: u64, now: Tick) -> bool
     ensures { result ≡ list_any (is_over time now) live.now }
 {
     live.iter().any(|x| x.is_over(time, now))
 }
 
 // Takes the oldest response of the context.
-fn give(live: &mut [Live], c: Ctx) -> Option<Message>
+fn give(live: &mut [LiveSurvey], c: Ctx) -> Option<Message>
     ensures given { result ≡ first_in (find (is_live_on c) live.old) }
     ensures rest { live.new ≡ with_found (is_live_on c) given_from live.old }
 {
@@ -154,7 +154,7 @@ fn give(live: &mut [Live], c: Ctx) -> Option<Message>
 }
 
 // Where the survey stands that has this id.
-fn id_place(live: &[Live], id: u32) -> Option<usize>
+fn id_place(live: &[LiveSurvey], id: u32) -> Option<usize>
     ensures { result ≡ position (has_number id) live.now }
 {
     live.iter().position(|x| x.has_id(id))
@@ -162,7 +162,7 @@ fn id_place(live: &[Live], id: u32) -> Option<usize>
 
 // Keeps the response for the survey that has this id, if there is one and it keeps fewer than so many. Returns false where
 // that found no memory; then all is as before.
-fn keep(live: &mut [Live], id: u32, most: u32, m: Message) -> bool
+fn keep(live: &mut [LiveSurvey], id: u32, most: u32, m: Message) -> bool
     ensures { KeepsReply result id most m live.old live.new }
 {
     match id_place(live, id) {
@@ -181,14 +181,14 @@ fn number_after(id: u32) -> u32
 }
 
 // A live survey has this id.
-fn is_taken(live: &[Live], id: u32) -> bool
+fn is_taken(live: &[LiveSurvey], id: u32) -> bool
     ensures { result ≡ list_any (has_number id) live.now }
 {
     live.iter().any(|x| x.has_id(id))
 }
 
 // The first number from this one on that no live survey has.
-fn free_number(live: &[Live], tries: usize, id: u32) -> u32
+fn free_number(live: &[LiveSurvey], tries: usize, id: u32) -> u32
     ensures { result ≡ free_number tries live.now id }
 {
     if tries == 0 {
@@ -201,7 +201,7 @@ fn free_number(live: &[Live], tries: usize, id: u32) -> u32
 }
 
 // The id of the next survey.
-fn next_id(live: &[Live], dice: u32, last: Option<u32>) -> u32
+fn next_id(live: &[LiveSurvey], dice: u32, last: Option<u32>) -> u32
     ensures { result ≡ free_number (length live.now) live.now (next_number dice last) }
 {
     match last {
@@ -253,8 +253,8 @@ fn led(raw: bool, id: Option<u32>, copy: Message) -> Message
 }
 
 // Raw: takes the oldest.
-fn oldest(kept: &mut VecDeque<Kept>) -> Option<Message>
-    ensures first { result ≡ option_map (λ (k : KeptType). k.message) (head_of kept.old.items) }
+fn oldest(kept: &mut VecDeque<KeptResponse>) -> Option<Message>
+    ensures first { result ≡ option_map (λ (k : KeptResponseType). k.message) (head_of kept.old.items) }
     ensures rest { kept.new.items ≡ drop 1 kept.old.items }
 {
     match kept.pop_front() {
@@ -302,7 +302,7 @@ impl Survey {
         let id = next_id(&self.live, self.options.dice, self.last_id);
         self.last_id = Some(id);
         self.live
-            .push_reserved(Live::new(self.alloc, c, id, self.tick));
+            .push_reserved(LiveSurvey::new(self.alloc, c, id, self.tick));
         Ok(())
     }
 
@@ -316,7 +316,7 @@ impl Survey {
             Err(_) => Verdict::Malformed,
             Ok(word) => {
                 let _ = message.header_append_u32(word);
-                match self.kept.push_back(Kept { pipe: p, message }) {
+                match self.kept.push_back(KeptResponse { pipe: p, message }) {
                     Ok(()) => Verdict::Fine,
                     Err(_) => Verdict::NoMemory,
                 }
@@ -376,7 +376,7 @@ impl Survey {
 
     // A message of the pipe is kept.
     fn keeps_of(&self, p: PipeId) -> bool
-        ensures { result ≡ list_any (λ (k : KeptType). k.pipe == p) self.now.kept.items }
+        ensures { result ≡ list_any (λ (k : KeptResponseType). k.pipe == p) self.now.kept.items }
     {
         self.kept.iter().any(|k| k.pipe.0 == p.0)
     }

@@ -2,12 +2,12 @@
 ghost use Rattle.std.specs.Prelude.{◌≡◌, ◌<◌, ◌+◌, ◌++◌, ◌==◌, ◌∷◌, [], None, Some, map, find, length, option_to_list, is_some};
 ghost use Rattle.std.specs.List.{position, list_any};
 ghost use Rattle.std.specs.Vec.{vec_len, vec_capacity};
-ghost use Rattle.proto_survey.specs.declared.waiting.Asking.{Asking as AskingType};
+ghost use Rattle.proto_survey.specs.declared.waiting.SurveyOperation.{SurveyOperation as SurveyOperationType};
 ghost use Rattle.proto_survey.specs.declared.waiting.SurveyEnd.TheVariants as ends;
 ghost use Rattle.proto_survey.specs.Lives.{over_on};
 ghost use Rattle.proto_survey.specs.Askings.{is_asked, is_sending, receives_on, without_first, left_by, ended_by, cause_is};
 
-use crate::live::Live;
+use crate::live::LiveSurvey;
 use sp_base::{Ctx, OpName, Tick};
 use sp_history::entry::Cause;
 use sp_msg::Message;
@@ -23,7 +23,7 @@ pub enum SurveyEnd {
 
 /// An operation that waits: a send has its message, as it was begun.
 #[derive(Drop)]
-pub struct Asking {
+pub struct SurveyOperation {
     /// Its name.
     pub op: OpName,
     /// The context that it was begun on.
@@ -35,14 +35,14 @@ pub struct Asking {
 }
 
 // Where the operation stands.
-fn place_of(waiting: &[Asking], op: OpName) -> Option<usize>
+fn place_of(waiting: &[SurveyOperation], op: OpName) -> Option<usize>
     ensures { result ≡ position (is_asked op) waiting.now }
 {
     waiting.iter().position(|w| w.op.slot == op.slot && w.op.generation == op.generation)
 }
 
 /// Takes the operation out.
-pub fn take(waiting: &mut Vec<Asking>, op: OpName) -> Option<Asking>
+pub fn take(waiting: &mut Vec<SurveyOperation>, op: OpName) -> Option<SurveyOperation>
     ensures found { result ≡ find (is_asked op) waiting.old.items }
     ensures rest { waiting.new.items ≡ without_first op waiting.old.items }
     ensures len { vec_len waiting.new + length (option_to_list result) ≡ vec_len waiting.old }
@@ -55,13 +55,13 @@ pub fn take(waiting: &mut Vec<Asking>, op: OpName) -> Option<Asking>
 }
 
 /// The operation waits, the last of all.
-pub fn wait(waiting: &mut Vec<Asking>, op: OpName, c: Ctx, message: Option<Message>)
+pub fn wait(waiting: &mut Vec<SurveyOperation>, op: OpName, c: Ctx, message: Option<Message>)
     requires { vec_len waiting.old < vec_capacity waiting.old }
     ensures items { waiting.new.items ≡ waiting.old.items ++ record { op = op; ctx = c; message = message; ended = None } ∷ [] }
     ensures len { vec_len waiting.new ≡ vec_len waiting.old + 1 }
     ensures capacity { vec_capacity waiting.new ≡ vec_capacity waiting.old }
 {
-    waiting.push_reserved(Asking {
+    waiting.push_reserved(SurveyOperation {
         op,
         ctx: c,
         message,
@@ -70,15 +70,15 @@ pub fn wait(waiting: &mut Vec<Asking>, op: OpName, c: Ctx, message: Option<Messa
 }
 
 /// Where the first send stands.
-pub fn send_place(waiting: &[Asking]) -> Option<usize>
+pub fn send_place(waiting: &[SurveyOperation]) -> Option<usize>
     ensures { result ≡ position is_sending waiting.now }
 {
     waiting.iter().position(|w| w.message.is_some())
 }
 
 /// Where the first operation stands whose survey has ended.
-pub fn ended_place(waiting: &[Asking]) -> Option<usize>
-    ensures { result ≡ position (λ (w : AskingType). is_some w.ended) waiting.now }
+pub fn ended_place(waiting: &[SurveyOperation]) -> Option<usize>
+    ensures { result ≡ position (λ (w : SurveyOperationType). is_some w.ended) waiting.now }
 {
     waiting.iter().position(|w| w.ended.is_some())
 }
@@ -101,7 +101,7 @@ fn is_same(a: Ctx, b: Ctx) -> bool
 }
 
 /// A receive of the context waits.
-pub fn waits_on(waiting: &[Asking], c: Ctx) -> bool
+pub fn waits_on(waiting: &[SurveyOperation], c: Ctx) -> bool
     ensures { result ≡ list_any (receives_on c) waiting.now }
 {
     waiting
@@ -110,7 +110,7 @@ pub fn waits_on(waiting: &[Asking], c: Ctx) -> bool
 }
 
 /// Where the first receive of the context stands.
-pub fn receive_place(waiting: &[Asking], c: Ctx) -> Option<usize>
+pub fn receive_place(waiting: &[SurveyOperation], c: Ctx) -> Option<usize>
     ensures { result ≡ position (receives_on c) waiting.now }
 {
     waiting
@@ -119,7 +119,7 @@ pub fn receive_place(waiting: &[Asking], c: Ctx) -> Option<usize>
 }
 
 /// The survey of the context is replaced, and leaves its receives behind.
-pub fn leave_on(waiting: &mut [Asking], c: Ctx)
+pub fn leave_on(waiting: &mut [SurveyOperation], c: Ctx)
     ensures { waiting.new ≡ map (left_by (λ d. d == c) ends.Replaced) waiting.old }
 {
     for w in waiting.iter_mut() {
@@ -128,14 +128,14 @@ pub fn leave_on(waiting: &mut [Asking], c: Ctx)
 }
 
 // The survey of the context is over.
-fn is_over_on(live: &[Live], time: u64, now: Tick, c: Ctx) -> bool
+fn is_over_on(live: &[LiveSurvey], time: u64, now: Tick, c: Ctx) -> bool
     ensures { result ≡ over_on time now live.now c }
 {
     live.iter().any(|x| x.is_on(c) && x.is_over(time, now))
 }
 
 /// The surveys that are over leave their receives behind.
-pub fn leave_over(waiting: &mut [Asking], live: &[Live], time: u64, now: Tick)
+pub fn leave_over(waiting: &mut [SurveyOperation], live: &[LiveSurvey], time: u64, now: Tick)
     ensures { waiting.new ≡ map (left_by (over_on time now live.now) ends.Over) waiting.old }
 {
     for w in waiting.iter_mut() {

@@ -10,12 +10,12 @@ use std::test::Fail;
 
 /// Gives so many bytes, one at a read, and then its end or a fault.
 #[derive(Clone, Copy, Debug, Drop)]
-struct Fed {
+struct CountedInput {
     left: u32,
     fails: bool,
 }
 
-impl Read for Fed {
+impl Read for CountedInput {
     fn read(&mut self, buf: &mut [u8]) -> IoResult<usize> {
         let fed = *self;
         if fed.left == 0 {
@@ -36,7 +36,7 @@ impl Read for Fed {
     }
 }
 
-impl BufRead for Fed {
+impl BufRead for CountedInput {
     fn fill_buf(&mut self) -> IoResult<&[u8]> {
         Ok(&[])
     }
@@ -46,12 +46,12 @@ impl BufRead for Fed {
 
 /// The files of the machine, with this standard input.
 #[derive(Drop)]
-struct Machine<R: Drop> {
+struct MachineFiles<R: Drop> {
     rt: R,
-    input: Fed,
+    input: CountedInput,
 }
 
-impl<R: AllocGlobal + Drop> Alloc for Machine<R> {
+impl<R: AllocGlobal + Drop> Alloc for MachineFiles<R> {
     type A = Global;
 
     fn alloc(&self) -> Global {
@@ -59,23 +59,23 @@ impl<R: AllocGlobal + Drop> Alloc for Machine<R> {
     }
 }
 
-impl<R: Drop> Input for Machine<R> {
-    type Reader = Fed;
+impl<R: Drop> Input for MachineFiles<R> {
+    type Reader = CountedInput;
 
     fn read_line<A: Allocator + Clone>(&self, _buf: &mut String<A>) -> IoResult<usize> {
         Ok(0)
     }
 
-    fn lines<A: Allocator>(&self, alloc: A) -> Lines<Fed, A> {
+    fn lines<A: Allocator>(&self, alloc: A) -> Lines<CountedInput, A> {
         self.input.lines(alloc)
     }
 
-    fn reader(&self) -> Fed {
+    fn reader(&self) -> CountedInput {
         self.input
     }
 }
 
-impl<R: SystemFiles + Drop> SystemFiles for Machine<R> {
+impl<R: SystemFiles + Drop> SystemFiles for MachineFiles<R> {
     type File = R::File;
 
     type Dir = R::Dir;
@@ -123,11 +123,11 @@ impl<R: SystemFiles + Drop> SystemFiles for Machine<R> {
 
 #[test]
 fn an_empty_input_is_an_empty_file(rt: HostRuntime) -> Result<(), Fail> {
-    let input = Fed {
+    let input = CountedInput {
         left: 0,
         fails: false,
     };
-    let mut files = RealFiles::new(Machine {
+    let mut files = RealFiles::new(MachineFiles {
         rt: rt.clone()?,
         input,
     });
@@ -138,11 +138,11 @@ fn an_empty_input_is_an_empty_file(rt: HostRuntime) -> Result<(), Fail> {
 
 #[test]
 fn an_input_gives_all_its_bytes(rt: HostRuntime) -> Result<(), Fail> {
-    let input = Fed {
+    let input = CountedInput {
         left: 20_000,
         fails: false,
     };
-    let mut files = RealFiles::new(Machine {
+    let mut files = RealFiles::new(MachineFiles {
         rt: rt.clone()?,
         input,
     });
@@ -159,8 +159,8 @@ fn an_input_gives_all_its_bytes(rt: HostRuntime) -> Result<(), Fail> {
 #[test]
 fn an_input_that_fails_is_a_fault(rt: HostRuntime) -> Result<(), Fail> {
     for left in [0u32, 1, 20_000] {
-        let input = Fed { left, fails: true };
-        let mut files = RealFiles::new(Machine {
+        let input = CountedInput { left, fails: true };
+        let mut files = RealFiles::new(MachineFiles {
             rt: rt.clone()?,
             input,
         });

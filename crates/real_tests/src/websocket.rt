@@ -130,7 +130,7 @@ impl<P: Pace + Drop, R: std::net::Net + Drop> Pace for Beside<P, R> {
 
 /// What a run came to, and what its peer heard.
 #[derive(Drop)]
-struct Came {
+struct PlayedRun {
     status: Status,
     printed: Vec<u8>,
     heard: Vec<u8>,
@@ -143,7 +143,7 @@ fn played<R: AllocGlobal + Wait + Threads + Sync>(
     texts: &[&str],
     door: Door<HostRuntime>,
     says: Vec<(usize, &'static [u8])>,
-) -> Result<Came, Fail> {
+) -> Result<PlayedRun, Fail> {
     let alloc = rt.alloc();
     let mut words = Vec::new(alloc);
     for text in texts {
@@ -167,7 +167,7 @@ fn played<R: AllocGlobal + Wait + Threads + Sync>(
     let end = run(waits, &words, &mut net, &mut files, &mut pace, &mut out, 0);
     drop(net);
     let Beside { pace: _, peer } = pace;
-    Ok(Came {
+    Ok(PlayedRun {
         status: end.status,
         printed: Vec::from_slice(alloc, out.text())?,
         heard: peer.heard(),
@@ -183,7 +183,7 @@ fn rep_at<R: AllocGlobal + Wait + Threads + Sync>(
     rt: &HostRuntime,
     waits: &R,
     port: u16,
-) -> Result<Came, Fail> {
+) -> Result<PlayedRun, Fail> {
     let alloc = rt.alloc();
     let address = format!(in alloc; "ws://127.0.0.1:{port}/")?;
     let (begun, rest) = HEAD.split_at(100.min(HEAD.len()));

@@ -50,7 +50,7 @@ pub fn is_down<P: Proto, W: Wire + Drop, R: Wait + Abort>(
 
 /// What a wire gives.
 #[derive(Clone, Copy)]
-pub enum Step<'a> {
+pub enum PipeStep<'a> {
     Frame(&'a [u8]),
     /// Nothing more in this turn.
     Pause,
@@ -66,16 +66,16 @@ pub fn frame(rt: &impl Abort, alloc: Global, body: &[u8]) -> Bytes {
 }
 
 // The step of a wire in memory.
-fn wire_step(rt: &impl Abort, alloc: Global, step: Step<'_>) -> WireStep {
+fn wire_step(rt: &impl Abort, alloc: Global, step: PipeStep<'_>) -> WireStep {
     match step {
-        Step::Pause => WireStep::NotYet,
-        Step::End => WireStep::End,
-        Step::Frame(body) => WireStep::Bytes(frame(rt, alloc, body)),
+        PipeStep::Pause => WireStep::NotYet,
+        PipeStep::End => WireStep::End,
+        PipeStep::Frame(body) => WireStep::Bytes(frame(rt, alloc, body)),
     }
 }
 
 // The steps of a wire in memory.
-fn script(rt: &impl Abort, alloc: Global, steps: &[Step<'_>]) -> Vec<WireStep> {
+fn script(rt: &impl Abort, alloc: Global, steps: &[PipeStep<'_>]) -> Vec<WireStep> {
     let mut script = Vec::new(alloc);
     for step in steps {
         if script.push(wire_step(rt, alloc, *step)).is_err() {
@@ -86,7 +86,7 @@ fn script(rt: &impl Abort, alloc: Global, steps: &[Step<'_>]) -> Vec<WireStep> {
 }
 
 /// A wire that gives this, and takes so many messages.
-pub fn wire(rt: &impl Abort, alloc: Global, room: u64, steps: &[Step<'_>]) -> MemWire
+pub fn wire(rt: &impl Abort, alloc: Global, room: u64, steps: &[PipeStep<'_>]) -> MemWire
     ensures { IsUnused result.wire }
 {
     MemWire::new(alloc, script(rt, alloc, steps), room, Vec::new(alloc))
@@ -112,7 +112,7 @@ pub fn joins<P: Proto, R: Wait + Abort>(
     driver: &mut Driver<P, MemWire>,
     place: u32,
     room: u64,
-    steps: &[Step<'_>],
+    steps: &[PipeStep<'_>],
 ) -> u32 {
     up(rt, driver.attach(rt, wire(rt, alloc, room, steps), place))
 }

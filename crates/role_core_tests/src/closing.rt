@@ -1,8 +1,8 @@
 //! A close ends what is pending once, and refuses what comes after it.
 
 use crate::checks::{
-    Step, finished, is_gone, made, now_code, open_code, receives, recv_code, shut_code, topic_code,
-    totals, wire,
+    PipeStep, finished, is_gone, made, now_code, open_code, receives, recv_code, shut_code,
+    topic_code, totals, wire,
 };
 use core_driver::Driver;
 use proto_pubsub::Subscribe;
@@ -50,7 +50,7 @@ fn a_close_ends_what_is_pending_once_with<P: Proto, R: Wait + Abort>(
     assert_eq!(rt; shut_code(driver.close_ctx(rt, Ctx(1))), 7);
     assert_eq!(rt; topic_code(driver.subscribe(rt, Ctx(0), b"a")), 7);
     assert_eq!(rt; topic_code(driver.unsubscribe(rt, Ctx(0), b"a")), 7);
-    match driver.attach(rt, wire(rt, alloc, 0, &[Step::End]), 0) {
+    match driver.attach(rt, wire(rt, alloc, 0, &[PipeStep::End]), 0) {
         Ok(_) => panic!(rt; "a pipe came up"),
         Err((e, _)) => assert_eq!(rt; SpError::from(e).code(), 7),
     }

@@ -1,8 +1,8 @@
 //! Sends that go to many pipes: pub and bus. Each send asks each of its pipes for room once.
 
 use crate::checks::{
-    Step, finished, frame, is_down, is_now, is_sent, joins, made, now_code, open_code, recv_code,
-    sends, sent, shut_code, totals, up,
+    PipeStep, finished, frame, is_down, is_now, is_sent, joins, made, now_code, open_code,
+    recv_code, sends, sent, shut_code, totals, up,
 };
 use crate::out_wire::{OutWire, next_out};
 use core_driver::Driver;
@@ -197,7 +197,7 @@ fn a_full_bus_discards_the_new_one_with<P: Proto, R: Wait + Abort>(
             &mut driver,
             0,
             0,
-            &[Step::Frame(b"a"), Step::Frame(b"b")]
+            &[PipeStep::Frame(b"a"), PipeStep::Frame(b"b")]
         ),
         1
     );

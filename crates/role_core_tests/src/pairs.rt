@@ -1,7 +1,7 @@
 //! Pairs: one peer at a time, and sends that wait for it.
 
 use crate::checks::{
-    Step, finished, is_down, is_now, is_received, is_sent, joins, made, next_put, now_code,
+    PipeStep, finished, is_down, is_now, is_received, is_sent, joins, made, next_put, now_code,
     receives, sends, totals, up, wire,
 };
 use core_driver::Driver;
@@ -37,8 +37,8 @@ fn a_pair_has_one_peer_with<P: Proto, R: Wait + Abort>(
     alloc: Global,
     mut driver: Driver<P, MemWire>,
 ) {
-    assert_eq!(rt; joins(rt, alloc, &mut driver, 0, 0, &[Step::End]), 1);
-    match driver.attach(rt, wire(rt, alloc, 0, &[Step::Frame(b"x")]), 1) {
+    assert_eq!(rt; joins(rt, alloc, &mut driver, 0, 0, &[PipeStep::End]), 1);
+    match driver.attach(rt, wire(rt, alloc, 0, &[PipeStep::Frame(b"x")]), 1) {
         Ok(_) => panic!(rt; "a second peer"),
         Err((e, second)) => {
             assert_eq!(rt; e, AttachError::Refused);
@@ -105,7 +105,7 @@ fn a_pair_pulls_one_frame_at_a_time_with<P: Proto, R: Wait + Abort>(
             &mut driver,
             0,
             0,
-            &[Step::Frame(b"x"), Step::End]
+            &[PipeStep::Frame(b"x"), PipeStep::End]
         ),
         1
     );
@@ -122,7 +122,7 @@ fn a_pair_pulls_one_frame_at_a_time_with<P: Proto, R: Wait + Abort>(
             &mut driver,
             1,
             0,
-            &[Step::Frame(b"y"), Step::Frame(b"z")]
+            &[PipeStep::Frame(b"y"), PipeStep::Frame(b"z")]
         ),
         2
     );

@@ -1,7 +1,7 @@
 //! What a race that is lost, a deadline and a context that is shut do to a request.
 use crate::checks::{
-    Step, due, finished, is_back, is_gone, is_received, is_sent, joins, message, next_put, opened,
-    receives, recv_code, send_code, sends, sent, shut_code, totals,
+    PipeStep, due, finished, is_back, is_gone, is_received, is_sent, joins, message, next_put,
+    opened, receives, recv_code, send_code, sends, sent, shut_code, totals,
 };
 use crate::replies::rep;
 use crate::requests::req;
@@ -29,7 +29,14 @@ fn a_reply_that_meets_a_cancelled_receive_is_gone_with_its_request_with<P: Proto
     mut driver: Driver<P, MemWire>,
 ) {
     assert_eq!(rt;
-        joins(rt, alloc, &mut driver, 0, 8, &[Step::Frame(b"\x80\0\0\0a")]),
+        joins(
+            rt,
+            alloc,
+            &mut driver,
+            0,
+            8,
+            &[PipeStep::Frame(b"\x80\0\0\0a")]
+        ),
         1
     );
     sends(rt, alloc, &mut driver, Ctx(0), &[], b"q");
@@ -62,7 +69,7 @@ fn a_request_that_meets_a_cancelled_receive_stays_for_the_next_one_with<P: Proto
             &mut driver,
             0,
             8,
-            &[Step::Frame(b"\x80\0\0\x01q")]
+            &[PipeStep::Frame(b"\x80\0\0\x01q")]
         ),
         1
     );

@@ -1,7 +1,7 @@
 //! Replies, of rep and of respondent alike: backtraces, and pipes that are down or full.
 
 use crate::checks::{
-    Step, finished, is_down, is_received, is_sent, joins, made, message, next_put, now_code,
+    PipeStep, finished, is_down, is_received, is_sent, joins, made, message, next_put, now_code,
     opened, receives, recv_code, send_code, sends, sent, totals,
 };
 use core_driver::Driver;
@@ -44,7 +44,7 @@ fn goes_back_by_its_backtrace<P: Proto, R: Wait + Abort>(
             &mut driver,
             0,
             8,
-            &[Step::Frame(b"\0\0\0\x07\x80\0\0\x2aq")]
+            &[PipeStep::Frame(b"\0\0\0\x07\x80\0\0\x2aq")]
         ),
         1
     );
@@ -86,11 +86,22 @@ fn closes_the_pipe_of_what_is_cut_short<P: Proto, R: Wait + Abort>(
 ) {
     let mut driver = driver;
     assert_eq!(rt;
-        joins(rt, alloc, &mut driver, 0, 0, &[Step::Frame(b"\0\0\0\x01")]),
+        joins(
+            rt,
+            alloc,
+            &mut driver,
+            0,
+            0,
+            &[PipeStep::Frame(b"\0\0\0\x01")]
+        ),
         1
     );
     // What came too far is dropped, whether or not anything is behind it.
-    let steps = [Step::Frame(NINE), Step::Frame(EIGHT), Step::Frame(SEVEN)];
+    let steps = [
+        PipeStep::Frame(NINE),
+        PipeStep::Frame(EIGHT),
+        PipeStep::Frame(SEVEN),
+    ];
     assert_eq!(rt; joins(rt, alloc, &mut driver, 1, 8, &steps), 2);
     receives(rt, &mut driver, Ctx(0));
     driver.serve(rt);
@@ -121,7 +132,7 @@ fn answers_nowhere_where_the_pipe_is_down<P: Proto, R: Wait + Abort>(
     driver: Driver<P, MemWire>,
 ) {
     let mut driver = driver;
-    let steps = [Step::Frame(b"\x80\0\0\x01q"), Step::End];
+    let steps = [PipeStep::Frame(b"\x80\0\0\x01q"), PipeStep::End];
     assert_eq!(rt; joins(rt, alloc, &mut driver, 0, 8, &steps), 1);
     receives(rt, &mut driver, Ctx(0));
     driver.serve(rt);
@@ -147,7 +158,11 @@ fn waits_at_a_full_pipe<P: Proto, R: Wait + Abort>(
     driver: Driver<P, MemWire>,
 ) {
     let mut driver = driver;
-    let steps = [Step::Frame(b"\x80\0\0\x01q"), Step::Pause, Step::End];
+    let steps = [
+        PipeStep::Frame(b"\x80\0\0\x01q"),
+        PipeStep::Pause,
+        PipeStep::End,
+    ];
     assert_eq!(rt; joins(rt, alloc, &mut driver, 0, 0, &steps), 1);
     driver.serve(rt);
     receives(rt, &mut driver, Ctx(0));
@@ -177,7 +192,10 @@ fn answers_on_two_contexts<P: Proto, R: Wait + Abort>(
 ) {
     let mut driver = driver;
     assert_eq!(rt; opened(rt, driver.open_ctx(rt)), 1);
-    let steps = [Step::Frame(b"\x80\0\0\x01p"), Step::Frame(b"\x80\0\0\x02r")];
+    let steps = [
+        PipeStep::Frame(b"\x80\0\0\x01p"),
+        PipeStep::Frame(b"\x80\0\0\x02r"),
+    ];
     assert_eq!(rt; joins(rt, alloc, &mut driver, 0, 8, &steps), 1);
     assert_eq!(rt;
         joins(
@@ -186,7 +204,7 @@ fn answers_on_two_contexts<P: Proto, R: Wait + Abort>(
             &mut driver,
             1,
             8,
-            &[Step::Frame(b"\x80\0\0\x01q")]
+            &[PipeStep::Frame(b"\x80\0\0\x01q")]
         ),
         2
     );
@@ -234,7 +252,7 @@ fn gives_up_the_request_before<P: Proto, R: Wait + Abort>(
             &mut driver,
             0,
             8,
-            &[Step::Frame(b"\x80\0\0\x01q")]
+            &[PipeStep::Frame(b"\x80\0\0\x01q")]
         ),
         1
     );
@@ -272,7 +290,7 @@ fn answers_by_the_header<P: Proto, R: Wait + Abort>(
             &mut driver,
             0,
             8,
-            &[Step::Frame(b"\x80\0\0\x2aq")]
+            &[PipeStep::Frame(b"\x80\0\0\x2aq")]
         ),
         1
     );

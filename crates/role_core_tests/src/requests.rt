@@ -1,8 +1,8 @@
 //! Requests: ids, replies, resends, and what ends a request.
 
 use crate::checks::{
-    Step, due, finished, is_back, is_down, is_gone, is_received, is_sent, joins, made, next_put,
-    opened, receives, recv_code, sends, totals,
+    PipeStep, due, finished, is_back, is_down, is_gone, is_received, is_sent, joins, made,
+    next_put, opened, receives, recv_code, sends, totals,
 };
 use aio_word::Raced;
 use core_driver::Driver;
@@ -38,10 +38,10 @@ fn a_reply_is_given_once_with<P: Proto, R: Wait + Abort>(
     mut driver: Driver<P, MemWire>,
 ) {
     let steps = [
-        Step::Frame(b"\x80\0\0\x01no"),
-        Step::Frame(b"\x80\0\0\0pong"),
-        Step::Pause,
-        Step::Frame(b"\x80\0\0\0pong"),
+        PipeStep::Frame(b"\x80\0\0\x01no"),
+        PipeStep::Frame(b"\x80\0\0\0pong"),
+        PipeStep::Pause,
+        PipeStep::Frame(b"\x80\0\0\0pong"),
     ];
     assert_eq!(rt; joins(rt, alloc, &mut driver, 0, 8, &steps), 1);
     assert_eq!(rt; recv_code(driver.begin_recv(rt, Ctx(0), None)), 11);
@@ -70,7 +70,7 @@ fn a_request_goes_out_again_with<P: Proto, R: Wait + Abort>(
     alloc: Global,
     mut driver: Driver<P, MemWire>,
 ) {
-    assert_eq!(rt; joins(rt, alloc, &mut driver, 0, 8, &[Step::End]), 1);
+    assert_eq!(rt; joins(rt, alloc, &mut driver, 0, 8, &[PipeStep::End]), 1);
     sends(rt, alloc, &mut driver, Ctx(0), &[], b"a");
     is_sent(rt, driver.collect(rt));
     assert_eq!(rt; joins(rt, alloc, &mut driver, 1, 8, &[]), 2);
@@ -96,13 +96,20 @@ fn a_request_waits_for_a_pipe_that_has_room_with<P: Proto, R: Wait + Abort>(
     alloc: Global,
     mut driver: Driver<P, MemWire>,
 ) {
-    assert_eq!(rt; joins(rt, alloc, &mut driver, 0, 1, &[Step::End]), 1);
+    assert_eq!(rt; joins(rt, alloc, &mut driver, 0, 1, &[PipeStep::End]), 1);
     sends(rt, alloc, &mut driver, Ctx(0), &[], b"a");
     is_sent(rt, driver.collect(rt));
     driver.serve(rt);
     // No pipe is up, so it goes out in the turn of the next one.
     assert_eq!(rt;
-        joins(rt, alloc, &mut driver, 1, 1, &[Step::Frame(b"\x80\0\0\0b")]),
+        joins(
+            rt,
+            alloc,
+            &mut driver,
+            1,
+            1,
+            &[PipeStep::Frame(b"\x80\0\0\0b")]
+        ),
         2
     );
     receives(rt, &mut driver, Ctx(0));
@@ -127,9 +134,9 @@ fn a_new_request_replaces_the_old_with<P: Proto, R: Wait + Abort>(
     mut driver: Driver<P, MemWire>,
 ) {
     let steps = [
-        Step::Frame(b"\x80\0\0\0x"),
-        Step::Pause,
-        Step::Frame(b"\x80\0\0\x01y"),
+        PipeStep::Frame(b"\x80\0\0\0x"),
+        PipeStep::Pause,
+        PipeStep::Frame(b"\x80\0\0\x01y"),
     ];
     assert_eq!(rt; joins(rt, alloc, &mut driver, 0, 8, &steps), 1);
     sends(rt, alloc, &mut driver, Ctx(0), &[], b"a");
@@ -192,7 +199,7 @@ fn replies_reach_the_contexts_that_asked_with<P: Proto, R: Wait + Abort>(
             &mut driver,
             0,
             8,
-            &[Step::Frame(b"\x80\0\0\x06b")]
+            &[PipeStep::Frame(b"\x80\0\0\x06b")]
         ),
         1
     );
@@ -203,7 +210,7 @@ fn replies_reach_the_contexts_that_asked_with<P: Proto, R: Wait + Abort>(
             &mut driver,
             1,
             8,
-            &[Step::Pause, Step::Frame(b"\x80\0\0\x05a")]
+            &[PipeStep::Pause, PipeStep::Frame(b"\x80\0\0\x05a")]
         ),
         2
     );
@@ -284,7 +291,10 @@ fn a_raw_req_moves_one_word_with<P: Proto, R: Wait + Abort>(
     alloc: Global,
     mut driver: Driver<P, MemWire>,
 ) {
-    let steps = [Step::Frame(b"\x80\0\0\x2aa"), Step::Frame(b"\x80\0\0")];
+    let steps = [
+        PipeStep::Frame(b"\x80\0\0\x2aa"),
+        PipeStep::Frame(b"\x80\0\0"),
+    ];
     assert_eq!(rt; joins(rt, alloc, &mut driver, 0, 8, &steps), 1);
     sends(rt, alloc, &mut driver, Ctx(0), &[0x8000_002a], b"q");
     is_sent(rt, driver.collect(rt));

@@ -1,8 +1,8 @@
 //! Subs: topics, contexts, and what a full queue discards.
 
 use crate::checks::{
-    Step, finished, is_gone, is_now, joins, made, message, now_code, open_code, opened, receives,
-    recv_code, send_code, shut_code, topic_code, totals,
+    PipeStep, finished, is_gone, is_now, joins, made, message, now_code, open_code, opened,
+    receives, recv_code, send_code, shut_code, topic_code, totals,
 };
 use aio_word::Raced;
 use core_driver::Driver;
@@ -53,12 +53,12 @@ fn a_subscriber_keeps_what_its_topics_match_with<P: Proto, R: Wait + Abort>(
             0,
             0,
             &[
-                Step::Frame(b"abc"),
-                Step::Pause,
-                Step::Frame(b"abc"),
-                Step::Frame(b"a"),
-                Step::Frame(b"abd"),
-                Step::Frame(b"abe"),
+                PipeStep::Frame(b"abc"),
+                PipeStep::Pause,
+                PipeStep::Frame(b"abc"),
+                PipeStep::Frame(b"a"),
+                PipeStep::Frame(b"abd"),
+                PipeStep::Frame(b"abe"),
             ]
         ),
         1
@@ -99,9 +99,9 @@ fn a_subscriber_that_prefers_the_older_discards_the_new_one_with<P: Proto, R: Wa
             0,
             0,
             &[
-                Step::Frame(b"abc"),
-                Step::Frame(b"abd"),
-                Step::Frame(b"abe"),
+                PipeStep::Frame(b"abc"),
+                PipeStep::Frame(b"abd"),
+                PipeStep::Frame(b"abe"),
             ]
         ),
         1
@@ -139,7 +139,7 @@ fn contexts_keep_apart_with<P: Proto, R: Wait + Abort>(
             &mut driver,
             0,
             0,
-            &[Step::Frame(b"abc"), Step::Frame(b"ax")]
+            &[PipeStep::Frame(b"abc"), PipeStep::Frame(b"ax")]
         ),
         1
     );
@@ -234,7 +234,11 @@ fn a_raw_subscriber_keeps_every_frame_with<P: Proto, R: Wait + Abort>(
             &mut driver,
             0,
             0,
-            &[Step::Frame(b"a"), Step::Frame(b"b"), Step::Frame(b"")]
+            &[
+                PipeStep::Frame(b"a"),
+                PipeStep::Frame(b"b"),
+                PipeStep::Frame(b"")
+            ]
         ),
         1
     );

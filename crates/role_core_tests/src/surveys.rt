@@ -1,7 +1,7 @@
 //! Surveys: they go to all, and end at their time or when another one begins.
 
 use crate::checks::{
-    Step, begun, due, finished, frame, is_down, is_gone, is_received, is_sent, joins, made,
+    PipeStep, begun, due, finished, frame, is_down, is_gone, is_received, is_sent, joins, made,
     next_put, open_code, receives, recv_code, sends, totals, up,
 };
 use crate::out_wire::{OutWire, next_out};
@@ -38,13 +38,20 @@ fn a_survey_is_over_at_its_time_with<P: Proto, R: Wait + Abort>(
     mut driver: Driver<P, MemWire>,
 ) {
     let steps = [
-        Step::Frame(b"\x80\0\0\0a"),
-        Step::Pause,
-        Step::Frame(b"\x80\0\0\0c"),
+        PipeStep::Frame(b"\x80\0\0\0a"),
+        PipeStep::Pause,
+        PipeStep::Frame(b"\x80\0\0\0c"),
     ];
     assert_eq!(rt; joins(rt, alloc, &mut driver, 0, 8, &steps), 1);
     assert_eq!(rt;
-        joins(rt, alloc, &mut driver, 1, 8, &[Step::Frame(b"\x80\0\0\0b")]),
+        joins(
+            rt,
+            alloc,
+            &mut driver,
+            1,
+            8,
+            &[PipeStep::Frame(b"\x80\0\0\0b")]
+        ),
         2
     );
     assert_eq!(rt; recv_code(driver.begin_recv(rt, Ctx(0), None)), 11);
@@ -81,7 +88,10 @@ fn a_newer_survey_replaces_the_older_with<P: Proto, R: Wait + Abort>(
     alloc: Global,
     mut driver: Driver<P, MemWire>,
 ) {
-    let steps = [Step::Frame(b"\x80\0\0\0a"), Step::Frame(b"\x80\0\0\x01b")];
+    let steps = [
+        PipeStep::Frame(b"\x80\0\0\0a"),
+        PipeStep::Frame(b"\x80\0\0\x01b"),
+    ];
     assert_eq!(rt; joins(rt, alloc, &mut driver, 0, 8, &steps), 1);
     sends(rt, alloc, &mut driver, Ctx(0), &[], b"s");
     is_sent(rt, driver.collect(rt));
@@ -217,12 +227,19 @@ fn a_raw_surveyor_moves_one_word_with<P: Proto, R: Wait + Abort>(
             &mut driver,
             0,
             8,
-            &[Step::Frame(b"\x80\0\0\x2aa")]
+            &[PipeStep::Frame(b"\x80\0\0\x2aa")]
         ),
         1
     );
     assert_eq!(rt;
-        joins(rt, alloc, &mut driver, 1, 8, &[Step::Frame(b"\0\0\0\x01b")]),
+        joins(
+            rt,
+            alloc,
+            &mut driver,
+            1,
+            8,
+            &[PipeStep::Frame(b"\0\0\0\x01b")]
+        ),
         2
     );
     assert_eq!(rt; open_code(driver.open_ctx(rt)), 9);

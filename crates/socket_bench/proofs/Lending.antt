@@ -3,7 +3,7 @@ use Rattle.std.proofs.Common.{◌≡◌, ap, sym, ◌∙◌, subst, arith, refl,
 use Rattle.aio_word.specs.Views.{Each}
 use Rattle.sp_history.specs.declared.setting.Setting.{Setting}
 use Rattle.sp_socket.specs.Passes.{SocketName, PassView, ListView, IsOf, new_list}
-use Rattle.socket_tests.proofs.Calling.{each_front, each_more, list_less, list_more, list_made, list_whole}
+use Rattle.socket_tests.proofs.SocketCallers.{each_front, each_more, list_less, list_more, list_made, list_whole}
 use Rattle.socket_bench.specs.Lent.{AreLent}
 
 one_more : (xs : List PassView) (x : PassView) → length (xs ++ x ∷ []) ≡ suc (length xs)

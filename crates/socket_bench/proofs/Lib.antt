@@ -1,2 +1,2 @@
 pub mod Lending
-pub mod Staying
+pub mod OneCallerCores

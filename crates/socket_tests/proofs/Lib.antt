@@ -1,3 +1,3 @@
-pub mod Calling
-pub mod Working
-pub mod Crossing
+pub mod SocketCallers
+pub mod ByPlace
+pub mod PassesBetweenThreads

@@ -3,7 +3,7 @@
 ghost use Rattle.std.specs.Prelude.{◌≡◌};
 
 use crate::callers::{finish, give_back, next, opened};
-use crate::marks::{Marks, shared, unmarked};
+use crate::marks::{ThreadMarks, shared, unmarked};
 use crate::parts::{add, begun, giving_x, is_gone, is_received, pull, totals, wire};
 use crate::threads::do_all;
 use crate::workers::{Job, Task};
@@ -18,7 +18,7 @@ use std::sync::{Arc, Wait};
 #[derive(Drop)]
 struct HeldWire {
     wire: MemWire,
-    marks: Arc<Marks>,
+    marks: Arc<ThreadMarks>,
     // Whether it has held a turn up.
     done: bool,
 }
@@ -63,7 +63,7 @@ impl Wire for HeldWire {
 }
 
 // A wire that holds nothing up.
-fn unheld(rt: &impl Abort, wire: MemWire, marks: &Arc<Marks>) -> HeldWire
+fn unheld(rt: &impl Abort, wire: MemWire, marks: &Arc<ThreadMarks>) -> HeldWire
     ensures { result.wire ≡ wire }
 {
     HeldWire {

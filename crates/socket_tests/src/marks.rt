@@ -10,7 +10,7 @@ const LOOKS: u32 = 1_000_000;
 
 /// Numbers that threads share, each 0 until it is set.
 #[derive(Drop)]
-pub struct Marks {
+pub struct ThreadMarks {
     // 1 while a wire holds its turn up, 2 where it gave up.
     held: AtomicU64,
     // 1 once another caller was about to ask for a turn while one was held up.
@@ -24,10 +24,10 @@ pub struct Marks {
 }
 
 /// No mark is set.
-pub fn unmarked(rt: &impl Abort, alloc: Global) -> Arc<Marks> {
+pub fn unmarked(rt: &impl Abort, alloc: Global) -> Arc<ThreadMarks> {
     match Arc::new(
         alloc,
-        Marks {
+        ThreadMarks {
             held: AtomicU64::new(0),
             entered: AtomicU64::new(0),
             answered: AtomicU64::new(0),
@@ -41,7 +41,7 @@ pub fn unmarked(rt: &impl Abort, alloc: Global) -> Arc<Marks> {
 }
 
 /// One owner of the marks more.
-pub fn shared(rt: &impl Abort, marks: &Arc<Marks>) -> Arc<Marks> {
+pub fn shared(rt: &impl Abort, marks: &Arc<ThreadMarks>) -> Arc<ThreadMarks> {
     match marks.clone() {
         Ok(marks) => marks,
         Err(_) => panic!(rt; "too many owners of marks"),
@@ -60,7 +60,7 @@ fn seen(mark: &AtomicU64) -> u64 {
     0
 }
 
-impl Marks {
+impl ThreadMarks {
     /// Holds up until the cancel was answered.
     pub fn hold(&self) {
         self.held.store(1, Ordering::SeqCst);

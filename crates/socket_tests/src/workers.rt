@@ -3,7 +3,7 @@ ghost use Rattle.std.specs.Prelude.{◌≡◌, ◌∷◌, []};
 ghost use Rattle.aio_word.specs.Views.{Each};
 ghost use Rattle.socket_tests.specs.Calls.{Calls};
 
-use crate::marks::Marks;
+use crate::marks::ThreadMarks;
 use sp_base::{Ctx, OpName, Tick};
 use sp_msg::Wire;
 use sp_proto::Proto;
@@ -27,15 +27,15 @@ pub enum Job {
     /// Lets this moment come.
     Tick(Tick),
     /// Cancels this one as soon as a turn is held up and another caller has come for its own.
-    CancelWhenHeld(OpName, Arc<Marks>),
+    CancelWhenHeld(OpName, Arc<ThreadMarks>),
     /// Lets this moment come, as soon as a turn is held up.
-    TickWhenHeld(Tick, Arc<Marks>),
+    TickWhenHeld(Tick, Arc<ThreadMarks>),
     /// Begins a receive, says so, and waits for it.
-    Wait(Arc<Marks>),
+    Wait(Arc<ThreadMarks>),
     /// Serves the pipes as soon as a receive has begun.
-    ServeWhenBegun(Arc<Marks>),
+    ServeWhenBegun(Arc<ThreadMarks>),
     /// Cancels the receive as soon as it has begun, in slot 0.
-    CancelWhenBegun(Arc<Marks>),
+    CancelWhenBegun(Arc<ThreadMarks>),
     /// Closes the socket.
     Close,
 }
@@ -204,7 +204,7 @@ fn cancel_when_held<P: Proto, W: Wire>(
     socket: &Socket<P, W>,
     pass: &mut Pass<P, W>,
     op: OpName,
-    marks: &Arc<Marks>,
+    marks: &Arc<ThreadMarks>,
 ) -> u64
     requires { Calls socket.now pass.old [] }
     ensures { Calls socket.now pass.new [] }
@@ -223,7 +223,7 @@ fn tick_when_held<P: Proto, W: Wire, R: Wait>(
     socket: &Socket<P, W>,
     pass: &mut Pass<P, W>,
     now: Tick,
-    marks: &Arc<Marks>,
+    marks: &Arc<ThreadMarks>,
 ) -> u64
     requires { Calls socket.now pass.old [] }
     ensures { Calls socket.now pass.new [] }
@@ -241,7 +241,7 @@ fn wait_for_one<P: Proto, W: Wire, R: Wait + Abort>(
     rt: &R,
     socket: &Socket<P, W>,
     pass: &mut Pass<P, W>,
-    marks: &Arc<Marks>,
+    marks: &Arc<ThreadMarks>,
 ) -> u64
     requires { Calls socket.now pass.old [] }
     ensures { Calls socket.now pass.new [] }
@@ -256,7 +256,7 @@ fn serve_when_begun<P: Proto, W: Wire, R: Wait + Abort>(
     rt: &R,
     socket: &Socket<P, W>,
     pass: &mut Pass<P, W>,
-    marks: &Arc<Marks>,
+    marks: &Arc<ThreadMarks>,
 ) -> u64
     requires { Calls socket.now pass.old [] }
     ensures { Calls socket.now pass.new [] }
@@ -273,7 +273,7 @@ fn cancel_when_begun<P: Proto, W: Wire, R: Wait + Abort>(
     rt: &R,
     socket: &Socket<P, W>,
     pass: &mut Pass<P, W>,
-    marks: &Arc<Marks>,
+    marks: &Arc<ThreadMarks>,
 ) -> u64
     requires { Calls socket.now pass.old [] }
     ensures { Calls socket.now pass.new [] }

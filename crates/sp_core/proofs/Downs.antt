@@ -22,8 +22,8 @@ use Rattle.sp_core.specs.Flooding.{Spreads}
 use Rattle.sp_core.specs.DownSteps.{NotesDown}
 use Rattle.sp_core.proofs.Closings.{go_down_lawful, goes_down_one}
 use Rattle.sp_core.proofs.Flooded as flooded
-use Rattle.sp_core.proofs.Framing.{goes_down_on}
-use Rattle.sp_core.proofs.Steps.{down_lawful, went_down}
+use Rattle.sp_core.proofs.AfterFlushOrPull.{goes_down_on}
+use Rattle.sp_core.proofs.MomentSteps.{down_lawful, went_down}
 
 -- the pipe goes down for this, which its wire need not show, and the pipes stay so
 pub goes_down_for : {W : Type 0} (shown : W → WireView) (l m n : Pipes W) (t : Moment) (i p : ℕ) (found why : Why) → found ≡ why → Lawful t → PipesStand shown l t → IsPipeAt l i p → ((w : WireView) → ShowsWhy t.z (past t) p why w) → m.up.items ≡ remove l.up.items i → MovesDown i found l m → deque_capacity m.down ≡ deque_capacity l.down → n ≡ m

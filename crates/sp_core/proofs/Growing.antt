@@ -1,13 +1,13 @@
 -- What the core has read, after more steps.
 use Rattle.std.proofs.Common.{◌≡◌, sym, subst, List, []}
-use Rattle.aio_word.specs.declared.rule.Entry as word
+use Rattle.aio_word.specs.declared.rule.ShownOperation as word
 use Rattle.sp_core.specs.Looking.{Grows}
 use Rattle.sp_core.proofs.Closings.{append-nil}
 
 -- the second step reads nothing
-pub grows_after : (xs ys zs : List word.Entry) → Grows xs ys → zs ≡ ys → Grows xs zs
-grows_after xs ys zs g e = subst (λ (us : List word.Entry). Grows xs us) (sym e) g
+pub grows_after : (xs ys zs : List word.ShownOperation) → Grows xs ys → zs ≡ ys → Grows xs zs
+grows_after xs ys zs g e = subst (λ (us : List word.ShownOperation). Grows xs us) (sym e) g
 
 -- nothing is read
-pub grows_same : (xs zs : List word.Entry) → zs ≡ xs → Grows xs zs
+pub grows_same : (xs zs : List word.ShownOperation) → zs ≡ xs → Grows xs zs
 grows_same xs zs e = grows_after xs xs zs (record { more = []; is = sym (append-nil xs) }) e

@@ -7,13 +7,13 @@ use Rattle.std.proofs.lemmas.Bool.Decides.{nat_tests}
 use Rattle.sp_base.specs.declared.OpName.{OpName}
 use Rattle.aio_word.specs.declared.phase.Phase.{Phase}
 use Rattle.aio_word.specs.declared.phase.Phase.TheVariants.{Idle, Pending, Won as WonPhase, Shut, Superseded, SurveyOver, Cancelled, Expired}
-use Rattle.aio_word.specs.declared.rule.View.{View}
+use Rattle.aio_word.specs.declared.rule.WordsView.{WordsView}
 use Rattle.aio_word.specs.Word.{is_decided}
-use Rattle.aio_word.specs.declared.rule.Entry as words
+use Rattle.aio_word.specs.declared.rule.ShownOperation as words
 use Rattle.aio_word.specs.Views.{times, noted}
 use Rattle.aio_word.specs.Answers.{HasSeen, IsName, IsFound, CoreSaw, CoreTook, of_op}
 use Rattle.aio_word.specs.Meanings.{BeganAt}
-use Rattle.sp_history.specs.declared.entry.Act.{Act}
+use Rattle.sp_history.specs.declared.entry.RecordedAct.{RecordedAct}
 use Rattle.sp_history.specs.declared.entry.Entry.{Entry}
 use Rattle.sp_history.specs.declared.entry.Entry.TheVariants.{Begin, End}
 use Rattle.sp_history.specs.declared.entry.Ending.{Ending}
@@ -93,7 +93,7 @@ seen d t slot h l inside free = go (begins (past t) slot) refl
 
 -- ---- The words and the lists of operations
 
-pub op_words_begun : (d e : OpWords) (t : Moment) (op : OpName) (k c : ℕ) (act : Act) (dl : Option ℕ) → OpWordsStand d t → op.slot < t.z.slots → e.words ≡ d.words → e.seat.words ≡ d.seat.words → BeganAt d.seat.view op e.seat.view → OpWordsStand e (also t (Begin op k c act dl))
+pub op_words_begun : (d e : OpWords) (t : Moment) (op : OpName) (k c : ℕ) (act : RecordedAct) (dl : Option ℕ) → OpWordsStand d t → op.slot < t.z.slots → e.words ≡ d.words → e.seat.words ≡ d.seat.words → BeganAt d.seat.view op e.seat.view → OpWordsStand e (also t (Begin op k c act dl))
 op_words_begun d e t op k c act dl h inside w sw b =
     let gens : e.seat.view.generations ≡ set d.seat.view.generations op.slot op.generation = ap (λ v. v.generations) b.2 in
     let ends_same : e.seat.view.ends ≡ d.seat.view.ends = ap (λ v. v.ends) b.2 in
@@ -136,7 +136,7 @@ op_words_ended d e t op ending h w sw ee ge me =
       gens_are = λ i l. rw ge (h.gens_are i l);
     }
 
-is_callers : (v : View) (op : OpName) (p : Phase) (by : ℕ) → is_decided p ≡ true → IsFound v (of_op op p by) → times op.slot op.generation v.ends ≡ 0 → p ≢ Cancelled → p ≢ Expired → ⊥
+is_callers : (v : WordsView) (op : OpName) (p : Phase) (by : ℕ) → is_decided p ≡ true → IsFound v (of_op op p by) → times op.slot op.generation v.ends ≡ 0 → p ≢ Cancelled → p ≢ Expired → ⊥
 is_callers v op Idle by d f o a b = cc
 is_callers v op Pending by d f o a b = cc
 is_callers v op WonPhase by d f o a b = let z : by ≡ 0 = f.begun.1 in let k = f.own refl z in omega (arith, k, o)
@@ -162,10 +162,10 @@ took_ended d e t op r h w sw k =
     let v = k.1 in
     op_words_ended d e t op (Won r) h w sw (ap (λ x. x.ends) v) (ap (λ x. x.generations) v) (ap (λ x. x.made) v)
 
-noted_ended : (es : List words.Entry) (e : words.Entry) → is_decided e.phase ≡ true → times e.slot e.generation es ≡ 0 → noted es e ≡ es ++ e ∷ []
+noted_ended : (es : List words.ShownOperation) (e : words.ShownOperation) → is_decided e.phase ≡ true → times e.slot e.generation es ≡ 0 → noted es e ≡ es ++ e ∷ []
 noted_ended es e d o = rw (d, o) refl
 
-noted_none : (es : List words.Entry) (e : words.Entry) → is_decided e.phase ≡ false → noted es e ≡ es
+noted_none : (es : List words.ShownOperation) (e : words.ShownOperation) → is_decided e.phase ≡ false → noted es e ≡ es
 noted_none es e d = rw d refl
 
 -- a caller has ended it
@@ -205,7 +205,7 @@ looked d e t op s Superseded by r h l p w sw g k = absurd (is_callers d.seat.vie
 looked d e t op s SurveyOver by r h l p w sw g k = absurd (is_callers d.seat.view op SurveyOver by refl k.1 (open_is d t op s h l p) (λ q. cc) (λ q. cc))
 
 -- a decided word that the core has not decided is a caller's
-pub none_decided : (v : View) (op : OpName) (phase : Phase) (by : ℕ) → is_decided phase ≡ true → IsFound v (of_op op phase by) → times op.slot op.generation v.ends ≡ 0 → GoneAs None phase by → ⊥
+pub none_decided : (v : WordsView) (op : OpName) (phase : Phase) (by : ℕ) → is_decided phase ≡ true → IsFound v (of_op op phase by) → times op.slot op.generation v.ends ≡ 0 → GoneAs None phase by → ⊥
 none_decided v op Cancelled by d f o g = cc
 none_decided v op Expired by d f o g = cc
 none_decided v op Idle by d f o g = cc

@@ -8,7 +8,7 @@ use Rattle.std.proofs.lemmas.Bool.{or_parts}
 use Rattle.std.proofs.lemmas.Bool.Decides.{nat_tests}
 use Rattle.sp_history.specs.Lists.{has}
 use Rattle.sp_history.specs.declared.parts.Begun.{Begun}
-use Rattle.sp_history.specs.declared.parts.Ended.{Ended}
+use Rattle.sp_history.specs.declared.parts.OperationEnd.{OperationEnd}
 use Rattle.sp_history.specs.declared.parts.Timer.{Timer}
 use Rattle.sp_core.specs.declared.operations.Operations.{Operations}
 use Rattle.sp_core.specs.declared.operations.EndedOperation.{EndedOperation}
@@ -108,7 +108,7 @@ module _ (slots : ℕ) (free : ℕ → Bool) (gens : ℕ → ℕ) where
       go false false k = k
   now_back xs slot i (inr (inr h)) = inr (inr h)
 
-  module _ {ss : List Begun} {es : List Ended} {ds : List Timer} where
+  module _ {ss : List Begun} {es : List OperationEnd} {ds : List Timer} where
     -- the last free slot is drawn
     pub drawn : (s r : Operations) (slot : ℕ) → Holds [] s slots ss es ds free gens → s.free.items ≡ r.free.items ++ slot ∷ [] → vec_capacity r.free ≡ vec_capacity s.free → r.pending ≡ s.pending → r.done ≡ s.done → r.deadlines ≡ s.deadlines
         → (slot < slots) × (free slot ≡ true) × Holds (slot ∷ []) r slots ss es ds free gens

@@ -8,7 +8,7 @@ use Rattle.std.proofs.lemmas.Option.{same_Some}
 use Rattle.std.proofs.lemmas.Bool.Decides.{nat_tests}
 use Rattle.aio_word.specs.Views.{Stands}
 use Rattle.sp_base.specs.declared.OpName.{OpName}
-use Rattle.sp_history.specs.declared.parts.Ended.{Ended}
+use Rattle.sp_history.specs.declared.parts.OperationEnd.{OperationEnd}
 use Rattle.sp_history.specs.Lists.{same_op}
 use Rattle.sp_history.specs.Past.{is_of, uncollected}
 use Rattle.sp_history.specs.Legal.{is_uncollected}
@@ -18,7 +18,7 @@ use Rattle.sp_core.specs.declared.operations.Operations.{Operations}
 use Rattle.sp_core.specs.declared.operations.EndedOperation.{EndedOperation}
 use Rattle.sp_core.specs.Ends.{done_of}
 use Rattle.sp_core.specs.OperationsStand.{OperationsStand, AreBySlot, HasDone, done_at, is_done_of}
-use Rattle.sp_core.proofs.Told.{stands-more}
+use Rattle.sp_core.proofs.UncollectedOperations.{stands-more}
 
 -- ---- Elements
 
@@ -61,22 +61,22 @@ module _ {A : Type 0} where
 
 -- ---- Names
 
-pub any_named : (es : List Ended) (op : OpName) → list_any (λ e. is_of op e.begun) es ≡ true → (e : Ended) × Stands e es × (e.begun.op ≡ op)
+pub any_named : (es : List OperationEnd) (op : OpName) → list_any (λ e. is_of op e.begun) es ≡ true → (e : OperationEnd) × Stands e es × (e.begun.op ≡ op)
 any_named [] op h = absurd cc
 any_named (r ∷ es) op h = go (same_op r.begun.op op) refl h (any_named es op)
   where
-    go : (b : Bool) → same_op r.begun.op op ≡ b → (b || list_any (λ (e : Ended). is_of op e.begun) es) ≡ true → (list_any (λ (e : Ended). is_of op e.begun) es ≡ true → (e : Ended) × Stands e es × (e.begun.op ≡ op)) → (e : Ended) × Stands e (r ∷ es) × (e.begun.op ≡ op)
+    go : (b : Bool) → same_op r.begun.op op ≡ b → (b || list_any (λ (e : OperationEnd). is_of op e.begun) es) ≡ true → (list_any (λ (e : OperationEnd). is_of op e.begun) es ≡ true → (e : OperationEnd) × Stands e es × (e.begun.op ≡ op)) → (e : OperationEnd) × Stands e (r ∷ es) × (e.begun.op ≡ op)
     go true e h again = (r, inl refl, same_op-eq r.begun.op op e)
     go false e h again = let k = again h in (k.0, inr k.1, k.2)
 
-named_any : (es : List Ended) (op : OpName) (e : Ended) → Stands e es → e.begun.op ≡ op → list_any (λ e. is_of op e.begun) es ≡ true
+named_any : (es : List OperationEnd) (op : OpName) (e : OperationEnd) → Stands e es → e.begun.op ≡ op → list_any (λ e. is_of op e.begun) es ≡ true
 named_any [] op e s n = absurd s
 named_any (r ∷ es) op e s n = go (same_op r.begun.op op) refl s (λ m. named_any es op e m n)
   where
-    go : (b : Bool) → same_op r.begun.op op ≡ b → Stands e (r ∷ es) → (Stands e es → list_any (λ (e : Ended). is_of op e.begun) es ≡ true) → (b || list_any (λ (e : Ended). is_of op e.begun) es) ≡ true
+    go : (b : Bool) → same_op r.begun.op op ≡ b → Stands e (r ∷ es) → (Stands e es → list_any (λ (e : OperationEnd). is_of op e.begun) es ≡ true) → (b || list_any (λ (e : OperationEnd). is_of op e.begun) es) ≡ true
     go true f s again = refl
     go false f (inl same) again =
-        let no : false ≡ true = sym f ∙ ap (λ (o : OpName). same_op o op) (ap (λ (x : Ended). x.begun.op) same ∙ n) ∙ same_op-refl op in
+        let no : false ≡ true = sym f ∙ ap (λ (o : OpName). same_op o op) (ap (λ (x : OperationEnd). x.begun.op) same ∙ n) ∙ same_op-refl op in
         absurd cc
     go false f (inr m) again = again m
 
@@ -124,7 +124,7 @@ other_slot : (i slot : ℕ) → (i == slot) ≡ false → i ≢ slot
 other_slot i slot h e = grind (arith, nat_tests)
 
 -- an operation ended whose slot's place had nothing
-pub put_in : (xs : List (Option EndedOperation)) (es : List Ended) (slot : ℕ) (e : Ended) (d : EndedOperation) → AreBySlot xs es → slot < length xs → e.begun.op.slot ≡ slot → d ≡ done_of e → ((x : Ended) → Stands x es → x.begun.op.slot ≢ slot) → AreBySlot (set xs slot (Some d)) (es ++ e ∷ [])
+pub put_in : (xs : List (Option EndedOperation)) (es : List OperationEnd) (slot : ℕ) (e : OperationEnd) (d : EndedOperation) → AreBySlot xs es → slot < length xs → e.begun.op.slot ≡ slot → d ≡ done_of e → ((x : OperationEnd) → Stands x es → x.begun.op.slot ≢ slot) → AreBySlot (set xs slot (Some d)) (es ++ e ∷ [])
 put_in xs es slot e d h l at is none i x = go (i == slot) refl
   where
     last : Stands e (es ++ e ∷ [])
@@ -138,7 +138,7 @@ put_in xs es slot e d h l at is none i x = go (i == slot) refl
           λ k. ended k.0 k.2 k.3 stands same (stands_last es k.0 e k.1),
         )
       where
-        ended : (y : Ended) → y.begun.op.slot ≡ i → x ≡ done_of y → done_at (set xs slot (Some d)) i ≡ Some d → i ≡ slot → Stands y es ⊎ (e ≡ y) → done_at (set xs slot (Some d)) i ≡ Some x
+        ended : (y : OperationEnd) → y.begun.op.slot ≡ i → x ≡ done_of y → done_at (set xs slot (Some d)) i ≡ Some d → i ≡ slot → Stands y es ⊎ (e ≡ y) → done_at (set xs slot (Some d)) i ≡ Some x
         ended y a b stands same (inl m) = absurd (none y m (a ∙ same))
         ended y a b stands same (inr q) = stands ∙ ap Some (is ∙ ap done_of q ∙ sym b)
     go false f =
@@ -147,15 +147,15 @@ put_in xs es slot e d h l at is none i x = go (i == slot) refl
           λ k. stands ∙ (h i x).1 (k.0, before k.0 k.2 (stands_last es k.0 e k.1), k.2, k.3),
         )
       where
-        before : (y : Ended) → y.begun.op.slot ≡ i → Stands y es ⊎ (e ≡ y) → Stands y es
+        before : (y : OperationEnd) → y.begun.op.slot ≡ i → Stands y es ⊎ (e ≡ y) → Stands y es
         before y a (inl m) = m
-        before y a (inr q) = absurd (other_slot i slot f (sym a ∙ ap (λ (z : Ended). z.begun.op.slot) (sym q) ∙ at))
+        before y a (inr q) = absurd (other_slot i slot f (sym a ∙ ap (λ (z : OperationEnd). z.begun.op.slot) (sym q) ∙ at))
 
 -- the operation at its slot's place was collected
-pub taken_from : (xs : List (Option EndedOperation)) (es : List Ended) (op : OpName) (d : EndedOperation) → AreBySlot xs es → op.slot < length xs → done_at xs op.slot ≡ Some d → d.op ≡ op → AreBySlot (set xs op.slot None) (filter (λ e. not (same_op e.begun.op op)) es)
+pub taken_from : (xs : List (Option EndedOperation)) (es : List OperationEnd) (op : OpName) (d : EndedOperation) → AreBySlot xs es → op.slot < length xs → done_at xs op.slot ≡ Some d → d.op ≡ op → AreBySlot (set xs op.slot None) (filter (λ e. not (same_op e.begun.op op)) es)
 taken_from xs es op d h l there named i x = go (i == op.slot) refl
   where
-    passes : (e : Ended) → (b : Bool) → same_op e.begun.op op ≡ b → (b ≡ true → ⊥) → not (same_op e.begun.op op) ≡ true
+    passes : (e : OperationEnd) → (b : Bool) → same_op e.begun.op op ≡ b → (b ≡ true → ⊥) → not (same_op e.begun.op op) ≡ true
     passes e true f n = absurd (n refl)
     passes e false f n = ap not f
 

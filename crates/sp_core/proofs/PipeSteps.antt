@@ -28,7 +28,7 @@ use Rattle.sp_core.specs.declared.pipes.Asked.{Asked}
 use Rattle.sp_core.specs.declared.pipes.Asked.TheVariants as asked
 use Rattle.sp_core.specs.Wires.{state_of, IsUpWire, IsDownWire}
 use Rattle.sp_core.specs.Pipes.{ids, down_ids, PipesStand, IsPipeAt, AskedAs}
-use Rattle.sp_core.proofs.Changing.{same_number, equal_numbers, has_at, differ, distinct_at, without_removed, ups_distinct, up_untaken, IsOf, others_open, others_went_down, shows_still, GoesDown, sent, filled, roomed}
+use Rattle.sp_core.proofs.ChangedWires.{same_number, equal_numbers, has_at, differ, distinct_at, without_removed, ups_distinct, up_untaken, IsOf, others_open, others_went_down, shows_still, GoesDown, sent, filled, roomed}
 
 -- ---- Places
 

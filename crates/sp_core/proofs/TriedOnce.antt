@@ -2,12 +2,12 @@
 use Rattle.std.proofs.Common.{◌≡◌, refl, ap, ◌∙◌, [], ◌∷◌, ℕ, true, false, Some, None}
 use Rattle.sp_base.specs.declared.OpName.{OpName}
 use Rattle.sp_msg.specs.Views.{WireView}
-use Rattle.sp_history.specs.declared.entry.Act.TheVariants.{Recv}
+use Rattle.sp_history.specs.declared.entry.RecordedAct.TheVariants.{Recv}
 use Rattle.sp_history.specs.declared.entry.Ending.{Ending}
 use Rattle.sp_history.specs.declared.entry.Entry.TheVariants.{Begin, End, Took}
-use Rattle.sp_history.specs.declared.entry.Message.{Message as Text}
+use Rattle.sp_history.specs.declared.entry.RecordedMessage.{RecordedMessage as Text}
 use Rattle.sp_history.specs.declared.parts.Begun.{Begun}
-use Rattle.sp_history.specs.declared.parts.Ended.{Ended}
+use Rattle.sp_history.specs.declared.parts.OperationEnd.{OperationEnd}
 use Rattle.sp_history.specs.Lists.{is_nil}
 use Rattle.sp_history.specs.Past.{pending}
 use Rattle.sp_history.specs.Kept.{kept}
@@ -21,8 +21,8 @@ use Rattle.sp_core.specs.Ends.{outcome_of}
 use Rattle.sp_core.specs.Immediate.{IsGiven, tried}
 use Rattle.sp_core.specs.Owning.{Owns, CanBegin, IsNext}
 use Rattle.sp_core.specs.Standing.{IsSettled}
-use Rattle.sp_core.proofs.Told.{ended_now}
-use Rattle.sp_core.proofs.Trying.{can_now, now_begun, open_now, the_last}
+use Rattle.sp_core.proofs.UncollectedOperations.{ended_now}
+use Rattle.sp_core.proofs.ReceivedAtOnce.{can_now, now_begun, open_now, the_last}
 
 module _ {P W : Type 0} (ties : P → Moment → Type 0) (room : P → ℕ) (shown : W → WireView) (op : OpName) (c : ℕ) where
   -- with the begin
@@ -74,12 +74,12 @@ module _ {P W : Type 0} (ties : P → Moment → Type 0) (room : P → ℕ) (sho
       pub given_now : (t : Moment) → IsSettled t → Drawn w t → GivenNow y t
       given_now t settled d = given_by t (begun_now t settled d)
 
-      module _ (z : Core P W) (r : Outcome) (takes : (t : Moment) → Owns ties room shown [] y t → IsOpenBefore t.caller op (past t) → is_uncollected (past t) op ≡ true → Owns ties room shown [] z (also t (Took op t.caller)) × ((e : Ended) × IsOutcomeOf e op (past t) r)) where
+      module _ (z : Core P W) (r : Outcome) (takes : (t : Moment) → Owns ties room shown [] y t → IsOpenBefore t.caller op (past t) → is_uncollected (past t) op ≡ true → Owns ties room shown [] z (also t (Took op t.caller)) × ((e : OperationEnd) × IsOutcomeOf e op (past t) r)) where
         taken_by : (t : Moment) → GivenNow y t → TookNow z r t
         taken_by t g =
             let k = takes (also (begun t) (End op g.ending)) g.owns g.open_ g.there in
             let last = the_last (begun t) op (now_begun op c) g.ending k.1.0 g.owns.lawful g.was refl k.1.1.0 k.1.1.1 in
-            record { message = g.message; ending = g.ending; given = g.given; owns = k.0; outcome = k.1.1.2 ∙ ap (λ (e : Ended). outcome_of e.begun e.ending) last }
+            record { message = g.message; ending = g.ending; given = g.given; owns = k.0; outcome = k.1.1.2 ∙ ap (λ (e : OperationEnd). outcome_of e.begun e.ending) last }
 
         pub took_now : (t : Moment) → IsSettled t → Drawn w t → TookNow z r t
         took_now t settled d = taken_by t (given_now t settled d)

@@ -14,7 +14,7 @@ use Rattle.sp_core.specs.declared.ops.BeginError.{BeginError}
 use Rattle.sp_core.specs.declared.owner.Core.{Core}
 use Rattle.sp_history.specs.Moments.{Moment, also, next, past}
 use Rattle.sp_history.specs.Past.{past_of, pending}
-use Rattle.sp_history.specs.declared.entry.Act.{Act as ActType}
+use Rattle.sp_history.specs.declared.entry.RecordedAct.{RecordedAct as RecordedActType}
 use Rattle.sp_history.specs.declared.entry.Cause.{Cause}
 use Rattle.sp_history.specs.declared.entry.Ending.TheVariants.{Gone}
 use Rattle.sp_history.specs.declared.entry.Entry.{Entry}
@@ -50,7 +50,7 @@ pub record NotesEnd {P W : Type 0} (ties : P → Moment → Type 0) (room measur
 -- whether the operation may begin, or why not
 abbrev pub TellsMayBegin : {P W : Type 0} → (P → Moment → Type 0) → (P → ℕ) → (W → WireView) → Result (Unit {0}) BeginError → ℕ → Verb → Core P W → Type 0
 TellsMayBegin ties room shown r c verb x =
-    (t : Moment) (act : ActType) → Owns ties room shown [] x t → verb_of act ≡ verb → MatchResult r (λ _. CanBegin t c act) (λ e. RefusedFor e t.z (past t) c act × (e ≢ begin_error.NoMemory))
+    (t : Moment) (act : RecordedActType) → Owns ties room shown [] x t → verb_of act ≡ verb → MatchResult r (λ _. CanBegin t c act) (λ e. RefusedFor e t.z (past t) c act × (e ≢ begin_error.NoMemory))
 
 -- no slot is drawn yet
 abbrev pub MayDraw : {P W : Type 0} → (P → Moment → Type 0) → (P → ℕ) → (W → WireView) → Core P W → Type 0
@@ -62,12 +62,12 @@ DrawsSlot ties room shown r old new =
     KeepsReads old new ((t : Moment) → Owns ties room shown [] old t → MatchOption r (Owns ties room shown [] new t × AllTaken t.z (past t)) (λ op. Owns ties room shown (op.slot ∷ []) new t × IsNext t op))
 
 -- the operation may begin in its slot, which is drawn
-abbrev pub MayBegin : {P W : Type 0} → (P → Moment → Type 0) → (P → ℕ) → (W → WireView) → OpName → ℕ → ActType → Core P W → Type 0
+abbrev pub MayBegin : {P W : Type 0} → (P → Moment → Type 0) → (P → ℕ) → (W → WireView) → OpName → ℕ → RecordedActType → Core P W → Type 0
 MayBegin ties room shown op c act old =
     (t : Moment) × Owns ties room shown (op.slot ∷ []) old t × IsNext t op × CanBegin t c act × NoFlood t
 
 -- the operation has begun, or its slot is free again
-abbrev pub BeginsDrawn : {P W : Type 0} → (P → Moment → Type 0) → (P → ℕ) → (W → WireView) → Result (Unit {0}) MessageView → OpName → ℕ → ActType → Option ℕ → Core P W → Core P W → Type 0
+abbrev pub BeginsDrawn : {P W : Type 0} → (P → Moment → Type 0) → (P → ℕ) → (W → WireView) → Result (Unit {0}) MessageView → OpName → ℕ → RecordedActType → Option ℕ → Core P W → Core P W → Type 0
 BeginsDrawn ties room shown r op c act deadline old new =
     KeepsReads old new ((t : Moment) → Owns ties room shown (op.slot ∷ []) old t → IsNext t op → CanBegin t c act → NoFlood t → MatchResult r (λ _. Owns ties room shown [] new (also t (Begin op t.caller c act deadline))) (λ _. Owns ties room shown [] new t))
 

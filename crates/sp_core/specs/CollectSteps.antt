@@ -17,11 +17,11 @@ use Rattle.sp_history.specs.Past.{pending}
 use Rattle.sp_history.specs.declared.entry.Ending.{Ending}
 use Rattle.sp_history.specs.declared.entry.Entry.TheVariants.{End, Took}
 use Rattle.sp_history.specs.declared.parts.Begun.{Begun}
-use Rattle.sp_history.specs.declared.parts.Ended.{Ended}
+use Rattle.sp_history.specs.declared.parts.OperationEnd.{OperationEnd}
 use Rattle.sp_msg.specs.Views.{MessageView, WireView}
 use Rattle.sp_proto.specs.Machines.{NoFlood}
 use Rattle.std.specs.Prelude.{List, MatchResult, Option, Result, Some, [], false, true, ℕ, ◌∷◌, ◌≡◌}
-use Rattle.sp_history.specs.declared.entry.Act.TheVariants as acts
+use Rattle.sp_history.specs.declared.entry.RecordedAct.TheVariants as acts
 
 -- a slot is drawn for a receive that can be given something, or why not
 abbrev pub DrawsToReceive : {P W : Type 0} → (P → Moment → Type 0) → (P → ℕ) → (W → WireView) → Result OpName NowError → ℕ → Core P W → Core P W → Type 0
@@ -61,4 +61,4 @@ NotesFound ties room shown op old new =
 -- what the operation came to is taken
 abbrev pub TakesEnded : {P W : Type 0} → (P → Moment → Type 0) → (P → ℕ) → (W → WireView) → Outcome → OpName → Core P W → Core P W → Type 0
 TakesEnded ties room shown r op old new =
-    KeepsReads old new ((t : Moment) → Owns ties room shown [] old t → IsOpenBefore t.caller op (past t) → is_uncollected (past t) op ≡ true → Owns ties room shown [] new (also t (Took op t.caller)) × ((e : Ended) × IsOutcomeOf e op (past t) r))
+    KeepsReads old new ((t : Moment) → Owns ties room shown [] old t → IsOpenBefore t.caller op (past t) → is_uncollected (past t) op ≡ true → Owns ties room shown [] new (also t (Took op t.caller)) × ((e : OperationEnd) × IsOutcomeOf e op (past t) r))

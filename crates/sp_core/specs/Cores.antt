@@ -1,7 +1,7 @@
 -- What contracts see of a core.
 use Rattle.std.specs.Prelude.{ℕ}
 use Rattle.aio_word.specs.Sight.{Named}
-use Rattle.aio_word.specs.declared.rule.View.{View}
+use Rattle.aio_word.specs.declared.rule.WordsView.{WordsView}
 use Rattle.sp_proto.specs.Kinds.{Kind}
 use Rattle.sp_core.specs.declared.owner.Core.{Core}
 
@@ -18,7 +18,7 @@ abbrev pub callers_of : {P W : Type 0} → Core P W → ℕ
 callers_of c = c.op_words.words.callers
 
 -- what its seat has seen of the words
-abbrev pub sight_of : {P W : Type 0} → Core P W → View
+abbrev pub sight_of : {P W : Type 0} → Core P W → WordsView
 sight_of c = c.op_words.seat.view
 
 -- the kind of its machine

@@ -15,7 +15,7 @@ use Rattle.sp_history.specs.declared.entry.Entry.{Entry}
 use Rattle.sp_msg.specs.Views.{WireView}
 use Rattle.std.specs.Prelude.{Bool, List, MatchOption, MatchResult, Option, Result, [], false, true, ℕ, ◌+◌, ◌≡◌}
 use Rattle.sp_history.specs.declared.entry.Entry.TheVariants as entries
-use Rattle.sp_history.specs.declared.entry.Gate.TheVariants as gate
+use Rattle.sp_history.specs.declared.entry.ContextChange.TheVariants as gate
 
 -- a context was opened, or why not
 abbrev pub OpensOne : {P W : Type 0} → (P → Moment → Type 0) → (P → ℕ) → (W → WireView) → Result ℕ CtxError → Core P W → Core P W → Type 0

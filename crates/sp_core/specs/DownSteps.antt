@@ -4,7 +4,7 @@ use Rattle.sp_base.specs.declared.OpName.{OpName}
 use Rattle.sp_history.specs.declared.entry.Entry.TheVariants.{Down}
 use Rattle.sp_history.specs.declared.entry.Why.{Why}
 use Rattle.sp_history.specs.declared.parts.Begun.{Begun}
-use Rattle.sp_history.specs.declared.parts.Request.{Request}
+use Rattle.sp_history.specs.declared.parts.LiveRequest.{LiveRequest}
 use Rattle.sp_history.specs.Setting.{floods}
 use Rattle.sp_history.specs.Moments.{Lawful, Moment, also}
 use Rattle.sp_proto.specs.Machines.{CanAgain, CanSend, Takes}
@@ -24,6 +24,6 @@ pub record NotesDown {P W : Type 0} (ties : P → Moment → Type 0) (room left 
   pub has_copies : (op : OpName) → copies old.proto op ≤ copies new.proto op
   -- less is left to be done where the pipe was to take a send, or a request that goes out again
   pub less_to_send : (t : Moment) (op : OpName) (s : Begun) (b : List ℕ) → Lawful t → ties old.proto t → CanSend t op p s b → left new.proto < left old.proto
-  pub less_again : (t : Moment) (c : ℕ) (r : Request) → Lawful t → ties old.proto t → CanAgain t c p r → left new.proto < left old.proto
+  pub less_again : (t : Moment) (c : ℕ) (r : LiveRequest) → Lawful t → ties old.proto t → CanAgain t c p r → left new.proto < left old.proto
   -- no more is where sends go to many pipes
   pub no_more : (t : Moment) → Lawful t → ties old.proto t → floods t.z.role ≡ true → left new.proto ≤ left old.proto

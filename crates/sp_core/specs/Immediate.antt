@@ -3,14 +3,14 @@ use Rattle.std.specs.Prelude.{◌≡◌, ◌≢◌, ◌≤◌, ℕ, zero, suc, t
 use Rattle.turn_lock.specs.declared.turn.Turn.{Turn}
 use Rattle.sp_base.specs.declared.OpName.{OpName}
 use Rattle.sp_msg.specs.Views.{MessageView}
-use Rattle.sp_history.specs.declared.entry.Act.TheVariants.{Recv}
+use Rattle.sp_history.specs.declared.entry.RecordedAct.TheVariants.{Recv}
 use Rattle.sp_history.specs.declared.entry.Cause.{Cause}
 use Rattle.sp_history.specs.declared.entry.Ending.{Ending}
 use Rattle.sp_history.specs.declared.entry.Ending.TheVariants.{Won, Gone}
 use Rattle.sp_history.specs.declared.entry.Completion.TheVariants.{Received}
 use Rattle.sp_history.specs.declared.entry.Entry.{Entry}
 use Rattle.sp_history.specs.declared.entry.Entry.TheVariants.{Begin, End, Took}
-use Rattle.sp_history.specs.declared.entry.Message.{Message}
+use Rattle.sp_history.specs.declared.entry.RecordedMessage.{RecordedMessage}
 use Rattle.sp_history.specs.declared.setting.Setting.{Setting}
 use Rattle.sp_history.specs.Lists.{is_nil}
 use Rattle.sp_history.specs.Past.{past_of, is_closed, onto}
@@ -88,7 +88,7 @@ TriedTo (Ok None) c t u = (op : OpName) × (cause : Cause) × (by : ℕ) × IsCa
 TriedTo (Err e) c t u = (u ≡ t) × RefusedNow e t.z (past t) c
 
 -- how a receive that can be given this message ended
-abbrev pub IsGiven : ℕ → Message → Ending → Type 0
+abbrev pub IsGiven : ℕ → RecordedMessage → Ending → Type 0
 IsGiven callers m (Won r) = r ≡ Received m
 IsGiven callers m (Gone cause by) = IsCallersEnd callers cause by
 

@@ -2,7 +2,7 @@
 use Rattle.std.specs.Prelude.{◌≡◌, ◌⊎◌, ◌||◌, ℕ, Bool, true, false, List, [], ◌∷◌, ◌++◌, Option, Some, None}
 use Rattle.sp_base.specs.declared.OpName.{OpName}
 use Rattle.aio_word.specs.declared.phase.Phase.TheVariants as phase
-use Rattle.aio_word.specs.declared.rule.Entry as word
+use Rattle.aio_word.specs.declared.rule.ShownOperation as word
 use Rattle.aio_word.specs.Answers.{of_op}
 use Rattle.aio_word.specs.Views.{Stands}
 use Rattle.sp_history.specs.declared.entry.Ending.{Ending}
@@ -12,7 +12,7 @@ use Rattle.sp_history.specs.declared.parts.Begun.{Begun}
 use Rattle.sp_history.specs.Lists.{same_op}
 use Rattle.sp_history.specs.Past.{pending}
 use Rattle.sp_history.specs.Moments.{Moment, past, also}
-use Rattle.sp_pending.specs.declared.pending.Pending.{Pending}
+use Rattle.sp_pending.specs.declared.pending.PendingOperation.{PendingOperation}
 use Rattle.sp_pending.specs.Pendings.{PendingView, in_line, line_of}
 use Rattle.sp_core.specs.PartSteps.{LeavesPending}
 use Rattle.sp_core.specs.declared.op_words.Decision.{Decision}
@@ -20,12 +20,12 @@ use Rattle.sp_core.specs.declared.operations.Operations.{Operations}
 use Rattle.sp_core.specs.declared.owner.Core.{Core}
 
 -- what the core has read of its words
-abbrev pub reads_of : {P W : Type 0} → Core P W → List word.Entry
+abbrev pub reads_of : {P W : Type 0} → Core P W → List word.ShownOperation
 reads_of c = c.op_words.seat.view.reads
 
 -- these reads, and maybe more
-pub record Grows (old new : List word.Entry) : Type 0 where
-  pub more : List word.Entry
+pub record Grows (old new : List word.ShownOperation) : Type 0 where
+  pub more : List word.ShownOperation
   pub is : new ≡ old ++ more
 
 -- the operation ends in these entries
@@ -35,46 +35,46 @@ ends_in op (End other ending ∷ es) = same_op other op || ends_in op es
 ends_in op (_ ∷ es) = ends_in op es
 
 -- each operation that was pending on the context ends in these entries, or the core has read since that it is pending
-pub record HasLooked (c : ℕ) (past entries : List Entry) (old new : List word.Entry) : Type 0 where
-  pub more : List word.Entry
+pub record HasLooked (c : ℕ) (past entries : List Entry) (old new : List word.ShownOperation) : Type 0 where
+  pub more : List word.ShownOperation
   pub grew : new ≡ old ++ more
   pub each : (op : OpName) (s : Begun) → pending past op ≡ Some s → s.ctx ≡ c → (ends_in op entries ≡ true) ⊎ Stands (of_op op phase.Pending 0) more
 
 -- ---- On the way
 
 -- the pending operations in the line of the context
-abbrev pub line_on : ℕ → PendingView → List Pending
+abbrev pub line_on : ℕ → PendingView → List PendingOperation
 line_on c v = in_line v.slots (line_of v.slots c) v.items
 
 -- an operation of this name and context is among these
-abbrev pub IsLeft : OpName → ℕ → List Pending → Type 0
+abbrev pub IsLeft : OpName → ℕ → List PendingOperation → Type 0
 IsLeft op c [] = ⊥
 IsLeft op c (x ∷ xs) = ((x.op ≡ op) × (x.ctx ≡ c)) ⊎ IsLeft op c xs
 
 -- the pending operations of the context but for these were looked at
-pub record LooksTo (left : List Pending) (c : ℕ) (t u : Moment) (old new : List word.Entry) : Type 0 where
-  pub more : List word.Entry
+pub record LooksTo (left : List PendingOperation) (c : ℕ) (t u : Moment) (old new : List word.ShownOperation) : Type 0 where
+  pub more : List word.ShownOperation
   pub grew : new ≡ old ++ more
   pub each : (op : OpName) (s : Begun) → pending (past t) op ≡ Some s → s.ctx ≡ c → (ends_in op u.turn ≡ true) ⊎ Stands (of_op op phase.Pending 0) more ⊎ IsLeft op c left
 
 -- what looking at one word told
-abbrev pub LookReads : Option Decision → OpName → List word.Entry → List word.Entry → Type 0
+abbrev pub LookReads : Option Decision → OpName → List word.ShownOperation → List word.ShownOperation → Type 0
 LookReads None op old new = new ≡ old ++ of_op op phase.Pending 0 ∷ []
 LookReads (Some decision) op old new = Grows old new
 
 -- the operation was read as pending, if it is of the context
-pub record ReadsPending (x : Pending) (c : ℕ) (old new : List word.Entry) : Type 0 where
-  pub more : List word.Entry
+pub record ReadsPending (x : PendingOperation) (c : ℕ) (old new : List word.ShownOperation) : Type 0 where
+  pub more : List word.ShownOperation
   pub grew : new ≡ old ++ more
   pub read : x.ctx ≡ c → Stands (of_op x.op phase.Pending 0) more
 
 -- nothing has changed but for what was read
-abbrev pub StaysPending : Pending → ℕ → Moment → Moment → Operations → Operations → List word.Entry → List word.Entry → Type 0
+abbrev pub StaysPending : PendingOperation → ℕ → Moment → Moment → Operations → Operations → List word.ShownOperation → List word.ShownOperation → Type 0
 StaysPending x c t u before after old new = (u ≡ t) × (after.pending ≡ before.pending) × ReadsPending x c old new
 
 -- the operation has ended
-abbrev pub IsNoted : Pending → Moment → Moment → Operations → Operations → List word.Entry → List word.Entry → Type 0
+abbrev pub IsNoted : PendingOperation → Moment → Moment → Operations → Operations → List word.ShownOperation → List word.ShownOperation → Type 0
 IsNoted x t u before after old new = LeavesPending x.op before after × Grows old new × ((ending : Ending) × (u ≡ also t (End x.op ending)))
 
-abbrev pub FoundOf : Pending → ℕ → Moment → Moment → Operations → Operations → List word.Entry → List word.Entry → Type 0
+abbrev pub FoundOf : PendingOperation → ℕ → Moment → Moment → Operations → Operations → List word.ShownOperation → List word.ShownOperation → Type 0
 FoundOf x c t u before after old new = StaysPending x c t u before after old new ⊎ IsNoted x t u before after old new

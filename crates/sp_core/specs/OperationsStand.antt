@@ -4,7 +4,7 @@ use Rattle.std.specs.List.{All}
 use Rattle.aio_expire.specs.declared.deadlines.Deadline.{Deadline}
 use Rattle.aio_word.specs.Views.{Stands}
 use Rattle.sp_history.specs.declared.parts.Begun.{Begun}
-use Rattle.sp_history.specs.declared.parts.Ended.{Ended}
+use Rattle.sp_history.specs.declared.parts.OperationEnd.{OperationEnd}
 use Rattle.sp_history.specs.declared.parts.Timer.{Timer}
 use Rattle.sp_base.specs.declared.OpName.{OpName}
 use Rattle.sp_history.specs.Lists.{has, same_op}
@@ -14,7 +14,7 @@ use Rattle.sp_history.specs.Past.{pend, uncollected, begins, timers, by_deadline
 use Rattle.sp_history.specs.Legal.{is_free}
 use Rattle.sp_history.specs.Moments.{Moment, past}
 use Rattle.sp_core.specs.declared.operations.Operations.{Operations}
-use Rattle.sp_pending.specs.declared.pending.Pending.{Pending}
+use Rattle.sp_pending.specs.declared.pending.PendingOperation.{PendingOperation}
 use Rattle.sp_core.specs.declared.operations.EndedOperation.{EndedOperation}
 use Rattle.sp_core.specs.Ends.{done_of}
 
@@ -23,7 +23,7 @@ abbrev pub Apart : List ℕ → Type 0
 Apart [] = Unit {0}
 Apart (x ∷ xs) = (has xs x ≡ false) × Apart xs
 
-abbrev pub pending_of : Begun → Pending
+abbrev pub pending_of : Begun → PendingOperation
 pending_of s = record { op = s.op; ctx = s.ctx }
 
 abbrev pub deadline_of : Timer → Deadline
@@ -51,16 +51,16 @@ abbrev pub done_count : Operations → ℕ
 done_count s = length (filter is_some s.done.items)
 
 -- an operation of the slot ended so, and was not collected
-abbrev pub HasDone : List Ended → ℕ → EndedOperation → Type 0
-HasDone es slot d = (e : Ended) × Stands e es × (e.begun.op.slot ≡ slot) × (d ≡ done_of e)
+abbrev pub HasDone : List OperationEnd → ℕ → EndedOperation → Type 0
+HasDone es slot d = (e : OperationEnd) × Stands e es × (e.begun.op.slot ≡ slot) × (d ≡ done_of e)
 
 -- exactly what ended and was not collected stands at its slot's place
-abbrev pub AreBySlot : List (Option EndedOperation) → List Ended → Type 0
+abbrev pub AreBySlot : List (Option EndedOperation) → List OperationEnd → Type 0
 AreBySlot xs es = (slot : ℕ) (d : EndedOperation) → (done_at xs slot ≡ Some d) ↔ HasDone es slot d
 
 -- The lists show these pending operations, the oldest first, and these that ended and were not collected, by slot. A
 -- slot that is free by the history is on the list of free ones, is drawn, or is worn
-pub record Holds (drawn : List ℕ) (s : Operations) (slots : ℕ) (ss : List Begun) (es : List Ended) (ds : List Timer) (free : ℕ → Bool) (gens : ℕ → ℕ) : Type 0 where
+pub record Holds (drawn : List ℕ) (s : Operations) (slots : ℕ) (ss : List Begun) (es : List OperationEnd) (ds : List Timer) (free : ℕ → Bool) (gens : ℕ → ℕ) : Type 0 where
   pub pending_is : s.pending.items ≡ map pending_of ss
   pub done_is : AreBySlot s.done.items es
   pub deadlines_are : s.deadlines ≡ record { slots = slots; entries = deadlines_of ds }

@@ -20,17 +20,17 @@ use Rattle.sp_history.specs.Legal.{is_free, is_pending_on, is_uncollected}
 use Rattle.sp_history.specs.Lists.{has, without}
 use Rattle.sp_history.specs.Moments.{Lawful, Moment, also, past}
 use Rattle.sp_history.specs.Past.{begins, ctxs, pending, up, ups}
-use Rattle.sp_history.specs.declared.entry.Act.{Act}
+use Rattle.sp_history.specs.declared.entry.RecordedAct.{RecordedAct}
 use Rattle.sp_history.specs.declared.entry.Ending.{Ending}
 use Rattle.sp_history.specs.declared.entry.Entry.TheVariants.{Begin, End, Out, Took, Up}
 use Rattle.sp_history.specs.declared.entry.Why.{Why}
 use Rattle.sp_history.specs.declared.parts.Begun.{Begun}
-use Rattle.sp_history.specs.declared.parts.Ended.{Ended}
+use Rattle.sp_history.specs.declared.parts.OperationEnd.{OperationEnd}
 use Rattle.sp_pending.specs.Pendings.{others_than}
 use Rattle.sp_msg.specs.Views.{MessageView, WireView, wire_text}
 use Rattle.std.specs.Prelude.{Bool, List, MatchOption, Option, Some, [], false, length, slice_index_or, true, ℕ, ◌++◌, ◌+◌, ◌<◌, ◌^◌, ◌∷◌, ◌≡◌, ◌≢◌}
 use Rattle.sp_history.specs.declared.entry.Entry.TheVariants as entries
-use Rattle.sp_history.specs.declared.entry.Gate.TheVariants as gate
+use Rattle.sp_history.specs.declared.entry.ContextChange.TheVariants as gate
 
 -- ---- Words
 
@@ -54,7 +54,7 @@ NamesNext r slot x =
 -- the operation's word has begun
 abbrev pub BeginsWord : OpName → OpWords → OpWords → Type 0
 BeginsWord op old new =
-    (t : Moment) (c : ℕ) (act : Act) (deadline : Option ℕ) → Lawful t → OpWordsStand old t → IsNext t op → OpWordsStand new (also t (Begin op t.caller c act deadline))
+    (t : Moment) (c : ℕ) (act : RecordedAct) (deadline : Option ℕ) → Lawful t → OpWordsStand old t → IsNext t op → OpWordsStand new (also t (Begin op t.caller c act deadline))
 
 -- ---- Lists of operations
 
@@ -73,12 +73,12 @@ HasOneMoreEnded old new = (length new.free.items ≡ length old.free.items) × (
 -- the operation may begin in the slot that was drawn
 abbrev pub MayStart : OpName → ℕ → Option ℕ → Operations → Type 0
 MayStart op c deadline old =
-    (t : Moment) × (act : Act) × OperationsStand (op.slot ∷ []) old t × Lawful (also t (Begin op t.caller c act deadline))
+    (t : Moment) × (act : RecordedAct) × OperationsStand (op.slot ∷ []) old t × Lawful (also t (Begin op t.caller c act deadline))
 
 -- the operation is among the pending ones
 abbrev pub StartsOp : OpName → ℕ → Option ℕ → Operations → Operations → Type 0
 StartsOp op c deadline old new =
-    (t : Moment) (act : Act) → OperationsStand (op.slot ∷ []) old t → Lawful (also t (Begin op t.caller c act deadline)) → OperationsStand [] new (also t (Begin op t.caller c act deadline))
+    (t : Moment) (act : RecordedAct) → OperationsStand (op.slot ∷ []) old t → Lawful (also t (Begin op t.caller c act deadline)) → OperationsStand [] new (also t (Begin op t.caller c act deadline))
 
 -- the operation is among those that ended
 abbrev pub FinishesOp : OpName → Outcome → Operations → Operations → Type 0
@@ -115,7 +115,7 @@ FindsOn r c x =
 -- the operation was taken out, with what it came to
 abbrev pub TakesOut : Outcome → OpName → Operations → Operations → Type 0
 TakesOut r op old new =
-    (t : Moment) (k : ℕ) → Lawful t → OperationsStand [] old t → OperationsStand [] new (also t (Took op k)) × ((e : Ended) × IsOutcomeOf e op (past t) r)
+    (t : Moment) (k : ℕ) → Lawful t → OperationsStand [] old t → OperationsStand [] new (also t (Took op k)) × ((e : OperationEnd) × IsOutcomeOf e op (past t) r)
 
 -- ---- Pipes
 
@@ -148,7 +148,7 @@ FindsPipe shown r p x =
 -- one operation more has begun
 abbrev pub CountsBegun : Tally → Tally → Type 0
 CountsBegun old new =
-    (t : Moment) (op : OpName) (k c : ℕ) (act : Act) (deadline : Option ℕ) → Tallies old t → Tallies new (also t (Begin op k c act deadline))
+    (t : Moment) (op : OpName) (k c : ℕ) (act : RecordedAct) (deadline : Option ℕ) → Tallies old t → Tallies new (also t (Begin op k c act deadline))
 
 -- one context less is open
 abbrev pub CountsShut : Tally → Tally → Type 0

@@ -15,9 +15,9 @@ use Rattle.sp_history.specs.Past.{up}
 use Rattle.sp_history.specs.Sends.{targets}
 use Rattle.sp_history.specs.declared.entry.Ending.{Ending}
 use Rattle.sp_history.specs.declared.entry.Entry.TheVariants.{End, Out}
-use Rattle.sp_history.specs.declared.entry.Message.{Message as Text}
+use Rattle.sp_history.specs.declared.entry.RecordedMessage.{RecordedMessage as Text}
 use Rattle.sp_history.specs.declared.parts.Begun.{Begun}
-use Rattle.sp_history.specs.declared.parts.Request.{Request}
+use Rattle.sp_history.specs.declared.parts.LiveRequest.{LiveRequest}
 use Rattle.sp_msg.specs.Views.{MessageView, WireView, wire_text}
 use Rattle.sp_proto.specs.Machines.{CanAgain, CanFlood, CanGive, CanSend}
 use Rattle.std.specs.Prelude.{List, [], length, true, ℕ, ◌<◌, ◌≡◌, ◌≤◌}
@@ -40,11 +40,11 @@ MaySendAt ties room shown op pipe i old =
 -- the request may go out again on the pipe at this place, which has room
 abbrev pub MaySendAgainAt : {P W : Type 0} → (P → Moment → Type 0) → (P → ℕ) → (W → WireView) → ℕ → ℕ → ℕ → Core P W → Type 0
 MaySendAgainAt ties room shown c pipe i old =
-    (t : Moment) × (r : Request) × Owns ties room shown [] old t × CanAgain t c pipe r × IsPipeAt old.pipes i pipe × IsReadyAt shown old.pipes i
+    (t : Moment) × (r : LiveRequest) × Owns ties room shown [] old t × CanAgain t c pipe r × IsPipeAt old.pipes i pipe × IsReadyAt shown old.pipes i
 
 -- the request went out again, or there was no memory for its copy, and less is left to be done
 pub record SendsAgainAt {P W : Type 0} (ties : P → Moment → Type 0) (room measure : P → ℕ) (shown : W → WireView) (c pipe i : ℕ) (old new : Core P W) : Type 0 where
-  pub later : (t : Moment) (r : Request) → Owns ties room shown [] old t → CanAgain t c pipe r → IsPipeAt old.pipes i pipe → (u : Moment) × Later t u × Owns ties room shown [] new u
+  pub later : (t : Moment) (r : LiveRequest) → Owns ties room shown [] old t → CanAgain t c pipe r → IsPipeAt old.pipes i pipe → (u : Moment) × Later t u × Owns ties room shown [] new u
   pub left : measure new.proto < measure old.proto
   pub words : words_of new ≡ words_of old
   pub reads : reads_of new ≡ reads_of old

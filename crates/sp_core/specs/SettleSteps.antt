@@ -2,7 +2,7 @@
 use Rattle.std.specs.Prelude.{ℕ, [], ◌≡◌, ◌<◌}
 use Rattle.sp_msg.specs.Views.{WireView}
 use Rattle.sp_history.specs.Moments.{Moment, past}
-use Rattle.sp_pending.specs.declared.pending.Pending.{Pending}
+use Rattle.sp_pending.specs.declared.pending.PendingOperation.{PendingOperation}
 use Rattle.sp_core.specs.declared.owner.Core.{Core}
 use Rattle.sp_core.specs.Cores.{words_of}
 use Rattle.sp_core.specs.Looking.{Grows, HasLooked, FoundOf, reads_of}
@@ -44,5 +44,5 @@ abbrev pub LooksOn : {P W : Type 0} → ℕ → Core P W → Core P W → Moment
 LooksOn c old new t u = HasLooked c (past t) u.turn (reads_of old) (reads_of new)
 
 -- the operation was found ended or pending, or is of another context
-abbrev pub FindsOf : {P W : Type 0} → Pending → ℕ → Core P W → Core P W → Moment → Moment → Type 0
+abbrev pub FindsOf : {P W : Type 0} → PendingOperation → ℕ → Core P W → Core P W → Moment → Moment → Type 0
 FindsOf x c old new t u = FoundOf x c t u old.operations new.operations (reads_of old) (reads_of new)

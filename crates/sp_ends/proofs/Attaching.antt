@@ -47,7 +47,7 @@ use Rattle.sp_ends.specs.declared.newcomer.Newcomer.{Newcomer}
 use Rattle.sp_ends.specs.Standing.{Beginning, LinksStand, HandStands, IsOfRun, IsNameOver, AreNumbers, name_number, IsNoneOr, IsCauseOf}
 use Rattle.sp_ends.specs.Turning.{MissesFor}
 use Rattle.sp_history.specs.Lists.{has}
-use Rattle.sp_ends.proofs.Places.{no_lane}
+use Rattle.sp_ends.proofs.LinkPlaces.{no_lane}
 use Rattle.sp_ends.proofs.Hands.{hand_waits, hand_up, hand_stays, is_refused}
 use Rattle.sp_ends.proofs.Turns.{after_one}
 

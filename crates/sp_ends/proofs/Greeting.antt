@@ -16,7 +16,7 @@ use Rattle.link_opening.specs.declared.opening.Progress.{Progress}
 use Rattle.link_opening.specs.Openings.{openings}
 use Rattle.link_opening.specs.Origins.{Origins, run_ways}
 use Rattle.link_opening.specs.Going.{IsUndone, HasTried, IsWrong, IsLater, CameTo}
-use Rattle.sp_ends.specs.declared.turn.Decision.TheVariants as decisions
+use Rattle.sp_ends.specs.declared.turn.NewcomerDecision.TheVariants as decisions
 use Rattle.sp_ends.specs.Standing.{IsOfRun, IsCauseOf}
 use Rattle.sp_ends.specs.Turning.{DecidedFor}
 

@@ -11,7 +11,7 @@ use Rattle.sp_base.specs.declared.addr.Scheme.{Scheme}
 use Rattle.sp_history.specs.declared.entry.Entry.{Entry}
 use Rattle.sp_history.specs.declared.entry.Entry.TheVariants.{Up, Met, NoUp, Tick}
 use Rattle.sp_history.specs.declared.entry.Miss.{Miss}
-use Rattle.sp_history.specs.declared.entry.WireName.{WireName}
+use Rattle.sp_history.specs.declared.entry.WireNumbers.{WireNumbers}
 use Rattle.sp_history.specs.declared.setting.Setting.{Setting}
 use Rattle.sp_history.specs.Lists.{has, without, is_nil}
 use Rattle.sp_history.specs.Legal.{Legal}
@@ -33,11 +33,11 @@ use Rattle.link_opening.specs.Openings.{scheme_for}
 use Rattle.link_opening.specs.Origins.{Origins, IsKnown, run_ways}
 use Rattle.link_opening.specs.Going.{IsUnderWay, IsUndone, HasTried, IsLater, HasWaited, IsSame}
 use Rattle.sp_ends.specs.Standing.{Beginning, IsOfRun, IsProgressing, WasGreeted, AreProgressing, LinksKept, LinksStand, InHand, HandStands, places, in_order, IsNamed, IsCauseOf}
-use Rattle.sp_ends.proofs.Places.{has_at, apart, taken_out, unmet}
+use Rattle.sp_ends.proofs.LinkPlaces.{has_at, apart, taken_out, unmet}
 use Rattle.sp_ends.proofs.Leaving.{NoneIn}
-use Rattle.sp_ends.proofs.Keeping.{kept, legal_rest, missed_still, greeting_is, met_is}
-use Rattle.sp_ends.proofs.Standing.{all_mapped, progress_same, settles, no_links, asked_are}
-use Rattle.sp_ends.proofs.Stepping.{greeting_after, met_after, greeting_ticks_after}
+use Rattle.sp_ends.proofs.LinksStay.{kept, legal_rest, missed_still, greeting_is, met_is}
+use Rattle.sp_ends.proofs.EndsStay.{all_mapped, progress_same, settles, no_links, asked_are}
+use Rattle.sp_ends.proofs.LinkSteps.{greeting_after, met_after, greeting_ticks_after}
 use Rattle.sp_ends.proofs.Moves.{kept_met, kept_up, kept_missed, unmet_yet}
 
 -- the opening is the run's, later too
@@ -83,7 +83,7 @@ module _ {L : Type 0} (seen : L → LinkView) where
         }
 
     -- it came up
-    pub hand_up : (net : NetView) (t : Turn Entry) (link : LinkView) (p : ℕ) (name : WireName) → HandStands seen z start h net ns k link → p ≡ ups (past_of h) + 1 → IsNamed start.origins z (past_of h) (Up p link.place name) → HasFirst (Up p link.place name) t → Legal z (h ++ t ∷ []) → LinksStand seen z start (h ++ t ∷ []) net ns k
+    pub hand_up : (net : NetView) (t : Turn Entry) (link : LinkView) (p : ℕ) (name : WireNumbers) → HandStands seen z start h net ns k link → p ≡ ups (past_of h) + 1 → IsNamed start.origins z (past_of h) (Up p link.place name) → HasFirst (Up p link.place name) t → Legal z (h ++ t ∷ []) → LinksStand seen z start (h ++ t ∷ []) net ns k
     hand_up net t link p name s next named first l =
         let waits = hand_waits link s.hand in
         record {

@@ -5,7 +5,7 @@ use Rattle.turn_lock.specs.declared.turn.Turn.{Turn}
 use Rattle.sp_base.specs.Views.{LinkView, NetView}
 use Rattle.sp_history.specs.declared.entry.Entry.{Entry}
 use Rattle.sp_history.specs.declared.entry.Entry.TheVariants.{Up}
-use Rattle.sp_history.specs.declared.entry.WireName.{WireName}
+use Rattle.sp_history.specs.declared.entry.WireNumbers.{WireNumbers}
 use Rattle.sp_history.specs.declared.setting.Setting.{Setting}
 use Rattle.sp_history.specs.Lists.{has}
 use Rattle.sp_history.specs.Legal.{Legal}
@@ -19,18 +19,18 @@ use Rattle.cat_play.specs.Spending.{has_room}
 use Rattle.sp_ends.specs.declared.newcomer.Newcomer.{Newcomer}
 use Rattle.sp_ends.specs.Standing.{Beginning, EndsStand, IsLaneName, IsSomewhere, LinksKept, LinksStand, NetStands}
 use Rattle.sp_ends.specs.Calling.{KeepsLinks}
-use Rattle.sp_ends.proofs.Places.{met_inside, unmet_others, absent, no_lane}
+use Rattle.sp_ends.proofs.LinkPlaces.{met_inside, unmet_others, absent, no_lane}
 use Rattle.sp_ends.proofs.Leaving.{IsHeld, grown, numbered}
-use Rattle.sp_ends.proofs.Keeping.{legal_rest}
-use Rattle.sp_ends.proofs.Standing.{are_progressing, net_same, ends_stay, settles}
-use Rattle.sp_ends.proofs.Stepping.{stepped, held_after, met_after, greeting_after, greeting_ticks_after, ticks_after, where_after, IsBackAfter}
+use Rattle.sp_ends.proofs.LinksStay.{legal_rest}
+use Rattle.sp_ends.proofs.EndsStay.{are_progressing, net_same, ends_stay, settles}
+use Rattle.sp_ends.proofs.LinkSteps.{stepped, held_after, met_after, greeting_after, greeting_ticks_after, ticks_after, where_after, IsBackAfter}
 use Rattle.sp_ends.proofs.Turns.{after_one}
 
 either : (a b : Bool) → a ≡ true → (a || b) ≡ true
 either true b h = refl
 either false b h = cc
 
-module _ (z : Setting) (start : Beginning) (net : NetView) (h : List (Turn Entry)) (t : Turn Entry) (p : ℕ) (name : WireName) (next : p ≡ ups (past_of h) + 1) (lane : IsLaneName name.numbers) (first : HasFirst (Up p lane_place name) t) (l : Legal z (h ++ t ∷ [])) (k : LinksKept z start h net) where
+module _ (z : Setting) (start : Beginning) (net : NetView) (h : List (Turn Entry)) (t : Turn Entry) (p : ℕ) (name : WireNumbers) (next : p ≡ ups (past_of h) + 1) (lane : IsLaneName name.numbers) (first : HasFirst (Up p lane_place name) t) (l : Legal z (h ++ t ∷ [])) (k : LinksKept z start h net) where
   abbrev more : List Entry
   more = Up p lane_place name ∷ past_of h
 
@@ -104,7 +104,7 @@ module _ (z : Setting) (start : Beginning) (net : NetView) (h : List (Turn Entry
 
 module _ {L : Type 0} (seen : L → LinkView) (says : Setting → List (Turn Entry) → Turn Entry → Type 0) (a b : SingleView) (took : TookOne says a b) where
   -- a lane came up
-  pub keeps_lane : (p : ℕ) (name : WireName) → p ≡ ups (past_of a.seen) + 1 → IsLaneName name.numbers → HasFirst (Up p lane_place name) took.turn → KeepsLinks seen a b
+  pub keeps_lane : (p : ℕ) (name : WireNumbers) → p ≡ ups (past_of a.seen) + 1 → IsLaneName name.numbers → HasFirst (Up p lane_place name) took.turn → KeepsLinks seen a b
   keeps_lane p name next lane first start net ends s =
       after_one says a b took (λ z h. EndsStand seen z start h net ends) (λ l. record {
         role = s.role;

@@ -16,7 +16,7 @@ use Rattle.sp_history.specs.Found.{ticks}
 use Rattle.cat_play.specs.Playing.{each}
 use Rattle.cat_play.specs.Recording.{place_of, Each}
 use Rattle.cat_play.specs.Spending.{is_idle_turn, idle_turns}
-use Rattle.sp_ends.proofs.Places.{left_of, right_of, has_append}
+use Rattle.sp_ends.proofs.LinkPlaces.{left_of, right_of, has_append}
 
 -- ---- Histories
 

@@ -21,7 +21,7 @@ use Rattle.sp_ends.specs.Standing.{places, is_over_link}
 use Rattle.sp_ends.specs.Leaving.{with_links, with_link, with_wires}
 use Rattle.sp_ends.specs.Turning.{shut_link}
 use Rattle.sp_ends.proofs.Moves.{there, elsewhere}
-use Rattle.sp_ends.proofs.Places.{left_of, right_of, passed, met_inside, was_met, gone, not_without, has_append, over_of, Kept}
+use Rattle.sp_ends.proofs.LinkPlaces.{left_of, right_of, passed, met_inside, was_met, gone, not_without, has_append, over_of, Kept}
 
 -- ---- Maps
 

@@ -32,7 +32,7 @@ use Rattle.sp_ends.specs.declared.newcomer.Newcomer.{Newcomer}
 use Rattle.sp_ends.specs.Standing.{Beginning, LinkEndsView, places, in_order, WasGreeted, LinksKept, EndsStand, HasCarried, IsShut, IsCarried, IsSomewhere, SameCounts}
 use Rattle.sp_ends.specs.Leaving.{LinksLeft, ClosedCleared, with_links, with_wires, CanShut, IsBelow, AreHandedOut}
 use Rattle.sp_ends.specs.Turning.{shut_link, shut_under}
-use Rattle.sp_ends.proofs.Places.{passed, inside, met_inside, up_inside, up_once}
+use Rattle.sp_ends.proofs.LinkPlaces.{passed, inside, met_inside, up_inside, up_once}
 use Rattle.sp_ends.proofs.LeavingWires.{NamedAt, NamedSo, named_so, LeftBy, carried_by, at_link, at_lanes}
 use Rattle.sp_ends.proofs.LeavingAll.{from_all, OneOf, IsElsewhere, NoneOf, look_wires, at_id, both_of, mapped_all, shut_of, OneCame, NoneCame, look_links, was_missed, missed_place, missed_rests, named_place}
 use Rattle.sp_ends.proofs.Greeting.{incomplete, wrote}

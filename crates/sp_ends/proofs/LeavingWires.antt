@@ -35,12 +35,12 @@ use Rattle.end_wire.specs.Opened.{OpenedView, IsOpenedOver, named, opened_number
 use Rattle.end_wire.specs.EndWires.{shown, link_of, Stands, IsOverLanes}
 use Rattle.end_wire.specs.declared.wire.EndWire.{EndWire}
 use Rattle.end_wire.specs.declared.wire.EndWire.TheVariants as wires
-use Rattle.end_wire.proofs.Numbers.{one_way}
+use Rattle.end_wire.proofs.WayNumbers.{one_way}
 use Rattle.cat_play.specs.Recording.{lane_place, place_of, greeting, Each, FellFor, IsDrained}
 use Rattle.cat_play.specs.Running.{max_body}
 use Rattle.cat_play.specs.Spending.{greeting_ticks, ticks_where, idle_turns, IsRead}
 use Rattle.sp_ends.specs.Standing.{IsNoneOr, AreNumbers, name_number, IsNameOver, IsLaneName, IsNamed, HasCarried, IsAskedIn}
-use Rattle.sp_ends.proofs.Places.{passed, Kept, right_of}
+use Rattle.sp_ends.proofs.LinkPlaces.{passed, Kept, right_of}
 use Rattle.sp_ends.proofs.Leaving.{idle_more}
 
 -- ---- Roles

@@ -13,7 +13,7 @@ use Rattle.sp_base.specs.declared.addr.Scheme.{Scheme}
 use Rattle.sp_history.specs.declared.entry.Entry.{Entry}
 use Rattle.sp_history.specs.declared.entry.Entry.TheVariants.{Up, Met, NoUp, Taken}
 use Rattle.sp_history.specs.declared.entry.Miss.{Miss}
-use Rattle.sp_history.specs.declared.entry.WireName.{WireName}
+use Rattle.sp_history.specs.declared.entry.WireNumbers.{WireNumbers}
 use Rattle.sp_history.specs.declared.setting.Setting.{Setting}
 use Rattle.sp_history.specs.Lists.{has}
 use Rattle.sp_history.specs.Legal.{Legal}
@@ -26,10 +26,10 @@ use Rattle.cat_play.specs.Recording.{lane_place, place_of, met_at, greeting, kee
 use Rattle.cat_play.specs.Running.{KeepsOthers}
 use Rattle.cat_play.specs.Spending.{IsAsked}
 use Rattle.sp_ends.specs.Standing.{Beginning, IsNamed, HasCarried, IsShut, IsSomewhere, IsAskedIn, LinksKept}
-use Rattle.sp_ends.proofs.Places.{has_at, met_inside, unmet_others, others_missed, others_up, up_once, up_inside, passed, inside}
+use Rattle.sp_ends.proofs.LinkPlaces.{has_at, met_inside, unmet_others, others_missed, others_up, up_once, up_inside, passed, inside}
 use Rattle.sp_ends.proofs.Leaving.{IsHeld, has_other, grown, or_true, numbered}
-use Rattle.sp_ends.proofs.Keeping.{legal_rest}
-use Rattle.sp_ends.proofs.Stepping.{stepped, held_after, carried_after, asked_in_after, IsBackAfter}
+use Rattle.sp_ends.proofs.LinksStay.{legal_rest}
+use Rattle.sp_ends.proofs.LinkSteps.{stepped, held_after, carried_after, asked_in_after, IsBackAfter}
 
 -- ---- The links that are back
 
@@ -118,7 +118,7 @@ module _ (z : Setting) (start : Beginning) (net net' : NetView) (h : List (Turn 
 
 -- ---- Up
 
-module _ (z : Setting) (start : Beginning) (net : NetView) (h : List (Turn Entry)) (t : Turn Entry) (p place : ℕ) (name : WireName) (next : p ≡ ups (past_of h) + 1) (waits : has (greeting (past_of h)) place ≡ true) (named : IsNamed start.origins z (past_of h) (Up p place name)) (first : HasFirst (Up p place name) t) (l : Legal z (h ++ t ∷ [])) (k : LinksKept z start h net) where
+module _ (z : Setting) (start : Beginning) (net : NetView) (h : List (Turn Entry)) (t : Turn Entry) (p place : ℕ) (name : WireNumbers) (next : p ≡ ups (past_of h) + 1) (waits : has (greeting (past_of h)) place ≡ true) (named : IsNamed start.origins z (past_of h) (Up p place name)) (first : HasFirst (Up p place name) t) (l : Legal z (h ++ t ∷ [])) (k : LinksKept z start h net) where
   not_yet : (q other : ℕ) → place_of (past_of h) q ≡ Some other → (p == q) ≡ true → ⊥
   not_yet q other is e = let n = numbered z (past_of h) q other (legal_allowed z h (legal_rest z h (t ∷ []) l).0) is in let same : p ≡ q = eqb-true p q e in omega (arith, n, same, next)
 

@@ -20,7 +20,7 @@ use Rattle.sp_ends.specs.Freeing.{Frees}
 use Rattle.sp_ends.specs.Turning.{Quietly, NoLane, IsDry, InTurn, SameEnds, IsSameDialer, AreSameDialers, AsksNet, asks_of, AsksUntilFull, AreYoung, AreWaitingBehind, HasAsked}
 use Rattle.sp_ends.proofs.Serving.{same_dialers, dialers_both, dialers_long, ends_none, ends_both}
 use Rattle.sp_ends.proofs.Turns.{quiet_both, quiet_none, quiet_ticks, quiet_before, quiet_where, lanes_both, lanes_none}
-use Rattle.sp_ends.proofs.Freeing.{frees_none, frees_both}
+use Rattle.sp_ends.proofs.FreedDialers.{frees_none, frees_both}
 
 -- ---- The last tick
 

@@ -17,13 +17,13 @@ use Rattle.sp_ends.specs.Dialing.{IsDialed, IsDialable, next_from}
 use Rattle.sp_ends.specs.Standing.{Beginning, LinkEndsView, NetStands, IsListener, sum_of, tries_of}
 use Rattle.sp_ends.specs.Freeing.{IsDue, FreesOne, GotBack, Redials, KnowsLinks}
 use Rattle.sp_ends.specs.Turning.{Quietly, NoLane, IsDry, InTurn, SameEnds, AreSameDialers, AsksNet, AsksDue, dues_of, DialsAt, AreYoung, AreWaitingBehind}
-use Rattle.sp_ends.proofs.Places.{left_of, right_of}
+use Rattle.sp_ends.proofs.LinkPlaces.{left_of, right_of}
 use Rattle.sp_ends.proofs.Serving.{same_dialers, dials_long, ends_none, ends_both}
 use Rattle.sp_ends.proofs.Turns.{quiet_both, quiet_none, quiet_ticks, quiet_where, lanes_both, lanes_none}
 use Rattle.sp_ends.proofs.NewcomingAsks.{at_index, ticks_last, listens_still}
 use Rattle.sp_ends.proofs.NewcomingDials.{dials_tries}
-use Rattle.sp_ends.proofs.Freeing.{got_none, got_both, same_all, TurnedTo, turned_due, turned_not_due}
-use Rattle.sp_ends.proofs.Knowing.{knows_none, knows_next}
+use Rattle.sp_ends.proofs.FreedDialers.{got_none, got_both, same_all, TurnedTo, turned_due, turned_not_due}
+use Rattle.sp_ends.proofs.DialedLinks.{knows_none, knows_next}
 use Rattle.sp_ends.proofs.NewcomingDue.{DialedTo, next_dialed, next_not_due, all_dialed, dialable_at}
 
 -- ---- All of them

@@ -24,10 +24,10 @@ use Rattle.sp_base.specs.declared.addr.Addr.{Addr}
 use Rattle.link_opening.specs.Origins.{Origins, IsAmong}
 use Rattle.sp_ends.specs.Standing.{Beginning, LinkEndsView, AreOfRun, LinksStand, HasCarried, IsAskedIn, SameCounts}
 use Rattle.sp_ends.specs.Turning.{Quietly, IsSound, InTurn, InTurnWith, SameEnds, IsSameDialer, AreSameDialers, SameButPlaces, Serves, DialsOne, addrs_of}
-use Rattle.sp_ends.proofs.Places.{gone}
+use Rattle.sp_ends.proofs.LinkPlaces.{gone}
 use Rattle.sp_ends.proofs.Leaving.{has_other}
-use Rattle.sp_ends.proofs.Standing.{settles, links_stay, are_progressing}
-use Rattle.sp_ends.proofs.Stepping.{greeting_after, met_after, greeting_ticks_after}
+use Rattle.sp_ends.proofs.EndsStay.{settles, links_stay, are_progressing}
+use Rattle.sp_ends.proofs.LinkSteps.{greeting_after, met_after, greeting_ticks_after}
 use Rattle.sp_ends.proofs.Moves.{kept_taken, kept_lane_taken}
 use Rattle.sp_ends.proofs.Turns.{quiet_both, quiet_none, quiet_now, quiet_ticks, lanes_both, lanes_none, after_one}
 

@@ -11,7 +11,7 @@ use Rattle.sp_history.proofs.Backing.{legal_allowed}
 use Rattle.sp_history.proofs.Wiring.{has_before, has_more}
 use Rattle.sp_single.specs.Singles.{SingleView}
 use Rattle.sp_ends.specs.Turning.{Quietly, IsSound}
-use Rattle.sp_ends.proofs.Places.{gone}
+use Rattle.sp_ends.proofs.LinkPlaces.{gone}
 use Rattle.sp_ends.proofs.Leaving.{past_of_more}
 use Rattle.sp_ends.proofs.Serving.{up_numbered}
 

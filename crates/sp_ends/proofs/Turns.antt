@@ -26,9 +26,9 @@ use Rattle.cat_play.specs.Steps.{AddsNone, moves_play, moves_ends}
 use Rattle.sp_ends.specs.declared.newcomer.Newcomer.{Newcomer}
 use Rattle.sp_ends.specs.Standing.{Beginning, LinksStand, HandStands, IsCauseOf}
 use Rattle.sp_ends.specs.Turning.{Quietly, IsSound, IsNow, NoLane, is_lane, is_dry_for}
-use Rattle.sp_ends.proofs.Places.{left_of, right_of, inside}
+use Rattle.sp_ends.proofs.LinkPlaces.{left_of, right_of, inside}
 use Rattle.sp_ends.proofs.Leaving.{past_of_more, turns_leave, entries_leave}
-use Rattle.sp_ends.proofs.Standing.{same_dry, settles, none_sub}
+use Rattle.sp_ends.proofs.EndsStay.{same_dry, settles, none_sub}
 use Rattle.sp_ends.proofs.Hands.{hand_waits, hand_missed}
 
 -- ---- Quiet turns

@@ -7,8 +7,8 @@ use Rattle.sp_spec.specs.Outside.{Rose}
 use Rattle.sp_base.specs.Views.{LinkView}
 use Rattle.link_opening.specs.Going.{WaitsFor}
 use Rattle.sp_ends.specs.declared.newcomer.Newcomer.{Newcomer}
-use Rattle.sp_ends.specs.declared.turn.Fate.{Fate}
-use Rattle.sp_ends.specs.declared.turn.Fate.TheVariants as fates
+use Rattle.sp_ends.specs.declared.turn.NewcomerFate.{NewcomerFate}
+use Rattle.sp_ends.specs.declared.turn.NewcomerFate.TheVariants as fates
 use Rattle.sp_ends.specs.Turning.{IsOut, HasWaitedOn, IsOneOf, IsFirstOrNew, HasWaitedSince, AreWaitingBehind, FateHasWaited}
 
 rose_once : (a b : ℕ) → Rose a b → 1 ≤ b
@@ -19,7 +19,7 @@ all_behind P [] y a p = (p, tt)
 all_behind P (x ∷ xs) y a p = (a.0, all_behind P xs y a.1 p)
 
 module _ {L : Type 0} (seen : L → LinkView) where
-  pub out_waited : (n : Newcomer L) (f : Fate L) → IsOut f → FateHasWaited seen n f
+  pub out_waited : (n : Newcomer L) (f : NewcomerFate L) → IsOut f → FateHasWaited seen n f
   out_waited n (fates.Stays m) out = absurd out
   out_waited n fates.Up out = tt
   out_waited n (fates.Missed miss) out = tt

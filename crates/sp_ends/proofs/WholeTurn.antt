@@ -14,10 +14,10 @@ use Rattle.sp_ends.specs.declared.dialer.Dialer.{Dialer}
 use Rattle.sp_ends.specs.Standing.{Beginning, LinkEndsView, NetStands, EndsStand, IsListener, SameCounts, sum_of, tries_of}
 use Rattle.sp_ends.specs.Freeing.{Frees}
 use Rattle.sp_ends.specs.Turning.{EndsTicked, Quietly, IsNow, IsSound, SameEnds, AreSameDialers, InTurn, Serves, HasAsked, dues_of, asks_of, AsksDue, AsksAll, AsksEach}
-use Rattle.sp_ends.proofs.Standing.{all_mapped}
+use Rattle.sp_ends.proofs.EndsStay.{all_mapped}
 use Rattle.sp_ends.proofs.Serving.{dialers_long, ends_none, same_dialers, counts_none, serves_both}
 use Rattle.sp_ends.proofs.Turns.{quiet_before, quiet_none, lanes_none}
-use Rattle.sp_ends.proofs.Freeing.{frees_none, frees_both}
+use Rattle.sp_ends.proofs.FreedDialers.{frees_none, frees_both}
 use Rattle.sp_ends.proofs.NewcomingAsks.{all_still, same_tries, rose_all}
 use Rattle.sp_ends.proofs.NewcomingRounds.{dues_same}
 

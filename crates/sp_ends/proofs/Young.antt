@@ -3,12 +3,12 @@ use Rattle.std.proofs.Common.{◌≡◌, ◌≤◌, ◌++◌, ◌∷◌, ℕ, ze
 use Rattle.std.specs.List.{AllByRecursion}
 use Rattle.std.proofs.lemmas.List.{drop_all}
 use Rattle.sp_ends.specs.declared.newcomer.Newcomer.{Newcomer}
-use Rattle.sp_ends.specs.declared.turn.Fate.{Fate}
-use Rattle.sp_ends.specs.declared.turn.Fate.TheVariants as fates
+use Rattle.sp_ends.specs.declared.turn.NewcomerFate.{NewcomerFate}
+use Rattle.sp_ends.specs.declared.turn.NewcomerFate.TheVariants as fates
 use Rattle.sp_ends.specs.Turning.{IsYoung, AreYoung, FateIsYoung, IsOut}
 
 module _ {L : Type 0} (now : ℕ) where
-  pub out_young : (f : Fate L) → IsOut f → FateIsYoung now f
+  pub out_young : (f : NewcomerFate L) → IsOut f → FateIsYoung now f
   out_young (fates.Stays n) out = absurd out
   out_young fates.Up out = tt
   out_young (fates.Missed miss) out = tt

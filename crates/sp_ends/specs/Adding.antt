@@ -11,7 +11,7 @@ use Rattle.sp_base.specs.declared.role.Role.{Role}
 use Rattle.sp_lane.specs.Registry.{Registry, Listens}
 use Rattle.sp_lane.specs.declared.inproc.InprocError.TheVariants as lanes
 use Rattle.sp_base.specs.declared.addr.Scheme.{Scheme}
-use Rattle.sp_ends.specs.declared.caller.Caller.{Caller}
+use Rattle.sp_ends.specs.declared.caller.NameDialer.{NameDialer}
 use Rattle.sp_ends.specs.declared.dialer.Dialer.{Dialer}
 use Rattle.sp_ends.specs.declared.ends.EndError.{EndError}
 use Rattle.sp_ends.specs.declared.ends.EndError.TheVariants as errors
@@ -68,14 +68,14 @@ ListensName (Err errors.InUse) name role old new reg reg' = (new ≡ old) × Lis
 ListensName (Err errors.NoMemory) name role old new reg reg' = (new ≡ old) × (reg' ≡ reg)
 
 -- a caller of this name that has not dialed yet
-pub record IsNewCaller (name : List ℕ) (c : Caller) : Type 0 where
+pub record IsNewCaller (name : List ℕ) (c : NameDialer) : Type 0 where
   pub name_is : c.name ≡ name
   pub next : c.next ≡ Some 0
   pub pipe : c.pipe ≡ None
 
 -- one name more is dialed, or none when out of memory
 abbrev pub DialsName : Result (Unit {0}) EndError → List ℕ → NamesView → NamesView → Type 0
-DialsName (Ok done) name old new = (c : Caller) × IsNewCaller name c × (new ≡ record old { callers = old.callers ++ c ∷ [] })
+DialsName (Ok done) name old new = (c : NameDialer) × IsNewCaller name c × (new ≡ record old { callers = old.callers ++ c ∷ [] })
 DialsName (Err errors.Fault) name old new = ⊥
 DialsName (Err errors.InUse) name old new = ⊥
 DialsName (Err errors.NoMemory) name old new = new ≡ old

@@ -18,25 +18,25 @@ use Rattle.cat_play.specs.Running.{has_dry_miss}
 use Rattle.sp_ends.specs.Turning.{Quietly, IsSound, NoLane}
 use Rattle.sp_ends.specs.Moments.{moment, IsDueAt}
 use Rattle.sp_ends.specs.Standing.{Beginning, LinkEndsView, EndsStand}
-use Rattle.sp_ends.specs.declared.caller.Caller.{Caller}
+use Rattle.sp_ends.specs.declared.caller.NameDialer.{NameDialer}
 
 -- ---- Callers
 
 -- it has no pipe, and may dial
-abbrev pub IsDueCaller : ℕ → Caller → Type 0
+abbrev pub IsDueCaller : ℕ → NameDialer → Type 0
 IsDueCaller now c = (c.pipe ≡ None) × IsDueAt c.next now
 
 -- it has no pipe now, and may dial after the pause
-abbrev pub IsFreeCaller : ℕ → Caller → Caller → Type 0
+abbrev pub IsFreeCaller : ℕ → NameDialer → NameDialer → Type 0
 IsFreeCaller now old new = new ≡ record old { next = moment (now + 100); pipe = None }
 
 -- the caller that had this pipe is free; any other is the same
-pub record IsLostCaller (now pipe : ℕ) (old new : Caller) : Type 0 where
+pub record IsLostCaller (now pipe : ℕ) (old new : NameDialer) : Type 0 where
   pub lost : old.pipe ≡ Some pipe → IsFreeCaller now old new
   pub others : (old.pipe ≡ Some pipe → ⊥) → new ≡ old
 
 -- one by one
-abbrev pub AreLost : ℕ → ℕ → List Caller → List Caller → Type 0
+abbrev pub AreLost : ℕ → ℕ → List NameDialer → List NameDialer → Type 0
 AreLost now pipe [] [] = ⊤
 AreLost now pipe (c ∷ cs) (d ∷ ds) = IsLostCaller now pipe c d × AreLost now pipe cs ds
 AreLost now pipe _ _ = ⊥
@@ -62,36 +62,36 @@ abbrev pub IsNewLane : SingleView → SingleView → ℕ → Type 0
 IsNewLane old new p = (ups (past_of old.seen) < p) × (place_of (past_of new.seen) p ≡ Some lane_place)
 
 -- it dialed: it has a new pipe over lanes, or is free
-abbrev pub HasCalled : ℕ → SingleView → SingleView → Caller → Caller → Type 0
+abbrev pub HasCalled : ℕ → SingleView → SingleView → NameDialer → NameDialer → Type 0
 HasCalled now s s' old new =
     IsFreeCaller now old new ⊎ ((p : ℕ) × IsNewLane s s' p × (new ≡ record old { next = moment (now + 100); pipe = Some p }))
 
 -- it is the same, and its pipe was not down before; or its pipe is gone, and it is free
-abbrev pub TakesCaller : ℕ → SingleView → SingleView → Caller → Caller → Type 0
+abbrev pub TakesCaller : ℕ → SingleView → SingleView → NameDialer → NameDialer → Type 0
 TakesCaller now s s' old new =
     (new ≡ old) × ((p : ℕ) → old.pipe ≡ Some p → has (untaken (past_of s.seen)) p ≡ true → ⊥) ⊎ ((p : ℕ) × (old.pipe ≡ Some p) × IsGone s' p × IsFreeCaller now old new)
 
 -- one by one
-abbrev pub TakesCallers : ℕ → SingleView → SingleView → List Caller → List Caller → Type 0
+abbrev pub TakesCallers : ℕ → SingleView → SingleView → List NameDialer → List NameDialer → Type 0
 TakesCallers now s s' [] [] = ⊤
 TakesCallers now s s' (c ∷ cs) (d ∷ ds) = TakesCaller now s s' c d × TakesCallers now s s' cs ds
 TakesCallers now s s' _ _ = ⊥
 
 -- one that is due dialed; any other is the same
-abbrev pub CallsOne : ℕ → SingleView → SingleView → Caller → Caller → Type 0
+abbrev pub CallsOne : ℕ → SingleView → SingleView → NameDialer → NameDialer → Type 0
 CallsOne now s s' old new = (IsDueCaller now old × HasCalled now s s' old new) ⊎ ((IsDueCaller now old → ⊥) × (new ≡ old))
 
-abbrev pub CallsAll : ℕ → SingleView → SingleView → List Caller → List Caller → Type 0
+abbrev pub CallsAll : ℕ → SingleView → SingleView → List NameDialer → List NameDialer → Type 0
 CallsAll now s s' [] [] = ⊤
 CallsAll now s s' (c ∷ cs) (d ∷ ds) = CallsOne now s s' c d × CallsAll now s s' cs ds
 CallsAll now s s' _ _ = ⊥
 
 -- it was due, and dialed; or it was not
-abbrev pub TurnsCaller : ℕ → SingleView → SingleView → Caller → Caller → Type 0
+abbrev pub TurnsCaller : ℕ → SingleView → SingleView → NameDialer → NameDialer → Type 0
 TurnsCaller now s s' old new = (IsDueCaller now old × HasCalled now s s' old new) ⊎ ((IsDueCaller now old → ⊥) × TakesCaller now s s' old new)
 
 -- one by one
-abbrev pub TurnsCallers : ℕ → SingleView → SingleView → List Caller → List Caller → Type 0
+abbrev pub TurnsCallers : ℕ → SingleView → SingleView → List NameDialer → List NameDialer → Type 0
 TurnsCallers now s s' [] [] = ⊤
 TurnsCallers now s s' (c ∷ cs) (d ∷ ds) = TurnsCaller now s s' c d × TurnsCallers now s s' cs ds
 TurnsCallers now s s' _ _ = ⊥
@@ -147,17 +147,17 @@ TriesName name role (Some p) s s' reg reg' = DialsLane name role (Some p) s s' r
 TriesName name role None s s' reg reg' = DialsLane name role None s s' reg reg' ⊎ IsRefusedDial name role s s' reg reg'
 
 -- the caller at this place dialed, and the others are the same
-abbrev pub CallsAt : ℕ → ℕ → Role → SingleView → SingleView → Registry → Registry → List Caller → List Caller → Type 0
+abbrev pub CallsAt : ℕ → ℕ → Role → SingleView → SingleView → Registry → Registry → List NameDialer → List NameDialer → Type 0
 CallsAt i now role s s' reg reg' old new =
-    (c : Caller) × (d : Caller) × (slice_get old i ≡ Some c) × HasCalled now s s' c d × TriesName c.name role d.pipe s s' reg reg' × (new ≡ slice_set old i d)
+    (c : NameDialer) × (d : NameDialer) × (slice_get old i ≡ Some c) × HasCalled now s s' c d × TriesName c.name role d.pipe s s' reg reg' × (new ≡ slice_set old i d)
 
 -- one that is due dialed, and has the pipe that this brought; for any other nothing was done
-abbrev pub DialsIfDue : ℕ → Role → SingleView → SingleView → Registry → Registry → Caller → Caller → Type 0
+abbrev pub DialsIfDue : ℕ → Role → SingleView → SingleView → Registry → Registry → NameDialer → NameDialer → Type 0
 DialsIfDue now role s s' reg reg' old new =
     (IsDueCaller now old × TriesName old.name role new.pipe s s' reg reg') ⊎ ((IsDueCaller now old → ⊥) × (s' ≡ s) × (reg' ≡ reg))
 
 -- one after the other: between these nothing else was done with the socket or the names
-abbrev pub DialsDue : ℕ → Role → SingleView → SingleView → Registry → Registry → List Caller → List Caller → Type 0
+abbrev pub DialsDue : ℕ → Role → SingleView → SingleView → Registry → Registry → List NameDialer → List NameDialer → Type 0
 DialsDue now role s s' reg reg' [] [] = (s' ≡ s) × (reg' ≡ reg)
 DialsDue now role s s' reg reg' (c ∷ cs) (d ∷ ds) = (mid : SingleView) × (r : Registry) × DialsIfDue now role s mid reg r c d × DialsDue now role mid s' r reg' cs ds
 DialsDue now role s s' reg reg' _ _ = ⊥
@@ -219,7 +219,7 @@ pub record Accepting (most : ℕ) (s s' : SingleView) (reg reg' : Registry) : Ty
 -- First the links had their turn, and no lane came up. Then each name that was due was dialed. Then the names were asked: each
 -- brought 16 lanes at most, and, where fewer than 256 links are being opened, all that it had, or 16. Where 256 are, none was
 -- asked
-pub record TurnsLanes (now : ℕ) (role : Role) (greeting : ℕ) (listened : List (List ℕ)) (s s' : SingleView) (reg reg' : Registry) (old new : List Caller) : Type 0 where
+pub record TurnsLanes (now : ℕ) (role : Role) (greeting : ℕ) (listened : List (List ℕ)) (s s' : SingleView) (reg reg' : Registry) (old new : List NameDialer) : Type 0 where
   pub linked : SingleView
   pub called : SingleView
   pub dialed : Registry

@@ -6,8 +6,8 @@ use Rattle.sp_base.specs.Views.{LinkView, NetView}
 use Rattle.sp_base.specs.Steps.{AfterGiveBack}
 use Rattle.sp_ends.specs.Moments.{moment, IsDueAt}
 use Rattle.sp_ends.specs.declared.dialer.Dialer.{Dialer}
-use Rattle.sp_ends.specs.declared.turn.Fate.{Fate}
-use Rattle.sp_ends.specs.declared.turn.Fate.TheVariants as fates
+use Rattle.sp_ends.specs.declared.turn.NewcomerFate.{NewcomerFate}
+use Rattle.sp_ends.specs.declared.turn.NewcomerFate.TheVariants as fates
 
 -- the dialer has no link, and may dial after the pause
 abbrev pub IsFree : ℕ → Dialer → Type 0
@@ -34,7 +34,7 @@ pub record GivesOneBack (place : ℕ) (old new : NetView) : Type 0 where
   pub back : AfterGiveBack link old new
 
 -- a link is back where it was missed
-abbrev pub FateBack : {L : Type 0} → Fate L → ℕ → NetView → NetView → Type 0
+abbrev pub FateBack : {L : Type 0} → NewcomerFate L → ℕ → NetView → NetView → Type 0
 FateBack (fates.Stays n) place old new = new.back ≡ old.back
 FateBack fates.Up place old new = new.back ≡ old.back
 FateBack (fates.Missed miss) place old new = GivesOneBack place old new

@@ -26,7 +26,7 @@ use Rattle.cat_play.specs.Running.{KeepsOthers, max_body}
 use Rattle.cat_play.specs.Spending.{CanRise, greeting_ticks, IsAsked, IsRead, ticks_where, has_room}
 use Rattle.sp_history.specs.Found.{ticks}
 use Rattle.sp_ends.specs.declared.newcomer.Newcomer.{Newcomer}
-use Rattle.sp_ends.specs.declared.caller.Caller.{Caller}
+use Rattle.sp_ends.specs.declared.caller.NameDialer.{NameDialer}
 use Rattle.sp_ends.specs.declared.dialer.Dialer.{Dialer}
 use Rattle.sp_ends.specs.declared.listener.Listener.{Listener}
 use Rattle.link_opening.specs.declared.way.Way.{Way}
@@ -56,7 +56,7 @@ pub record LinkEndsView (L : Type 0) : Type 0 where
 -- the same of the names within the process: those that are listened on, and those that are dialed
 pub record NamesView : Type 0 where
   pub names : List (List ℕ)
-  pub callers : List Caller
+  pub callers : List NameDialer
 
 -- all ends of a run
 pub record EndsView (L : Type 0) : Type 0 where

@@ -39,13 +39,13 @@ use Rattle.sp_lane.specs.LaneWires.{LaneWireView, LaneFlushed}
 use Rattle.sp_msg.specs.declared.wire.WireFlush.{WireFlush}
 use Rattle.sp_ends.specs.Freeing.{Frees}
 use Rattle.end_wire.specs.EndWires.{shown, link_of, Stands, IsOverLanes}
-use Rattle.sp_ends.specs.declared.turn.Decision.{Decision}
-use Rattle.sp_ends.specs.declared.turn.Decision.TheVariants as decisions
+use Rattle.sp_ends.specs.declared.turn.NewcomerDecision.{NewcomerDecision}
+use Rattle.sp_ends.specs.declared.turn.NewcomerDecision.TheVariants as decisions
 use Rattle.sp_core.specs.declared.attach.AttachError.{AttachError}
 use Rattle.sp_core.specs.declared.attach.AttachError.TheVariants as refused
 use Rattle.sp_ends.specs.Moments.{moment, is_due}
-use Rattle.sp_ends.specs.declared.turn.Fate.{Fate}
-use Rattle.sp_ends.specs.declared.turn.Fate.TheVariants as fates
+use Rattle.sp_ends.specs.declared.turn.NewcomerFate.{NewcomerFate}
+use Rattle.sp_ends.specs.declared.turn.NewcomerFate.TheVariants as fates
 use Rattle.sp_ends.specs.Standing.{LinkEndsView, Beginning, AreOfRun, LinksStand, NetStands, SameCounts, sum_of}
 
 -- since the last tick nobody was greeted, accepted or dialed yet
@@ -143,13 +143,13 @@ abbrev pub is_dry_for : Miss → Bool
 is_dry_for misses.NoMemory = true
 is_dry_for _ = false
 
-abbrev pub is_dry_fate : {L : Type 0} → Fate L → Bool
+abbrev pub is_dry_fate : {L : Type 0} → NewcomerFate L → Bool
 is_dry_fate (fates.Stays n) = false
 is_dry_fate fates.Up = false
 is_dry_fate (fates.Missed miss) = is_dry_for miss
 
 -- what became of a link that was the first of those that are still to be greeted
-abbrev pub FateStands : {L : Type 0} → (L → LinkView) → Fate L → Setting → Beginning → List (Turn Entry) → NetView → List (Newcomer L) → ℕ → Type 0
+abbrev pub FateStands : {L : Type 0} → (L → LinkView) → NewcomerFate L → Setting → Beginning → List (Turn Entry) → NetView → List (Newcomer L) → ℕ → Type 0
 FateStands seen (fates.Stays n) z start h net ns k = LinksStand seen z start h net (ns ++ n ∷ []) k
 FateStands seen fates.Up z start h net ns k = LinksStand seen z start h net ns k
 FateStands seen (fates.Missed miss) z start h net ns k = LinksStand seen z start h net ns k
@@ -254,7 +254,7 @@ pub record AreWaitingBehind {L : Type 0} (seen : L → LinkView) (first : List (
   pub rest : AllByRecursion (HasWaitedSince seen first opened) (drop k ns)
 
 -- a link that stays has waited
-abbrev pub FateHasWaited : {L : Type 0} → (L → LinkView) → Newcomer L → Fate L → Type 0
+abbrev pub FateHasWaited : {L : Type 0} → (L → LinkView) → Newcomer L → NewcomerFate L → Type 0
 FateHasWaited seen n (fates.Stays m) = HasWaitedOn seen n m
 FateHasWaited seen n fates.Up = ⊤
 FateHasWaited seen n (fates.Missed miss) = ⊤
@@ -353,19 +353,19 @@ pub record IsLeftOf {L : Type 0} (seen : L → LinkView) (wire : EndWire L) (lin
   pub shut : IsShutAs wire (shut_under (link_of wire))
 
 -- a link that stays is as young
-abbrev pub FateIsYoung : {L : Type 0} → ℕ → Fate L → Type 0
+abbrev pub FateIsYoung : {L : Type 0} → ℕ → NewcomerFate L → Type 0
 FateIsYoung now (fates.Stays n) = IsYoung now n
 FateIsYoung now fates.Up = ⊤
 FateIsYoung now (fates.Missed miss) = ⊤
 
 -- it isn't in progress any more
-abbrev pub IsOut : {L : Type 0} → Fate L → Type 0
+abbrev pub IsOut : {L : Type 0} → NewcomerFate L → Type 0
 IsOut (fates.Stays n) = ⊥
 IsOut fates.Up = ⊤
 IsOut (fates.Missed miss) = ⊤
 
 -- what is to be done with a link whose greetings came so far, met and asked at these ticks
-abbrev pub DecidedFor : Decision → Progress → ℕ → ℕ → Type 0
+abbrev pub DecidedFor : NewcomerDecision → Progress → ℕ → ℕ → Type 0
 DecidedFor decisions.Stays p met now = (p ≡ progress.Waits) × (now < met + 10000)
 DecidedFor decisions.Attach p met now = p ≡ progress.Opened
 DecidedFor (decisions.Miss misses.Bad) p met now = p ≡ progress.Bad

@@ -8,7 +8,7 @@ use sp_base::{Bytes, PipeId, Tick};
 
 /// A name within the process that is dialed again and again, while no pipe to it stands.
 #[derive(Debug, Drop)]
-pub struct Caller {
+pub struct NameDialer {
     /// The name.
     pub name: Bytes,
     /// From this tick on it may be dialed; none is never.
@@ -17,12 +17,12 @@ pub struct Caller {
     pub pipe: Option<PipeId>,
 }
 
-impl Caller {
+impl NameDialer {
     /// It has no pipe, and may be dialed at once.
-    pub fn new(name: Bytes) -> Caller
+    pub fn new(name: Bytes) -> NameDialer
         ensures { result ≡ record { name = name; next = Some 0; pipe = None } }
     {
-        Caller {
+        NameDialer {
             name,
             next: Some(0),
             pipe: None,

@@ -4,7 +4,7 @@ ghost use Rattle.sp_base.specs.Addresses.{is_dialable, is_linked};
 ghost use Rattle.sp_ends.specs.Adding.{ListensAlso, DialsAlso};
 
 use crate::links::LinkEnds;
-use crate::names::Names;
+use crate::names::NameEnds;
 use sp_base::{Addr, Link, Net, NoMemory, Role};
 use sp_lane::Inproc;
 use std::alloc::Global;
@@ -25,7 +25,7 @@ pub enum EndError {
 /// process that are listened on and dialed. Its room for links is taken when it is made.
 pub struct Ends<L: Link> {
     pub(crate) links: LinkEnds<L>,
-    pub(crate) names: Names,
+    pub(crate) names: NameEnds,
 }
 
 impl<L: Link> Model for Ends<L> {
@@ -43,7 +43,7 @@ impl<L: Link> Ends<L> {
     {
         Ok(Ends {
             links: LinkEnds::new(alloc, role, dice)?,
-            names: Names::new(alloc),
+            names: NameEnds::new(alloc),
         })
     }
 

@@ -3,7 +3,7 @@ ghost use Rattle.std.specs.Prelude.{◌≡◌, ◌<◌, ◌*◌, [], length};
 ghost use Rattle.sp_ends.specs.Adding.{ListensName, DialsName};
 ghost use Rattle.sp_ends.specs.Calling.{AreLost, GoesOn, KeepsLinks, CallsAll, CallsAt, DialsDue, TriesName, Accepting, Brings, AllBring, HasFewer, HasNewLane};
 
-use crate::caller::Caller;
+use crate::caller::NameDialer;
 use crate::ends::EndError;
 use crate::turn::{LINKS_A_TURN, attach_lane};
 use end_wire::EndWire;
@@ -17,15 +17,15 @@ use std::sync::Wait;
 
 /// Names that are listened on, and names that are dialed.
 #[derive(Drop)]
-pub(crate) struct Names {
+pub(crate) struct NameEnds {
     pub(crate) alloc: Global,
     /// Those that are listened on.
     pub(crate) names: Vec<Bytes>,
     /// Those that are dialed.
-    pub(crate) callers: Vec<Caller>,
+    pub(crate) callers: Vec<NameDialer>,
 }
 
-impl Model for Names {
+impl Model for NameEnds {
     ghost use Rattle.sp_ends.specs.Standing.{NamesView};
 
     ghost Value = { NamesView };
@@ -33,12 +33,12 @@ impl Model for Names {
     ghost view = { λ n. record { names = n.names.items; callers = n.callers.items } };
 }
 
-impl Names {
+impl NameEnds {
     // None.
-    pub(crate) fn new(alloc: Global) -> Names
+    pub(crate) fn new(alloc: Global) -> NameEnds
         ensures { result ≡ record { names = []; callers = [] } }
     {
-        Names {
+        NameEnds {
             alloc,
             names: Vec::new(alloc),
             callers: Vec::new(alloc),
@@ -79,7 +79,7 @@ impl Names {
         let Ok(copy) = Bytes::from_slice(self.alloc, name) else {
             return Err(EndError::NoMemory);
         };
-        match self.callers.push(Caller::new(copy)) {
+        match self.callers.push(NameDialer::new(copy)) {
             Ok(()) => Ok(()),
             Err(_) => Err(EndError::NoMemory),
         }

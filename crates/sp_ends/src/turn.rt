@@ -23,7 +23,7 @@ ghost use Rattle.sp_ends.specs.Turning.{EndsTicked, Quietly, AllTaken, IsDry, No
 
 use crate::ends::Ends;
 use crate::links::{LinkEnds, MOST_NEWCOMERS, ROOM};
-use crate::names::Names;
+use crate::names::NameEnds;
 use crate::newcomer::Newcomer;
 use end_wire::EndWire;
 use link_opening::{Opening, Progress, Way};
@@ -57,7 +57,7 @@ pub struct EndsTurn {
 }
 
 /// What became of a newcomer.
-pub enum Fate<L: Link> {
+pub enum NewcomerFate<L: Link> {
     /// Its greetings go on.
     Stays(Newcomer<L>),
     /// It is a pipe now.
@@ -67,7 +67,7 @@ pub enum Fate<L: Link> {
 }
 
 /// What is to be done with a newcomer.
-pub enum Decision {
+pub enum NewcomerDecision {
     /// Its greetings go on.
     Stays,
     /// It becomes a pipe.
@@ -138,7 +138,7 @@ impl<L: Link> LinkEnds<L> {
     // The turn, with these names within the process.
     fn turn<R: Wait, N: Net<L = L>, P: Proto>(
         &mut self,
-        names: &mut Names,
+        names: &mut NameEnds,
         rt: &R,
         net: &mut N,
         inproc: &mut Inproc,
@@ -180,7 +180,7 @@ impl<L: Link> LinkEnds<L> {
     // Takes the wires whose pipes are down, and gives their links back.
     fn take_all_ended<R: Wait, N: Net<L = L>, P: Proto>(
         &mut self,
-        names: &mut Names,
+        names: &mut NameEnds,
         rt: &R,
         net: &mut N,
         single: &mut Single<P, EndWire<L>>,
@@ -209,7 +209,7 @@ impl<L: Link> LinkEnds<L> {
     // Asks each name for the lanes that were dialed, unless too many links are being opened.
     fn accept_names<R: Wait, P: Proto>(
         &self,
-        names: &Names,
+        names: &NameEnds,
         rt: &R,
         inproc: &mut Inproc,
         single: &mut Single<P, EndWire<L>>,
@@ -339,9 +339,9 @@ impl<L: Link> LinkEnds<L> {
     {
         let place = newcomer.opening.link.place();
         match greet_one(self.alloc, rt, net, single, newcomer, now) {
-            Fate::Stays(newcomer) => self.newcomers.push_back_reserved(newcomer),
-            Fate::Up => (),
-            Fate::Missed(miss) => {
+            NewcomerFate::Stays(newcomer) => self.newcomers.push_back_reserved(newcomer),
+            NewcomerFate::Up => (),
+            NewcomerFate::Missed(miss) => {
                 turn.missed(miss);
                 self.lost(now, place);
             }
@@ -660,7 +660,7 @@ fn greet_one<R: Wait, N: Net, P: Proto>(
     single: &mut Single<P, EndWire<N::L>>,
     newcomer: Newcomer<N::L>,
     now: Tick,
-) -> Fate<N::L>
+) -> NewcomerFate<N::L>
     requires stands { (start : Beginning) × (ns : List (NewcomerType N.L)) × (k : ℕ) × LinksStand N.L.seen single.old.setting start single.old.seen (N.seen net.old) (newcomer ∷ ns) (suc k) }
     requires now { IsNow now single.old }
     requires sound { IsSound single.old }
@@ -677,30 +677,30 @@ fn greet_one<R: Wait, N: Net, P: Proto>(
     let Newcomer { mut opening, met } = newcomer;
     let progress = opening.greet(alloc);
     match decide(progress, met, now) {
-        Decision::Stays => Fate::Stays(Newcomer { opening, met }),
-        Decision::Attach => attach(alloc, rt, net, single, opening),
-        Decision::Miss(why) => {
+        NewcomerDecision::Stays => NewcomerFate::Stays(Newcomer { opening, met }),
+        NewcomerDecision::Attach => attach(alloc, rt, net, single, opening),
+        NewcomerDecision::Miss(why) => {
             miss(rt, net, single, opening.into_link(), why);
-            Fate::Missed(why)
+            NewcomerFate::Missed(why)
         }
     }
 }
 
 // What is to be done with a link, met at this tick.
-fn decide(progress: Progress, met: Tick, now: Tick) -> Decision
+fn decide(progress: Progress, met: Tick, now: Tick) -> NewcomerDecision
     ensures { DecidedFor result progress met now }
 {
     match progress {
-        Progress::Opened => Decision::Attach,
-        Progress::Bad => Decision::Miss(Miss::Bad),
-        Progress::Ended => Decision::Miss(Miss::Ended),
-        Progress::Failed => Decision::Miss(Miss::Failed),
-        Progress::NoMemory => Decision::Miss(Miss::NoMemory),
+        Progress::Opened => NewcomerDecision::Attach,
+        Progress::Bad => NewcomerDecision::Miss(Miss::Bad),
+        Progress::Ended => NewcomerDecision::Miss(Miss::Ended),
+        Progress::Failed => NewcomerDecision::Miss(Miss::Failed),
+        Progress::NoMemory => NewcomerDecision::Miss(Miss::NoMemory),
         Progress::Waits => {
             if now.0.saturating_sub(met.0) >= GREETING_TIME {
-                Decision::Miss(Miss::Late)
+                NewcomerDecision::Miss(Miss::Late)
             } else {
-                Decision::Stays
+                NewcomerDecision::Stays
             }
         }
     }
@@ -713,7 +713,7 @@ fn attach<R: Wait, N: Net, P: Proto>(
     net: &mut N,
     single: &mut Single<P, EndWire<N::L>>,
     opening: Opening<N::L>,
-) -> Fate<N::L>
+) -> NewcomerFate<N::L>
     requires opened { IsOpened N.L.seen opening }
     requires stands { (start : Beginning) × (ns : List (NewcomerType N.L)) × (k : ℕ) × HandStands N.L.seen single.old.setting start single.old.seen (N.seen net.old) ns k (N.L.seen opening.link) × IsOfRun N.L.seen start.origins single.old.setting opening }
     requires sound { IsSound single.old }
@@ -730,17 +730,17 @@ fn attach<R: Wait, N: Net, P: Proto>(
     match EndWire::over(alloc, opening, MAX_BODY) {
         Err((NoMemory, link)) => {
             miss(rt, net, single, link, Miss::NoMemory);
-            Fate::Missed(Miss::NoMemory)
+            NewcomerFate::Missed(Miss::NoMemory)
         }
         Ok(wire) => match single.attach(rt, wire, place) {
-            Ok(_) => Fate::Up,
+            Ok(_) => NewcomerFate::Up,
             Err((why, wire)) => {
                 let Some(link) = wire.into_link() else {
                     unreachable!()
                 };
                 let why = miss_for(why);
                 miss(rt, net, single, link, why);
-                Fate::Missed(why)
+                NewcomerFate::Missed(why)
             }
         },
     }

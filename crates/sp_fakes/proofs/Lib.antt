@@ -2,5 +2,5 @@ mod Given
 mod Left
 mod Listening
 mod Queues
-mod Names
+mod FileNames
 mod Frames

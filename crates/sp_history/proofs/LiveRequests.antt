@@ -3,16 +3,16 @@ use Rattle.std.proofs.Common.{◌≡◌, refl, ap, sym, ◌∙◌, List, [], ◌
 use Rattle.std.specs.Prelude.{filter, drop, map, not, ◌&&◌, ◌||◌, ◌==◌}
 use Rattle.std.specs.List.{list_any, list_all}
 use Rattle.std.proofs.lemmas.Bool.Decides.{nat_tests}
-use Rattle.sp_history.specs.declared.entry.Act.TheVariants.{Send}
+use Rattle.sp_history.specs.declared.entry.RecordedAct.TheVariants.{Send}
 use Rattle.sp_history.specs.declared.entry.Completion.TheVariants.{Received, Sent}
 use Rattle.sp_history.specs.declared.entry.Ending.{Ending}
 use Rattle.sp_history.specs.declared.entry.Ending.TheVariants.{Won, Gone}
-use Rattle.sp_history.specs.declared.entry.Gate.TheVariants.{Open, Shut}
+use Rattle.sp_history.specs.declared.entry.ContextChange.TheVariants.{Open, Shut}
 use Rattle.sp_history.specs.declared.entry.Entry.{Entry}
 use Rattle.sp_history.specs.declared.entry.Entry.TheVariants.{Begin, End, Frame, Out, Unkept, Tick, Ctx, Dry, Close}
 use Rattle.sp_history.specs.declared.parts.Begun.{Begun}
 use Rattle.sp_history.specs.declared.parts.LastOut.{LastOut}
-use Rattle.sp_history.specs.declared.parts.Request.{Request}
+use Rattle.sp_history.specs.declared.parts.LiveRequest.{LiveRequest}
 use Rattle.sp_history.specs.declared.parts.Requests.{Requests}
 use Rattle.sp_history.specs.declared.parts.How.TheVariants as how
 use Rattle.sp_history.specs.declared.setting.Setting.{Setting}
@@ -29,7 +29,7 @@ use Rattle.sp_history.proofs.Wiring.{has_more, has_before}
 
 -- ---- Last Outs
 
-all_filtered : (f p : Request → Bool) (rs : List Request) → list_all f rs ≡ true → list_all f (filter p rs) ≡ true
+all_filtered : (f p : LiveRequest → Bool) (rs : List LiveRequest) → list_all f rs ≡ true → list_all f (filter p rs) ≡ true
 all_filtered f p [] h = h
 all_filtered f p (r ∷ rs) h = go (f r) refl (p r) h (all_filtered f p rs)
   where
@@ -38,7 +38,7 @@ all_filtered f p (r ∷ rs) h = go (f r) refl (p r) h (all_filtered f p rs)
     go true e false h again = again h
     go false e b h again = cc
 
-all_mapped : (f g : Request → Bool) (change : Request → Request) → ((r : Request) → f r ≡ true → g (change r) ≡ true) → (rs : List Request) → list_all f rs ≡ true → list_all g (map change rs) ≡ true
+all_mapped : (f g : LiveRequest → Bool) (change : LiveRequest → LiveRequest) → ((r : LiveRequest) → f r ≡ true → g (change r) ≡ true) → (rs : List LiveRequest) → list_all f rs ≡ true → list_all g (map change rs) ≡ true
 all_mapped f g change k [] h = refl
 all_mapped f g change k (r ∷ rs) h = go (f r) refl h (all_mapped f g change k rs)
   where
@@ -46,7 +46,7 @@ all_mapped f g change k (r ∷ rs) h = go (f r) refl h (all_mapped f g change k 
     go true e h again = rw (k r e) (again h)
     go false e h again = cc
 
-all_added : (f : Request → Bool) (rs : List Request) (r : Request) → list_all f rs ≡ true → f r ≡ true → list_all f (rs ++ r ∷ []) ≡ true
+all_added : (f : LiveRequest → Bool) (rs : List LiveRequest) (r : LiveRequest) → list_all f rs ≡ true → f r ≡ true → list_all f (rs ++ r ∷ []) ≡ true
 all_added f [] r h k = rw k refl
 all_added f (x ∷ rs) r h k = go (f x) h (λ a. all_added f rs r a k)
   where
@@ -54,35 +54,35 @@ all_added f (x ∷ rs) r h k = go (f x) h (λ a. all_added f rs r a k)
     go true h again = again h
     go false h again = cc
 
-itself : (r : Request) → r ≡ r
+itself : (r : LiveRequest) → r ≡ r
 itself r = refl
 
 later_out : (a b : ℕ) → a ≤ b → (o : Option LastOut) → is_by a o ≡ true → is_by b o ≡ true
 later_out a b h None k = refl
 later_out a b h (Some o) k = grind (arith, nat_tests, h)
 
-map-self : (rs : List Request) → map (λ r. r) rs ≡ rs
+map-self : (rs : List LiveRequest) → map (λ r. r) rs ≡ rs
 map-self [] = refl
-map-self (r ∷ rs) = ap (λ (xs : List Request). r ∷ xs) (map-self rs)
+map-self (r ∷ rs) = ap (λ (xs : List LiveRequest). r ∷ xs) (map-self rs)
 
-later_all : (a b : ℕ) → a ≤ b → (rs : List Request) → list_all (is_out_by a) rs ≡ true → list_all (is_out_by b) rs ≡ true
-later_all a b h rs k = ap (λ (xs : List Request). list_all (is_out_by b) xs) (sym (map-self rs)) ∙ all_mapped (is_out_by a) (is_out_by b) (λ r. r) (λ r. later_out a b h r.last_out) rs k
+later_all : (a b : ℕ) → a ≤ b → (rs : List LiveRequest) → list_all (is_out_by a) rs ≡ true → list_all (is_out_by b) rs ≡ true
+later_all a b h rs k = ap (λ (xs : List LiveRequest). list_all (is_out_by b) xs) (sym (map-self rs)) ∙ all_mapped (is_out_by a) (is_out_by b) (λ r. r) (λ r. later_out a b h r.last_out) rs k
 
-out_by : (t p : ℕ) (b : List ℕ) (r : Request) → is_out_by t r ≡ true → is_out_by t (with_out t p b r) ≡ true
+out_by : (t p : ℕ) (b : List ℕ) (r : LiveRequest) → is_out_by t r ≡ true → is_out_by t (with_out t p b r) ≡ true
 out_by t p b r h = go (same_bytes b (wire_of r))
   where
     go : (y : Bool) → is_out_by t (cond y (record r { last_out = Some (record { pipe = p; when = t }) }) r) ≡ true
     go true = grind (arith, nat_tests)
     go false = h
 
-frame_by : (z : Setting) (past : List Entry) (t p : ℕ) (b : List ℕ) (r : Request) → is_out_by t r ≡ true → is_out_by t (with_frame z past p b r) ≡ true
+frame_by : (z : Setting) (past : List Entry) (t p : ℕ) (b : List ℕ) (r : LiveRequest) → is_out_by t r ≡ true → is_out_by t (with_frame z past p b r) ≡ true
 frame_by z past t p b r h = go (not (malformed z past p b) && is_for b r && has_room z r)
   where
     go : (y : Bool) → is_out_by t (cond y (record r { replies = r.replies ++ plain_item p (drop 4 b) ∷ [] }) r) ≡ true
     go true = h
     go false = h
 
-taken_by : (c t : ℕ) (r : Request) → is_out_by t r ≡ true → is_out_by t (with_taken c r) ≡ true
+taken_by : (c t : ℕ) (r : LiveRequest) → is_out_by t r ≡ true → is_out_by t (with_taken c r) ≡ true
 taken_by c t r h = go (is_on c r)
   where
     go : (y : Bool) → is_out_by t (cond y (record r { replies = drop 1 r.replies }) r) ≡ true

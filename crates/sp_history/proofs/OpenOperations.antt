@@ -13,7 +13,7 @@ use Rattle.sp_history.specs.Past.{caller_of, begins, onto, past_from, past_of}
 use Rattle.sp_history.specs.Once.{begin_count, took_count}
 use Rattle.sp_history.specs.Changes.{none_of}
 use Rattle.sp_history.specs.Found.{collects, IsOpenOf}
-use Rattle.sp_history.specs.declared.entry.Act.{Act}
+use Rattle.sp_history.specs.declared.entry.RecordedAct.{RecordedAct}
 use Rattle.sp_history.specs.Legal.{Allowed, MayCome, Follows, LegalTurn, LegalFrom, Legal}
 use Rattle.sp_history.proofs.OnceHolds.{Counted, counted_next, same_op-refl, same_op-eq}
 
@@ -180,11 +180,11 @@ onto_cut : (p early late : List Entry) → onto (early ++ late) p ≡ onto late 
 onto_cut p [] late = refl
 onto_cut p (d ∷ early) late = onto_cut (d ∷ p) early late
 
-begun_here : (z : Setting) (n : ℕ) (p q : List Entry) (op : OpName) (k c : ℕ) (act : Act) (d : Option ℕ) → Own n op p q → MayCome z n p (Begin op k c act d) → IsOpenOf k op (Begin op k c act d ∷ p)
+begun_here : (z : Setting) (n : ℕ) (p q : List Entry) (op : OpName) (k c : ℕ) (act : RecordedAct) (d : Option ℕ) → Own n op p q → MayCome z n p (Begin op k c act d) → IsOpenOf k op (Begin op k c act d ∷ p)
 begun_here z n p q op k c act d o a =
     (rw (same_op-refl op) refl, o.untaken (fresh p op op o.counted a.generation (same_op-refl op)))
 
-pub open_begun : (z : Setting) (h : List (Turn Entry)) (t : Turn Entry) (early late : List Entry) (op : OpName) (k c : ℕ) (act : Act) (d : Option ℕ)
+pub open_begun : (z : Setting) (h : List (Turn Entry)) (t : Turn Entry) (early late : List Entry) (op : OpName) (k c : ℕ) (act : RecordedAct) (d : Option ℕ)
     → Legal z (h ++ t ∷ []) → t.entries ≡ early ++ Begin op k c act d ∷ late → none_of (collects op) late ≡ true → IsOpenOf k op (past_of (h ++ t ∷ []))
 open_begun z h t early late op k c act d l is un =
     let both = last_turn z [] h t l in

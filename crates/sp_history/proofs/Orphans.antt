@@ -3,11 +3,11 @@ use Rattle.std.proofs.Common.{◌≡◌, refl, sym, ◌∙◌, subst, List, [], 
 use Rattle.std.specs.Prelude.{filter, find, map, not, ◌||◌, is_some}
 use Rattle.std.specs.List.{list_any}
 use Rattle.sp_base.specs.declared.OpName.{OpName}
-use Rattle.sp_history.specs.declared.entry.Act.TheVariants.{Recv, Send}
+use Rattle.sp_history.specs.declared.entry.RecordedAct.TheVariants.{Recv, Send}
 use Rattle.sp_history.specs.declared.entry.Completion.TheVariants.{Received, Sent}
 use Rattle.sp_history.specs.declared.entry.Ending.{Ending}
 use Rattle.sp_history.specs.declared.entry.Ending.TheVariants.{Won, Gone}
-use Rattle.sp_history.specs.declared.entry.Gate.TheVariants.{Shut}
+use Rattle.sp_history.specs.declared.entry.ContextChange.TheVariants.{Shut}
 use Rattle.sp_history.specs.declared.entry.Entry.{Entry}
 use Rattle.sp_history.specs.declared.entry.Entry.TheVariants.{Begin, End, Frame, Unkept, Tick, Ctx}
 use Rattle.sp_history.specs.declared.parts.Begun.{Begun}

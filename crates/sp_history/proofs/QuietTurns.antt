@@ -7,11 +7,11 @@ use Rattle.turn_lock.specs.declared.turn.Turn.{Turn}
 use Rattle.sp_history.specs.declared.entry.Completion.TheVariants.{Received, Sent}
 use Rattle.sp_history.specs.declared.entry.Ending.{Ending}
 use Rattle.sp_history.specs.declared.entry.Ending.TheVariants.{Won, Gone}
-use Rattle.sp_history.specs.declared.entry.Gate.TheVariants.{Shut}
+use Rattle.sp_history.specs.declared.entry.ContextChange.TheVariants.{Shut}
 use Rattle.sp_history.specs.declared.entry.Entry.{Entry}
 use Rattle.sp_history.specs.declared.entry.Entry.TheVariants.{Begin, End, Frame, Out, Full, Down, Unkept, Tick, Ctx, Close}
 use Rattle.sp_history.specs.declared.parts.Begun.{Begun}
-use Rattle.sp_history.specs.declared.parts.Request.{Request}
+use Rattle.sp_history.specs.declared.parts.LiveRequest.{LiveRequest}
 use Rattle.sp_history.specs.declared.parts.Requests.{Requests}
 use Rattle.sp_history.specs.declared.setting.Setting.{Setting}
 use Rattle.sp_history.specs.declared.parts.How.TheVariants as how
@@ -37,14 +37,14 @@ filter_none p q (x ∷ xs) h = go (p x) refl (q x) h (filter_none p q xs)
     go false e true h again = rw e (again h)
     go false e false h again = again h
 
-map_none : (f : Request → Request) (rs : List Request) → rs ≡ [] → map f rs ≡ []
+map_none : (f : LiveRequest → LiveRequest) (rs : List LiveRequest) → rs ≡ [] → map f rs ≡ []
 map_none f rs h = ap (map f) h
 
-none_mapped : (f : Request → Request) (rs : List Request) → map f rs ≡ [] → rs ≡ []
+none_mapped : (f : LiveRequest → LiveRequest) (rs : List LiveRequest) → map f rs ≡ [] → rs ≡ []
 none_mapped f [] h = refl
 none_mapped f (r ∷ rs) h = cc
 
-less_none : (p : Request → Bool) (rs : List Request) → rs ≡ [] → filter p rs ≡ []
+less_none : (p : LiveRequest → Bool) (rs : List LiveRequest) → rs ≡ [] → filter p rs ≡ []
 less_none p rs h = ap (filter p) h
 
 -- ---- No send is pending
@@ -116,7 +116,7 @@ idle_next z e past b i = record { sends = sends_next e past b i.sends; live = li
 
 no_resend : (z : Setting) (past : List Entry) (b : List ℕ) → (requests z past).live ≡ [] → is_resend z past b ≡ false
 no_resend z past b h =
-    subst (λ (rs : List Request). (resends z && list_any (λ r. is_due_again z past r && same_bytes (wire_of r) b) rs) ≡ false) (sym h) (none (resends z))
+    subst (λ (rs : List LiveRequest). (resends z && list_any (λ r. is_due_again z past r && same_bytes (wire_of r) b) rs) ≡ false) (sym h) (none (resends z))
   where
     none : (a : Bool) → (a && false) ≡ false
     none true = refl

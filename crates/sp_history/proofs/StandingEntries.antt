@@ -7,7 +7,7 @@ use Rattle.sp_base.specs.declared.OpName.{OpName}
 use Rattle.sp_history.specs.declared.entry.Ending.{Ending}
 use Rattle.sp_history.specs.declared.entry.Entry.{Entry}
 use Rattle.sp_history.specs.declared.entry.Entry.TheVariants.{Begin, End, Tick}
-use Rattle.sp_history.specs.declared.entry.Act.{Act}
+use Rattle.sp_history.specs.declared.entry.RecordedAct.{RecordedAct}
 use Rattle.sp_history.specs.declared.setting.Setting.{Setting}
 use Rattle.sp_history.specs.Lists.{same_op}
 use Rattle.sp_history.specs.Past.{now, caller_of}
@@ -57,13 +57,13 @@ less_begun (Begin other k c act d) past op = go (same_op other op)
     go false = omega arith
 less_begun _ past op = omega arith
 
-begun_in : (past : List Entry) (op : OpName) (n c : ℕ) (act : Act) (d : Option ℕ) (k : ℕ) → k < length past → slice_index_or past k (Begin op n c act d) ≡ Begin op n c act d → 1 ≤ begin_count past op
+begun_in : (past : List Entry) (op : OpName) (n c : ℕ) (act : RecordedAct) (d : Option ℕ) (k : ℕ) → k < length past → slice_index_or past k (Begin op n c act d) ≡ Begin op n c act d → 1 ≤ begin_count past op
 begun_in [] op n c act d k l h = omega arith
 begun_in (e ∷ past) op n c act d zero l h = subst (λ (x : Entry). 1 ≤ begin_count (x ∷ past) op) (sym h) (rw (same_self op) (omega arith))
 begun_in (e ∷ past) op n c act d (suc k) l h =
     let m = begun_in past op n c act d k (omega arith) h in let j = less_begun e past op in omega arith
 
-found_begin : (past : List Entry) (op : OpName) (n c : ℕ) (act : Act) (d : Option ℕ) (k : ℕ) → k < length past → slice_index_or past k (Begin op n c act d) ≡ Begin op n c act d → begin_count past op ≤ 1
+found_begin : (past : List Entry) (op : OpName) (n c : ℕ) (act : RecordedAct) (d : Option ℕ) (k : ℕ) → k < length past → slice_index_or past k (Begin op n c act d) ≡ Begin op n c act d → begin_count past op ≤ 1
     → (act_of past op ≡ Some act) × (caller_of past op ≡ Some n)
 found_begin [] op n c act d k l h once = let bad : ⊥ = omega arith in elim bad [ ]
 found_begin (e ∷ past) op n c act d zero l h once =
@@ -77,7 +77,7 @@ found_begin (Begin other m e other_act x ∷ past) op n c act d (suc k) l h once
     go false few one again = again few
 found_begin (_ ∷ past) op n c act d (suc k) l h once = found_begin past op n c act d k (omega arith) h once
 
-pub begin_is_found : (past : List Entry) (op : OpName) (n c : ℕ) (act : Act) (d : Option ℕ) → Contains past (Begin op n c act d) → begin_count past op ≤ 1
+pub begin_is_found : (past : List Entry) (op : OpName) (n c : ℕ) (act : RecordedAct) (d : Option ℕ) → Contains past (Begin op n c act d) → begin_count past op ≤ 1
     → (act_of past op ≡ Some act) × (caller_of past op ≡ Some n)
 begin_is_found past op n c act d i once = found_begin past op n c act d i.0 i.1 i.2 once
 

@@ -1,15 +1,15 @@
 -- A survey stays live, or over, until it is begun anew or time goes on.
 use Rattle.std.proofs.Common.{◌≡◌, refl, ap, sym, subst, ◌∙◌, List, [], ◌∷◌, ℕ, Bool, true, false, cond, Option, Some, None}
 use Rattle.std.specs.Prelude.{not, ◌==◌, ◌&&◌, ◌++◌, map, drop, filter, find, is_some, if◌then◌else◌}
-use Rattle.sp_history.specs.declared.entry.Act.TheVariants.{Recv, Send}
+use Rattle.sp_history.specs.declared.entry.RecordedAct.TheVariants.{Recv, Send}
 use Rattle.sp_history.specs.declared.entry.Completion.TheVariants.{Received, Sent}
 use Rattle.sp_history.specs.declared.entry.Ending.{Ending}
 use Rattle.sp_history.specs.declared.entry.Ending.TheVariants.{Won, Gone}
-use Rattle.sp_history.specs.declared.entry.Gate.TheVariants.{Open, Shut}
+use Rattle.sp_history.specs.declared.entry.ContextChange.TheVariants.{Open, Shut}
 use Rattle.sp_history.specs.declared.entry.Entry.{Entry}
 use Rattle.sp_history.specs.declared.entry.Entry.TheVariants.{Begin, End, Frame, Out, Unkept, Tick, Ctx, Close}
 use Rattle.sp_history.specs.declared.parts.Begun.{Begun}
-use Rattle.sp_history.specs.declared.parts.Request.{Request}
+use Rattle.sp_history.specs.declared.parts.LiveRequest.{LiveRequest}
 use Rattle.sp_history.specs.declared.parts.Requests.{Requests}
 use Rattle.sp_history.specs.declared.setting.Setting.{Setting}
 use Rattle.sp_history.specs.Lists.{has, same_bytes}
@@ -35,10 +35,10 @@ none_rest f e entries h = go (f e) h
     go false h = h
 
 -- a request is live on the context
-abbrev has_live : ℕ → List Request → Bool
+abbrev has_live : ℕ → List LiveRequest → Bool
 has_live c rs = is_some (find (is_on c) rs)
 
-find_map : (f : Request → Request) → ((r : Request) → (f r).ctx ≡ r.ctx) → (c : ℕ) (rs : List Request) → has_live c (map f rs) ≡ has_live c rs
+find_map : (f : LiveRequest → LiveRequest) → ((r : LiveRequest) → (f r).ctx ≡ r.ctx) → (c : ℕ) (rs : List LiveRequest) → has_live c (map f rs) ≡ has_live c rs
 find_map f keeps c [] = refl
 find_map f keeps c (r ∷ rs) = go ((f r).ctx == c) (r.ctx == c) (ap (λ (n : ℕ). n == c) (keeps r)) (find_map f keeps c rs)
   where
@@ -48,21 +48,21 @@ find_map f keeps c (r ∷ rs) = go ((f r).ctx == c) (r.ctx == c) (ap (λ (n : �
     go true false e h = cc
     go false true e h = cc
 
-out_keeps : (t p : ℕ) (b : List ℕ) (r : Request) → (with_out t p b r).ctx ≡ r.ctx
+out_keeps : (t p : ℕ) (b : List ℕ) (r : LiveRequest) → (with_out t p b r).ctx ≡ r.ctx
 out_keeps t p b r = go (same_bytes b (wire_of r))
   where
     go : (x : Bool) → (if x then record r { last_out = Some (record { pipe = p; when = t }) } else r).ctx ≡ r.ctx
     go true = refl
     go false = refl
 
-taken_keeps : (c : ℕ) (r : Request) → (with_taken c r).ctx ≡ r.ctx
+taken_keeps : (c : ℕ) (r : LiveRequest) → (with_taken c r).ctx ≡ r.ctx
 taken_keeps c r = go (is_on c r)
   where
     go : (x : Bool) → (if x then record r { replies = drop 1 r.replies } else r).ctx ≡ r.ctx
     go true = refl
     go false = refl
 
-frame_keeps : (z : Setting) (past : List Entry) (p : ℕ) (b : List ℕ) (r : Request) → (with_frame z past p b r).ctx ≡ r.ctx
+frame_keeps : (z : Setting) (past : List Entry) (p : ℕ) (b : List ℕ) (r : LiveRequest) → (with_frame z past p b r).ctx ≡ r.ctx
 frame_keeps z past p b r = go (not (malformed z past p b) && is_for b r && has_room z r)
   where
     go : (x : Bool) → (if x then record r { replies = r.replies ++ plain_item p (drop 4 b) ∷ [] } else r).ctx ≡ r.ctx
@@ -97,7 +97,7 @@ survey_stays z asks survey c entries past h = rw asks (all_steps z survey c entr
 
 -- ---- One that is over
 
-none_left : (f : Request → Bool) (c : ℕ) (rs : List Request) → has_live c rs ≡ false → has_live c (filter f rs) ≡ false
+none_left : (f : LiveRequest → Bool) (c : ℕ) (rs : List LiveRequest) → has_live c rs ≡ false → has_live c (filter f rs) ≡ false
 none_left f c [] h = refl
 none_left f c (r ∷ rs) h = go (is_on c r) refl (f r) h (none_left f c rs)
   where

@@ -2,13 +2,13 @@
 use Rattle.std.specs.Prelude.{◌≡◌, ℕ, zero, suc, ◌-◌, ◌^◌, ◌≤◌, nat_le, nat_lt, Bool, true, false, not, ◌||◌, ⊤, if◌then◌else◌, List, [], ◌∷◌, ◌++◌, Option, Some, None}
 use Rattle.std.specs.List.{list_all}
 use Rattle.sp_base.specs.declared.OpName.{OpName}
-use Rattle.sp_history.specs.declared.entry.Act.{Act}
-use Rattle.sp_history.specs.declared.entry.Act.TheVariants.{Send}
+use Rattle.sp_history.specs.declared.entry.RecordedAct.{RecordedAct}
+use Rattle.sp_history.specs.declared.entry.RecordedAct.TheVariants.{Send}
 use Rattle.sp_history.specs.declared.entry.Ending.{Ending}
 use Rattle.sp_history.specs.declared.entry.Entry.{Entry}
 use Rattle.sp_history.specs.declared.entry.Entry.TheVariants.{Out, Begin, End, Took, Tick, Ctx, Close}
 use Rattle.sp_history.specs.declared.parts.LastOut.{LastOut}
-use Rattle.sp_history.specs.declared.parts.Request.{Request}
+use Rattle.sp_history.specs.declared.parts.LiveRequest.{LiveRequest}
 use Rattle.sp_history.specs.declared.setting.Setting.{Setting}
 use Rattle.sp_history.specs.Lists.{same_op}
 use Rattle.sp_history.specs.Past.{frames, outs, fulls, quiets, stalls, name_of, last_frame, down_for, caller_of, begins}
@@ -45,7 +45,7 @@ moves_surveys _ = false
 -- ---- Operations
 
 -- what the operation was begun to do
-abbrev pub act_of : List Entry → OpName → Option Act
+abbrev pub act_of : List Entry → OpName → Option RecordedAct
 act_of [] op = None
 act_of (Begin other k c act d ∷ past) op = if same_op other op then Some act else act_of past op
 act_of (_ ∷ past) op = act_of past op
@@ -124,5 +124,5 @@ is_by t None = true
 is_by t (Some o) = nat_le o.when t
 
 -- the request's last Out did
-abbrev pub is_out_by : ℕ → Request → Bool
+abbrev pub is_out_by : ℕ → LiveRequest → Bool
 is_out_by t r = is_by t r.last_out

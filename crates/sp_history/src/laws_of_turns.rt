@@ -5,7 +5,7 @@ ghost use Rattle.std.specs.Prelude.{◌≡◌, ◌↔◌, ◌^◌, ◌<◌, ◌�
 ghost use Rattle.std.specs.List.{Contains, list_any, list_all};
 ghost use Rattle.turn_lock.specs.declared.turn.Turn.{Turn};
 ghost use Rattle.turn_lock.specs.History.{turns_of};
-ghost use Rattle.sp_history.specs.declared.entry.Act.{Act};
+ghost use Rattle.sp_history.specs.declared.entry.RecordedAct.{RecordedAct};
 ghost use Rattle.sp_history.specs.declared.entry.Ending.{Ending};
 ghost use Rattle.sp_history.specs.declared.entry.Entry.{Entry};
 ghost use Rattle.sp_history.specs.declared.entry.Entry.TheVariants.{Begin, End};
@@ -33,7 +33,7 @@ pub fn own_turns_tell_what_is_open()
 /// A turn that begins an operation, and doesn't collect it, leaves it open; and so does a later turn that doesn't
 /// collect it.
 pub fn a_turn_leaves_it_open()
-    ensures begun { (z : Setting) (history : List (Turn Entry)) (t : Turn Entry) (early late : List Entry) (op : OpName) (k c : ℕ) (act : Act) (d : Option ℕ) → Legal z (history ++ t ∷ []) → t.entries ≡ early ++ Begin op k c act d ∷ late → none_of (collects op) late ≡ true → IsOpenOf k op (past_of (history ++ t ∷ [])) }
+    ensures begun { (z : Setting) (history : List (Turn Entry)) (t : Turn Entry) (early late : List Entry) (op : OpName) (k c : ℕ) (act : RecordedAct) (d : Option ℕ) → Legal z (history ++ t ∷ []) → t.entries ≡ early ++ Begin op k c act d ∷ late → none_of (collects op) late ≡ true → IsOpenOf k op (past_of (history ++ t ∷ [])) }
     ensures stays { (z : Setting) (history : List (Turn Entry)) (t : Turn Entry) (k : ℕ) (op : OpName) → Legal z (history ++ t ∷ []) → IsOpenOf k op (past_of history) → none_of (collects op) t.entries ≡ true → IsOpenOf k op (past_of (history ++ t ∷ [])) }
 {}
 
@@ -50,7 +50,7 @@ pub fn slots_are_taken()
 
 /// A begin and an end that stand in a past are found there, where the operation is begun and ends at most once.
 pub fn what_stands_is_found()
-    ensures begins { (past : List Entry) (op : OpName) (k c : ℕ) (act : Act) (d : Option ℕ) → Contains past (Begin op k c act d) → begin_count past op ≤ 1 → (act_of past op ≡ Some act) × (caller_of past op ≡ Some k) }
+    ensures begins { (past : List Entry) (op : OpName) (k c : ℕ) (act : RecordedAct) (d : Option ℕ) → Contains past (Begin op k c act d) → begin_count past op ≤ 1 → (act_of past op ≡ Some act) × (caller_of past op ≡ Some k) }
     ensures ends { (past : List Entry) (op : OpName) (ending : Ending) → Contains past (End op ending) → end_count past op ≤ 1 → end_of past op ≡ Some ending }
 {}
 

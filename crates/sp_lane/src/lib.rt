@@ -22,5 +22,5 @@ mod wire;
 
 pub use ends::{LaneEnd, LaneIn, LaneOut, finish, lane, tell};
 pub use inproc::{Inproc, InprocError};
-pub use item::{Item, Put, PutEnd, Taken};
+pub use item::{LaneItem, Put, PutEnd, Taken};
 pub use wire::LaneWire;

@@ -4,7 +4,7 @@ use Rattle.std.specs.Prelude.{map, filter, not, ◌≢◌, ◌==◌}
 use Rattle.std.proofs.lemmas.List.{get_or-set_same, get_or-set_other, length-set, length-append, length-map, length-replicate, map-append}
 use Rattle.std.proofs.lemmas.Option.{same_Some}
 use Rattle.sp_base.specs.declared.OpName.{OpName}
-use Rattle.sp_pending.specs.declared.pending.Pending.{Pending}
+use Rattle.sp_pending.specs.declared.pending.PendingOperation.{PendingOperation}
 use Rattle.sp_pending.specs.declared.rings.Rings.{Rings}
 use Rattle.sp_pending.specs.Rings.{at, IsPath, AreAlone, PutsLast, TakesOut}
 use Rattle.sp_pending.specs.Pendings.{is_named, others_than, slot_of, line_of, in_line, first_of, behind, IsAmong, IsIn, NotIn, Differ, place_at, ArePlaced, with_one, placed, shown, Keeps}
@@ -12,43 +12,43 @@ use Rattle.sp_pending.proofs.RingSteps.{same, is_same, differs, apart, not_in, i
 
 -- ---- Names
 
-pub named_self : (x : Pending) → is_named x.op x ≡ true
+pub named_self : (x : PendingOperation) → is_named x.op x ≡ true
 named_self x = rw (is_same x.op.slot x.op.slot refl, is_same x.op.generation x.op.generation refl) refl
 
-pub unnamed : (x y : Pending) → y.op.slot ≢ x.op.slot → is_named x.op y ≡ false
+pub unnamed : (x y : PendingOperation) → y.op.slot ≢ x.op.slot → is_named x.op y ≡ false
 unnamed x y n = rw (differs y.op.slot x.op.slot n) refl
 
-pub among_in : (x : Pending) (xs : List Pending) → IsAmong x xs → IsIn x.op.slot (map slot_of xs)
+pub among_in : (x : PendingOperation) (xs : List PendingOperation) → IsAmong x xs → IsIn x.op.slot (map slot_of xs)
 among_in x [] m = absurd m
 among_in x (y ∷ ys) (inl e) = inl (ap slot_of e)
 among_in x (y ∷ ys) (inr m) = inr (among_in x ys m)
 
-none_named : (x : Pending) (xs : List Pending) → NotIn x.op.slot (map slot_of xs) → filter (λ y. not (is_named x.op y)) xs ≡ xs
+none_named : (x : PendingOperation) (xs : List PendingOperation) → NotIn x.op.slot (map slot_of xs) → filter (λ y. not (is_named x.op y)) xs ≡ xs
 none_named x [] n = refl
-none_named x (y ∷ ys) n = rw (unnamed x y n.0) (ap (λ (zs : List Pending). y ∷ zs) (none_named x ys n.1))
+none_named x (y ∷ ys) n = rw (unnamed x y n.0) (ap (λ (zs : List PendingOperation). y ∷ zs) (none_named x ys n.1))
 
 -- what stands before the operation and behind it
-pub record Split (x : Pending) (xs : List Pending) : Type 0 where
-  pub fs : List Pending
-  pub gs : List Pending
+pub record Split (x : PendingOperation) (xs : List PendingOperation) : Type 0 where
+  pub fs : List PendingOperation
+  pub gs : List PendingOperation
   pub is : xs ≡ fs ++ x ∷ gs
   pub left : filter (λ y. not (is_named x.op y)) xs ≡ fs ++ gs
 
-pub split : (x : Pending) (xs : List Pending) → IsAmong x xs → Differ (map slot_of xs) → Split x xs
+pub split : (x : PendingOperation) (xs : List PendingOperation) → IsAmong x xs → Differ (map slot_of xs) → Split x xs
 split x [] m d = absurd m
 split x (y ∷ ys) (inl e) d =
     let there : is_named x.op y ≡ true = ap (is_named x.op) e ∙ named_self x in
-    let none : NotIn x.op.slot (map slot_of ys) = subst (λ (z : Pending). NotIn z.op.slot (map slot_of ys)) e d.0 in
-    record { fs = []; gs = ys; is = ap (λ (z : Pending). z ∷ ys) e; left = rw there (none_named x ys none) }
+    let none : NotIn x.op.slot (map slot_of ys) = subst (λ (z : PendingOperation). NotIn z.op.slot (map slot_of ys)) e d.0 in
+    record { fs = []; gs = ys; is = ap (λ (z : PendingOperation). z ∷ ys) e; left = rw there (none_named x ys none) }
 split x (y ∷ ys) (inr m) d =
     let r = split x ys m d.1 in
     let no : is_named x.op y ≡ false = unnamed x y (apart (map slot_of ys) y.op.slot x.op.slot d.0 (among_in x ys m)) in
-    record { fs = y ∷ r.fs; gs = r.gs; is = ap (λ (zs : List Pending). y ∷ zs) r.is; left = rw no (ap (λ (zs : List Pending). y ∷ zs) r.left) }
+    record { fs = y ∷ r.fs; gs = r.gs; is = ap (λ (zs : List PendingOperation). y ∷ zs) r.is; left = rw no (ap (λ (zs : List PendingOperation). y ∷ zs) r.left) }
 
 -- ---- Buckets
 
-module _ (p : Pending → Bool) where
-  not_in_filter : (xs : List Pending) (i : ℕ) → NotIn i (map slot_of xs) → NotIn i (map slot_of (filter p xs))
+module _ (p : PendingOperation → Bool) where
+  not_in_filter : (xs : List PendingOperation) (i : ℕ) → NotIn i (map slot_of xs) → NotIn i (map slot_of (filter p xs))
   not_in_filter [] i n = tt
   not_in_filter (x ∷ xs) i n = go (p x) (not_in_filter xs i n.1)
     where
@@ -56,7 +56,7 @@ module _ (p : Pending → Bool) where
       go true m = (n.0, m)
       go false m = m
 
-  pub differ_filter : (xs : List Pending) → Differ (map slot_of xs) → Differ (map slot_of (filter p xs))
+  pub differ_filter : (xs : List PendingOperation) → Differ (map slot_of xs) → Differ (map slot_of (filter p xs))
   differ_filter [] d = tt
   differ_filter (x ∷ xs) d = go (p x) (differ_filter xs d.1)
     where
@@ -64,7 +64,7 @@ module _ (p : Pending → Bool) where
       go true m = (not_in_filter xs x.op.slot d.0, m)
       go false m = m
 
-  pub placed_filter : (slots : ℕ) (places : List (Option Pending)) (xs : List Pending) → ArePlaced slots places xs → ArePlaced slots places (filter p xs)
+  pub placed_filter : (slots : ℕ) (places : List (Option PendingOperation)) (xs : List PendingOperation) → ArePlaced slots places xs → ArePlaced slots places (filter p xs)
   placed_filter slots places [] h = tt
   placed_filter slots places (x ∷ xs) h = go (p x) (placed_filter slots places xs h.2)
     where
@@ -73,91 +73,91 @@ module _ (p : Pending → Bool) where
       go false m = m
 
 module _ (slots n : ℕ) where
-  line_on : (fs gs : List Pending) (x : Pending) → line_of slots x.ctx ≡ n → in_line slots n (fs ++ x ∷ gs) ≡ in_line slots n fs ++ x ∷ in_line slots n gs
+  line_on : (fs gs : List PendingOperation) (x : PendingOperation) → line_of slots x.ctx ≡ n → in_line slots n (fs ++ x ∷ gs) ≡ in_line slots n fs ++ x ∷ in_line slots n gs
   line_on [] gs x e = rw (is_same (line_of slots x.ctx) n e) refl
   line_on (f ∷ fs) gs x e = go (line_of slots f.ctx == n) (line_on fs gs x e)
     where
       go : (b : Bool) → in_line slots n (fs ++ x ∷ gs) ≡ in_line slots n fs ++ x ∷ in_line slots n gs → cond b (f ∷ in_line slots n (fs ++ x ∷ gs)) (in_line slots n (fs ++ x ∷ gs)) ≡ cond b (f ∷ in_line slots n fs) (in_line slots n fs) ++ x ∷ in_line slots n gs
-      go true k = ap (λ (zs : List Pending). f ∷ zs) k
+      go true k = ap (λ (zs : List PendingOperation). f ∷ zs) k
       go false k = k
 
-  line_off : (fs gs : List Pending) (x : Pending) → line_of slots x.ctx ≢ n → in_line slots n (fs ++ x ∷ gs) ≡ in_line slots n (fs ++ gs)
+  line_off : (fs gs : List PendingOperation) (x : PendingOperation) → line_of slots x.ctx ≢ n → in_line slots n (fs ++ x ∷ gs) ≡ in_line slots n (fs ++ gs)
   line_off [] gs x e = rw (differs (line_of slots x.ctx) n e) refl
   line_off (f ∷ fs) gs x e = go (line_of slots f.ctx == n) (line_off fs gs x e)
     where
       go : (b : Bool) → in_line slots n (fs ++ x ∷ gs) ≡ in_line slots n (fs ++ gs) → cond b (f ∷ in_line slots n (fs ++ x ∷ gs)) (in_line slots n (fs ++ x ∷ gs)) ≡ cond b (f ∷ in_line slots n (fs ++ gs)) (in_line slots n (fs ++ gs))
-      go true k = ap (λ (zs : List Pending). f ∷ zs) k
+      go true k = ap (λ (zs : List PendingOperation). f ∷ zs) k
       go false k = k
 
-  line_parts : (fs gs : List Pending) → in_line slots n (fs ++ gs) ≡ in_line slots n fs ++ in_line slots n gs
+  line_parts : (fs gs : List PendingOperation) → in_line slots n (fs ++ gs) ≡ in_line slots n fs ++ in_line slots n gs
   line_parts [] gs = refl
   line_parts (f ∷ fs) gs = go (line_of slots f.ctx == n) (line_parts fs gs)
     where
       go : (b : Bool) → in_line slots n (fs ++ gs) ≡ in_line slots n fs ++ in_line slots n gs → cond b (f ∷ in_line slots n (fs ++ gs)) (in_line slots n (fs ++ gs)) ≡ cond b (f ∷ in_line slots n fs) (in_line slots n fs) ++ in_line slots n gs
-      go true k = ap (λ (zs : List Pending). f ∷ zs) k
+      go true k = ap (λ (zs : List PendingOperation). f ∷ zs) k
       go false k = k
 
-no_more : (xs : List Pending) → xs ++ [] ≡ xs
+no_more : (xs : List PendingOperation) → xs ++ [] ≡ xs
 no_more [] = refl
-no_more (x ∷ xs) = ap (λ (zs : List Pending). x ∷ zs) (no_more xs)
+no_more (x ∷ xs) = ap (λ (zs : List PendingOperation). x ∷ zs) (no_more xs)
 
 -- ---- Places
 
-module _ (slots : ℕ) (places : List (Option Pending)) where
-  head_out : (h : ℕ) (xs : List Pending) → slots ≤ h → ArePlaced slots places xs → NotIn h (map slot_of xs)
+module _ (slots : ℕ) (places : List (Option PendingOperation)) where
+  head_out : (h : ℕ) (xs : List PendingOperation) → slots ≤ h → ArePlaced slots places xs → NotIn h (map slot_of xs)
   head_out h [] l p = tt
   head_out h (x ∷ xs) l p = ((λ s. omega (arith, l, p.0, s)), head_out h xs l p.2)
 
-  slot_below : (i : ℕ) (xs : List Pending) → ArePlaced slots places xs → IsIn i (map slot_of xs) → i < slots
+  slot_below : (i : ℕ) (xs : List PendingOperation) → ArePlaced slots places xs → IsIn i (map slot_of xs) → i < slots
   slot_below i [] p m = absurd m
   slot_below i (x ∷ xs) p (inl s) = omega (arith, p.0, s)
   slot_below i (x ∷ xs) p (inr m) = slot_below i xs p.2 m
 
   -- a place of a ring stands in the lists of places
-  member_below : (n e i : ℕ) (xs : List Pending) → ArePlaced slots places xs → e < n → slots ≤ n → IsIn i (e ∷ map slot_of xs) → i < n
+  member_below : (n e i : ℕ) (xs : List PendingOperation) → ArePlaced slots places xs → e < n → slots ≤ n → IsIn i (e ∷ map slot_of xs) → i < n
   member_below n e i xs p l k (inl s) = omega (arith, l, s)
   member_below n e i xs p l k (inr m) = omega (arith, k, slot_below i xs p m)
 
-  placed_else : (i : ℕ) (v : Option Pending) (xs : List Pending) → NotIn i (map slot_of xs) → ArePlaced slots places xs → ArePlaced slots (set places i v) xs
+  placed_else : (i : ℕ) (v : Option PendingOperation) (xs : List PendingOperation) → NotIn i (map slot_of xs) → ArePlaced slots places xs → ArePlaced slots (set places i v) xs
   placed_else i v [] n h = tt
   placed_else i v (x ∷ xs) n h = (h.0, get_or-set_other places i x.op.slot v None n.0 ∙ h.1, placed_else i v xs n.1 h.2)
 
-  placed_append : (xs ys : List Pending) → ArePlaced slots places xs → ArePlaced slots places ys → ArePlaced slots places (xs ++ ys)
+  placed_append : (xs ys : List PendingOperation) → ArePlaced slots places xs → ArePlaced slots places ys → ArePlaced slots places (xs ++ ys)
   placed_append [] ys h k = k
   placed_append (x ∷ xs) ys h k = (h.0, h.1, placed_append xs ys h.2 k)
 
-  placed_without : (fs gs : List Pending) (x : Pending) → ArePlaced slots places (fs ++ x ∷ gs) → ArePlaced slots places (fs ++ gs)
+  placed_without : (fs gs : List PendingOperation) (x : PendingOperation) → ArePlaced slots places (fs ++ x ∷ gs) → ArePlaced slots places (fs ++ gs)
   placed_without [] gs x h = h.2
   placed_without (f ∷ fs) gs x h = (h.0, h.1, placed_without fs gs x h.2)
 
-  pub placed_here : (x : Pending) (xs : List Pending) → ArePlaced slots places xs → IsAmong x xs → (x.op.slot < slots) × (place_at places x.op.slot ≡ Some x)
+  pub placed_here : (x : PendingOperation) (xs : List PendingOperation) → ArePlaced slots places xs → IsAmong x xs → (x.op.slot < slots) × (place_at places x.op.slot ≡ Some x)
   placed_here x [] h m = absurd m
-  placed_here x (y ∷ ys) h (inl e) = subst (λ (z : Pending). (z.op.slot < slots) × (place_at places z.op.slot ≡ Some z)) e (h.0, h.1)
+  placed_here x (y ∷ ys) h (inl e) = subst (λ (z : PendingOperation). (z.op.slot < slots) × (place_at places z.op.slot ≡ Some z)) e (h.0, h.1)
   placed_here x (y ∷ ys) h (inr m) = placed_here x ys h.2 m
 
   -- what stands at the places of these is these
-  all_placed : (xs : List Pending) → ArePlaced slots places xs → placed places (map slot_of xs) ≡ xs
+  all_placed : (xs : List PendingOperation) → ArePlaced slots places xs → placed places (map slot_of xs) ≡ xs
   all_placed [] h = refl
-  all_placed (x ∷ xs) h = ap (λ (o : Option Pending). with_one o (placed places (map slot_of xs))) h.1 ∙ ap (λ (zs : List Pending). x ∷ zs) (all_placed xs h.2)
+  all_placed (x ∷ xs) h = ap (λ (o : Option PendingOperation). with_one o (placed places (map slot_of xs))) h.1 ∙ ap (λ (zs : List PendingOperation). x ∷ zs) (all_placed xs h.2)
 
   -- the operation of a slot in a bucket
-  on_line : (n i : ℕ) (xs : List Pending) → ArePlaced slots places xs → IsIn i (map slot_of (in_line slots n xs)) → (x : Pending) × (place_at places i ≡ Some x) × (line_of slots x.ctx ≡ n) × (i < slots)
+  on_line : (n i : ℕ) (xs : List PendingOperation) → ArePlaced slots places xs → IsIn i (map slot_of (in_line slots n xs)) → (x : PendingOperation) × (place_at places i ≡ Some x) × (line_of slots x.ctx ≡ n) × (i < slots)
   on_line n i [] h m = absurd m
   on_line n i (x ∷ xs) h m = go (λ k. on_line n i xs h.2 k) (line_of slots x.ctx == n) refl m
     where
-      go : (IsIn i (map slot_of (in_line slots n xs)) → (y : Pending) × (place_at places i ≡ Some y) × (line_of slots y.ctx ≡ n) × (i < slots)) → (b : Bool) → (line_of slots x.ctx == n) ≡ b → IsIn i (map slot_of (cond b (x ∷ in_line slots n xs) (in_line slots n xs))) → (y : Pending) × (place_at places i ≡ Some y) × (line_of slots y.ctx ≡ n) × (i < slots)
+      go : (IsIn i (map slot_of (in_line slots n xs)) → (y : PendingOperation) × (place_at places i ≡ Some y) × (line_of slots y.ctx ≡ n) × (i < slots)) → (b : Bool) → (line_of slots x.ctx == n) ≡ b → IsIn i (map slot_of (cond b (x ∷ in_line slots n xs) (in_line slots n xs))) → (y : PendingOperation) × (place_at places i ≡ Some y) × (line_of slots y.ctx ≡ n) × (i < slots)
       go rest true e (inl s) = (x, ap (place_at places) (sym s) ∙ h.1, same (line_of slots x.ctx) n e, omega (arith, h.0, s))
       go rest true e (inr k) = rest k
       go rest false e k = rest k
 
-  lines_apart : (n m i j : ℕ) (xs : List Pending) → n ≢ m → ArePlaced slots places xs → IsIn i (map slot_of (in_line slots n xs)) → IsIn j (map slot_of (in_line slots m xs)) → i ≢ j
+  lines_apart : (n m i j : ℕ) (xs : List PendingOperation) → n ≢ m → ArePlaced slots places xs → IsIn i (map slot_of (in_line slots n xs)) → IsIn j (map slot_of (in_line slots m xs)) → i ≢ j
   lines_apart n m i j xs o h a b s =
       let x = on_line n i xs h a in
       let y = on_line m j xs h b in
-      o (sym x.2 ∙ ap (λ (z : Pending). line_of slots z.ctx) (same_Some x.0 y.0 (sym x.1 ∙ ap (place_at places) s ∙ y.1)) ∙ y.2)
+      o (sym x.2 ∙ ap (λ (z : PendingOperation). line_of slots z.ctx) (same_Some x.0 y.0 (sym x.1 ∙ ap (place_at places) s ∙ y.1)) ∙ y.2)
 
   -- a member of one bucket's ring is none of another's
-  elsewhere : (n m i : ℕ) (xs : List Pending) → n ≢ m → ArePlaced slots places xs → IsIn i ((slots + n) ∷ map slot_of (in_line slots n xs)) → NotIn i ((slots + m) ∷ map slot_of (in_line slots m xs))
+  elsewhere : (n m i : ℕ) (xs : List PendingOperation) → n ≢ m → ArePlaced slots places xs → IsIn i ((slots + n) ∷ map slot_of (in_line slots n xs)) → NotIn i ((slots + m) ∷ map slot_of (in_line slots m xs))
   elsewhere n m i xs o h (inl s) =
       ((λ t. o (omega (arith, s, t))), subst (λ (k : ℕ). NotIn k (map slot_of (in_line slots m xs))) s (head_out (slots + n) (in_line slots m xs) (omega arith) (placed_filter (λ x. line_of slots x.ctx == m) slots places xs h)))
   elsewhere n m i xs o h (inr k) =
@@ -169,7 +169,7 @@ moved f g b c a xs ys e p q r h = subst (λ (zs : List ℕ). IsPath g c a zs e) 
 
 -- ---- What is seen
 
-pub seen : (slots : ℕ) (places : List (Option Pending)) (o l : Rings) (xs : List Pending) → Keeps slots places o l xs → shown slots places o ≡ xs
+pub seen : (slots : ℕ) (places : List (Option PendingOperation)) (o l : Rings) (xs : List PendingOperation) → Keeps slots places o l xs → shown slots places o ≡ xs
 seen slots places o l xs h =
     let out = head_out slots places slots xs (omega arith) h.are_placed in
     let few : length (map slot_of xs) ≤ slots = omega (arith, length-map xs slot_of, h.count) in
@@ -177,7 +177,7 @@ seen slots places o l xs h =
 
 -- ---- One more
 
-module _ (slots : ℕ) (places more : List (Option Pending)) (o l p q : Rings) (xs : List Pending) (x : Pending) where
+module _ (slots : ℕ) (places more : List (Option PendingOperation)) (o l p q : Rings) (xs : List PendingOperation) (x : PendingOperation) where
   pub put_in : Keeps slots places o l xs → x.op.slot < slots → NotIn x.op.slot (map slot_of xs) → length xs < slots → PutsLast slots x.op.slot o p → line_of slots x.ctx < slots → PutsLast (slots + line_of slots x.ctx) x.op.slot l q → more ≡ set places x.op.slot (Some x) → Keeps slots more p q (xs ++ x ∷ [])
   put_in h inside free room po lx pl pm =
       let i = x.op.slot in
@@ -190,7 +190,7 @@ module _ (slots : ℕ) (places more : List (Option Pending)) (o l p q : Rings) (
         few = h.few;
         count = omega (arith, room, length-append xs (x ∷ []));
         differ = subst Differ (sym slots_are) (differ-last (map slot_of xs) i h.differ free);
-        are_placed = subst (λ (ys : List (Option Pending)). ArePlaced slots ys (xs ++ x ∷ [])) (sym pm) (placed_append slots (set places i (Some x)) xs (x ∷ []) (placed_else slots places i (Some x) xs free h.are_placed) (inside, here, tt));
+        are_placed = subst (λ (ys : List (Option PendingOperation)). ArePlaced slots ys (xs ++ x ∷ [])) (sym pm) (placed_append slots (set places i (Some x)) xs (x ∷ []) (placed_else slots places i (Some x) xs free h.are_placed) (inside, here, tt));
         in_order = moved _ p.after.items _ p.before.items slots _ (map slot_of (xs ++ x ∷ [])) slots po.0 po.1 slots_are
             (put_at o.after.items o.before.items i slots slots (map slot_of xs) h.in_order (out, h.differ) out ((λ s. omega (arith, s, inside)), free) (λ s. omega (arith, s, inside)) (omega (arith, last, h.order_after)) (omega (arith, inside, h.order_after)) (omega (arith, h.order_before)) (omega (arith, inside, h.order_before)));
         in_lines = λ n k. lined n k (line_of slots x.ctx == n) refl;
@@ -210,7 +210,7 @@ module _ (slots : ℕ) (places more : List (Option Pending)) (o l p q : Rings) (
           let i = x.op.slot in
           let n = line_of slots x.ctx in
           let ys = in_line slots n xs in
-          let test : Pending → Bool = λ y. line_of slots y.ctx == n in
+          let test : PendingOperation → Bool = λ y. line_of slots y.ctx == n in
           let there = placed_filter test slots places xs h.are_placed in
           let out = head_out slots places (slots + n) ys (omega arith) there in
           let last : at l.before.items (slots + n) < slots + slots = member_below slots places (slots + slots) (slots + n) (at l.before.items (slots + n)) ys there (omega (arith, lx)) (omega arith) in_ring in
@@ -223,7 +223,7 @@ module _ (slots : ℕ) (places more : List (Option Pending)) (o l p q : Rings) (
       lined n k false e =
           let i = x.op.slot in
           let m = line_of slots x.ctx in
-          let test : Pending → Bool = λ y. line_of slots y.ctx == n in
+          let test : PendingOperation → Bool = λ y. line_of slots y.ctx == n in
           let far : m ≢ n = (λ s. let no : true ≡ false = sym (is_same m n s) ∙ e in absurd cc) in
           let ys = map slot_of (in_line slots n xs) in
           let last = at l.before.items (slots + m) in
@@ -234,7 +234,7 @@ module _ (slots : ℕ) (places more : List (Option Pending)) (o l p q : Rings) (
 
 -- ---- One fewer
 
-module _ (slots : ℕ) (places fewer : List (Option Pending)) (o l p q : Rings) (xs : List Pending) (x : Pending) where
+module _ (slots : ℕ) (places fewer : List (Option PendingOperation)) (o l p q : Rings) (xs : List PendingOperation) (x : PendingOperation) where
   pub taken_out : Keeps slots places o l xs → IsAmong x xs → line_of slots x.ctx < slots → TakesOut x.op.slot o p → TakesOut x.op.slot l q → fewer ≡ set places x.op.slot None → Keeps slots fewer p q (filter (λ y. not (is_named x.op y)) xs)
   taken_out h m lx po pl pm = subst (Keeps slots fewer p q) (sym s.left) rest
     where
@@ -283,7 +283,7 @@ module _ (slots : ℕ) (places fewer : List (Option Pending)) (o l p q : Rings) 
       on_it : IsPath q.after.items q.before.items (slots + line_of slots x.ctx) (map slot_of (in_line slots (line_of slots x.ctx) (s.fs ++ s.gs))) (slots + line_of slots x.ctx)
       on_it =
           let n = line_of slots x.ctx in
-          let test : Pending → Bool = λ y. line_of slots y.ctx == n in
+          let test : PendingOperation → Bool = λ y. line_of slots y.ctx == n in
           let placed_there = placed_filter test slots places xs h.are_placed in
           let no_head = subst (NotIn (slots + n)) line_slots (head_out slots places (slots + n) (in_line slots n xs) (omega arith) placed_there) in
           let apart_there = subst Differ line_slots (differ_filter test xs h.differ) in
@@ -312,7 +312,7 @@ module _ (slots : ℕ) (places fewer : List (Option Pending)) (o l p q : Rings) 
             few = h.few;
             count = omega (arith, h.count, ap length s.is, length-append s.fs (x ∷ s.gs), length-append s.fs s.gs);
             differ = subst Differ (sym rest_are) differ.0;
-            are_placed = subst (λ (zs : List (Option Pending)). ArePlaced slots zs (s.fs ++ s.gs)) (sym pm) (placed_else slots places x.op.slot None (s.fs ++ s.gs) (subst (NotIn x.op.slot) (sym rest_are) differ.1) (placed_without slots places s.fs s.gs x there));
+            are_placed = subst (λ (zs : List (Option PendingOperation)). ArePlaced slots zs (s.fs ++ s.gs)) (sym pm) (placed_else slots places x.op.slot None (s.fs ++ s.gs) (subst (NotIn x.op.slot) (sym rest_are) differ.1) (placed_without slots places s.fs s.gs x there));
             in_order = moved _ p.after.items _ p.before.items slots _ _ slots po.0 po.1 rest_are
                 (removed o.after.items o.before.items x.op.slot slots slots (map slot_of s.fs) (map slot_of s.gs) path (out slots (omega arith), subst Differ slots_are h.differ) (out slots (omega arith)) (omega (arith, b, h.order_after)) (omega (arith, a, h.order_before)));
             in_lines = λ n k. lined n k (line_of slots x.ctx == n) refl;
@@ -326,18 +326,18 @@ module _ (slots : ℕ) (places fewer : List (Option Pending)) (o l p q : Rings) 
 -- ---- The next one
 
 -- the place behind this one tells what comes
-abbrev pub Tells : ℕ → List (Option Pending) → List ℕ → ℕ → ℕ → Option Pending → Type 0
+abbrev pub Tells : ℕ → List (Option PendingOperation) → List ℕ → ℕ → ℕ → Option PendingOperation → Type 0
 Tells slots places f a e r = (at f a ≡ e → r ≡ None) × (at f a ≢ e → (at f a < slots) × (place_at places (at f a) ≡ r))
 
-module _ (slots : ℕ) (places : List (Option Pending)) (f b : List ℕ) (e : ℕ) where
-  pub first_is : (a : ℕ) (xs : List Pending) → IsPath f b a (map slot_of xs) e → ArePlaced slots places xs → slots ≤ e → Tells slots places f a e (first_of xs)
+module _ (slots : ℕ) (places : List (Option PendingOperation)) (f b : List ℕ) (e : ℕ) where
+  pub first_is : (a : ℕ) (xs : List PendingOperation) → IsPath f b a (map slot_of xs) e → ArePlaced slots places xs → slots ≤ e → Tells slots places f a e (first_of xs)
   first_is a [] h p l = ((λ s. refl), (λ n. absurd (n h.0)))
   first_is a (x ∷ xs) h p l = ((λ s. absurd (omega (arith, s, h.0, p.0, l))), (λ n. (omega (arith, h.0, p.0), ap (place_at places) h.0 ∙ p.1)))
 
-  pub behind_is : (a : ℕ) (x : Pending) (xs : List Pending) → IsAmong x xs → Differ (map slot_of xs) → IsPath f b a (map slot_of xs) e → ArePlaced slots places xs → slots ≤ e → Tells slots places f x.op.slot e (behind x.op xs)
+  pub behind_is : (a : ℕ) (x : PendingOperation) (xs : List PendingOperation) → IsAmong x xs → Differ (map slot_of xs) → IsPath f b a (map slot_of xs) e → ArePlaced slots places xs → slots ≤ e → Tells slots places f x.op.slot e (behind x.op xs)
   behind_is a x [] m d h p l = absurd m
   behind_is a x (y ∷ ys) (inl s) d h p l =
-      subst (λ (z : Pending). Tells slots places f z.op.slot e (behind z.op (y ∷ ys))) s (subst (λ (c : Bool). Tells slots places f y.op.slot e (cond c (first_of ys) (behind y.op ys))) (sym (named_self y)) (first_is y.op.slot ys h.2 p.2 l))
+      subst (λ (z : PendingOperation). Tells slots places f z.op.slot e (behind z.op (y ∷ ys))) s (subst (λ (c : Bool). Tells slots places f y.op.slot e (cond c (first_of ys) (behind y.op ys))) (sym (named_self y)) (first_is y.op.slot ys h.2 p.2 l))
   behind_is a x (y ∷ ys) (inr m) d h p l =
       let no : is_named x.op y ≡ false = unnamed x y (apart (map slot_of ys) y.op.slot x.op.slot d.0 (among_in x ys m)) in
       subst (λ (c : Bool). Tells slots places f x.op.slot e (cond c (first_of ys) (behind x.op ys))) (sym no) (behind_is y.op.slot x ys m d.1 h.2 p.2 l)
@@ -350,7 +350,7 @@ any_default [] i d e l = absurd (omega (arith, l))
 any_default (x ∷ xs) zero d e l = refl
 any_default (x ∷ xs) (suc i) d e l = any_default xs i d e (omega (arith, l))
 
-pub among_filter : (p : Pending → Bool) (x : Pending) (xs : List Pending) → p x ≡ true → IsAmong x xs → IsAmong x (filter p xs)
+pub among_filter : (p : PendingOperation → Bool) (x : PendingOperation) (xs : List PendingOperation) → p x ≡ true → IsAmong x xs → IsAmong x (filter p xs)
 among_filter p x [] e m = absurd m
 among_filter p x (y ∷ ys) e (inl s) = rw (ap p s ∙ e) (inl s)
 among_filter p x (y ∷ ys) e (inr m) = go (p y) (among_filter p x ys e m)
@@ -360,11 +360,11 @@ among_filter p x (y ∷ ys) e (inr m) = go (p y) (among_filter p x ys e m)
     go false k = k
 
 -- this place tells what comes, if it isn't the head
-abbrev pub PlaceTells : List (Option Pending) → ℕ → ℕ → Option Pending → Type 0
-PlaceTells places n head r = (n ≡ head → r ≡ None) × (n ≢ head → (n < length places) × ((d : Option Pending) → get_or places n d ≡ r))
+abbrev pub PlaceTells : List (Option PendingOperation) → ℕ → ℕ → Option PendingOperation → Type 0
+PlaceTells places n head r = (n ≡ head → r ≡ None) × (n ≢ head → (n < length places) × ((d : Option PendingOperation) → get_or places n d ≡ r))
 
-module _ (slots : ℕ) (places : List (Option Pending)) (o l : Rings) (xs : List Pending) (h : Keeps slots places o l xs) where
-  told : (f : List ℕ) (a e n : ℕ) (r : Option Pending) → Tells slots places f a e r → n ≡ at f a → PlaceTells places n e r
+module _ (slots : ℕ) (places : List (Option PendingOperation)) (o l : Rings) (xs : List PendingOperation) (h : Keeps slots places o l xs) where
+  told : (f : List ℕ) (a e n : ℕ) (r : Option PendingOperation) → Tells slots places f a e r → n ≡ at f a → PlaceTells places n e r
   told f a e n r t s = (
     (λ q. t.0 (sym s ∙ q)),
     (λ q. let k = t.1 (λ u. q (s ∙ u)) in let inside : n < length places = omega (arith, k.0, s, h.place_count) in (inside, λ d. any_default places n d None inside ∙ ap (place_at places) s ∙ k.1)),
@@ -380,11 +380,11 @@ module _ (slots : ℕ) (places : List (Option Pending)) (o l : Rings) (xs : List
       let t = told l.after.items (slots + line) (slots + line) n (first_of ys) (first_is slots places l.after.items l.before.items (slots + line) (slots + line) ys (h.in_lines line k) (placed_filter (λ x. line_of slots x.ctx == line) slots places xs h.are_placed) (omega arith)) (s ∙ ap (at l.after.items) e) in
       subst (λ (i : ℕ). PlaceTells places n i (first_of ys)) (sym e) t
 
-  pub line_next_told : (x : Pending) (head n : ℕ) → IsAmong x xs → head ≡ slots + line_of slots x.ctx → line_of slots x.ctx < slots → n ≡ at l.after.items x.op.slot → PlaceTells places n head (behind x.op (in_line slots (line_of slots x.ctx) xs))
+  pub line_next_told : (x : PendingOperation) (head n : ℕ) → IsAmong x xs → head ≡ slots + line_of slots x.ctx → line_of slots x.ctx < slots → n ≡ at l.after.items x.op.slot → PlaceTells places n head (behind x.op (in_line slots (line_of slots x.ctx) xs))
   line_next_told x head n m e k s =
       let line = line_of slots x.ctx in
       let ys = in_line slots line xs in
-      let p : Pending → Bool = λ y. line_of slots y.ctx == line in
+      let p : PendingOperation → Bool = λ y. line_of slots y.ctx == line in
       let there = among_filter p x xs (is_same line line refl) m in
       let next = behind_is slots places l.after.items l.before.items (slots + line) (slots + line) x ys there (differ_filter p xs h.differ) (h.in_lines line k) (placed_filter p slots places xs h.are_placed) (omega arith) in
       subst (λ (i : ℕ). PlaceTells places n i (behind x.op ys)) (sym e) (told l.after.items x.op.slot (slots + line) n (behind x.op ys) next s)
@@ -402,10 +402,10 @@ module _ (slots : ℕ) (places : List (Option Pending)) (o l : Rings) (xs : List
       let same : at l.before.items head ≡ at l.before.items (slots + line) = ap (at l.before.items) e in
       (omega (arith, e, b, h.lines_before), omega (arith, k, h.lines_before), omega (arith, k, h.lines_after), omega (arith, last, same, h.lines_after))
 
-  pub slot_inside : (x : Pending) → IsAmong x xs → x.op.slot < slots
+  pub slot_inside : (x : PendingOperation) → IsAmong x xs → x.op.slot < slots
   slot_inside x m = (placed_here slots places x xs h.are_placed m).0
 
-  pub order_neighbours : (x : Pending) → IsAmong x xs → (x.op.slot < length o.before.items) × (x.op.slot < length o.after.items) × (at o.before.items x.op.slot < length o.after.items) × (at o.after.items x.op.slot < length o.before.items)
+  pub order_neighbours : (x : PendingOperation) → IsAmong x xs → (x.op.slot < length o.before.items) × (x.op.slot < length o.after.items) × (at o.before.items x.op.slot < length o.after.items) × (at o.after.items x.op.slot < length o.before.items)
   order_neighbours x m =
       let k = slot_inside x m in
       let among = among_in x xs m in
@@ -413,11 +413,11 @@ module _ (slots : ℕ) (places : List (Option Pending)) (o l : Rings) (xs : List
       let a : at o.after.items x.op.slot < slots + 1 = member_below slots places (slots + 1) slots (at o.after.items x.op.slot) xs h.are_placed (omega arith) (omega arith) (after_in o.after.items o.before.items slots (map slot_of xs) slots x.op.slot h.in_order among) in
       (omega (arith, k, h.order_before), omega (arith, k, h.order_after), omega (arith, b, h.order_after), omega (arith, a, h.order_before))
 
-  pub line_neighbours : (x : Pending) → IsAmong x xs → line_of slots x.ctx < slots → (x.op.slot < length l.before.items) × (x.op.slot < length l.after.items) × (at l.before.items x.op.slot < length l.after.items) × (at l.after.items x.op.slot < length l.before.items)
+  pub line_neighbours : (x : PendingOperation) → IsAmong x xs → line_of slots x.ctx < slots → (x.op.slot < length l.before.items) × (x.op.slot < length l.after.items) × (at l.before.items x.op.slot < length l.after.items) × (at l.after.items x.op.slot < length l.before.items)
   line_neighbours x m lx =
       let k = slot_inside x m in
       let line = line_of slots x.ctx in
-      let p : Pending → Bool = λ y. line_of slots y.ctx == line in
+      let p : PendingOperation → Bool = λ y. line_of slots y.ctx == line in
       let ys = in_line slots line xs in
       let there = placed_filter p slots places xs h.are_placed in
       let among = among_in x ys (among_filter p x xs (is_same line line refl) m) in
@@ -426,7 +426,7 @@ module _ (slots : ℕ) (places : List (Option Pending)) (o l : Rings) (xs : List
       (omega (arith, k, h.lines_before), omega (arith, k, h.lines_after), omega (arith, b, h.lines_after), omega (arith, a, h.lines_before))
 
 -- at the start
-pub made : (slots : ℕ) (places : List (Option Pending)) (o l : Rings) → 0 < slots → slots ≤ 4096 → places ≡ replicate slots None → AreAlone (slots + 1) o.after.items → AreAlone (slots + 1) o.before.items → AreAlone (slots + slots) l.after.items → AreAlone (slots + slots) l.before.items → Keeps slots places o l []
+pub made : (slots : ℕ) (places : List (Option PendingOperation)) (o l : Rings) → 0 < slots → slots ≤ 4096 → places ≡ replicate slots None → AreAlone (slots + 1) o.after.items → AreAlone (slots + 1) o.before.items → AreAlone (slots + slots) l.after.items → AreAlone (slots + slots) l.before.items → Keeps slots places o l []
 made slots places o l s f p oa ob la lb = record {
   some = s;
   few = f;
@@ -446,6 +446,6 @@ pub line_below : (slots c : ℕ) → 0 < slots → line_of slots c < slots
 line_below slots c s = search arith
 
 -- the operation of this name is taken out
-pub named_out : (slots : ℕ) (places : List (Option Pending)) (o l p q : Rings) (xs : List Pending) (x : Pending) (op : OpName) → x.op ≡ op → Keeps slots places o l xs → IsAmong x xs → TakesOut op.slot o p → TakesOut op.slot l q → Keeps slots (set places op.slot None) p q (others_than op xs)
+pub named_out : (slots : ℕ) (places : List (Option PendingOperation)) (o l p q : Rings) (xs : List PendingOperation) (x : PendingOperation) (op : OpName) → x.op ≡ op → Keeps slots places o l xs → IsAmong x xs → TakesOut op.slot o p → TakesOut op.slot l q → Keeps slots (set places op.slot None) p q (others_than op xs)
 named_out slots places o l p q xs x op e h m =
     subst (λ (n : OpName). TakesOut n.slot o p → TakesOut n.slot l q → Keeps slots (set places n.slot None) p q (others_than n xs)) e (λ a b. taken_out slots places (set places x.op.slot None) o l p q xs x h m (line_below slots x.ctx h.some) a b refl)

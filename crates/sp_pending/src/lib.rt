@@ -15,4 +15,4 @@
 mod pending;
 mod rings;
 
-pub use pending::{Pending, PendingOps};
+pub use pending::{PendingOperation, PendingOps};

@@ -4,7 +4,7 @@
 //! are numbered one after the other, so two that are open share one only where as many contexts as slots were opened
 //! from the one to the other.
 ghost use Rattle.std.specs.Prelude.{◌≡◌, ◌<◌, ◌≤◌, ◌+◌, ◌==◌, ◌++◌, ◌∷◌, [], map, length, replicate, None, IfOk};
-ghost use Rattle.sp_pending.specs.declared.pending.Pending.{Pending as PendingType};
+ghost use Rattle.sp_pending.specs.declared.pending.PendingOperation.{PendingOperation as PendingOperationType};
 ghost use Rattle.sp_pending.specs.Pendings.{NotIn, Differ, IsAmong, FindsOn, slot_of, others_than, in_line, line_of, first_of, behind};
 
 use crate::rings::Rings;
@@ -14,14 +14,14 @@ use std::marker::Model;
 
 /// An operation that was begun and has not ended.
 #[derive(Clone, Copy)]
-pub struct Pending {
+pub struct PendingOperation {
     /// Its name.
     pub op: OpName,
     /// The context that it was begun on.
     pub ctx: Ctx,
 }
 
-impl Pending {
+impl PendingOperation {
     /// Its name.
     pub fn name(&self) -> OpName
         ensures { result ≡ self.now.op }
@@ -43,7 +43,7 @@ pub struct PendingOps {
     // Slots are the numbers below this.
     slots: u32,
     // By slot: its operation, where it is pending.
-    places: Vec<Option<Pending>>,
+    places: Vec<Option<PendingOperation>>,
     // All slots of pending operations, in the order of their begins, behind the place `slots`.
     order: Rings,
     // Those of each bucket, behind the place `slots` and its number.
@@ -61,7 +61,7 @@ impl Model for PendingOps {
 }
 
 // A place for each slot, with nothing there.
-fn no_places(alloc: Global, slots: u32) -> Result<Vec<Option<Pending>>, NoMemory>
+fn no_places(alloc: Global, slots: u32) -> Result<Vec<Option<PendingOperation>>, NoMemory>
     ensures { IfOk result (λ v. v.items ≡ replicate slots None) }
 {
     let mut places = Vec::with_capacity(alloc, slots as usize)?;
@@ -103,12 +103,12 @@ impl PendingOps {
         let head = self.head_of(ctx);
         self.order.put_last(self.slots, op.slot);
         self.lines.put_last(head, op.slot);
-        self.places[op.slot as usize] = Some(Pending { op, ctx });
+        self.places[op.slot as usize] = Some(PendingOperation { op, ctx });
     }
 
     /// The pending operation has ended.
     pub fn take_out(&mut self, op: OpName)
-        requires { (x : PendingType) × IsAmong x self.old.items × (x.op ≡ op) }
+        requires { (x : PendingOperationType) × IsAmong x self.old.items × (x.op ≡ op) }
         ensures { self.new ≡ record self.old { items = others_than op self.old.items } }
     {
         self.order.take_out(op.slot);
@@ -117,7 +117,7 @@ impl PendingOps {
     }
 
     /// The one that was begun first.
-    pub fn first(&self) -> Option<Pending>
+    pub fn first(&self) -> Option<PendingOperation>
         ensures { result ≡ first_of self.now.items }
     {
         let slot = self.order.next(self.slots);
@@ -128,7 +128,7 @@ impl PendingOps {
     }
 
     /// The first in the bucket of the context.
-    pub fn first_in_line(&self, ctx: Ctx) -> Option<Pending>
+    pub fn first_in_line(&self, ctx: Ctx) -> Option<PendingOperation>
         ensures { result ≡ first_of (in_line self.now.slots (line_of self.now.slots ctx) self.now.items) }
     {
         let head = self.head_of(ctx);
@@ -140,7 +140,7 @@ impl PendingOps {
     }
 
     /// The next in the bucket of the pending operation.
-    pub fn next_in_line(&self, x: &Pending) -> Option<Pending>
+    pub fn next_in_line(&self, x: &PendingOperation) -> Option<PendingOperation>
         requires { IsAmong x.now self.now.items }
         ensures apart { Differ (map slot_of self.now.items) }
         ensures next { result ≡ behind x.now.op (in_line self.now.slots (line_of self.now.slots x.now.ctx) self.now.items) }

@@ -4,9 +4,9 @@ use Rattle.std.specs.Prelude.{◌==◌, ◌||◌, ◌&&◌, ◌≢◌}
 use Rattle.std.proofs.lemmas.Bool.Decides.{nat_tests}
 use Rattle.sp_base.specs.declared.OpName.{OpName}
 use Rattle.sp_history.specs.declared.entry.Entry.TheVariants.{Ctx}
-use Rattle.sp_history.specs.declared.entry.Gate.TheVariants.{Shut}
+use Rattle.sp_history.specs.declared.entry.ContextChange.TheVariants.{Shut}
 use Rattle.sp_history.specs.declared.parts.Begun.{Begun}
-use Rattle.sp_history.specs.declared.parts.Request.{Request}
+use Rattle.sp_history.specs.declared.parts.LiveRequest.{LiveRequest}
 use Rattle.sp_history.specs.declared.setting.Setting.{Setting}
 use Rattle.sp_history.specs.Lists.{has}
 use Rattle.sp_history.specs.Setting.{is_sub, is_req, is_reply, has_topics}
@@ -27,7 +27,7 @@ no_shut t c l h =
 pub no_topics : {A : Type 0} (z : Setting) → is_sub z.role ≡ false → has_topics z ≡ true → A
 no_topics z n f = let k : false ≡ true = rw n at f in absurd cc
 
-pub no_again : {A : Type 0} (t : Moment) (c p : ℕ) (r : Request) → is_req t.z.role ≡ false → CanAgain t c p r → A
+pub no_again : {A : Type 0} (t : Moment) (c p : ℕ) (r : LiveRequest) → is_req t.z.role ≡ false → CanAgain t c p r → A
 no_again t c p r n k = let q : false ≡ true = rw n at k.sends_again in absurd cc
 
 pub no_drop : {A : Type 0} (t : Moment) (op : OpName) (s : Begun) → is_reply t.z.role ≡ false → CanDrop t op s → A

@@ -3,8 +3,8 @@ use Rattle.std.specs.Prelude.{◌≡◌, ⊤, ℕ, Bool, false, List, [], ◌∷
 use Rattle.std.proofs.Common.{refl, ap, sym, subst}
 use Rattle.std.proofs.Math.Path.{fun_ext}
 use Rattle.sp_base.specs.declared.OpName.{OpName}
-use Rattle.sp_history.specs.declared.entry.Act.{Act}
-use Rattle.sp_history.specs.declared.entry.Act.TheVariants as acts
+use Rattle.sp_history.specs.declared.entry.RecordedAct.{RecordedAct}
+use Rattle.sp_history.specs.declared.entry.RecordedAct.TheVariants as acts
 use Rattle.sp_history.specs.declared.entry.Entry.{Entry}
 use Rattle.sp_history.specs.declared.entry.Entry.TheVariants.{Up, Down, Out, Met, NoUp, Quiet, Stall, Clear, Taken, Took}
 use Rattle.sp_history.specs.declared.parts.Begun.{Begun}
@@ -37,7 +37,7 @@ out_last (Out p b ∷ past) = p
 out_last (_ ∷ past) = out_last past
 
 -- what a machine may depend on
-pub record Reading : Type 0 where
+pub record MomentReading : Type 0 where
   pub kind : Kind
   -- the pipes that are up, in the order in which they came up, and in that in which they were last put to use; the number
   -- of the last that came up, and that of the last Out; which were found full in this turn
@@ -59,7 +59,7 @@ pub record Reading : Type 0 where
   pub requests : Requests
   pub now : ℕ
 
-abbrev pub reading : Moment → Reading
+abbrev pub reading : Moment → MomentReading
 reading t =
     record {
       kind = kind_of t.z;
@@ -92,7 +92,7 @@ leaves t (Took op by) h = (refl, refl)
 leaves t _ h = absurd h
 
 -- so a machine that depends on the reading alone stands as before
-pub stays : {M : Type 0} (Stands : M → Reading → Type 0) (m : M) (t : Moment) (e : Entry) → IsSilent e → Stands m (reading t) → Stands m (reading (also t e))
+pub stays : {M : Type 0} (Stands : M → MomentReading → Type 0) (m : M) (t : Moment) (e : Entry) → IsSilent e → Stands m (reading t) → Stands m (reading (also t e))
 stays Stands m t e h k = subst (Stands m) (leaves t e h).0 k
 
 -- ---- An empty past
@@ -108,7 +108,7 @@ reads_alike t slots callers caller e = go t.turn t.before e
     other : Setting
     other = setting_of (kind_of t.z) slots callers
 
-    bytes : (s : Begun) (a : Act) → bytes_of_act t.z [] s a ≡ bytes_of_act other [] s a
+    bytes : (s : Begun) (a : RecordedAct) → bytes_of_act t.z [] s a ≡ bytes_of_act other [] s a
     bytes s acts.Recv = refl
     bytes s (acts.Send m) = refl
 
@@ -118,6 +118,6 @@ reads_alike t slots callers caller e = go t.turn t.before e
     go (e ∷ turn) before h = absurd (subst IsNil (sym h) tt)
 
 -- so a machine that depends on the reading alone stands for the empty past of every socket of its kind
-pub starts : {M : Type 0} (Stands : M → Reading → Type 0) (m : M) (t : Moment) (k : Kind) → kind_of t.z ≡ k → past t ≡ [] → Stands m (reading t) → Starts (λ (n : M) (u : Moment). Stands n (reading u)) m k
+pub starts : {M : Type 0} (Stands : M → MomentReading → Type 0) (m : M) (t : Moment) (k : Kind) → kind_of t.z ≡ k → past t ≡ [] → Stands m (reading t) → Starts (λ (n : M) (u : Moment). Stands n (reading u)) m k
 starts Stands m t k h e s slots callers caller =
     subst (λ (j : Kind). Stands m (reading (start (setting_of j slots callers) caller))) h (subst (Stands m) (reads_alike t slots callers caller e) s)

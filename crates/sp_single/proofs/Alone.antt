@@ -7,7 +7,7 @@ use Rattle.turn_lock.specs.declared.turn.Turn.{Turn}
 use Rattle.turn_lock.specs.History.{turns_of, OthersAfter}
 use Rattle.sp_base.specs.declared.OpName.{OpName}
 use Rattle.aio_word.specs.declared.phase.Phase.TheVariants.{Expired}
-use Rattle.aio_word.specs.declared.rule.Entry as word
+use Rattle.aio_word.specs.declared.rule.ShownOperation as word
 use Rattle.aio_word.specs.Views.{Each}
 use Rattle.sp_history.specs.declared.entry.Entry.{Entry}
 use Rattle.sp_history.specs.declared.setting.Setting.{Setting}
@@ -122,12 +122,12 @@ is_open s l q op j o = subst (λ (h : List (Turn Entry)). IsOpen 1 op h) j.mine 
 
 -- its wins stay
 pub wins_stay : (s : SocketName) (l : ListView) (p q : PassView) → IsSingle s l p → KeepsSeat p q → Each (λ e. e.phase ≡ Expired) q.wins
-wins_stay s l p q i k = subst (λ (ws : List word.Entry). Each (λ e. e.phase ≡ Expired) ws) (sym k.0) i.wins
+wins_stay s l p q i k = subst (λ (ws : List word.ShownOperation). Each (λ e. e.phase ≡ Expired) ws) (sym k.0) i.wins
 
 -- so they do where an operation was collected or read
 pub collected_wins : (s : SocketName) (l : ListView) (p q : PassView) (r : Collected) (op : OpName) → IsSingle s l p → ReadsFor r op p q → Each (λ e. e.phase ≡ Expired) q.wins
-collected_wins s l p q (collected.NotYet o) op i f = subst (λ (ws : List word.Entry). Each (λ e. e.phase ≡ Expired) ws) (sym f.wins) i.wins
-collected_wins s l p q (collected.Ended outcome) op i f = subst (λ (ws : List word.Entry). Each (λ e. e.phase ≡ Expired) ws) (sym f.3.wins) i.wins
+collected_wins s l p q (collected.NotYet o) op i f = subst (λ (ws : List word.ShownOperation). Each (λ e. e.phase ≡ Expired) ws) (sym f.wins) i.wins
+collected_wins s l p q (collected.Ended outcome) op i f = subst (λ (ws : List word.ShownOperation). Each (λ e. e.phase ≡ Expired) ws) (sym f.3.wins) i.wins
 
 -- where it has not ended it stays open
 pub collected_open : (s : SocketName) (l : ListView) (p q : PassView) (r : Collected) (op : OpName) (v : SingleView) → single_of p ≡ v → IsSingle s l p → IsSingle s l q → opens.KeepsOthers r op p q → IsOpen 1 op v.seen → StaysOpen r op (single_of q)

@@ -14,7 +14,7 @@ use Rattle.sp_history.specs.Past.{past_of, ends, pending}
 use Rattle.sp_history.specs.Legal.{Legal, AreAllowed, Allowed, MayCome, MayEndAs}
 use Rattle.sp_history.proofs.Backing.{legal_allowed}
 use Rattle.sp_history.proofs.OnceHolds.{has_value}
-use Rattle.sp_socket.proofs.Ended.{stands_end}
+use Rattle.sp_socket.proofs.EndsByCaller.{stands_end}
 
 abbrev CancelledBy : Setting → List Entry → Type 0
 CancelledBy z before = (op : OpName) (by : ℕ) → Stands (op, Gone Cancelled by) (ends before) → (1 ≤ by) × (by ≤ z.callers)

@@ -4,16 +4,16 @@ use Rattle.sp_base.specs.declared.OpName.{OpName}
 use Rattle.aio_word.specs.declared.answers.Raced.{Raced}
 use Rattle.aio_word.specs.declared.answers.Raced.TheVariants as races
 use Rattle.aio_word.specs.declared.phase.Phase.TheVariants as phase
-use Rattle.aio_word.specs.declared.rule.Entry as word
+use Rattle.aio_word.specs.declared.rule.ShownOperation as word
 use Rattle.aio_word.specs.Answers.{of_op}
 use Rattle.aio_word.specs.Views.{Each}
 use Rattle.sp_socket.specs.Expiring.{Hand, RacedAs, Tried, TriedAll}
 use Rattle.sp_socket.specs.declared.config.Ticked.{Ticked}
 
-abbrev AllExpired : List word.Entry → Type 0
+abbrev AllExpired : List word.ShownOperation → Type 0
 AllExpired ws = Each (λ e. e.phase ≡ phase.Expired) ws
 
-one_more : (ws : List word.Entry) (e : word.Entry) → AllExpired ws → e.phase ≡ phase.Expired → AllExpired (ws ++ e ∷ [])
+one_more : (ws : List word.ShownOperation) (e : word.ShownOperation) → AllExpired ws → e.phase ≡ phase.Expired → AllExpired (ws ++ e ∷ [])
 one_more [] e a x = (x, tt)
 one_more (w ∷ ws) e a x = (a.0, one_more ws e a.1 x)
 

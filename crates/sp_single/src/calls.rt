@@ -1,7 +1,7 @@
 //! The calls, each one turn.
 ghost use Rattle.std.specs.Prelude.{◌≡◌, ◌≢◌, ◌++◌, ◌∷◌, [], length, Err, IfErr, IfOk, true};
 ghost use Rattle.sp_proto.specs.Kinds.{text_of};
-ghost use Rattle.sp_history.specs.declared.entry.Act.TheVariants as acts;
+ghost use Rattle.sp_history.specs.declared.entry.RecordedAct.TheVariants as acts;
 ghost use Rattle.sp_history.specs.declared.entry.Entry.TheVariants as entries;
 ghost use Rattle.sp_history.specs.Past.{past_of, up, is_closed};
 ghost use Rattle.sp_history.specs.Swept.{IsSwept, AreFlushed};

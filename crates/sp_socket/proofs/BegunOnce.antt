@@ -3,7 +3,7 @@ use Rattle.std.proofs.Common.{◌≡◌, refl, ap, sym, ◌∙◌, subst, List, 
 use Rattle.std.specs.Prelude.{Option, None}
 use Rattle.turn_lock.specs.declared.turn.Turn.{Turn}
 use Rattle.sp_base.specs.declared.OpName.{OpName}
-use Rattle.sp_history.specs.declared.entry.Act.{Act}
+use Rattle.sp_history.specs.declared.entry.RecordedAct.{RecordedAct}
 use Rattle.sp_history.specs.declared.entry.Entry.{Entry}
 use Rattle.sp_history.specs.declared.entry.Entry.TheVariants.{Begin}
 use Rattle.sp_history.specs.declared.setting.Setting.{Setting}
@@ -41,7 +41,7 @@ no_caller (_ ∷ p) op h = no_caller p op h
 no_one : (k : ℕ) → None ≡ Some k → ⊥
 no_one k h = cc
 
-module _ (z : Setting) (past : List (Turn Entry)) (t : Turn Entry) (op : OpName) (k c : ℕ) (act : Act) (d : Option ℕ) (l : Legal z (past ++ t ∷ [])) (b : HasBegin op k c act d t) where
+module _ (z : Setting) (past : List (Turn Entry)) (t : Turn Entry) (op : OpName) (k c : ℕ) (act : RecordedAct) (d : Option ℕ) (l : Legal z (past ++ t ∷ [])) (b : HasBegin op k c act d t) where
   begun_never : begin_count (past_of past) op ≡ 0
   begun_never =
       let p = past_of past in

@@ -20,7 +20,7 @@ use Rattle.sp_history.proofs.Backing.{legal_allowed}
 use Rattle.sp_history.proofs.OnceHolds.{Counted, counted_next, same_op-refl, same_op-eq, occurs-append, occurs-without_other}
 use Rattle.sp_socket.specs.Due.{IsDueIn, IsDueBefore, AllWereDue}
 use Rattle.sp_socket.proofs.Dues.{stands_last}
-use Rattle.sp_socket.proofs.Ended.{stands_end}
+use Rattle.sp_socket.proofs.EndsByCaller.{stands_end}
 
 -- ---- Lists
 

@@ -5,10 +5,10 @@ use Rattle.std.specs.Prelude.{◌≢◌, not, ◌&&◌, max, Option, Some, None,
 use Rattle.turn_lock.specs.declared.turn.Turn.{Turn}
 use Rattle.sp_base.specs.declared.OpName.{OpName}
 use Rattle.sp_msg.specs.Views.{WireView}
-use Rattle.sp_history.specs.declared.entry.Act.{Act}
+use Rattle.sp_history.specs.declared.entry.RecordedAct.{RecordedAct}
 use Rattle.sp_history.specs.declared.entry.Entry.{Entry}
 use Rattle.sp_history.specs.declared.entry.Entry.TheVariants.{Took, Tick, Close, Begin, Ctx, Topic}
-use Rattle.sp_history.specs.declared.entry.Gate.TheVariants.{Open, Shut}
+use Rattle.sp_history.specs.declared.entry.ContextChange.TheVariants.{Open, Shut}
 use Rattle.sp_history.specs.declared.entry.Switch.TheVariants.{On, Off}
 use Rattle.sp_history.specs.declared.entry.Totals.{Totals}
 use Rattle.sp_history.specs.declared.parts.Begun.{Begun}
@@ -70,7 +70,7 @@ leaves h t n = λ op o. n op
 
 -- ---- Calls
 
-pub none_began : (r : Result OpName BeginError) (z : Setting) (h : List (Turn Entry)) (t : Turn Entry) (k c : ℕ) (act : Act) (d : Option ℕ) → BeganBy r z h t k c act d → NoneTaken t.entries
+pub none_began : (r : Result OpName BeginError) (z : Setting) (h : List (Turn Entry)) (t : Turn Entry) (k c : ℕ) (act : RecordedAct) (d : Option ℕ) → BeganBy r z h t k c act d → NoneTaken t.entries
 none_began (Ok op) z h t k c act d b = λ x. subst (NotTaken x) (sym b.entries) (none_both x b.early (Begin op k c act d ∷ b.late) (none_settling x b.early b.early_settles) (none_settling x b.late b.late_settles))
 none_began (Err e) z h t k c act d b = none_in t.entries b.0
 

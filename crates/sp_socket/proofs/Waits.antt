@@ -5,7 +5,7 @@ use Rattle.std.proofs.lemmas.Bool.Decides.{nat_tests}
 use Rattle.turn_lock.specs.declared.turn.Turn.{Turn}
 use Rattle.turn_lock.specs.History.{turns_of}
 use Rattle.sp_base.specs.declared.OpName.{OpName}
-use Rattle.aio_word.specs.declared.rule.Entry as word
+use Rattle.aio_word.specs.declared.rule.ShownOperation as word
 use Rattle.aio_word.specs.declared.phase.Phase.TheVariants.{Pending}
 use Rattle.aio_word.specs.Answers.{of_op}
 use Rattle.aio_word.specs.Views.{Each}
@@ -119,7 +119,7 @@ turn_more op o before mid after w same t r keeps =
     let n = before.number in
     let others = t.others in
     let last = t.turn in
-    let seen_last : word.Entry = of_op op Pending 0 in
+    let seen_last : word.ShownOperation = of_op op Pending 0 in
     let number : last.number ≡ n = t.number ∙ w.same.0 in
     let past : t.past ≡ (before.seen ++ w.between) ++ others.0 = others.1 ∙ ap (λ (h : List (Turn Entry)). h ++ others.0) w.seen in
     let asked : CollectedBy (collected.NotYet op) op n ((before.seen ++ w.between) ++ others.0) last = subst (λ (h : List (Turn Entry)). CollectedBy (collected.NotYet op) op n h last) past (refl, t.said.1, t.said.2) in
@@ -135,7 +135,7 @@ turn_more op o before mid after w same t r keeps =
       unended = each_more (λ (x : Turn Entry). NotEnded op x.entries) w.own last w.unended (unended t.label.setting op o mid.number t.past last (subst (Legal t.label.setting) t.seen t.legal) t.said);
       wins = r.wins ∙ w.wins;
       more = w.more ++ (r.others ++ seen_last ∷ []);
-      reads = r.read ∙ ap (λ (es : List word.Entry). (es ++ r.others) ++ seen_last ∷ []) w.reads ∙ grouped (before.reads ++ w.more) r.others (seen_last ∷ []) ∙ grouped before.reads w.more (r.others ++ seen_last ∷ []);
+      reads = r.read ∙ ap (λ (es : List word.ShownOperation). (es ++ r.others) ++ seen_last ∷ []) w.reads ∙ grouped (before.reads ++ w.more) r.others (seen_last ∷ []) ∙ grouped before.reads w.more (r.others ++ seen_last ∷ []);
       open_ = λ x h. keeps x (w.open_ x h);
     }
 
@@ -153,7 +153,7 @@ looked_more op before mid after w l =
       unended = w.unended;
       wins = l.wins ∙ w.wins;
       more = w.more ++ l.more;
-      reads = l.reads ∙ ap (λ (es : List word.Entry). es ++ l.more) w.reads ∙ grouped before.reads w.more l.more;
+      reads = l.reads ∙ ap (λ (es : List word.ShownOperation). es ++ l.more) w.reads ∙ grouped before.reads w.more l.more;
       open_ = λ x h. l.still.open_ x (w.open_ x h);
     }
 
@@ -161,12 +161,12 @@ looked_more op before mid after w l =
 pub no_look : (p : PassView) → HasLookedOn p p
 no_look p = record { still = record { same = (refl, refl, refl); seen = refl; mine = refl; open_ = λ o h. h }; wins = refl; more = []; reads = plus_none p.reads }
 
-look_grows : (r : Polled) (k slots : ℕ) (op : OpName) (a b : Hand) → PolledAs r k slots op a b → (b.0 ≡ a.0) × ((more : List word.Entry) × (b.1 ≡ a.1 ++ more))
+look_grows : (r : Polled) (k slots : ℕ) (op : OpName) (a b : Hand) → PolledAs r k slots op a b → (b.0 ≡ a.0) × ((more : List word.ShownOperation) × (b.1 ≡ a.1 ++ more))
 look_grows polled.Pending k slots op a b h = (h.0, (of_op op Pending 0 ∷ [], h.1))
 look_grows (polled.Ended p by) k slots op a b h = (h.1, (of_op op p by ∷ [], h.2))
 look_grows polled.Stale k slots op a b h = (h.0, found h.1)
   where
-    found : (((slots ≤ op.slot) × (b.1 ≡ a.1)) ⊎ ((op.slot < slots) × ((e : word.Entry) × IsOfAnother op e × (b.1 ≡ a.1 ++ e ∷ [])))) → (more : List word.Entry) × (b.1 ≡ a.1 ++ more)
+    found : (((slots ≤ op.slot) × (b.1 ≡ a.1)) ⊎ ((op.slot < slots) × ((e : word.ShownOperation) × IsOfAnother op e × (b.1 ≡ a.1 ++ e ∷ [])))) → (more : List word.ShownOperation) × (b.1 ≡ a.1 ++ more)
     found (inl x) = ([], x.1 ∙ plus_none a.1)
     found (inr x) = (x.1.0 ∷ [], x.1.2)
 
@@ -177,7 +177,7 @@ look_more r k slots op before mid after l t p =
       still = record { same = same_twice before mid after l.still.same t.same; seen = t.seen ∙ l.still.seen; mine = t.mine ∙ l.still.mine; open_ = λ x h. t.open_ x (l.still.open_ x h) };
       wins = g.0 ∙ l.wins;
       more = l.more ++ g.1.0;
-      reads = g.1.1 ∙ ap (λ (es : List word.Entry). es ++ g.1.0) l.reads ∙ grouped before.reads l.more g.1.0;
+      reads = g.1.1 ∙ ap (λ (es : List word.ShownOperation). es ++ g.1.0) l.reads ∙ grouped before.reads l.more g.1.0;
     }
 
 -- the last turn

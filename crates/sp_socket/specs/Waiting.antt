@@ -3,7 +3,7 @@ use Rattle.std.specs.Prelude.{◌≡◌, ℕ, ⊤, false, List, [], ◌∷◌, �
 use Rattle.turn_lock.specs.declared.turn.Turn.{Turn}
 use Rattle.turn_lock.specs.History.{turns_of}
 use Rattle.sp_base.specs.declared.OpName.{OpName}
-use Rattle.aio_word.specs.declared.rule.Entry as word
+use Rattle.aio_word.specs.declared.rule.ShownOperation as word
 use Rattle.aio_word.specs.Views.{Each}
 use Rattle.sp_history.specs.declared.entry.Entry.{Entry}
 use Rattle.sp_history.specs.declared.entry.Entry.TheVariants.{End}
@@ -25,7 +25,7 @@ NotEnded op (_ ∷ es) = NotEnded op es
 pub record HasLookedOn (before after : PassView) : Type 0 where
   pub still : TakesNoTurn before after
   pub wins : after.wins ≡ before.wins
-  pub more : List word.Entry
+  pub more : List word.ShownOperation
   pub reads : after.reads ≡ before.reads ++ more
 
 -- behind this history each turn of the caller k collected, and found the operation pending
@@ -45,7 +45,7 @@ pub record Waits (op : OpName) (before now : PassView) : Type 0 where
   pub collect : AreCollectings op before.number before.seen between
   pub unended : Each (λ t. NotEnded op t.entries) own
   pub wins : now.wins ≡ before.wins
-  pub more : List word.Entry
+  pub more : List word.ShownOperation
   pub reads : now.reads ≡ before.reads ++ more
   pub open_ : KeepsOpen before now
 

@@ -4,7 +4,7 @@ ghost use Rattle.sp_socket.specs.Passes.{IsOf};
 ghost use Rattle.sp_socket.specs.Open.{KeepsPass};
 ghost use Rattle.sp_socket.specs.Turns.{TookTurn};
 
-use crate::acts::{CloseCtx, OpenCtx, Subscribe, Unsubscribe};
+use crate::acts::{CloseCtx, OpenCtx, SubscribeTopic, Unsubscribe};
 use crate::pass::Pass;
 use crate::socket::Socket;
 use sp_base::Ctx;
@@ -48,7 +48,7 @@ impl<P: Proto, W: Wire> Socket<P, W> {
         ensures pass { KeepsPass pass.old pass.new }
         ensures turn { TookTurn (λ z h t. SubscribedBy result z h t c topic.now) pass.old pass.new }
     {
-        self.act::<Subscribe<'_>, R>(rt, pass, Subscribe { c, topic })
+        self.act::<SubscribeTopic<'_>, R>(rt, pass, SubscribeTopic { c, topic })
     }
 
     /// Takes a topic off for the context (NNG_OPT_SUB_UNSUBSCRIBE of nng_sub(7)). What is kept for it and no topic

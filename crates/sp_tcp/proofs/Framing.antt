@@ -10,7 +10,7 @@ use Rattle.sp_tcp.specs.Readings.{IsPart, IsTooLong}
 use Rattle.sp_tcp.specs.Outlets.{SentWithin}
 use Rattle.sp_tcp.specs.TcpWires.{number_in, told_number, greatest, taken_in, put_in, ReadsAs, WritesAs}
 use Rattle.sp_tcp.proofs.Writes.{sent_le}
-use Rattle.sp_tcp.proofs.Marks.{plain_frames}
+use Rattle.sp_tcp.proofs.MarkedFrames.{plain_frames}
 
 pub number_text : (role : ℕ) (bodies : List (List ℕ)) (rest : List ℕ) → role < 2 ^ 16 → number_in (text role bodies ++ rest) ≡ role
 number_text role bodies rest lt = from_be_bytes-to_be_bytes_2 role lt

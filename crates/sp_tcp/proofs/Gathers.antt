@@ -6,12 +6,12 @@ use Rattle.std.proofs.lemmas.List.{length-append, length-take, length-drop, take
 use Rattle.std.specs.Int.{w64, to_be_bytes}
 use Rattle.sp_spec.specs.SpTcp.{frame, frames}
 use Rattle.sp_msg.specs.Views.{MessageView, wire_text}
-use Rattle.sp_tcp.specs.Views.{StageView}
+use Rattle.sp_tcp.specs.Views.{WriteStageView}
 use Rattle.sp_tcp.specs.Stages.{added, gathered}
 use Rattle.sp_tcp.specs.Marked.{marked, marked_all, head_of}
 use Rattle.sp_tcp.specs.Outlets.{SentWithin, Passed, IsLongRest}
 use Rattle.sp_tcp.proofs.Buffers.{take_apart}
-use Rattle.sp_tcp.proofs.Marks.{marked-nil, marked-cons, marked-append, marked-is, length-marked}
+use Rattle.sp_tcp.proofs.MarkedFrames.{marked-nil, marked-cons, marked-append, marked-is, length-marked}
 
 pub frames-nil : [] ≡ frames []
 unfolding frames
@@ -58,14 +58,14 @@ over_two most skip base a b =
     ∙ append_assoc base (take k x) (take (k - length x) y)
     ∙ ap (λ t. base ++ t) (sym (take_append k x y) ∙ ap (take k) (sym (drop_append skip a b)))
 
-added_two : (s : StageView) (skip : ℕ) (a b : List ℕ) → added (added s skip a) (skip - length a) b ≡ added s skip (a ++ b)
+added_two : (s : WriteStageView) (skip : ℕ) (a b : List ℕ) → added (added s skip a) (skip - length a) b ≡ added s skip (a ++ b)
 added_two s skip a b = λ i. record s { bytes = over_two s.most skip s.bytes a b i }
 
-pub added_three : (s s1 s2 s3 : StageView) (skip k1 k2 k3 : ℕ) (a b c : List ℕ) → s1 ≡ added s skip a → k1 ≡ skip - length a → s2 ≡ added s1 k1 b → k2 ≡ k1 - length b → s3 ≡ added s2 k2 c → k3 ≡ k2 - length c → (s3 ≡ added s skip (a ++ (b ++ c))) × (k3 ≡ skip - length (a ++ (b ++ c)))
+pub added_three : (s s1 s2 s3 : WriteStageView) (skip k1 k2 k3 : ℕ) (a b c : List ℕ) → s1 ≡ added s skip a → k1 ≡ skip - length a → s2 ≡ added s1 k1 b → k2 ≡ k1 - length b → s3 ≡ added s2 k2 c → k3 ≡ k2 - length c → (s3 ≡ added s skip (a ++ (b ++ c))) × (k3 ≡ skip - length (a ++ (b ++ c)))
 added_three s s1 s2 s3 skip k1 k2 k3 a b c e1 f1 e2 f2 e3 f3 =
-    let two : s2 ≡ added s skip (a ++ b) = e2 ∙ ap (λ (x : StageView). added x k1 b) e1 ∙ ap (λ (k : ℕ). added (added s skip a) k b) f1 ∙ added_two s skip a b in
+    let two : s2 ≡ added s skip (a ++ b) = e2 ∙ ap (λ (x : WriteStageView). added x k1 b) e1 ∙ ap (λ (k : ℕ). added (added s skip a) k b) f1 ∙ added_two s skip a b in
     let k : k2 ≡ skip - length (a ++ b) = omega (arith, f1, f2, length-append a b) in (
-      e3 ∙ ap (λ (x : StageView). added x k2 c) two ∙ ap (λ (j : ℕ). added (added s skip (a ++ b)) j c) k ∙ added_two s skip (a ++ b) c ∙ ap (added s skip) (append_assoc a b c),
+      e3 ∙ ap (λ (x : WriteStageView). added x k2 c) two ∙ ap (λ (j : ℕ). added (added s skip (a ++ b)) j c) k ∙ added_two s skip (a ++ b) c ∙ ap (added s skip) (append_assoc a b c),
       omega (arith, f3, k, length-append a b, length-append b c, length-append a (b ++ c)),
     )
 
@@ -76,9 +76,9 @@ frame_is m head size e f = ap (λ (t : List ℕ). t ++ (m.header ++ m.body)) (e 
 -- ---- one frame after the other
 
 -- the bytes before its size, and the frame
-pub added_marked : (mark : List ℕ) (s s1 s2 : StageView) (skip k1 k2 : ℕ) (t : List ℕ) → s1 ≡ added s skip mark → k1 ≡ skip - length mark → s2 ≡ added s1 k1 (frame t) → k2 ≡ k1 - length (frame t) → (s2 ≡ added s skip (marked mark t)) × (k2 ≡ skip - length (marked mark t))
+pub added_marked : (mark : List ℕ) (s s1 s2 : WriteStageView) (skip k1 k2 : ℕ) (t : List ℕ) → s1 ≡ added s skip mark → k1 ≡ skip - length mark → s2 ≡ added s1 k1 (frame t) → k2 ≡ k1 - length (frame t) → (s2 ≡ added s skip (marked mark t)) × (k2 ≡ skip - length (marked mark t))
 added_marked mark s s1 s2 skip k1 k2 t e1 f1 e2 f2 = (
-  e2 ∙ ap (λ (x : StageView). added x k1 (frame t)) e1 ∙ ap (λ (k : ℕ). added (added s skip mark) k (frame t)) f1 ∙ added_two s skip mark (frame t) ∙ ap (added s skip) (marked-is mark t),
+  e2 ∙ ap (λ (x : WriteStageView). added x k1 (frame t)) e1 ∙ ap (λ (k : ℕ). added (added s skip mark) k (frame t)) f1 ∙ added_two s skip mark (frame t) ∙ ap (added s skip) (marked-is mark t),
   omega (arith, f2, f1, length-append mark (frame t), ap length (marked-is mark t)),
 )
 
@@ -93,25 +93,25 @@ frames_one_more mark items m i lt e =
     ∙ ap (λ t. frames_to mark items i ++ t) (marked-cons mark (wire_text (get_or items i m)) [] ∙ ap (λ t. marked mark (wire_text (get_or items i m)) ++ t) (sym (marked-nil mark)) ∙ append-nil (marked mark (wire_text (get_or items i m))))
     ∙ ap (λ (x : MessageView). frames_to mark items i ++ marked mark (wire_text x)) (sym e)
 
-abbrev emptied : StageView → StageView
+abbrev emptied : WriteStageView → WriteStageView
 emptied s = record s { bytes = [] }
 
-gathered_is : (s : StageView) (skip : ℕ) (text : List ℕ) → gathered s skip text ≡ added (emptied s) skip text
+gathered_is : (s : WriteStageView) (skip : ℕ) (text : List ℕ) → gathered s skip text ≡ added (emptied s) skip text
 gathered_is s skip text = let k : s.most ≡ s.most - 0 = omega arith in λ i. record s { bytes = take (k i) (drop skip text) }
 
-pub gather_first : (mark : List ℕ) (s s1 : StageView) (items : List MessageView) (sent : ℕ) → s1 ≡ emptied s → (s1 ≡ gathered s1 sent (frames_to mark items 0)) × (sent ≡ sent - length (frames_to mark items 0))
+pub gather_first : (mark : List ℕ) (s s1 : WriteStageView) (items : List MessageView) (sent : ℕ) → s1 ≡ emptied s → (s1 ≡ gathered s1 sent (frames_to mark items 0)) × (sent ≡ sent - length (frames_to mark items 0))
 gather_first mark s s1 items sent e =
     let none : drop sent (marked_all mark []) ≡ [] = ap (drop sent) (sym (marked-nil mark)) ∙ drop_all sent [] (omega arith) in
-    let nothing : take s1.most (drop sent (marked_all mark [])) ≡ s1.bytes = ap (take s1.most) none ∙ take_all s1.most [] (omega arith) ∙ sym (ap (λ (x : StageView). x.bytes) e) in
+    let nothing : take s1.most (drop sent (marked_all mark [])) ≡ s1.bytes = ap (take s1.most) none ∙ take_all s1.most [] (omega arith) ∙ sym (ap (λ (x : WriteStageView). x.bytes) e) in
     (λ i. record s1 { bytes = sym nothing i }, omega (arith, ap length (marked-nil mark)))
 
-pub gather_more : (mark : List ℕ) (s now next : StageView) (items : List MessageView) (m : MessageView) (i sent skip after : ℕ) → i < length items → m ≡ get_or items i m → now ≡ gathered s sent (frames_to mark items i) → skip ≡ sent - length (frames_to mark items i) → next ≡ added now skip (marked mark (wire_text m)) → after ≡ skip - length (marked mark (wire_text m)) → (next ≡ gathered s sent (frames_to mark items (i + 1))) × (after ≡ sent - length (frames_to mark items (i + 1)))
+pub gather_more : (mark : List ℕ) (s now next : WriteStageView) (items : List MessageView) (m : MessageView) (i sent skip after : ℕ) → i < length items → m ≡ get_or items i m → now ≡ gathered s sent (frames_to mark items i) → skip ≡ sent - length (frames_to mark items i) → next ≡ added now skip (marked mark (wire_text m)) → after ≡ skip - length (marked mark (wire_text m)) → (next ≡ gathered s sent (frames_to mark items (i + 1))) × (after ≡ sent - length (frames_to mark items (i + 1)))
 gather_more mark s now next items m i sent skip after lt e is k n a =
     let done : List ℕ = frames_to mark items i in
     let t : List ℕ = marked mark (wire_text m) in
     let more = frames_one_more mark items m i lt e in (
       n
-          ∙ ap (λ (x : StageView). added x skip t) (is ∙ gathered_is s sent done)
+          ∙ ap (λ (x : WriteStageView). added x skip t) (is ∙ gathered_is s sent done)
           ∙ ap (λ (j : ℕ). added (added (emptied s) sent done) j t) k
           ∙ added_two (emptied s) sent done t
           ∙ sym (gathered_is s sent (done ++ t))
@@ -119,8 +119,8 @@ gather_more mark s now next items m i sent skip after lt e is k n a =
       omega (arith, a, k, ap length more, length-append done t),
     )
 
-pub gather_all : (mark : List ℕ) (s s1 now : StageView) (items : List MessageView) (n sent : ℕ) → s1 ≡ emptied s → length items ≤ n → now ≡ gathered s1 sent (frames_to mark items n) → now ≡ gathered s sent (marked_all mark (map wire_text items))
-gather_all mark s s1 now items n sent e all is = is ∙ ap (λ (x : List MessageView). gathered s1 sent (marked_all mark (map wire_text x))) (take_all n items all) ∙ ap (λ (x : StageView). gathered x sent (marked_all mark (map wire_text items))) e
+pub gather_all : (mark : List ℕ) (s s1 now : WriteStageView) (items : List MessageView) (n sent : ℕ) → s1 ≡ emptied s → length items ≤ n → now ≡ gathered s1 sent (frames_to mark items n) → now ≡ gathered s sent (marked_all mark (map wire_text items))
+gather_all mark s s1 now items n sent e all is = is ∙ ap (λ (x : List MessageView). gathered s1 sent (marked_all mark (map wire_text x))) (take_all n items all) ∙ ap (λ (x : WriteStageView). gathered x sent (marked_all mark (map wire_text items))) e
 
 -- ---- frames that are wholly written
 

@@ -14,7 +14,7 @@ use Rattle.sp_tcp.specs.Links.{ReadCounts, WriteCounts}
 use Rattle.sp_tcp.specs.Inlets.{PullAnswer}
 use Rattle.sp_tcp.specs.Outlets.{FlushAnswer}
 use Rattle.sp_tcp.specs.TcpWires.{MarksHold}
-use Rattle.sp_tcp.proofs.Marks.{plain_part, plain_bad}
+use Rattle.sp_tcp.proofs.MarkedFrames.{plain_part, plain_bad}
 
 apart : (b : Bool) → b ≡ false → b ≡ true → ⊥
 apart b e f = cc

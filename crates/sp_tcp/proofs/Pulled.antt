@@ -14,7 +14,7 @@ use Rattle.sp_msg.proofs.Shown.{after_pull}
 use Rattle.sp_tcp.specs.Inlets.{PullAnswer, PulledFrom}
 use Rattle.sp_tcp.specs.TcpWires.{number_in, told_number, taken_in, put_in, WritesAs, TcpState, wire_name, wire_of, tcp_view, Holds, Framed, PullCause, TcpPulled}
 use Rattle.sp_tcp.proofs.Gathers.{frames-nil}
-use Rattle.sp_tcp.proofs.Marks.{plain_frame, plain_part, plain_bad}
+use Rattle.sp_tcp.proofs.MarkedFrames.{plain_frame, plain_part, plain_bad}
 use Rattle.sp_tcp.proofs.MarksKept.{pulled_marks, ready_pulled}
 use Rattle.sp_tcp.proofs.Framing.{with_texts, with_none, with_one, part_begins, long_begins, told_reads, taken_on, number_on}
 use Rattle.sp_tcp.proofs.Framed.{framed, all_shown, next_fits, next_long}

@@ -14,7 +14,7 @@ use Rattle.sp_tcp.specs.Outlets.{SentWithin, IsLongRest, Passed, WroteFront, Wro
 use Rattle.sp_tcp.proofs.Buffers.{take_apart}
 use Rattle.sp_tcp.proofs.Pulls.{grown-nil, grown-grown}
 use Rattle.sp_tcp.proofs.Gathers.{first_within, long_front}
-use Rattle.sp_tcp.proofs.Marks.{marked-nil, marked-cons, marked-append, length-marked}
+use Rattle.sp_tcp.proofs.MarkedFrames.{marked-nil, marked-cons, marked-append, length-marked}
 
 pub went_none : (l : LinkView) → Went [] l l
 went_none l = record { place = refl; scheme = refl; came = refl; written = grown-nil l.written; is_open = refl }

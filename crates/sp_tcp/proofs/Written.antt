@@ -22,7 +22,7 @@ use Rattle.sp_tcp.specs.TcpWires.{greatest, told_number, taken_in, put_in, Reads
 use Rattle.sp_tcp.proofs.MarksKept.{RoomFacts, flushed_marks, roomed_marks, put_marks, shut_marks, ready_flushed, ready_roomed}
 use Rattle.sp_tcp.proofs.Framing.{Fit-apart, told_writes, own_on, put_on, told_more, put_more}
 use Rattle.sp_tcp.proofs.Framed.{framed}
-use Rattle.sp_tcp.proofs.Marks.{plain_text}
+use Rattle.sp_tcp.proofs.MarkedFrames.{plain_text}
 
 -- the state with another link, another outlet and other marks
 abbrev pub with_write : TcpState → LinkView → OutletView → WireMarks → TcpState

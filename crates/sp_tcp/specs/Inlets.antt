@@ -10,10 +10,10 @@ use Rattle.sp_msg.specs.declared.wire.WireIn.{WireIn}
 use Rattle.sp_msg.specs.declared.wire.WireIn.TheVariants as ins
 use Rattle.sp_tcp.specs.Links.{ReadCounts}
 use Rattle.sp_tcp.specs.Marked.{marked, IsMarkedPart, IsMarkedBad}
-use Rattle.sp_tcp.specs.declared.inlet.Taken.{Taken}
-use Rattle.sp_tcp.specs.declared.inlet.Taken.TheVariants as t
+use Rattle.sp_tcp.specs.declared.inlet.TakenFrame.{TakenFrame}
+use Rattle.sp_tcp.specs.declared.inlet.TakenFrame.TheVariants as t
 
-abbrev pub TakenAs : List ℕ → ℕ → Taken → List ℕ → List ℕ → Type 0
+abbrev pub TakenAs : List ℕ → ℕ → TakenFrame → List ℕ → List ℕ → Type 0
 TakenAs mark max (t.Message m) old new = (m.header ≡ []) × (length m.body ≤ max) × (old ≡ marked mark m.body ++ new)
 TakenAs mark max t.Part old new = IsMarkedPart mark max old × (new ≡ old)
 TakenAs mark max t.Oversize old new = IsMarkedBad mark max old × (new ≡ old)

@@ -21,7 +21,7 @@ pub record OutletView : Type 0 where
   pub sent : ℕ
 
 -- the bytes of one write, and how many they are at most
-pub record StageView : Type 0 where
+pub record WriteStageView : Type 0 where
   pub bytes : List ℕ
   pub most : ℕ
 

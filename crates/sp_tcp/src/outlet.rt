@@ -7,7 +7,7 @@ ghost use Rattle.sp_msg.specs.Views.{wire_text};
 ghost use Rattle.sp_tcp.specs.Stages.{added, gathered};
 ghost use Rattle.sp_tcp.specs.Outlets.{SentWithin, IsLongRest, Passed, WroteFront, WrotePiece, FlushedFrom};
 
-use crate::stage::Stage;
+use crate::stage::WriteStage;
 use sp_base::{Link, LinkWrite, NoMemory};
 use sp_msg::{Message, WireFlush};
 use std::alloc::Global;
@@ -29,7 +29,7 @@ pub struct Outlet {
     /// How many bytes of the first frame are written.
     sent: usize,
     /// Where small frames are put together.
-    stage: Stage,
+    stage: WriteStage,
 }
 
 impl Model for Outlet {
@@ -46,7 +46,7 @@ impl Model for Outlet {
 }
 
 // Adds the next bytes of a frame, past so many; returns how many are to be passed behind it.
-fn add_frame(stage: &mut Stage, m: &Message, skip: usize) -> usize
+fn add_frame(stage: &mut WriteStage, m: &Message, skip: usize) -> usize
     ensures bytes { stage.new ≡ added stage.old skip (frame (wire_text m.now)) }
     ensures skip { result ≡ skip - length (frame (wire_text m.now)) }
 {
@@ -57,7 +57,7 @@ fn add_frame(stage: &mut Stage, m: &Message, skip: usize) -> usize
 }
 
 // Adds the next bytes of a frame with these bytes before its size.
-fn add_marked(stage: &mut Stage, mark: &[u8], m: &Message, skip: usize) -> usize
+fn add_marked(stage: &mut WriteStage, mark: &[u8], m: &Message, skip: usize) -> usize
     ensures bytes { stage.new ≡ added stage.old skip (marked mark.now (wire_text m.now)) }
     ensures skip { result ≡ skip - length (marked mark.now (wire_text m.now)) }
 {
@@ -66,7 +66,7 @@ fn add_marked(stage: &mut Stage, mark: &[u8], m: &Message, skip: usize) -> usize
 }
 
 // Gathers the next bytes of the frames, past so many.
-fn gather(stage: &mut Stage, mark: &[u8], waiting: &VecDeque<Message>, sent: usize)
+fn gather(stage: &mut WriteStage, mark: &[u8], waiting: &VecDeque<Message>, sent: usize)
     ensures { stage.new ≡ gathered stage.old sent (marked_all mark.now (map wire_text waiting.now.items)) }
 {
     stage.clear();
@@ -119,7 +119,7 @@ impl Outlet {
         ensures { IfOk result (λ outlet. outlet ≡ record { waiting = []; sent = 0 }) }
     {
         let waiting = VecDeque::with_capacity(alloc, MOST_WAITING)?;
-        let stage = Stage::new(alloc, STAGE_ROOM)?;
+        let stage = WriteStage::new(alloc, STAGE_ROOM)?;
         Ok(Outlet {
             waiting,
             sent: 0,

@@ -8,29 +8,29 @@ use std::marker::Model;
 
 /// Bytes that are to go out in one write, at most so many. Its memory is taken once.
 #[derive(Debug, Drop)]
-pub struct Stage {
+pub struct WriteStage {
     bytes: Vec<u8>,
     /// How many bytes it holds at most.
     most: usize,
 }
 
-impl Model for Stage {
+impl Model for WriteStage {
     ghost use Rattle.std.specs.Prelude.{length, ◌≤◌, vec_capacity};
-    ghost use Rattle.sp_tcp.specs.Views.{StageView};
+    ghost use Rattle.sp_tcp.specs.Views.{WriteStageView};
 
-    ghost Value = { StageView };
+    ghost Value = { WriteStageView };
 
     ghost view = { λ s. record { bytes = s.bytes.items; most = s.most } };
 
     ghost invariant = { λ s. (length s.bytes.items ≤ s.most) × (s.most ≤ vec_capacity s.bytes) };
 }
 
-impl Stage {
+impl WriteStage {
     /// Empty, for at most so many bytes.
-    pub fn new(alloc: Global, most: usize) -> Result<Stage, NoMemory>
+    pub fn new(alloc: Global, most: usize) -> Result<WriteStage, NoMemory>
         ensures { IfOk result (λ stage. stage ≡ record { bytes = []; most = most }) }
     {
-        Ok(Stage {
+        Ok(WriteStage {
             bytes: Vec::with_capacity(alloc, most)?,
             most,
         })

@@ -6,7 +6,7 @@ use Rattle.std.proofs.lemmas.List.{length-append, drop_more, take_more, take-app
 use Rattle.sp_spec.specs.Outside.{grown}
 use Rattle.sp_base.specs.Views.{LinkView}
 use Rattle.sp_base.specs.Steps.{Went, Quiet}
-use Rattle.sp_ws.specs.Views.{FramesView, OutletView, count_of}
+use Rattle.sp_ws.specs.Views.{FramesView, FrameOutletView, count_of}
 use Rattle.sp_ws.specs.Links.{WriteCounts}
 use Rattle.websocket.specs.declared.protocol.config.Role.{Role}
 use Rattle.sp_ws.specs.Frames.{IsFrame}
@@ -127,7 +127,7 @@ frame_some mask body = omega arith
 
 -- ---- giving
 
-pub gave_none : (o : OutletView) (f : FramesView) → Gave o o f f
+pub gave_none : (o : FrameOutletView) (f : FramesView) → Gave o o f f
 gave_none o f = record {
   gone = [];
   places = [];
@@ -155,7 +155,7 @@ piece_some : (role : Role) (piece body : List ℕ) → IsFrame role piece body �
 piece_some role piece body e = omega (arith, ap length e.is, frame_some e.mask body)
 
 -- one more was sent
-pub gave_more : (o o2 o3 : OutletView) (f f2 f3 : FramesView) → Gave o o2 f f2 → GaveFront outs.Done o2 o3 f2 f3 → Gave o o3 f f3
+pub gave_more : (o o2 o3 : FrameOutletView) (f f2 f3 : FramesView) → Gave o o2 f f2 → GaveFront outs.Done o2 o3 f2 f3 → Gave o o3 f f3
 gave_more o o2 o3 f f2 f3 g one =
     let s = one.3 in
     let body : List ℕ = one.0 in
@@ -179,16 +179,16 @@ gave_more o o2 o3 f f2 f3 g one =
     }
 
 -- nothing was sent
-pub gave_same : (o o2 o3 : OutletView) (f f2 f3 : FramesView) → Gave o o2 f f2 → o3 ≡ o2 → f3 ≡ f2 → Gave o o3 f f3
+pub gave_same : (o o2 o3 : FrameOutletView) (f f2 f3 : FramesView) → Gave o o2 f f2 → o3 ≡ o2 → f3 ≡ f2 → Gave o o3 f f3
 gave_same o o2 o3 f f2 f3 g e s = record {
   gone = g.gone;
   places = g.places;
   bytes = g.bytes;
-  held = g.held ∙ ap (λ (v : OutletView). g.gone ++ v.held) (sym e);
-  ends = ap (λ (v : OutletView). v.ends) e ∙ g.ends;
+  held = g.held ∙ ap (λ (v : FrameOutletView). g.gone ++ v.held) (sym e);
+  ends = ap (λ (v : FrameOutletView). v.ends) e ∙ g.ends;
   waiting = ap (λ (v : FramesView). v.waiting) s ∙ g.waiting;
   frames = g.frames;
-  within = (λ h. subst (λ (v : OutletView). AreWithin (length f3.waiting) v.ends) (sym e) (subst (λ (x : List ℕ). AreWithin (length x) o2.ends) (sym (ap (λ (v : FramesView). v.waiting) s)) (g.within h)));
+  within = (λ h. subst (λ (v : FrameOutletView). AreWithin (length f3.waiting) v.ends) (sym e) (subst (λ (x : List ℕ). AreWithin (length x) o2.ends) (sym (ap (λ (v : FramesView). v.waiting) s)) (g.within h)));
   sent = ap (λ (v : FramesView). v.sent) s ∙ g.sent;
   kept = subst (λ (v : FramesView). v ≡ record f { waiting = v.waiting; sent = v.sent }) (sym s) g.kept;
 }
@@ -222,10 +222,10 @@ pub went_none : (l m : LinkView) → Quiet l m → Went [] l m
 went_none l m a = record { place = a.place; scheme = a.scheme; came = a.came; written = a.written ∙ grown-nil l.written; is_open = a.is_open }
 
 -- nothing was written
-pub wrote_none : (o : OutletView) (f : FramesView) (l m : LinkView) → passed 0 o.ends ≡ o.ends → Quiet l m → WriteCounts l m → Wrote o o f f l m
+pub wrote_none : (o : FrameOutletView) (f : FramesView) (l m : LinkView) → passed 0 o.ends ≡ o.ends → Quiet l m → WriteCounts l m → Wrote o o f f l m
 wrote_none o f l m same quiet counts = record { piece = []; waiting = refl; frames = refl; held = refl; ends = sym same; went = went_none l m quiet; counts = counts }
 
-pub wrote_more : (a b c : OutletView) (f g h : FramesView) (l m n : LinkView) → Wrote a b f g l m → Wrote b c g h m n → Wrote a c f h l n
+pub wrote_more : (a b c : FrameOutletView) (f g h : FramesView) (l m n : LinkView) → Wrote a b f g l m → Wrote b c g h m n → Wrote a c f h l n
 wrote_more a b c f g h l m n x y = record {
   piece = x.piece ++ y.piece;
   waiting = x.waiting ∙ ap (λ (s : List ℕ). x.piece ++ s) y.waiting ∙ sym (append_assoc x.piece y.piece h.waiting);
@@ -237,7 +237,7 @@ wrote_more a b c f g h l m n x y = record {
 }
 
 -- places stay within what waits
-pub wrote_within : (a b : OutletView) (f g : FramesView) (l m : LinkView) → Wrote a b f g l m → AreWithin (length f.waiting) a.ends → AreWithin (length g.waiting) b.ends
+pub wrote_within : (a b : FrameOutletView) (f g : FramesView) (l m : LinkView) → Wrote a b f g l m → AreWithin (length f.waiting) a.ends → AreWithin (length g.waiting) b.ends
 wrote_within a b f g l m w inside =
     let long : length f.waiting ≡ length w.piece + length g.waiting = omega (arith, ap length w.waiting, length-append w.piece g.waiting) in
     subst (AreWithin (length g.waiting)) (sym w.ends) (passed_within (length w.piece) (length g.waiting) a.ends (subst (λ (n : ℕ). AreWithin n a.ends) long inside))
@@ -250,11 +250,11 @@ within_none [] w = refl
 within_none (e ∷ es) w = absurd (none_below e w.0.0 w.0.1)
 
 -- where nothing waits for the link, all frames are written
-pub none_left : (a : OutletView) (f : FramesView) → AreWithin (length f.waiting) a.ends → f.waiting ≡ [] → a.ends ≡ []
+pub none_left : (a : FrameOutletView) (f : FramesView) → AreWithin (length f.waiting) a.ends → f.waiting ≡ [] → a.ends ≡ []
 none_left a f inside e = within_none a.ends (subst (λ (x : List ℕ). AreWithin (length x) a.ends) e inside)
 
 -- no more wait than before
-pub fewer : (o mid new : OutletView) (f g h : FramesView) (l m : LinkView) → Gave o mid f g → Wrote mid new g h l m → count_of new ≤ count_of o
+pub fewer : (o mid new : FrameOutletView) (f g h : FramesView) (l m : LinkView) → Gave o mid f g → Wrote mid new g h l m → count_of new ≤ count_of o
 fewer o mid new f g h l m a w =
     omega (
       arith,
@@ -272,7 +272,7 @@ pub quiet_refl : (l : LinkView) → Quiet l l
 quiet_refl l = record { place = refl; scheme = refl; came = refl; written = refl; is_open = refl }
 
 -- one write
-pub took : (o o2 : OutletView) (f f2 : FramesView) (l m : LinkView) (n : ℕ) → 0 < n → n ≤ length f.waiting → f2 ≡ record f { waiting = drop n f.waiting } → o2 ≡ record o { ends = passed n o.ends } → Went (take n f.waiting) l m → WriteCounts l m → (w : Wrote o o2 f f2 l m) × (0 < length w.piece)
+pub took : (o o2 : FrameOutletView) (f f2 : FramesView) (l m : LinkView) (n : ℕ) → 0 < n → n ≤ length f.waiting → f2 ≡ record f { waiting = drop n f.waiting } → o2 ≡ record o { ends = passed n o.ends } → Went (take n f.waiting) l m → WriteCounts l m → (w : Wrote o o2 f f2 l m) × (0 < length w.piece)
 took o o2 f f2 l m n some fits fe oe went counts =
     let long : length (take n f.waiting) ≡ n = omega (arith, length-take n f.waiting, fits) in
     let left : f2.waiting ≡ drop n f.waiting = ap (λ (v : FramesView). v.waiting) fe in (
@@ -280,8 +280,8 @@ took o o2 f f2 l m n some fits fe oe went counts =
         piece = take n f.waiting;
         waiting = sym (take-append-drop n f.waiting) ∙ ap (λ (x : List ℕ). take n f.waiting ++ x) (sym left);
         frames = fe ∙ ap (λ (x : List ℕ). record f { waiting = x }) (sym left);
-        held = ap (λ (v : OutletView). v.held) oe;
-        ends = ap (λ (v : OutletView). v.ends) oe ∙ ap (λ (j : ℕ). passed j o.ends) (sym long);
+        held = ap (λ (v : FrameOutletView). v.held) oe;
+        ends = ap (λ (v : FrameOutletView). v.ends) oe ∙ ap (λ (j : ℕ). passed j o.ends) (sym long);
         went = went;
         counts = counts;
       },
@@ -290,7 +290,7 @@ took o o2 f f2 l m n some fits fe oe went counts =
 
 -- ---- a whole flush
 
-pub flush_gave : (result : WireFlush) (o o2 : OutletView) (f f2 : FramesView) (l : LinkView) → AreWithin (length f.waiting) o.ends → Gave o o2 f f2 → FlushAnswer result (count_of o2) f f2 l l → FlushedFrom result o o2 f f2 l l
+pub flush_gave : (result : WireFlush) (o o2 : FrameOutletView) (f f2 : FramesView) (l : LinkView) → AreWithin (length f.waiting) o.ends → Gave o o2 f f2 → FlushAnswer result (count_of o2) f f2 l l → FlushedFrom result o o2 f f2 l l
 flush_gave result o o2 f f2 l inside g a = record {
   mid = o2;
   framed = f2;
@@ -299,19 +299,19 @@ flush_gave result o o2 f f2 l inside g a = record {
   answer = a;
 }
 
-all_gone : (mid o3 : OutletView) (f f2 : FramesView) (l m : LinkView) → AreWithin (length f.waiting) mid.ends → mid.held ≡ [] → Wrote mid o3 f f2 l m → f2.waiting ≡ [] → count_of o3 ≡ 0
+all_gone : (mid o3 : FrameOutletView) (f f2 : FramesView) (l m : LinkView) → AreWithin (length f.waiting) mid.ends → mid.held ≡ [] → Wrote mid o3 f f2 l m → f2.waiting ≡ [] → count_of o3 ≡ 0
 all_gone mid o3 f f2 l m inside none w dry =
     let ends : o3.ends ≡ [] = none_left o3 f2 (wrote_within mid o3 f f2 l m w inside) dry in
     omega (arith, ap length (w.held ∙ none), ap length ends)
 
-flush_answer : (result : WireFlush) (mid o3 : OutletView) (f0 f f2 : FramesView) (l m : LinkView) → AreWithin (length f.waiting) mid.ends → mid.held ≡ [] → f.refusals ≡ f0.refusals → Wrote mid o3 f f2 l m → WroteAll result f2 l m → 0 < count_of o3 → FlushAnswer result (count_of o3) f0 f2 l m
+flush_answer : (result : WireFlush) (mid o3 : FrameOutletView) (f0 f f2 : FramesView) (l m : LinkView) → AreWithin (length f.waiting) mid.ends → mid.held ≡ [] → f.refusals ≡ f0.refusals → Wrote mid o3 f f2 l m → WroteAll result f2 l m → 0 < count_of o3 → FlushAnswer result (count_of o3) f0 f2 l m
 flush_answer flushes.Empty mid o3 f0 f f2 l m inside none r w a some = (all_gone mid o3 f f2 l m inside none w a, ap (λ (v : FramesView). v.refusals) w.frames ∙ r, inl a)
 flush_answer flushes.NotYet mid o3 f0 f f2 l m inside none r w a some = (some, a, ap (λ (v : FramesView). v.refusals) w.frames ∙ r)
 flush_answer flushes.Failed mid o3 f0 f f2 l m inside none r w a some = (some, a, ap (λ (v : FramesView). v.refusals) w.frames ∙ r)
 flush_answer flushes.Refused mid o3 f0 f f2 l m inside none r w a some = absurd a
 flush_answer flushes.NoMemory mid o3 f0 f f2 l m inside none r w a some = absurd a
 
-pub flush_wrote : (result : WireFlush) (o mid o3 : OutletView) (f0 f f2 : FramesView) (l m : LinkView) → AreWithin (length f0.waiting) o.ends → Gave o mid f0 f → mid.held ≡ [] → f.refusals ≡ f0.refusals → Wrote mid o3 f f2 l m → WroteAll result f2 l m → 0 < count_of o3 → FlushedFrom result o o3 f0 f2 l m
+pub flush_wrote : (result : WireFlush) (o mid o3 : FrameOutletView) (f0 f f2 : FramesView) (l m : LinkView) → AreWithin (length f0.waiting) o.ends → Gave o mid f0 f → mid.held ≡ [] → f.refusals ≡ f0.refusals → Wrote mid o3 f f2 l m → WroteAll result f2 l m → 0 < count_of o3 → FlushedFrom result o o3 f0 f2 l m
 flush_wrote result o mid o3 f0 f f2 l m inside g none r w a some = record { mid = mid; framed = f; gave = g; wrote = w; answer = flush_answer result mid o3 f0 f f2 l m (g.within inside) none r w a some }
 
 -- how it ended, where nothing is left to send
@@ -322,5 +322,5 @@ written flushes.Failed f l m a = inr (inr a)
 written flushes.Refused f l m a = absurd a
 written flushes.NoMemory f l m a = absurd a
 
-pub flush_empty : (result : WireFlush) (o mid o3 : OutletView) (f0 f f2 : FramesView) (l m : LinkView) → Gave o mid f0 f → f.refusals ≡ f0.refusals → Wrote mid o3 f f2 l m → WroteAll result f2 l m → count_of o3 ≡ 0 → FlushedFrom flushes.Empty o o3 f0 f2 l m
+pub flush_empty : (result : WireFlush) (o mid o3 : FrameOutletView) (f0 f f2 : FramesView) (l m : LinkView) → Gave o mid f0 f → f.refusals ≡ f0.refusals → Wrote mid o3 f f2 l m → WroteAll result f2 l m → count_of o3 ≡ 0 → FlushedFrom flushes.Empty o o3 f0 f2 l m
 flush_empty result o mid o3 f0 f f2 l m g r w a none = record { mid = mid; framed = f; gave = g; wrote = w; answer = (none, ap (λ (v : FramesView). v.refusals) w.frames ∙ r, written result f2 l m a) }

@@ -16,7 +16,7 @@ use Rattle.sp_msg.specs.declared.wire.Room.TheVariants as rooms
 use Rattle.sp_msg.specs.declared.wire.WireFlush.{WireFlush}
 use Rattle.sp_msg.specs.declared.wire.WireFlush.TheVariants as flushes
 use Rattle.sp_msg.proofs.Shown.{WaitsAs, after_pull, after_room, after_flush, after_put}
-use Rattle.sp_ws.specs.Views.{FramesView, OutletView, count_of, fresh_frames, HasLimits}
+use Rattle.sp_ws.specs.Views.{FramesView, FrameOutletView, count_of, fresh_frames, HasLimits}
 use Rattle.sp_ws.specs.Sides.{role_of}
 use Rattle.websocket.specs.declared.protocol.config.WebSocketConfig.{WebSocketConfig}
 use Rattle.sp_ws.specs.declared.side.Side.{Side}
@@ -121,17 +121,17 @@ pulled result lost t l f h o p =
 
 -- ---- writing
 
-abbrev pub with_write : WsState → LinkView → FramesView → OutletView → WireMarks → WsState
+abbrev pub with_write : WsState → LinkView → FramesView → FrameOutletView → WireMarks → WsState
 with_write t l f o k = ws_state l f o t.lost t.max t.spent k
 
 -- what a flush keeps
-record Kept (t : WsState) (l : LinkView) (f : FramesView) (o : OutletView) : Type 0 where
+record Kept (t : WsState) (l : LinkView) (f : FramesView) (o : FrameOutletView) : Type 0 where
   few : count_of o ≤ count_of t.outlet
   outs : Some (f.sent ++ o.held) ≡ Some (t.frames.sent ++ t.outlet.held)
   came : f.came ≡ t.frames.came
   within : AreWithin (length f.waiting) o.ends
 
-kept : (result : WireFlush) (t : WsState) (l : LinkView) (f : FramesView) (o : OutletView) → Holds t → FlushedFrom result t.outlet o t.frames f t.link l → Kept t l f o
+kept : (result : WireFlush) (t : WsState) (l : LinkView) (f : FramesView) (o : FrameOutletView) → Holds t → FlushedFrom result t.outlet o t.frames f t.link l → Kept t l f o
 kept result t l f o h p =
     let g = p.gave in
     let w = p.wrote in
@@ -146,7 +146,7 @@ kept result t l f o h p =
       within = wrote_within p.mid o p.framed f t.link l w (g.within h.within);
     }
 
-ws_wrote : (result : WireFlush) (t : WsState) (l : LinkView) (f : FramesView) (o : OutletView) (k : WireMarks) → FlushedFrom result t.outlet o t.frames f t.link l → WsWrote (ws_view t) (ws_view (with_write t l f o k))
+ws_wrote : (result : WireFlush) (t : WsState) (l : LinkView) (f : FramesView) (o : FrameOutletView) (k : WireMarks) → FlushedFrom result t.outlet o t.frames f t.link l → WsWrote (ws_view t) (ws_view (with_write t l f o k))
 ws_wrote result t l f o k p =
     let g = p.gave in
     let w = p.wrote in
@@ -167,10 +167,10 @@ ws_wrote result t l f o k p =
       max = refl;
     }
 
-write_holds : (t : WsState) (l : LinkView) (f : FramesView) (o : OutletView) (k : WireMarks) → Holds t → Kept t l f o → (k.is_ready ≡ true → count_of o < 16) → WriteCounts t.link l → MarksHold t.max l f t.lost k → Holds (with_write t l f o k)
+write_holds : (t : WsState) (l : LinkView) (f : FramesView) (o : FrameOutletView) (k : WireMarks) → Holds t → Kept t l f o → (k.is_ready ≡ true → count_of o < 16) → WriteCounts t.link l → MarksHold t.max l f t.lost k → Holds (with_write t l f o k)
 write_holds t l f o k h e room counts marks = record { within = e.within; most = omega (arith, h.most, e.few); room = room; waited = omega (arith, h.waited, counts.idles, counts.stalls); marks = marks }
 
-still_room : (t : WsState) (l : LinkView) (f : FramesView) (o : OutletView) → Holds t → Kept t l f o → t.marks.is_ready ≡ true → count_of o < 16
+still_room : (t : WsState) (l : LinkView) (f : FramesView) (o : FrameOutletView) → Holds t → Kept t l f o → t.marks.is_ready ≡ true → count_of o < 16
 still_room t l f o h e r = omega (arith, h.room r, e.few)
 
 came_kept : (t : WsState) (f : FramesView) → f.came ≡ t.frames.came → Some (came_in t.lost f.came) ≡ Some (came_in t.lost t.frames.came)
@@ -188,7 +188,7 @@ room_facts flushes.Failed room waits f f2 l l2 a e = subst (λ r. RoomFacts r wa
 room_facts flushes.Refused room waits f f2 l l2 a e = absurd a
 room_facts flushes.NoMemory room waits f f2 l l2 a e = subst (λ r. RoomFacts r waits f f2 l l2) (sym e) a.1
 
-room_cause : (room : Room) (t : WsState) (l : LinkView) (f : FramesView) (o : OutletView) (k : WireMarks) → count_of o ≤ 16 → RoomFacts room (count_of o) t.frames f t.link l → RoomCause room (ws_view t) (ws_view (with_write t l f o k))
+room_cause : (room : Room) (t : WsState) (l : LinkView) (f : FramesView) (o : FrameOutletView) (k : WireMarks) → count_of o ≤ 16 → RoomFacts room (count_of o) t.frames f t.link l → RoomCause room (ws_view t) (ws_view (with_write t l f o k))
 room_cause rooms.Yes t l f o k le a = (a.0, a.1)
 room_cause rooms.Full t l f o k le a = (omega (arith, le, a.0), a.1)
 room_cause rooms.Failed t l f o k le a = a.0
@@ -202,7 +202,7 @@ pub record Roomed (room : Room) (t t2 : WsState) : Type 0 where
   pub ws : WsWrote (ws_view t) (ws_view t2)
   pub is_tied : Tied (ws_view t2)
 
-pub roomed : (flush : WireFlush) (room : Room) (t : WsState) (l : LinkView) (f : FramesView) (o : OutletView) → Holds t → t.marks.is_open ≡ true → FlushedFrom flush t.outlet o t.frames f t.link l → RoomAfter flush (count_of o) room → Roomed room t (with_write t l f o (marks_roomed room t.marks))
+pub roomed : (flush : WireFlush) (room : Room) (t : WsState) (l : LinkView) (f : FramesView) (o : FrameOutletView) → Holds t → t.marks.is_open ≡ true → FlushedFrom flush t.outlet o t.frames f t.link l → RoomAfter flush (count_of o) room → Roomed room t (with_write t l f o (marks_roomed room t.marks))
 roomed flush room t l f o h open_is p r =
     let k : WireMarks = marks_roomed room t.marks in
     let e = kept flush t l f o h p in
@@ -226,7 +226,7 @@ waits_as flushes.Failed waits f f2 l l2 a = a.0
 waits_as flushes.Refused waits f f2 l l2 a = absurd a
 waits_as flushes.NoMemory waits f f2 l l2 a = a.0
 
-flush_cause : (result : WireFlush) (t : WsState) (l : LinkView) (f : FramesView) (o : OutletView) (k : WireMarks) → FlushAnswer result (count_of o) t.frames f t.link l → FlushCause result (ws_view t) (ws_view (with_write t l f o k))
+flush_cause : (result : WireFlush) (t : WsState) (l : LinkView) (f : FramesView) (o : FrameOutletView) (k : WireMarks) → FlushAnswer result (count_of o) t.frames f t.link l → FlushCause result (ws_view t) (ws_view (with_write t l f o k))
 flush_cause flushes.Empty t l f o k a = a.2
 flush_cause flushes.NotYet t l f o k a = a.1
 flush_cause flushes.Failed t l f o k a = a.1
@@ -240,7 +240,7 @@ pub record Flushed (result : WireFlush) (t t2 : WsState) : Type 0 where
   pub ws : WsWrote (ws_view t) (ws_view t2)
   pub is_tied : Tied (ws_view t2)
 
-pub flushed : (result : WireFlush) (t : WsState) (l : LinkView) (f : FramesView) (o : OutletView) → Holds t → t.marks.is_open ≡ true → FlushedFrom result t.outlet o t.frames f t.link l → Flushed result t (with_write t l f o (marks_flushed result t.marks))
+pub flushed : (result : WireFlush) (t : WsState) (l : LinkView) (f : FramesView) (o : FrameOutletView) → Holds t → t.marks.is_open ≡ true → FlushedFrom result t.outlet o t.frames f t.link l → Flushed result t (with_write t l f o (marks_flushed result t.marks))
 flushed result t l f o h open_is p =
     let k : WireMarks = marks_flushed result t.marks in
     let e = kept result t l f o h p in
@@ -259,7 +259,7 @@ flushed result t l f o h open_is p =
 none_ready : false ≡ true → ⊥
 none_ready e = cc
 
-abbrev pub with_put : WsState → OutletView → WsState
+abbrev pub with_put : WsState → FrameOutletView → WsState
 with_put t o = with_write t t.link t.frames o (marks_put t.marks)
 
 pub record PutTo (m : MessageView) (t t2 : WsState) : Type 0 where
@@ -268,13 +268,13 @@ pub record PutTo (m : MessageView) (t t2 : WsState) : Type 0 where
   pub held : t2.outlet.held ≡ t.outlet.held ++ wire_text m ∷ []
   pub is_tied : Tied (ws_view t2)
 
-pub put_to : (t : WsState) (o : OutletView) (m : MessageView) → Holds t → t.marks.is_ready ≡ true → o ≡ record { held = t.outlet.held ++ wire_text m ∷ []; ends = t.outlet.ends } → PutTo m t (with_put t o)
+pub put_to : (t : WsState) (o : FrameOutletView) (m : MessageView) → Holds t → t.marks.is_ready ≡ true → o ≡ record { held = t.outlet.held ++ wire_text m ∷ []; ends = t.outlet.ends } → PutTo m t (with_put t o)
 put_to t o m h ready is =
-    let count : count_of o ≡ count_of t.outlet + 1 = omega (arith, ap (λ (x : OutletView). count_of x) is, length-append {A = List ℕ} t.outlet.held (wire_text m ∷ [])) in
-    let held : o.held ≡ t.outlet.held ++ wire_text m ∷ [] = ap (λ (x : OutletView). x.held) is in
+    let count : count_of o ≡ count_of t.outlet + 1 = omega (arith, ap (λ (x : FrameOutletView). count_of x) is, length-append {A = List ℕ} t.outlet.held (wire_text m ∷ [])) in
+    let held : o.held ≡ t.outlet.held ++ wire_text m ∷ [] = ap (λ (x : FrameOutletView). x.held) is in
     let outs : Some (t.frames.sent ++ o.held) ≡ with_text (Some (t.frames.sent ++ t.outlet.held)) (wire_text m) = ap (λ (x : List (List ℕ)). Some (t.frames.sent ++ x)) held ∙ ap (λ (x : List (List ℕ)). Some x) (sym (append_assoc t.frames.sent t.outlet.held (wire_text m ∷ []))) in
     let h2 : Holds (with_put t o) = record {
-      within = subst (λ (x : OutletView). AreWithin (length t.frames.waiting) x.ends) (sym is) h.within;
+      within = subst (λ (x : FrameOutletView). AreWithin (length t.frames.waiting) x.ends) (sym is) h.within;
       most = omega (arith, count, h.room ready);
       room = (λ e. absurd (none_ready e));
       waited = h.waited;
@@ -316,18 +316,18 @@ pub new_frames : (n f : FramesView) (side : Side) (rest : List ℕ) → n ≡ fr
 new_frames n f side rest fresh fed =
     subst (λ (k : WebSocketConfig). f ≡ record (fresh_frames (role_of side) k) { fed = rest }) (sym (ap (λ (v : FramesView). v.config) fed)) (fed ∙ ap (λ (v : FramesView). record v { fed = v.fed ++ rest }) fresh)
 
-pub new_holds : (l : LinkView) (f : FramesView) (o : OutletView) (max : ℕ) (side : Side) (rest : List ℕ) → l.is_open ≡ true → f ≡ record (fresh_frames (role_of side) f.config) { fed = rest } → o ≡ record { held = []; ends = [] } → Holds (ws_state l f o false max (l.idles + l.stalls) fresh_marks)
+pub new_holds : (l : LinkView) (f : FramesView) (o : FrameOutletView) (max : ℕ) (side : Side) (rest : List ℕ) → l.is_open ≡ true → f ≡ record (fresh_frames (role_of side) f.config) { fed = rest } → o ≡ record { held = []; ends = [] } → Holds (ws_state l f o false max (l.idles + l.stalls) fresh_marks)
 new_holds l f o max side rest is_open fe oe =
-    let count : count_of o ≡ 0 = ap (λ (x : OutletView). count_of x) oe in
+    let count : count_of o ≡ 0 = ap (λ (x : FrameOutletView). count_of x) oe in
     record {
-      within = subst (λ (x : OutletView). AreWithin (length f.waiting) x.ends) (sym oe) tt;
+      within = subst (λ (x : FrameOutletView). AreWithin (length f.waiting) x.ends) (sym oe) tt;
       most = omega (arith, count);
       room = (λ e. absurd (none_ready e));
       waited = omega arith;
       marks = record { link_open = (λ e. is_open); going = (λ e. (refl, refl, refl)); at_end = (λ e. absurd (none_ready e)); malformed = (λ e. absurd (none_ready e)); faults = omega arith; idles = omega arith; stalls = omega arith; refusals = omega arith };
     }
 
-pub new_wire : (l : LinkView) (f : FramesView) (o : OutletView) (max : ℕ) (side : Side) (rest : List ℕ) → l.is_open ≡ true → f ≡ record (fresh_frames (role_of side) f.config) { fed = rest } → o ≡ record { held = []; ends = [] } → HasLimits max f.config → IsNewWire side max rest l (ws_view (ws_state l f o false max (l.idles + l.stalls) fresh_marks))
+pub new_wire : (l : LinkView) (f : FramesView) (o : FrameOutletView) (max : ℕ) (side : Side) (rest : List ℕ) → l.is_open ≡ true → f ≡ record (fresh_frames (role_of side) f.config) { fed = rest } → o ≡ record { held = []; ends = [] } → HasLimits max f.config → IsNewWire side max rest l (ws_view (ws_state l f o false max (l.idles + l.stalls) fresh_marks))
 new_wire l f o max side rest is_open fe oe limits = record {
   link_is = refl;
   max_is = refl;

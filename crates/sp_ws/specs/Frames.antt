@@ -21,8 +21,8 @@ use Rattle.sp_ws.specs.declared.frames.FrameIn.{FrameIn}
 use Rattle.sp_ws.specs.declared.frames.FrameIn.TheVariants as ins
 use Rattle.sp_ws.specs.declared.frames.FrameOut.{FrameOut}
 use Rattle.sp_ws.specs.declared.frames.FrameOut.TheVariants as outs
-use Rattle.sp_ws.specs.declared.frames.Last.{Last}
-use Rattle.sp_ws.specs.declared.frames.Last.TheVariants as lasts
+use Rattle.sp_ws.specs.declared.frames.LastAnswer.{LastAnswer}
+use Rattle.sp_ws.specs.declared.frames.LastAnswer.TheVariants as lasts
 
 abbrev pub AfterFeed : Result Unit NoMemory → List ℕ → FramesView → FramesView → Type 0
 AfterFeed (Ok _) b old new = new ≡ record old { fed = old.fed ++ b }
@@ -105,7 +105,7 @@ came_with ins.Closed came = came
 came_with ins.Broken came = came
 came_with ins.NoMemory came = came
 
-abbrev pub last_of : FrameIn → Last
+abbrev pub last_of : FrameIn → LastAnswer
 last_of (ins.Binary b) = lasts.Binary
 last_of ins.Text = lasts.Text
 last_of ins.Idle = lasts.Idle

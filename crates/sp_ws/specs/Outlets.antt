@@ -7,7 +7,7 @@ use Rattle.sp_base.specs.declared.outside.LinkWrite.{LinkWrite}
 use Rattle.sp_base.specs.declared.outside.LinkWrite.TheVariants as writes
 use Rattle.sp_msg.specs.declared.wire.WireFlush.{WireFlush}
 use Rattle.sp_msg.specs.declared.wire.WireFlush.TheVariants as flushes
-use Rattle.sp_ws.specs.Views.{FramesView, OutletView, count_of}
+use Rattle.sp_ws.specs.Views.{FramesView, FrameOutletView, count_of}
 use Rattle.websocket.specs.declared.protocol.config.Role.{Role}
 use Rattle.sp_ws.specs.Frames.{IsFrame, AfterSend}
 use Rattle.sp_ws.specs.Links.{WriteCounts}
@@ -33,13 +33,13 @@ AreFrames role at (body ∷ bodies) [] s = ⊥
 AreFrames role at (body ∷ bodies) (p ∷ ps) s = (frame : List ℕ) × (rest : List ℕ) × (s ≡ frame ++ rest) × IsFrame role frame body × (p ≡ at + length frame) × AreFrames role p bodies ps rest
 
 -- the oldest text in hand was given to the frames
-abbrev pub GaveFront : FrameOut → OutletView → OutletView → FramesView → FramesView → Type 0
+abbrev pub GaveFront : FrameOut → FrameOutletView → FrameOutletView → FramesView → FramesView → Type 0
 GaveFront outs.Done old new f f' = (body : List ℕ) × (old.held ≡ body ∷ new.held) × (new.ends ≡ old.ends ++ length f'.waiting ∷ []) × AfterSend outs.Done body f f'
 GaveFront outs.Refused old new f f' = ⊥
 GaveFront outs.NoMemory old new f f' = (new ≡ old) × (f' ≡ f)
 
 -- the texts that are gone from the hand were sent, each once and in order; nothing else of the frames changes
-pub record Gave (old new : OutletView) (f f' : FramesView) : Type 0 where
+pub record Gave (old new : FrameOutletView) (f f' : FramesView) : Type 0 where
   pub gone : List (List ℕ)
   pub places : List ℕ
   pub bytes : List ℕ
@@ -51,13 +51,13 @@ pub record Gave (old new : OutletView) (f f' : FramesView) : Type 0 where
   pub sent : f'.sent ≡ f.sent ++ gone
   pub kept : f' ≡ record f { waiting = f'.waiting; sent = f'.sent }
 
-abbrev pub GaveAll : FrameOut → OutletView → FramesView → FramesView → Type 0
+abbrev pub GaveAll : FrameOut → FrameOutletView → FramesView → FramesView → Type 0
 GaveAll outs.Done new f f' = (new.held ≡ []) × (f'.refusals ≡ f.refusals)
 GaveAll outs.Refused new f f' = ⊥
 GaveAll outs.NoMemory new f f' = (0 < length new.held) × (f'.refusals ≡ f.refusals)
 
 -- what the link took is the prefix of what waited
-pub record Wrote (old new : OutletView) (f f' : FramesView) (link link' : LinkView) : Type 0 where
+pub record Wrote (old new : FrameOutletView) (f f' : FramesView) (link link' : LinkView) : Type 0 where
   pub piece : List ℕ
   pub waiting : f.waiting ≡ piece ++ f'.waiting
   pub frames : f' ≡ record f { waiting = f'.waiting }
@@ -67,7 +67,7 @@ pub record Wrote (old new : OutletView) (f f' : FramesView) (link link' : LinkVi
   pub counts : WriteCounts link link'
 
 -- how one write ended
-abbrev pub WroteOnce : LinkWrite → OutletView → OutletView → FramesView → FramesView → LinkView → LinkView → Type 0
+abbrev pub WroteOnce : LinkWrite → FrameOutletView → FrameOutletView → FramesView → FramesView → LinkView → LinkView → Type 0
 WroteOnce (writes.Took n) old new f f' link link' = (wrote : Wrote old new f f' link link') × (0 < length wrote.piece)
 WroteOnce writes.NotYet old new f f' link link' = Wrote old new f f' link link' × Rose link.stalls link'.stalls
 WroteOnce writes.Failed old new f f' link link' = Wrote old new f f' link link' × Rose link.faults link'.faults
@@ -92,8 +92,8 @@ FlushAnswer flushes.Refused waits f f' link link' = ⊥
 FlushAnswer flushes.NoMemory waits f f' link link' = (0 < waits) × (f'.refusals ≡ f.refusals)
 
 -- what was in hand was sent, and then what the link takes was written
-pub record FlushedFrom (result : WireFlush) (old new : OutletView) (f f' : FramesView) (link link' : LinkView) : Type 0 where
-  pub mid : OutletView
+pub record FlushedFrom (result : WireFlush) (old new : FrameOutletView) (f f' : FramesView) (link link' : LinkView) : Type 0 where
+  pub mid : FrameOutletView
   pub framed : FramesView
   pub gave : Gave old mid f framed
   pub wrote : Wrote mid new framed f' link link'

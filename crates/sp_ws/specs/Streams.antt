@@ -9,7 +9,7 @@ use Rattle.sp_ws.specs.declared.memory.Memory.{Memory}
 use Rattle.sp_ws.specs.declared.stream.Stream.{Stream}
 use Rattle.sp_ws.specs.declared.frames.FrameIn.{FrameIn}
 use Rattle.sp_ws.specs.declared.frames.FrameIn.TheVariants as ins
-use Rattle.sp_ws.specs.declared.frames.Last.{Last}
+use Rattle.sp_ws.specs.declared.frames.LastAnswer.{LastAnswer}
 use Rattle.sp_ws.specs.Views.{FramesView}
 use Rattle.sp_ws.specs.Frames.{IsPassed, Names, ReadsTo, IsFrame}
 
@@ -28,7 +28,7 @@ abbrev pub unread_of : Stream → ℕ
 unread_of s = length (unread_in s.socket.stream)
 
 -- what a socket shows of its stream and of what it counts beside it; it refuses nothing
-abbrev pub frames_view : Stream → List (List ℕ) → List (List ℕ) → Last → ℕ → FramesView
+abbrev pub frames_view : Stream → List (List ℕ) → List (List ℕ) → LastAnswer → ℕ → FramesView
 frames_view s came sent last breaks =
     record { role = s.role; handed = handed_in s; fed = s.fed.items; left = unread_of s; waiting = s.out.items; came = came; sent = sent; last = last; refusals = 0; breaks = breaks; reads = s.reads.all; config = s.socket.conn.config }
 

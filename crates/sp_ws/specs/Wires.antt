@@ -13,13 +13,13 @@ use Rattle.sp_msg.specs.declared.wire.Room.{Room}
 use Rattle.sp_msg.specs.declared.wire.Room.TheVariants as rooms
 use Rattle.sp_msg.specs.declared.wire.WireFlush.{WireFlush}
 use Rattle.sp_msg.specs.declared.wire.WireFlush.TheVariants as flushes
-use Rattle.sp_ws.specs.Views.{FramesView, OutletView, count_of, fresh_frames, HasLimits}
+use Rattle.sp_ws.specs.Views.{FramesView, FrameOutletView, count_of, fresh_frames, HasLimits}
 use Rattle.sp_ws.specs.Links.{ReadCounts, WriteCounts}
 use Rattle.sp_ws.specs.Outlets.{AreWithin, AreFrames, passed, Written}
 use Rattle.sp_ws.specs.Sides.{role_of}
 use Rattle.sp_ws.specs.declared.side.Side.{Side}
 use Rattle.sp_ws.specs.Pulls.{IsIdle, PullReads, WasFed}
-use Rattle.sp_ws.specs.declared.frames.Last.TheVariants as lasts
+use Rattle.sp_ws.specs.declared.frames.LastAnswer.TheVariants as lasts
 
 -- the bodies that were pulled: all that came, but for the last one where it was lost
 abbrev pub came_in : Bool → List (List ℕ) → List (List ℕ)
@@ -33,13 +33,13 @@ wire_name link max spent = OverLink link.place max (scheme_number link.scheme) s
 pub record WsState : Type 0 where
   pub link : LinkView
   pub frames : FramesView
-  pub outlet : OutletView
+  pub outlet : FrameOutletView
   pub lost : Bool
   pub max : ℕ
   pub spent : ℕ
   pub marks : WireMarks
 
-abbrev pub ws_state : LinkView → FramesView → OutletView → Bool → ℕ → ℕ → WireMarks → WsState
+abbrev pub ws_state : LinkView → FramesView → FrameOutletView → Bool → ℕ → ℕ → WireMarks → WsState
 ws_state link frames outlet lost max spent marks = record { link = link; frames = frames; outlet = outlet; lost = lost; max = max; spent = spent; marks = marks }
 
 -- the texts that were put are those that were sent and those in hand
@@ -52,7 +52,7 @@ pub record WsView : Type 0 where
   pub wire : WireView
   pub link : LinkView
   pub frames : FramesView
-  pub outlet : OutletView
+  pub outlet : FrameOutletView
   pub max : ℕ
 
 abbrev pub ws_view : WsState → WsView

@@ -35,7 +35,7 @@ pub enum FrameOut {
 
 /// The kind of the last answer of `next`.
 #[derive(Clone, Copy, Debug, PartialEq, Eq)]
-pub enum Last {
+pub enum LastAnswer {
     /// None yet.
     Nothing,
     /// A binary message.

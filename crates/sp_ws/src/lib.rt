@@ -1,6 +1,6 @@
 //! The wire over a WebSocket whose opening is done (RFC 6455 sections 5 and 6): each SP message is one binary message.
 //!
-//! `Frames` is the seam to the crate that frames messages. The one real implementation, `Socket`, holds a `tungstenite`
+//! `Frames` is the seam to the crate that frames messages. The one real implementation, `MemorySocket`, holds a `tungstenite`
 //! socket over a stream in memory: what the link gives is fed to it, and what it writes is kept until the link takes
 //! it. Of that crate's own state nothing is known between two calls, since a change of its stream (`get_mut`) has no
 //! clause. So what is promised is promised call by call, by logs of what its reads gave and of what was sent.
@@ -23,7 +23,7 @@ mod spent;
 mod stream;
 mod wire;
 
-pub use frames::{FrameIn, FrameOut, Frames, Last};
+pub use frames::{FrameIn, FrameOut, Frames, LastAnswer};
 pub use side::Side;
-pub use socket::Socket;
+pub use socket::MemorySocket;
 pub use wire::WsWire;

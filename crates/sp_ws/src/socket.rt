@@ -5,8 +5,8 @@ ghost use Rattle.sp_ws.specs.Views.{fresh_frames, HasLimits};
 ghost use Rattle.sp_ws.specs.declared.frames.FrameOut.TheVariants as outs;
 ghost use Rattle.sp_ws.specs.Frames.{AfterFeed, AfterNext, AfterSend, last_of, came_with, breaks_with};
 
-use crate::frames::{FrameIn, FrameOut, Frames, Last};
-use crate::log::{Log, Piece};
+use crate::frames::{FrameIn, FrameOut, Frames, LastAnswer};
+use crate::log::{Log, NextBody};
 use crate::side::Side;
 use crate::stream::Stream;
 use sp_base::NoMemory;
@@ -15,16 +15,16 @@ use std::marker::Model;
 
 /// A `tungstenite` socket over memory, and what waits for the link beside it.
 #[derive(Drop)]
-pub struct Socket {
+pub struct MemorySocket {
     stream: Stream,
     /// The bodies that came and those that were sent. They take no memory.
     came: Log,
     sent: Log,
-    last: Last,
+    last: LastAnswer,
     breaks: u64,
 }
 
-impl Model for Socket {
+impl Model for MemorySocket {
     ghost use Rattle.sp_ws.specs.Streams.{frames_view};
     ghost use Rattle.sp_ws.specs.Views.{FramesView};
 
@@ -33,16 +33,16 @@ impl Model for Socket {
     ghost view = { λ s. frames_view s.stream s.came.texts s.sent.texts s.last s.breaks };
 }
 
-fn kind(answer: &FrameIn) -> Last
+fn kind(answer: &FrameIn) -> LastAnswer
     ensures { result ≡ last_of answer.now }
 {
     match answer {
-        FrameIn::Binary(_) => Last::Binary,
-        FrameIn::Text => Last::Text,
-        FrameIn::Idle => Last::Idle,
-        FrameIn::Closed => Last::Closed,
-        FrameIn::Broken => Last::Broken,
-        FrameIn::NoMemory => Last::NoMemory,
+        FrameIn::Binary(_) => LastAnswer::Binary,
+        FrameIn::Text => LastAnswer::Text,
+        FrameIn::Idle => LastAnswer::Idle,
+        FrameIn::Closed => LastAnswer::Closed,
+        FrameIn::Broken => LastAnswer::Broken,
+        FrameIn::NoMemory => LastAnswer::NoMemory,
     }
 }
 
@@ -51,7 +51,7 @@ fn note(came: &mut Log, answer: &FrameIn)
     ensures { came.new.texts ≡ came_with answer.now came.old.texts }
 {
     if let FrameIn::Binary(body) = answer {
-        *came = came.and(&Piece {
+        *came = came.and(&NextBody {
             bytes: body.as_slice(),
         });
     }
@@ -66,23 +66,23 @@ fn broke(breaks: u64, answer: &FrameIn) -> u64
     }
 }
 
-impl Socket {
+impl MemorySocket {
     /// Nothing was fed and nothing waits. Messages and frames have at most `max` bytes.
-    pub fn new(alloc: Global, side: Side, max: u32) -> Socket
+    pub fn new(alloc: Global, side: Side, max: u32) -> MemorySocket
         ensures fresh { result ≡ fresh_frames (role_of side) result.config }
         ensures limits { HasLimits max result.config }
     {
-        Socket {
+        MemorySocket {
             stream: Stream::new(alloc, side.role(), side.seed(), max),
             came: Log::none(),
             sent: Log::none(),
-            last: Last::Nothing,
+            last: LastAnswer::Nothing,
             breaks: 0,
         }
     }
 }
 
-impl Frames for Socket {
+impl Frames for MemorySocket {
     ghost seen = { λ s. s };
 
     fn feed(&mut self, b: &[u8]) -> Result<(), NoMemory>
@@ -108,7 +108,7 @@ impl Frames for Socket {
     {
         match self.stream.send(b) {
             Ok(()) => {
-                self.sent = self.sent.and(&Piece { bytes: b });
+                self.sent = self.sent.and(&NextBody { bytes: b });
                 FrameOut::Done
             }
             Err(_) => FrameOut::NoMemory,

@@ -6,25 +6,25 @@ use std::marker::Model;
 
 /// How often a link had had nothing to read, or had taken nothing, when its wire was made.
 #[derive(Debug, Drop)]
-pub(crate) struct Spent {
+pub(crate) struct CountsAtStart {
     pub ghost ticks: { ℕ },
 }
 
-impl Model for Spent {
+impl Model for CountsAtStart {
     ghost also_owns = { λ _. ftrue };
 }
 
 // It owns nothing.
-unsafe impl Send for Spent {}
+unsafe impl Send for CountsAtStart {}
 
-unsafe impl Sync for Spent {}
+unsafe impl Sync for CountsAtStart {}
 
-impl Spent {
+impl CountsAtStart {
     /// The number that a proof names.
-    pub(crate) fn of() -> Spent
+    pub(crate) fn of() -> CountsAtStart
         ghost n: { ℕ }
         ensures { result.ticks ≡ n }
     {
-        Spent {}
+        CountsAtStart {}
     }
 }

@@ -7,7 +7,7 @@ ghost use Rattle.sp_ws.specs.Frames.{IsFrame, IsCopied, Fails};
 ghost use Rattle.tungstenite.specs.Socket.{Reads};
 
 use crate::frames::FrameIn;
-use crate::log::{Log, Piece};
+use crate::log::{Log, NextBody};
 use crate::memory::{Keys, Memory};
 use crate::reads::{Given, ReadLog};
 use crate::replies::Replies;
@@ -164,7 +164,7 @@ impl Stream {
         if !taken || !self.socket.get_ref().has_behind(before, &self.fed) {
             return false;
         }
-        self.handed = self.handed.and(&Piece { bytes: &self.fed });
+        self.handed = self.handed.and(&NextBody { bytes: &self.fed });
         self.fed.clear();
         true
     }

@@ -8,10 +8,10 @@ ghost use Rattle.sp_ws.specs.Wires.{IsNewWire, Tied, WsPulled, WsWrote, RoomAfte
 
 use crate::frames::Frames;
 use crate::inlet::{pull_from, read_room};
-use crate::outlet::{MOST_WAITING, Outlet, flush_from};
+use crate::outlet::{FrameOutlet, MOST_WAITING, flush_from};
 use crate::side::Side;
-use crate::socket::Socket;
-use crate::spent::Spent;
+use crate::socket::MemorySocket;
+use crate::spent::CountsAtStart;
 use sp_base::{Link, NoMemory};
 use sp_msg::{Message, Room, Wire, WireFlush, WireIn, WireMarks};
 use std::alloc::Global;
@@ -26,9 +26,9 @@ pub struct WsWire<L: Link> {
     /// Where memory for messages is taken.
     alloc: Global,
     link: L,
-    frames: Socket,
+    frames: MemorySocket,
     /// What was put and isn't wholly written.
-    outlet: Outlet,
+    outlet: FrameOutlet,
     /// Where a read of the link puts its bytes.
     room: Vec<u8>,
     /// The last body that came was not handed on.
@@ -38,7 +38,7 @@ pub struct WsWire<L: Link> {
     /// What it shows beside its bytes.
     marks: WireMarks,
     /// How often the link had had nothing to read or had taken nothing when the wire was made.
-    spent: Spent,
+    spent: CountsAtStart,
 }
 
 impl<L: Link> Model for WsWire<L> {
@@ -84,13 +84,13 @@ impl<L: Link> WsWire<L> {
         requires { (L.seen link).is_open ≡ true }
         ensures { MatchResult result (λ w. IsNewWire side max rest.now (L.seen link) w) (λ e. e.1 ≡ link) }
     {
-        let Ok(outlet) = Outlet::new(alloc) else {
+        let Ok(outlet) = FrameOutlet::new(alloc) else {
             return Err((NoMemory, link));
         };
         let Ok(room) = read_room(alloc) else {
             return Err((NoMemory, link));
         };
-        let mut frames = Socket::new(alloc, side, max);
+        let mut frames = MemorySocket::new(alloc, side, max);
         let Ok(()) = frames.feed(rest) else {
             return Err((NoMemory, link));
         };
@@ -101,8 +101,8 @@ impl<L: Link> WsWire<L> {
     fn made(
         alloc: Global,
         link: L,
-        frames: Socket,
-        outlet: Outlet,
+        frames: MemorySocket,
+        outlet: FrameOutlet,
         room: Vec<u8>,
         max: u32,
     ) -> WsWire<L>
@@ -119,7 +119,7 @@ impl<L: Link> WsWire<L> {
             lost: false,
             max,
             marks: WireMarks::new(),
-            spent: Spent::of(),
+            spent: CountsAtStart::of(),
         }
     }
 

@@ -4,9 +4,9 @@ use Rattle.std.proofs.lemmas.List.Elements.{filter-append, All-head, All-tail}
 use Rattle.atomic_table.specs.Seated.{TableId}
 use Rattle.turn_lock.specs.declared.turn.Turn.{Turn}
 use Rattle.turn_lock.specs.History.{turns_of, IsByCallers}
-use Rattle.turn_lock.specs.Passes.{PassView, IsReady, IsSameCaller, OwnTurn, FitsIn, new_pass}
+use Rattle.turn_lock.specs.Passes.{TurnPassView, IsReady, IsSameCaller, OwnTurn, FitsIn, new_pass}
 use Rattle.turn_lock.proofs.Keeps.{nothing_more}
-use Rattle.turn_lock_uses.specs.declared.setting.Setting.{Setting}
+use Rattle.turn_lock_uses.specs.declared.setting.MachineLabel.{MachineLabel}
 use Rattle.turn_lock_uses.specs.Acts.{Acted, AnswersInOrder, RepliesTo}
 
 one_or_two : (n : ℕ) → 1 ≤ n → n ≤ 2 → (n ≡ 1) ⊎ (n ≡ 2)
@@ -79,7 +79,7 @@ module _ {E : Type 0} where
       (stands_in past (between ++ t ∷ []) front u rest is)
 
 module _ {E L : Type 0} where
-  pub none_yet : (answers : ℕ → List (Turn E) → Turn E → Type 0) (lock : TableId) (p : PassView E L) → IsReady lock p → Acted answers lock p 0 p
+  pub none_yet : (answers : ℕ → List (Turn E) → Turn E → Type 0) (lock : TableId) (p : TurnPassView E L) → IsReady lock p → Acted answers lock p 0 p
   none_yet answers lock p ready = record {
     ready = ready;
     same = (refl, refl);
@@ -90,7 +90,7 @@ module _ {E L : Type 0} where
     answered = λ front t rest is _. absurd (nil_or t front rest (sym is));
   }
 
-  pub one_more : (answers : ℕ → List (Turn E) → Turn E → Type 0) (lock : TableId) (k : ℕ) (p q r : PassView E L) (past : List (Turn E)) (t : Turn E) → Acted answers lock p k q → IsReady lock r → IsSameCaller q r → OwnTurn q past t r → answers k past t
+  pub one_more : (answers : ℕ → List (Turn E) → Turn E → Type 0) (lock : TableId) (k : ℕ) (p q r : TurnPassView E L) (past : List (Turn E)) (t : Turn E) → Acted answers lock p k q → IsReady lock r → IsSameCaller q r → OwnTurn q past t r → answers k past t
       → Acted answers lock p (k + 1) r
   one_more answers lock k p q r past t a ready same own answer =
       let n : ℕ = p.number in let between = own.others.0 in
@@ -107,7 +107,7 @@ module _ {E L : Type 0} where
         answered = answered_more answers n k p.seen a.past between t a.answered a.turns none (subst (λ (l : List (Turn E)). answers k l t) before answer);
       }
 
-  new_acted : (answers : ℕ → List (Turn E) → Turn E → Type 0) (lock lock' : TableId) (first label : Option L) (k times : ℕ) (past : List (Turn E)) (q : PassView E L) → Acted answers lock' (new_pass lock first k) times q → FitsIn past label q
+  new_acted : (answers : ℕ → List (Turn E) → Turn E → Type 0) (lock lock' : TableId) (first label : Option L) (k times : ℕ) (past : List (Turn E)) (q : TurnPassView E L) → Acted answers lock' (new_pass lock first k) times q → FitsIn past label q
       → (length (turns_of k past) ≡ times) × AnswersInOrder answers k [] past
   new_acted answers lock lock' first label k times past q a fits =
       let number : q.number ≡ k = a.same.0 in let rest = fits.0.0 in
@@ -122,15 +122,15 @@ module _ {E L : Type 0} where
       )
 
   -- the history has as many turns of a new pass as it acted, and they answer in order
-  pub turns_made : (answers : ℕ → List (Turn E) → Turn E → Type 0) (lock lock' : TableId) (first label : Option L) (k times : ℕ) (past : List (Turn E)) (p q : PassView E L) → p ≡ new_pass lock first k → Acted answers lock' p times q → FitsIn past label q
+  pub turns_made : (answers : ℕ → List (Turn E) → Turn E → Type 0) (lock lock' : TableId) (first label : Option L) (k times : ℕ) (past : List (Turn E)) (p q : TurnPassView E L) → p ≡ new_pass lock first k → Acted answers lock' p times q → FitsIn past label q
       → (length (turns_of k past) ≡ times) × AnswersInOrder answers k [] past
-  turns_made answers lock lock' first label k times past p q is acted fits = new_acted answers lock lock' first label k times past q (subst (λ (z : PassView E L). Acted answers lock' z times q) is acted) fits
+  turns_made answers lock lock' first label k times past p q is acted fits = new_acted answers lock lock' first label k times past q (subst (λ (z : TurnPassView E L). Acted answers lock' z times q) is acted) fits
 
 module _ {E : Type 0} where
   -- the same where what answers speaks of the label
-  pub replies_made : (replies : ℕ → ℕ → Option ℕ → List (Turn E) → Turn E → Type 0) (lock lock' : TableId) (first label : Option Setting) (k times : ℕ) (past : List (Turn E)) (p q : PassView E Setting) → p ≡ new_pass lock first k → Acted (RepliesTo replies p.label) lock' p times q → FitsIn past label q
+  pub replies_made : (replies : ℕ → ℕ → Option ℕ → List (Turn E) → Turn E → Type 0) (lock lock' : TableId) (first label : Option MachineLabel) (k times : ℕ) (past : List (Turn E)) (p q : TurnPassView E MachineLabel) → p ≡ new_pass lock first k → Acted (RepliesTo replies p.label) lock' p times q → FitsIn past label q
       → (length (turns_of k past) ≡ times) × AnswersInOrder (RepliesTo replies first) k [] past
-  replies_made replies lock lock' first label k times past p q is acted fits = new_acted (RepliesTo replies first) lock lock' first label k times past q (subst (λ (z : PassView E Setting). Acted (RepliesTo replies z.label) lock' z times q) is acted) fits
+  replies_made replies lock lock' first label k times past p q is acted fits = new_acted (RepliesTo replies first) lock lock' first label k times past q (subst (λ (z : TurnPassView E MachineLabel). Acted (RepliesTo replies z.label) lock' z times q) is acted) fits
 
   -- every turn answers
   abbrev pub AllAnswer : (ℕ → List (Turn E) → Turn E → Type 0) → List (Turn E) → Type 0

@@ -3,8 +3,8 @@ use Rattle.std.proofs.Common.{◌≡◌, ℕ, zero, suc, ◌-◌, ◌^◌, ◌<�
 use Rattle.turn_lock.specs.declared.turn.Turn.{Turn}
 use Rattle.atomic_table.specs.Seated.{TableId}
 use Rattle.turn_lock.specs.History.{turns_of, IsByCallers}
-use Rattle.turn_lock.specs.Passes.{PassView, FitsIn, new_pass}
-use Rattle.turn_lock_uses.specs.declared.setting.Setting.{Setting}
+use Rattle.turn_lock.specs.Passes.{TurnPassView, FitsIn, new_pass}
+use Rattle.turn_lock_uses.specs.declared.setting.MachineLabel.{MachineLabel}
 use Rattle.turn_lock_uses.specs.declared.writes.Write.{Write}
 use Rattle.turn_lock_uses.specs.declared.writes.Written.{Written}
 use Rattle.turn_lock_uses.specs.declared.counter.Added.{Added}
@@ -53,20 +53,20 @@ follow room past front [] is all so_far = let same : past ≡ front = is ∙ app
 follow room past front (t ∷ ts) is all so_far = let r = all front t ts is in follow room past (front ++ t ∷ []) ts (is ∙ sym (append_assoc front (t ∷ []) ts)) all (step room front t r.0 r.1 so_far)
 
 -- where every turn answers, the log is what the turns write in their order, as far as the room goes
-pub log_of : (setting : Setting) (label : Option Setting) (past : List (Turn Written)) → label ≡ Some setting → AllAnswer (RepliesTo Replies label) past → writes_of past ≡ take setting.room (counted [] past)
+pub log_of : (setting : MachineLabel) (label : Option MachineLabel) (past : List (Turn Written)) → label ≡ Some setting → AllAnswer (RepliesTo Replies label) past → writes_of past ≡ take setting.room (counted [] past)
 log_of setting label past is all = follow setting.room past [] past refl
-    (λ front t rest e. let r = all front t rest e in let same : r.0 ≡ setting = some_same r.0 setting (sym r.1 ∙ is) in (r.2, subst (λ (z : Setting). Replies z.room (length (turns_of t.number front)) r.2 front t) same r.3))
+    (λ front t rest e. let r = all front t rest e in let same : r.0 ≡ setting = some_same r.0 setting (sym r.1 ∙ is) in (r.2, subst (λ (z : MachineLabel). Replies z.room (length (turns_of t.number front)) r.2 front t) same r.3))
     (sym (take_none setting.room))
   where
-    or_else : Setting → Option Setting → Setting
+    or_else : MachineLabel → Option MachineLabel → MachineLabel
     or_else d (Some z) = z
     or_else d None = d
 
-    some_same : (a b : Setting) → Some a ≡ Some b → a ≡ b
+    some_same : (a b : MachineLabel) → Some a ≡ Some b → a ≡ b
     some_same a b e = ap (or_else a) e
 
 -- what three callers that acted wrote
-pub whole_log : (lock lock' : TableId) (z : Setting) (label : Option Setting) (times : ℕ) (past : List (Turn Written)) (log : List Write) (p q p' q' p'' q'' : PassView Written Setting) → log ≡ writes_of past → IsByCallers 3 past
+pub whole_log : (lock lock' : TableId) (z : MachineLabel) (label : Option MachineLabel) (times : ℕ) (past : List (Turn Written)) (log : List Write) (p q p' q' p'' q'' : TurnPassView Written MachineLabel) → log ≡ writes_of past → IsByCallers 3 past
     → p ≡ new_pass lock (Some z) 1 → Acted (RepliesTo Replies p.label) lock' p times q → FitsIn past label q
     → p' ≡ new_pass lock (Some z) 2 → Acted (RepliesTo Replies p'.label) lock' p' times q' → FitsIn past label q'
     → p'' ≡ new_pass lock (Some z) 3 → Acted (RepliesTo Replies p''.label) lock' p'' times q'' → FitsIn past label q'' → IsLogOfThree times z.room log
@@ -91,7 +91,7 @@ pub count_of : (past : List (Turn Added)) → AllAnswer (λ _. Adds 1) past → 
 count_of past all = added past [] past refl all refl
 
 -- what two callers that acted added
-pub whole_count : {L : Type 0} (lock lock' : TableId) (z label : Option L) (times : ℕ) (past : List (Turn Added)) (p q p' q' : PassView Added L) → IsByCallers 2 past
+pub whole_count : {L : Type 0} (lock lock' : TableId) (z label : Option L) (times : ℕ) (past : List (Turn Added)) (p q p' q' : TurnPassView Added L) → IsByCallers 2 past
     → p ≡ new_pass lock z 1 → Acted (λ _. Adds 1) lock' p times q → FitsIn past label q
     → p' ≡ new_pass lock z 2 → Acted (λ _. Adds 1) lock' p' times q' → FitsIn past label q' → IsByTwo times past × (total past ≡ min (length past) (2 ^ 64 - 1))
 whole_count lock lock' z label times past p q p' q' by new acted fits new' acted' fits' =

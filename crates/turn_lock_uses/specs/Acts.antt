@@ -3,13 +3,13 @@ use Rattle.std.specs.Prelude.{◌≡◌, ℕ, List, ◌∷◌, ◌++◌, length,
 use Rattle.atomic_table.specs.Seated.{TableId}
 use Rattle.turn_lock.specs.declared.turn.Turn.{Turn}
 use Rattle.turn_lock.specs.History.{turns_of}
-use Rattle.turn_lock.specs.Passes.{PassView, IsReady, IsSameCaller}
-use Rattle.turn_lock_uses.specs.declared.setting.Setting.{Setting}
+use Rattle.turn_lock.specs.Passes.{TurnPassView, IsReady, IsSameCaller}
+use Rattle.turn_lock_uses.specs.declared.setting.MachineLabel.{MachineLabel}
 
 module _ {E : Type 0} where
   -- the turn is an answer of a machine with the label's room
-  abbrev pub RepliesTo : (ℕ → ℕ → Option ℕ → List (Turn E) → Turn E → Type 0) → Option Setting → ℕ → List (Turn E) → Turn E → Type 0
-  RepliesTo replies label value past t = (z : Setting) × (label ≡ Some z) × (reply : Option ℕ) × replies z.room value reply past t
+  abbrev pub RepliesTo : (ℕ → ℕ → Option ℕ → List (Turn E) → Turn E → Type 0) → Option MachineLabel → ℕ → List (Turn E) → Turn E → Type 0
+  RepliesTo replies label value past t = (z : MachineLabel) × (label ≡ Some z) × (reply : Option ℕ) × replies z.room value reply past t
 
   -- each turn of this number in the part of the history behind `before` answers over all that stood before it, the first to the value 0, the next to 1, and so on
   abbrev pub AnswersInOrder : (ℕ → List (Turn E) → Turn E → Type 0) → ℕ → List (Turn E) → List (Turn E) → Type 0
@@ -17,7 +17,7 @@ module _ {E : Type 0} where
 
   module _ {L : Type 0} where
     -- the caller has taken so many turns, one for each value from 0 on, and is ready again
-    pub record Acted (answers : ℕ → List (Turn E) → Turn E → Type 0) (lock : TableId) (before : PassView E L) (count : ℕ) (after : PassView E L) : Type 0 where
+    pub record Acted (answers : ℕ → List (Turn E) → Turn E → Type 0) (lock : TableId) (before : TurnPassView E L) (count : ℕ) (after : TurnPassView E L) : Type 0 where
       pub ready : IsReady lock after
       pub same : IsSameCaller before after
       -- what was seen since

@@ -1,11 +1,11 @@
 //! A state that is generic in its machine, whose contract says only that there is a turn.
 ghost use Rattle.std.specs.Prelude.{◌≡◌, false, List, Some};
 ghost use Rattle.turn_lock.specs.declared.turn.Turn.{Turn};
-ghost use Rattle.turn_lock_uses.specs.declared.setting.Setting.{Setting};
+ghost use Rattle.turn_lock_uses.specs.declared.setting.MachineLabel.{MachineLabel};
 ghost use Rattle.turn_lock.specs.Passes.{IsOf, IsReady, IsSameCaller, OwnTurn};
 ghost use Rattle.turn_lock_uses.specs.Acts.{RepliesTo, Acted};
 
-use crate::setting::Setting;
+use crate::setting::MachineLabel;
 use atomic_table::Seat;
 use std::marker::Brand;
 use std::sync::Wait;
@@ -37,17 +37,17 @@ pub trait Machine {
 }
 
 /// A machine, and the seat of a table whose name all passes know by their label. It must be spent.
-pub struct Core<M: Machine> {
+pub struct CoreState<M: Machine> {
     /// What the calls act on.
     pub machine: M,
     /// A seat of the table whose name the label has.
     pub words: Seat<u8, ()>,
 }
 
-impl<M: Machine> Stands for Core<M> {
+impl<M: Machine> Stands for CoreState<M> {
     type Entry = M::Entry;
 
-    type Label = Setting;
+    type Label = MachineLabel;
 
     ghost stands = { λ c past. M.stands c.machine past };
 
@@ -58,8 +58,8 @@ impl<M: Machine> Stands for Core<M> {
 /// over these.
 pub fn act<M: Machine, R: Wait>(
     rt: &R,
-    lock: &TurnLock<Core<M>>,
-    pass: &mut TurnPass<Core<M>>,
+    lock: &TurnLock<CoreState<M>>,
+    pass: &mut TurnPass<CoreState<M>>,
     value: u64,
 ) -> Option<u64>
     requires lock { IsOf lock.now pass.old }
@@ -67,7 +67,7 @@ pub fn act<M: Machine, R: Wait>(
     ensures lock { IsOf lock.now pass.new }
     ensures same { IsSameCaller pass.old pass.new }
     ensures outside { pass.new.inside ≡ false }
-    ensures turn { (past : List (Turn M.Entry)) × (t : Turn M.Entry) × OwnTurn pass.old past t pass.new × (z : Setting) × (pass.old.label ≡ Some z) × M.replies z.room value result past t }
+    ensures turn { (past : List (Turn M.Entry)) × (t : Turn M.Entry) × OwnTurn pass.old past t pass.new × (z : MachineLabel) × (pass.old.label ≡ Some z) × M.replies z.room value result past t }
 {
     let mut core = lock.enter(rt, pass);
     let reply = core.machine.act(pass.number(), value);
@@ -78,10 +78,10 @@ pub fn act<M: Machine, R: Wait>(
 // Takes turns with the values 0, 1, 2 and so on.
 fn act_times<M: Machine, R: Wait>(
     rt: &R,
-    lock: &TurnLock<Core<M>>,
-    mut pass: TurnPass<Core<M>>,
+    lock: &TurnLock<CoreState<M>>,
+    mut pass: TurnPass<CoreState<M>>,
     times: u64,
-) -> TurnPass<Core<M>>
+) -> TurnPass<CoreState<M>>
     requires { IsReady lock.now pass }
     ensures { Acted (RepliesTo M.replies pass.label) lock.now pass times result }
 {
@@ -94,11 +94,11 @@ fn act_times<M: Machine, R: Wait>(
 /// Two callers act in threads of their own, each so many times, with the values 0, 1, 2 and so on.
 pub fn act_both<M: Machine + Send, R: Threads + Wait + Sync>(
     rt: &R,
-    lock: &TurnLock<Core<M>>,
-    first: TurnPass<Core<M>>,
-    second: TurnPass<Core<M>>,
+    lock: &TurnLock<CoreState<M>>,
+    first: TurnPass<CoreState<M>>,
+    second: TurnPass<CoreState<M>>,
     times: u64,
-) -> (TurnPass<Core<M>>, TurnPass<Core<M>>)
+) -> (TurnPass<CoreState<M>>, TurnPass<CoreState<M>>)
     requires first { IsReady lock.now first }
     requires second { IsReady lock.now second }
     ensures first { Acted (RepliesTo M.replies first.label) lock.now first times result.0 }
@@ -106,11 +106,11 @@ pub fn act_both<M: Machine + Send, R: Threads + Wait + Sync>(
 {
     join(
         rt,
-        || -> TurnPass<Core<M>>
+        || -> TurnPass<CoreState<M>>
             requires { IsReady lock.now first }
             ensures { Acted (RepliesTo M.replies first.label) lock.entry.now first times result }
         { act_times(rt, lock, first, times) },
-        || -> TurnPass<Core<M>>
+        || -> TurnPass<CoreState<M>>
             requires { IsReady lock.now second }
             ensures { Acted (RepliesTo M.replies second.label) lock.entry.now second times result }
         { act_times(rt, lock, second, times) },
@@ -120,12 +120,16 @@ pub fn act_both<M: Machine + Send, R: Threads + Wait + Sync>(
 /// The same with three callers.
 pub fn act_all<M: Machine + Send, R: Threads + Wait + Sync>(
     rt: &R,
-    lock: &TurnLock<Core<M>>,
-    first: TurnPass<Core<M>>,
-    second: TurnPass<Core<M>>,
-    third: TurnPass<Core<M>>,
+    lock: &TurnLock<CoreState<M>>,
+    first: TurnPass<CoreState<M>>,
+    second: TurnPass<CoreState<M>>,
+    third: TurnPass<CoreState<M>>,
     times: u64,
-) -> (TurnPass<Core<M>>, TurnPass<Core<M>>, TurnPass<Core<M>>)
+) -> (
+    TurnPass<CoreState<M>>,
+    TurnPass<CoreState<M>>,
+    TurnPass<CoreState<M>>,
+)
     requires first { IsReady lock.now first }
     requires second { IsReady lock.now second }
     requires third { IsReady lock.now third }
@@ -135,11 +139,11 @@ pub fn act_all<M: Machine + Send, R: Threads + Wait + Sync>(
 {
     let (first, (second, third)) = join(
         rt,
-        || -> TurnPass<Core<M>>
+        || -> TurnPass<CoreState<M>>
             requires { IsReady lock.now first }
             ensures { Acted (RepliesTo M.replies first.label) lock.entry.now first times result }
         { act_times(rt, lock, first, times) },
-        || -> (TurnPass<Core<M>>, TurnPass<Core<M>>)
+        || -> (TurnPass<CoreState<M>>, TurnPass<CoreState<M>>)
             requires { IsReady lock.now second × IsReady lock.now third }
             ensures { Acted (RepliesTo M.replies second.label) lock.entry.now second times result.0 × Acted (RepliesTo M.replies third.label) lock.entry.now third times result.1 }
         { act_both(rt, lock, second, third, times) },

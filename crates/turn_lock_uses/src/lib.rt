@@ -14,10 +14,10 @@ mod register;
 mod setting;
 mod writes;
 
-pub use core_state::{Core, Machine, act, act_all, act_both};
+pub use core_state::{CoreState, Machine, act, act_all, act_both};
 pub use counter::{Added, Counter, add, count_in_turns};
 pub use endings::{end_with_three, end_with_two};
 pub use play::write_in_turns;
 pub use register::Register;
-pub use setting::Setting;
+pub use setting::MachineLabel;
 pub use writes::{Write, Written};

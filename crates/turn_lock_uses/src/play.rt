@@ -3,7 +3,7 @@ ghost use Rattle.std.specs.Prelude.{◌≡◌, [], IfOk};
 ghost use Rattle.std.specs.Vec.{vec_capacity};
 ghost use Rattle.turn_lock_uses.specs.Logs.{IsLogOfThree};
 
-use crate::core_state::{Core, act_all};
+use crate::core_state::{CoreState, act_all};
 use crate::endings::end_with_three;
 use crate::register::Register;
 use crate::writes::Write;
@@ -22,11 +22,11 @@ impl TableRule<u8, (), ()> for NoRule {
     ghost first = { λ _. tt };
 }
 
-impl Core<Register> {
+impl CoreState<Register> {
     fn into_log(self) -> Vec<Write>
         ensures { result ≡ self.machine.log }
     {
-        let Core { machine, words } = self;
+        let CoreState { machine, words } = self;
         drop(words);
         machine.into_log()
     }
@@ -36,7 +36,7 @@ impl Core<Register> {
 fn take_turns<R: Threads + Wait + Sync>(
     rt: &R,
     alloc: Global,
-    core: Core<Register>,
+    core: CoreState<Register>,
     times: u64,
 ) -> Result<Vec<Write>, AllocError>
     requires { (core.machine.value ≡ 0) × (core.machine.log.items ≡ []) }
@@ -82,7 +82,7 @@ pub fn write_in_turns<R: Threads + Wait + Sync>(
             return Err(failed);
         }
     };
-    let log = take_turns(rt, alloc, Core { machine, words }, times);
+    let log = take_turns(rt, alloc, CoreState { machine, words }, times);
     table.close().free();
     log
 }

@@ -19,7 +19,7 @@ const RUNS: [(usize, u32); 3] = [(16, 20_000), (1_024, 5_000), (65_536, 100)];
 
 /// What came of a run.
 #[derive(Clone, Copy, Debug)]
-struct Ran {
+struct WireRun {
     messages: u32,
     bytes: u64,
     writes: u64,
@@ -81,7 +81,12 @@ fn over(alloc: Global, link: Tube) -> Result<TcpWire<Tube>, NoMemory>
     }
 }
 
-fn run<R: Wait>(alloc: Global, rt: &R, body: &[u8], count: u32) -> Result<Option<Ran>, NoMemory> {
+fn run<R: Wait>(
+    alloc: Global,
+    rt: &R,
+    body: &[u8],
+    count: u32,
+) -> Result<Option<WireRun>, NoMemory> {
     let mut out = over(alloc, Tube::new(alloc, 0))?;
     if !fill(alloc, rt, &mut out, body, count)? {
         return Ok(None);
@@ -90,7 +95,7 @@ fn run<R: Wait>(alloc: Global, rt: &R, body: &[u8], count: u32) -> Result<Option
     let writes = link.writes();
     let mut inward = over(alloc, link)?;
     let (messages, bytes) = drain(rt, &mut inward, count);
-    Ok(Some(Ran {
+    Ok(Some(WireRun {
         messages,
         bytes,
         writes,

@@ -15,12 +15,12 @@ const LARGE: usize = 1_048_576;
 
 /// A link in memory, whose bytes proofs don't see; it notes for how many bytes its last read had room.
 #[derive(Drop)]
-struct Asked {
+struct NotingLink {
     link: MemLink,
     room: usize,
 }
 
-impl Link for Asked {
+impl Link for NotingLink {
     ghost seen = { λ a. untold_view a.link };
 
     fn place(&self) -> u32 {
@@ -59,12 +59,12 @@ fn large(alloc: Global) -> Result<Bytes, NoMemory> {
 }
 
 // A wire over a link that brings a large message, and then nothing for ever.
-fn wire(alloc: Global) -> Result<TcpWire<Asked>, NoMemory>
+fn wire(alloc: Global) -> Result<TcpWire<NotingLink>, NoMemory>
     ensures { IfOk result (λ w. w.wire.is_open ≡ true) }
 {
     let mut script = Vec::new(alloc);
     script.push(LinkStep::Bytes(large(alloc)?))?;
-    let link = Asked {
+    let link = NotingLink {
         link: MemLink::new(alloc, script, 1, Vec::new(alloc)),
         room: 0,
     };
@@ -100,7 +100,7 @@ fn pulled<W: Wire, R: Wait>(rt: &R, wire: &mut W, times: u32) -> usize
 fn room_after<R: Wait>(alloc: Global, rt: &R, times: u32) -> Result<Option<usize>, NoMemory> {
     let mut wire = wire(alloc)?;
     let came = pulled(rt, &mut wire, times);
-    let Asked { link: _, room } = wire.into_link();
+    let NotingLink { link: _, room } = wire.into_link();
     Ok((came == LARGE).then_some(room))
 }
 

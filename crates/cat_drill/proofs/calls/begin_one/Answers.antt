@@ -1,4 +1,4 @@
-use Rattle.cat_drill.proofs.Calling.{begins, stays}
+use Rattle.cat_drill.proofs.DrillCallers.{begins, stays}
 use Rattle.cat_drill.proofs.calls.begin_one.Goals as goal
 
 pub returns-in-Ok-clause-calls : goal.returns-in-Ok-clause-calls

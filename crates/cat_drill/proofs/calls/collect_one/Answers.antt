@@ -1,4 +1,4 @@
-use Rattle.cat_drill.proofs.Calling.{collects_late, turn_later, wait_later}
+use Rattle.cat_drill.proofs.DrillCallers.{collects_late, turn_later, wait_later}
 use Rattle.cat_drill.proofs.calls.collect_one.Goals as goal
 
 pub returns-in-NotYet : goal.returns-in-NotYet

@@ -1,5 +1,5 @@
 use Rattle.sp_history.specs.Past.{past_of}
-use Rattle.cat_drill.proofs.Finishing.{lane_is, gave_all}
+use Rattle.cat_drill.proofs.EndOfDrill.{lane_is, gave_all}
 use Rattle.cat_drill.proofs.ending.sum_of_all.Goals as goal
 
 pub finish-end-requires : goal.finish-end-requires

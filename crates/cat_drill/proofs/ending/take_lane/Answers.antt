@@ -1,4 +1,4 @@
-use Rattle.cat_drill.proofs.Finishing.{lane_came}
+use Rattle.cat_drill.proofs.EndOfDrill.{lane_came}
 use Rattle.cat_drill.proofs.ending.take_lane.Goals as goal
 
 pub returns : goal.returns

@@ -1,4 +1,4 @@
-use Rattle.cat_drill.proofs.Calling.{last, collects}
+use Rattle.cat_drill.proofs.DrillCallers.{last, collects}
 use Rattle.cat_drill.proofs.rounds.collect_last.Goals as goal
 
 pub collect_one-requires-clause-op : goal.collect_one-requires-clause-op

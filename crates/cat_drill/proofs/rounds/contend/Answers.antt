@@ -1,4 +1,4 @@
-use Rattle.cat_drill.proofs.Calling.{still_own, works, later_twice}
+use Rattle.cat_drill.proofs.DrillCallers.{still_own, works, later_twice}
 use Rattle.cat_drill.proofs.rounds.contend.Goals as goal
 
 pub returns-clause-crew : goal.returns-clause-crew

@@ -1,5 +1,5 @@
 use Rattle.std.proofs.Common.{refl, [], ◌∷◌}
-use Rattle.cat_drill.proofs.Calling.{works, last, collects}
+use Rattle.cat_drill.proofs.DrillCallers.{works, last, collects}
 use Rattle.cat_drill.proofs.rounds.give_on.Goals as goal
 
 pub collect_one-requires-clause-op : goal.collect_one-requires-clause-op

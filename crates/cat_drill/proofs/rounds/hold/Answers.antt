@@ -1,6 +1,6 @@
 use Rattle.std.proofs.Common.{refl, sym, subst, [], ◌∷◌, ◌++◌}
 use Rattle.cat_drill.specs.Calling.{Calls}
-use Rattle.cat_drill.proofs.Calling.{last, collects}
+use Rattle.cat_drill.proofs.DrillCallers.{last, collects}
 use Rattle.cat_drill.proofs.rounds.hold.Goals as goal
 
 pub collect_one-requires-clause-op : goal.collect_one-requires-clause-op

@@ -1,6 +1,6 @@
 use Rattle.std.proofs.Common.{subst}
 use Rattle.cat_drill.specs.Calling.{Calls}
-use Rattle.cat_drill.proofs.Calling.{later_twice}
+use Rattle.cat_drill.proofs.DrillCallers.{later_twice}
 use Rattle.cat_drill.proofs.rounds.round.Goals as goal
 
 pub give_rest-all-requires : goal.give_rest-all-requires

@@ -2,7 +2,7 @@ use Rattle.std.proofs.Common.{◌≡◌, subst}
 use Rattle.std.specs.Prelude.{◌%◌, ◌^◌, IfSome}
 use Rattle.std.specs.List.{sum}
 use Rattle.cat_play.specs.Drilling.{values, GivesAll}
-use Rattle.cat_drill.proofs.Finishing.{drilled, undrilled}
+use Rattle.cat_drill.proofs.EndOfDrill.{drilled, undrilled}
 use Rattle.cat_drill.proofs.run.conclude.Goals as goal
 
 pub returns-in-None-clause-ends : goal.returns-in-None-clause-ends

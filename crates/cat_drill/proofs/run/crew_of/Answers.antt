@@ -1,5 +1,5 @@
 use Rattle.std.proofs.Common.{ap, ◌∙◌}
-use Rattle.cat_drill.proofs.Opening.{crew_new}
+use Rattle.cat_drill.proofs.DrillBeginning.{crew_new}
 use Rattle.cat_drill.proofs.run.crew_of.Goals as goal
 
 pub returns : goal.returns

@@ -1,6 +1,6 @@
 use Rattle.std.proofs.Common.{◌∙◌, ap}
 use Rattle.sp_socket.specs.Passes.{new_list}
-use Rattle.cat_drill.proofs.Opening.{pull_setting}
+use Rattle.cat_drill.proofs.DrillBeginning.{pull_setting}
 use Rattle.cat_drill.proofs.run.drill.Goals as goal
 
 pub drill_on-requires-clause-list : goal.drill_on-requires-clause-list

@@ -1,4 +1,4 @@
-use Rattle.cat_drill.proofs.Opening.{fed}
+use Rattle.cat_drill.proofs.DrillBeginning.{fed}
 use Rattle.cat_drill.proofs.run.drill_on.Goals as goal
 
 pub play-requires-clause-fed : goal.play-requires-clause-fed

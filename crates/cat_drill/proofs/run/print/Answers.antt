@@ -1,7 +1,7 @@
 use Rattle.std.proofs.Common.{◌∙◌, subst}
 use Rattle.sp_base.specs.Steps.{AfterPut}
 use Rattle.sp_base.specs.declared.outside.Sunk.TheVariants.{Failed}
-use Rattle.cat_drill.proofs.Finishing.{failed}
+use Rattle.cat_drill.proofs.EndOfDrill.{failed}
 use Rattle.cat_drill.proofs.run.print.Goals as goal
 
 pub returns : goal.returns

@@ -7,7 +7,7 @@ use Rattle.link_opening.specs.Origins.{run_ways}
 use Rattle.cat_play.specs.Running.{world, RunsPlan, EndsPlan}
 use Rattle.std.specs.List.{AllByRecursion}
 use Rattle.cat_rounds.specs.Built.{Follows, ListensOnce, IsEndOf, origins_of}
-use Rattle.cat_rounds.proofs.Beginning.{start_of, plan_begins, all_ends_of, is_play_of, prints_nothing, can_subscribe}
+use Rattle.cat_rounds.proofs.BeforeRounds.{start_of, plan_begins, all_ends_of, is_play_of, prints_nothing, can_subscribe}
 use Rattle.cat_rounds.proofs.Played.{runs_plan}
 use Rattle.cat_rounds.proofs.Late.{in_time}
 use Rattle.cat_rounds.proofs.whole.play.Goals as goal

@@ -1,6 +1,6 @@
 use Rattle.sp_base.specs.declared.addr.Scheme.TheVariants as schemes
 use Rattle.sp_base.specs.Listeners.{listens_of}
-use Rattle.cat_tests.proofs.Numbered.{is_there}
+use Rattle.cat_tests.proofs.FoundListeners.{is_there}
 use Rattle.cat_tests.proofs.nets.first_read.Goals as goal
 
 pub accept-requires : goal.accept-requires

@@ -1,4 +1,4 @@
-use Rattle.sp_lane.specs.declared.item.Item.TheVariants as items
+use Rattle.sp_lane.specs.declared.item.LaneItem.TheVariants as items
 use Rattle.drill_tests.proofs.Telling.{has_room, one_left}
 use Rattle.drill_tests.proofs.lanes.puts_where_there_is_room.Goals as goal
 use Rattle.drill_tests.proofs.lanes.puts_where_there_is_room.Goals.{in-Done, in-Full}

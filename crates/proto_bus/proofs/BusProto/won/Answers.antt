@@ -2,8 +2,8 @@ use Rattle.std.proofs.Common.{◌≡◌, ◌∙◌, refl, sym, Some, None, true,
 use Rattle.std.specs.Prelude.{Option, is_some}
 use Rattle.std.specs.Option.{option_map}
 use Rattle.sp_msg.specs.Views.{MessageView}
-use Rattle.sp_history.specs.declared.entry.Act.{Act}
-use Rattle.sp_history.specs.declared.entry.Act.TheVariants.{Recv, Send}
+use Rattle.sp_history.specs.declared.entry.RecordedAct.{RecordedAct}
+use Rattle.sp_history.specs.declared.entry.RecordedAct.TheVariants.{Recv, Send}
 use Rattle.sp_history.specs.Legal.{is_recv}
 use Rattle.sp_history.specs.Past.{pend}
 use Rattle.sp_history.specs.Moments.{past}
@@ -13,12 +13,12 @@ use Rattle.proto_floods.proofs.Sending.{won_send}
 use Rattle.proto_bus.proofs.Bussed.{given_ties, flooded_ties}
 use Rattle.proto_bus.proofs.BusProto.won.Goals as goal
 
-has_message : (o : Option MessageView) (a : Act) → option_map text_of o ≡ message_of a → is_some o ≡ true → is_recv a ≡ true → ⊥
+has_message : (o : Option MessageView) (a : RecordedAct) → option_map text_of o ≡ message_of a → is_some o ≡ true → is_recv a ≡ true → ⊥
 has_message None a e h r = absurd cc
 has_message (Some v) Recv e h r = absurd cc
 has_message (Some v) (Send m) e h r = absurd cc
 
-has_none : (o : Option MessageView) (a : Act) → option_map text_of o ≡ message_of a → is_some o ≡ false → is_recv a ≡ false → ⊥
+has_none : (o : Option MessageView) (a : RecordedAct) → option_map text_of o ≡ message_of a → is_some o ≡ false → is_recv a ≡ false → ⊥
 has_none None Recv e h r = absurd cc
 has_none None (Send m) e h r = absurd cc
 has_none (Some v) a e h r = absurd cc

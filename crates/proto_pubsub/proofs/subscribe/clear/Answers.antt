@@ -1,5 +1,5 @@
 use Rattle.proto_pubsub.specs.Seats.{emptied}
-use Rattle.proto_pubsub.proofs.Seating.{written}
+use Rattle.proto_pubsub.proofs.SubContexts.{written}
 use Rattle.proto_pubsub.proofs.subscribe.clear.Goals as goal
 
 pub loop-seat-preserved : goal.loop-seat-preserved

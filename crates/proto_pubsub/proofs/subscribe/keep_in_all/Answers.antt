@@ -1,6 +1,6 @@
 use Rattle.std.proofs.Common.{refl, arith}
 use Rattle.proto_pubsub.specs.Seats.{kept_in}
-use Rattle.proto_pubsub.proofs.Seating.{last_written}
+use Rattle.proto_pubsub.proofs.SubContexts.{last_written}
 use Rattle.proto_pubsub.proofs.subscribe.keep_in_all.Goals as goal
 
 pub returns-in-Some-clause-one : goal.returns-in-Some-clause-one

@@ -3,7 +3,7 @@ use Rattle.std.specs.Prelude.{not}
 use Rattle.proto_pubsub.specs.Seats.{SeatView, is_home}
 use Rattle.sp_history.specs.Lists.{is_nil}
 use Rattle.proto_pubsub.specs.Subs.{is_kept}
-use Rattle.proto_pubsub.proofs.Seating.{found_at, not_found}
+use Rattle.proto_pubsub.proofs.SubContexts.{found_at, not_found}
 use Rattle.proto_pubsub.proofs.subscribe.keeps_for.Goals as goal
 
 pub returns-in-None : goal.returns-in-None

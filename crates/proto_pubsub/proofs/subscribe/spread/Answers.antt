@@ -1,6 +1,6 @@
 use Rattle.std.proofs.Common.{◌≡◌, ◌∙◌, ap, sym, arith, ℕ, Some, length}
 use Rattle.proto_pubsub.specs.Seats.{SeatView, kept_in, takes_frame}
-use Rattle.proto_pubsub.proofs.Seating.{written, long_written, set_is, stops}
+use Rattle.proto_pubsub.proofs.SubContexts.{written, long_written, set_is, stops}
 use Rattle.proto_pubsub.proofs.subscribe.spread.Goals as goal
 
 pub loop-i-preserved : goal.loop-i-preserved

@@ -1,6 +1,6 @@
 use Rattle.std.proofs.Common.{sym, refl}
 use Rattle.proto_pubsub.specs.Seats.{is_home}
-use Rattle.proto_pubsub.proofs.Seating.{found_at, not_found, switch_one, one_off}
+use Rattle.proto_pubsub.proofs.SubContexts.{found_at, not_found, switch_one, one_off}
 use Rattle.proto_pubsub.proofs.subscribe.switch.Goals as goal
 
 pub returns-in-None-clause-switched : goal.returns-in-None-clause-switched

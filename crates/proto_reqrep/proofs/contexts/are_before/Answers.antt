@@ -1,6 +1,6 @@
 use Rattle.std.proofs.Common.{◌≡◌, ◌∙◌, sym, length, ◌-◌, Some}
 use Rattle.std.specs.Prelude.{slice_get}
-use Rattle.proto_reqrep.proofs.Ordered.{all_before, some_length}
+use Rattle.proto_reqrep.proofs.NumberOrder.{all_before, some_length}
 use Rattle.proto_reqrep.proofs.contexts.are_before.Goals as goal
 
 pub returns-in-Some : goal.returns-in-Some

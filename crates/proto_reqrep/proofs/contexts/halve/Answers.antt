@@ -2,8 +2,8 @@ use Rattle.std.proofs.Common.{rules, ◌≡◌, ◌<◌, ◌≤◌, false, true,
 use Rattle.std.specs.Prelude.{◌==◌}
 use Rattle.std.proofs.lemmas.List.Sorted.{IsPartitionPoint-from_clause}
 use Rattle.proto_reqrep.specs.Ordered.{is_before}
-use Rattle.proto_reqrep.proofs.Rising.{at_or_above}
-use Rattle.proto_reqrep.proofs.Ordered.{parted, placed, not_placed, all_lower, equal_of}
+use Rattle.proto_reqrep.proofs.PortsInOrder.{at_or_above}
+use Rattle.proto_reqrep.proofs.NumberOrder.{parted, placed, not_placed, all_lower, equal_of}
 use Rattle.proto_reqrep.proofs.contexts.halve.Goals as goal
 
 pub returns-then-i-list : goal.returns-then-i-list

@@ -3,7 +3,7 @@ use Rattle.std.specs.Prelude.{not}
 use Rattle.std.proofs.lemmas.Fn.{filter_same}
 use Rattle.proto_reqrep.specs.Backlogs.{is_of}
 use Rattle.proto_reqrep.proofs.Positions.{not_found, without_none, without_at}
-use Rattle.proto_reqrep.proofs.Ordered.{without_is, here}
+use Rattle.proto_reqrep.proofs.NumberOrder.{without_is, here}
 use Rattle.proto_reqrep.proofs.contexts.take_out.Goals as goal
 
 pub returns-then-not-in_order : goal.returns-then-not-in_order

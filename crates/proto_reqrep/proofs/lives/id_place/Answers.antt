@@ -5,7 +5,7 @@ use Rattle.proto_reqrep.specs.Reqs.{waits_for}
 use Rattle.proto_reqrep.specs.Spots.{holds, held}
 use Rattle.proto_reqrep.specs.declared.req.Live.{Live}
 use Rattle.proto_reqrep.proofs.Positions.{nowhere}
-use Rattle.proto_reqrep.proofs.Indexed.{none_waits}
+use Rattle.proto_reqrep.proofs.NumberIndexes.{none_waits}
 use Rattle.proto_reqrep.proofs.Spotted.{any_held}
 use Rattle.proto_reqrep.proofs.lives.id_place.Goals as goal
 

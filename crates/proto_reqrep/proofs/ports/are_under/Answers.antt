@@ -1,6 +1,6 @@
 use Rattle.std.proofs.Common.{◌≡◌, ◌∙◌, ap, sym, length, ◌-◌, Some}
 use Rattle.std.specs.Prelude.{slice_get, nat_lt}
-use Rattle.proto_reqrep.proofs.Rising.{under_last, some_length}
+use Rattle.proto_reqrep.proofs.PortsInOrder.{under_last, some_length}
 use Rattle.proto_reqrep.proofs.ports.are_under.Goals as goal
 
 pub returns-in-Some : goal.returns-in-Some

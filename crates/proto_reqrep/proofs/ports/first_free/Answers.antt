@@ -6,7 +6,7 @@ use Rattle.std.proofs.lemmas.List.Sorted.{IsPartitionPoint-from_clause}
 use Rattle.proto_reqrep.specs.declared.ports.Held.{Held}
 use Rattle.proto_reqrep.specs.Ports.{is_under, is_open, is_free_from, number}
 use Rattle.proto_reqrep.proofs.Positions.{found_at, not_found}
-use Rattle.proto_reqrep.proofs.Rising.{parted, below_first, dropped, find_filter, at_dropped, whole_rest}
+use Rattle.proto_reqrep.proofs.PortsInOrder.{parted, below_first, dropped, find_filter, at_dropped, whole_rest}
 use Rattle.proto_reqrep.proofs.ports.first_free.Goals as goal
 
 pub returns-in-None : goal.returns-in-None

@@ -3,7 +3,7 @@ use Rattle.std.specs.Prelude.{◌==◌}
 use Rattle.std.proofs.lemmas.List.Sorted.{IsPartitionPoint-from_clause}
 use Rattle.proto_reqrep.specs.declared.ports.Held.{Held}
 use Rattle.proto_reqrep.specs.Ports.{is_under}
-use Rattle.proto_reqrep.proofs.Rising.{parted, below_first, found_place, no_place, at_place_is, at_none, at_or_above}
+use Rattle.proto_reqrep.proofs.PortsInOrder.{parted, below_first, found_place, no_place, at_place_is, at_none, at_or_above}
 use Rattle.proto_reqrep.proofs.ports.place_of.Goals as goal
 
 pub returns-then-i-held : goal.returns-then-i-held

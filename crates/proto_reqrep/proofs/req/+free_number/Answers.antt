@@ -1,6 +1,6 @@
 use Rattle.std.proofs.Common.{◌∙◌, sym, ap}
 use Rattle.proto_reqrep.specs.Reqs.{free_number}
-use Rattle.proto_reqrep.proofs.Coming.{free_none, free_stop, free_on}
+use Rattle.proto_reqrep.proofs.ReqArrivals.{free_none, free_stop, free_on}
 use Rattle.proto_reqrep.proofs.req.+free_number.Goals as goal
 
 pub returns-then-tries-eq0 : goal.returns-then-tries-eq0

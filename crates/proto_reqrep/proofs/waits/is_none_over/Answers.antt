@@ -1,6 +1,6 @@
 use Rattle.std.proofs.Common.{◌∙◌, sym}
 use Rattle.proto_reqrep.proofs.Spotted.{any_held}
-use Rattle.proto_reqrep.proofs.Noted.{not_false}
+use Rattle.proto_reqrep.proofs.KnownOperations.{not_false}
 use Rattle.proto_reqrep.proofs.waits.is_none_over.Goals as goal
 
 pub returns : goal.returns

@@ -1,7 +1,7 @@
 use Rattle.std.proofs.Common.{◌≡◌, ◌<◌, length, slice_index_or, true, rules}
 use Rattle.proto_reqrep.specs.Waits.{is_named, slot_of}
 use Rattle.proto_reqrep.specs.Spots.{holds}
-use Rattle.proto_reqrep.proofs.Noted.{at_spot, same_slot}
+use Rattle.proto_reqrep.proofs.KnownOperations.{at_spot, same_slot}
 use Rattle.proto_reqrep.proofs.waits.place_of.Goals as goal
 
 pub returns-then-names : goal.returns-then-names

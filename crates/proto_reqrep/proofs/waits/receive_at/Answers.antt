@@ -1,7 +1,7 @@
 use Rattle.std.proofs.Common.{◌≡◌, ◌<◌, length, slice_index_or, true, rules}
 use Rattle.proto_reqrep.specs.Waits.{receives_on, isnt}
 use Rattle.proto_reqrep.specs.Spots.{holds}
-use Rattle.proto_reqrep.proofs.Noted.{kind_spot, receive_is, same_home}
+use Rattle.proto_reqrep.proofs.KnownOperations.{kind_spot, receive_is, same_home}
 use Rattle.proto_reqrep.proofs.waits.receive_at.Goals as goal
 
 pub returns-then-receives_on : goal.returns-then-receives_on

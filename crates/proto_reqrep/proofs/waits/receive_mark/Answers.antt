@@ -1,6 +1,6 @@
 use Rattle.std.proofs.Common.{arith, refl}
 use Rattle.proto_reqrep.specs.Waits.{isnt}
-use Rattle.proto_reqrep.proofs.Noted.{mark_found}
+use Rattle.proto_reqrep.proofs.KnownOperations.{mark_found}
 use Rattle.proto_reqrep.proofs.waits.receive_mark.Goals as goal
 
 pub returns-then-from-list : goal.returns-then-from-list

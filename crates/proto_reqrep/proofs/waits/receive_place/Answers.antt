@@ -6,7 +6,7 @@ use Rattle.std.specs.Prelude.{is_some}
 use Rattle.proto_reqrep.specs.Numbers.{number_at}
 use Rattle.proto_reqrep.proofs.Positions.{nowhere}
 use Rattle.proto_reqrep.proofs.Spotted.{any_held}
-use Rattle.proto_reqrep.proofs.Noted.{any_receive}
+use Rattle.proto_reqrep.proofs.KnownOperations.{any_receive}
 use Rattle.proto_reqrep.proofs.waits.receive_place.Goals as goal
 
 pub returns-in-None : goal.returns-in-None

@@ -1,5 +1,5 @@
 use Rattle.std.proofs.Common.{arith, refl}
-use Rattle.proto_reqrep.proofs.Noted.{mark_found}
+use Rattle.proto_reqrep.proofs.KnownOperations.{mark_found}
 use Rattle.proto_reqrep.proofs.waits.send_mark.Goals as goal
 
 pub returns-then-from-list : goal.returns-then-from-list

@@ -1,5 +1,5 @@
 use Rattle.sp_base.specs.Addresses.{scheme_of}
-use Rattle.real_tests.proofs.Numbered.{is_there}
+use Rattle.real_tests.proofs.ListenerNumbers.{is_there}
 use Rattle.real_tests.proofs.adapters.listening.Goals as goal
 
 pub returns-in-At : goal.returns-in-At

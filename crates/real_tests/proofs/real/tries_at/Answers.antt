@@ -1,5 +1,5 @@
 use Rattle.sp_base.specs.declared.addr.Scheme.TheVariants as schemes
-use Rattle.real_tests.proofs.Numbered.{is_there}
+use Rattle.real_tests.proofs.ListenerNumbers.{is_there}
 use Rattle.real_tests.proofs.real.tries_at.Goals as goal
 
 pub talks_to_itself-talk-requires-clause-at : goal.talks_to_itself-talk-requires-clause-at

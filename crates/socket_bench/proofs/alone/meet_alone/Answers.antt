@@ -1,5 +1,5 @@
 use Rattle.sp_core.proofs.Labels.{same_words}
-use Rattle.socket_bench.proofs.Staying.{stays}
+use Rattle.socket_bench.proofs.OneCallerCores.{stays}
 use Rattle.socket_bench.proofs.alone.meet_alone.Goals as goal
 
 pub returns : goal.returns

@@ -1,7 +1,7 @@
 use Rattle.std.proofs.Common.{sym, subst, []}
 use Rattle.aio_word.specs.Views.{Stands}
 use Rattle.sp_socket.proofs.Waits.{still_of}
-use Rattle.socket_tests.proofs.Calling.{stands_last}
+use Rattle.socket_tests.proofs.SocketCallers.{stands_last}
 use Rattle.socket_bench.proofs.Lending.{own_out}
 use Rattle.socket_bench.proofs.callers.end.Goals as goal
 

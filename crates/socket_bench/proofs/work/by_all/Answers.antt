@@ -3,8 +3,8 @@ use denote.Exit.{yes}
 use denote.Param.{param}
 use denote.Param.Send.{param_send, arg_send}
 use Rattle.sp_socket.specs.Passes.{IsOf}
-use Rattle.socket_tests.proofs.Crossing.{pass_send}
-use Rattle.socket_tests.proofs.Working.{by_places}
+use Rattle.socket_tests.proofs.PassesBetweenThreads.{pass_send}
+use Rattle.socket_tests.proofs.ByPlace.{by_places}
 use Rattle.socket_bench.proofs.work.by_all.Goals as goal
 
 pub for_each_mut-requires-send-T : goal.for_each_mut-requires-send-T

@@ -2,7 +2,7 @@ use Rattle.std.proofs.Common.{sym, subst, List}
 use Rattle.aio_word.specs.Views.{Stands}
 use Rattle.sp_socket.specs.Passes.{PassView}
 use Rattle.sp_socket.proofs.Waits.{still_of}
-use Rattle.socket_tests.proofs.Calling.{stands_last}
+use Rattle.socket_tests.proofs.SocketCallers.{stands_last}
 use Rattle.socket_tests.proofs.callers.give_back.Goals as goal
 
 pub returns-clause-closed : goal.returns-clause-closed

@@ -1,6 +1,6 @@
 use Rattle.std.proofs.Common.{rules, ◌≡◌, sym, subst, [], ◌∷◌}
 use Rattle.socket_tests.specs.Calls.{Calls}
-use Rattle.socket_tests.proofs.Calling.{list_less, no_ops}
+use Rattle.socket_tests.proofs.SocketCallers.{list_less, no_ops}
 use Rattle.socket_tests.proofs.callers.next.Goals as goal
 
 pub returns-clause-list : goal.returns-clause-list

@@ -1,6 +1,6 @@
 use Rattle.std.proofs.Common.{sym}
 use Rattle.sp_proto.specs.Kinds.{setting_of}
-use Rattle.socket_tests.proofs.Calling.{list_made}
+use Rattle.socket_tests.proofs.SocketCallers.{list_made}
 use Rattle.socket_tests.proofs.callers.opened.Goals as goal
 
 pub returns : goal.returns

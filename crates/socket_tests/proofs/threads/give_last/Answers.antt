@@ -1,7 +1,7 @@
 use Rattle.std.proofs.Common.{◌∙◌, sym, subst, ap, [], Some}
 use Rattle.aio_word.specs.Views.{Each}
 use Rattle.socket_tests.specs.Calls.{Calls}
-use Rattle.socket_tests.proofs.Calling.{list_more, each_front}
+use Rattle.socket_tests.proofs.SocketCallers.{list_more, each_front}
 use Rattle.socket_tests.proofs.threads.give_last.Goals as goal
 
 pub give-requires : goal.give-requires

@@ -1,7 +1,7 @@
 use Rattle.std.proofs.Common.{sym, subst, []}
 use Rattle.aio_word.specs.Views.{Each}
 use Rattle.socket_tests.specs.Calls.{Calls}
-use Rattle.socket_tests.proofs.Calling.{list_less, no_ops, each_more}
+use Rattle.socket_tests.proofs.SocketCallers.{list_less, no_ops, each_more}
 use Rattle.socket_tests.proofs.threads.lend.Goals as goal
 
 pub returns-clause-list : goal.returns-clause-list

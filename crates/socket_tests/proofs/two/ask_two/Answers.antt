@@ -5,7 +5,7 @@ use Rattle.sp_proto.specs.Kinds.{setting_of}
 use Rattle.proto_reqrep.specs.Reqs.{req_kind}
 use Rattle.sp_socket.specs.Passes.{PassView}
 use Rattle.sp_socket.proofs.Waits.{still_of}
-use Rattle.socket_tests.proofs.Calling.{list_made, list_less, list_whole, whole_again, stands_last}
+use Rattle.socket_tests.proofs.SocketCallers.{list_made, list_less, list_whole, whole_again, stands_last}
 use Rattle.socket_tests.proofs.two.ask_two.Goals as goal
 
 pub attach-requires-clause-own : goal.attach-requires-clause-own

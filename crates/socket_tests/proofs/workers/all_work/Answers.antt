@@ -3,8 +3,8 @@ use denote.Exit.{yes}
 use denote.Param.{param}
 use denote.Param.Send.{param_send, arg_send}
 use Rattle.socket_tests.specs.Calls.{Calls}
-use Rattle.socket_tests.proofs.Crossing.{pass_send}
-use Rattle.socket_tests.proofs.Working.{by_places}
+use Rattle.socket_tests.proofs.PassesBetweenThreads.{pass_send}
+use Rattle.socket_tests.proofs.ByPlace.{by_places}
 use Rattle.socket_tests.proofs.workers.all_work.Goals as goal
 
 pub for_each_mut-requires-send-T : goal.for_each_mut-requires-send-T

@@ -1,5 +1,5 @@
 use Rattle.std.proofs.Common.{refl, [], ◌∷◌}
-use Rattle.socket_tests.proofs.Calling.{begins}
+use Rattle.socket_tests.proofs.SocketCallers.{begins}
 use Rattle.socket_tests.proofs.workers.begin_one.Goals as goal
 
 pub returns : goal.returns

@@ -1,5 +1,5 @@
 use Rattle.std.proofs.Common.{[]}
-use Rattle.socket_tests.proofs.Calling.{rests}
+use Rattle.socket_tests.proofs.SocketCallers.{rests}
 use Rattle.socket_tests.proofs.workers.cancel_one.Goals as goal
 
 pub returns : goal.returns

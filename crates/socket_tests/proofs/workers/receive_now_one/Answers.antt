@@ -1,5 +1,5 @@
 use Rattle.std.proofs.Common.{[]}
-use Rattle.socket_tests.proofs.Calling.{stays}
+use Rattle.socket_tests.proofs.SocketCallers.{stays}
 use Rattle.socket_tests.proofs.workers.receive_now_one.Goals as goal
 
 pub returns-in-Err : goal.returns-in-Err

@@ -1,5 +1,5 @@
 use Rattle.std.proofs.Common.{[]}
-use Rattle.socket_tests.proofs.Calling.{ticks}
+use Rattle.socket_tests.proofs.SocketCallers.{ticks}
 use Rattle.socket_tests.proofs.workers.tick_one.Goals as goal
 
 pub returns : goal.returns

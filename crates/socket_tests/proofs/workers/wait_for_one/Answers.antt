@@ -1,5 +1,5 @@
 use Rattle.std.proofs.Common.{refl, [], ◌∷◌}
-use Rattle.socket_tests.proofs.Calling.{last, collects}
+use Rattle.socket_tests.proofs.SocketCallers.{last, collects}
 use Rattle.socket_tests.proofs.workers.wait_for_one.Goals as goal
 
 pub wait-requires-clause-op : goal.wait-requires-clause-op

@@ -2,7 +2,7 @@
 use Rattle.std.proofs.Common.{refl, sym, subst, arith}
 use Rattle.sp_lane.specs.Registry.{Registry}
 use Rattle.sp_ends.specs.Calling.{HasFewer}
-use Rattle.sp_ends.proofs.Calling.{goes_none, goes_both, accepts_none, accepts_as, accepts_one, accepts_both, accepts_then}
+use Rattle.sp_ends.proofs.DialedNames.{goes_none, goes_both, accepts_none, accepts_as, accepts_one, accepts_both, accepts_then}
 use Rattle.sp_ends.proofs.Lanes.{keeps_none, keeps_both}
 use Rattle.sp_ends.proofs.Bringing.{so_none, so_next, so_one, fewer_none, fewer_both, fewer_one, brings_none, brings_full}
 use Rattle.sp_ends.proofs.names.accept_from.Goals as goal

@@ -2,7 +2,7 @@
 use Rattle.std.proofs.Common.{refl, Option, Some, None, inr}
 use Rattle.sp_single.specs.Singles.{SingleView}
 use Rattle.sp_ends.specs.Calling.{CameUp, HasNewLane}
-use Rattle.sp_ends.proofs.Calling.{tries_up}
+use Rattle.sp_ends.proofs.DialedNames.{tries_up}
 use Rattle.sp_ends.proofs.names.call.Goals as goal
 
 came_new : (o : Option _) (a b : SingleView) → CameUp o a b → HasNewLane o a b

@@ -10,7 +10,7 @@ use Rattle.end_wire.specs.EndWires.{link_of}
 use Rattle.sp_base.specs.Wires.{numbers_of}
 use Rattle.sp_ends.specs.Standing.{IsLaneName}
 use Rattle.sp_ends.specs.Turning.{shut_under}
-use Rattle.sp_ends.proofs.Calling.{goes_settled, none_up, goes_up, came_up}
+use Rattle.sp_ends.proofs.DialedNames.{goes_settled, none_up, goes_up, came_up}
 use Rattle.sp_ends.proofs.Lanes.{keeps_lane, keeps_settled}
 use Rattle.sp_ends.proofs.turn.attach_lane.Goals as goal
 

@@ -2,7 +2,7 @@
 use Rattle.std.proofs.Common.{refl, sym, ap, ◌∙◌, subst, ℕ}
 use Rattle.link_opening.specs.declared.opening.Progress.{Progress}
 use Rattle.link_opening.specs.Going.{CameTo}
-use Rattle.link_opening.proofs.Trying.{has_waited}
+use Rattle.link_opening.proofs.OpeningTries.{has_waited}
 use Rattle.sp_ends.specs.Freeing.{FateBack, GivesOneBack}
 use Rattle.sp_ends.specs.declared.newcomer.Newcomer.{Newcomer}
 use Rattle.sp_ends.specs.Standing.{HandStands, IsCauseOf}

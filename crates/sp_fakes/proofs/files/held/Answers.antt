@@ -1,5 +1,5 @@
 use Rattle.std.proofs.Common.{sym, ◌∙◌}
-use Rattle.sp_fakes.proofs.Names.{found_at, passed_at}
+use Rattle.sp_fakes.proofs.FileNames.{found_at, passed_at}
 use Rattle.sp_fakes.proofs.files.held.Goals as goal
 
 pub returns-then-is_same_name : goal.returns-then-is_same_name

@@ -2,7 +2,7 @@ use Rattle.std.proofs.Common.{◌≡◌, ℕ, List, refl, sym, subst, ◌∙◌,
 use Rattle.std.specs.Bool.{IsTrue}
 use Rattle.std.proofs.lemmas.List.{take_rest}
 use Rattle.sp_tcp.specs.Readings.{FrontIs}
-use Rattle.sp_tcp.proofs.Splits.{split_short, split_wrong, split_behind}
+use Rattle.sp_tcp.proofs.MarkSplits.{split_short, split_wrong, split_behind}
 use Rattle.sp_tcp.proofs.reader.split_marked.Goals as goal
 
 pub returns-then-count-mark : goal.returns-then-count-mark

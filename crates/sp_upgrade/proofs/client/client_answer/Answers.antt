@@ -1,6 +1,6 @@
 use Rattle.std.proofs.Common.{refl, inl}
 use Rattle.sp_upgrade.specs.Opening.{GoodResponse, BadResponse}
-use Rattle.sp_upgrade.proofs.Ends.{of_all, has_head, no_blank_long}
+use Rattle.sp_upgrade.proofs.HeadEnds.{of_all, has_head, no_blank_long}
 use Rattle.sp_upgrade.proofs.client.client_answer.Goals as goal
 
 pub returns-in-Some : goal.returns-in-Some

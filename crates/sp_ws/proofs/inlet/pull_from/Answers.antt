@@ -1,7 +1,7 @@
 use Rattle.std.proofs.Common.{refl, ap, ◌∙◌}
 use Rattle.sp_ws.specs.Views.{FramesView}
 use Rattle.sp_ws.specs.declared.frames.FrameIn.TheVariants as ins
-use Rattle.sp_ws.proofs.Pulls.{fed_start, fed_next, fed_more, going_start, going_next, going_read, read_on_start, read_on_same, read_on_idle, pulled_body, pulled_text, pulled_broken, pulled_closed, pulled_not_yet, pulled_ended, pulled_failed, pulled_unfed, pulled_short, pulled_long}
+use Rattle.sp_ws.proofs.PullSteps.{fed_start, fed_next, fed_more, going_start, going_next, going_read, read_on_start, read_on_same, read_on_idle, pulled_body, pulled_text, pulled_broken, pulled_closed, pulled_not_yet, pulled_ended, pulled_failed, pulled_unfed, pulled_short, pulled_long}
 use Rattle.sp_ws.proofs.inlet.pull_from.Goals as goal
 
 pub pulls-init : goal.pulls-init

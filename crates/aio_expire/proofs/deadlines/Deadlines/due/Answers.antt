@@ -1,7 +1,7 @@
 use Rattle.std.proofs.Common.{rules, ◌≡◌, ◌≤◌, List, length, length-take, take, sym, ap, subst, arith}
 use Rattle.aio_expire.specs.declared.deadlines.Deadline.{Deadline}
 use Rattle.aio_expire.specs.Schedule.{Schedule, IsSchedule, AreTimed, is_due, later_than}
-use Rattle.aio_expire.proofs.Kept.{schedule_filter, few}
+use Rattle.aio_expire.proofs.Schedules.{schedule_filter, few}
 use Rattle.aio_expire.proofs.Ordered.{Each-filter}
 use Rattle.aio_expire.proofs.deadlines.Deadlines.due.Goals as goal
 

@@ -2,7 +2,7 @@ use Rattle.std.proofs.Common.{rules, ◌≡◌, ◌<◌, List, length, vec_len, 
 use Rattle.std.proofs.lemmas.List.{length-set}
 use Rattle.aio_expire.specs.declared.deadlines.Deadline.{Deadline}
 use Rattle.aio_expire.specs.Schedule.{Schedule, IsSchedule, AreTimed, put_in, count_of}
-use Rattle.aio_expire.proofs.Kept.{schedule_put, has_room}
+use Rattle.aio_expire.proofs.Schedules.{schedule_put, has_room}
 use Rattle.aio_expire.proofs.Found.{timed_put}
 use Rattle.aio_expire.proofs.deadlines.Deadlines.put.Goals as goal
 

@@ -1,5 +1,5 @@
 use Rattle.std.proofs.Common.{◌≡◌, ℕ, List, ◌+◌, ◌<◌, get_or, length, arith, rules, ap, ◌∙◌, sym, subst, refl}
-use Rattle.aio_word.specs.declared.rule.View.{View}
+use Rattle.aio_word.specs.declared.rule.WordsView.{WordsView}
 use Rattle.aio_word.specs.Answers.{HasSeen}
 use Rattle.aio_word.proofs.Entries.{get_or_any}
 use Rattle.aio_word.proofs.Steps.{begins_ok}
@@ -21,7 +21,7 @@ store-requires c =
     let long : slot < length c.core.inside.generations.items = let e = core.3 in let f = ap (λ z. z.words) (ap (λ z. z.words) c.core.view_is ∙ (c.requires.own ∙ sym id)) in omega (arith, w.0) in
     let is : last ≡ get_or c.core.inside.seat.me.0.generations slot 0 =
     c.index-last.ensures ∙ (get_or_any c.core.inside.generations.items slot last 0 long ∙ ap (λ (l : List ℕ). get_or l slot 0) (sym core.2)) in
-    (search rules, omega arith, begins_ok _ _ _ _ slot (last + 1) _ core.1 (omega arith) (subst (λ (u : View). HasSeen u slot) (sym seen_as) c.requires.seen) (ap (λ (z : ℕ). z + 1) is) (omega arith))
+    (search rules, omega arith, begins_ok _ _ _ _ slot (last + 1) _ core.1 (omega arith) (subst (λ (u : WordsView). HasSeen u slot) (sym seen_as) c.requires.seen) (ap (λ (z : ℕ). z + 1) is) (omega arith))
 
 pub index-last-requires : goal.index-last-requires
 index-last-requires c =

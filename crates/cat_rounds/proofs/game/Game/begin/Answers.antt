@@ -1,7 +1,7 @@
 use Rattle.std.proofs.Common.{refl, ◌∙◌, arith}
-use Rattle.cat_rounds.proofs.Counted.{same_ends}
+use Rattle.cat_rounds.proofs.AllRounds.{same_ends}
 use Rattle.cat_rounds.proofs.Late.{never_late}
-use Rattle.cat_rounds.proofs.Opening.{cut_nowhere}
+use Rattle.cat_rounds.proofs.WholeRounds.{cut_nowhere}
 use Rattle.cat_rounds.proofs.Subscribing.{fresh_before, prepared_run, run_at, first_may_tick, prepared_prints, unpaced}
 use Rattle.cat_rounds.proofs.game.Game.begin.Goals as goal
 

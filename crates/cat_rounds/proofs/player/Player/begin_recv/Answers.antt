@@ -1,6 +1,6 @@
 use Rattle.std.proofs.Common.{refl, ap, sym, ◌∙◌, subst, Err}
 use Rattle.std.specs.Option.{option_map}
-use Rattle.sp_history.specs.declared.entry.Act.TheVariants.{Recv}
+use Rattle.sp_history.specs.declared.entry.RecordedAct.TheVariants.{Recv}
 use Rattle.cat_play.specs.Playing.{after_seconds}
 use Rattle.cat_rounds.specs.Lasting.{HasPlayed, play_of}
 use Rattle.cat_rounds.specs.Stepping.{Stands}

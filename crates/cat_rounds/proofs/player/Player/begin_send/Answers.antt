@@ -2,14 +2,14 @@ use Rattle.std.proofs.Common.{ap, sym, ◌∙◌, subst, Some}
 use Rattle.std.specs.Prelude.{not}
 use Rattle.std.specs.Option.{option_map}
 use Rattle.sp_proto.specs.Kinds.{text_of}
-use Rattle.sp_history.specs.declared.entry.Act.TheVariants.{Send}
+use Rattle.sp_history.specs.declared.entry.RecordedAct.TheVariants.{Send}
 use Rattle.sp_history.specs.Past.{past_of}
 use Rattle.cat_play.specs.Playing.{after_seconds}
 use Rattle.cat_play.specs.Scripts.{asks_anew, last_result}
 use Rattle.cat_rounds.specs.Lasting.{HasPlayed, play_of}
 use Rattle.cat_rounds.specs.Stepping.{Stands, Rested}
 use Rattle.cat_rounds.proofs.Settling.{settling_silent, settling_linkless}
-use Rattle.cat_rounds.proofs.Counting.{has_body, is_plain_message}
+use Rattle.cat_rounds.proofs.WhatCounts.{has_body, is_plain_message}
 use Rattle.cat_rounds.proofs.Begins.{silent_stands, silent_texts, goes_on_by, refused_rests, rested_after, has_begun, HasBegun}
 use Rattle.cat_rounds.proofs.player.Player.begin_send.Given
 use Rattle.cat_rounds.proofs.player.Player.begin_send.Goals as goal

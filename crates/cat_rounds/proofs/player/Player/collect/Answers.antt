@@ -3,11 +3,11 @@ use Rattle.sp_history.specs.Past.{past_of}
 use Rattle.cat_play.specs.Scripts.{joined}
 use Rattle.sp_spec.specs.Outside.{grown}
 use Rattle.cat_rounds.specs.Lasting.{play_of, is_survey_over, AreOn}
-use Rattle.cat_rounds.proofs.Subscribed.{still_on}
+use Rattle.cat_rounds.proofs.TopicsStay.{still_on}
 use Rattle.cat_rounds.specs.Stepping.{Stands, NotedAs, PutsFor}
 use Rattle.cat_rounds.proofs.Settling.{settling_silent, settling_linkless}
 use Rattle.cat_rounds.proofs.Begins.{silent_stands, silent_texts, goes_on_by}
-use Rattle.cat_rounds.proofs.Collects.{IsCollected, is_collected, busy_is_due, noted_stands, noted_prints, noted_script, stays_busy, not_left, pending_now}
+use Rattle.cat_rounds.proofs.CollectedByPlay.{IsCollected, is_collected, busy_is_due, noted_stands, noted_prints, noted_script, stays_busy, not_left, pending_now}
 use Rattle.cat_rounds.proofs.Pipes.{knows_after, noted_sent}
 use Rattle.cat_rounds.proofs.player.Player.collect.Given
 use Rattle.cat_rounds.proofs.player.Player.collect.Goals as goal

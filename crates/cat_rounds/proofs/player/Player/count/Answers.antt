@@ -3,7 +3,7 @@ use Rattle.std.specs.Prelude.{is_some}
 use Rattle.cat_play.specs.Scripts.{counts_for}
 use Rattle.cat_rounds.specs.Lasting.{is_survey_over}
 use Rattle.cat_rounds.specs.Stepping.{counts_one}
-use Rattle.cat_rounds.proofs.Counting.{counts_is}
+use Rattle.cat_rounds.proofs.WhatCounts.{counts_is}
 use Rattle.cat_rounds.proofs.player.Player.count.Goals as goal
 
 pub returns-then-counts : goal.returns-then-counts

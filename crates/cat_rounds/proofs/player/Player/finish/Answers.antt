@@ -1,5 +1,5 @@
-use Rattle.cat_rounds.proofs.Collects.{pending_now}
-use Rattle.cat_rounds.proofs.Finishing.{collects_last, none_is_pending}
+use Rattle.cat_rounds.proofs.CollectedByPlay.{pending_now}
+use Rattle.cat_rounds.proofs.LastCollect.{collects_last, none_is_pending}
 use Rattle.cat_rounds.proofs.player.Player.finish.Goals as goal
 
 pub unreachable-requires : goal.unreachable-requires

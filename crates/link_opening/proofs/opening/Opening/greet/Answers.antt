@@ -1,5 +1,5 @@
 use Rattle.link_opening.specs.declared.opening.Progress.TheVariants as progress
-use Rattle.link_opening.proofs.Trying.{said_to}
+use Rattle.link_opening.proofs.OpeningTries.{said_to}
 use Rattle.link_opening.proofs.opening.Opening.greet.Goals as goal
 
 pub returns-in-Waits-clause-opened : goal.returns-in-Waits-clause-opened

@@ -1,5 +1,5 @@
 use Rattle.link_opening.specs.declared.opening.Progress.TheVariants as progress
-use Rattle.link_opening.proofs.Trying.{heard_to, answered}
+use Rattle.link_opening.proofs.OpeningTries.{heard_to, answered}
 use Rattle.link_opening.proofs.opening.Opening.hear_and_answer.Goals as goal
 
 pub returns-in-Opened-clause-opened : goal.returns-in-Opened-clause-opened

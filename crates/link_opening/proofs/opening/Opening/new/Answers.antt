@@ -1,4 +1,4 @@
-use Rattle.link_opening.proofs.Fresh.{fresh}
+use Rattle.link_opening.proofs.NewOpenings.{fresh}
 use Rattle.link_opening.proofs.opening.Opening.new.Goals as goal
 
 pub returns : goal.returns

@@ -2,7 +2,7 @@ use Rattle.std.proofs.Common.{refl}
 use Rattle.sp_history.specs.Past.{pend}
 use Rattle.sp_history.specs.Moments.{past}
 use Rattle.proto_pipeline.specs.declared.pull.Pull.{Pull}
-use Rattle.proto_pipeline.proofs.Pulled.{begun_act}
+use Rattle.proto_pipeline.proofs.PullStands.{begun_act}
 use Rattle.proto_pipeline.proofs.pull.PullProto.begin.Goals as goal
 
 pub returns-in-Recv-clause-begun : goal.returns-in-Recv-clause-begun

@@ -3,7 +3,7 @@ use Rattle.std.specs.Prelude.{Result, Ok, Err, OnErr}
 use Rattle.std.specs.Result.{is_err}
 use Rattle.std.specs.VecDeque.{deque_len, deque_capacity}
 use Rattle.proto_pipeline.specs.declared.pull.Pull.{Pull}
-use Rattle.proto_pipeline.proofs.Pulled.{has_place, frame_ties, well_formed}
+use Rattle.proto_pipeline.proofs.PullStands.{has_place, frame_ties, well_formed}
 use Rattle.proto_pipeline.proofs.pull.PullProto.frame.Goals as goal
 
 failed : {A E : Type 0} (r : Result A E) (P : Type 0) → is_err r ≡ true → OnErr r P → P

@@ -1,7 +1,7 @@
 use Rattle.std.proofs.Common.{◌≡◌, ◌≤◌, ◌+◌, refl, arith, rules}
 use Rattle.std.specs.VecDeque.{deque_len, deque_capacity}
 use Rattle.proto_pipeline.specs.declared.pull.Pull.{Pull}
-use Rattle.proto_pipeline.proofs.Pulled.{up_ties}
+use Rattle.proto_pipeline.proofs.PullStands.{up_ties}
 use Rattle.proto_pipeline.proofs.pull.PullProto.up.Goals as goal
 
 pub returns-in-Ok-clause-up : goal.returns-in-Ok-clause-up

@@ -6,7 +6,7 @@ use Rattle.proto_pubsub.specs.declared.subscribe.Subscribe.{Subscribe}
 use Rattle.proto_pubsub.specs.Seats.{SeatView, kept_in, takes_frame, StopsAt}
 use Rattle.proto_pubsub.specs.Subs.{NeedsCopy}
 use Rattle.proto_pubsub.proofs.Knowing.{allowed_before}
-use Rattle.proto_pubsub.proofs.Seating.{seats_written, long_map, long_stops}
+use Rattle.proto_pubsub.proofs.SubContexts.{seats_written, long_map, long_stops}
 use Rattle.proto_pubsub.proofs.Subscribed.{whole_ties, dry_ties, dry_needs, many, one_raw}
 use Rattle.proto_pubsub.proofs.subscribe.SubscribeProto.frame.Goals as goal
 

@@ -1,7 +1,7 @@
 use Rattle.std.proofs.Common.{refl, ◌≡◌}
 use Rattle.std.specs.Vec.{with_items}
 use Rattle.proto_pubsub.specs.declared.subscribe.Subscribe.{Subscribe}
-use Rattle.proto_pubsub.proofs.Seating.{seats_written}
+use Rattle.proto_pubsub.proofs.SubContexts.{seats_written}
 use Rattle.proto_pubsub.proofs.Subscribed.{in_order, switched_ties, long_switched}
 use Rattle.proto_pubsub.proofs.subscribe.SubscribeProto.topic.Goals as goal
 

@@ -1,7 +1,7 @@
 use Rattle.std.proofs.Common.{refl, arith, ◌∙◌, ◌≡◌}
 use Rattle.std.specs.Vec.{with_items}
 use Rattle.proto_pubsub.specs.declared.subscribe.Subscribe.{Subscribe}
-use Rattle.proto_pubsub.proofs.Seating.{seats_written, long_with}
+use Rattle.proto_pubsub.proofs.SubContexts.{seats_written, long_with}
 use Rattle.proto_pubsub.proofs.Subscribed.{in_order, none_taken, taken, never_floods, never_dropped, never_sent, gives_from, given_from_ties}
 use Rattle.proto_pubsub.proofs.subscribe.SubscribeProto.won.Goals as goal
 

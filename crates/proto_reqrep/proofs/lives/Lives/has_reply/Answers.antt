@@ -9,7 +9,7 @@ use Rattle.proto_reqrep.specs.Reqs.{is_live_on, live_ctx, keeps_reply}
 use Rattle.proto_reqrep.specs.Spots.{holds, held}
 use Rattle.proto_reqrep.specs.declared.spots.Spot.{Spot}
 use Rattle.proto_reqrep.specs.declared.req.Live.{Live}
-use Rattle.proto_reqrep.proofs.Indexed.{no_reply, one_reply}
+use Rattle.proto_reqrep.proofs.NumberIndexes.{no_reply, one_reply}
 use Rattle.proto_reqrep.proofs.Spotted.{any_held}
 use Rattle.proto_reqrep.proofs.lives.Lives.has_reply.Goals as goal
 

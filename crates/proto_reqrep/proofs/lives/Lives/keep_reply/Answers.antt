@@ -10,8 +10,8 @@ use Rattle.proto_reqrep.specs.Reqs.{live_ctx, live_id, waits_for, with_kept, wit
 use Rattle.proto_reqrep.specs.Spots.{holds, held}
 use Rattle.proto_reqrep.specs.declared.spots.Spot.{Spot}
 use Rattle.proto_reqrep.proofs.Spotted.{items_are}
-use Rattle.proto_reqrep.proofs.Indexed.{found_same}
-use Rattle.proto_reqrep.proofs.Working.{length_same}
+use Rattle.proto_reqrep.proofs.NumberIndexes.{found_same}
+use Rattle.proto_reqrep.proofs.WorkLeft.{length_same}
 use Rattle.proto_reqrep.proofs.lives.Lives.keep_reply.Goals as goal
 
 pub set_reply-requires : goal.set_reply-requires

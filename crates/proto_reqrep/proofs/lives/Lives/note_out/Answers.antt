@@ -8,8 +8,8 @@ use Rattle.proto_reqrep.specs.Reqs.{is_live_on, live_ctx, sent_at, with_found}
 use Rattle.proto_reqrep.specs.Spots.{holds, held}
 use Rattle.proto_reqrep.specs.declared.spots.Spot.{Spot}
 use Rattle.proto_reqrep.proofs.Spotted.{items_are}
-use Rattle.proto_reqrep.proofs.Indexed.{found_same}
-use Rattle.proto_reqrep.proofs.Working.{length_same}
+use Rattle.proto_reqrep.proofs.NumberIndexes.{found_same}
+use Rattle.proto_reqrep.proofs.WorkLeft.{length_same}
 use Rattle.proto_reqrep.proofs.lives.Lives.note_out.Goals as goal
 
 pub set_out-requires : goal.set_out-requires

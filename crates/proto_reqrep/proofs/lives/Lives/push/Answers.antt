@@ -7,8 +7,8 @@ use Rattle.proto_reqrep.specs.declared.req.Live.{Live}
 use Rattle.std.proofs.Common.{◌++◌, ◌∷◌, []}
 use Rattle.std.proofs.lemmas.List.{take-append-le}
 use Rattle.proto_reqrep.proofs.Spotted.{held_more, held_few, none_before_is}
-use Rattle.proto_reqrep.proofs.Noted.{length_more}
-use Rattle.proto_reqrep.proofs.Indexed.{found_more}
+use Rattle.proto_reqrep.proofs.KnownOperations.{length_more}
+use Rattle.proto_reqrep.proofs.NumberIndexes.{found_more}
 use Rattle.proto_reqrep.proofs.lives.Lives.push.Goals as goal
 
 pub invariant_of-self : goal.invariant_of-self

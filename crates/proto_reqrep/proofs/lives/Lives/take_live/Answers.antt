@@ -10,7 +10,7 @@ use Rattle.proto_reqrep.specs.Spots.{holds, held}
 use Rattle.proto_reqrep.specs.declared.spots.Spot.{Spot}
 use Rattle.proto_reqrep.specs.Reqs.{without_found}
 use Rattle.proto_reqrep.proofs.Positions.{without_none}
-use Rattle.proto_reqrep.proofs.Indexed.{found_less}
+use Rattle.proto_reqrep.proofs.NumberIndexes.{found_less}
 use Rattle.proto_reqrep.proofs.Spotted.{not_there, never, inside, fewer_one, items_are, none_before_is}
 use Rattle.proto_reqrep.proofs.lives.Lives.take_live.Goals as goal
 

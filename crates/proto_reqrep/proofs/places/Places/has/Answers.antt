@@ -1,7 +1,7 @@
 use Rattle.std.proofs.Common.{◌∙◌, ap}
 use Rattle.std.specs.Prelude.{is_some}
 use Rattle.proto_reqrep.specs.Reps.{is_home}
-use Rattle.proto_reqrep.proofs.Ordered.{some_place}
+use Rattle.proto_reqrep.proofs.NumberOrder.{some_place}
 use Rattle.proto_reqrep.proofs.places.Places.has.Goals as goal
 
 pub returns : goal.returns

@@ -1,7 +1,7 @@
 use Rattle.std.proofs.Common.{◌∙◌, ap, map}
 use Rattle.proto_reqrep.specs.Reps.{ctx_of}
 use Rattle.proto_reqrep.proofs.Homes.{places_written}
-use Rattle.proto_reqrep.proofs.Ordered.{ordered_same}
+use Rattle.proto_reqrep.proofs.NumberOrder.{ordered_same}
 use Rattle.proto_reqrep.proofs.places.Places.unstore.Goals as goal
 
 pub invariant_of-self : goal.invariant_of-self

@@ -2,7 +2,7 @@ use Rattle.std.proofs.Common.{◌≡◌, ◌∙◌, ap, sym, subst, map}
 use Rattle.std.specs.Vec.{with_items}
 use Rattle.proto_reqrep.specs.Ports.{PortsView, AreKnown, port_in, cleared, unmarked}
 use Rattle.proto_reqrep.proofs.Piping.{each_written}
-use Rattle.proto_reqrep.proofs.Rising.{next_known, next_view, anew_known, anew_view}
+use Rattle.proto_reqrep.proofs.PortsInOrder.{next_known, next_view, anew_known, anew_view}
 use Rattle.proto_reqrep.proofs.ports.Ports.clear.Goals as goal
 
 pub invariant_of-self : goal.invariant_of-self

@@ -1,8 +1,8 @@
 use Rattle.std.proofs.Common.{◌≡◌, ◌∙◌, ◌+◌, ap, sym, subst, List, find}
 use Rattle.std.specs.Option.{option_map}
 use Rattle.proto_reqrep.specs.declared.ports.Held.{Held}
-use Rattle.proto_reqrep.specs.Ports.{Port, PortsView, AreFull, IsRising, is_free_behind, is_free_from, number, reached}
-use Rattle.proto_reqrep.proofs.Rising.{begins, filled, ports_behind, numbers_of}
+use Rattle.proto_reqrep.specs.Ports.{PortView, PortsView, AreFull, IsRising, is_free_behind, is_free_from, number, reached}
+use Rattle.proto_reqrep.proofs.PortsInOrder.{begins, filled, ports_behind, numbers_of}
 use Rattle.proto_reqrep.proofs.ports.Ports.free_behind.Goals as goal
 
 pub invariant_of-self : goal.invariant_of-self
@@ -32,6 +32,6 @@ returns-clause-port c =
     let all : c.first_free-found.result ≡ option_map number (find (is_free_from m.turn (c.args.last + 1)) xs) =
     found ∙ ap (λ n. option_map number (find (is_free_from m.turn n) xs)) c.begin_at-begin.ensures ∙ ap (option_map number) (sym skips.1) ∙ ap (λ n. option_map number (find (is_free_from m.turn (n + 1)) xs)) last in
     subst
-    (λ (v : PortsView). c.first_free-found.result ≡ option_map (λ (x : Port). x.pipe) (find (is_free_behind c.args.last) v.items))
+    (λ (v : PortsView). c.first_free-found.result ≡ option_map (λ (x : PortView). x.pipe) (find (is_free_behind c.args.last) v.items))
     c.self.view_is
-    (all ∙ sym (ap (option_map (λ (x : Port). x.pipe)) (ports_behind m.turn c.args.last xs) ∙ numbers_of m.turn _))
+    (all ∙ sym (ap (option_map (λ (x : PortView). x.pipe)) (ports_behind m.turn c.args.last xs) ∙ numbers_of m.turn _))

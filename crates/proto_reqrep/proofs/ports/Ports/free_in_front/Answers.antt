@@ -1,8 +1,8 @@
 use Rattle.std.proofs.Common.{◌≡◌, ◌∙◌, ap, sym, subst, List, find, arith}
 use Rattle.std.specs.Option.{option_map}
 use Rattle.proto_reqrep.specs.declared.ports.Held.{Held}
-use Rattle.proto_reqrep.specs.Ports.{Port, PortsView, AreFull, IsRising, is_free, is_free_from, number, reached}
-use Rattle.proto_reqrep.proofs.Rising.{passed, filled, free_ports, numbers_of}
+use Rattle.proto_reqrep.specs.Ports.{PortView, PortsView, AreFull, IsRising, is_free, is_free_from, number, reached}
+use Rattle.proto_reqrep.proofs.PortsInOrder.{passed, filled, free_ports, numbers_of}
 use Rattle.proto_reqrep.proofs.ports.Ports.free_in_front.Goals as goal
 
 pub invariant_of-self : goal.invariant_of-self
@@ -23,6 +23,6 @@ returns-clause-port c =
     let found : c.first_free-found.result ≡ option_map number (find (is_free_from m.turn m.front) xs) = c.first_free-found.ensures rising ∙ ap (λ (ys : List Held). option_map number (find (is_free_from m.turn m.front) ys)) c.deref.ensures.value in
     let all : c.first_free-found.result ≡ option_map number (find (is_free_from m.turn 0) xs) = found ∙ ap (option_map number) (sym (passed m.turn 0 m.front xs (omega arith) c.self.invariant.front)) in
     subst
-    (λ (v : PortsView). c.first_free-found.result ≡ option_map (λ (x : Port). x.pipe) (find is_free v.items))
+    (λ (v : PortsView). c.first_free-found.result ≡ option_map (λ (x : PortView). x.pipe) (find is_free v.items))
     c.self.view_is
-    (all ∙ sym (ap (option_map (λ (x : Port). x.pipe)) (free_ports m.turn xs) ∙ numbers_of m.turn _))
+    (all ∙ sym (ap (option_map (λ (x : PortView). x.pipe)) (free_ports m.turn xs) ∙ numbers_of m.turn _))

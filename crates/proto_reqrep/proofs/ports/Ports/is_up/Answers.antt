@@ -2,7 +2,7 @@ use Rattle.std.proofs.Common.{◌≡◌, ◌∙◌, ap, sym, subst}
 use Rattle.std.specs.Prelude.{is_some}
 use Rattle.std.specs.List.{position, list_any}
 use Rattle.proto_reqrep.specs.Ports.{PortsView, IsRising, is_held, is_pipe}
-use Rattle.proto_reqrep.proofs.Rising.{any_placed, some_placed}
+use Rattle.proto_reqrep.proofs.PortsInOrder.{any_placed, some_placed}
 use Rattle.proto_reqrep.proofs.ports.Ports.is_up.Goals as goal
 
 pub returns : goal.returns

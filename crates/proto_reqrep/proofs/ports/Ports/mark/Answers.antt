@@ -4,7 +4,7 @@ use Rattle.proto_reqrep.specs.declared.ports.Held.{Held}
 use Rattle.proto_reqrep.specs.Ports.{PortsView, AreKnown, IsRising, port_in, is_held, marked, marked_in}
 use Rattle.proto_reqrep.specs.Reqs.{with_found}
 use Rattle.proto_reqrep.proofs.Positions.{not_found, with_at}
-use Rattle.proto_reqrep.proofs.Rising.{marked_known, none_marked, one_marked}
+use Rattle.proto_reqrep.proofs.PortsInOrder.{marked_known, none_marked, one_marked}
 use Rattle.proto_reqrep.proofs.ports.Ports.mark.Goals as goal
 
 pub invariant_of-self : goal.invariant_of-self

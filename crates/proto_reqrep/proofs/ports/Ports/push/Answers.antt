@@ -1,7 +1,7 @@
 use Rattle.std.proofs.Common.{rules, ◌≡◌, ◌∙◌, ◌++◌, ◌∷◌, [], map, ap, sym, subst, true, false}
 use Rattle.std.specs.List.{list_all}
 use Rattle.proto_reqrep.specs.Ports.{PortsView, AreKnown, IsRising, is_under, is_below, port_in}
-use Rattle.proto_reqrep.proofs.Rising.{more_known, more_view, under_ports}
+use Rattle.proto_reqrep.proofs.PortsInOrder.{more_known, more_view, under_ports}
 use Rattle.proto_reqrep.proofs.ports.Ports.push.Goals as goal
 
 pub returns-then-not-are_under-clause-more : goal.returns-then-not-are_under-clause-more

@@ -2,10 +2,10 @@ use Rattle.std.proofs.Common.{◌≡◌, ◌∙◌, ap, sym, subst, cond, true, 
 use Rattle.std.specs.Option.{option_map}
 use Rattle.std.specs.List.{position}
 use Rattle.proto_reqrep.specs.declared.ports.Held.{Held}
-use Rattle.proto_reqrep.specs.declared.ports.Way.TheVariants as ways
+use Rattle.proto_reqrep.specs.declared.ports.Destination.TheVariants as ways
 use Rattle.proto_reqrep.specs.Ports.{PortsView, IsRising, port_in, is_held, is_pipe, is_full_in, way_at, where_is}
 use Rattle.proto_reqrep.proofs.Positions.{found_at, not_found}
-use Rattle.proto_reqrep.proofs.Rising.{find_port, number_is, number_isnt}
+use Rattle.proto_reqrep.proofs.PortsInOrder.{find_port, number_is, number_isnt}
 use Rattle.proto_reqrep.proofs.ports.Ports.way_to.Goals as goal
 
 pub returns-in-None-place_of : goal.returns-in-None-place_of

@@ -1,7 +1,7 @@
 use Rattle.std.proofs.Common.{refl}
 use Rattle.sp_proto.specs.Kinds.{entry_act}
 use Rattle.proto_reqrep.specs.declared.rep.Reply.{Reply}
-use Rattle.proto_reqrep.specs.declared.rep.Waiting.{Waiting}
+use Rattle.proto_reqrep.specs.declared.rep.ReplyOperation.{ReplyOperation}
 use Rattle.proto_reqrep.proofs.Replied.{begun_ties}
 use Rattle.proto_reqrep.proofs.rep.ReplyProto.begin.Goals as goal
 
@@ -9,7 +9,7 @@ pub returns-clause-begun : goal.returns-clause-begun
 returns-clause-begun c =
     λ t deadline n l h.
     let was = c.args.self.now in
-    let w : Waiting = record { op = c.args.op; ctx = c.args.c; answer = c.answer_of-answer.result } in
+    let w : ReplyOperation = record { op = c.args.op; ctx = c.args.c; answer = c.answer_of-answer.result } in
     let is : Reply = record { alloc = was.alloc; role = was.role; raw = was.raw; options = was.options; ports = was.ports; kept = was.kept; waiting = c.push.new.self; places = c.unstore-source.new.self } in
     begun_ties
     was

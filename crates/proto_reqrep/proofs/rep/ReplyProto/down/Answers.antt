@@ -2,7 +2,7 @@ use Rattle.std.proofs.Common.{refl, ◌<◌, arith}
 use Rattle.proto_reqrep.specs.declared.rep.Reply.{Reply}
 use Rattle.proto_reqrep.specs.Ports.{free_count}
 use Rattle.proto_reqrep.proofs.Replied.{down_ties}
-use Rattle.proto_reqrep.proofs.Knowing.{down_free}
+use Rattle.proto_reqrep.proofs.KnownPipes.{down_free}
 use Rattle.proto_reqrep.proofs.rep.ReplyProto.down.Goals as goal
 
 pub returns-clause-down : goal.returns-clause-down

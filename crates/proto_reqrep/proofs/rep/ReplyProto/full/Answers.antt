@@ -2,7 +2,7 @@ use Rattle.std.proofs.Common.{refl, ◌<◌, arith}
 use Rattle.proto_reqrep.specs.declared.rep.Reply.{Reply}
 use Rattle.proto_reqrep.specs.Ports.{free_count}
 use Rattle.proto_reqrep.proofs.Replied.{full_ties}
-use Rattle.proto_reqrep.proofs.Knowing.{full_free}
+use Rattle.proto_reqrep.proofs.KnownPipes.{full_free}
 use Rattle.proto_reqrep.proofs.rep.ReplyProto.full.Goals as goal
 
 pub returns-clause-full : goal.returns-clause-full

@@ -1,6 +1,6 @@
 use Rattle.std.proofs.Common.{refl, arith}
 use Rattle.proto_reqrep.specs.declared.rep.Reply.{Reply}
-use Rattle.proto_reqrep.proofs.Ended.{lost_ties, taken, none_taken, its_message, no_message}
+use Rattle.proto_reqrep.proofs.RepEnds.{lost_ties, taken, none_taken, its_message, no_message}
 use Rattle.proto_reqrep.proofs.rep.ReplyProto.lost.Goals as goal
 
 pub returns-in-None-clause-lost : goal.returns-in-None-clause-lost

@@ -3,7 +3,7 @@ use Rattle.sp_base.specs.declared.OpName.{OpName}
 use Rattle.sp_proto.specs.Kinds.{text_of}
 use Rattle.sp_proto.specs.Machines.{CanGive}
 use Rattle.proto_reqrep.specs.Reps.{is_receive, begun_of}
-use Rattle.proto_reqrep.proofs.Prefixes.{some_front, is_empty, not_empty}
+use Rattle.proto_reqrep.proofs.ListFronts.{some_front, is_empty, not_empty}
 use Rattle.proto_reqrep.proofs.Spotted.{mapped, unmapped}
 use Rattle.proto_reqrep.proofs.Offered.{can_give, sends_right}
 use Rattle.proto_reqrep.proofs.rep.ReplyProto.offer.Goals.{then-not-is_empty+in-None, else-not-is_empty}

@@ -3,7 +3,7 @@ use Rattle.proto_reqrep.specs.Ports.{free_count}
 use Rattle.proto_reqrep.specs.Reps.{Gives}
 use Rattle.sp_history.specs.declared.parts.Begun.{Begun}
 use Rattle.proto_reqrep.specs.declared.rep.Reply.{Reply}
-use Rattle.proto_reqrep.proofs.Ended.{given_ties, sent_ties, dropped_ties, goes_out, taken, none_taken, recv_isnt_send, recv_isnt_answer, send_isnt_recv}
+use Rattle.proto_reqrep.proofs.RepEnds.{given_ties, sent_ties, dropped_ties, goes_out, taken, none_taken, recv_isnt_send, recv_isnt_answer, send_isnt_recv}
 use Rattle.proto_reqrep.proofs.Replied.{never_floods}
 use Rattle.proto_reqrep.proofs.rep.ReplyProto.won.Goals as goal
 

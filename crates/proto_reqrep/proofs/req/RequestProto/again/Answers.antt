@@ -1,7 +1,7 @@
 use Rattle.std.proofs.Common.{◌∙◌, ap, List, ℕ, ◌++◌}
 use Rattle.sp_msg.specs.Views.{MessageView}
 use Rattle.sp_history.specs.Lists.{word}
-use Rattle.proto_reqrep.proofs.Winning.{again_dry, again_out, dry_less, out_less}
+use Rattle.proto_reqrep.proofs.ReqWins.{again_dry, again_out, dry_less, out_less}
 use Rattle.proto_reqrep.proofs.req.RequestProto.again.Goals as goal
 
 pub returns-in-None-clause-again : goal.returns-in-None-clause-again

@@ -1,6 +1,6 @@
 use Rattle.std.proofs.Common.{None, Some, refl, false}
 use Rattle.proto_reqrep.specs.declared.req.Asking.{Asking}
-use Rattle.proto_reqrep.proofs.Coming.{recv_asked, send_raw_asked, asked_ops, all_begun}
+use Rattle.proto_reqrep.proofs.ReqArrivals.{recv_asked, send_raw_asked, asked_ops, all_begun}
 use Rattle.proto_reqrep.proofs.Hinted.{ready_more}
 use Rattle.proto_reqrep.proofs.req.RequestProto.begin.Goals as goal
 

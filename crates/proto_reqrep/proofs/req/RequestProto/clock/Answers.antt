@@ -1,6 +1,6 @@
 use Rattle.std.proofs.Common.{sym}
 use Rattle.proto_reqrep.proofs.Reaching.{wetted_opened}
-use Rattle.proto_reqrep.proofs.Coming.{ticked_asked, later, opened_seats, asked_live, opened_live}
+use Rattle.proto_reqrep.proofs.ReqArrivals.{ticked_asked, later, opened_seats, asked_live, opened_live}
 use Rattle.proto_reqrep.proofs.Spotted.{none_of_none}
 use Rattle.proto_reqrep.proofs.req.RequestProto.clock.Goals as goal
 

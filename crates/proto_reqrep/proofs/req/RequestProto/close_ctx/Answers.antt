@@ -1,5 +1,5 @@
 use Rattle.proto_reqrep.proofs.Reaching.{shut_asked, shut_opened}
-use Rattle.proto_reqrep.proofs.Coming.{shut_items, asked_live, opened_live}
+use Rattle.proto_reqrep.proofs.ReqArrivals.{shut_items, asked_live, opened_live}
 use Rattle.proto_reqrep.proofs.Calming.{shut_calm}
 use Rattle.proto_reqrep.specs.Reqs.{is_live_on}
 use Rattle.proto_reqrep.proofs.Hinted.{ready_live, keeps_less}

@@ -1,6 +1,6 @@
-use Rattle.proto_reqrep.proofs.Knowing.{down_knows, down_free}
-use Rattle.proto_reqrep.proofs.Working.{less_free, count_most}
-use Rattle.proto_reqrep.proofs.Coming.{down_items, asked_live, opened_live}
+use Rattle.proto_reqrep.proofs.KnownPipes.{down_knows, down_free}
+use Rattle.proto_reqrep.proofs.WorkLeft.{less_free, count_most}
+use Rattle.proto_reqrep.proofs.ReqArrivals.{down_items, asked_live, opened_live}
 use Rattle.proto_reqrep.proofs.Spotted.{none_of_none}
 use Rattle.proto_reqrep.proofs.req.RequestProto.down.Goals as goal
 

@@ -1,7 +1,7 @@
 use Rattle.std.proofs.Common.{◌≡◌, ◌∙◌, refl, sym, ap, None, Some}
 use Rattle.sp_history.specs.Lists.{first_word}
-use Rattle.proto_reqrep.specs.declared.req.Kept.{Kept}
-use Rattle.proto_reqrep.proofs.Coming.{none_kept, raw_frames, short_frame, long_frame, short_asked, reply_asked, asked_live, ctxs_replied, not_both, some_word, trimmed_is}
+use Rattle.proto_reqrep.specs.declared.req.KeptReply.{KeptReply}
+use Rattle.proto_reqrep.proofs.ReqArrivals.{none_kept, raw_frames, short_frame, long_frame, short_asked, reply_asked, asked_live, ctxs_replied, not_both, some_word, trimmed_is}
 use Rattle.proto_reqrep.proofs.Reaching.{opened_as}
 use Rattle.proto_reqrep.specs.Reqs.{is_due, waits_for, with_kept}
 use Rattle.proto_reqrep.proofs.Calming.{none_changed}
@@ -29,7 +29,7 @@ pub returns-in-Some-clause-kept : goal.returns-in-Some-clause-kept
 returns-in-Some-clause-kept c =
     λ t l h.
     let was = c.args.self.now in
-    let k : Kept = record { pipe = c.args.p; message = c.trim.new.self } in
+    let k : KeptReply = record { pipe = c.args.p; message = c.trim.new.self } in
     let one : first_word c.args.m.body ≡ Some c.in-Some.id = sym (c.in-Some.ensures ∙ ap first_word c.body.ensures) in
     let live = c.keep_reply.ensures.live in (
       long_frame was t c.args.p c.args.m.body h (some_word _ c.in-Some.id one),

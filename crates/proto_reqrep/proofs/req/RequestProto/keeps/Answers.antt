@@ -1,5 +1,5 @@
 use Rattle.std.proofs.Common.{◌∙◌}
-use Rattle.proto_reqrep.proofs.Coming.{given_is}
+use Rattle.proto_reqrep.proofs.ReqArrivals.{given_is}
 use Rattle.proto_reqrep.proofs.req.RequestProto.keeps.Goals as goal
 
 pub returns : goal.returns

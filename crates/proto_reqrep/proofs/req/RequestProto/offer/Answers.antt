@@ -9,7 +9,7 @@ use Rattle.sp_history.specs.declared.entry.Cause.TheVariants as causes
 use Rattle.sp_proto.specs.Machines.{CanFinish, CanGive}
 use Rattle.proto_reqrep.proofs.Spotted.{mapped, unmapped}
 use Rattle.proto_reqrep.proofs.Offering.{can_finish, can_give, first_gift, gift_given, left_gift, no_gift, none_any, is_next, sent_on, again_on, out_right, never_floods_out, idle_full, no_port, some_port}
-use Rattle.proto_reqrep.proofs.Coming.{asked_live, opened_live}
+use Rattle.proto_reqrep.proofs.ReqArrivals.{asked_live, opened_live}
 use Rattle.proto_reqrep.proofs.req.RequestProto.offer.Goals as goal
 
 abbrev lone : Asking → Bool

@@ -1,6 +1,6 @@
 use Rattle.std.proofs.lemmas.Result.{on_ok_weaker}
 use Rattle.proto_reqrep.proofs.Reaching.{opened_more}
-use Rattle.proto_reqrep.proofs.Coming.{opened_seats}
+use Rattle.proto_reqrep.proofs.ReqArrivals.{opened_seats}
 use Rattle.proto_reqrep.proofs.Calming.{calm_opened}
 use Rattle.proto_reqrep.proofs.req.RequestProto.open_ctx.Goals as goal
 

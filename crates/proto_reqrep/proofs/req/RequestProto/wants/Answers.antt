@@ -1,6 +1,6 @@
 use Rattle.std.proofs.Common.{ap}
 use Rattle.std.specs.Prelude.{not}
-use Rattle.proto_reqrep.proofs.Coming.{wants_all, not_both}
+use Rattle.proto_reqrep.proofs.ReqArrivals.{wants_all, not_both}
 use Rattle.proto_reqrep.proofs.req.RequestProto.wants.Goals as goal
 
 pub returns-else-not-self : goal.returns-else-not-self

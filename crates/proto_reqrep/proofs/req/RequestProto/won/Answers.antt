@@ -2,8 +2,8 @@ use Rattle.std.proofs.Common.{◌∙◌, sym, ap, arith, ◌++◌}
 use Rattle.sp_msg.specs.Views.{MessageView}
 use Rattle.sp_history.specs.Lists.{word}
 use Rattle.proto_reqrep.specs.declared.req.Request.{Request as Machine}
-use Rattle.proto_reqrep.proofs.Winning.{given_all, sent_all}
-use Rattle.proto_reqrep.proofs.Standing.{none_taken, is_begun, recv_isnt_send, send_isnt_recv}
+use Rattle.proto_reqrep.proofs.ReqWins.{given_all, sent_all}
+use Rattle.proto_reqrep.proofs.ReqStands.{none_taken, is_begun, recv_isnt_send, send_isnt_recv}
 use Rattle.proto_reqrep.proofs.req.RequestProto.won.Goals as goal
 
 pub returns-in-None-clause-given : goal.returns-in-None-clause-given

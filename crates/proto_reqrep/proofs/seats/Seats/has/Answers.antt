@@ -5,7 +5,7 @@ use Rattle.proto_reqrep.specs.Backlogs.{is_of}
 use Rattle.proto_reqrep.specs.Ordered.{AreOrdered}
 use Rattle.proto_reqrep.specs.Seats.{SeatsView}
 use Rattle.proto_reqrep.specs.Reqs.{seat_ctx}
-use Rattle.proto_reqrep.proofs.Ordered.{some_place}
+use Rattle.proto_reqrep.proofs.NumberOrder.{some_place}
 use Rattle.proto_reqrep.proofs.seats.Seats.has.Goals as goal
 
 pub returns : goal.returns

@@ -4,7 +4,7 @@ use Rattle.std.specs.List.{list_any}
 use Rattle.proto_reqrep.specs.Waits.{WaitsView, receives_on}
 use Rattle.proto_reqrep.specs.Spots.{holds, held}
 use Rattle.proto_reqrep.proofs.Spotted.{any_held}
-use Rattle.proto_reqrep.proofs.Noted.{any_receive}
+use Rattle.proto_reqrep.proofs.KnownOperations.{any_receive}
 use Rattle.proto_reqrep.proofs.waits.Waits.is_receiving.Goals as goal
 
 pub returns-then-self : goal.returns-then-self

@@ -2,7 +2,7 @@ use Rattle.std.proofs.Common.{◌≡◌, ◌∙◌, sym, ap, subst, map, rules}
 use Rattle.proto_reqrep.specs.Numbers.{is_known}
 use Rattle.proto_reqrep.specs.Waits.{WaitsView, left_on}
 use Rattle.proto_reqrep.specs.Spots.{held}
-use Rattle.proto_reqrep.proofs.Noted.{none_leaves, not_false}
+use Rattle.proto_reqrep.proofs.KnownOperations.{none_leaves, not_false}
 use Rattle.proto_reqrep.proofs.waits.Waits.is_without.Goals as goal
 
 pub returns : goal.returns

@@ -5,8 +5,8 @@ use Rattle.proto_reqrep.specs.Numbers.{is_known}
 use Rattle.proto_reqrep.specs.Waits.{WaitsView, left_on, left_spot, isnt, slot_of}
 use Rattle.proto_reqrep.specs.Spots.{held}
 use Rattle.std.proofs.lemmas.List.{length-map}
-use Rattle.proto_reqrep.proofs.Coming.{any_written}
-use Rattle.proto_reqrep.proofs.Noted.{slots_changed, kind_changed, opens_less, mark_left, on_same, held_left}
+use Rattle.proto_reqrep.proofs.ReqArrivals.{any_written}
+use Rattle.proto_reqrep.proofs.KnownOperations.{slots_changed, kind_changed, opens_less, mark_left, on_same, held_left}
 use Rattle.proto_reqrep.proofs.waits.Waits.leave_on.Goals as goal
 
 pub invariant_of-self : goal.invariant_of-self

@@ -7,7 +7,7 @@ use Rattle.proto_reqrep.specs.Waits.{WaitsView, IsMark, isnt, is_open, slot_of}
 use Rattle.proto_reqrep.specs.Spots.{held}
 use Rattle.proto_reqrep.proofs.Backlogged.{kept_more}
 use Rattle.proto_reqrep.proofs.Spotted.{held_more}
-use Rattle.proto_reqrep.proofs.Noted.{kind_more, mark_more, any_more, both_true, not_false, length_more}
+use Rattle.proto_reqrep.proofs.KnownOperations.{kind_more, mark_more, any_more, both_true, not_false, length_more}
 use Rattle.proto_reqrep.proofs.waits.Waits.push.Goals as goal
 
 pub invariant_of-self : goal.invariant_of-self

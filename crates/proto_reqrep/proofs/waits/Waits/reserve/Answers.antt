@@ -3,7 +3,7 @@ use Rattle.std.specs.List.{list_any}
 use Rattle.proto_reqrep.specs.Numbers.{is_known}
 use Rattle.proto_reqrep.specs.Spots.{held}
 use Rattle.proto_reqrep.specs.Waits.{slot_of, isnt, is_open}
-use Rattle.proto_reqrep.proofs.Noted.{all_same, kind_same, mark_kept}
+use Rattle.proto_reqrep.proofs.KnownOperations.{all_same, kind_same, mark_kept}
 use Rattle.proto_reqrep.proofs.Spotted.{held_few, on_ok}
 use Rattle.proto_reqrep.proofs.waits.Waits.reserve.Goals as goal
 

@@ -1,7 +1,7 @@
 use Rattle.std.proofs.Common.{◌∙◌, ap, drop}
 use Rattle.std.specs.Prelude.{find}
 use Rattle.proto_reqrep.specs.Waits.{WaitsView}
-use Rattle.proto_reqrep.proofs.Noted.{found_from}
+use Rattle.proto_reqrep.proofs.KnownOperations.{found_from}
 use Rattle.proto_reqrep.proofs.waits.Waits.sends.Goals as goal
 
 pub returns : goal.returns

@@ -8,9 +8,9 @@ use Rattle.proto_reqrep.specs.Spots.{holds, held}
 use Rattle.proto_reqrep.specs.Waits.{WaitsView, IsMark, is_named, isnt, is_open, slot_of}
 use Rattle.proto_reqrep.specs.Reqs.{without_found}
 use Rattle.proto_reqrep.proofs.Positions.{without_none}
-use Rattle.proto_reqrep.proofs.Indexed.{index_less}
+use Rattle.proto_reqrep.proofs.NumberIndexes.{index_less}
 use Rattle.proto_reqrep.proofs.Spotted.{not_there, never, fewer_one, held_few, items_are}
-use Rattle.proto_reqrep.proofs.Noted.{kind_less, any_less, mark_less, slot_is}
+use Rattle.proto_reqrep.proofs.KnownOperations.{kind_less, any_less, mark_less, slot_is}
 use Rattle.proto_reqrep.proofs.waits.Waits.take.Goals as goal
 
 pub invariant_of-self : goal.invariant_of-self

@@ -1,4 +1,4 @@
-use Rattle.socket_tests.proofs.Calling.{stays, begins}
+use Rattle.socket_tests.proofs.SocketCallers.{stays, begins}
 use Rattle.socket_tests.proofs.callers.Caller.begin_send.Goals as goal
 
 pub returns-in-Err : goal.returns-in-Err

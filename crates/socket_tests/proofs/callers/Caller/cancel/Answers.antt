@@ -1,4 +1,4 @@
-use Rattle.socket_tests.proofs.Calling.{rests}
+use Rattle.socket_tests.proofs.SocketCallers.{rests}
 use Rattle.socket_tests.proofs.callers.Caller.cancel.Goals as goal
 
 pub returns : goal.returns

@@ -1,4 +1,4 @@
-use Rattle.socket_tests.proofs.Calling.{last, collects, puts_back}
+use Rattle.socket_tests.proofs.SocketCallers.{last, collects, puts_back}
 use Rattle.socket_tests.proofs.callers.Caller.collect.Goals as goal
 
 pub collect-requires-clause-op : goal.collect-requires-clause-op

@@ -1,4 +1,4 @@
-use Rattle.socket_tests.proofs.Calling.{stays}
+use Rattle.socket_tests.proofs.SocketCallers.{stays}
 use Rattle.sp_socket.proofs.Waits.{still_of}
 use Rattle.socket_tests.proofs.callers.Caller.misses.Goals as goal
 

@@ -1,4 +1,4 @@
-use Rattle.socket_tests.proofs.Calling.{stays}
+use Rattle.socket_tests.proofs.SocketCallers.{stays}
 use Rattle.socket_tests.proofs.callers.Caller.take_ended.Goals as goal
 
 pub returns : goal.returns

@@ -1,4 +1,4 @@
-use Rattle.socket_tests.proofs.Calling.{ticks}
+use Rattle.socket_tests.proofs.SocketCallers.{ticks}
 use Rattle.socket_tests.proofs.callers.Caller.tick.Goals as goal
 
 pub returns : goal.returns

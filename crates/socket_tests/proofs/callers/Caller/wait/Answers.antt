@@ -1,4 +1,4 @@
-use Rattle.socket_tests.proofs.Calling.{last, collects}
+use Rattle.socket_tests.proofs.SocketCallers.{last, collects}
 use Rattle.socket_tests.proofs.callers.Caller.wait.Goals as goal
 
 pub wait-requires-clause-op : goal.wait-requires-clause-op

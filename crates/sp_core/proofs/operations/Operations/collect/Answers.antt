@@ -1,7 +1,7 @@
 use Rattle.std.proofs.Common.{◌≡◌, refl, ap, sym, ◌∙◌, ◌∷◌, ◌++◌, [], Option, arith, rules, length, length-append, set}
 use Rattle.std.specs.Prelude.{filter, is_some}
 use Rattle.sp_core.specs.declared.operations.EndedOperation.{EndedOperation}
-use Rattle.sp_core.proofs.Freeing.{collected, found, nothing_there, within}
+use Rattle.sp_core.proofs.FreedSlots.{collected, found, nothing_there, within}
 use Rattle.sp_core.proofs.operations.Operations.collect.Goals as goal
 
 pub index_mut-requires : goal.index_mut-requires

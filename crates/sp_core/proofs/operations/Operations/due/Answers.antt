@@ -1,4 +1,4 @@
-use Rattle.sp_core.proofs.Ticking.{due_names, operations_ticked}
+use Rattle.sp_core.proofs.CoreTicks.{due_names, operations_ticked}
 use Rattle.sp_core.proofs.operations.Operations.due.Goals as goal
 
 pub returns-clause-names : goal.returns-clause-names

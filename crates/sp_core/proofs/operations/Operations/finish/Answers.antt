@@ -1,6 +1,6 @@
 use Rattle.std.proofs.Common.{refl, ap, arith}
 use Rattle.sp_core.proofs.Among.{on_list}
-use Rattle.sp_core.proofs.Finishing.{ended, fewer, has_place, one_more_done}
+use Rattle.sp_core.proofs.FinishedOperations.{ended, fewer, has_place, one_more_done}
 use Rattle.sp_core.proofs.operations.Operations.finish.Goals as goal
 
 pub take_out-requires : goal.take_out-requires

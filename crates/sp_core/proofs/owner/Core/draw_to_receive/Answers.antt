@@ -1,8 +1,8 @@
 use Rattle.std.proofs.Common.{◌≡◌, ◌∙◌, refl, sym, Bool, true, false}
 use Rattle.std.specs.Prelude.{not}
-use Rattle.sp_history.specs.declared.entry.Act.TheVariants as acts
+use Rattle.sp_history.specs.declared.entry.RecordedAct.TheVariants as acts
 use Rattle.sp_core.proofs.TurnEnds.{drawn_none}
-use Rattle.sp_core.proofs.Trying.{slot_left, goes_back}
+use Rattle.sp_core.proofs.ReceivedAtOnce.{slot_left, goes_back}
 use Rattle.sp_core.proofs.owner.Core.draw_to_receive.Goals as goal
 
 nothing : (a r : Bool) → r ≡ not a → r ≡ false → a ≡ true

@@ -1,7 +1,7 @@
 use Rattle.std.proofs.Common.{refl, ap, sym, ◌∙◌, subst, List, [], ◌∷◌, inl, inr, append-nil}
 use Rattle.sp_base.specs.declared.OpName.{OpName}
 use Rattle.aio_word.specs.declared.phase.Phase.TheVariants.{Pending as PendingPhase}
-use Rattle.aio_word.specs.declared.rule.Entry as word
+use Rattle.aio_word.specs.declared.rule.ShownOperation as word
 use Rattle.aio_word.specs.Answers.{of_op}
 use Rattle.sp_history.specs.declared.entry.Ending.{Ending}
 use Rattle.sp_history.specs.declared.entry.Ending.TheVariants.{Gone}
@@ -12,7 +12,7 @@ use Rattle.sp_pending.proofs.Walks.{off}
 use Rattle.sp_core.specs.Looking.{Grows, reads_of}
 use Rattle.sp_core.specs.PartSteps.{LeavesPending}
 use Rattle.sp_core.proofs.Among.{pending_there}
-use Rattle.sp_core.proofs.Steps.{with_op_words, is_gone, later-now, later-one}
+use Rattle.sp_core.proofs.MomentSteps.{with_op_words, is_gone, later-now, later-one}
 use Rattle.sp_core.proofs.owner.Core.note_if_ended.Goals as goal
 
 pub look-requires : goal.look-requires
@@ -73,7 +73,7 @@ returns-in-Some-Gone g c = record {
         c.note_gone.ensures.later c.args.self.now.op_words t f.0 h p (is_gone c.in-Some-Gone.field-0 c.in-Some-Gone.cause c.in-Some-Gone.by c.name-op.result t c.look.new.self c.in-Some-Gone.field-0-is k.1),
         inr (
           subst (λ (o : OpName). LeavesPending o c.args.self.now.operations c.note_gone.new.self.operations) c.name-op.ensures c.note_gone.ensures.leaves,
-          subst (λ (xs : List word.Entry). Grows (reads_of c.args.self.now) xs) (sym c.note_gone.ensures.reads) c.in-Some-Gone.ensures.reads.1,
+          subst (λ (xs : List word.ShownOperation). Grows (reads_of c.args.self.now) xs) (sym c.note_gone.ensures.reads) c.in-Some-Gone.ensures.reads.1,
           (ending, ap (λ (o : OpName). also t (End o ending)) c.name-op.ensures),
         ),
       );

@@ -1,6 +1,6 @@
 use Rattle.std.proofs.Common.{refl, ◌∙◌}
 use Rattle.sp_history.specs.Moments.{next, also}
-use Rattle.sp_core.proofs.Noted.{link_noted}
+use Rattle.sp_core.proofs.NotedLinks.{link_noted}
 use Rattle.sp_core.proofs.TurnEnds.{first_so}
 use Rattle.sp_core.proofs.Labels.{same_label}
 use Rattle.sp_core.proofs.Attached.{setting_kept}

@@ -3,8 +3,8 @@ use Rattle.std.specs.Prelude.{Option, Result, Ok}
 use Rattle.sp_msg.specs.Views.{MessageView}
 use Rattle.sp_core.specs.declared.immediate.NowError.{NowError}
 use Rattle.sp_core.specs.Immediate.{TriedTo}
-use Rattle.sp_core.proofs.Looked.{grows_trans}
-use Rattle.sp_core.proofs.Trying.{lost_more}
+use Rattle.sp_core.proofs.ContextLooks.{grows_trans}
+use Rattle.sp_core.proofs.ReceivedAtOnce.{lost_more}
 use Rattle.sp_core.proofs.owner.Core.receive_now.Goals as goal
 
 pub returns-in-Err : goal.returns-in-Err

@@ -1,5 +1,5 @@
 use Rattle.std.proofs.Common.{arith, refl, []}
-use Rattle.sp_core.proofs.Steps.{with_proto}
+use Rattle.sp_core.proofs.MomentSteps.{with_proto}
 use Rattle.sp_core.proofs.owner.Core.settle_once.Goals as goal
 
 pub returns-in-Idle : goal.returns-in-Idle

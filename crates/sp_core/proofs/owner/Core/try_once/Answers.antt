@@ -1,11 +1,11 @@
 use Rattle.std.proofs.Common.{◌∙◌, sym, subst, List}
-use Rattle.aio_word.specs.declared.rule.Entry as word
+use Rattle.aio_word.specs.declared.rule.ShownOperation as word
 use Rattle.sp_history.specs.declared.entry.Entry.TheVariants.{End}
 use Rattle.sp_history.specs.Moments.{also}
 use Rattle.sp_core.specs.Immediate.{tried}
 use Rattle.sp_core.specs.Looking.{Grows, reads_of}
-use Rattle.sp_core.proofs.Looked.{grows_trans}
-use Rattle.sp_core.proofs.Trying.{now_begun, got, missed, never_sent}
+use Rattle.sp_core.proofs.ContextLooks.{grows_trans}
+use Rattle.sp_core.proofs.ReceivedAtOnce.{now_begun, got, missed, never_sent}
 use Rattle.sp_core.proofs.TriedOnce.{begun, begun_now, given_now, took_now}
 use Rattle.sp_core.proofs.owner.Core.try_once.Goals as goal
 
@@ -40,8 +40,8 @@ returns-in-Received g c = record {
       (v.0, v.2, v.3, (op, got t v.0 op c.args.c t.z.callers k.message k.ending c.in-Received.m k.given (sym c.in-Received.is ∙ k.outcome) v.1));
   words = c.settle.ensures.words ∙ c.take-outcome.ensures.words ∙ c.give.ensures.settles.words ∙ c.in-Ok-begin_drawn.ensures.begun.words ∙ c.draw_to_receive.ensures.words;
   reads =
-      let first = subst (λ (xs : List word.Entry). Grows xs (reads_of c.give.new.self)) (c.in-Ok-begin_drawn.ensures.begun.reads ∙ c.draw_to_receive.ensures.reads) c.give.ensures.settles.reads in
-      let then = subst (λ (xs : List word.Entry). Grows xs (reads_of c.settle.new.self)) c.take-outcome.ensures.reads c.settle.ensures.reads in
+      let first = subst (λ (xs : List word.ShownOperation). Grows xs (reads_of c.give.new.self)) (c.in-Ok-begin_drawn.ensures.begun.reads ∙ c.draw_to_receive.ensures.reads) c.give.ensures.settles.reads in
+      let then = subst (λ (xs : List word.ShownOperation). Grows xs (reads_of c.settle.new.self)) c.take-outcome.ensures.reads c.settle.ensures.reads in
       grows_trans _ _ _ first then;
 }
 
@@ -56,8 +56,8 @@ returns-in-Gone g c = record {
       (v.0, v.2, v.3, (op, lost.0, lost.1, lost.2, lost.3));
   words = c.settle.ensures.words ∙ c.take-outcome.ensures.words ∙ c.give.ensures.settles.words ∙ c.in-Ok-begin_drawn.ensures.begun.words ∙ c.draw_to_receive.ensures.words;
   reads =
-      let first = subst (λ (xs : List word.Entry). Grows xs (reads_of c.give.new.self)) (c.in-Ok-begin_drawn.ensures.begun.reads ∙ c.draw_to_receive.ensures.reads) c.give.ensures.settles.reads in
-      let then = subst (λ (xs : List word.Entry). Grows xs (reads_of c.settle.new.self)) c.take-outcome.ensures.reads c.settle.ensures.reads in
+      let first = subst (λ (xs : List word.ShownOperation). Grows xs (reads_of c.give.new.self)) (c.in-Ok-begin_drawn.ensures.begun.reads ∙ c.draw_to_receive.ensures.reads) c.give.ensures.settles.reads in
+      let then = subst (λ (xs : List word.ShownOperation). Grows xs (reads_of c.settle.new.self)) c.take-outcome.ensures.reads c.settle.ensures.reads in
       grows_trans _ _ _ first then;
 }
 

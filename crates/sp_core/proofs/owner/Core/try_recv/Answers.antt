@@ -2,7 +2,7 @@ use Rattle.std.proofs.Common.{◌∙◌, []}
 use Rattle.sp_core.specs.Looking.{reads_of}
 use Rattle.sp_core.specs.Standing.{core_setting}
 use Rattle.sp_core.proofs.TurnEnds.{setting_at}
-use Rattle.sp_core.proofs.Trying.{received_so, now_z}
+use Rattle.sp_core.proofs.ReceivedAtOnce.{received_so, now_z}
 use Rattle.sp_core.proofs.Labels.{same_label}
 use Rattle.sp_core.proofs.owner.Core.try_recv.Goals as goal
 

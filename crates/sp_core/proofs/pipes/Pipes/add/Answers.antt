@@ -1,5 +1,5 @@
 use Rattle.std.proofs.Common.{refl}
-use Rattle.sp_core.proofs.Adding.{came_up}
+use Rattle.sp_core.proofs.NewPipes.{came_up}
 use Rattle.sp_core.proofs.pipes.Pipes.add.Goals as goal
 
 pub returns : goal.returns

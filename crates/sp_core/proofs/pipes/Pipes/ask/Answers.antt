@@ -3,7 +3,7 @@ use Rattle.sp_msg.specs.Wires.{AfterRoom}
 use Rattle.sp_msg.specs.declared.wire.Room.{Room}
 use Rattle.sp_history.specs.declared.entry.Why.TheVariants as whys
 use Rattle.sp_history.specs.Moments.{past}
-use Rattle.sp_core.proofs.Changing.{failed, refused, without_memory}
+use Rattle.sp_core.proofs.ChangedWires.{failed, refused, without_memory}
 use Rattle.sp_core.proofs.PipeSteps.{yes_carries, full_carries, go_down_carries}
 use Rattle.sp_core.proofs.pipes.Pipes.ask.Goals as goal
 

@@ -4,7 +4,7 @@ use Rattle.sp_msg.specs.declared.wire.WireFlush.{WireFlush}
 use Rattle.sp_history.specs.declared.entry.Why.TheVariants as whys
 use Rattle.sp_history.specs.Moments.{past}
 use Rattle.sp_core.specs.declared.pipes.Asked.TheVariants as asked
-use Rattle.sp_core.proofs.Changing.{failed, refused, without_memory}
+use Rattle.sp_core.proofs.ChangedWires.{failed, refused, without_memory}
 use Rattle.sp_core.proofs.PipeSteps.{ids_same, wire_at, go_down_carries}
 use Rattle.sp_core.proofs.Flushing.{open_flushes, as_failed, as_refused, as_without_memory, stall_carries, clear_carries}
 use Rattle.sp_core.proofs.pipes.Pipes.flush.Goals as goal

@@ -3,9 +3,9 @@ use Rattle.std.specs.Prelude.{◌==◌}
 use Rattle.std.proofs.lemmas.List.Sorted.{IsPartitionPoint-from_clause}
 use Rattle.sp_history.specs.Lists.{has}
 use Rattle.sp_core.specs.Pipes.{ids, is_below}
-use Rattle.sp_core.proofs.Changing.{equal_numbers}
+use Rattle.sp_core.proofs.ChangedWires.{equal_numbers}
 use Rattle.sp_core.proofs.PipeSteps.{id_at}
-use Rattle.sp_core.proofs.Rising.{IsRising, ups_rising, parted, nowhere}
+use Rattle.sp_core.proofs.PipesInOrder.{IsRising, ups_rising, parted, nowhere}
 use Rattle.sp_core.proofs.pipes.Pipes.place_of.Goals as goal
 
 pub returns-then-i-len : goal.returns-then-i-len

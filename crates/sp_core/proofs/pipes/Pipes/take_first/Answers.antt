@@ -1,5 +1,5 @@
 use Rattle.std.proofs.Common.{refl}
-use Rattle.sp_core.proofs.Taking.{taken_from}
+use Rattle.sp_core.proofs.TakenPipes.{taken_from}
 use Rattle.sp_core.proofs.pipes.Pipes.take_first.Goals as goal
 
 pub returns : goal.returns

@@ -4,7 +4,7 @@ use Rattle.sp_ends.proofs.NewcomingAsks.{at_index}
 use Rattle.sp_ends.proofs.Serving.{same_dialers}
 use Rattle.sp_ends.proofs.NewcomingTurn.{untouched}
 use Rattle.sp_ends.proofs.Arriving.{arrives_served}
-use Rattle.sp_ends.proofs.Freeing.{frees_none, frees_both}
+use Rattle.sp_ends.proofs.FreedDialers.{frees_none, frees_both}
 use Rattle.sp_ends.proofs.links.LinkEnds.accept_one.Goals as goal
 
 pub welcome-requires-clause-fresh : goal.welcome-requires-clause-fresh

@@ -4,7 +4,7 @@ use Rattle.std.specs.Prelude.{◌^◌, IsTrue, true, false}
 use Rattle.sp_ends.specs.Standing.{LinkEndsView}
 use Rattle.sp_ends.proofs.NewcomingAsks.{at_index}
 use Rattle.sp_ends.specs.Freeing.{IsDue}
-use Rattle.sp_ends.proofs.Freeing.{turned_turns, turned_waits}
+use Rattle.sp_ends.proofs.FreedDialers.{turned_turns, turned_waits}
 use Rattle.sp_ends.proofs.NewcomingRounds.{dialing_first, dialing_waits, dialing_next, dialable_here, dialed_all, is_there, due_all}
 use Rattle.sp_ends.proofs.links.LinkEnds.dial_all.Goals as goal
 

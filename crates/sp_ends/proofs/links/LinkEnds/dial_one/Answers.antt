@@ -12,8 +12,8 @@ use Rattle.sp_ends.proofs.NewcomingTurn.{untouched}
 use Rattle.sp_ends.proofs.NewcomingDials.{turned_as, tried, asked_on, asked_got, dialed_at, dials_then}
 use Rattle.sp_ends.proofs.Serving.{dials_addrs, ends_both, of_run_on}
 use Rattle.sp_ends.proofs.Arriving.{arrives_dialed, set_at}
-use Rattle.sp_ends.proofs.Freeing.{redials_none, redials_got}
-use Rattle.sp_ends.proofs.Knowing.{knows_none, knows_got}
+use Rattle.sp_ends.proofs.FreedDialers.{redials_none, redials_got}
+use Rattle.sp_ends.proofs.DialedLinks.{knows_none, knows_got}
 use Rattle.sp_ends.proofs.links.LinkEnds.dial_one.Goals as goal
 
 some_dialer : {a b : Dialer} → Some a ≡ Some b → a ≡ b

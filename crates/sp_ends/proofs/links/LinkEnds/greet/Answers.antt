@@ -7,7 +7,7 @@ use Rattle.sp_ends.specs.Turning.{AreSameDialers, AreYoung, AreWaitingBehind, ad
 use Rattle.sp_ends.proofs.Young.{young_more}
 use Rattle.sp_ends.proofs.Waited.{waited_since, waiting_more}
 use Rattle.sp_ends.proofs.links.LinkEnds.greet.Goals as goal
-use Rattle.sp_ends.proofs.Freeing.{frees_none, frees_lost}
+use Rattle.sp_ends.proofs.FreedDialers.{frees_none, frees_lost}
 use Rattle.sp_ends.specs.Freeing.{GivesOneBack}
 use Rattle.sp_ends.proofs.Serving.{turn_after, ends_none, ends_lost, newcomers_lost, same_dialers}
 

@@ -11,7 +11,7 @@ use Rattle.sp_ends.proofs.Serving.{turn_with, ends_none, same_dialers, counts_no
 use Rattle.sp_ends.proofs.Turns.{quiet_none, lanes_none}
 use Rattle.sp_ends.specs.Freeing.{Frees}
 use Rattle.sp_ends.specs.declared.dialer.Dialer.{Dialer}
-use Rattle.sp_ends.proofs.Freeing.{frees_none, frees_both}
+use Rattle.sp_ends.proofs.FreedDialers.{frees_none, frees_both}
 
 pub greets-init : goal.greets-init
 greets-init g c =

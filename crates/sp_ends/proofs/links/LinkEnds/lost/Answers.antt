@@ -5,7 +5,7 @@ use Rattle.sp_ends.specs.declared.dialer.Dialer.{Dialer}
 use Rattle.sp_ends.specs.Freeing.{AreFreed}
 use Rattle.sp_ends.specs.Turning.{AreSameDialers}
 use Rattle.sp_ends.specs.Standing.{LinkEndsView}
-use Rattle.sp_ends.proofs.Freeing.{FreedTo, freed_next, freed_whole}
+use Rattle.sp_ends.proofs.FreedDialers.{FreedTo, freed_next, freed_whole}
 use Rattle.sp_ends.proofs.NewcomingDialers.{one_lost}
 use Rattle.sp_ends.proofs.Serving.{same_dialers}
 use Rattle.sp_ends.proofs.links.LinkEnds.lost.Goals as goal

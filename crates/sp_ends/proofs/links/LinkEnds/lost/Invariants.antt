@@ -1,5 +1,5 @@
 use Rattle.sp_ends.specs.Turning.{AreSameDialers}
-use Rattle.sp_ends.proofs.Freeing.{FreedTo}
+use Rattle.sp_ends.proofs.FreedDialers.{FreedTo}
 use Rattle.sp_ends.proofs.links.LinkEnds.lost.Given as goal
 
 abbrev pub invariant-loop-dialer : goal.invariant-loop-dialer

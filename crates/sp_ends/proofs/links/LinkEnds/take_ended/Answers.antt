@@ -5,9 +5,9 @@ use Rattle.sp_ends.specs.Standing.{LinksStand}
 use Rattle.sp_ends.proofs.links.LinkEnds.take_ended.Goals as goal
 use Rattle.sp_ends.proofs.Turns.{quiet_one, first_play, settles_play, lanes_one, lane_first, lane_settles, dry_first, dry_settles, sound_one}
 use Rattle.sp_ends.proofs.Serving.{turn_on, taken_stands, settled_stands, lane_taken, ends_none, ends_lost, same_dialers, counts_none, counts_back, newcomers_lost}
-use Rattle.sp_ends.proofs.Taking.{left_by, lane_left}
-use Rattle.sp_ends.proofs.Calling.{took_pipe, taken_first}
-use Rattle.sp_ends.proofs.Freeing.{frees_none, frees_lost}
+use Rattle.sp_ends.proofs.TakenWires.{left_by, lane_left}
+use Rattle.sp_ends.proofs.DialedNames.{took_pipe, taken_first}
+use Rattle.sp_ends.proofs.FreedDialers.{frees_none, frees_lost}
 
 pub returns-in_default-clause-in_turn : goal.returns-in_default-clause-in_turn
 returns-in_default-clause-in_turn g c =

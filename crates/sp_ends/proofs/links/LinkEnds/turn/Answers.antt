@@ -9,9 +9,9 @@ use Rattle.sp_ends.specs.Turning.{HasWaitedSince}
 use Rattle.sp_ends.proofs.TakenAll.{untaken_off, off_stays}
 use Rattle.sp_ends.proofs.Turns.{quiet_both, lanes_both}
 use Rattle.sp_ends.proofs.Serving.{dialers_long, ends_both}
-use Rattle.sp_ends.proofs.Freeing.{turns_all}
+use Rattle.sp_ends.proofs.FreedDialers.{turns_all}
 use Rattle.sp_ends.proofs.WholeTurn.{turn_begins, serves_net, room_on, asks_taken, each_taken, dues_taken}
-use Rattle.sp_ends.proofs.Calling.{goes_both, quiet_ups, turns_callers, turns_lanes, accepts_for, bring_for}
+use Rattle.sp_ends.proofs.DialedNames.{goes_both, quiet_ups, turns_callers, turns_lanes, accepts_for, bring_for}
 use Rattle.sp_ends.proofs.links.LinkEnds.turn.Goals as goal
 
 pub take_all_ended-requires : goal.take_all_ended-requires

@@ -13,7 +13,7 @@ use Rattle.link_opening.specs.Origins.{Origins}
 use Rattle.sp_ends.specs.Turning.{InTurn, Arrives, AreYoung, AreWaitingBehind, FitsIn}
 use Rattle.sp_ends.proofs.Turns.{lanes_both, quiet_both}
 use Rattle.sp_ends.proofs.Serving.{turn_on, ends_lost, newcomers_lost}
-use Rattle.sp_ends.proofs.Freeing.{frees_lost}
+use Rattle.sp_ends.proofs.FreedDialers.{frees_lost}
 use Rattle.sp_ends.proofs.NewcomingTurn.{MeetsAt, meets_quiet, meets_lanes, meets_dry, met_hand, welcomed, dry_cause}
 use Rattle.sp_ends.proofs.links.LinkEnds.welcome.Goals as goal
 

@@ -1,6 +1,6 @@
 use Rattle.std.proofs.Common.{◌≡◌, sym, ap, ◌∙◌}
 use Rattle.sp_lane.specs.Lanes.{InView, has_end}
-use Rattle.sp_lane.specs.declared.item.Item.TheVariants as items
+use Rattle.sp_lane.specs.declared.item.LaneItem.TheVariants as items
 use Rattle.sp_lane.specs.declared.item.PutEnd.TheVariants as put_ends
 use Rattle.sp_lane.proofs.Counts.{end_snoc}
 use Rattle.sp_lane.proofs.ends.LaneIn.put_end.Goals as goal

@@ -1,6 +1,6 @@
 use Rattle.std.proofs.Common.{ap, ◌∙◌}
 use Rattle.sp_lane.specs.LaneWires.{LaneWireView}
-use Rattle.sp_lane.proofs.Wiring.{pulled}
+use Rattle.sp_lane.proofs.LaneWireCalls.{pulled}
 use Rattle.sp_lane.proofs.wire.LaneWireWire.pull.Goals as goal
 
 pub returns-clause-after : goal.returns-clause-after

@@ -1,6 +1,6 @@
 use Rattle.std.proofs.Common.{◌<◌, ◌+◌, ◌++◌, ◌∷◌, [], Some, List, length, refl, ap, sym, ◌∙◌, subst, set, ℕ}
 use Rattle.std.specs.Prelude.{map}
-use Rattle.sp_pending.specs.declared.pending.Pending.{Pending}
+use Rattle.sp_pending.specs.declared.pending.PendingOperation.{PendingOperation}
 use Rattle.sp_pending.specs.Rings.{PutsLast}
 use Rattle.sp_pending.specs.Pendings.{PendingView, NotIn, Keeps, slot_of, line_of, shown}
 use Rattle.sp_pending.proofs.PendingSteps.{order_room, line_room, put_in, seen}
@@ -22,7 +22,7 @@ pub invariant_of-self : goal.invariant_of-self
 invariant_of-self c =
     let slots = c.self.inside.slots in
     let places = c.self.inside.places.items in
-    let x : Pending = record { op = c.args.op; ctx = c.args.ctx } in
+    let x : PendingOperation = record { op = c.args.op; ctx = c.args.ctx } in
     let xs = shown slots places c.self.inside.order in
     let inside = subst (λ (v : PendingView). c.args.op.slot < v.slots) (sym c.self.view_is) c.requires.slot in
     let free = subst (λ (v : PendingView). NotIn c.args.op.slot (map slot_of v.items)) (sym c.self.view_is) c.requires.free in
@@ -31,13 +31,13 @@ invariant_of-self c =
     let line = subst (λ (v : PendingView). line_of v.slots c.args.ctx < v.slots) (sym c.self.view_is) c.head_of-head.ensures.line in
     let lines : PutsLast (slots + line_of slots c.args.ctx) c.args.op.slot c.self.inside.lines c.put_last-2.new.self = subst (λ (h : ℕ). PutsLast h c.args.op.slot c.self.inside.lines c.put_last-2.new.self) head c.put_last-2.ensures in
     let k : Keeps slots (set places c.args.op.slot (Some x)) c.put_last.new.self c.put_last-2.new.self (xs ++ x ∷ []) = put_in slots places _ c.self.inside.order c.self.inside.lines c.put_last.new.self c.put_last-2.new.self xs x c.self.invariant inside free room c.put_last.ensures line lines refl in
-    subst (λ (zs : List Pending). Keeps slots (set places c.args.op.slot (Some x)) c.put_last.new.self c.put_last-2.new.self zs) (sym (seen slots _ c.put_last.new.self c.put_last-2.new.self (xs ++ x ∷ []) k)) k
+    subst (λ (zs : List PendingOperation). Keeps slots (set places c.args.op.slot (Some x)) c.put_last.new.self c.put_last-2.new.self zs) (sym (seen slots _ c.put_last.new.self c.put_last-2.new.self (xs ++ x ∷ []) k)) k
 
 pub returns : goal.returns
 returns c =
     let slots = c.self.inside.slots in
     let places = c.self.inside.places.items in
-    let x : Pending = record { op = c.args.op; ctx = c.args.ctx } in
+    let x : PendingOperation = record { op = c.args.op; ctx = c.args.ctx } in
     let xs = shown slots places c.self.inside.order in
     let inside = subst (λ (v : PendingView). c.args.op.slot < v.slots) (sym c.self.view_is) c.requires.slot in
     let free = subst (λ (v : PendingView). NotIn c.args.op.slot (map slot_of v.items)) (sym c.self.view_is) c.requires.free in
@@ -47,4 +47,4 @@ returns c =
     let lines : PutsLast (slots + line_of slots c.args.ctx) c.args.op.slot c.self.inside.lines c.put_last-2.new.self = subst (λ (h : ℕ). PutsLast h c.args.op.slot c.self.inside.lines c.put_last-2.new.self) head c.put_last-2.ensures in
     let k : Keeps slots (set places c.args.op.slot (Some x)) c.put_last.new.self c.put_last-2.new.self (xs ++ x ∷ []) = put_in slots places _ c.self.inside.order c.self.inside.lines c.put_last.new.self c.put_last-2.new.self xs x c.self.invariant inside free room c.put_last.ensures line lines refl in
     let now = seen slots _ c.put_last.new.self c.put_last-2.new.self (xs ++ x ∷ []) k in
-    ap (λ (zs : List Pending). let v : PendingView = record { slots = slots; items = zs } in v) now ∙ ap (λ (v : PendingView). record v { items = v.items ++ x ∷ [] }) c.self.view_is
+    ap (λ (zs : List PendingOperation). let v : PendingView = record { slots = slots; items = zs } in v) now ∙ ap (λ (v : PendingView). record v { items = v.items ++ x ∷ [] }) c.self.view_is

@@ -1,5 +1,5 @@
 use Rattle.std.proofs.Common.{List, [], sym, subst}
-use Rattle.sp_pending.specs.declared.pending.Pending.{Pending}
+use Rattle.sp_pending.specs.declared.pending.PendingOperation.{PendingOperation}
 use Rattle.sp_pending.specs.Pendings.{Keeps}
 use Rattle.sp_pending.proofs.PendingSteps.{made, seen}
 use Rattle.sp_pending.proofs.pending.PendingOps.new.Goals as goal
@@ -10,4 +10,4 @@ invariant_of-result c =
     let o = c.in_ok-alone.field-0 in
     let l = c.in_ok-alone-2.field-0 in
     let k : Keeps c.args.slots places o l [] = made c.args.slots places o l c.requires.0 c.requires.1 c.in_ok-no_places.ensures c.in_ok-alone.ensures.0 c.in_ok-alone.ensures.1 c.in_ok-alone-2.ensures.0 c.in_ok-alone-2.ensures.1 in
-    subst (λ (zs : List Pending). Keeps c.args.slots places o l zs) (sym (seen c.args.slots places o l [] k)) k
+    subst (λ (zs : List PendingOperation). Keeps c.args.slots places o l zs) (sym (seen c.args.slots places o l [] k)) k

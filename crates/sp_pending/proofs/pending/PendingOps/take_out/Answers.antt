@@ -1,6 +1,6 @@
 use Rattle.std.proofs.Common.{◌<◌, None, List, length, ap, sym, ◌∙◌, subst, set, arith}
 use Rattle.sp_base.specs.declared.OpName.{OpName}
-use Rattle.sp_pending.specs.declared.pending.Pending.{Pending}
+use Rattle.sp_pending.specs.declared.pending.PendingOperation.{PendingOperation}
 use Rattle.sp_pending.specs.Rings.{at}
 use Rattle.sp_pending.specs.Pendings.{PendingView, IsAmong, Keeps, others_than, shown}
 use Rattle.sp_pending.proofs.PendingSteps.{order_neighbours, line_neighbours, slot_inside, named_out, line_below, seen}
@@ -33,7 +33,7 @@ invariant_of-self c =
     let xs = shown slots places c.self.inside.order in
     let among = subst (λ (v : PendingView). IsAmong c.requires.0 v.items) (sym c.self.view_is) c.requires.1 in
     let k : Keeps slots (set places c.args.op.slot None) c.take_out.new.self c.take_out-2.new.self (others_than c.args.op xs) = named_out slots places c.self.inside.order c.self.inside.lines c.take_out.new.self c.take_out-2.new.self xs c.requires.0 c.args.op c.requires.2 c.self.invariant among c.take_out.ensures c.take_out-2.ensures in
-    subst (λ (zs : List Pending). Keeps slots (set places c.args.op.slot None) c.take_out.new.self c.take_out-2.new.self zs) (sym (seen slots _ c.take_out.new.self c.take_out-2.new.self (others_than c.args.op xs) k)) k
+    subst (λ (zs : List PendingOperation). Keeps slots (set places c.args.op.slot None) c.take_out.new.self c.take_out-2.new.self zs) (sym (seen slots _ c.take_out.new.self c.take_out-2.new.self (others_than c.args.op xs) k)) k
 
 pub returns : goal.returns
 returns c =
@@ -43,4 +43,4 @@ returns c =
     let among = subst (λ (v : PendingView). IsAmong c.requires.0 v.items) (sym c.self.view_is) c.requires.1 in
     let k : Keeps slots (set places c.args.op.slot None) c.take_out.new.self c.take_out-2.new.self (others_than c.args.op xs) = named_out slots places c.self.inside.order c.self.inside.lines c.take_out.new.self c.take_out-2.new.self xs c.requires.0 c.args.op c.requires.2 c.self.invariant among c.take_out.ensures c.take_out-2.ensures in
     let now = seen slots _ c.take_out.new.self c.take_out-2.new.self (others_than c.args.op xs) k in
-    ap (λ (zs : List Pending). let v : PendingView = record { slots = slots; items = zs } in v) now ∙ ap (λ (v : PendingView). record v { items = others_than c.args.op v.items }) c.self.view_is
+    ap (λ (zs : List PendingOperation). let v : PendingView = record { slots = slots; items = zs } in v) now ∙ ap (λ (v : PendingView). record v { items = others_than c.args.op v.items }) c.self.view_is

@@ -1,5 +1,5 @@
 use Rattle.std.proofs.Common.{refl}
-use Rattle.sp_single.proofs.Ending.{finished}
+use Rattle.sp_single.proofs.SocketLife.{finished}
 use Rattle.sp_single.proofs.single.Single.finish.Goals as goal
 
 pub returns : goal.returns

@@ -1,6 +1,6 @@
 use Rattle.std.proofs.Common.{refl, sym}
 use Rattle.sp_proto.specs.Kinds.{setting_of}
-use Rattle.sp_single.proofs.Ending.{new_single}
+use Rattle.sp_single.proofs.SocketLife.{new_single}
 use Rattle.sp_single.proofs.single.Single.open.Goals as goal
 
 pub invariant_of-result : goal.invariant_of-result

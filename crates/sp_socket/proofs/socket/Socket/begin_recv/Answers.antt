@@ -1,5 +1,5 @@
-use Rattle.sp_history.specs.declared.entry.Act.TheVariants as acts
-use Rattle.sp_socket.proofs.Keeping.{begun_open}
+use Rattle.sp_history.specs.declared.entry.RecordedAct.TheVariants as acts
+use Rattle.sp_socket.proofs.OpenForPass.{begun_open}
 use Rattle.sp_socket.proofs.socket.Socket.begin_recv.Goals as goal
 
 pub returns-clause-open_ : goal.returns-clause-open_

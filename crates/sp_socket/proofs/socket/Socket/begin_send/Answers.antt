@@ -1,8 +1,8 @@
-use Rattle.sp_history.specs.declared.entry.Act.TheVariants as acts
+use Rattle.sp_history.specs.declared.entry.RecordedAct.TheVariants as acts
 use Rattle.sp_proto.specs.Kinds.{text_of}
 use Rattle.sp_core.specs.Standing.{began}
 use Rattle.sp_socket.specs.Open.{OpensFor}
-use Rattle.sp_socket.proofs.Keeping.{begun_open, began_open}
+use Rattle.sp_socket.proofs.OpenForPass.{begun_open, began_open}
 use Rattle.sp_socket.proofs.socket.Socket.begin_send.Goals as goal
 
 pub returns-clause-open_ : goal.returns-clause-open_

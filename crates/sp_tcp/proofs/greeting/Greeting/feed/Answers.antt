@@ -5,7 +5,7 @@ use Rattle.sp_tcp.specs.Views.{GreetingView}
 use Rattle.sp_tcp.specs.Greetings.{FedAs, peer_hello}
 use Rattle.sp_tcp.specs.declared.greeting.Greeted.{Greeted}
 use Rattle.sp_tcp.specs.declared.greeting.Greeted.TheVariants as g
-use Rattle.sp_tcp.proofs.Prefixes.{part_more, part_other}
+use Rattle.sp_tcp.proofs.FrontPieces.{part_more, part_other}
 use Rattle.sp_tcp.proofs.greeting.Greeting.feed.Goals as goal
 
 -- an answer of the greeting that shows this, from its fields: the bytes of the peer's greeting so far are what was fed

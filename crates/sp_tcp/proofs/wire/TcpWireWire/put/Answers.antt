@@ -2,7 +2,7 @@ use Rattle.std.proofs.Common.{◌≡◌, [], true, refl, sym, ap, subst, ◌∙�
 use Rattle.sp_msg.specs.declared.marks.WireMarks.{WireMarks}
 use Rattle.sp_tcp.specs.Views.{TcpView, OutletView}
 use Rattle.sp_tcp.specs.Outlets.{SentWithin}
-use Rattle.sp_tcp.proofs.Marks.{within_more}
+use Rattle.sp_tcp.proofs.MarkedFrames.{within_more}
 use Rattle.sp_tcp.specs.TcpWires.{TcpState, tcp_state}
 use Rattle.sp_msg.specs.Views.{wire_text}
 use Rattle.sp_tcp.proofs.Framed.{framed}

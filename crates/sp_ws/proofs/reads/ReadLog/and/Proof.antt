@@ -25,7 +25,7 @@ use denote.Triple.Entry.{alive}
 use denote.Triple.Spec.{Meets, triple_of}
 use denote.Triple.Table.{entered}
 use denote.Triple.Walked.{says, Stays, stay_dropped, walk_of, ends_at, walk_Meets, Goes-dropped}
-use Rattle.sp_ws.proofs.Ghosts.{none, none_made}
+use Rattle.sp_ws.proofs.EmptyLogs.{none, none_made}
 use Rattle.sp_ws.specs.contracts.reads.ReadLog as Log
 use Rattle.sp_ws.specs.contracts.reads.Given as Piece
 use Rattle.sp_ws.specs.contracts.reads.ReadLog.and as F

@@ -23,7 +23,7 @@ use denote.Triple.Entry.{alive}
 use denote.Triple.Spec.{Meets, triple_of}
 use denote.Triple.Table.{entered}
 use denote.Triple.Walked.{says, Stays, walk_of, ends_at, walk_Meets}
-use Rattle.sp_ws.proofs.Ghosts.{none, none_made}
+use Rattle.sp_ws.proofs.EmptyLogs.{none, none_made}
 use Rattle.sp_ws.specs.contracts.reads.ReadLog as Log
 use Rattle.sp_ws.specs.contracts.reads.ReadLog.none as F
 use Rattle.sp_ws.specs.contracts.reads.ReadLog.none.Key.{name as #self}

@@ -3,7 +3,7 @@ use Rattle.std.proofs.lemmas.List.Elements.{All-nil, All-push}
 use Rattle.sp_ws.specs.Frames.{IsPassed, Names}
 use Rattle.sp_ws.specs.Streams.{unread_in, is_dry, IsNamed}
 use Rattle.sp_ws.proofs.Noted.{one_more_read}
-use Rattle.sp_ws.proofs.Shown.{none_of}
+use Rattle.sp_ws.proofs.SocketShows.{none_of}
 use Rattle.sp_ws.specs.declared.memory.Memory.{Memory}
 use Rattle.sp_ws.specs.declared.frames.FrameIn.{FrameIn}
 use Rattle.sp_ws.proofs.stream.Stream.read_next.Goals as goal
