@@ -5,7 +5,7 @@ use Rattle.turn_lock.specs.declared.turn.Turn.{Turn}
 use Rattle.sp_base.specs.declared.OpName.{OpName}
 use Rattle.sp_history.specs.declared.entry.Entry.{Entry}
 use Rattle.sp_history.specs.declared.setting.Setting.{Setting}
-use Rattle.sp_core.specs.declared.ops.Outcome.{Outcome}
+use Rattle.core_parts.specs.declared.outcome.Outcome.{Outcome}
 use Rattle.sp_socket.specs.Passes.{SocketName, PassView, IsOf, IsSamePass}
 use Rattle.sp_socket.specs.Open.{IsOpenFor, OpensFor, AreOpenFor, KeepsOpen, KeepsPass}
 use Rattle.sp_socket.specs.Turns.{TookTurn}

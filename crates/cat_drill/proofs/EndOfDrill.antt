@@ -16,7 +16,7 @@ use Rattle.sp_history.specs.declared.entry.Entry.{Entry}
 use Rattle.sp_history.specs.declared.entry.RecordedMessage.{RecordedMessage}
 use Rattle.sp_history.specs.declared.entry.Totals.{Totals}
 use Rattle.sp_history.specs.declared.entry.Why.{Why}
-use Rattle.sp_core.specs.declared.pipes.DownPipe.{DownPipe}
+use Rattle.core_parts.specs.declared.pipes.DownPipe.{DownPipe}
 use Rattle.sp_core.specs.Parts.{HasWires}
 use Rattle.sp_history.specs.declared.setting.Setting.{Setting}
 use Rattle.sp_history.specs.Past.{past_of, frames, name_of, is_closed}
@@ -25,7 +25,7 @@ use Rattle.sp_history.specs.Settled.{Settled}
 use Rattle.sp_history.specs.Given.{given}
 use Rattle.sp_core.specs.declared.label.CoreLabel.{CoreLabel}
 use Rattle.sp_core.specs.Closing.{closed_totals, ClosedBy}
-use Rattle.sp_core.specs.Wires.{IsDownWire}
+use Rattle.core_parts.specs.Wires.{IsDownWire}
 use Rattle.sp_socket.specs.Passes.{SocketName, PassView, ListView, label_with}
 use Rattle.sp_socket.specs.Finishing.{IsRecord, FitsIn, HasSeenClose}
 use Rattle.sp_socket.specs.Turns.{TookTurn}

@@ -9,7 +9,7 @@ use Rattle.sp_history.specs.declared.entry.Totals.{Totals}
 use Rattle.sp_history.specs.declared.entry.Why.{Why}
 use Rattle.sp_history.specs.Past.{past_of, name_of, ups}
 use Rattle.sp_core.specs.Closing.{closed_totals}
-use Rattle.sp_core.specs.Wires.{IsDownWire}
+use Rattle.core_parts.specs.Wires.{IsDownWire}
 use Rattle.sp_lane.specs.Items.{texts}
 use Rattle.sp_lane.specs.Lanes.{OutView}
 use Rattle.sp_socket.specs.Passes.{SocketName, PassView, ListView}

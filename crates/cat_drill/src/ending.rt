@@ -6,7 +6,7 @@ ghost use Rattle.sp_history.specs.declared.entry.Entry.{Entry};
 ghost use Rattle.sp_history.specs.declared.entry.Why.{Why as WhyType};
 ghost use Rattle.sp_history.specs.Past.{past_of};
 ghost use Rattle.sp_history.specs.Legal.{Legal};
-ghost use Rattle.sp_core.specs.declared.pipes.DownPipe.{DownPipe};
+ghost use Rattle.core_parts.specs.declared.pipes.DownPipe.{DownPipe};
 ghost use Rattle.sp_core.specs.Parts.{HasWires};
 ghost use Rattle.cat_play.specs.Drilling.{values, drill_setting, Drills, GivesAll};
 ghost use Rattle.cat_drill.specs.Feeds.{IsSource};

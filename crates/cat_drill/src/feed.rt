@@ -1,7 +1,7 @@
 //! The wire of a drill: over the lane that the drill fills, and one that carries nothing.
 ghost use Rattle.std.specs.Prelude.{◌≡◌, ◌||◌, false, [], IfSome, Some, List, ℕ};
 ghost use Rattle.sp_msg.specs.Views.{OverLanes};
-ghost use Rattle.sp_core.specs.Wires.{IsUnused};
+ghost use Rattle.core_parts.specs.Wires.{IsUnused};
 ghost use Rattle.sp_lane.specs.Items.{texts};
 ghost use Rattle.sp_lane.specs.Lanes.{has_end};
 ghost use Rattle.sp_lane.specs.LaneWires.{is_lost};

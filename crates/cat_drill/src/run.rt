@@ -4,7 +4,7 @@ ghost use Rattle.std.specs.List.{sum as list_sum};
 ghost use Rattle.std.specs.Option.{option_map};
 ghost use Rattle.sp_base.specs.Views.{NetView, FilesView, PaceView};
 ghost use Rattle.sp_msg.specs.Views.{OverLanes};
-ghost use Rattle.sp_core.specs.Wires.{IsUnused};
+ghost use Rattle.core_parts.specs.Wires.{IsUnused};
 ghost use Rattle.cat_play.specs.declared.ends.Status.TheVariants as status;
 ghost use Rattle.cat_play.specs.Drilling.{values, lines, drill_setting, Drills, GivesAll};
 ghost use Rattle.cat_play.specs.Running.{world, RunsDrill};

@@ -24,7 +24,7 @@ use Rattle.sp_history.proofs.Slots.{no_slot_where}
 use Rattle.sp_core.specs.declared.ops.BeginError.{BeginError}
 use Rattle.sp_core.specs.declared.ops.BeginError.TheVariants as error
 use Rattle.sp_core.specs.Moving.{AreSettling}
-use Rattle.sp_core.specs.OperationsStand.{AllTaken}
+use Rattle.core_parts.specs.OperationsStand.{AllTaken}
 use Rattle.sp_core.specs.Standing.{HasBegin, RefusedFor}
 use Rattle.sp_core.specs.Collecting.{IsOpen}
 use Rattle.sp_single.specs.Singles.{SingleView, TookOne}

@@ -25,9 +25,9 @@ use Rattle.sp_history.proofs.OnceHolds.{ends_once}
 use Rattle.sp_history.proofs.StandingEntries.{begin_is_found, end_is_found}
 use Rattle.sp_core.specs.declared.collect.Collected.{Collected}
 use Rattle.sp_core.specs.declared.collect.Collected.TheVariants as collected
-use Rattle.sp_core.specs.declared.ops.Outcome.{Outcome}
-use Rattle.sp_core.specs.declared.ops.Outcome.TheVariants as outcomes
-use Rattle.sp_core.specs.Ends.{outcome_of, back_of}
+use Rattle.core_parts.specs.declared.outcome.Outcome.{Outcome}
+use Rattle.core_parts.specs.declared.outcome.Outcome.TheVariants as outcomes
+use Rattle.core_parts.specs.Ends.{outcome_of, back_of}
 use Rattle.sp_core.specs.Moving.{IsSettling}
 use Rattle.sp_core.specs.Collecting.{CollectedBy, HasTook, HasEnded}
 use Rattle.sp_single.specs.Singles.{SingleView, TookOne}

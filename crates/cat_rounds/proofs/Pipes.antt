@@ -16,8 +16,8 @@ use Rattle.sp_history.specs.Lists.{is_nil}
 use Rattle.sp_history.specs.Past.{past_of, up, now}
 use Rattle.sp_history.specs.Legal.{Legal}
 use Rattle.sp_history.specs.Setting.{floods}
-use Rattle.sp_core.specs.declared.ops.Outcome.{Outcome}
-use Rattle.sp_core.specs.declared.ops.Outcome.TheVariants as outcomes
+use Rattle.core_parts.specs.declared.outcome.Outcome.{Outcome}
+use Rattle.core_parts.specs.declared.outcome.Outcome.TheVariants as outcomes
 use Rattle.sp_core.specs.declared.serve.Served.{Served}
 use Rattle.sp_single.specs.Singles.{SingleView, TookOne}
 use Rattle.cat_play.specs.Plans.{Play}

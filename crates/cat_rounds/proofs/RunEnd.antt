@@ -10,7 +10,7 @@ use Rattle.sp_history.specs.declared.setting.Setting.{Setting}
 use Rattle.sp_history.specs.Past.{past_of}
 use Rattle.sp_history.specs.Legal.{Legal}
 use Rattle.sp_history.specs.Settled.{Settled}
-use Rattle.sp_core.specs.declared.pipes.DownPipe.{DownPipe}
+use Rattle.core_parts.specs.declared.pipes.DownPipe.{DownPipe}
 use Rattle.sp_core.specs.Closing.{ClosesSo, ClosedBy}
 use Rattle.sp_core.specs.Collecting.{IsOpen}
 use Rattle.sp_core.specs.Parts.{HasWires}

@@ -6,7 +6,7 @@ use Rattle.sp_base.specs.declared.OpName.{OpName}
 use Rattle.sp_history.specs.declared.entry.Entry.{Entry}
 use Rattle.sp_history.specs.Past.{past_of}
 use Rattle.sp_history.specs.Swept.{IsSwept}
-use Rattle.sp_core.specs.Tallies.{moves}
+use Rattle.core_parts.specs.Tallies.{moves}
 use Rattle.sp_single.specs.Singles.{SingleView}
 use Rattle.cat_play.specs.Scripts.{under_way}
 use Rattle.cat_play.specs.Steps.{AddsNone, moves_ends}

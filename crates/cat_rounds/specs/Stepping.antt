@@ -13,8 +13,8 @@ use Rattle.sp_history.specs.Past.{past_of, up}
 use Rattle.sp_msg.specs.Views.{MessageView}
 use Rattle.sp_core.specs.declared.ops.BeginError.{BeginError}
 use Rattle.sp_core.specs.declared.ops.BeginError.TheVariants as error
-use Rattle.sp_core.specs.declared.ops.Outcome.{Outcome}
-use Rattle.sp_core.specs.declared.ops.Outcome.TheVariants as outcomes
+use Rattle.core_parts.specs.declared.outcome.Outcome.{Outcome}
+use Rattle.core_parts.specs.declared.outcome.Outcome.TheVariants as outcomes
 use Rattle.sp_single.specs.Singles.{SingleView}
 use Rattle.sp_ends.specs.Turning.{IsSound, IsNow}
 use Rattle.cat_text.specs.Printing.{print}

@@ -4,7 +4,7 @@
 //! invariant of `Driver`. So its calls ask for nothing, and a test over them has nothing to prove but its own tests.
 ghost use Rattle.std.specs.Prelude.{◌≡◌, ◌<◌, ◌≤◌, ℕ, IfErr};
 ghost use Rattle.sp_proto.specs.Kinds.{Kind, Starts};
-ghost use Rattle.sp_core.specs.Wires.{IsUnused};
+ghost use Rattle.core_parts.specs.Wires.{IsUnused};
 
 use aio_expire::NameList;
 use aio_word::{CallSeat, Polled, Raced};

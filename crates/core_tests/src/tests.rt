@@ -3,7 +3,7 @@ ghost use Rattle.std.specs.Prelude.{◌≡◌, ◌<◌, ◌≤◌};
 ghost use Rattle.sp_proto.specs.Kinds.{Kind, Starts};
 ghost use Rattle.proto_pipeline.specs.Pulls.{Ties as PullTies};
 ghost use Rattle.proto_pipeline.specs.Pushes.{Ties as PushTies};
-ghost use Rattle.sp_core.specs.Wires.{IsUnused};
+ghost use Rattle.core_parts.specs.Wires.{IsUnused};
 
 use crate::parts::{finished, given, made};
 use aio_word::{Phase, Raced};

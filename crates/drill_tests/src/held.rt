@@ -2,7 +2,7 @@
 //! together, and then work one after the other, is no such round. And one in which two tasks stay at their gates until the
 //! others have served.
 ghost use Rattle.std.specs.Prelude.{◌≡◌};
-ghost use Rattle.sp_core.specs.Wires.{IsUnused};
+ghost use Rattle.core_parts.specs.Wires.{IsUnused};
 ghost use Rattle.sp_socket.specs.Passes.{new_list};
 ghost use Rattle.cat_play.specs.Drilling.{drill_setting};
 

@@ -2,7 +2,7 @@
 //! once.
 ghost use Rattle.std.specs.Prelude.{◌≡◌, ◌≤◌, ℕ, []};
 ghost use Rattle.sp_msg.specs.Views.{OverLanes};
-ghost use Rattle.sp_core.specs.Wires.{IsUnused};
+ghost use Rattle.core_parts.specs.Wires.{IsUnused};
 ghost use Rattle.sp_socket.specs.Passes.{new_list};
 ghost use Rattle.cat_play.specs.Drilling.{drill_setting};
 ghost use Rattle.cat_drill.specs.Calling.{IsDrillPass, Worked};

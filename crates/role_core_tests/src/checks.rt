@@ -1,6 +1,6 @@
 //! What a test makes for a core, and what it asks of an answer.
 ghost use Rattle.std.specs.Prelude.{◌≡◌};
-ghost use Rattle.sp_core.specs.Wires.{IsUnused};
+ghost use Rattle.core_parts.specs.Wires.{IsUnused};
 
 use core_driver::Driver;
 use sp_base::{Bytes, Ctx, NoMemory, OpName, PipeId, SpError, Tick};

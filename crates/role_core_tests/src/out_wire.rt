@@ -1,6 +1,6 @@
 //! A wire that counts how often it is asked for room.
 ghost use Rattle.std.specs.Prelude.{◌≡◌, None, false};
-ghost use Rattle.sp_core.specs.Wires.{IsUnused};
+ghost use Rattle.core_parts.specs.Wires.{IsUnused};
 ghost use Rattle.sp_msg.specs.Views.{Nameless};
 ghost use Rattle.sp_msg.specs.Wires.{IsBare};
 ghost use Rattle.sp_msg.specs.Marks.{wire_view};

@@ -9,7 +9,7 @@ mod timing;
 mod work;
 
 ghost use Rattle.std.specs.Prelude.{IfOk};
-ghost use Rattle.sp_core.specs.Wires.{IsUnused};
+ghost use Rattle.core_parts.specs.Wires.{IsUnused};
 
 use alone::{attach_alone, core_over, end_alone, many_alone};
 use callers::{attach, do_all, end, let_go, opened};

@@ -1,6 +1,6 @@
 //! Replies that come in the other order than the requests went out.
 ghost use Rattle.std.specs.Prelude.{◌≡◌};
-ghost use Rattle.sp_core.specs.Wires.{IsUnused};
+ghost use Rattle.core_parts.specs.Wires.{IsUnused};
 
 use crate::two::ask_two;
 use sp_base::Bytes;

@@ -1,6 +1,6 @@
 //! Sockets over lanes within the process.
 ghost use Rattle.std.specs.Prelude.{◌≡◌, ◌≤◌, []};
-ghost use Rattle.sp_core.specs.Wires.{IsUnused};
+ghost use Rattle.core_parts.specs.Wires.{IsUnused};
 
 use crate::callers::{finish, give_back, next, opened};
 use crate::parts::{begun, is_received, pull, push, x};

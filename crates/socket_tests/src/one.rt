@@ -1,6 +1,6 @@
 //! What a user of the library writes to receive one message.
 ghost use Rattle.std.specs.Prelude.{◌≡◌};
-ghost use Rattle.sp_core.specs.Wires.{IsUnused};
+ghost use Rattle.core_parts.specs.Wires.{IsUnused};
 
 use proto_pipeline::Pull;
 use sp_base::{Ctx, Role};

@@ -1,6 +1,6 @@
 //! What a user of the library writes to have two requests under way at once.
 ghost use Rattle.std.specs.Prelude.{◌≡◌};
-ghost use Rattle.sp_core.specs.Wires.{IsUnused};
+ghost use Rattle.core_parts.specs.Wires.{IsUnused};
 ghost use Rattle.sp_socket.specs.Passes.{IsOf};
 
 use proto_reqrep::Request;

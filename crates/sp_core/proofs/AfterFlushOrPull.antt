@@ -17,20 +17,20 @@ use Rattle.sp_history.specs.Past.{up, ctxs, is_closed}
 use Rattle.sp_history.specs.Legal.{Calm, Allowed, condemned}
 use Rattle.sp_history.specs.Moments.{Moment, past, also, Lawful}
 use Rattle.sp_core.specs.declared.owner.Core.{Core}
-use Rattle.sp_core.specs.declared.pipes.Pipe.{Pipe}
-use Rattle.sp_core.specs.declared.pipes.Pipes.{Pipes}
-use Rattle.sp_core.specs.OpWordsStand.{OpWordsStand}
-use Rattle.sp_core.specs.OperationsStand.{OperationsStand, done_count}
-use Rattle.sp_core.specs.Tallies.{Tallies}
-use Rattle.sp_core.specs.Wires.{ShowsWhy, has_unkept}
-use Rattle.sp_core.specs.Pipes.{ids, PipesStand, IsPipeAt}
+use Rattle.core_parts.specs.declared.pipes.Pipe.{Pipe}
+use Rattle.core_parts.specs.declared.pipes.Pipes.{Pipes}
+use Rattle.core_parts.specs.OpWordsStand.{OpWordsStand}
+use Rattle.core_parts.specs.OperationsStand.{OperationsStand, done_count}
+use Rattle.core_parts.specs.Tallies.{Tallies}
+use Rattle.core_parts.specs.Wires.{ShowsWhy, has_unkept}
+use Rattle.core_parts.specs.Pipes.{ids, PipesStand, IsPipeAt}
 use Rattle.sp_core.specs.Owning.{Owns}
 use Rattle.std.proofs.lemmas.List.{length-map}
-use Rattle.sp_core.proofs.ChangedWires.{same_number, has_at}
-use Rattle.sp_core.proofs.PipeSteps.{is_it, wire_at, fell}
-use Rattle.sp_core.proofs.Lawfuls.{one_more}
+use Rattle.core_parts.proofs.ChangedWires.{same_number, has_at}
+use Rattle.core_parts.proofs.PipeSteps.{is_it, wire_at, fell}
+use Rattle.core_parts.proofs.Lawfuls.{one_more}
 use Rattle.sp_core.proofs.MomentSteps.{goes, up_open}
-use Rattle.sp_core.proofs.Tallying.{same_tally}
+use Rattle.core_parts.proofs.Tallying.{same_tally}
 
 -- ---- What may come next
 

@@ -20,9 +20,10 @@ use Rattle.sp_pending.specs.declared.pending.PendingOperation.{PendingOperation}
 use Rattle.sp_pending.specs.Pendings.{PendingView, IsNextIn, behind, in_line, left_of, line_of}
 use Rattle.sp_pending.proofs.RingSteps.{is_same}
 use Rattle.sp_pending.proofs.Walks.{Step, line_without}
-use Rattle.sp_core.specs.Looking.{Grows, ends_in, HasLooked, IsLeft, LooksTo, ReadsPending, FoundOf, line_on}
-use Rattle.sp_core.specs.declared.operations.Operations.{Operations}
-use Rattle.sp_core.specs.OperationsStand.{OperationsStand, pending_of}
+use Rattle.sp_core.specs.Looking.{ends_in, HasLooked, IsLeft, LooksTo, ReadsPending, FoundOf, line_on}
+use Rattle.core_parts.specs.Reads.{Grows}
+use Rattle.core_parts.specs.declared.operations.Operations.{Operations}
+use Rattle.core_parts.specs.OperationsStand.{OperationsStand, pending_of}
 
 -- ---- Reads
 

@@ -12,10 +12,10 @@ use Rattle.sp_history.specs.Lists.{has}
 use Rattle.sp_history.specs.Past.{up}
 use Rattle.sp_history.specs.Moments.{Moment, Lawful, past, also}
 use Rattle.sp_core.specs.declared.owner.Core.{Core}
-use Rattle.sp_core.specs.declared.pipes.Pipes.{Pipes}
-use Rattle.sp_core.specs.Pipes.{PipesStand, IsPipeAt}
-use Rattle.sp_core.specs.Wires.{ShowsWhy}
-use Rattle.sp_core.specs.PartSteps.{MovesDown}
+use Rattle.core_parts.specs.declared.pipes.Pipes.{Pipes}
+use Rattle.core_parts.specs.Pipes.{PipesStand, IsPipeAt}
+use Rattle.core_parts.specs.Wires.{ShowsWhy}
+use Rattle.core_parts.specs.PartSteps.{MovesDown}
 use Rattle.sp_core.specs.Owning.{Owns}
 use Rattle.sp_core.specs.Closing.{ClosesAt}
 use Rattle.sp_core.specs.Flooding.{Spreads}

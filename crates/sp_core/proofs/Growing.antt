@@ -1,8 +1,7 @@
 -- What the core has read, after more steps.
-use Rattle.std.proofs.Common.{◌≡◌, sym, subst, List, []}
+use Rattle.std.proofs.Common.{◌≡◌, sym, subst, List, [], append-nil}
 use Rattle.aio_word.specs.declared.rule.ShownOperation as word
-use Rattle.sp_core.specs.Looking.{Grows}
-use Rattle.sp_core.proofs.Closings.{append-nil}
+use Rattle.core_parts.specs.Reads.{Grows}
 
 -- the second step reads nothing
 pub grows_after : (xs ys zs : List word.ShownOperation) → Grows xs ys → zs ≡ ys → Grows xs zs

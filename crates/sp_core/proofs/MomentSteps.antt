@@ -30,19 +30,19 @@ use Rattle.sp_history.specs.Moments.{Moment, past, also, Lawful}
 use Rattle.sp_proto.specs.Kinds.{text_of}
 use Rattle.sp_proto.specs.Machines.{CanSend, message_of}
 use Rattle.sp_core.specs.declared.owner.Core.{Core}
-use Rattle.sp_core.specs.declared.op_words.OpWords.{OpWords}
-use Rattle.sp_core.specs.declared.op_words.Decision.{Decision}
-use Rattle.sp_core.specs.declared.op_words.Decision.TheVariants as decision
-use Rattle.sp_core.specs.Ends.{IsCallers, view_of, back_of}
+use Rattle.core_parts.specs.declared.op_words.OpWords.{OpWords}
+use Rattle.core_parts.specs.declared.op_words.Decision.{Decision}
+use Rattle.core_parts.specs.declared.op_words.Decision.TheVariants as decision
+use Rattle.core_parts.specs.Ends.{IsCallers, view_of, back_of}
 use Rattle.sp_core.specs.Moving.{IsSettling, AreSettling, with_entries, Later}
-use Rattle.sp_core.specs.OpWordsStand.{OpWordsStand, DecidedAs}
-use Rattle.sp_core.specs.OperationsStand.{OperationsStand, done_count}
-use Rattle.sp_core.specs.declared.pipes.Pipes.{Pipes}
-use Rattle.sp_core.specs.Wires.{ShowsWhy}
-use Rattle.sp_core.specs.Pipes.{PipesStand}
+use Rattle.core_parts.specs.OpWordsStand.{OpWordsStand, DecidedAs}
+use Rattle.core_parts.specs.OperationsStand.{OperationsStand, done_count}
+use Rattle.core_parts.specs.declared.pipes.Pipes.{Pipes}
+use Rattle.core_parts.specs.Wires.{ShowsWhy}
+use Rattle.core_parts.specs.Pipes.{PipesStand}
 use Rattle.sp_core.specs.Owning.{Owns}
-use Rattle.sp_core.specs.Tallies.{Tallies}
-use Rattle.sp_core.proofs.Lawfuls.{one_more, closed_none, pipes_closed}
+use Rattle.core_parts.specs.Tallies.{Tallies}
+use Rattle.core_parts.proofs.Lawfuls.{one_more, closed_none, pipes_closed}
 
 or_left : (a b : Bool) → a ≡ true → (a || b) ≡ true
 or_left true b h = refl

@@ -39,22 +39,24 @@ use Rattle.sp_proto.specs.Machines.{CanGive, IsIdle}
 use Rattle.sp_core.specs.Collecting.{IsOpenBefore}
 use Rattle.sp_history.specs.declared.entry.RecordedMessage.{RecordedMessage}
 use Rattle.sp_core.specs.declared.owner.Core.{Core}
-use Rattle.sp_core.specs.declared.operations.Operations.{Operations}
-use Rattle.sp_core.specs.declared.ops.Outcome.TheVariants as out
-use Rattle.sp_core.specs.Ends.{outcome_of, view_of}
-use Rattle.sp_core.specs.OperationsStand.{OperationsStand, done_count, AllTaken}
-use Rattle.sp_core.proofs.Lawfuls.{by_steps, counted}
+use Rattle.core_parts.specs.declared.operations.Operations.{Operations}
+use Rattle.core_parts.specs.declared.outcome.Outcome.TheVariants as out
+use Rattle.core_parts.specs.Ends.{outcome_of, view_of}
+use Rattle.core_parts.specs.OperationsStand.{OperationsStand, done_count, AllTaken}
+use Rattle.core_parts.proofs.Lawfuls.{by_steps, counted}
 use Rattle.sp_core.specs.Immediate.{IsGiven, IsCallersEnd, AreLost, HasLost, RefusedNow, ReceivedNow, LostTo, TriedTo, NowTo, tried}
 use Rattle.sp_core.specs.Moving.{AreSettling, Later}
 use Rattle.aio_word.specs.declared.phase.Phase.TheVariants as phase
 use Rattle.aio_word.specs.declared.rule.ShownOperation as word
 use Rattle.aio_word.specs.Answers.{of_op}
 use Rattle.sp_core.specs.declared.immediate.NowError.{NowError}
-use Rattle.sp_core.specs.Looking.{Grows, HasLooked, ends_in}
-use Rattle.sp_core.specs.Owning.{Owns, CanBegin, IsNext}
+use Rattle.sp_core.specs.Looking.{HasLooked, ends_in}
+use Rattle.core_parts.specs.Reads.{Grows}
+use Rattle.sp_core.specs.Owning.{Owns, CanBegin}
+use Rattle.core_parts.specs.OpWordsStand.{IsNext}
 use Rattle.sp_core.specs.Standing.{StandsFor, Turns, IsSettled}
 use Rattle.sp_core.proofs.ContextLooks.{looked_in_order, stands_left}
-use Rattle.sp_core.proofs.FreedSlots.{ended_at, weight, ended_at-append, one_at}
+use Rattle.core_parts.proofs.FreedSlots.{ended_at, weight, ended_at-append, one_at}
 use Rattle.sp_core.proofs.TurnEnds.{later_z, later_caller, later_before, later_turn, settling-order, goes_on, turn_ends}
 
 -- ---- The receive can be given what is kept

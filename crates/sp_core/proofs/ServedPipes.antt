@@ -11,11 +11,11 @@ use Rattle.sp_history.specs.Moments.{Moment, past, Lawful}
 use Rattle.sp_msg.specs.Views.{WireView}
 use Rattle.sp_core.specs.declared.owner.Core.{Core}
 use Rattle.sp_core.specs.declared.serve.Visit.{Visit}
-use Rattle.sp_core.specs.Pipes.{IsPipeAt}
+use Rattle.core_parts.specs.Pipes.{IsPipeAt}
 use Rattle.sp_core.specs.Owning.{Owns}
 use Rattle.sp_core.specs.Serving.{IsFresh, AreAsMany, AreFew, IsFlushedIn, IsServedIn, VisitedTo, SweptTo}
 use Rattle.sp_core.proofs.AfterFlushOrPull.{pipes_length, placed_at}
-use Rattle.sp_core.proofs.ChangedWires.{equal_numbers, has_at, distinct_at, without_removed, ups_distinct}
+use Rattle.core_parts.proofs.ChangedWires.{equal_numbers, has_at, distinct_at, without_removed, ups_distinct}
 
 -- nothing was served yet
 pub sweeps_none : (t : Moment) → t.turn ≡ [] → SweptTo 0 0 t t

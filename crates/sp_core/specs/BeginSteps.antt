@@ -2,14 +2,14 @@
 use Rattle.sp_base.specs.declared.OpName.{OpName}
 use Rattle.sp_core.specs.Keeping.{KeepsReads, KeepsWords}
 use Rattle.sp_core.specs.Cores.{words_of}
-use Rattle.sp_core.specs.OpWordsStand.{DecidedAs}
-use Rattle.sp_core.specs.PartSteps.{LeavesPending}
+use Rattle.core_parts.specs.OpWordsStand.{DecidedAs, IsNext}
+use Rattle.core_parts.specs.PartSteps.{LeavesPending}
 use Rattle.sp_core.specs.Looking.{HasLooked, reads_of}
 use Rattle.sp_core.specs.Moving.{AreSettling}
-use Rattle.sp_core.specs.Owning.{CanBegin, IsNext, Owns}
-use Rattle.sp_core.specs.OperationsStand.{AllTaken}
+use Rattle.sp_core.specs.Owning.{CanBegin, Owns}
+use Rattle.core_parts.specs.OperationsStand.{AllTaken}
 use Rattle.sp_core.specs.Standing.{IsSettled, RefusedFor, StandsFor, Turns, core_setting}
-use Rattle.sp_core.specs.declared.op_words.OpWords.{OpWords as OpWordsType}
+use Rattle.core_parts.specs.declared.op_words.OpWords.{OpWords as OpWordsType}
 use Rattle.sp_core.specs.declared.ops.BeginError.{BeginError}
 use Rattle.sp_core.specs.declared.owner.Core.{Core}
 use Rattle.sp_history.specs.Moments.{Moment, also, next, past}
@@ -26,7 +26,7 @@ use Rattle.sp_proto.specs.Machines.{NoFlood}
 use Rattle.sp_proto.specs.declared.Verb.{Verb}
 use Rattle.std.specs.Prelude.{List, MatchOption, MatchResult, Option, Result, Some, [], ℕ, ◌∷◌, ◌≡◌, ◌≢◌, ◌<◌}
 use Rattle.turn_lock.specs.declared.turn.Turn.{Turn}
-use Rattle.sp_core.specs.declared.op_words.Decision.TheVariants as decision
+use Rattle.core_parts.specs.declared.op_words.Decision.TheVariants as decision
 use Rattle.sp_core.specs.declared.ops.BeginError.TheVariants as begin_error
 
 -- the turn begins: callers' ends on the context are recorded, and all is done that can be

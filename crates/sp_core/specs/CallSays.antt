@@ -12,7 +12,7 @@ use Rattle.sp_proto.specs.Kinds.{Kind, text_of}
 use Rattle.sp_core.specs.declared.contexts.CtxError.{CtxError}
 use Rattle.sp_core.specs.declared.contexts.TopicError.{TopicError}
 use Rattle.sp_core.specs.declared.immediate.NowError.{NowError}
-use Rattle.sp_core.specs.declared.pipes.DownPipe.{DownPipe}
+use Rattle.core_parts.specs.declared.pipes.DownPipe.{DownPipe}
 use Rattle.sp_core.specs.declared.ops.BeginError.{BeginError}
 use Rattle.sp_core.specs.declared.owner.Core.{Core}
 use Rattle.sp_core.specs.declared.attach.AttachError.{AttachError}
@@ -29,7 +29,7 @@ use Rattle.sp_core.specs.Looking.{HasLooked, reads_of}
 use Rattle.sp_core.specs.Parts.{HasWires}
 use Rattle.sp_core.specs.Serving.{IsServeTurn, ServedBy}
 use Rattle.sp_core.specs.Standing.{StandsFor, BeganBy, began, core_setting}
-use Rattle.sp_core.specs.Wires.{numbers_of}
+use Rattle.core_parts.specs.Wires.{numbers_of}
 
 -- ---- Turns
 

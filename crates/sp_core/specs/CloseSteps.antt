@@ -1,8 +1,9 @@
 -- What the steps of a close lead to, within its turn.
 use Rattle.sp_base.specs.declared.OpName.{OpName}
 use Rattle.sp_core.specs.Keeping.{KeepsWords}
-use Rattle.sp_core.specs.Closing.{AreEndsOf, AreDownsOf, ClosesAt, GoesDownAs, IsCloseEnd, after}
-use Rattle.sp_core.specs.Pipes.{IsPipeAt}
+use Rattle.sp_core.specs.Closing.{AreEndsOf, AreDownsOf, ClosesAt, GoesDownAs, after}
+use Rattle.core_parts.specs.Ends.{IsCloseEnd}
+use Rattle.core_parts.specs.Pipes.{IsPipeAt}
 use Rattle.sp_core.specs.Owning.{Owns}
 use Rattle.sp_core.specs.declared.owner.Core.{Core}
 use Rattle.sp_history.specs.Lists.{head_of, without}

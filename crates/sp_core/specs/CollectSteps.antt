@@ -1,13 +1,15 @@
 -- What ticking, collecting and the immediate receive lead to, within a turn.
 use Rattle.sp_base.specs.declared.OpName.{OpName}
 use Rattle.sp_core.specs.Keeping.{AddsReads, KeepsReads, KeepsWords}
-use Rattle.sp_core.specs.Collecting.{IsOpenBefore, IsOutcomeOf, TickedTo}
+use Rattle.sp_core.specs.Collecting.{IsOpenBefore, TickedTo}
+use Rattle.core_parts.specs.OperationsStand.{IsOutcomeOf}
 use Rattle.sp_core.specs.Immediate.{NowTo, RefusedNow, TriedTo}
 use Rattle.sp_core.specs.Moving.{Later}
-use Rattle.sp_core.specs.Owning.{CanBegin, IsNext, Owns}
+use Rattle.sp_core.specs.Owning.{CanBegin, Owns}
+use Rattle.core_parts.specs.OpWordsStand.{IsNext}
 use Rattle.sp_core.specs.Standing.{IsSettled}
 use Rattle.sp_core.specs.declared.immediate.NowError.{NowError}
-use Rattle.sp_core.specs.declared.ops.Outcome.{Outcome}
+use Rattle.core_parts.specs.declared.outcome.Outcome.{Outcome}
 use Rattle.sp_core.specs.declared.owner.Core.{Core}
 use Rattle.sp_history.specs.Kept.{kept}
 use Rattle.sp_history.specs.Legal.{is_uncollected}

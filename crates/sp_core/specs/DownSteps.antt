@@ -9,7 +9,7 @@ use Rattle.sp_history.specs.Setting.{floods}
 use Rattle.sp_history.specs.Moments.{Lawful, Moment, also}
 use Rattle.sp_proto.specs.Machines.{CanAgain, CanSend, Takes}
 use Rattle.sp_core.specs.declared.owner.Core.{Core}
-use Rattle.sp_core.specs.Tallies.{Tallies}
+use Rattle.core_parts.specs.Tallies.{Tallies}
 
 -- the machine and the counts have the pipe as down, whatever for, and nothing else has changed
 pub record NotesDown {P W : Type 0} (ties : P → Moment → Type 0) (room left : P → ℕ) (copies : P → OpName → ℕ) (p : ℕ) (old new : Core P W) : Type 0 where

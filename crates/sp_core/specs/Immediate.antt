@@ -21,9 +21,9 @@ use Rattle.sp_proto.specs.Machines.{ChecksAct}
 use Rattle.sp_core.specs.declared.immediate.NowError.{NowError}
 use Rattle.sp_core.specs.declared.immediate.NowError.TheVariants as now_error
 use Rattle.sp_core.specs.declared.ops.BeginError.TheVariants as error
-use Rattle.sp_core.specs.Ends.{IsCallers}
+use Rattle.core_parts.specs.Ends.{IsCallers}
 use Rattle.sp_core.specs.Moving.{AreSettling, Later}
-use Rattle.sp_core.specs.OperationsStand.{AllTaken}
+use Rattle.core_parts.specs.OperationsStand.{AllTaken}
 use Rattle.sp_core.specs.Standing.{RefusedFor}
 
 -- a caller ends an operation so

@@ -1,7 +1,8 @@
 -- What a step within a turn keeps of the words: which they are, and what was read of them.
 use Rattle.std.specs.Prelude.{◌≡◌}
 use Rattle.sp_core.specs.Cores.{words_of}
-use Rattle.sp_core.specs.Looking.{Grows, reads_of}
+use Rattle.sp_core.specs.Looking.{reads_of}
+use Rattle.core_parts.specs.Reads.{Grows}
 use Rattle.sp_core.specs.declared.owner.Core.{Core}
 
 -- it does this, and has the same words

@@ -1,5 +1,5 @@
 -- What the core reads of its words, and how it looks at a context before an operation begins there.
-use Rattle.std.specs.Prelude.{◌≡◌, ◌⊎◌, ◌||◌, ℕ, Bool, true, false, List, [], ◌∷◌, ◌++◌, Option, Some, None}
+use Rattle.std.specs.Prelude.{◌≡◌, ◌⊎◌, ◌||◌, ℕ, Bool, true, false, List, [], ◌∷◌, ◌++◌, Some}
 use Rattle.sp_base.specs.declared.OpName.{OpName}
 use Rattle.aio_word.specs.declared.phase.Phase.TheVariants as phase
 use Rattle.aio_word.specs.declared.rule.ShownOperation as word
@@ -14,19 +14,14 @@ use Rattle.sp_history.specs.Past.{pending}
 use Rattle.sp_history.specs.Moments.{Moment, past, also}
 use Rattle.sp_pending.specs.declared.pending.PendingOperation.{PendingOperation}
 use Rattle.sp_pending.specs.Pendings.{PendingView, in_line, line_of}
-use Rattle.sp_core.specs.PartSteps.{LeavesPending}
-use Rattle.sp_core.specs.declared.op_words.Decision.{Decision}
-use Rattle.sp_core.specs.declared.operations.Operations.{Operations}
+use Rattle.core_parts.specs.PartSteps.{LeavesPending}
+use Rattle.core_parts.specs.declared.operations.Operations.{Operations}
 use Rattle.sp_core.specs.declared.owner.Core.{Core}
+use Rattle.core_parts.specs.Reads.{Grows}
 
 -- what the core has read of its words
 abbrev pub reads_of : {P W : Type 0} → Core P W → List word.ShownOperation
 reads_of c = c.op_words.seat.view.reads
-
--- these reads, and maybe more
-pub record Grows (old new : List word.ShownOperation) : Type 0 where
-  pub more : List word.ShownOperation
-  pub is : new ≡ old ++ more
 
 -- the operation ends in these entries
 abbrev pub ends_in : OpName → List Entry → Bool
@@ -56,11 +51,6 @@ pub record LooksTo (left : List PendingOperation) (c : ℕ) (t u : Moment) (old 
   pub more : List word.ShownOperation
   pub grew : new ≡ old ++ more
   pub each : (op : OpName) (s : Begun) → pending (past t) op ≡ Some s → s.ctx ≡ c → (ends_in op u.turn ≡ true) ⊎ Stands (of_op op phase.Pending 0) more ⊎ IsLeft op c left
-
--- what looking at one word told
-abbrev pub LookReads : Option Decision → OpName → List word.ShownOperation → List word.ShownOperation → Type 0
-LookReads None op old new = new ≡ old ++ of_op op phase.Pending 0 ∷ []
-LookReads (Some decision) op old new = Grows old new
 
 -- the operation was read as pending, if it is of the context
 pub record ReadsPending (x : PendingOperation) (c : ℕ) (old new : List word.ShownOperation) : Type 0 where

@@ -1,12 +1,12 @@
 -- What bringing a pipe up and serving the pipes lead to, within a turn.
 use Rattle.sp_core.specs.Keeping.{KeepsWords}
 use Rattle.sp_core.specs.Attaching.{MayAttach, RefusedAttach}
-use Rattle.sp_core.specs.Pipes.{PipesStand, IsPipeAt}
+use Rattle.core_parts.specs.Pipes.{PipesStand, IsPipeAt}
 use Rattle.sp_core.specs.Owning.{Owns}
 use Rattle.sp_core.specs.Serving.{FlushTold, GotTo, IsFresh, IsReady, IsUnpulled, PulledAll, SweptTo, VisitedTo}
-use Rattle.sp_core.specs.Wires.{numbers_of}
-use Rattle.sp_core.specs.declared.pipes.Flushed.{Flushed}
-use Rattle.sp_core.specs.declared.pipes.Pipes.{Pipes as PipesType}
+use Rattle.core_parts.specs.Wires.{numbers_of}
+use Rattle.core_parts.specs.declared.pipes.Flushed.{Flushed}
+use Rattle.core_parts.specs.declared.pipes.Pipes.{Pipes as PipesType}
 use Rattle.sp_core.specs.declared.owner.Core.{Core}
 use Rattle.sp_core.specs.declared.attach.AttachError.{AttachError}
 use Rattle.sp_core.specs.declared.serve.Got.{Got}

@@ -5,7 +5,8 @@ use Rattle.sp_history.specs.Moments.{Moment, past}
 use Rattle.sp_pending.specs.declared.pending.PendingOperation.{PendingOperation}
 use Rattle.sp_core.specs.declared.owner.Core.{Core}
 use Rattle.sp_core.specs.Cores.{words_of}
-use Rattle.sp_core.specs.Looking.{Grows, HasLooked, FoundOf, reads_of}
+use Rattle.sp_core.specs.Looking.{HasLooked, FoundOf, reads_of}
+use Rattle.core_parts.specs.Reads.{Grows}
 use Rattle.sp_core.specs.Moving.{Later}
 use Rattle.sp_core.specs.Owning.{Owns}
 use Rattle.sp_core.specs.Standing.{IsSettled}

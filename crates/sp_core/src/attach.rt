@@ -6,7 +6,7 @@ ghost use Rattle.sp_history.specs.Setting.{is_pair};
 ghost use Rattle.sp_history.specs.Past.{up};
 ghost use Rattle.sp_history.specs.Moments.{Moment, past};
 ghost use Rattle.sp_proto.specs.Machines.{NoFlood};
-ghost use Rattle.sp_core.specs.Wires.{IsUnused};
+ghost use Rattle.core_parts.specs.Wires.{IsUnused};
 ghost use Rattle.sp_core.specs.Errors.{attach_number};
 ghost use Rattle.sp_core.specs.Owning.{Owns};
 ghost use Rattle.sp_core.specs.Standing.{HasFirst};
@@ -15,7 +15,7 @@ ghost use Rattle.sp_core.specs.ServeSteps.{BringsUp, TellsMayAttach, LeavesNumbe
 ghost use Rattle.sp_core.specs.CallSays.{MayTakeTurn, AttachesWire, TakesOneTurn};
 
 use crate::owner::Core;
-use crate::pipes::DownPipe;
+use core_parts::DownPipe;
 use sp_base::{PipeId, Role, SpError};
 use sp_history::entry::{Miss, Why};
 use sp_msg::Wire;

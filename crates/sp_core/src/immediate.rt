@@ -11,8 +11,9 @@ ghost use Rattle.sp_core.specs.BeginSteps.{MayDraw};
 ghost use Rattle.sp_core.specs.CollectSteps.{DrawsToReceive, ReceivesAtOnce, TriesOnce};
 ghost use Rattle.sp_core.specs.CallSays.{MayTakeTurn, ReceivesNow, TakesOneTurn};
 
-use crate::ops::{BeginError, Outcome};
+use crate::ops::BeginError;
 use crate::owner::Core;
+use core_parts::Outcome;
 use sp_base::{Ctx, OpName, SpError};
 use sp_history::entry::Entry;
 use sp_msg::{Message, Wire};

@@ -22,7 +22,7 @@ use Rattle.sp_history.specs.Past.{past_of, ups}
 use Rattle.sp_core.specs.Moving.{AreSettling}
 use Rattle.sp_core.specs.Standing.{HasFirst}
 use Rattle.sp_core.specs.Attaching.{RefusedAttach}
-use Rattle.sp_core.specs.Wires.{IsUnused}
+use Rattle.core_parts.specs.Wires.{IsUnused}
 use Rattle.sp_core.specs.declared.attach.AttachError.{AttachError}
 use Rattle.sp_core.specs.declared.attach.AttachError.TheVariants as refused
 use Rattle.sp_single.specs.Singles.{SingleView, TookOne}

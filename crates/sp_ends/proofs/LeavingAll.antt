@@ -12,8 +12,8 @@ use Rattle.sp_history.specs.declared.entry.Entry.{Entry}
 use Rattle.sp_history.specs.declared.entry.Entry.TheVariants.{Up, Met, NoUp}
 use Rattle.sp_history.specs.Lists.{has, without}
 use Rattle.sp_history.specs.Past.{now, name_of}
-use Rattle.sp_core.specs.declared.pipes.DownPipe.{DownPipe}
-use Rattle.sp_core.specs.Pipes.{down_ids}
+use Rattle.core_parts.specs.declared.pipes.DownPipe.{DownPipe}
+use Rattle.core_parts.specs.Pipes.{down_ids}
 use Rattle.cat_play.specs.Playing.{each}
 use Rattle.cat_play.specs.Recording.{lane_place, place_of, met_at, greeting, keeps_places}
 use Rattle.sp_ends.specs.declared.newcomer.Newcomer.{Newcomer}

@@ -20,10 +20,10 @@ use Rattle.sp_history.specs.Legal.{Legal}
 use Rattle.sp_history.specs.Lists.{has}
 use Rattle.sp_history.specs.Past.{past_of, is_closed, up, untaken, outs}
 use Rattle.sp_history.proofs.OnceHolds.{closed_pipes}
-use Rattle.sp_core.specs.declared.pipes.DownPipe.{DownPipe}
-use Rattle.sp_core.specs.Pipes.{down_ids}
+use Rattle.core_parts.specs.declared.pipes.DownPipe.{DownPipe}
+use Rattle.core_parts.specs.Pipes.{down_ids}
 use Rattle.sp_core.specs.Parts.{HasWires}
-use Rattle.sp_core.specs.Wires.{IsDownWire}
+use Rattle.core_parts.specs.Wires.{IsDownWire}
 use Rattle.cat_play.specs.Playing.{each}
 use Rattle.cat_play.specs.Recording.{Records, lane_place, place_of, greeting, Each, HasCause, IsBack, IsUndone, times_out_rightly}
 use Rattle.cat_play.specs.Running.{max_body, KeepsOthers, AreWhole}

@@ -7,7 +7,7 @@ use Rattle.sp_base.specs.Views.{LinkView, NetView}
 use Rattle.sp_base.specs.Steps.{AfterGiveBack}
 use Rattle.end_wire.specs.declared.wire.EndWire.{EndWire}
 use Rattle.end_wire.specs.EndWires.{link_of}
-use Rattle.sp_core.specs.declared.pipes.DownPipe.{DownPipe}
+use Rattle.core_parts.specs.declared.pipes.DownPipe.{DownPipe}
 use Rattle.sp_ends.specs.Standing.{SameCounts}
 use Rattle.sp_ends.specs.Turning.{shut_link, shut_under}
 use Rattle.sp_ends.specs.declared.newcomer.Newcomer.{Newcomer}

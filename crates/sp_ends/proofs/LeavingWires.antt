@@ -24,7 +24,7 @@ use Rattle.sp_history.specs.declared.setting.Setting.{Setting}
 use Rattle.sp_history.specs.Lists.{has}
 use Rattle.sp_history.specs.Past.{past_of, name_of, frames, outs, quiets, down_for, up_to_most}
 use Rattle.sp_history.specs.Found.{ticks}
-use Rattle.sp_core.specs.Wires.{IsDownWire, ShowsWhy}
+use Rattle.core_parts.specs.Wires.{IsDownWire, ShowsWhy}
 use Rattle.cat_play.specs.Openings.{peer_number, HasOpened}
 use Rattle.link_opening.specs.declared.way.Way.{Way}
 use Rattle.link_opening.specs.declared.way.Way.TheVariants as ways

@@ -12,7 +12,7 @@ use Rattle.sp_history.specs.Lists.{has}
 use Rattle.sp_history.specs.Legal.{Legal}
 use Rattle.sp_history.specs.Past.{past_of, up}
 use Rattle.sp_history.proofs.Backing.{legal_allowed}
-use Rattle.sp_core.specs.Wires.{IsDownWire}
+use Rattle.core_parts.specs.Wires.{IsDownWire}
 use Rattle.cat_play.specs.Recording.{lane_place, place_of}
 use Rattle.sp_ends.specs.Standing.{Beginning, HasCarried, IsAskedIn, LinksKept}
 use Rattle.sp_ends.specs.Turning.{IsLeftOf, shut_link, shut_under}

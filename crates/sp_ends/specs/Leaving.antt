@@ -12,7 +12,7 @@ use Rattle.sp_history.specs.declared.entry.Entry.{Entry}
 use Rattle.sp_history.specs.declared.entry.Why.TheVariants as whys
 use Rattle.sp_history.specs.declared.setting.Setting.{Setting}
 use Rattle.sp_history.specs.Past.{past_of, down_for, is_cleared}
-use Rattle.sp_core.specs.declared.pipes.DownPipe.{DownPipe}
+use Rattle.core_parts.specs.declared.pipes.DownPipe.{DownPipe}
 use Rattle.cat_play.specs.Playing.{each}
 use Rattle.cat_play.specs.Recording.{Records, lane_place, place_of, IsBack, times_out_rightly}
 use Rattle.cat_play.specs.Running.{KeepsOthers, AreWhole, max_body}

@@ -13,8 +13,8 @@ use Rattle.sp_history.specs.declared.entry.Entry.{Entry}
 use Rattle.sp_history.specs.declared.setting.Setting.{Setting}
 use Rattle.sp_history.specs.Past.{past_of, ends, is_closed}
 use Rattle.sp_core.specs.declared.label.CoreLabel.{CoreLabel}
-use Rattle.sp_core.specs.declared.pipes.DownPipe.{DownPipe}
-use Rattle.sp_core.specs.Ends.{decided}
+use Rattle.core_parts.specs.declared.pipes.DownPipe.{DownPipe}
+use Rattle.core_parts.specs.Ends.{decided}
 use Rattle.sp_core.specs.Parts.{HasWires}
 use Rattle.sp_socket.specs.Passes.{SocketName, PassView, ListView, IsOf, new_pass, new_list}
 use Rattle.sp_socket.specs.Finishing.{IsRecord, FitsIn, HasItsWins}

@@ -15,7 +15,7 @@ use Rattle.sp_history.specs.declared.parts.Begun.{Begun}
 use Rattle.sp_history.specs.Legal.{Legal}
 use Rattle.sp_history.specs.Settled.{Settled}
 use Rattle.sp_core.specs.declared.label.CoreLabel.{CoreLabel}
-use Rattle.sp_core.specs.declared.pipes.DownPipe.{DownPipe}
+use Rattle.core_parts.specs.declared.pipes.DownPipe.{DownPipe}
 use Rattle.sp_core.specs.declared.collect.Collected.{Collected}
 use Rattle.sp_core.specs.declared.collect.Collected.TheVariants as collected
 use Rattle.sp_core.specs.Collecting.{DueBy, IsOpen}

@@ -10,7 +10,7 @@ ghost use Rattle.sp_core.specs.Standing.{BeganBy, began, HasFirst};
 ghost use Rattle.sp_core.specs.Collecting.{CollectedBy, DueBy, IsOpen};
 ghost use Rattle.sp_core.specs.Closing.{ClosedBy};
 ghost use Rattle.sp_core.specs.Contexts.{SubscribedBy};
-ghost use Rattle.sp_core.specs.Wires.{numbers_of, IsUnused};
+ghost use Rattle.core_parts.specs.Wires.{numbers_of, IsUnused};
 ghost use Rattle.sp_core.specs.Attaching.{AttachedBy, attached, TookWire};
 ghost use Rattle.sp_core.specs.Serving.{IsServeTurn, ServedBy};
 ghost use Rattle.sp_socket.specs.Turns.{AllEnded};

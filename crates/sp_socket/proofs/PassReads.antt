@@ -14,7 +14,8 @@ use Rattle.sp_history.specs.Once.{took_count}
 use Rattle.sp_history.specs.Legal.{Legal}
 use Rattle.sp_core.specs.declared.collect.Collected.{Collected}
 use Rattle.sp_core.specs.declared.collect.Collected.TheVariants as collected
-use Rattle.sp_core.specs.Collecting.{IsOpen, ReadAs, ReadFor}
+use Rattle.sp_core.specs.Collecting.{IsOpen, ReadFor}
+use Rattle.core_parts.specs.Reads.{ReadAs}
 use Rattle.sp_socket.specs.declared.hands.Hands.{Hands}
 use Rattle.sp_socket.specs.Passes.{PassView, TurnsOf, pass_of}
 use Rattle.sp_socket.specs.Open.{IsOpenFor}

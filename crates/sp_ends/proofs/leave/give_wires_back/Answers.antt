@@ -1,4 +1,4 @@
-use Rattle.sp_core.specs.declared.pipes.DownPipe.{DownPipe}
+use Rattle.core_parts.specs.declared.pipes.DownPipe.{DownPipe}
 use Rattle.end_wire.specs.declared.wire.EndWire.{EndWire}
 use Rattle.end_wire.specs.EndWires.{link_of}
 use Rattle.sp_ends.proofs.LeavingNet.{below_last, giving_one, wires_all, seen_below, seen_given, none_given}

@@ -1,7 +1,7 @@
 -- The lane comes up, or attach refuses it and it is shut.
 use Rattle.std.proofs.Common.{◌≡◌, refl, sym, ap, ◌∙◌, subst, Some, None}
 use Rattle.sp_base.specs.Views.{LinkView}
-use Rattle.sp_core.specs.Wires.{IsUnused}
+use Rattle.core_parts.specs.Wires.{IsUnused}
 use Rattle.sp_lane.specs.LaneWires.{LaneWireView}
 use Rattle.sp_lane.specs.Registry.{IsNewHalf}
 use Rattle.end_wire.specs.declared.wire.EndWire.{EndWire}

@@ -9,9 +9,10 @@ use Rattle.sp_history.specs.declared.entry.Entry.TheVariants.{End}
 use Rattle.sp_history.specs.Past.{pending}
 use Rattle.sp_history.specs.Moments.{also, past}
 use Rattle.sp_pending.proofs.Walks.{off}
-use Rattle.sp_core.specs.Looking.{Grows, reads_of}
-use Rattle.sp_core.specs.PartSteps.{LeavesPending}
-use Rattle.sp_core.proofs.Among.{pending_there}
+use Rattle.sp_core.specs.Looking.{reads_of}
+use Rattle.core_parts.specs.Reads.{Grows}
+use Rattle.core_parts.specs.PartSteps.{LeavesPending}
+use Rattle.core_parts.proofs.Among.{pending_there}
 use Rattle.sp_core.proofs.MomentSteps.{with_op_words, is_gone, later-now, later-one}
 use Rattle.sp_core.proofs.owner.Core.note_if_ended.Goals as goal
 

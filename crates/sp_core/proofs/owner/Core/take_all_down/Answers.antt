@@ -1,8 +1,8 @@
-use Rattle.std.proofs.Common.{arith, refl, sym, ap, subst, ◌∙◌, ◌≡◌, ◌++◌, append_assoc, ◌∷◌, [], List, ℕ}
+use Rattle.std.proofs.Common.{arith, refl, sym, ap, subst, ◌∙◌, ◌≡◌, ◌++◌, append_assoc, ◌∷◌, [], List, ℕ, append-nil}
 use Rattle.sp_history.specs.Past.{up, pend}
 use Rattle.sp_history.specs.Moments.{Moment, past}
 use Rattle.sp_core.specs.Closing.{ClosesAt, AreDownsOf, after}
-use Rattle.sp_core.proofs.Closings.{down_entries-more, after-more, none_up, others_up, append-nil}
+use Rattle.sp_core.proofs.Closings.{down_entries-more, after-more, none_up, others_up}
 use Rattle.sp_core.proofs.owner.Core.take_all_down.Goals as goal
 
 pub loop-self-init : goal.loop-self-init

@@ -2,7 +2,7 @@ use Rattle.std.proofs.Common.{ap}
 use Rattle.sp_history.specs.declared.entry.Why.TheVariants as whys
 use Rattle.sp_core.proofs.Closings.{first_is_up}
 use Rattle.sp_core.proofs.Downs.{closes_down}
-use Rattle.sp_core.specs.declared.op_words.OpWords.{OpWords}
+use Rattle.core_parts.specs.declared.op_words.OpWords.{OpWords}
 use Rattle.sp_core.proofs.owner.Core.take_down_closed.Goals as goal
 
 pub close_pipe-requires : goal.close_pipe-requires

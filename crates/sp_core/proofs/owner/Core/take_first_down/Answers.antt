@@ -5,7 +5,7 @@ use Rattle.sp_history.specs.declared.entry.Entry.TheVariants.{Clear, Stall, Down
 use Rattle.sp_history.specs.Moments.{also}
 use Rattle.sp_core.proofs.Closings.{flush_lawful, first_at, still_at, first_is_up, flushed}
 use Rattle.sp_core.proofs.Downs.{closes_down}
-use Rattle.sp_core.specs.declared.op_words.OpWords.{OpWords}
+use Rattle.core_parts.specs.declared.op_words.OpWords.{OpWords}
 use Rattle.sp_core.proofs.owner.Core.take_first_down.Goals as goal
 
 pub flush-requires : goal.flush-requires

@@ -3,7 +3,8 @@ use Rattle.aio_word.specs.declared.rule.ShownOperation as word
 use Rattle.sp_history.specs.declared.entry.Entry.TheVariants.{End}
 use Rattle.sp_history.specs.Moments.{also}
 use Rattle.sp_core.specs.Immediate.{tried}
-use Rattle.sp_core.specs.Looking.{Grows, reads_of}
+use Rattle.sp_core.specs.Looking.{reads_of}
+use Rattle.core_parts.specs.Reads.{Grows}
 use Rattle.sp_core.proofs.ContextLooks.{grows_trans}
 use Rattle.sp_core.proofs.ReceivedAtOnce.{now_begun, got, missed, never_sent}
 use Rattle.sp_core.proofs.TriedOnce.{begun, begun_now, given_now, took_now}

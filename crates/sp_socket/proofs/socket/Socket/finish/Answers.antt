@@ -1,4 +1,4 @@
-use Rattle.std.proofs.Common.{◌≡◌, sym, ap, ◌∙◌, length, List, Some}
+use Rattle.std.proofs.Common.{◌≡◌, sym, ap, ◌∙◌, length, List, Some, subst}
 use Rattle.turn_lock.specs.declared.turn.Turn.{Turn}
 use Rattle.sp_history.specs.declared.entry.Entry.{Entry}
 use Rattle.sp_socket.specs.Passes.{pass_of, IsPass}
@@ -11,7 +11,6 @@ use Rattle.sp_core.specs.declared.owner.Core.{Core}
 use Rattle.sp_core.specs.Parts.{HasWires}
 use Rattle.sp_core.specs.Standing.{StandsFor}
 use Rattle.sp_history.specs.declared.setting.Setting.{Setting}
-use Rattle.std.proofs.Common.{subst}
 use Rattle.sp_socket.proofs.socket.Socket.finish.Goals as goal
 
 pub end-held-requires-clause-all : goal.end-held-requires-clause-all
