@@ -38,6 +38,7 @@ use Rattle.proto_reqrep.specs.declared.req.KeptReply.{KeptReply}
 use Rattle.proto_reqrep.specs.declared.req.Asking.{Asking}
 use Rattle.proto_reqrep.specs.declared.req.RequestContext.{RequestContext}
 use Rattle.proto_requests.specs.FirstFound.{without_found, with_found}
+use Rattle.proto_requests.specs.Ids.{number_after, raw_item}
 
 abbrev pub req_kind : Bool → Options → Kind
 req_kind raw options = record { role = role.Req; raw = raw; options = options }
