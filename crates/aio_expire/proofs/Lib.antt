@@ -1,4 +1,4 @@
-pub mod Ordered
+pub mod EntriesByTick
 pub mod EntryCounts
 pub mod Schedules
 pub mod Found

@@ -108,6 +108,31 @@ fn a_request_that_is_given_up_gets_no_reply(rt: HostRuntime) -> Result<(), Fail>
 }
 
 #[test]
+fn a_second_request_gets_its_own_reply_behind_that_of_a_cancelled_one(
+    rt: HostRuntime,
+) -> Result<(), Fail> {
+    let steps = [
+        Call::Reserve(4),
+        Call::Up(1),
+        Call::Send(0, 0, &[], b"a"),
+        Call::GoesOut(0, 1, &[128, 0, 0, 0], b"a"),
+        Call::Receive(1, 0),
+        Call::Loses(1),
+        Call::Send(2, 0, &[], b"b"),
+        Call::GoesOut(2, 1, &[128, 0, 0, 1], b"b"),
+        Call::Receive(3, 0),
+        Call::Frame(1, &[128, 0, 0, 0, 65]),
+        Call::Idle,
+        Call::Frame(1, &[128, 0, 0, 1, 66]),
+        Call::CanGive(3),
+        Call::Gets(3, b"", b"B"),
+        Call::Check(0, Verb::Recv, Err(CheckError::State)),
+    ];
+    plays(&rt, rt.alloc(), &mut req(rt.alloc(), 0, false)?, &steps);
+    Ok(())
+}
+
+#[test]
 fn ids_wrap_with_the_top_bit_set(rt: HostRuntime) -> Result<(), Fail> {
     let steps = [
         Call::Reserve(2),

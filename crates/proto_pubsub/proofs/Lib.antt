@@ -1,7 +1,7 @@
 pub mod Indexed
 pub mod Knowing
 pub mod Looking
-pub mod Ordered
+pub mod ContextsByNumber
 pub mod Published
 pub mod SubContexts
 pub mod Subscribed

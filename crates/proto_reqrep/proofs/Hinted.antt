@@ -10,12 +10,12 @@ use Rattle.proto_reqrep.specs.declared.req.Asking.{Asking}
 use Rattle.proto_reqrep.specs.declared.req.KeptReply.{KeptReply}
 use Rattle.sp_msg.specs.Views.{MessageView}
 use Rattle.proto_reqrep.specs.declared.req.Request.{Request as Machine}
-use Rattle.proto_reqrep.specs.Hints.{HintsView, covers}
-use Rattle.proto_reqrep.specs.Reqs.{Asks, without_live, is_live_on, answers, is_missed, AreReady, IsReply, ready_on, keeps_reply, is_sending, is_receiving_on, orphaned, without_found, with_found, with_reply, with_kept, waits_for, live_ctx}
-use Rattle.proto_reqrep.proofs.Backlogged.{both_false, equal_of}
-use Rattle.proto_reqrep.proofs.RequestLives.{same_number}
-use Rattle.proto_reqrep.proofs.Calming.{none_as}
-use Rattle.proto_reqrep.proofs.KnownOperations.{any_less, any_more}
+use Rattle.proto_requests.specs.Hints.{HintsView, covers}
+use Rattle.proto_reqrep.specs.Reqs.{Asks, without_live, is_live_on, answers, is_missed, AreReady, IsReply, ready_on, keeps_reply, is_sending, is_receiving_on, orphaned, with_reply, with_kept, waits_for, live_ctx}
+use Rattle.proto_requests.specs.FirstFound.{without_found, with_found}
+use Rattle.proto_requests.proofs.FirstPlaces.{none_as}
+use Rattle.proto_requests.proofs.KnownOperations.{any_less, any_more}
+use Rattle.proto_requests.proofs.TestValues.{both_false, equal_of}
 
 -- ---- Bools
 
@@ -261,31 +261,6 @@ shorter n (i ∷ is) e = omega arith
 pub no_head : (is : List ℕ) → None ≡ head_of is → is ≡ []
 no_head [] e = refl
 no_head (i ∷ is) e = absurd cc
-
--- the numbers that are looked at, with one more
-pub has_more : (n q : ℕ) (is : List ℕ) → has is q ≡ true → has (is ++ n ∷ []) q ≡ true
-has_more n q [] h = absurd cc
-has_more n q (i ∷ is) h = go (i == q) h (has_more n q is)
-  where
-    go : (b : Bool) → (b || has is q) ≡ true → (has is q ≡ true → has (is ++ n ∷ []) q ≡ true) → (b || has (is ++ n ∷ []) q) ≡ true
-    go true h again = refl
-    go false h again = again h
-
-pub has_last : (n : ℕ) (is : List ℕ) → has (is ++ n ∷ []) n ≡ true
-has_last n [] = ap (λ b. b || false) (same_number n)
-has_last n (i ∷ is) = ap (λ b. (i == n) || b) (has_last n is) ∙ last (i == n)
-  where
-    last : (b : Bool) → (b || true) ≡ true
-    last true = refl
-    last false = refl
-
-pub or_last : (a b : Bool) → b ≡ true → (a || b) ≡ true
-or_last true b h = refl
-or_last false b h = h
-
-pub or_both : (a b d : Bool) → (b ≡ true → d ≡ true) → (a || b) ≡ true → (a || d) ≡ true
-or_both true b d k h = refl
-or_both false b d k h = k h
 
 -- a request begins
 pub asked_ready : (m n : Machine) (c : ℕ) (body : List ℕ) (op : OpName) (x : MessageView) (ws : List Asking) → Asks c body m n → ws ≡ n.waiting.items ++ record { op = op; ctx = c; message = Some x; is_orphan = false } ∷ [] → AreReady m.ready m.live.items m.waiting.items → AreReady n.ready n.live.items ws

@@ -32,23 +32,19 @@ use Rattle.sp_proto.specs.Machines.{CanGive, CanSend, CanFinish, CanAgain, IsIdl
 use Rattle.sp_proto.specs.Readings.{out_last}
 use Rattle.sp_proto.specs.declared.Offer.{Offer}
 use Rattle.sp_proto.specs.declared.Offer.TheVariants as offers
-use Rattle.proto_reqrep.specs.Ports.{port_of, is_free, is_free_behind, next_port, or_else, next_number as next_pipe}
-use Rattle.proto_reqrep.specs.Ports.{PortView}
-use Rattle.proto_reqrep.specs.declared.req.Request.{LiveRequest as Machine}
+use Rattle.proto_requests.specs.Ports.{port_of, is_free, is_free_behind, next_port, or_else, next_number as next_pipe, PortView}
+use Rattle.proto_reqrep.specs.declared.req.Request.{Request as Machine}
 use Rattle.proto_reqrep.specs.declared.req.Live.{Live}
 use Rattle.proto_reqrep.specs.declared.req.Asking.{Asking}
-use Rattle.proto_reqrep.specs.Hints.{HintsView}
-use Rattle.proto_reqrep.proofs.Spotted.{none_find}
+use Rattle.proto_requests.specs.Hints.{HintsView}
+use Rattle.proto_requests.proofs.Spotted.{none_find}
 use Rattle.proto_reqrep.specs.Reqs.{gets, answers, AreReady, is_receiving_on, Ties, IsNextPipe, begun_of, act_of, is_sending, is_live_on, live_ctx, request_of, is_due, out_offer, is_given, dry_at, HasLive}
 use Rattle.proto_reqrep.proofs.Orphaned.{orphan_found, all_finished}
-use Rattle.proto_reqrep.proofs.RequestLives.{equal_of, same_number}
 use Rattle.proto_reqrep.proofs.Owning.{owned_at}
 use Rattle.proto_reqrep.proofs.ReqStands.{is_req_role, is_raw, flag, live_is, kept_is}
 use Rattle.proto_reqrep.proofs.ReqArrivals.{given_is}
 use Rattle.proto_reqrep.proofs.ReqWins.{due_is}
-
-some_inj : {A : Type 0} (x y : A) → Some x ≡ Some y → x ≡ y
-some_inj x y q = cc
+use Rattle.proto_requests.proofs.TestValues.{equal_of, same_number, some_inj}
 
 both : (a b : Bool) → a ≡ true → b ≡ true → (a && b) ≡ true
 both a b h k = rw (h, k) refl

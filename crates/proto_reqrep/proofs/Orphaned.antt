@@ -15,7 +15,7 @@ use Rattle.sp_history.specs.Requests.{is_orphan, orphan_of, is_bereft, end_on, w
 use Rattle.sp_history.specs.Legal.{was_superseded}
 use Rattle.sp_history.proofs.OnceHolds.{same_op-refl, same_op-eq}
 use Rattle.proto_reqrep.specs.declared.req.Asking.{Asking}
-use Rattle.proto_reqrep.specs.Waits.{left_on}
+use Rattle.proto_requests.specs.Waits.{left_on}
 use Rattle.proto_reqrep.specs.Reqs.{begun_of, is_asked, is_left, orphaned, without_first, is_superseded}
 
 pub any_either : {A : Type 0} (f : A → Bool) (xs ys : List A) → list_any f (xs ++ ys) ≡ (list_any f xs || list_any f ys)

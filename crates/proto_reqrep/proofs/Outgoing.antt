@@ -18,8 +18,9 @@ use Rattle.sp_history.specs.Once.{AreDistinct}
 use Rattle.sp_history.specs.Requests.{wire_of, with_out, with_frame, is_for, has_room}
 use Rattle.proto_reqrep.specs.declared.req.Live.{Live}
 use Rattle.proto_reqrep.specs.declared.req.KeptReply.{KeptReply}
-use Rattle.proto_reqrep.specs.Reqs.{request_of, live_ctx, live_id, is_live_on, with_out_on, with_found, sent_at, AreSound, items_of, item_of, waits_for, with_kept, with_reply}
-use Rattle.proto_reqrep.proofs.RequestLives.{equal_of, turned, same_number}
+use Rattle.proto_reqrep.specs.Reqs.{request_of, live_ctx, live_id, is_live_on, with_out_on, sent_at, AreSound, items_of, item_of, waits_for, with_kept, with_reply}
+use Rattle.proto_requests.specs.FirstFound.{with_found}
+use Rattle.proto_requests.proofs.TestValues.{equal_of, same_number, turned}
 
 word_back : (n : ℕ) → n < 2 ^ 32 → from_be_bytes w32 (word n) ≡ n
 word_back n h = from_be_bytes-to_be_bytes_4 n h

@@ -11,11 +11,9 @@ use Rattle.proto_reqrep.specs.declared.req.Live.{Live}
 use Rattle.proto_reqrep.specs.declared.req.KeptReply.{KeptReply}
 use Rattle.proto_reqrep.specs.declared.req.Asking.{Asking}
 use Rattle.proto_reqrep.specs.Reqs.{live_ctx, is_live_on, without_live, is_asked, is_sending, without_first, orphaned, IsOf, HasLive, HaveLive, is_sending_on, is_receiving_on, AreSingle, with_out_on, with_reply, with_kept, waits_for}
-use Rattle.proto_reqrep.proofs.RequestLives.{equal_of, turned, same_number, find_less, find_first}
+use Rattle.proto_reqrep.proofs.RequestLives.{find_less, find_first}
 use Rattle.proto_reqrep.proofs.Outgoing.{find_out}
-
-some_inj : {A : Type 0} (x y : A) → Some x ≡ Some y → x ≡ y
-some_inj x y q = cc
+use Rattle.proto_requests.proofs.TestValues.{equal_of, same_number, some_inj, turned}
 
 -- ---- One more, one less
 

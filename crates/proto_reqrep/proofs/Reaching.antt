@@ -33,23 +33,20 @@ use Rattle.sp_history.proofs.Requesting.{end_makes, out_makes, shut_makes}
 use Rattle.sp_history.proofs.Backing.{legal_allowed}
 use Rattle.sp_proto.specs.Kinds.{text_of}
 use Rattle.sp_proto.specs.Machines.{CanSend, CanAgain}
-use Rattle.proto_reqrep.specs.declared.req.Request.{LiveRequest as Machine}
+use Rattle.proto_reqrep.specs.declared.req.Request.{Request as Machine}
 use Rattle.proto_reqrep.specs.declared.req.Live.{Live}
 use Rattle.proto_reqrep.specs.declared.req.Asking.{Asking}
-use Rattle.proto_reqrep.specs.Reqs.{Ties, Asked, begun_of, act_of, is_asked, is_sending, is_sending_on, without_first, without_live, live_ctx, is_live_on, request_of, with_found, sent_at, HaveLive, IsOf}
-use Rattle.proto_reqrep.proofs.RequestLives.{equal_of, turned}
+use Rattle.proto_reqrep.specs.Reqs.{Ties, Asked, begun_of, act_of, is_asked, is_sending, is_sending_on, without_first, without_live, live_ctx, is_live_on, request_of, sent_at, HaveLive, IsOf, Opened, dry_at, dried, wetted, seat_ctx}
+use Rattle.proto_requests.specs.FirstFound.{with_found}
 use Rattle.proto_reqrep.proofs.Owning.{owned_at, only_send}
 use Rattle.proto_reqrep.proofs.Requested.{taken, ended_alone, gone_out}
 use Rattle.sp_history.specs.declared.parts.LastOut.{LastOut}
-use Rattle.proto_reqrep.specs.Reqs.{Opened, dry_at, dried, wetted, seat_ctx}
 use Rattle.proto_reqrep.specs.declared.req.RequestContext.{RequestContext}
 use Rattle.proto_reqrep.proofs.RequestLives.{ctx_less, gone_on}
-use Rattle.proto_reqrep.proofs.Replied.{has_still, has_first}
+use Rattle.proto_requests.proofs.NumbersIn.{has_still, has_first}
 use Rattle.proto_reqrep.proofs.ReqStands.{is_req_role, is_raw, asks, asks_nothing, raw_same, raw_end, live_is, flag, is_begun}
 use Rattle.sp_history.proofs.LiveRequests.{next_not_dry}
-
-some_inj : {A : Type 0} (x y : A) → Some x ≡ Some y → x ≡ y
-some_inj x y q = cc
+use Rattle.proto_requests.proofs.TestValues.{equal_of, some_inj, turned}
 
 -- ---- A send goes out
 

@@ -4,7 +4,7 @@ use Rattle.std.specs.Prelude.{find, filter, drop, take, not, is_some, nat_lt, �
 use Rattle.std.specs.List.{list_any}
 use Rattle.std.specs.Option.{option_map}
 use Rattle.std.proofs.lemmas.Bool.Decides.{nat_tests}
-use Rattle.std.proofs.lemmas.List.{with_items_is, length-map}
+use Rattle.std.proofs.lemmas.List.{with_items_is}
 use Rattle.std.specs.Prelude.{Vec, Result, Ok, Err}
 use Rattle.sp_msg.specs.Messages.{Trimmed}
 use Rattle.sp_msg.specs.declared.message.Short.{Short}
@@ -40,20 +40,19 @@ use Rattle.sp_history.specs.Once.{AreDistinct}
 use Rattle.sp_history.specs.Moments.{Moment, Lawful, past, also}
 use Rattle.sp_history.proofs.Requesting.{frame_makes, begun_makes, tick_makes, close_makes}
 use Rattle.sp_proto.specs.Kinds.{Kind, text_of}
-use Rattle.proto_reqrep.specs.declared.req.Request.{LiveRequest as Machine}
+use Rattle.proto_reqrep.specs.declared.req.Request.{Request as Machine}
 use Rattle.proto_reqrep.specs.declared.req.Live.{Live}
 use Rattle.proto_reqrep.specs.declared.req.KeptReply.{KeptReply}
 use Rattle.proto_reqrep.specs.declared.req.Asking.{Asking}
-use Rattle.proto_reqrep.specs.Reqs.{Ties, AreCalm, AreReady, Asked, begun_of, act_of, is_receiving_on, orphaned, without_live, live_ctx, is_live_on, request_of, with_found, with_reply, item_of, HasLive, HaveLive, raw_item}
-use Rattle.proto_reqrep.proofs.RequestLives.{equal_of, same_number}
-use Rattle.proto_reqrep.proofs.Requested.{ended, reply_came}
+use Rattle.proto_reqrep.specs.Reqs.{Ties, AreCalm, AreReady, Asked, begun_of, act_of, is_receiving_on, orphaned, without_live, live_ctx, is_live_on, request_of, with_reply, item_of, HasLive, HaveLive, Opened, SetTo, seat_ctx, ask_state, Keeps, live_id, free_number, keeps_reply, is_given, Asks, KeepsRaw}
+use Rattle.proto_requests.specs.FirstFound.{with_found}
+use Rattle.proto_requests.specs.Ids.{raw_item, number_after}
+use Rattle.proto_reqrep.proofs.Requested.{ended, reply_came, begun_one, begun_new}
 use Rattle.sp_history.specs.Legal.{is_recv_on, is_state}
-use Rattle.proto_reqrep.specs.Ports.{Knows}
-use Rattle.proto_reqrep.specs.Reqs.{Opened, SetTo, seat_ctx, ask_state}
+use Rattle.proto_requests.specs.Ports.{Knows}
 use Rattle.proto_reqrep.specs.declared.req.RequestContext.{RequestContext}
 use Rattle.proto_reqrep.proofs.RequestLives.{ctx_less, gone_on}
 use Rattle.proto_reqrep.proofs.ReqStands.{is_req_role, is_raw, asks, asks_nothing, req_is, raw_same, live_is, kept_is, kept_raw}
-use Rattle.proto_reqrep.proofs.Requested.{begun_one, begun_new}
 use Rattle.proto_reqrep.proofs.Owning.{all_marked}
 use Rattle.proto_reqrep.proofs.WorkLeft.{length_same}
 use Rattle.proto_reqrep.proofs.Calming.{begun_calm}
@@ -70,10 +69,10 @@ use Rattle.sp_proto.specs.Machines.{Frames}
 use Rattle.sp_proto.specs.Readings.{out_last}
 use Rattle.sp_proto.specs.declared.Verdict.{Verdict}
 use Rattle.sp_proto.specs.declared.Verdict.TheVariants as verdict
-use Rattle.proto_reqrep.specs.Reqs.{Keeps, live_id, number_after, free_number, keeps_reply, is_given, raw_item, Asks, KeepsRaw}
 use Rattle.sp_proto.specs.Kinds.{verb_of, kind_of}
 use Rattle.sp_proto.specs.declared.Verb.{Verb}
 use Rattle.sp_proto.specs.declared.Verb.TheVariants as verbs
+use Rattle.proto_requests.proofs.TestValues.{equal_of, same_number}
 
 left_of : (a b : Bool) → (not a && b) ≡ true → a ≡ false
 left_of true b q = absurd cc
@@ -452,13 +451,6 @@ shut_items m t c l h r = h.2 r ∙ sym (away (c == 0) refl)
     away false e = refl
     away true e = absurd (l.turn.0.itself.0 (equal_of c 0 e))
 
--- ---- Each is written
-
-pub any_written : {A Z : Type 0} (f : A → A) (v : Vec A Z) (xs ys : List A) → ys ≡ v.items → xs ≡ map f ys → (with_items v xs).items ≡ map f v.items
-any_written f v xs ys e h =
-    let long : length xs ≡ length ys = ap length h ∙ length-map ys f in
-    with_items_is v xs (long ∙ ap length e ∙ sym v.ok.0) ∙ h ∙ ap (map f) e
-
 -- ---- The same with other names
 
 pub asked_live : {raw : Bool} {xs ys : List Live} {id : Option ℕ} {ws : List Asking} {ss : List Begun} {rs : Requests} → ys ≡ xs → Asked raw xs id ws ss rs → Asked raw ys id ws ss rs
@@ -503,9 +495,6 @@ found_written P f v xs ys e h =
 -- contexts of requests that get a reply stay
 pub ctxs_replied : (n : ℕ) (k : KeptReply) (xs ys : List Live) → ys ≡ with_reply n k xs → map live_ctx ys ≡ map live_ctx xs
 ctxs_replied n k xs ys e = ap (map live_ctx) e ∙ ctxs_kept n k xs
-
-pub not_both : {A : Type 0} {b : Bool} → b ≡ true → b ≡ false → A
-not_both h k = let bad : true ≡ false = sym h ∙ k in absurd cc
 
 pub some_word : (b : List ℕ) (n : ℕ) → first_word b ≡ Some n → first_word b ≢ None
 some_word b n h k = let bad : Some n ≡ None = sym h ∙ k in absurd cc

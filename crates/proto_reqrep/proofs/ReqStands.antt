@@ -30,7 +30,7 @@ use Rattle.sp_history.proofs.OnceHolds.{same_op-eq, occurs-without}
 use Rattle.sp_history.proofs.Requesting.{end_makes}
 use Rattle.sp_proto.specs.Kinds.{Kind, text_of}
 use Rattle.sp_proto.specs.Machines.{CanGive, CanSend, CanDrop, message_of}
-use Rattle.proto_reqrep.specs.declared.req.Request.{LiveRequest as Machine}
+use Rattle.proto_reqrep.specs.declared.req.Request.{Request as Machine}
 use Rattle.proto_reqrep.specs.declared.req.Live.{Live}
 use Rattle.proto_reqrep.specs.declared.req.KeptReply.{KeptReply}
 use Rattle.proto_reqrep.specs.declared.req.Asking.{Asking}

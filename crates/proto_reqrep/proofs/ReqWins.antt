@@ -1,7 +1,7 @@
 -- A req stands for its history after an operation was won, or a request went out again.
 use Rattle.std.proofs.Common.{◌≡◌, refl, ap, sym, ◌∙◌, subst, List, ◌∷◌, ◌++◌, ℕ, ◌<◌, Bool, true, false, arith, Option, Some, None, map, length}
 use Rattle.std.specs.Prelude.{find, drop, not, is_some, nat_le, ◌+◌, ◌*◌, ◌&&◌, ◌||◌, ◌==◌}
-use Rattle.proto_reqrep.specs.Backlogs.{BacklogView}
+use Rattle.proto_requests.specs.Backlogs.{BacklogView}
 use Rattle.proto_reqrep.specs.Lives.{LivesView, StayCalm}
 use Rattle.proto_reqrep.proofs.Hinted.{ready_live, ready_fewer, keeps_less, keeps_same}
 use Rattle.std.specs.List.{list_any}
@@ -26,21 +26,23 @@ use Rattle.sp_history.specs.declared.setting.Options.{Options}
 use Rattle.sp_proto.specs.Kinds.{Kind, text_of, kind_of}
 use Rattle.sp_proto.specs.Machines.{CanGive, CanSend, CanAgain}
 use Rattle.sp_proto.specs.Readings.{out_last}
-use Rattle.proto_reqrep.specs.Ports.{is_pipe, free_count}
-use Rattle.proto_reqrep.specs.declared.req.Request.{LiveRequest as Machine}
+use Rattle.proto_requests.specs.Ports.{is_pipe, free_count, PortView, Knows}
+use Rattle.proto_reqrep.specs.declared.req.Request.{Request as Machine}
 use Rattle.proto_reqrep.specs.declared.req.Live.{Live}
 use Rattle.proto_reqrep.specs.declared.req.KeptReply.{KeptReply}
 use Rattle.proto_reqrep.specs.declared.req.Asking.{Asking}
-use Rattle.proto_reqrep.specs.Waits.{WaitsView}
+use Rattle.proto_requests.specs.Waits.{WaitsView}
 use Rattle.proto_reqrep.specs.declared.req.RequestContext.{RequestContext}
-use Rattle.proto_reqrep.specs.Ports.{PortView, Knows}
-use Rattle.proto_reqrep.specs.Reqs.{Ties, AreCalm, AreReady, item_of, is_asked, is_live_on, without_first, without_live, with_found, sent_at, reply_in, work_left, is_due, live_ctx, request_of, dried, dry_at, items_of, is_late_in, due_count, SetTo, Keeps, Asked, Opened}
+use Rattle.proto_reqrep.specs.Reqs.{Ties, AreCalm, AreReady, item_of, is_asked, is_live_on, without_first, without_live, sent_at, reply_in, work_left, is_due, live_ctx, request_of, dried, dry_at, items_of, is_late_in, due_count, SetTo, Keeps, Asked, Opened}
+use Rattle.proto_requests.specs.FirstFound.{with_found}
 use Rattle.proto_reqrep.proofs.ReqStands.{given_raw, given_cooked, given_items, given_oldest, given_message}
 use Rattle.proto_reqrep.proofs.Reaching.{sent_raw, sent_raw_bytes, sent_cooked, sent_bytes, ctxs_sent, opened_as, opened_less, again_asked, again_live, again_cooked, dried_opened}
-use Rattle.proto_reqrep.proofs.ReqArrivals.{asked_live, asked_ops, opened_live, opened_seats, not_both}
+use Rattle.proto_reqrep.proofs.ReqArrivals.{asked_live, asked_ops, opened_live, opened_seats}
 use Rattle.proto_reqrep.proofs.WorkLeft.{less_waiting, fewer_live, fewer_due, fewer_ops, same_live, none_due, not_due, up_is, less_due, count_falls, count_narrowed, due_before, dry_not_due, length_same}
-use Rattle.proto_reqrep.proofs.RequestLives.{found_ctx, same_number}
-use Rattle.proto_reqrep.proofs.Calming.{none_changed, calm_dried}
+use Rattle.proto_reqrep.proofs.RequestLives.{found_ctx}
+use Rattle.proto_requests.proofs.FirstPlaces.{none_changed}
+use Rattle.proto_reqrep.proofs.Calming.{calm_dried}
+use Rattle.proto_requests.proofs.TestValues.{not_both, same_number}
 
 -- what went out on a pipe that is up is not due
 sent_not_due : (m : Machine) (t : Moment) (p : ℕ) → Ties m t → has (up (past t)) p ≡ true → (x : Live) → is_due m.options.resend m.tick m.ports.items m.seats.items (sent_at (record { pipe = p; when = m.tick }) x) ≡ false

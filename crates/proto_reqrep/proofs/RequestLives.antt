@@ -9,16 +9,7 @@ use Rattle.sp_history.specs.Once.{AreDistinct}
 use Rattle.sp_history.specs.Requests.{is_on}
 use Rattle.proto_reqrep.specs.declared.req.Live.{Live}
 use Rattle.proto_reqrep.specs.Reqs.{request_of, live_ctx, is_live_on, without_live, AreSound}
-
-pub equal_of : (m n : ℕ) → (m == n) ≡ true → m ≡ n
-equal_of m n h = grind (arith, nat_tests)
-
-pub turned : (m n : ℕ) (b : Bool) → (m == n) ≡ b → (n == m) ≡ b
-turned m n true h = grind (arith, nat_tests)
-turned m n false h = grind (arith, nat_tests)
-
-pub same_number : (n : ℕ) → (n == n) ≡ true
-same_number n = grind (arith, nat_tests)
+use Rattle.proto_requests.proofs.TestValues.{equal_of, same_number, turned}
 
 -- ---- One less
 

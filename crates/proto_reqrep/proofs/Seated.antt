@@ -4,7 +4,7 @@ use Rattle.std.specs.Prelude.{filter, ◌&&◌, ◌||◌, ◌==◌}
 use Rattle.std.specs.List.{list_any}
 use Rattle.proto_reqrep.specs.declared.req.RequestContext.{RequestContext}
 use Rattle.proto_reqrep.specs.Reqs.{seat_ctx, dry_at, dried, wetted}
-use Rattle.proto_reqrep.proofs.Backlogged.{both_false}
+use Rattle.proto_requests.proofs.TestValues.{both_false}
 
 abbrev pub is_dry : RequestContext → Bool
 is_dry s = s.is_dry

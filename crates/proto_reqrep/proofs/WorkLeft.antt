@@ -5,13 +5,13 @@ use Rattle.std.specs.List.{list_any}
 use Rattle.std.proofs.lemmas.Bool.Decides.{nat_tests}
 use Rattle.std.proofs.lemmas.Nat.{row_fits, mul-le}
 use Rattle.sp_history.specs.Lists.{has}
-use Rattle.proto_reqrep.specs.Ports.{PortView}
+use Rattle.proto_requests.specs.Ports.{PortView, is_pipe, port_of}
 use Rattle.proto_reqrep.specs.declared.req.Live.{Live}
 use Rattle.proto_reqrep.specs.declared.req.Asking.{Asking}
 use Rattle.std.proofs.lemmas.List.{length-map}
 use Rattle.proto_reqrep.specs.declared.req.RequestContext.{RequestContext}
-use Rattle.proto_reqrep.specs.Ports.{is_pipe, port_of}
-use Rattle.proto_reqrep.specs.Reqs.{is_live_on, without_live, without_found, with_found, sent_at, is_late_in, is_due, due_count, dry_at, dried}
+use Rattle.proto_reqrep.specs.Reqs.{is_live_on, without_live, sent_at, is_late_in, is_due, due_count, dry_at, dried}
+use Rattle.proto_requests.specs.FirstFound.{without_found, with_found}
 
 pub count_most : (due : Live → Bool) (xs : List Live) → due_count due xs ≤ length xs
 count_most due [] = omega arith

@@ -1,10 +1,10 @@
 -- The live requests of a req, and how one is found by its context and by its id.
 use Rattle.std.specs.Prelude.{◌≡◌, ◌≤◌, ℕ, Bool, true, false, is_some, List, take, length, Option, Some, None}
 use Rattle.std.specs.List.{list_any}
-use Rattle.proto_reqrep.specs.Backlogs.{IsIndexed}
-use Rattle.proto_reqrep.specs.Numbers.{is_known}
-use Rattle.proto_reqrep.specs.Spots.{held}
-use Rattle.proto_reqrep.specs.declared.spots.Spot.{Spot}
+use Rattle.proto_requests.specs.Backlogs.{IsIndexed}
+use Rattle.proto_requests.specs.Numbers.{is_known}
+use Rattle.proto_requests.specs.Spots.{held}
+use Rattle.proto_requests.specs.declared.spots.Spot.{Spot}
 use Rattle.proto_reqrep.specs.declared.req.Live.{Live}
 
 -- the live requests, in the order of their begins; how many of them are skipped, and the spots of the others; and how

@@ -28,15 +28,17 @@ use Rattle.sp_proto.specs.declared.Verb.{Verb}
 use Rattle.sp_proto.specs.declared.Verb.TheVariants as verbs
 use Rattle.sp_proto.specs.declared.Verdict.{Verdict}
 use Rattle.sp_proto.specs.declared.Verdict.TheVariants as verdict
-use Rattle.proto_reqrep.specs.Ports.{PortView, Knows, is_pipe, free_count, next_number as next_pipe}
+use Rattle.proto_requests.specs.Ports.{PortView, Knows, is_pipe, free_count, next_number as next_pipe}
 use Rattle.proto_reqrep.specs.Lives.{StayCalm}
-use Rattle.proto_reqrep.specs.Hints.{HintsView, covers}
+use Rattle.proto_requests.specs.Hints.{HintsView, covers}
 use Rattle.std.specs.Option.{option_map}
-use Rattle.proto_reqrep.specs.declared.req.Request.{LiveRequest as Machine}
+use Rattle.proto_reqrep.specs.declared.req.Request.{Request as Machine}
 use Rattle.proto_reqrep.specs.declared.req.Live.{Live}
 use Rattle.proto_reqrep.specs.declared.req.KeptReply.{KeptReply}
 use Rattle.proto_reqrep.specs.declared.req.Asking.{Asking}
 use Rattle.proto_reqrep.specs.declared.req.RequestContext.{RequestContext}
+use Rattle.proto_requests.specs.FirstFound.{without_found, with_found}
+use Rattle.proto_requests.specs.Ids.{number_after, raw_item}
 
 abbrev pub req_kind : Bool → Options → Kind
 req_kind raw options = record { role = role.Req; raw = raw; options = options }
@@ -74,16 +76,6 @@ is_sending w = is_some w.message
 -- a receive on the context
 abbrev pub is_receiving_on : ℕ → Asking → Bool
 is_receiving_on c w = not (is_sending w) && (w.ctx == c)
-
--- without the first that passes the test
-abbrev pub without_found : {A : Type 0} → (A → Bool) → List A → List A
-without_found P [] = []
-without_found P (x ∷ xs) = if P x then xs else x ∷ without_found P xs
-
--- with the first changed that passes the test
-abbrev pub with_found : {A : Type 0} → (A → Bool) → (A → A) → List A → List A
-with_found P f [] = []
-with_found P f (x ∷ xs) = if P x then f x ∷ xs else x ∷ with_found P f xs
 
 -- without the operation of this name
 abbrev pub without_first : OpName → List Asking → List Asking
@@ -155,9 +147,6 @@ with_out_on c o x = record { ctx = x.ctx; id = x.id; copy = x.copy; birth = x.bi
 
 -- ---- Ids
 
-abbrev pub number_after : ℕ → ℕ
-number_after id = (id % 2 ^ 31 + 1) % 2 ^ 31 + 2 ^ 31
-
 abbrev pub free_number : ℕ → List Live → ℕ → ℕ
 free_number zero xs id = id
 free_number (suc tries) xs id = if list_any (λ (x : Live). x.id == id) xs then free_number tries xs (number_after id) else id
@@ -212,11 +201,6 @@ IsCalm m = AreCalm m.options.resend m.tick m.ports.items m.seats.items m.live.ca
 abbrev pub gets : Machine → Asking → Bool
 gets m w = not (is_sending w) && is_given m.raw m.kept.items m.live.items w.ctx
 
--- the place that was found, or the end
-abbrev pub reached : Option ℕ → ℕ → ℕ
-reached None n = n
-reached (Some i) n = i
-
 abbrev pub out_offer : ℕ → Option Asking → Option Live → Offer
 out_offer p (Some w) x = offers.Send w.op p
 out_offer p None None = offers.Idle
@@ -254,9 +238,6 @@ Asks c body m n =
     × (n.waiting.items ≡ map (orphaned c) m.waiting.items) × (n.last_id ≡ Some x.id)
     × (n.raw ≡ m.raw) × (n.options ≡ m.options) × (n.tick ≡ m.tick) × (n.ports ≡ m.ports) × (n.kept ≡ m.kept) × (n.last_pipe ≡ m.last_pipe) × (n.seats ≡ m.seats) × (n.ready ≡ m.ready)
     × StayCalm m.live n.live
-
-abbrev pub raw_item : ℕ → List ℕ → Item
-raw_item p b = record { pipe = p; words = []; message = record { header = take 4 b; body = drop 4 b } }
 
 -- a raw frame is kept
 abbrev pub KeepsRaw : Verdict → ℕ → List ℕ → List KeptReply → List KeptReply → Type 0

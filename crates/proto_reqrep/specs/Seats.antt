@@ -1,7 +1,7 @@
 -- The seats of open contexts.
 use Rattle.std.specs.Prelude.{◌≡◌, Bool, true, false, List}
 use Rattle.std.specs.List.{list_any}
-use Rattle.proto_reqrep.specs.Ordered.{AreOrdered}
+use Rattle.proto_requests.specs.Ordered.{AreOrdered}
 use Rattle.proto_reqrep.specs.declared.req.RequestContext.{RequestContext}
 
 -- in the order in which they were opened

@@ -10,15 +10,16 @@ ghost use Rattle.std.specs.List.{position, list_any};
 ghost use Rattle.std.specs.Option.{option_map};
 ghost use Rattle.sp_history.specs.Once.{AreDistinct};
 ghost use Rattle.proto_reqrep.specs.declared.req.Live.{Live as LiveType};
-ghost use Rattle.proto_reqrep.specs.Backlogs.{IsIndexed};
-ghost use Rattle.proto_reqrep.specs.Reqs.{is_live_on, live_ctx, live_id, waits_for, keeps_reply, with_reply, with_found, without_live, sent_at, with_kept};
-ghost use Rattle.proto_reqrep.specs.Spots.{holds, held, changed};
+ghost use Rattle.proto_requests.specs.Backlogs.{IsIndexed};
+ghost use Rattle.proto_reqrep.specs.Reqs.{is_live_on, live_ctx, live_id, waits_for, keeps_reply, with_reply, without_live, sent_at, with_kept};
+ghost use Rattle.proto_requests.specs.FirstFound.{with_found};
+ghost use Rattle.proto_requests.specs.Spots.{holds, held, changed};
 ghost use Rattle.proto_reqrep.specs.Lives.{is_answered, StayCalm};
-ghost use Rattle.proto_reqrep.specs.Numbers.{number_at, is_known};
+ghost use Rattle.proto_requests.specs.Numbers.{number_at, is_known};
 
-use crate::numbers::Numbers;
 use crate::req::{KeptReply, Live};
-use crate::spots::{Spot, close_up_half, empty, hint, rest, stays};
+use proto_requests::numbers::Numbers;
+use proto_requests::spots::{Spot, close_up_half, empty, hint, rest, stays};
 use sp_base::{Ctx, NoMemory};
 use sp_history::parts::LastOut;
 use sp_msg::Message;
@@ -47,7 +48,7 @@ pub struct Lives {
 impl Model for Lives {
     ghost use Rattle.std.specs.Prelude.{◌-◌, take, drop, length};
     ghost use Rattle.std.specs.Vec.{vec_len, vec_capacity};
-    ghost use Rattle.proto_reqrep.specs.Spots.{held};
+    ghost use Rattle.proto_requests.specs.Spots.{held};
     ghost use Rattle.proto_reqrep.specs.Lives.{LivesView, AreKept};
 
     ghost Value = { LivesView };

@@ -17,18 +17,20 @@ ghost use Rattle.proto_reqrep.specs.declared.req.KeptReply.{KeptReply as KeptRep
 ghost use Rattle.proto_reqrep.specs.declared.req.Live.{Live as LiveType};
 ghost use Rattle.proto_reqrep.specs.declared.req.Asking.{Asking as AskingType};
 ghost use Rattle.proto_reqrep.specs.declared.req.RequestContext.{RequestContext as RequestContextType};
-ghost use Rattle.proto_reqrep.specs.Spots.{holds};
+ghost use Rattle.proto_requests.specs.Spots.{holds};
 ghost use Rattle.proto_reqrep.specs.Lives.{StayCalm};
-ghost use Rattle.proto_reqrep.specs.Reqs.{Ties, req_kind, is_live_on, is_asked, without_first, without_live, orphaned, with_found, sent_at, is_sending, is_due, dry_at, dried, wetted, number_after, free_number, reply_in, gets, answers, with_reply, ready_on, AreReady, IsReply, Asks, KeepsRaw, is_given, is_late, IsCalm, live_ctx, out_offer, ask_state, is_receiving_on, work_left, IsNextPipe};
+ghost use Rattle.proto_reqrep.specs.Reqs.{Ties, req_kind, is_live_on, is_asked, without_first, without_live, orphaned, sent_at, is_sending, is_due, dry_at, dried, wetted, free_number, reply_in, gets, answers, with_reply, ready_on, AreReady, IsReply, Asks, KeepsRaw, is_given, is_late, IsCalm, live_ctx, out_offer, ask_state, is_receiving_on, work_left, IsNextPipe};
+ghost use Rattle.proto_requests.specs.FirstFound.{with_found};
+ghost use Rattle.proto_requests.specs.Ids.{number_after};
 
-use crate::backlog::{Backlog, FromPipe};
-use crate::hints::Hints;
 use crate::lives::{Lives, ctx_at};
-use crate::ports::Ports;
 use crate::seats::Seats;
-use crate::spots::Spot;
-use crate::trail::first_word;
-use crate::waits::{Waiter, Waits, name_at};
+use proto_requests::backlog::{Backlog, FromPipe};
+use proto_requests::hints::Hints;
+use proto_requests::ports::Ports;
+use proto_requests::spots::Spot;
+use proto_requests::trail::first_word;
+use proto_requests::waits::{Waiter, Waits, name_at};
 use sp_base::{Ctx, NoMemory, OpName, PipeId, Role, Tick};
 use sp_history::entry::Cause;
 use sp_history::parts::LastOut;

@@ -2,12 +2,12 @@
 ghost use Rattle.std.specs.Prelude.{◌≡◌, ◌++◌, ◌∷◌, ◌==◌, ℕ, [], None, Some, true, false, not, IfOk, OnOk, OnErr, filter, map};
 ghost use Rattle.std.specs.List.{list_any, position};
 ghost use Rattle.proto_reqrep.specs.declared.req.RequestContext.{RequestContext as RequestContextType};
-ghost use Rattle.proto_reqrep.specs.Backlogs.{is_of};
-ghost use Rattle.proto_reqrep.specs.Ordered.{AreOrdered};
+ghost use Rattle.proto_requests.specs.Backlogs.{is_of};
+ghost use Rattle.proto_requests.specs.Ordered.{AreOrdered};
 ghost use Rattle.proto_reqrep.specs.Reqs.{seat_ctx, dry_at, dried, wetted};
 
-use crate::contexts::{OnCtx, goes_on, place_in, take_out};
 use crate::req::RequestContext;
+use proto_requests::contexts::{OnCtx, goes_on, place_in, take_out};
 use sp_base::{Ctx, NoMemory};
 use std::alloc::Global;
 use std::marker::Model;

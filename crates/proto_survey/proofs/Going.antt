@@ -45,7 +45,7 @@ use Rattle.proto_floods.proofs.Copying.{each_init}
 use Rattle.proto_floods.proofs.Sending.{passes, a_send, won_send, the_flood, goes_to, goes_out, send_ends, receive_ends}
 use Rattle.proto_pending.specs.Waits.{is_send}
 use Rattle.proto_pending.proofs.Firsts.{no_sends}
-use Rattle.proto_reqrep.specs.Reqs.{with_found}
+use Rattle.proto_requests.specs.FirstFound.{with_found}
 use Rattle.proto_survey.specs.declared.survey.Survey.{Survey}
 use Rattle.proto_survey.specs.declared.survey.KeptResponse.{KeptResponse}
 use Rattle.proto_survey.specs.declared.waiting.SurveyOperation.{SurveyOperation}

@@ -5,7 +5,7 @@ use Rattle.std.specs.List.{list_any, position, position_or_len}
 use Rattle.std.proofs.lemmas.Bool.Decides.{nat_tests}
 use Rattle.sp_history.specs.Lists.{has, is_nil}
 use Rattle.sp_history.specs.Once.{AreDistinct}
-use Rattle.proto_reqrep.proofs.Positions.{not_found}
+use Rattle.proto_requests.proofs.Positions.{not_found}
 use Rattle.proto_survey.specs.declared.survey.Survey.{Survey}
 use Rattle.proto_survey.specs.declared.waiting.SurveyOperation.{SurveyOperation}
 use Rattle.proto_survey.specs.Lives.{SurveyView, survey_ctx, is_live_on, is_kept, keeps_at}

@@ -9,7 +9,7 @@ use Rattle.sp_history.specs.Lists.{has}
 use Rattle.sp_history.specs.Once.{AreDistinct}
 use Rattle.sp_history.specs.Requests.{is_on, has_id}
 use Rattle.sp_history.proofs.Asking.{has_one}
-use Rattle.proto_reqrep.specs.Reqs.{with_found}
+use Rattle.proto_requests.specs.FirstFound.{with_found}
 use Rattle.proto_survey.specs.Lives.{SurveyView, survey_of, survey_ctx, survey_id, is_live_on}
 use Rattle.proto_survey.specs.Surveys.{without_live}
 

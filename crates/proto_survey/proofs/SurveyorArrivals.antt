@@ -44,7 +44,8 @@ use Rattle.proto_floods.specs.Copies.{Each, IsOnlyFlood, HasFlood}
 use Rattle.proto_floods.proofs.FloodTurns.{no_flood, goes_on}
 use Rattle.proto_pending.specs.Waits.{is_send}
 use Rattle.proto_pending.proofs.Splits.{passing_append}
-use Rattle.proto_reqrep.specs.Reqs.{number_after, with_found, raw_item}
+use Rattle.proto_requests.specs.Ids.{number_after, raw_item}
+use Rattle.proto_requests.specs.FirstFound.{with_found}
 use Rattle.proto_survey.specs.declared.survey.Survey.{Survey}
 use Rattle.proto_survey.specs.declared.waiting.SurveyOperation.{SurveyOperation}
 use Rattle.proto_survey.specs.declared.waiting.SurveyEnd.TheVariants as ends

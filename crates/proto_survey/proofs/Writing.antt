@@ -4,11 +4,12 @@ use Rattle.std.specs.Prelude.{Vec, nat_lt, ◌||◌}
 use Rattle.std.proofs.lemmas.Bool.Decides.{nat_tests}
 use Rattle.std.specs.List.{list_any, position}
 use Rattle.std.proofs.lemmas.List.Quantifiers.{position-Some}
-use Rattle.proto_reqrep.proofs.Positions.{with_at}
+use Rattle.proto_requests.proofs.Positions.{with_at}
 use Rattle.std.specs.Vec.{with_items}
 use Rattle.std.proofs.lemmas.List.{with_items_is}
 use Rattle.sp_msg.specs.Views.{MessageView}
-use Rattle.proto_reqrep.specs.Reqs.{number_after, with_found}
+use Rattle.proto_requests.specs.Ids.{number_after}
+use Rattle.proto_requests.specs.FirstFound.{with_found}
 use Rattle.proto_survey.specs.Lives.{SurveyView, has_number, with_reply, awaits, free_number}
 use Rattle.proto_survey.specs.Surveys.{KeepsReply}
 

@@ -13,7 +13,7 @@ use Rattle.sp_history.specs.declared.parts.How.{How}
 use Rattle.sp_history.specs.declared.parts.How.TheVariants as how
 use Rattle.sp_history.specs.Lists.{same_op}
 use Rattle.sp_proto.specs.Kinds.{text_of}
-use Rattle.proto_reqrep.specs.Reqs.{without_found}
+use Rattle.proto_requests.specs.FirstFound.{without_found}
 use Rattle.proto_survey.specs.declared.waiting.SurveyOperation.{SurveyOperation}
 use Rattle.proto_survey.specs.declared.waiting.SurveyEnd.{SurveyEnd}
 use Rattle.proto_survey.specs.declared.waiting.SurveyEnd.TheVariants as ends

@@ -5,7 +5,7 @@ use Rattle.sp_msg.specs.Views.{MessageView}
 use Rattle.sp_history.specs.declared.parts.Item.{Item}
 use Rattle.sp_history.specs.declared.parts.LiveRequest.{LiveRequest}
 use Rattle.sp_history.specs.Lists.{is_nil, head_of}
-use Rattle.proto_reqrep.specs.Reqs.{number_after}
+use Rattle.proto_requests.specs.Ids.{number_after}
 
 -- its context, its id, the moment of its begin, and the responses that are kept, the oldest first
 pub record SurveyView : Type 0 where

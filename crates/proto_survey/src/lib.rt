@@ -6,7 +6,7 @@
 //! receives that wait for it then are to be finished. Raw, the first word of a message is its header.
 //!
 //! `Respond` is a respondent (nng_respondent(7)), which is a rep in every rule, and so the machine of one
-//! (`proto_reqrep`).
+//! (`proto_rep`).
 //!
 //! Who owns what: a survey that is live (`live`) owns its responses until a receive takes them. The surveyor owns the
 //! operations that wait with their messages (`waiting`), and the copies of the send that is going out. When a survey
@@ -19,5 +19,5 @@ mod live;
 mod survey;
 mod waiting;
 
-pub use proto_reqrep::Respond;
+pub use proto_rep::Respond;
 pub use survey::Survey;

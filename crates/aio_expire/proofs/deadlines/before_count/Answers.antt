@@ -2,7 +2,7 @@ use Rattle.std.proofs.Common.{rules, Bool, arith}
 use Rattle.std.proofs.lemmas.List.Sorted.{IsPartitionPoint-from_clause}
 use Rattle.aio_expire.specs.declared.deadlines.Deadline.{Deadline}
 use Rattle.aio_expire.specs.Schedule.{comes_before}
-use Rattle.aio_expire.proofs.Ordered.{parted}
+use Rattle.aio_expire.proofs.EntriesByTick.{parted}
 use Rattle.aio_expire.proofs.Found.{before_all}
 use Rattle.aio_expire.proofs.deadlines.before_count.Goals as goal
 

@@ -1,7 +1,7 @@
 use Rattle.std.proofs.Common.{rules}
 use Rattle.std.proofs.lemmas.List.Sorted.{IsPartitionPoint-from_clause}
 use Rattle.aio_expire.specs.Schedule.{is_due}
-use Rattle.aio_expire.proofs.Ordered.{parted, parts, is_before-due}
+use Rattle.aio_expire.proofs.EntriesByTick.{parted, parts, is_before-due}
 use Rattle.aio_expire.proofs.deadlines.due_count.Goals as goal
 
 pub returns-clause-due : goal.returns-clause-due

@@ -2,7 +2,7 @@ use Rattle.std.proofs.Common.{rules, Bool, ◌∷◌, ◌++◌}
 use Rattle.std.proofs.lemmas.List.Sorted.{IsPartitionPoint-from_clause}
 use Rattle.aio_expire.specs.declared.deadlines.Deadline.{Deadline}
 use Rattle.aio_expire.specs.Schedule.{is_before}
-use Rattle.aio_expire.proofs.Ordered.{parted, parts, is_before-trans}
+use Rattle.aio_expire.proofs.EntriesByTick.{parted, parts, is_before-trans}
 use Rattle.aio_expire.proofs.deadlines.place_of.Goals as goal
 
 pub returns-clause-place : goal.returns-clause-place

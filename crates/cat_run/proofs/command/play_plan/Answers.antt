@@ -5,7 +5,7 @@ use Rattle.sp_proto.specs.Kinds.{Starts}
 use Rattle.proto_pipeline.specs.Pulls.{Ties as PullTies, pull_kind}
 use Rattle.proto_pipeline.specs.Pushes.{Ties as PushTies, push_kind}
 use Rattle.proto_pair.specs.Pairs.{Ties as PairTies, pair_kind}
-use Rattle.proto_reqrep.specs.Reps.{Ties as ReplyTies, reply_kind}
+use Rattle.proto_rep.specs.Reps.{Ties as ReplyTies, reply_kind}
 use Rattle.proto_reqrep.specs.Reqs.{Ties as RequestTies, req_kind}
 use Rattle.proto_bus.specs.Buses.{Ties as BusTies, bus_kind}
 use Rattle.proto_pubsub.specs.Pubs.{Ties as PublishTies, pub_kind}

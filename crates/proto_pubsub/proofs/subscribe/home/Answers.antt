@@ -1,7 +1,7 @@
 use Rattle.std.proofs.Common.{rules, ◌≡◌, ◌<◌, ◌≤◌, false, true, length, slice_index_or, arith}
 use Rattle.std.specs.Prelude.{◌==◌}
 use Rattle.std.proofs.lemmas.List.Sorted.{IsPartitionPoint-from_clause}
-use Rattle.proto_pubsub.proofs.Ordered.{is_under, at_or_above, parted, placed, not_placed, all_lower, equal_of}
+use Rattle.proto_pubsub.proofs.ContextsByNumber.{is_under, at_or_above, parted, placed, not_placed, all_lower, equal_of}
 use Rattle.proto_pubsub.proofs.subscribe.home.Goals as goal
 
 pub returns-then-i-seats-clause-place : goal.returns-then-i-seats-clause-place

@@ -1,11 +1,11 @@
 use Rattle.std.proofs.Common.{◌≡◌, ◌∙◌, sym, ap, false, rules}
 use Rattle.std.specs.Prelude.{is_some}
 use Rattle.std.specs.List.{list_any}
-use Rattle.proto_reqrep.specs.Numbers.{number_at}
+use Rattle.proto_requests.specs.Numbers.{number_at}
 use Rattle.proto_reqrep.specs.Reqs.{is_live_on}
-use Rattle.proto_reqrep.specs.Spots.{holds, held}
-use Rattle.proto_reqrep.proofs.Positions.{nowhere}
-use Rattle.proto_reqrep.proofs.Spotted.{any_held}
+use Rattle.proto_requests.specs.Spots.{holds, held}
+use Rattle.proto_requests.proofs.Positions.{nowhere}
+use Rattle.proto_requests.proofs.Spotted.{any_held}
 use Rattle.proto_reqrep.proofs.lives.ctx_place.Goals as goal
 
 pub returns-in-None : goal.returns-in-None

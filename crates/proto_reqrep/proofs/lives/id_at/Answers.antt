@@ -1,7 +1,7 @@
 use Rattle.std.proofs.Common.{◌∙◌, sym, ap}
 use Rattle.std.specs.Option.{option_map}
 use Rattle.proto_reqrep.specs.Reqs.{live_id}
-use Rattle.proto_reqrep.proofs.Spotted.{not_there, found_there}
+use Rattle.proto_requests.proofs.Spotted.{not_there, found_there}
 use Rattle.proto_reqrep.proofs.lives.id_at.Goals as goal
 
 pub returns-in-None : goal.returns-in-None

@@ -2,11 +2,11 @@ use Rattle.std.proofs.Common.{◌≡◌, ◌∙◌, sym, ap, false}
 use Rattle.std.specs.Prelude.{◌==◌, is_some}
 use Rattle.std.specs.List.{list_any}
 use Rattle.proto_reqrep.specs.Reqs.{waits_for}
-use Rattle.proto_reqrep.specs.Spots.{holds, held}
+use Rattle.proto_requests.specs.Spots.{holds, held}
 use Rattle.proto_reqrep.specs.declared.req.Live.{Live}
-use Rattle.proto_reqrep.proofs.Positions.{nowhere}
-use Rattle.proto_reqrep.proofs.NumberIndexes.{none_waits}
-use Rattle.proto_reqrep.proofs.Spotted.{any_held}
+use Rattle.proto_requests.proofs.Positions.{nowhere}
+use Rattle.proto_reqrep.proofs.LiveIndexes.{none_waits}
+use Rattle.proto_requests.proofs.Spotted.{any_held}
 use Rattle.proto_reqrep.proofs.lives.id_place.Goals as goal
 
 pub returns-in-None : goal.returns-in-None

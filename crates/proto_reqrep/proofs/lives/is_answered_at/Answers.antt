@@ -1,6 +1,6 @@
 use Rattle.std.proofs.Common.{◌∙◌, sym, ap}
 use Rattle.proto_reqrep.specs.Lives.{is_answered}
-use Rattle.proto_reqrep.proofs.Spotted.{not_there, found_there}
+use Rattle.proto_requests.proofs.Spotted.{not_there, found_there}
 use Rattle.proto_reqrep.proofs.lives.is_answered_at.Goals as goal
 
 pub returns-in-None : goal.returns-in-None

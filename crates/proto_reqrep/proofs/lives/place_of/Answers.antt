@@ -1,8 +1,8 @@
 use Rattle.std.proofs.Common.{◌≡◌, ◌<◌, length, slice_index_or, true, rules}
 use Rattle.proto_reqrep.specs.Reqs.{live_id, waits_for}
-use Rattle.proto_reqrep.specs.Spots.{holds}
-use Rattle.proto_reqrep.proofs.NumberIndexes.{same_id}
-use Rattle.proto_reqrep.proofs.KnownOperations.{at_spot}
+use Rattle.proto_requests.specs.Spots.{holds}
+use Rattle.proto_reqrep.proofs.LiveIndexes.{same_id}
+use Rattle.proto_requests.proofs.KnownOperations.{at_spot}
 use Rattle.proto_reqrep.proofs.lives.place_of.Goals as goal
 
 pub returns-then-waits_at : goal.returns-then-waits_at

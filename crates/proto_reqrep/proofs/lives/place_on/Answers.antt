@@ -1,8 +1,8 @@
 use Rattle.std.proofs.Common.{◌≡◌, ◌<◌, length, slice_index_or, true, rules}
 use Rattle.proto_reqrep.specs.Reqs.{live_ctx, is_live_on}
-use Rattle.proto_reqrep.specs.Spots.{holds}
-use Rattle.proto_reqrep.proofs.NumberIndexes.{same_ctx}
-use Rattle.proto_reqrep.proofs.KnownOperations.{at_spot}
+use Rattle.proto_requests.specs.Spots.{holds}
+use Rattle.proto_reqrep.proofs.LiveIndexes.{same_ctx}
+use Rattle.proto_requests.proofs.KnownOperations.{at_spot}
 use Rattle.proto_reqrep.proofs.lives.place_on.Goals as goal
 
 pub returns-then-stands_on : goal.returns-then-stands_on

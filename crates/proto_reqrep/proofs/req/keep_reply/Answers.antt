@@ -1,5 +1,5 @@
 use Rattle.std.proofs.Common.{◌≡◌, ◌∙◌, ap, sym, rules}
-use Rattle.proto_reqrep.specs.Hints.{covers}
+use Rattle.proto_requests.specs.Hints.{covers}
 use Rattle.proto_reqrep.proofs.Hinted.{ready_kept, ready_unkept}
 use Rattle.proto_reqrep.proofs.req.keep_reply.Goals as goal
 

@@ -1,5 +1,5 @@
 use Rattle.std.proofs.Common.{◌≡◌, ◌∙◌, ap, sym, rules, inl, inr}
-use Rattle.proto_reqrep.specs.Hints.{covers}
+use Rattle.proto_requests.specs.Hints.{covers}
 use Rattle.proto_reqrep.proofs.Hinted.{ready_begun}
 use Rattle.proto_reqrep.proofs.req.look_at.Goals as goal
 

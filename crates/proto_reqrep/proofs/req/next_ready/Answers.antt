@@ -1,5 +1,5 @@
 use Rattle.std.proofs.Common.{◌∙◌, ap, sym, refl}
-use Rattle.proto_reqrep.specs.Hints.{HintsView}
+use Rattle.proto_requests.specs.Hints.{HintsView}
 use Rattle.proto_reqrep.proofs.Hinted.{ready_dropped, reply_on, idle_ready, shorter, no_head}
 use Rattle.proto_reqrep.proofs.req.next_ready.Goals as goal
 

@@ -1,5 +1,5 @@
 use Rattle.proto_reqrep.specs.Reqs.{dried}
-use Rattle.proto_reqrep.proofs.Positions.{written}
+use Rattle.proto_requests.proofs.Positions.{written}
 use Rattle.proto_reqrep.proofs.seats.dry.Goals as goal
 
 pub loop-seat-preserved : goal.loop-seat-preserved

@@ -1,6 +1,6 @@
 use Rattle.std.proofs.Common.{refl}
 use Rattle.proto_reqrep.specs.Reqs.{wetted}
-use Rattle.proto_reqrep.proofs.Positions.{written}
+use Rattle.proto_requests.proofs.Positions.{written}
 use Rattle.proto_reqrep.proofs.seats.wet.Goals as goal
 
 pub loop-seat-preserved : goal.loop-seat-preserved

@@ -1,6 +1,6 @@
 use Rattle.std.proofs.Common.{◌≡◌, ◌∙◌, sym, ap, Some}
 use Rattle.std.specs.List.{position}
-use Rattle.proto_reqrep.proofs.Positions.{not_found, without_none, without_at}
+use Rattle.proto_requests.proofs.Positions.{not_found, without_none, without_at}
 use Rattle.proto_survey.specs.Lives.{is_live_on}
 use Rattle.proto_survey.proofs.survey.end_live.Goals as goal
 

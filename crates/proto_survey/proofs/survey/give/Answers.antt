@@ -1,5 +1,5 @@
 use Rattle.std.proofs.Common.{◌∙◌, sym, ap}
-use Rattle.proto_reqrep.proofs.Positions.{found_at, not_found, with_at, with_none}
+use Rattle.proto_requests.proofs.Positions.{found_at, not_found, with_at, with_none}
 use Rattle.proto_survey.specs.Lives.{is_live_on, given_from, first_in}
 use Rattle.proto_survey.proofs.survey.give.Goals as goal
 

@@ -1,5 +1,5 @@
 use Rattle.std.proofs.Common.{sym}
-use Rattle.proto_reqrep.proofs.Positions.{not_found, with_none}
+use Rattle.proto_requests.proofs.Positions.{not_found, with_none}
 use Rattle.proto_survey.specs.Lives.{has_number, with_reply}
 use Rattle.proto_survey.proofs.Writing.{keeps_there}
 use Rattle.proto_survey.proofs.survey.keep.Goals as goal

@@ -1,7 +1,7 @@
 use Rattle.std.proofs.Common.{◌≡◌, ◌∙◌, sym, ap, rules, slice_index_or}
 use Rattle.std.specs.Prelude.{not}
 use Rattle.sp_history.specs.Lists.{is_nil}
-use Rattle.proto_reqrep.proofs.Positions.{found_at, not_found}
+use Rattle.proto_requests.proofs.Positions.{found_at, not_found}
 use Rattle.proto_survey.specs.Lives.{SurveyView, is_live_on, is_kept}
 use Rattle.proto_survey.proofs.survey.keeps_for.Goals as goal
 

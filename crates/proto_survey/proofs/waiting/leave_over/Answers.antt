@@ -4,7 +4,7 @@ use Rattle.proto_survey.specs.declared.waiting.SurveyEnd.{SurveyEnd}
 use Rattle.proto_survey.specs.declared.waiting.SurveyEnd.TheVariants as ends
 use Rattle.proto_survey.specs.Lives.{over_on}
 use Rattle.proto_survey.specs.Askings.{left_by, ended_by}
-use Rattle.proto_reqrep.proofs.Positions.{written}
+use Rattle.proto_requests.proofs.Positions.{written}
 use Rattle.proto_survey.proofs.waiting.leave_over.Goals as goal
 
 pub loop-w-preserved : goal.loop-w-preserved

@@ -1,6 +1,6 @@
 use Rattle.std.proofs.Common.{◌≡◌, ◌∙◌, sym, ap, Some}
 use Rattle.std.specs.List.{position}
-use Rattle.proto_reqrep.proofs.Positions.{found_at, not_found, without_none, without_at}
+use Rattle.proto_requests.proofs.Positions.{found_at, not_found, without_none, without_at}
 use Rattle.proto_survey.specs.declared.waiting.SurveyOperation.{SurveyOperation}
 use Rattle.proto_survey.specs.Askings.{is_asked}
 use Rattle.proto_survey.proofs.waiting.take.Goals as goal

@@ -2,7 +2,7 @@ use Rattle.std.proofs.Common.{rules, ◌≡◌, ◌≤◌, List, length, length-
 use Rattle.aio_expire.specs.declared.deadlines.Deadline.{Deadline}
 use Rattle.aio_expire.specs.Schedule.{Schedule, IsSchedule, AreTimed, is_due, later_than}
 use Rattle.aio_expire.proofs.Schedules.{schedule_filter, few}
-use Rattle.aio_expire.proofs.Ordered.{Each-filter}
+use Rattle.aio_expire.proofs.EntriesByTick.{Each-filter}
 use Rattle.aio_expire.proofs.deadlines.Deadlines.due.Goals as goal
 
 pub name_all-requires : goal.name_all-requires

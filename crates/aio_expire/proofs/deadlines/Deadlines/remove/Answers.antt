@@ -2,7 +2,7 @@ use Rattle.std.proofs.Common.{◌≡◌, List, sym, ap, subst, ◌∙◌, arith}
 use Rattle.aio_expire.specs.declared.deadlines.Deadline.{Deadline}
 use Rattle.aio_expire.specs.Schedule.{Schedule, IsSchedule, AreTimed, IsEntryOf, others_than, count_of}
 use Rattle.aio_expire.proofs.Schedules.{schedule_filter}
-use Rattle.aio_expire.proofs.Ordered.{Each-filter, others}
+use Rattle.aio_expire.proofs.EntriesByTick.{Each-filter, others}
 use Rattle.aio_expire.proofs.Found.{none_of}
 use Rattle.aio_expire.proofs.deadlines.Deadlines.remove.Goals as goal
 

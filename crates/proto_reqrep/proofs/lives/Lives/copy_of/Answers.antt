@@ -1,14 +1,14 @@
 use Rattle.std.proofs.Common.{◌≡◌, ◌∙◌, sym, ap, subst, true, Some, List}
 use Rattle.std.specs.Prelude.{find}
 use Rattle.std.specs.List.{position}
-use Rattle.proto_reqrep.specs.Backlogs.{IsIndexed}
-use Rattle.proto_reqrep.specs.Numbers.{is_known}
+use Rattle.proto_requests.specs.Backlogs.{IsIndexed}
+use Rattle.proto_requests.specs.Numbers.{is_known}
 use Rattle.proto_reqrep.specs.Lives.{LivesView}
 use Rattle.proto_reqrep.specs.Reqs.{is_live_on, live_ctx}
-use Rattle.proto_reqrep.specs.Spots.{holds, held}
-use Rattle.proto_reqrep.specs.declared.spots.Spot.{Spot}
+use Rattle.proto_requests.specs.Spots.{holds, held}
+use Rattle.proto_requests.specs.declared.spots.Spot.{Spot}
 use Rattle.proto_reqrep.specs.declared.req.Live.{Live}
-use Rattle.proto_reqrep.proofs.Spotted.{found_there}
+use Rattle.proto_requests.proofs.Spotted.{found_there}
 use Rattle.proto_reqrep.proofs.lives.Lives.copy_of.Goals as goal
 
 its : (x y : Live) → Some x ≡ Some y → x ≡ y

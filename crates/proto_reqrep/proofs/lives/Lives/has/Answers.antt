@@ -2,8 +2,8 @@ use Rattle.std.proofs.Common.{◌∙◌, ap}
 use Rattle.std.specs.List.{list_any}
 use Rattle.proto_reqrep.specs.Lives.{LivesView}
 use Rattle.proto_reqrep.specs.Reqs.{is_live_on}
-use Rattle.proto_reqrep.specs.Spots.{holds}
-use Rattle.proto_reqrep.proofs.Spotted.{any_held}
+use Rattle.proto_requests.specs.Spots.{holds}
+use Rattle.proto_requests.proofs.Spotted.{any_held}
 use Rattle.proto_reqrep.proofs.lives.Lives.has.Goals as goal
 
 pub returns-then-not-self : goal.returns-then-not-self

@@ -2,15 +2,15 @@ use Rattle.std.proofs.Common.{◌≡◌, ◌∙◌, sym, ap, subst, true, Some, 
 use Rattle.std.specs.Prelude.{find}
 use Rattle.std.specs.List.{position, list_any}
 use Rattle.sp_history.specs.Once.{AreDistinct}
-use Rattle.proto_reqrep.specs.Backlogs.{IsIndexed}
-use Rattle.proto_reqrep.specs.Numbers.{is_known}
+use Rattle.proto_requests.specs.Backlogs.{IsIndexed}
+use Rattle.proto_requests.specs.Numbers.{is_known}
 use Rattle.proto_reqrep.specs.Lives.{LivesView, is_answered}
 use Rattle.proto_reqrep.specs.Reqs.{is_live_on, live_ctx, keeps_reply}
-use Rattle.proto_reqrep.specs.Spots.{holds, held}
-use Rattle.proto_reqrep.specs.declared.spots.Spot.{Spot}
+use Rattle.proto_requests.specs.Spots.{holds, held}
+use Rattle.proto_requests.specs.declared.spots.Spot.{Spot}
 use Rattle.proto_reqrep.specs.declared.req.Live.{Live}
-use Rattle.proto_reqrep.proofs.NumberIndexes.{no_reply, one_reply}
-use Rattle.proto_reqrep.proofs.Spotted.{any_held}
+use Rattle.proto_reqrep.proofs.LiveIndexes.{no_reply, one_reply}
+use Rattle.proto_requests.proofs.Spotted.{any_held}
 use Rattle.proto_reqrep.proofs.lives.Lives.has_reply.Goals as goal
 
 its : (xs : List Live) (x : Option Live) (n : ℕ) → AreDistinct (map live_ctx xs) → find (is_live_on n) xs ≡ x → is_answered x ≡ list_any (keeps_reply n) xs

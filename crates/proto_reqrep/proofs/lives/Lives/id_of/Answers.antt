@@ -2,12 +2,12 @@ use Rattle.std.proofs.Common.{◌≡◌, ◌∙◌, sym, ap, subst, true, List}
 use Rattle.std.specs.Prelude.{find}
 use Rattle.std.specs.List.{position}
 use Rattle.std.specs.Option.{option_map}
-use Rattle.proto_reqrep.specs.Backlogs.{IsIndexed}
-use Rattle.proto_reqrep.specs.Numbers.{is_known}
+use Rattle.proto_requests.specs.Backlogs.{IsIndexed}
+use Rattle.proto_requests.specs.Numbers.{is_known}
 use Rattle.proto_reqrep.specs.Lives.{LivesView}
 use Rattle.proto_reqrep.specs.Reqs.{is_live_on, live_ctx, live_id}
-use Rattle.proto_reqrep.specs.Spots.{holds, held}
-use Rattle.proto_reqrep.specs.declared.spots.Spot.{Spot}
+use Rattle.proto_requests.specs.Spots.{holds, held}
+use Rattle.proto_requests.specs.declared.spots.Spot.{Spot}
 use Rattle.proto_reqrep.proofs.lives.Lives.id_of.Goals as goal
 
 pub returns : goal.returns

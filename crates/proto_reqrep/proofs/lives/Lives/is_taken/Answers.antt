@@ -2,9 +2,9 @@ use Rattle.std.proofs.Common.{◌∙◌, ap}
 use Rattle.std.specs.Prelude.{◌==◌}
 use Rattle.std.specs.List.{list_any}
 use Rattle.proto_reqrep.specs.Lives.{LivesView}
-use Rattle.proto_reqrep.specs.Spots.{holds}
+use Rattle.proto_requests.specs.Spots.{holds}
 use Rattle.proto_reqrep.specs.declared.req.Live.{Live}
-use Rattle.proto_reqrep.proofs.Spotted.{any_held}
+use Rattle.proto_requests.proofs.Spotted.{any_held}
 use Rattle.proto_reqrep.proofs.lives.Lives.is_taken.Goals as goal
 
 pub returns-then-not-self : goal.returns-then-not-self

@@ -3,14 +3,15 @@ use Rattle.std.specs.Prelude.{find}
 use Rattle.std.specs.Vec.{with_items}
 use Rattle.std.specs.List.{position}
 use Rattle.std.specs.Option.{option_map}
-use Rattle.proto_reqrep.specs.Backlogs.{IsIndexed}
-use Rattle.proto_reqrep.specs.Numbers.{is_known}
+use Rattle.proto_requests.specs.Backlogs.{IsIndexed}
+use Rattle.proto_requests.specs.Numbers.{is_known}
 use Rattle.proto_reqrep.specs.Lives.{LivesView}
-use Rattle.proto_reqrep.specs.Reqs.{live_ctx, live_id, waits_for, with_kept, with_found}
-use Rattle.proto_reqrep.specs.Spots.{holds, held}
-use Rattle.proto_reqrep.specs.declared.spots.Spot.{Spot}
-use Rattle.proto_reqrep.proofs.Spotted.{items_are}
-use Rattle.proto_reqrep.proofs.NumberIndexes.{found_same}
+use Rattle.proto_reqrep.specs.Reqs.{live_ctx, live_id, waits_for, with_kept}
+use Rattle.proto_requests.specs.FirstFound.{with_found}
+use Rattle.proto_requests.specs.Spots.{holds, held}
+use Rattle.proto_requests.specs.declared.spots.Spot.{Spot}
+use Rattle.proto_requests.proofs.Spotted.{items_are}
+use Rattle.proto_reqrep.proofs.LiveIndexes.{found_same}
 use Rattle.proto_reqrep.proofs.WorkLeft.{length_same}
 use Rattle.proto_reqrep.proofs.lives.Lives.keep_reply.Goals as goal
 

@@ -1,14 +1,15 @@
 use Rattle.std.proofs.Common.{◌≡◌, ◌∙◌, sym, ap, subst, true, List, arith, length, take, refl}
 use Rattle.std.specs.Vec.{with_items}
 use Rattle.std.specs.List.{position}
-use Rattle.proto_reqrep.specs.Backlogs.{IsIndexed}
-use Rattle.proto_reqrep.specs.Numbers.{is_known}
+use Rattle.proto_requests.specs.Backlogs.{IsIndexed}
+use Rattle.proto_requests.specs.Numbers.{is_known}
 use Rattle.proto_reqrep.specs.Lives.{LivesView}
-use Rattle.proto_reqrep.specs.Reqs.{is_live_on, live_ctx, sent_at, with_found}
-use Rattle.proto_reqrep.specs.Spots.{holds, held}
-use Rattle.proto_reqrep.specs.declared.spots.Spot.{Spot}
-use Rattle.proto_reqrep.proofs.Spotted.{items_are}
-use Rattle.proto_reqrep.proofs.NumberIndexes.{found_same}
+use Rattle.proto_reqrep.specs.Reqs.{is_live_on, live_ctx, sent_at}
+use Rattle.proto_requests.specs.FirstFound.{with_found}
+use Rattle.proto_requests.specs.Spots.{holds, held}
+use Rattle.proto_requests.specs.declared.spots.Spot.{Spot}
+use Rattle.proto_requests.proofs.Spotted.{items_are}
+use Rattle.proto_reqrep.proofs.LiveIndexes.{found_same}
 use Rattle.proto_reqrep.proofs.WorkLeft.{length_same}
 use Rattle.proto_reqrep.proofs.lives.Lives.note_out.Goals as goal
 

@@ -1,14 +1,14 @@
 use Rattle.std.proofs.Common.{◌≡◌, ◌∙◌, sym, ap, Some, List, arith, length, take}
 use Rattle.std.specs.List.{list_any}
 use Rattle.proto_reqrep.specs.Lives.{LivesView}
-use Rattle.proto_reqrep.specs.Spots.{holds, held}
-use Rattle.proto_reqrep.specs.declared.spots.Spot.{Spot}
+use Rattle.proto_requests.specs.Spots.{holds, held}
+use Rattle.proto_requests.specs.declared.spots.Spot.{Spot}
 use Rattle.proto_reqrep.specs.declared.req.Live.{Live}
 use Rattle.std.proofs.Common.{◌++◌, ◌∷◌, []}
 use Rattle.std.proofs.lemmas.List.{take-append-le}
-use Rattle.proto_reqrep.proofs.Spotted.{held_more, held_few, none_before_is}
-use Rattle.proto_reqrep.proofs.KnownOperations.{length_more}
-use Rattle.proto_reqrep.proofs.NumberIndexes.{found_more}
+use Rattle.proto_requests.proofs.Spotted.{held_more, held_few, none_before_is}
+use Rattle.proto_requests.proofs.KnownOperations.{length_more}
+use Rattle.proto_reqrep.proofs.LiveIndexes.{found_more}
 use Rattle.proto_reqrep.proofs.lives.Lives.push.Goals as goal
 
 pub invariant_of-self : goal.invariant_of-self

@@ -1,7 +1,7 @@
 use Rattle.std.proofs.Common.{◌∙◌, ap, take}
 use Rattle.std.specs.List.{list_any}
 use Rattle.proto_reqrep.specs.Lives.{LivesView}
-use Rattle.proto_reqrep.proofs.Spotted.{calm_closed}
+use Rattle.proto_requests.proofs.Spotted.{calm_closed}
 use Rattle.proto_reqrep.proofs.lives.Lives.reserve.Goals as goal
 
 pub returns-in-Ok-clause-calm : goal.returns-in-Ok-clause-calm

@@ -1,8 +1,8 @@
 use Rattle.std.proofs.Common.{◌≡◌, ◌∙◌, ap, subst}
 use Rattle.std.specs.Prelude.{drop}
 use Rattle.proto_reqrep.specs.Lives.{LivesView}
-use Rattle.proto_reqrep.specs.Spots.{held}
-use Rattle.proto_reqrep.proofs.Spotted.{back_is}
+use Rattle.proto_requests.specs.Spots.{held}
+use Rattle.proto_requests.proofs.Spotted.{back_is}
 use Rattle.proto_reqrep.proofs.lives.Lives.rest.Goals as goal
 
 pub returns-clause-all : goal.returns-clause-all

@@ -2,9 +2,9 @@ use Rattle.std.proofs.Common.{◌≡◌, ◌∙◌, sym, ap, false, Some, None, 
 use Rattle.std.specs.Prelude.{drop}
 use Rattle.std.specs.List.{position, list_any}
 use Rattle.proto_reqrep.specs.Lives.{LivesView}
-use Rattle.proto_reqrep.specs.Spots.{holds}
-use Rattle.proto_reqrep.proofs.Spotted.{none_before_is}
-use Rattle.proto_reqrep.proofs.Calming.{nowhere_past, place_past, none_to, none_at_all}
+use Rattle.proto_requests.specs.Spots.{holds}
+use Rattle.proto_requests.proofs.Spotted.{none_before_is}
+use Rattle.proto_requests.proofs.FirstPlaces.{nowhere_past, place_past, none_to, none_at_all}
 use Rattle.proto_reqrep.proofs.lives.Lives.skip.Goals as goal
 
 pub returns-in-None-clause-calm : goal.returns-in-None-clause-calm

@@ -2,16 +2,16 @@ use Rattle.std.proofs.Common.{◌≡◌, ◌∙◌, sym, ap, subst, true, Some, 
 use Rattle.std.specs.Prelude.{find}
 use Rattle.std.specs.Vec.{with_items}
 use Rattle.std.specs.List.{position, list_any}
-use Rattle.proto_reqrep.specs.Backlogs.{IsIndexed}
-use Rattle.proto_reqrep.specs.Numbers.{is_known}
+use Rattle.proto_requests.specs.Backlogs.{IsIndexed}
+use Rattle.proto_requests.specs.Numbers.{is_known}
 use Rattle.proto_reqrep.specs.Lives.{LivesView}
 use Rattle.proto_reqrep.specs.Reqs.{is_live_on, live_ctx}
-use Rattle.proto_reqrep.specs.Spots.{holds, held}
-use Rattle.proto_reqrep.specs.declared.spots.Spot.{Spot}
-use Rattle.proto_reqrep.specs.Reqs.{without_found}
-use Rattle.proto_reqrep.proofs.Positions.{without_none}
-use Rattle.proto_reqrep.proofs.NumberIndexes.{found_less}
-use Rattle.proto_reqrep.proofs.Spotted.{not_there, never, inside, fewer_one, items_are, none_before_is}
+use Rattle.proto_requests.specs.Spots.{holds, held}
+use Rattle.proto_requests.specs.declared.spots.Spot.{Spot}
+use Rattle.proto_requests.specs.FirstFound.{without_found}
+use Rattle.proto_requests.proofs.Positions.{without_none}
+use Rattle.proto_reqrep.proofs.LiveIndexes.{found_less}
+use Rattle.proto_requests.proofs.Spotted.{not_there, never, inside, fewer_one, items_are, none_before_is}
 use Rattle.proto_reqrep.proofs.lives.Lives.take_live.Goals as goal
 
 pub empty-requires : goal.empty-requires

@@ -1,5 +1,5 @@
 use Rattle.std.proofs.Common.{rules}
-use Rattle.proto_reqrep.proofs.Spotted.{none_of_none}
+use Rattle.proto_requests.proofs.Spotted.{none_of_none}
 use Rattle.proto_reqrep.proofs.Hinted.{ready_none}
 use Rattle.proto_reqrep.proofs.req.Request.new.Goals as goal
 

@@ -3,9 +3,9 @@ use Rattle.std.specs.Prelude.{find}
 use Rattle.std.specs.List.{position}
 use Rattle.std.specs.Option.{option_map}
 use Rattle.proto_reqrep.specs.Reqs.{is_due, live_ctx}
-use Rattle.proto_reqrep.specs.Spots.{holds, held}
-use Rattle.proto_reqrep.specs.declared.spots.Spot.{Spot}
-use Rattle.proto_reqrep.proofs.Spotted.{find_past}
+use Rattle.proto_requests.specs.Spots.{holds, held}
+use Rattle.proto_requests.specs.declared.spots.Spot.{Spot}
+use Rattle.proto_requests.proofs.Spotted.{find_past}
 use Rattle.proto_reqrep.proofs.req.Request.next_due.Goals as goal
 
 pub returns-clause-calm : goal.returns-clause-calm

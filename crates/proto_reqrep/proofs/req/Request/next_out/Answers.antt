@@ -3,7 +3,7 @@ use Rattle.proto_reqrep.specs.declared.req.Asking.{Asking}
 use Rattle.proto_reqrep.specs.Reqs.{is_sending, is_due, out_offer, live_ctx}
 use Rattle.sp_proto.specs.declared.Offer.TheVariants as offers
 use Rattle.sp_base.specs.declared.OpName.{OpName}
-use Rattle.proto_reqrep.proofs.Spotted.{mapped, unmapped}
+use Rattle.proto_requests.proofs.Spotted.{mapped, unmapped}
 use Rattle.proto_reqrep.proofs.req.Request.next_out.Goals as goal
 
 pub returns-in-Some-clause-offer : goal.returns-in-Some-clause-offer

@@ -3,7 +3,7 @@ use Rattle.std.specs.Prelude.{not}
 use Rattle.std.specs.Option.{option_map}
 use Rattle.proto_reqrep.specs.declared.req.Asking.{Asking}
 use Rattle.proto_reqrep.specs.Reqs.{gets, is_sending}
-use Rattle.proto_reqrep.proofs.KnownOperations.{both_true}
+use Rattle.proto_requests.proofs.KnownOperations.{both_true}
 use Rattle.proto_reqrep.proofs.req.Request.search_give.Goals as goal
 
 pub returns : goal.returns

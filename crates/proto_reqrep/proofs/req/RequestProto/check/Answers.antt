@@ -1,6 +1,6 @@
 use Rattle.std.proofs.Common.{◌≡◌, refl, true, false, rules, subst}
 use Rattle.std.specs.Prelude.{not, ◌||◌, ◌==◌}
-use Rattle.proto_reqrep.proofs.Checked.{zero_is, cooked_is, state_held, no_state}
+use Rattle.proto_requests.proofs.TestValues.{zero_is, cooked_is, state_held, no_state}
 use Rattle.proto_reqrep.proofs.ReqArrivals.{refused_for, never_raw, does_is, open_is}
 use Rattle.proto_reqrep.proofs.req.RequestProto.check.Goals.{else-self-via-then-self+else-c-ne0, else-self-via-else-self, else-not-self-via-then-not-self+else-has_state, else-not-self-via-else-not-self}
 use Rattle.proto_reqrep.proofs.req.RequestProto.check.Goals as goal

@@ -1,7 +1,7 @@
 use Rattle.std.proofs.Common.{sym}
 use Rattle.proto_reqrep.proofs.Reaching.{wetted_opened}
 use Rattle.proto_reqrep.proofs.ReqArrivals.{ticked_asked, later, opened_seats, asked_live, opened_live}
-use Rattle.proto_reqrep.proofs.Spotted.{none_of_none}
+use Rattle.proto_requests.proofs.Spotted.{none_of_none}
 use Rattle.proto_reqrep.proofs.req.RequestProto.clock.Goals as goal
 
 pub returns-clause-ticked : goal.returns-clause-ticked

@@ -1,7 +1,7 @@
 use Rattle.std.proofs.Common.{rules, ◌≡◌, [], ap, map}
 use Rattle.proto_reqrep.specs.Reqs.{item_of}
 use Rattle.proto_reqrep.proofs.ReqArrivals.{closed_asked, closed_opened, asked_live, opened_live}
-use Rattle.proto_reqrep.proofs.Spotted.{none_of_none}
+use Rattle.proto_requests.proofs.Spotted.{none_of_none}
 use Rattle.proto_reqrep.proofs.Hinted.{ready_none}
 use Rattle.proto_reqrep.proofs.req.RequestProto.close.Goals as goal
 

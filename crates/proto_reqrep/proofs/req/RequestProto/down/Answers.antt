@@ -1,7 +1,7 @@
-use Rattle.proto_reqrep.proofs.KnownPipes.{down_knows, down_free}
+use Rattle.proto_requests.proofs.KnownPipes.{down_knows, down_free}
 use Rattle.proto_reqrep.proofs.WorkLeft.{less_free, count_most}
 use Rattle.proto_reqrep.proofs.ReqArrivals.{down_items, asked_live, opened_live}
-use Rattle.proto_reqrep.proofs.Spotted.{none_of_none}
+use Rattle.proto_requests.proofs.Spotted.{none_of_none}
 use Rattle.proto_reqrep.proofs.req.RequestProto.down.Goals as goal
 
 pub returns-clause-down : goal.returns-clause-down

@@ -1,6 +1,6 @@
 use Rattle.std.proofs.Common.{refl}
-use Rattle.proto_reqrep.proofs.KnownPipes.{fresh_knows}
-use Rattle.proto_reqrep.specs.Ports.{cleared}
+use Rattle.proto_requests.proofs.KnownPipes.{fresh_knows}
+use Rattle.proto_requests.specs.Ports.{cleared}
 use Rattle.proto_reqrep.proofs.Calming.{calm_ports}
 use Rattle.proto_reqrep.proofs.req.RequestProto.fresh.Goals as goal
 

@@ -1,7 +1,7 @@
 use Rattle.std.proofs.Common.{refl}
-use Rattle.proto_reqrep.proofs.KnownPipes.{full_knows, full_free}
+use Rattle.proto_requests.proofs.KnownPipes.{full_knows, full_free}
 use Rattle.proto_reqrep.proofs.WorkLeft.{less_free, count_most}
-use Rattle.proto_reqrep.specs.Ports.{marked}
+use Rattle.proto_requests.specs.Ports.{marked}
 use Rattle.proto_reqrep.proofs.Calming.{calm_ports}
 use Rattle.proto_reqrep.proofs.req.RequestProto.full.Goals as goal
 

@@ -2,12 +2,12 @@ use Rattle.std.proofs.Common.{◌≡◌, ◌∙◌, ◌≤◌, sym, ap, subst, a
 use Rattle.std.specs.Prelude.{not, ◌||◌}
 use Rattle.proto_reqrep.specs.declared.req.Asking.{Asking}
 use Rattle.proto_reqrep.specs.declared.req.Request.{Request as Machine}
-use Rattle.proto_reqrep.specs.Ports.{PortsView}
+use Rattle.proto_requests.specs.Ports.{PortsView}
 use Rattle.proto_reqrep.specs.Reqs.{gets, is_given, Ties, work_left, AreCalm, IsCalm, IsNextPipe, begun_of, out_offer, is_sending, is_due}
 use Rattle.sp_base.specs.declared.OpName.{OpName}
 use Rattle.sp_history.specs.declared.entry.Cause.TheVariants as causes
 use Rattle.sp_proto.specs.Machines.{CanFinish, CanGive}
-use Rattle.proto_reqrep.proofs.Spotted.{mapped, unmapped}
+use Rattle.proto_requests.proofs.Spotted.{mapped, unmapped}
 use Rattle.proto_reqrep.proofs.Offering.{can_finish, can_give, first_gift, gift_given, left_gift, no_gift, none_any, is_next, sent_on, again_on, out_right, never_floods_out, idle_full, no_port, some_port}
 use Rattle.proto_reqrep.proofs.ReqArrivals.{asked_live, opened_live}
 use Rattle.proto_reqrep.proofs.req.RequestProto.offer.Goals as goal

@@ -1,5 +1,5 @@
 use Rattle.std.proofs.Common.{false}
-use Rattle.proto_reqrep.proofs.KnownPipes.{up_knows, known_below}
+use Rattle.proto_requests.proofs.KnownPipes.{up_knows, known_below}
 use Rattle.proto_reqrep.proofs.Calming.{calm_up}
 use Rattle.proto_reqrep.proofs.req.RequestProto.up.Goals as goal
 

@@ -1,6 +1,7 @@
 use Rattle.std.proofs.Common.{ap}
 use Rattle.std.specs.Prelude.{not}
-use Rattle.proto_reqrep.proofs.ReqArrivals.{wants_all, not_both}
+use Rattle.proto_reqrep.proofs.ReqArrivals.{wants_all}
+use Rattle.proto_requests.proofs.TestValues.{not_both}
 use Rattle.proto_reqrep.proofs.req.RequestProto.wants.Goals as goal
 
 pub returns-else-not-self : goal.returns-else-not-self

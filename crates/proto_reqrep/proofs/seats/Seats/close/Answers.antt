@@ -2,9 +2,9 @@ use Rattle.std.proofs.Common.{◌∙◌, sym, ap, subst, Bool}
 use Rattle.std.specs.Prelude.{not, ◌==◌}
 use Rattle.std.specs.List.{list_any}
 use Rattle.proto_reqrep.specs.declared.req.RequestContext.{RequestContext}
-use Rattle.proto_reqrep.specs.Ordered.{AreOrdered}
+use Rattle.proto_requests.specs.Ordered.{AreOrdered}
 use Rattle.proto_reqrep.specs.Reqs.{seat_ctx}
-use Rattle.proto_reqrep.proofs.NumberOrder.{ordered_filtered}
+use Rattle.proto_requests.proofs.NumberOrder.{ordered_filtered}
 use Rattle.proto_reqrep.proofs.Seated.{wet_less}
 use Rattle.proto_reqrep.proofs.seats.Seats.close.Goals as goal
 

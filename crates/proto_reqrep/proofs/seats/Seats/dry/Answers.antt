@@ -1,9 +1,9 @@
 use Rattle.std.proofs.Common.{◌∙◌, ap, map}
 use Rattle.proto_reqrep.specs.Seats.{SeatsView}
 use Rattle.proto_reqrep.specs.Reqs.{seat_ctx, dried}
-use Rattle.proto_reqrep.proofs.NumberOrder.{ordered_same}
+use Rattle.proto_requests.proofs.NumberOrder.{ordered_same}
 use Rattle.proto_reqrep.proofs.Seated.{dry_ctxs}
-use Rattle.proto_reqrep.proofs.ReqArrivals.{any_written}
+use Rattle.proto_requests.proofs.Positions.{any_written}
 use Rattle.proto_reqrep.proofs.seats.Seats.dry.Goals as goal
 
 pub invariant_of-self : goal.invariant_of-self

@@ -1,11 +1,11 @@
 use Rattle.std.proofs.Common.{◌∙◌, sym, ap, subst}
 use Rattle.std.specs.Prelude.{is_some}
 use Rattle.std.specs.List.{position, list_any}
-use Rattle.proto_reqrep.specs.Backlogs.{is_of}
-use Rattle.proto_reqrep.specs.Ordered.{AreOrdered}
+use Rattle.proto_requests.specs.Backlogs.{is_of}
+use Rattle.proto_requests.specs.Ordered.{AreOrdered}
 use Rattle.proto_reqrep.specs.Seats.{SeatsView}
 use Rattle.proto_reqrep.specs.Reqs.{seat_ctx}
-use Rattle.proto_reqrep.proofs.NumberOrder.{some_place}
+use Rattle.proto_requests.proofs.NumberOrder.{some_place}
 use Rattle.proto_reqrep.proofs.seats.Seats.has.Goals as goal
 
 pub returns : goal.returns

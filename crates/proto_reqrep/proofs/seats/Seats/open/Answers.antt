@@ -1,9 +1,9 @@
 use Rattle.std.proofs.Common.{◌≡◌, ◌∙◌, rules, sym, ap, subst, true, false, ◌++◌, ◌∷◌, []}
 use Rattle.std.specs.List.{list_all, list_any}
 use Rattle.proto_reqrep.specs.declared.req.RequestContext.{RequestContext}
-use Rattle.proto_reqrep.specs.Ordered.{is_before, AreOrdered}
+use Rattle.proto_requests.specs.Ordered.{is_before, AreOrdered}
 use Rattle.proto_reqrep.specs.Reqs.{seat_ctx}
-use Rattle.proto_reqrep.proofs.NumberOrder.{ordered_more}
+use Rattle.proto_requests.proofs.NumberOrder.{ordered_more}
 use Rattle.proto_reqrep.proofs.Seated.{wet_more}
 use Rattle.proto_reqrep.proofs.seats.Seats.open.Goals as goal
 

@@ -3,9 +3,9 @@ use Rattle.std.specs.List.{list_any}
 use Rattle.proto_reqrep.specs.declared.req.RequestContext.{RequestContext}
 use Rattle.proto_reqrep.specs.Seats.{SeatsView}
 use Rattle.proto_reqrep.specs.Reqs.{seat_ctx, wetted}
-use Rattle.proto_reqrep.proofs.NumberOrder.{ordered_same}
+use Rattle.proto_requests.proofs.NumberOrder.{ordered_same}
 use Rattle.proto_reqrep.proofs.Seated.{wet_already, none_wet, wet_ctxs}
-use Rattle.proto_reqrep.proofs.ReqArrivals.{any_written}
+use Rattle.proto_requests.proofs.Positions.{any_written}
 use Rattle.proto_reqrep.proofs.seats.Seats.wet.Goals as goal
 
 pub returns-then-self : goal.returns-then-self

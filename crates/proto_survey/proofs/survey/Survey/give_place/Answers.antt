@@ -1,7 +1,7 @@
 use Rattle.std.proofs.Common.{◌≡◌, ◌∙◌, sym, ap, List, Some, None}
 use Rattle.std.specs.Prelude.{find}
 use Rattle.std.specs.List.{position}
-use Rattle.proto_reqrep.proofs.Positions.{found_at, not_found}
+use Rattle.proto_requests.proofs.Positions.{found_at, not_found}
 use Rattle.proto_survey.specs.declared.waiting.SurveyOperation.{SurveyOperation}
 use Rattle.proto_survey.specs.Lives.{SurveyView}
 use Rattle.proto_survey.specs.Askings.{receives_on}

@@ -1,7 +1,7 @@
 use Rattle.std.proofs.Common.{◌≡◌, ◌∙◌, sym, ap, refl, map, List, false}
 use Rattle.std.specs.List.{list_any}
 use Rattle.std.specs.Vec.{with_items}
-use Rattle.proto_reqrep.proofs.ReqArrivals.{any_written}
+use Rattle.proto_requests.proofs.Positions.{any_written}
 use Rattle.proto_survey.specs.declared.waiting.SurveyEnd.TheVariants as ends
 use Rattle.proto_survey.specs.Lives.{SurveyView, is_over, over_on}
 use Rattle.proto_survey.specs.Askings.{left_by}

@@ -2,7 +2,7 @@ use Rattle.std.proofs.Common.{◌≡◌, ◌∙◌, sym, ap, arith, Some, None, 
 use Rattle.std.specs.List.{position}
 use Rattle.sp_history.specs.Moments.{past}
 use Rattle.proto_floods.proofs.Copying.{calm}
-use Rattle.proto_reqrep.proofs.Positions.{found_at, not_found}
+use Rattle.proto_requests.proofs.Positions.{found_at, not_found}
 use Rattle.proto_survey.specs.declared.waiting.SurveyOperation.{SurveyOperation}
 use Rattle.proto_survey.specs.Askings.{is_sending}
 use Rattle.proto_survey.specs.Surveys.{IsNext}

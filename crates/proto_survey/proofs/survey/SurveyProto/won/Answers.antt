@@ -4,7 +4,7 @@ use Rattle.std.specs.Option.{option_map}
 use Rattle.std.specs.Prelude.{find, List}
 use Rattle.sp_history.specs.declared.parts.Begun.{Begun}
 use Rattle.sp_proto.specs.Kinds.{text_of}
-use Rattle.proto_reqrep.specs.Reqs.{with_found}
+use Rattle.proto_requests.specs.FirstFound.{with_found}
 use Rattle.proto_survey.specs.Lives.{SurveyView, is_live_on, given_from, first_in}
 use Rattle.proto_floods.proofs.Sending.{won_send}
 use Rattle.proto_survey.proofs.Writing.{found_written}

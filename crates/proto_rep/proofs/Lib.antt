@@ -1,0 +1,9 @@
+pub mod ListFronts
+pub mod OperationsLeft
+pub mod Homes
+pub mod Replied
+pub mod RepEnds
+pub mod Offered
+pub mod RepFrames
+pub mod Checked
+pub mod Roles

@@ -1,0 +1,175 @@
+-- What a rep stands for.
+use Rattle.std.specs.Prelude.{◌≡◌, ◌≤◌, ◌==◌, ◌&&◌, ℕ, Bool, true, false, not, ⊤, if◌then◌else◌, List, [], ◌∷◌, ◌++◌, map, find, drop, Option, Some, None, is_some}
+use Rattle.std.specs.List.{list_any}
+use Rattle.std.specs.Option.{option_map}
+use Rattle.sp_base.specs.declared.OpName.{OpName}
+use Rattle.sp_base.specs.declared.role.Role.{Role}
+use Rattle.sp_base.specs.declared.role.Role.TheVariants as role
+use Rattle.sp_msg.specs.Views.{MessageView}
+use Rattle.sp_history.specs.declared.entry.RecordedAct.{RecordedAct}
+use Rattle.sp_history.specs.declared.entry.RecordedAct.TheVariants.{Recv, Send}
+use Rattle.sp_history.specs.declared.parts.Begun.{Begun}
+use Rattle.sp_history.specs.declared.parts.Item.{Item}
+use Rattle.sp_history.specs.declared.parts.Origin.{Origin}
+use Rattle.sp_history.specs.declared.setting.Options.{Options}
+use Rattle.sp_history.specs.Lists.{has, same_op, first_word}
+use Rattle.sp_history.specs.Once.{AreApart}
+use Rattle.sp_history.specs.Moments.{Moment}
+use Rattle.sp_proto.specs.Kinds.{Kind, text_of}
+use Rattle.sp_proto.specs.Readings.{MomentReading, reading}
+use Rattle.sp_proto.specs.declared.Offer.{Offer}
+use Rattle.sp_proto.specs.declared.Verb.{Verb}
+use Rattle.sp_proto.specs.declared.Verb.TheVariants as verbs
+use Rattle.sp_proto.specs.declared.Offer.TheVariants as offers
+use Rattle.proto_requests.specs.Ports.{PortView, Knows, where_is}
+use Rattle.proto_requests.specs.FirstFound.{without_found}
+use Rattle.proto_requests.specs.declared.ports.Destination.{Destination}
+use Rattle.proto_requests.specs.declared.ports.Destination.TheVariants as ways
+use Rattle.proto_rep.specs.declared.rep.Reply.{Reply}
+use Rattle.proto_rep.specs.declared.rep.KeptRequest.{KeptRequest}
+use Rattle.proto_rep.specs.declared.rep.Source.{Source}
+use Rattle.proto_rep.specs.declared.rep.ReplyContext.{ReplyContext}
+use Rattle.proto_rep.specs.declared.rep.Answer.{Answer}
+use Rattle.proto_rep.specs.declared.rep.ReplyOperation.{ReplyOperation}
+use Rattle.proto_rep.specs.declared.rep.ReplyRole.{ReplyRole}
+use Rattle.proto_rep.specs.declared.rep.ReplyRole.TheVariants as sides
+
+abbrev pub role_of : ReplyRole → Role
+role_of sides.Rep = role.Rep
+role_of sides.Respondent = role.Respondent
+
+-- a rep or a respondent, cooked or raw
+abbrev pub reply_kind : Role → Bool → Options → Kind
+reply_kind r raw options = record { role = r; raw = raw; options = options }
+
+abbrev pub item_of : KeptRequest → Item
+item_of k = record { pipe = k.pipe; words = k.words; message = text_of k.message }
+
+abbrev pub origin_of : Source → Origin
+origin_of s = record { pipe = s.pipe; words = s.words }
+
+-- ---- Contexts
+
+abbrev pub ctx_of : ReplyContext → ℕ
+ctx_of x = x.ctx
+
+abbrev pub is_home : ℕ → ReplyContext → Bool
+is_home c x = x.ctx == c
+
+abbrev pub origin_in : Option ReplyContext → Option Origin
+origin_in None = None
+origin_in (Some x) = option_map origin_of x.stored
+
+-- what is stored with the context
+abbrev pub origin_at : ℕ → List ReplyContext → Option Origin
+origin_at c xs = origin_in (find (is_home c) xs)
+
+-- ---- Operations
+
+abbrev pub act_of : Option Answer → RecordedAct
+act_of None = Recv
+act_of (Some r) = Send (text_of r.message)
+
+abbrev pub begun_of : ReplyOperation → Begun
+begun_of w = record { op = w.op; ctx = w.ctx; act = act_of w.answer }
+
+abbrev pub is_for : OpName → ReplyOperation → Bool
+is_for op w = same_op w.op op
+
+-- without the first of this name
+abbrev pub without_first : OpName → List ReplyOperation → List ReplyOperation
+without_first op ws = without_found (is_for op) ws
+
+abbrev pub is_receive : ReplyOperation → Bool
+is_receive w = not (is_some w.answer)
+
+abbrev pub state_at : List ReplyOperation → List ReplyContext → ℕ → Verb → Bool
+state_at ws xs c verbs.Recv = list_any (λ (w : ReplyOperation). is_receive w && (w.ctx == c)) ws
+state_at ws xs c verbs.Send = not (is_some (origin_at c xs))
+
+-- the pipe to which a send may go
+abbrev pub target_of : Bool → Answer → Option ℕ
+target_of true r = first_word r.message.header
+target_of false r = option_map (λ (s : Source). s.pipe) r.source
+
+abbrev pub way_of : Bool → List PortView → Answer → Destination
+way_of raw xs r = where_is xs (target_of raw r)
+
+abbrev pub isnt_full : Destination → Bool
+isnt_full ways.Full = false
+isnt_full ways.Nowhere = true
+isnt_full (ways.To p) = true
+
+abbrev pub can_go : Bool → List PortView → Option Answer → Bool
+can_go raw xs None = false
+can_go raw xs (Some r) = isnt_full (way_of raw xs r)
+
+-- a send whose pipe isn't up and full
+abbrev pub is_ready : Bool → List PortView → ReplyOperation → Bool
+is_ready raw xs w = can_go raw xs w.answer
+
+abbrev pub words_of : Option Source → List ℕ
+words_of None = []
+words_of (Some s) = s.words
+
+abbrev pub out_text : Bool → Answer → List ℕ
+out_text true r = drop 4 r.message.header ++ r.message.body
+out_text false r = words_of r.source ++ r.message.body
+
+abbrev pub way_offer : OpName → Destination → Offer
+way_offer op (ways.To p) = offers.Send op p
+way_offer op ways.Full = offers.Drop op
+way_offer op ways.Nowhere = offers.Drop op
+
+abbrev pub answer_offer : Bool → List PortView → OpName → Option Answer → Offer
+answer_offer raw xs op None = offers.Idle
+answer_offer raw xs op (Some r) = way_offer op (way_of raw xs r)
+
+abbrev pub send_offer : Bool → List PortView → Option ReplyOperation → Offer
+send_offer raw xs None = offers.Idle
+send_offer raw xs (Some w) = answer_offer raw xs w.op w.answer
+
+-- the oldest request is given, and, cooked, stored with the context
+abbrev pub Given : ℕ → Option MessageView → Reply → Reply → Option KeptRequest → Type 0
+Given c r m n None = (r ≡ None) × (m.kept.items ≡ []) × (n.places ≡ m.places)
+Given c r m n (Some k) =
+    (r ≡ Some k.message) × (m.kept.items ≡ k ∷ n.kept.items) × (map ctx_of n.places.items ≡ map ctx_of m.places.items)
+    × (m.raw ≡ true → n.places ≡ m.places)
+    × (m.raw ≡ false → has (map ctx_of m.places.items) c ≡ true → (d : ℕ) → origin_at d n.places.items ≡ (if c == d then Some (record { pipe = k.pipe; words = k.words }) else origin_at d m.places.items))
+
+abbrev pub Gives : ℕ → Option MessageView → Reply → Reply → Type 0
+Gives c r m n = (k : Option KeptRequest) × Given c r m n k
+
+-- ---- What it stands for
+
+-- each send has the request that it answers
+abbrev pub Routed : (OpName → Option Origin) → List ReplyOperation → Type 0
+Routed routes [] = ⊤
+Routed routes (w ∷ ws) = ((r : Answer) → w.answer ≡ Some r → option_map origin_of r.source ≡ routes w.op) × Routed routes ws
+
+-- each operation is of one of these contexts
+abbrev pub AreHome : List ℕ → List Begun → Type 0
+AreHome cs [] = ⊤
+AreHome cs (s ∷ ss) = (has cs s.ctx ≡ true) × AreHome cs ss
+
+-- The machine is of this kind; knows these pipes as up and which of them are full; keeps these items; has these operations
+-- pending, the oldest first, each on an open context; and has stored, with each context and with each pending send, this
+-- request
+pub record Shows (m : Reply) (k : Kind) (us : List ℕ) (last : ℕ) (full : ℕ → Bool) (is : List Item) (ss : List Begun) (cs : List ℕ) (st : ℕ → Option Origin) (routes : OpName → Option Origin) : Type 0 where
+  pub kind : k ≡ reply_kind (role_of m.role) m.raw m.options
+  pub most : m.options.ttl ≤ 15
+  pub pipes : Knows m.ports.items us last full
+  pub items : map item_of m.kept.items ≡ is
+  pub pending : map begun_of m.waiting.items ≡ ss
+  pub apart : AreApart ss
+  pub contexts : map ctx_of m.places.items ≡ cs
+  pub homes : AreHome cs ss
+  pub stored : (c : ℕ) → origin_at c m.places.items ≡ st c
+  pub routed : Routed routes m.waiting.items
+
+-- it shows what it reads of a moment
+abbrev pub Stands : Reply → MomentReading → Type 0
+Stands m r = Shows m r.kind r.up r.ups r.full (r.pool 0) r.pend r.ctxs r.stored r.route
+
+abbrev pub Ties : Reply → Moment → Type 0
+Ties m t = Stands m (reading t)

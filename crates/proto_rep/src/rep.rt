@@ -1,0 +1,514 @@
+//! The machine of rep, and of respondent.
+ghost use Rattle.std.specs.Prelude.{◌≡◌, ◌≤◌, ◌<◌, ◌+◌, ◌==◌, ℕ, List, [], Some, None, IfOk, IfSome, OnOk, not, map, filter, find, length, option_to_list, if◌then◌else◌, ◌∷◌, ◌&&◌, true, is_some};
+ghost use Rattle.std.specs.Option.{option_map};
+ghost use Rattle.std.specs.List.{position, list_any};
+ghost use Rattle.sp_base.specs.declared.role.Role.TheVariants as role;
+ghost use Rattle.sp_history.specs.Options.{Fits};
+ghost use Rattle.sp_history.specs.Lists.{has};
+ghost use Rattle.sp_history.specs.Frames.{traced_item};
+ghost use Rattle.sp_history.specs.Backtrace.{back};
+ghost use Rattle.sp_history.specs.declared.parts.Back.TheVariants.{Found};
+ghost use Rattle.sp_msg.specs.Views.{wire_text};
+ghost use Rattle.sp_proto.specs.Kinds.{Starts, entry_act};
+ghost use Rattle.proto_rep.specs.declared.rep.ReplyOperation.{ReplyOperation as ReplyOperationType};
+ghost use Rattle.proto_rep.specs.declared.rep.Answer.{Answer as AnswerType};
+ghost use Rattle.proto_requests.specs.Spots.{holds};
+ghost use Rattle.proto_rep.specs.Reps.{Ties, reply_kind, role_of, item_of, origin_of, origin_at, is_for, is_home, is_receive, is_ready, way_of, out_text, without_first, ctx_of, send_offer, Gives, act_of, state_at};
+
+use crate::places::Places;
+use proto_requests::backlog::{Backlog, FromPipe};
+use proto_requests::ports::{Destination, Ports};
+use proto_requests::spots::Spot;
+use proto_requests::trail::{BacktraceWords, Trail, first_word, scan};
+use proto_requests::waits::{Waiter, Waits};
+use sp_base::{Ctx, NoMemory, OpName, PipeId, Role, Tick};
+use sp_history::setting::Options;
+use sp_msg::Message;
+use sp_proto::{Act, CheckError, Offer, Proto, UpFault, Verb, Verdict};
+use std::alloc::Global;
+
+/// A request that is kept. Raw, its pipe and its words stand in the header as well.
+#[derive(Drop)]
+struct KeptRequest {
+    pipe: PipeId,
+    words: BacktraceWords,
+    message: Message,
+}
+
+impl FromPipe for KeptRequest {
+    ghost pipe_of = { λ k. k.pipe };
+
+    fn pipe(&self) -> PipeId {
+        self.pipe
+    }
+}
+
+/// Where a request came from.
+#[derive(Drop)]
+pub struct Source {
+    pub pipe: PipeId,
+    pub words: BacktraceWords,
+}
+
+/// An open context, and the request that its next send answers.
+#[derive(Drop)]
+pub struct ReplyContext {
+    pub ctx: Ctx,
+    pub stored: Option<Source>,
+}
+
+/// A send that waits: its message, as it was begun, and, cooked, the request that it answers.
+#[derive(Drop)]
+struct Answer {
+    message: Message,
+    source: Option<Source>,
+}
+
+/// An operation that waits: a send, or a receive.
+#[derive(Drop)]
+struct ReplyOperation {
+    op: OpName,
+    ctx: Ctx,
+    answer: Option<Answer>,
+}
+
+impl Waiter for ReplyOperation {
+    ghost use Rattle.std.specs.Prelude.{is_some, false};
+    ghost use Rattle.proto_rep.specs.RepLaws as laws;
+
+    ghost name_of = { λ w. w.op };
+
+    ghost home_of = { λ w. w.ctx };
+
+    ghost is_send = { λ w. is_some w.answer };
+
+    ghost is_left = { λ w. false };
+
+    ghost left = { λ w. w };
+
+    ghost left_same = { laws.left_same };
+
+    ghost left_again = { laws.left_again };
+
+    ghost may_leave = { false };
+
+    ghost left_is = { laws.left_is };
+
+    fn op(&self) -> OpName {
+        self.op
+    }
+
+    fn ctx(&self) -> Ctx {
+        self.ctx
+    }
+
+    fn sends(&self) -> bool {
+        self.answer.is_some()
+    }
+
+    fn is_over(&self) -> bool {
+        false
+    }
+
+    fn leave(&mut self) {}
+}
+
+/// Which of the two it is.
+#[derive(Clone, Copy, PartialEq, Eq, Debug)]
+enum ReplyRole {
+    Rep,
+    Respondent,
+}
+
+/// A rep (nng_rep(7)) or a respondent (nng_respondent(7)), cooked or raw.
+#[derive(Drop)]
+pub struct Reply {
+    alloc: Global,
+    role: ReplyRole,
+    raw: bool,
+    options: Options,
+    ports: Ports,
+    /// Requests.
+    kept: Backlog<KeptRequest>,
+    /// In the order of their begins.
+    waiting: Waits<ReplyOperation>,
+    /// Of the open contexts.
+    places: Places,
+}
+
+// Where a send may go.
+fn way_of(raw: bool, ports: &Ports, answer: &Answer) -> Destination
+    ensures { result ≡ way_of raw ports.now.items answer.now }
+{
+    if raw {
+        return match first_word(answer.message.header()) {
+            None => ports.way_to(None),
+            Some(p) => ports.way_to(Some(PipeId(p))),
+        };
+    }
+    match &answer.source {
+        None => ports.way_to(None),
+        Some(s) => ports.way_to(Some(s.pipe)),
+    }
+}
+
+// Whether it is a send whose pipe isn't up and full.
+fn is_ready(raw: bool, ports: &Ports, w: &ReplyOperation) -> bool
+    ensures { result ≡ is_ready raw ports.now.items w.now }
+{
+    match &w.answer {
+        None => false,
+        Some(r) => way_of(raw, ports, r) != Destination::Full,
+    }
+}
+
+// The same of a spot.
+fn is_ready_at(raw: bool, ports: &Ports, s: &Spot<ReplyOperation>) -> bool
+    ensures { result ≡ holds (is_ready raw ports.now.items) s.now }
+{
+    match &s.value {
+        None => false,
+        Some(w) => is_ready(raw, ports, w),
+    }
+}
+
+// Where the first such send stands.
+fn ready_place(raw: bool, ports: &Ports, list: &[Spot<ReplyOperation>]) -> Option<usize>
+    ensures { result ≡ position (holds (is_ready raw ports.now.items)) list.now }
+{
+    list.iter().position(|s| is_ready_at(raw, ports, s))
+}
+
+// A send of the act, with the request that it answers.
+fn answer_of(act: Act, source: Option<Source>) -> Option<Answer>
+    ensures act { act_of result ≡ entry_act act }
+    ensures source { (r : AnswerType) → result ≡ Some r → r.source ≡ source }
+{
+    match act {
+        Act::Recv => None,
+        Act::Send(message) => Some(Answer { message, source }),
+    }
+}
+
+// What goes out for a send.
+fn outward(raw: bool, answer: Answer) -> Message
+    ensures { wire_text result ≡ out_text raw answer }
+{
+    let mut message = answer.message;
+    if raw {
+        if message.header_trim_u32().is_err() {
+            message.header_clear();
+        }
+        return message;
+    }
+    message.header_clear();
+    match &answer.source {
+        None => {}
+        Some(s) => s.words.lead(&mut message),
+    }
+    message
+}
+
+// A frame with a whole backtrace, as it is kept.
+fn traced(alloc: Global, raw: bool, ttl: u8, p: PipeId, m: Message) -> Result<KeptRequest, NoMemory>
+    requires header { m.header ≡ [] }
+    ensures pipe { IfOk result (λ k. k.pipe ≡ p) }
+    ensures kept { IfOk result (λ k. (words rest : List ℕ) → back ttl m.body ≡ Found words rest → Some (item_of k) ≡ traced_item raw p (Found words rest)) }
+{
+    let mut message = m;
+    match BacktraceWords::take(alloc, &mut message, ttl) {
+        Err(e) => Err(e),
+        Ok(words) => {
+            if raw {
+                let _ = message.header_append_u32(p.0);
+                words.lead(&mut message);
+                return Ok(KeptRequest {
+                    pipe: p,
+                    words: BacktraceWords::none(alloc),
+                    message,
+                });
+            }
+            Ok(KeptRequest {
+                pipe: p,
+                words,
+                message,
+            })
+        }
+    }
+}
+
+// A machine to which nothing has happened.
+fn unused(alloc: Global, role: ReplyRole, options: Options, raw: bool) -> Result<Reply, NoMemory>
+    requires { Fits options }
+    ensures { IfOk result (λ m. Starts Ties m (reply_kind (role_of role) raw options)) }
+{
+    match Places::new(alloc) {
+        Err(e) => Err(e),
+        Ok(places) => Ok(Reply {
+            alloc,
+            role,
+            raw,
+            options,
+            ports: Ports::new(alloc),
+            kept: Backlog::new(alloc),
+            waiting: Waits::new(alloc),
+            places,
+        }),
+    }
+}
+
+/// Respondents (nng_respondent(7)), cooked or raw. They are reps of another role.
+pub struct Respond;
+
+impl Respond {
+    /// A respondent to which nothing has happened.
+    pub fn new(alloc: Global, options: Options, raw: bool) -> Result<Reply, NoMemory>
+        requires { Fits options }
+        ensures { IfOk result (λ m. Starts Ties m (reply_kind role.Respondent raw options)) }
+    {
+        unused(alloc, ReplyRole::Respondent, options, raw)
+    }
+}
+
+impl Reply {
+    /// A rep to which nothing has happened.
+    pub fn new(alloc: Global, options: Options, raw: bool) -> Result<Reply, NoMemory>
+        requires { Fits options }
+        ensures { IfOk result (λ m. Starts Ties m (reply_kind role.Rep raw options)) }
+    {
+        unused(alloc, ReplyRole::Rep, options, raw)
+    }
+
+    // The first send that can go, or is to go nowhere.
+    fn next_send(&self) -> Offer
+        ensures { result ≡ send_offer self.now.raw self.now.ports.items (find (is_ready self.now.raw self.now.ports.items) self.now.waiting.items) }
+    {
+        let list = self.waiting.sends();
+        match ready_place(self.raw, &self.ports, list) {
+            None => Offer::Idle,
+            Some(i) => match &list[i].value {
+                None => Offer::Idle,
+                Some(w) => self.send_of(w),
+            },
+        }
+    }
+
+    // The send goes out, or nowhere.
+    fn send_of(&self, w: &ReplyOperation) -> Offer
+        ensures { result ≡ send_offer self.now.raw self.now.ports.items (Some w.now) }
+    {
+        match &w.answer {
+            None => Offer::Idle,
+            Some(r) => match way_of(self.raw, &self.ports, r) {
+                Destination::To(pipe) => Offer::Send { op: w.op, pipe },
+                Destination::Full => Offer::Drop { op: w.op },
+                Destination::Nowhere => Offer::Drop { op: w.op },
+            },
+        }
+    }
+
+    // Gives the oldest request to a receive of the context, and, cooked, stores where it came from.
+    fn give(&mut self, c: Ctx) -> Option<Message>
+        ensures same { (self.new.raw ≡ self.old.raw) × (self.new.options ≡ self.old.options) × (self.new.role ≡ self.old.role) × (self.new.ports ≡ self.old.ports) × (self.new.waiting ≡ self.old.waiting) }
+        ensures given { Gives c result self.old self.new }
+    {
+        match self.kept.pop() {
+            None => None,
+            Some(
+                KeptRequest {
+                    pipe,
+                    words,
+                    message,
+                },
+            ) => {
+                if !self.raw {
+                    self.places.store(c, Source { pipe, words });
+                }
+                Some(message)
+            }
+        }
+    }
+
+    // The state of the context has no place for it.
+    fn has_state(&self, c: Ctx, verb: Verb) -> bool
+        ensures { result ≡ state_at self.now.waiting.items self.now.places.items c verb }
+    {
+        match verb {
+            Verb::Recv => self.waiting.is_receiving(c),
+            Verb::Send => !self.places.is_stored(c),
+        }
+    }
+}
+
+impl Proto for Reply {
+    ghost use Rattle.std.specs.Prelude.{◌+◌, length};
+    ghost use Rattle.proto_requests.specs.Ports.{free_count};
+    ghost use Rattle.proto_rep.specs.Reps.{Ties, reply_kind, role_of};
+    ghost use Rattle.proto_rep.specs.RepLaws as laws;
+
+    ghost kind = { λ m. reply_kind (role_of m.role) m.raw m.options };
+
+    ghost ties = { Ties };
+
+    ghost room = { λ m. m.waiting.room };
+
+    ghost left = { λ m. free_count m.ports.items + length m.waiting.items };
+
+    ghost copies = { λ m op. 0 };
+
+    ghost kinds = { laws.kinds };
+
+    ghost silent = { laws.silent };
+
+    ghost anew = { laws.anew };
+
+    fn role(&self) -> Role {
+        match self.role {
+            ReplyRole::Rep => Role::Rep,
+            ReplyRole::Respondent => Role::Respondent,
+        }
+    }
+
+    fn raw(&self) -> bool {
+        self.raw
+    }
+
+    fn reserve(&mut self, slots: u32) -> Result<(), NoMemory> {
+        self.waiting.reserve(slots)
+    }
+
+    fn up(&mut self, p: PipeId) -> Result<(), UpFault> {
+        match self.ports.push(p) {
+            Ok(()) => Ok(()),
+            Err(_) => Err(UpFault::NoMemory),
+        }
+    }
+
+    fn down(&mut self, p: PipeId) {
+        self.ports.forget(p);
+        self.kept.forget(p);
+    }
+
+    fn wants(&self, p: PipeId) -> bool {
+        !self.kept.has(p)
+    }
+
+    fn frame(&mut self, p: PipeId, m: Message) -> Verdict {
+        match scan(m.body(), self.options.ttl) {
+            Trail::Short => Verdict::Malformed,
+            Trail::TooFar => Verdict::Fine,
+            Trail::Whole => match traced(self.alloc, self.raw, self.options.ttl, p, m) {
+                Err(_) => Verdict::NoMemory,
+                Ok(k) => match self.kept.push(k) {
+                    Ok(()) => Verdict::Fine,
+                    Err(_) => Verdict::NoMemory,
+                },
+            },
+        }
+    }
+
+    fn keeps(&self, c: Ctx) -> bool {
+        let _ = c;
+        !self.kept.is_empty()
+    }
+
+    fn check(&self, c: Ctx, verb: Verb) -> Result<(), CheckError> {
+        if self.raw && c.0 != 0 {
+            return Err(CheckError::NotSupported);
+        }
+        if !self.places.has(c) {
+            return Err(CheckError::NoEntry);
+        }
+        if !self.raw && self.has_state(c, verb) {
+            return Err(CheckError::State);
+        }
+        Ok(())
+    }
+
+    fn begin(&mut self, op: OpName, c: Ctx, act: Act) -> Result<(), Message> {
+        let source = self.places.unstore(c);
+        let answer = answer_of(act, source);
+        self.waiting.push(ReplyOperation { op, ctx: c, answer });
+        Ok(())
+    }
+
+    fn fresh(&mut self) {
+        self.ports.clear();
+    }
+
+    fn offer(&mut self) -> Offer {
+        if !self.kept.is_empty() {
+            match self.waiting.first_receive() {
+                None => {}
+                Some(op) => return Offer::Give { op },
+            }
+        }
+        self.next_send()
+    }
+
+    fn full(&mut self, p: PipeId) {
+        self.ports.mark(p);
+    }
+
+    fn goes_to(&self, op: OpName, p: PipeId) -> bool {
+        let _ = op;
+        let _ = p;
+        false
+    }
+
+    fn flood(&mut self, op: OpName, p: PipeId) -> Option<Message> {
+        let _ = op;
+        let _ = p;
+        None
+    }
+
+    fn again(&mut self, c: Ctx, p: PipeId) -> Option<Message> {
+        let _ = c;
+        let _ = p;
+        None
+    }
+
+    fn won(&mut self, op: OpName, out: Option<PipeId>) -> Option<Message> {
+        let _ = out;
+        match self.waiting.take(op) {
+            None => None,
+            Some(w) => match w.answer {
+                Some(r) => Some(outward(self.raw, r)),
+                None => self.give(w.ctx),
+            },
+        }
+    }
+
+    fn lost(&mut self, op: OpName) -> Option<Message> {
+        match self.waiting.take(op) {
+            None => None,
+            Some(w) => match w.answer {
+                Some(r) => Some(r.message),
+                None => None,
+            },
+        }
+    }
+
+    fn clock(&mut self, now: Tick) {
+        let _ = now;
+    }
+
+    fn open_ctx(&mut self, c: Ctx) -> Result<(), NoMemory> {
+        self.places.open(c)
+    }
+
+    fn close_ctx(&mut self, c: Ctx) {
+        self.places.close(c);
+    }
+
+    fn topic(&mut self, c: Ctx, t: &[u8], on: bool) -> Result<bool, NoMemory> {
+        let _ = c;
+        let _ = t;
+        let _ = on;
+        Ok(false)
+    }
+
+    fn close(&mut self) {
+        self.kept.clear();
+    }
+}

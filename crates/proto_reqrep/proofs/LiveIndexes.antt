@@ -1,0 +1,91 @@
+-- What is known of live requests by their contexts and ids, when one begins, ends or changes; and where one stands.
+use Rattle.std.proofs.Common.{◌≡◌, refl, ap, sym, ◌∙◌, List, [], ◌∷◌, ◌++◌, ℕ, Bool, true, false, cond, Some, None, map}
+use Rattle.std.specs.Prelude.{not, find, is_some, ◌||◌, ◌&&◌, ◌==◌}
+use Rattle.std.specs.List.{list_any}
+use Rattle.sp_history.specs.Lists.{has}
+use Rattle.sp_history.specs.Once.{AreDistinct}
+use Rattle.proto_requests.specs.Numbers.{number_at, is_known}
+use Rattle.proto_reqrep.specs.Lives.{AreFound}
+use Rattle.proto_requests.specs.FirstFound.{without_found, with_found}
+use Rattle.proto_reqrep.specs.Reqs.{is_live_on, waits_for, keeps_reply, live_ctx, live_id}
+use Rattle.proto_reqrep.specs.declared.req.Live.{Live}
+use Rattle.proto_requests.proofs.Backlogged.{kept_more}
+use Rattle.proto_requests.proofs.NumberIndexes.{some_put, some_lost, index_less, index_same, keys_with}
+use Rattle.proto_requests.proofs.TestValues.{both_false, equal_of, some_inj}
+
+pub same_ctx : (c : ℕ) (v w : Live) → is_live_on c v ≡ true → is_live_on c w ≡ true → v.ctx ≡ w.ctx
+same_ctx c v w e f = equal_of v.ctx c e ∙ sym (equal_of w.ctx c f)
+
+its_id : (n : ℕ) (v : Live) → waits_for n v ≡ true → v.id ≡ n
+its_id n v h = go (v.id == n) refl (is_some v.last_out) (not (is_some v.reply)) h
+  where
+    go : (a : Bool) → (v.id == n) ≡ a → (b d : Bool) → (a && b && d) ≡ true → v.id ≡ n
+    go true e b d h = equal_of v.id n e
+    go false e b d h = absurd cc
+
+pub same_id : (n : ℕ) (v w : Live) → waits_for n v ≡ true → waits_for n w ≡ true → v.id ≡ w.id
+same_id n v w e f = its_id n v e ∙ sym (its_id n w f)
+
+-- none waits that isn't there
+pub none_waits : (n : ℕ) (xs : List Live) → list_any (λ (x : Live). x.id == n) xs ≡ false → list_any (waits_for n) xs ≡ false
+none_waits n [] h = refl
+none_waits n (x ∷ xs) h = let no = both_false (x.id == n) (list_any (λ (x : Live). x.id == n) xs) h in ap (λ b. b || list_any (waits_for n) xs) (ap (λ b. b && is_some x.last_out && not (is_some x.reply)) no.0) ∙ none_waits n xs no.1
+
+away : (c : ℕ) (xs : List Live) → has (map live_ctx xs) c ≡ false → list_any (keeps_reply c) xs ≡ false
+away c [] h = refl
+away c (x ∷ xs) h = let no = both_false (x.ctx == c) (has (map live_ctx xs) c) h in ap (λ b. (b && is_some x.reply) || list_any (keeps_reply c) xs) no.0 ∙ away c xs no.1
+
+pub no_reply : (c : ℕ) (xs : List Live) → find (is_live_on c) xs ≡ None → list_any (keeps_reply c) xs ≡ false
+no_reply c [] f = refl
+no_reply c (x ∷ xs) f = go (x.ctx == c) f (no_reply c xs)
+  where
+    go : (b : Bool) → cond b (Some x) (find (is_live_on c) xs) ≡ None → (find (is_live_on c) xs ≡ None → list_any (keeps_reply c) xs ≡ false) → ((b && is_some x.reply) || list_any (keeps_reply c) xs) ≡ false
+    go true f again = absurd cc
+    go false f again = again f
+
+pub one_reply : (c : ℕ) (xs : List Live) (x : Live) → AreDistinct (map live_ctx xs) → find (is_live_on c) xs ≡ Some x → is_some x.reply ≡ list_any (keeps_reply c) xs
+one_reply c [] x h f = absurd cc
+one_reply c (y ∷ ys) x h f = go (y.ctx == c) refl f (one_reply c ys x h.1)
+  where
+    or_false : (b : Bool) → b ≡ (b || false)
+    or_false true = refl
+    or_false false = refl
+
+    go : (b : Bool) → (y.ctx == c) ≡ b → cond b (Some y) (find (is_live_on c) ys) ≡ Some x → (find (is_live_on c) ys ≡ Some x → is_some x.reply ≡ list_any (keeps_reply c) ys) → is_some x.reply ≡ ((b && is_some y.reply) || list_any (keeps_reply c) ys)
+    go true e f again =
+        let none : list_any (keeps_reply c) ys ≡ false = away c ys (ap (has (map live_ctx ys)) (sym (equal_of y.ctx c e)) ∙ h.0) in
+        ap (λ (v : Live). is_some v.reply) (sym (some_inj y x f)) ∙ or_false (is_some y.reply) ∙ ap (λ b. is_some y.reply || b) (sym none)
+    go false e f again = again f
+
+pub found_less : (c : ℕ) (cs ids ds is : List (ℕ × ℕ)) (xs ys : List Live) (x : Live) → AreFound cs ids xs → find (is_live_on c) xs ≡ Some x → ((q : ℕ) → number_at ds q ≡ cond (x.ctx == q) None (number_at cs q)) → ((q : ℕ) → number_at is q ≡ cond (x.id == q) None (number_at ids q))
+    → ys ≡ without_found (is_live_on c) xs → AreFound ds is ys
+found_less c cs ids ds is xs ys x h f u v e =
+    record {
+      by_ctx = index_less live_ctx (is_live_on c) (is_known cs) (is_known ds) xs ys x h.by_ctx f (λ q. ap is_some (u q) ∙ some_lost (x.ctx == q) (number_at cs q)) e;
+      by_id = index_less live_id (is_live_on c) (is_known ids) (is_known is) xs ys x h.by_id f (λ q. ap is_some (v q) ∙ some_lost (x.id == q) (number_at ids q)) e;
+    }
+
+pub found_more : (n : ℕ) (cs ids ds is : List (ℕ × ℕ)) (xs ys : List Live) (x : Live) → AreFound cs ids xs → (is_known cs x.ctx ≡ false) × ((q : ℕ) → number_at ds q ≡ cond (x.ctx == q) (Some n) (number_at cs q)) → (is_known ids x.id ≡ false) × ((q : ℕ) → number_at is q ≡ cond (x.id == q) (Some n) (number_at ids q))
+    → ys ≡ xs ++ x ∷ [] → AreFound ds is ys
+found_more n cs ids ds is xs ys x h u v e =
+    record {
+      by_ctx = kept_more live_ctx (is_known cs) (is_known ds) xs ys x h.by_ctx u.0 (λ q. ap is_some (u.1 q) ∙ some_put (x.ctx == q) n (number_at cs q)) e;
+      by_id = kept_more live_id (is_known ids) (is_known is) xs ys x h.by_id v.0 (λ q. ap is_some (v.1 q) ∙ some_put (x.id == q) n (number_at ids q)) e;
+    }
+
+pub found_same : (P : Live → Bool) (f : Live → Live) (cs ids : List (ℕ × ℕ)) (xs ys : List Live) → ((x : Live) → (f x).ctx ≡ x.ctx) → ((x : Live) → (f x).id ≡ x.id) → AreFound cs ids xs → ys ≡ with_found P f xs → AreFound cs ids ys
+found_same P f cs ids xs ys s t h e =
+    record {
+      by_ctx = index_same live_ctx (is_known cs) xs ys h.by_ctx (ap (map live_ctx) e ∙ keys_with live_ctx P f xs s);
+      by_id = index_same live_id (is_known ids) xs ys h.by_id (ap (map live_id) e ∙ keys_with live_id P f xs t);
+    }
+
+-- the same numbers are known
+pub found_again : (cs ids ds is : List (ℕ × ℕ)) (xs ys : List Live) → ((q : ℕ) → number_at ds q ≡ number_at cs q) → ((q : ℕ) → number_at is q ≡ number_at ids q) → ys ≡ xs → AreFound cs ids xs → AreFound ds is ys
+found_again cs ids ds is xs ys u v e h =
+    rw e (
+    record {
+      by_ctx = (λ q. ap is_some (u q) ∙ h.by_ctx.0 q, h.by_ctx.1);
+      by_id = (λ q. ap is_some (v q) ∙ h.by_id.0 q, h.by_id.1);
+    }
+    )

@@ -1,4 +1,0 @@
-use Rattle.proto_reqrep.proofs.numbers.Numbers.remove.Goals as goal
-
-pub returns : goal.returns
-returns c = λ q. rw (← c.self.view_is) (c.remove.ensures.updates.0 q)

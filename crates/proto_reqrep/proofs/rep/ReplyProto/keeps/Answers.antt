@@ -1,6 +1,0 @@
-use Rattle.std.proofs.Common.{refl}
-use Rattle.proto_reqrep.proofs.Replied.{keeps_means}
-use Rattle.proto_reqrep.proofs.rep.ReplyProto.keeps.Goals as goal
-
-pub returns : goal.returns
-returns c = λ t l h r o. keeps_means c.args.self.now t c.args.c _ _ h refl c.is_empty.ensures

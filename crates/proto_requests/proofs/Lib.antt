@@ -1,0 +1,14 @@
+pub mod TestValues
+pub mod NumbersIn
+pub mod FirstPlaces
+pub mod Backlogged
+pub mod Positions
+pub mod PortsInOrder
+pub mod Piping
+pub mod KnownPipes
+pub mod NamesApart
+pub mod NumberOrder
+pub mod NumberIndexes
+pub mod Trailing
+pub mod Spotted
+pub mod KnownOperations

@@ -1,0 +1,10 @@
+pub mod FirstFound
+pub mod Ids
+pub mod Ports
+pub mod Backlogs
+pub mod Ordered
+pub mod Numbers
+pub mod Spots
+pub mod Waits
+pub mod Trails
+pub mod Hints

@@ -1,0 +1,139 @@
+-- The pipes that a machine knows as up, and which of them it found full.
+use Rattle.std.specs.Prelude.{◌≡◌, ◌<◌, ◌≤◌, ℕ, ◌+◌, ◌^◌, ◌==◌, ◌&&◌, ◌||◌, nat_lt, nat_le, Bool, true, false, not, ⊤, if◌then◌else◌, List, [], ◌∷◌, map, find, Option, Some, None}
+use Rattle.sp_history.specs.Lists.{has}
+use Rattle.proto_requests.specs.declared.ports.Held.{Held}
+use Rattle.proto_requests.specs.declared.ports.Destination.{Destination}
+use Rattle.proto_requests.specs.declared.ports.Destination.TheVariants as ways
+
+-- a pipe that is up, and whether it was found full in this turn
+pub record PortView : Type 0 where
+  pub pipe : ℕ
+  pub is_full : Bool
+
+-- the pipes that are up
+pub record PortsView : Type 0 where
+  pub items : List PortView
+
+-- a pipe that is up, where these pipes are full
+abbrev pub port_of : (ℕ → Bool) → ℕ → PortView
+port_of full p = record { pipe = p; is_full = full p }
+
+-- with this pipe found full
+abbrev pub marked : ℕ → PortView → PortView
+marked p x = record { pipe = x.pipe; is_full = (p == x.pipe) || x.is_full }
+
+abbrev pub cleared : PortView → PortView
+cleared x = record { pipe = x.pipe; is_full = false }
+
+abbrev pub is_pipe : ℕ → PortView → Bool
+is_pipe p x = x.pipe == p
+
+abbrev pub is_free : PortView → Bool
+is_free x = not x.is_full
+
+-- the one, or else the other
+abbrev pub or_else : {A : Type 0} → Option A → Option A → Option A
+or_else None y = y
+or_else (Some x) y = Some x
+
+-- the first of the pipes that is free and behind this number, or else the first that is free
+abbrev pub next_number : (ℕ → Bool) → ℕ → List ℕ → Option ℕ
+next_number free last us = or_else (find (λ q. free q && nat_lt last q) us) (find free us)
+
+abbrev pub is_free_behind : ℕ → PortView → Bool
+is_free_behind last x = is_free x && nat_lt last x.pipe
+
+abbrev pub next_port : ℕ → List PortView → Option PortView
+next_port last xs = or_else (find (is_free_behind last) xs) (find is_free xs)
+
+-- how many of the pipes are not full
+abbrev pub free_count : List PortView → ℕ
+free_count [] = 0
+free_count (x ∷ xs) = if x.is_full then free_count xs else free_count xs + 1
+
+abbrev pub way_at : ℕ → Option PortView → Destination
+way_at p None = ways.Nowhere
+way_at p (Some x) = if x.is_full then ways.Full else ways.To p
+
+-- whether what goes to this pipe alone can go
+abbrev pub where_is : List PortView → Option ℕ → Destination
+where_is xs None = ways.Nowhere
+where_is xs (Some p) = way_at p (find (is_pipe p) xs)
+
+-- the pipes that are up, and which of them are full, none above the last one that came up
+pub record Knows (ps : List PortView) (us : List ℕ) (last : ℕ) (full : ℕ → Bool) : Type 0 where
+  pub ports : ps ≡ map (port_of full) us
+  pub known : (q : ℕ) → has us q ≡ true → q ≤ last
+  pub unmet : (q : ℕ) → last < q → full q ≡ false
+
+-- ---- As they are held
+
+abbrev pub number : Held → ℕ
+number x = x.pipe
+
+abbrev pub is_full_in : ℕ → Held → Bool
+is_full_in turn x = x.full_in == turn
+
+-- as it is in this turn
+abbrev pub port_in : ℕ → Held → PortView
+port_in turn x = record { pipe = x.pipe; is_full = is_full_in turn x }
+
+abbrev pub is_held : ℕ → Held → Bool
+is_held p x = x.pipe == p
+
+-- its number is below this one
+abbrev pub is_under : ℕ → Held → Bool
+is_under p x = nat_lt x.pipe p
+
+abbrev pub is_below : ℕ → PortView → Bool
+is_below p x = nat_lt x.pipe p
+
+abbrev pub is_open : ℕ → Held → Bool
+is_open turn x = not (is_full_in turn x)
+
+-- it is not full, and its number is not below this one
+abbrev pub is_free_from : ℕ → ℕ → Held → Bool
+is_free_from turn from x = not (nat_lt x.pipe from) && is_open turn x
+
+abbrev pub unmarked : Held → Held
+unmarked x = record { pipe = x.pipe; full_in = 0 }
+
+-- found full in this turn
+abbrev pub marked_in : ℕ → Held → Held
+marked_in turn x = record { pipe = x.pipe; full_in = turn }
+
+-- all from the known number up to the other are full
+abbrev pub begin_at : ℕ → ℕ → ℕ → ℕ
+begin_at known to from = if (known == from) && nat_le from to then to else from
+
+abbrev pub reached : Option ℕ → ℕ
+reached None = 2 ^ 32
+reached (Some p) = p
+
+-- each number is above this one
+abbrev pub AreAbove : ℕ → List Held → Type 0
+AreAbove p [] = ⊤
+AreAbove p (x ∷ xs) = (p < x.pipe) × AreAbove p xs
+
+-- each number is below those after it
+abbrev pub IsRising : List Held → Type 0
+IsRising [] = ⊤
+IsRising (x ∷ xs) = AreAbove x.pipe xs × IsRising xs
+
+-- none was found full in a later turn
+abbrev pub AreUpTo : ℕ → List Held → Type 0
+AreUpTo turn [] = ⊤
+AreUpTo turn (x ∷ xs) = (x.full_in ≤ turn) × AreUpTo turn xs
+
+-- each with a number from the one up to the other is full
+abbrev pub AreFull : ℕ → ℕ → ℕ → List Held → Type 0
+AreFull turn from to [] = ⊤
+AreFull turn from to (x ∷ xs) = (from ≤ x.pipe → x.pipe < to → is_full_in turn x ≡ true) × AreFull turn from to xs
+
+-- what a machine knows of them between two calls
+pub record AreKnown (turn : ℕ) (known : ℕ) (to : ℕ) (low : ℕ) (xs : List Held) : Type 0 where
+  pub rising : IsRising xs
+  pub turns : AreUpTo turn xs
+  pub begun : 1 ≤ turn
+  pub behind : AreFull turn known to xs
+  pub front : AreFull turn 0 low xs

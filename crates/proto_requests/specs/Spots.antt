@@ -1,0 +1,29 @@
+-- Elements in order, where one that is taken out leaves its spot behind.
+use Rattle.std.specs.Prelude.{ℕ, Bool, false, if◌then◌else◌, List, [], ◌∷◌, Option, Some, None}
+use Rattle.std.specs.Option.{option_map}
+use Rattle.proto_requests.specs.declared.spots.Spot.{Spot}
+
+abbrev pub any_in : {A : Type 0} → (A → Bool) → Option A → Bool
+any_in P None = false
+any_in P (Some x) = P x
+
+-- an element stands there, which passes the test
+abbrev pub holds : {A : Type 0} → (A → Bool) → Spot A → Bool
+holds P s = any_in P s.value
+
+abbrev pub with_value : {A : Type 0} → Option A → List A → List A
+with_value None xs = xs
+with_value (Some x) xs = x ∷ xs
+
+-- the elements that stand there
+abbrev pub held : {A : Type 0} → List (Spot A) → List A
+held [] = []
+held (s ∷ ss) = with_value s.value (held ss)
+
+-- what stands there is changed so
+abbrev pub changed : {A : Type 0} → (A → A) → Spot A → Spot A
+changed f s = record { number = s.number; value = option_map f s.value }
+
+-- the mark, if nothing moved
+abbrev pub stays : Bool → ℕ → ℕ
+stays moved from = if moved then 0 else from

@@ -1,0 +1,55 @@
+-- Operations that wait.
+use Rattle.std.specs.Prelude.{◌≡◌, ◌≤◌, ℕ, ◌==◌, ◌&&◌, Bool, true, false, not, if◌then◌else◌, List, take, filter, length}
+use Rattle.std.specs.List.{list_any}
+use Rattle.std.specs.Option.{option_map}
+use Rattle.sp_base.specs.declared.OpName.{OpName}
+use Rattle.sp_history.specs.Lists.{same_op}
+use Rattle.proto_requests.specs.Backlogs.{IsIndexed}
+use Rattle.proto_requests.specs.Numbers.{is_known}
+use Rattle.proto_requests.specs.Spots.{holds, held}
+use Rattle.proto_requests.specs.declared.spots.Spot.{Spot}
+
+-- the operations, in the order of their begins, and how many more have room
+pub record WaitsView (A : Type 0) : Type 0 where
+  pub items : List A
+  pub room : ℕ
+
+-- it has this name
+abbrev pub is_named : {A : Type 0} → (A → OpName) → OpName → A → Bool
+is_named name op x = same_op (name x) op
+
+abbrev pub slot_of : {A : Type 0} → (A → OpName) → A → ℕ
+slot_of name x = (name x).slot
+
+abbrev pub isnt : {A : Type 0} → (A → Bool) → A → Bool
+isnt P x = not (P x)
+
+-- a send whose request has not ended
+abbrev pub is_open : {A : Type 0} → (A → Bool) → (A → Bool) → A → Bool
+is_open sends is_left x = sends x && not (is_left x)
+
+-- a receive on the context
+abbrev pub receives_on : {A : Type 0} → (A → Bool) → (A → ℕ) → ℕ → A → Bool
+receives_on sends home c x = not (sends x) && (home x == c)
+
+-- its request has ended, if it is of this context
+abbrev pub left_on : {A : Type 0} → (A → ℕ) → (A → A) → ℕ → A → A
+left_on home left c x = if c == home x then left x else x
+
+abbrev pub left_spot : {A : Type 0} → (A → ℕ) → (A → A) → ℕ → Spot A → Spot A
+left_spot home left c s = record { number = s.number; value = option_map (left_on home left c) s.value }
+
+-- none that passes the test stands before this spot
+pub record IsMark {A : Type 0} (P : A → Bool) (from : ℕ) (ss : List (Spot A)) : Type 0 where
+  pub bound : from ≤ length ss
+  pub none : list_any (holds P) (take from ss) ≡ false
+
+-- No two have one slot, no two receives one context, no two open sends one context, and these are known, if it is said.
+-- No send stands before the one spot, no receive before the other. No request has ended, if it is said.
+pub record AreNoted {A : Type 0} (name : A → OpName) (home : A → ℕ) (sends : A → Bool) (is_left : A → Bool) (slots_known : Bool) (slots : List (ℕ × ℕ)) (receives_known : Bool) (receives : List (ℕ × ℕ)) (sends_known : Bool) (opens : List (ℕ × ℕ)) (send_from receive_from : ℕ) (none_left : Bool) (ss : List (Spot A)) : Type 0 where
+  pub by_slot : slots_known ≡ true → IsIndexed (slot_of name) (is_known slots) (held ss)
+  pub by_receive : receives_known ≡ true → IsIndexed home (is_known receives) (filter (isnt sends) (held ss))
+  pub by_send : sends_known ≡ true → IsIndexed home (is_known opens) (filter (is_open sends is_left) (held ss))
+  pub send : IsMark sends send_from ss
+  pub receive : IsMark (isnt sends) receive_from ss
+  pub left : none_left ≡ true → list_any is_left (held ss) ≡ false

@@ -1,0 +1,19 @@
+//! What the machines of requests, replies and surveys keep, part by part.
+//!
+//! `ports` has the pipes that are up, and which of them were found full in this turn. `backlog` has what is kept of the
+//! pipes, one of each. `waits` has the operations that wait, at `spots` that they leave behind when they end; `numbers`
+//! finds them. `contexts` finds what stands with an open context, `hints` has the contexts that are worth a look, and
+//! `trail` the words of a backtrace.
+//!
+//! Each part is seen by contracts as a list or a set, whatever it remembers to find things fast. To read: `specs/Waits`
+//! and `specs/Ports`, then the part's calls.
+#![tactic(auto)]
+
+pub mod backlog;
+pub mod contexts;
+pub mod hints;
+pub mod numbers;
+pub mod ports;
+pub mod spots;
+pub mod trail;
+pub mod waits;

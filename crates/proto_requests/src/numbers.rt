@@ -1,0 +1,81 @@
+//! Numbers that are known by others.
+ghost use Rattle.std.specs.Prelude.{◌≡◌, ◌==◌, ℕ, [], Some, None, if◌then◌else◌, OnOk};
+ghost use Rattle.proto_requests.specs.Numbers.{number_at, is_known};
+
+use sp_base::NoMemory;
+use std::alloc::Global;
+use std::collections::HashMap;
+use std::marker::Model;
+
+/// Numbers, each known by another. What a call costs doesn't grow with them.
+#[derive(Drop)]
+pub struct Numbers {
+    known: HashMap<u32, u64>,
+}
+
+impl Model for Numbers {
+    ghost use Rattle.std.specs.Prelude.{ℕ, List};
+
+    ghost Value = { List (ℕ × ℕ) };
+
+    ghost view = { λ s. s.known.entries };
+}
+
+impl Numbers {
+    /// None is known.
+    pub fn new(alloc: Global) -> Numbers
+        ensures { result ≡ [] }
+    {
+        Numbers {
+            known: HashMap::new(alloc),
+        }
+    }
+
+    /// The number that is known by this one.
+    pub fn get(&self, k: u32) -> Option<u64>
+        ensures { result ≡ number_at self.now k }
+    {
+        self.known.get(&k).copied()
+    }
+
+    /// A number is known by this one.
+    pub fn has(&self, k: u32) -> bool
+        ensures { result ≡ is_known self.now k }
+    {
+        self.get(k).is_some()
+    }
+
+    /// Takes the room for so many more.
+    pub fn reserve(&mut self, more: usize) -> Result<(), NoMemory>
+        ensures { (q : ℕ) → number_at self.new q ≡ number_at self.old q }
+    {
+        match self.known.reserve(more) {
+            Ok(()) => Ok(()),
+            Err(_) => Err(NoMemory),
+        }
+    }
+
+    /// The number is known by this one.
+    pub fn put(&mut self, k: u32, n: u64) -> Result<(), NoMemory>
+        ensures { OnOk result ((q : ℕ) → number_at self.new q ≡ (if k == q then Some n else number_at self.old q)) }
+    {
+        match self.known.insert(k, n) {
+            Ok(_) => Ok(()),
+            Err(_) => Err(NoMemory),
+        }
+    }
+
+    /// None is known by this one.
+    pub fn remove(&mut self, k: u32)
+        ensures { (q : ℕ) → number_at self.new q ≡ (if k == q then None else number_at self.old q) }
+    {
+        let _ = self.known.remove(&k);
+    }
+
+    /// None is known.
+    pub fn clear(&mut self)
+        ensures { self.new ≡ [] }
+    {
+        self.known.clear();
+    }
+}

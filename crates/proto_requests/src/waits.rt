@@ -1,0 +1,652 @@
+//! Operations that wait.
+//!
+//! They stand in the order of their begins, each at a spot that it leaves behind when it ends, so that none of the others
+//! moves; once all spots are used, those that are left are closed up. By the slot of its name the number of its spot is
+//! known, and by that the spot is found by halving, where it is then looked at. The contexts on which a receive waits
+//! are known, those on which a send waits whose request has not ended, and where the first send and the first receive
+//! stand. They are searched through only where two have one slot, or where two receives or two such sends are of one
+//! context, as those of a raw socket are.
+ghost use Rattle.std.specs.Prelude.{◌≡◌, ◌≤◌, ◌<◌, ◌+◌, ◌==◌, ◌++◌, ◌∷◌, ◌&&◌, ℕ, Bool, [], Some, None, true, false, not, if◌then◌else◌, find, map, filter, take, length, option_to_list, OnOk};
+ghost use Rattle.std.specs.Vec.{vec_len, vec_capacity};
+ghost use Rattle.std.specs.Option.{option_map};
+ghost use Rattle.std.specs.List.{position, list_any};
+ghost use Rattle.sp_base.specs.declared.OpName.{OpName as Name};
+ghost use Rattle.sp_history.specs.Once.{AreDistinct};
+ghost use Rattle.proto_requests.specs.Backlogs.{IsIndexed};
+ghost use Rattle.proto_requests.specs.Numbers.{is_known};
+ghost use Rattle.proto_requests.specs.FirstFound.{without_found, reached};
+ghost use Rattle.proto_requests.specs.Spots.{holds, held};
+ghost use Rattle.proto_requests.specs.Waits.{is_named, slot_of, isnt, is_open, receives_on, left_on, left_spot, IsMark};
+
+use crate::numbers::Numbers;
+use crate::spots::{Spot, close_up, close_up_for, empty, hint, rest, stays};
+use sp_base::{Ctx, NoMemory, OpName};
+use std::alloc::Global;
+use std::marker::Model;
+
+/// An operation that waits.
+pub trait Waiter: Drop {
+    ghost name_of: { Self → Name };
+
+    ghost home_of: { Self → ℕ };
+
+    ghost is_send: { Self → Bool };
+
+    ghost is_left: { Self → Bool };
+
+    // as it is when its request has ended
+    ghost left: { Self → Self };
+
+    // that changes neither its name nor its context, and makes no send of a receive
+    ghost left_same: { (x : Self) → (name_of (left x) ≡ name_of x) × (home_of (left x) ≡ home_of x) × (is_send (left x) ≡ is_send x) };
+
+    // nor anything where it has ended
+    ghost left_again: { (x : Self) → is_left x ≡ true → left x ≡ x };
+
+    // requests may end
+    ghost may_leave: { Bool };
+
+    // and then it is known that they have
+    ghost left_is: { (x : Self) → may_leave ≡ true → is_left (left x) ≡ true };
+
+    /// Its name.
+    fn op(&self) -> OpName
+        ensures { result ≡ name_of self.now };
+
+    /// Its context.
+    fn ctx(&self) -> Ctx
+        ensures { result ≡ home_of self.now };
+
+    /// It is a send.
+    fn sends(&self) -> bool
+        ensures { result ≡ is_send self.now };
+
+    /// Its request has ended.
+    fn is_over(&self) -> bool
+        ensures { result ≡ is_left self.now };
+
+    /// Its request ends.
+    fn leave(&mut self)
+        ensures { self.new ≡ left self.old };
+}
+
+/// Operations that wait.
+#[derive(Drop)]
+pub struct Waits<T: Waiter> {
+    /// In the order of their begins.
+    list: Vec<Spot<T>>,
+    /// The number of the next spot.
+    next: u64,
+    /// Their numbers by their slots.
+    by_slot: Numbers,
+    /// All slots are known, and no two have one.
+    slots_known: bool,
+    /// The numbers of the receives by their contexts.
+    receives: Numbers,
+    /// All contexts of receives are known, and no two have one.
+    receives_known: bool,
+    /// The numbers of the sends whose requests have not ended by their contexts.
+    opens: Numbers,
+    /// All contexts of those are known, and no two have one.
+    opens_known: bool,
+    /// No send stands before this spot.
+    send_from: usize,
+    /// No receive stands before this spot.
+    receive_from: usize,
+    /// No request of theirs has ended.
+    none_left: bool,
+}
+
+impl<T: Waiter> Model for Waits<T> {
+    ghost use Rattle.std.specs.Prelude.{◌-◌, length};
+    ghost use Rattle.std.specs.Vec.{vec_capacity};
+    ghost use Rattle.proto_requests.specs.Spots.{held};
+    ghost use Rattle.proto_requests.specs.Waits.{WaitsView, AreNoted};
+
+    ghost Value = { WaitsView T };
+
+    ghost view = { λ m. record { items = held m.list.items; room = vec_capacity m.list - length (held m.list.items) } };
+
+    ghost invariant = { λ m. AreNoted T.name_of T.home_of T.is_send T.is_left m.slots_known m.by_slot m.receives_known m.receives m.opens_known m.opens m.send_from m.receive_from m.none_left m.list.items };
+}
+
+// ---- Spots
+
+// It has this name.
+fn is_named<T: Waiter>(x: &T, op: OpName) -> bool
+    ensures { result ≡ is_named T.name_of op x.now }
+{
+    let name = x.op();
+    name.slot == op.slot && name.generation == op.generation
+}
+
+// The operation stands there.
+fn names<T: Waiter>(s: &Spot<T>, op: OpName) -> bool
+    ensures { result ≡ holds (is_named T.name_of op) s.now }
+{
+    match &s.value {
+        None => false,
+        Some(x) => is_named(x, op),
+    }
+}
+
+// A send stands there.
+fn sends<T: Waiter>(s: &Spot<T>) -> bool
+    ensures { result ≡ holds T.is_send s.now }
+{
+    match &s.value {
+        None => false,
+        Some(x) => x.sends(),
+    }
+}
+
+// A receive stands there.
+fn receives<T: Waiter>(s: &Spot<T>) -> bool
+    ensures { result ≡ holds (isnt T.is_send) s.now }
+{
+    match &s.value {
+        None => false,
+        Some(x) => !x.sends(),
+    }
+}
+
+// A receive on the context stands there.
+fn receives_on<T: Waiter>(s: &Spot<T>, c: Ctx) -> bool
+    ensures { result ≡ holds (receives_on T.is_send T.home_of c) s.now }
+{
+    match &s.value {
+        None => false,
+        Some(x) => !x.sends() && x.ctx().0 == c.0,
+    }
+}
+
+// One whose request has ended stands there.
+fn is_over<T: Waiter>(s: &Spot<T>) -> bool
+    ensures { result ≡ holds T.is_left s.now }
+{
+    match &s.value {
+        None => false,
+        Some(x) => x.is_over(),
+    }
+}
+
+// Where the operation stands.
+fn search<T: Waiter>(list: &[Spot<T>], op: OpName) -> Option<usize>
+    ensures { result ≡ position (holds (is_named T.name_of op)) list.now }
+{
+    list.iter().position(|s| names(s, op))
+}
+
+// The same, where no two have one slot. It is looked for here first.
+fn place_of<T: Waiter>(list: &[Spot<T>], i: usize, op: OpName) -> Option<usize>
+    ensures { AreDistinct (map (slot_of T.name_of) (held list.now)) → result ≡ position (holds (is_named T.name_of op)) list.now }
+{
+    if i < list.len() {
+        if names(&list[i], op) {
+            return Some(i);
+        }
+    }
+    search(list, op)
+}
+
+// The same, where its number may be known.
+fn place_by<T: Waiter>(
+    list: &[Spot<T>],
+    by_slot: &Numbers,
+    known: bool,
+    op: OpName,
+) -> Option<usize>
+    ensures { (known ≡ true → AreDistinct (map (slot_of T.name_of) (held list.now))) → result ≡ position (holds (is_named T.name_of op)) list.now }
+{
+    if !known {
+        return search(list, op);
+    }
+    match by_slot.get(op.slot) {
+        None => search(list, op),
+        Some(n) => place_of(list, hint(list, n), op),
+    }
+}
+
+// Where the first send stands.
+fn send_in<T: Waiter>(list: &[Spot<T>]) -> Option<usize>
+    ensures { result ≡ position (holds T.is_send) list.now }
+{
+    list.iter().position(|s| sends(s))
+}
+
+// The same, if none stands before this spot.
+fn send_from<T: Waiter>(list: &[Spot<T>], from: usize) -> Option<usize>
+    requires { from ≤ length list.now }
+    ensures { list_any (holds T.is_send) (take from list.now) ≡ false → result ≡ position (holds T.is_send) list.now }
+{
+    match send_in(rest(list, from)) {
+        None => None,
+        Some(i) => Some(from + i),
+    }
+}
+
+// Where the first receive stands.
+fn receive_in<T: Waiter>(list: &[Spot<T>]) -> Option<usize>
+    ensures { result ≡ position (holds (isnt T.is_send)) list.now }
+{
+    list.iter().position(|s| receives(s))
+}
+
+// The same, if none stands before this spot.
+fn receive_from<T: Waiter>(list: &[Spot<T>], from: usize) -> Option<usize>
+    requires { from ≤ length list.now }
+    ensures { list_any (holds (isnt T.is_send)) (take from list.now) ≡ false → result ≡ position (holds (isnt T.is_send)) list.now }
+{
+    match receive_in(rest(list, from)) {
+        None => None,
+        Some(i) => Some(from + i),
+    }
+}
+
+// The spot of the first send, or the end, if none stands before this spot.
+fn send_mark<T: Waiter>(list: &[Spot<T>], from: usize) -> usize
+    ensures { IsMark T.is_send from list.now → IsMark T.is_send result list.now }
+{
+    if from > list.len() {
+        return 0;
+    }
+    reached(send_from(list, from), list.len())
+}
+
+// The spot of the first receive, or the end, if none stands before this spot.
+fn receive_mark<T: Waiter>(list: &[Spot<T>], from: usize) -> usize
+    ensures { IsMark (isnt T.is_send) from list.now → IsMark (isnt T.is_send) result list.now }
+{
+    if from > list.len() {
+        return 0;
+    }
+    reached(receive_from(list, from), list.len())
+}
+
+// Where the first stands whose request has ended.
+fn over_in<T: Waiter>(list: &[Spot<T>]) -> Option<usize>
+    ensures { result ≡ position (holds T.is_left) list.now }
+{
+    list.iter().position(|s| is_over(s))
+}
+
+/// The name of the one that stands there.
+pub fn name_at<T: Waiter>(list: &[Spot<T>], place: Option<usize>) -> Option<OpName>
+    ensures { (P : T → Bool) → place ≡ position (holds P) list.now → result ≡ option_map T.name_of (find P (held list.now)) }
+{
+    match place {
+        None => None,
+        Some(i) => {
+            if i >= list.len() {
+                return None;
+            }
+            match &list[i].value {
+                None => None,
+                Some(x) => Some(x.op()),
+            }
+        }
+    }
+}
+
+// The spot that was found, or the end.
+fn reached(place: Option<usize>, end: usize) -> usize
+    ensures { result ≡ reached place end }
+{
+    match place {
+        None => end,
+        Some(i) => i,
+    }
+}
+
+// Where the first receive on the context stands.
+fn search_receive<T: Waiter>(list: &[Spot<T>], c: Ctx) -> Option<usize>
+    ensures { result ≡ position (holds (receives_on T.is_send T.home_of c)) list.now }
+{
+    list.iter().position(|s| receives_on(s, c))
+}
+
+// The same, where no other is on the context. It is looked for here first.
+fn receive_at<T: Waiter>(list: &[Spot<T>], i: usize, c: Ctx) -> Option<usize>
+    ensures { AreDistinct (map T.home_of (filter (isnt T.is_send) (held list.now))) → result ≡ position (holds (receives_on T.is_send T.home_of c)) list.now }
+{
+    if i < list.len() {
+        if receives_on(&list[i], c) {
+            return Some(i);
+        }
+    }
+    search_receive(list, c)
+}
+
+// The same, where its number may be known.
+fn receive_place<T: Waiter>(
+    list: &[Spot<T>],
+    numbers: &Numbers,
+    known: bool,
+    c: Ctx,
+) -> Option<usize>
+    ensures { (known ≡ true → IsIndexed T.home_of (is_known numbers.now) (filter (isnt T.is_send) (held list.now))) → result ≡ position (holds (receives_on T.is_send T.home_of c)) list.now }
+{
+    if !known {
+        return search_receive(list, c);
+    }
+    match numbers.get(c.0) {
+        None => None,
+        Some(n) => receive_at(list, hint(list, n), c),
+    }
+}
+
+// One has ended.
+fn any_over<T: Waiter>(list: &[Spot<T>]) -> bool
+    ensures { result ≡ list_any (holds T.is_left) list.now }
+{
+    list.iter().any(|s| is_over(s))
+}
+
+// None has ended. It is looked for, unless that is known.
+fn is_none_over<T: Waiter>(known: bool, list: &[Spot<T>]) -> bool
+    ensures { (known ≡ true → list_any T.is_left (held list.now) ≡ false) → result ≡ true → list_any T.is_left (held list.now) ≡ false }
+{
+    if known {
+        return true;
+    }
+    !any_over(list)
+}
+
+// A receive on the context is among them.
+fn any_receive<T: Waiter>(list: &[Spot<T>], c: Ctx) -> bool
+    ensures { result ≡ list_any (holds (receives_on T.is_send T.home_of c)) list.now }
+{
+    list.iter().any(|s| receives_on(s, c))
+}
+
+// It is a send whose request has not ended.
+fn is_open<T: Waiter>(x: &T) -> bool
+    ensures { result ≡ is_open T.is_send T.is_left x.now }
+{
+    x.sends() && !x.is_over()
+}
+
+// None has ended, if none had, with one more.
+fn is_none_left(none: bool, is_over: bool) -> bool
+    ensures { result ≡ (none && not is_over) }
+{
+    none && !is_over
+}
+
+// The request of the one that stands there ends, if it is of the context.
+fn leave_spot<T: Waiter>(s: &mut Spot<T>, c: Ctx)
+    ensures { s.new ≡ left_spot T.home_of T.left c s.old }
+{
+    match &mut s.value {
+        None => {}
+        Some(x) => {
+            if c.0 == x.ctx().0 {
+                x.leave();
+            }
+        }
+    }
+}
+
+// The request of the context ends.
+fn leave_in<T: Waiter>(list: &mut [Spot<T>], c: Ctx)
+    ensures { list.new ≡ map (left_spot T.home_of T.left c) list.old }
+{
+    for s in list.iter_mut() {
+        leave_spot(s, c);
+    }
+}
+
+// Has a spot for one more, for which there is room, and says whether the others moved.
+fn make_spot<T: Waiter>(list: &mut Vec<Spot<T>>) -> bool
+    requires { length (held list.old.items) < vec_capacity list.old }
+    ensures held { held list.new.items ≡ held list.old.items }
+    ensures same { result ≡ false → list.new.items ≡ list.old.items }
+    ensures spot { vec_len list.new < vec_capacity list.new }
+    ensures capacity { vec_capacity list.new ≡ vec_capacity list.old }
+{
+    if list.len() < list.capacity() {
+        return false;
+    }
+    close_up(list);
+    true
+}
+
+// ---- Numbers
+
+// Whether all numbers are known, if they were, with this one more. Not where one is known by the same.
+fn know(all: bool, numbers: &mut Numbers, k: u32, n: u64) -> bool
+    ensures all { result ≡ true → all ≡ true }
+    ensures more { result ≡ true → (is_known numbers.old k ≡ false) × ((q : ℕ) → is_known numbers.new q ≡ (if k == q then true else is_known numbers.old q)) }
+{
+    if !all {
+        return false;
+    }
+    if numbers.has(k) {
+        return false;
+    }
+    match numbers.put(k, n) {
+        Err(_) => false,
+        Ok(()) => true,
+    }
+}
+
+// The same, if it is one of these.
+fn know_if(all: bool, numbers: &mut Numbers, is_one: bool, c: Ctx, n: u64) -> bool
+    ensures all { result ≡ true → all ≡ true }
+    ensures same { is_one ≡ false → numbers.new ≡ numbers.old }
+    ensures more { result ≡ true → is_one ≡ true → (is_known numbers.old c ≡ false) × ((q : ℕ) → is_known numbers.new q ≡ (if c == q then true else is_known numbers.old q)) }
+{
+    if !is_one {
+        return all;
+    }
+    know(all, numbers, c.0, n)
+}
+
+// None is known by this one.
+fn lose(numbers: &mut Numbers, k: u32)
+    ensures { (q : ℕ) → is_known numbers.new q ≡ (if k == q then false else is_known numbers.old q) }
+{
+    numbers.remove(k);
+}
+
+// The same, if it is one of these.
+fn lose_if(numbers: &mut Numbers, is_one: bool, c: Ctx)
+    ensures { (q : ℕ) → is_known numbers.new q ≡ (if is_one then (if c == q then false else is_known numbers.old q) else is_known numbers.old q) }
+{
+    if is_one {
+        lose(numbers, c.0);
+    }
+}
+
+// Takes the room for the numbers of so many.
+fn make_room(
+    by_slot: &mut Numbers,
+    receives: &mut Numbers,
+    opens: &mut Numbers,
+    more: usize,
+) -> Result<(), NoMemory>
+    ensures slot { (q : ℕ) → is_known by_slot.new q ≡ is_known by_slot.old q }
+    ensures receive { (q : ℕ) → is_known receives.new q ≡ is_known receives.old q }
+    ensures open { (q : ℕ) → is_known opens.new q ≡ is_known opens.old q }
+{
+    by_slot.reserve(more)?;
+    receives.reserve(more)?;
+    opens.reserve(more)
+}
+
+impl<T: Waiter> Waits<T> {
+    /// None waits, and none has room.
+    pub fn new(alloc: Global) -> Waits<T>
+        ensures { result.items ≡ [] }
+    {
+        Waits {
+            list: Vec::new(alloc),
+            next: 0,
+            by_slot: Numbers::new(alloc),
+            slots_known: true,
+            receives: Numbers::new(alloc),
+            receives_known: true,
+            opens: Numbers::new(alloc),
+            opens_known: true,
+            send_from: 0,
+            receive_from: 0,
+            none_left: true,
+        }
+    }
+
+    /// All from a spot on before which no send stands.
+    pub fn sends(&self) -> &[Spot<T>]
+        ensures { (P : T → Bool) → ((x : T) → P x ≡ true → T.is_send x ≡ true) → find P (held result.now) ≡ find P self.now.items }
+    {
+        rest(&self.list, self.send_from)
+    }
+
+    /// All from a spot on before which no receive stands.
+    pub fn receives(&self) -> &[Spot<T>]
+        ensures { (P : T → Bool) → ((x : T) → P x ≡ true → isnt T.is_send x ≡ true) → find P (held result.now) ≡ find P self.now.items }
+    {
+        rest(&self.list, self.receive_from)
+    }
+
+    /// The first send.
+    pub fn first_send(&self) -> Option<OpName>
+        ensures { result ≡ option_map T.name_of (find T.is_send self.now.items) }
+    {
+        name_at(&self.list, send_from(&self.list, self.send_from))
+    }
+
+    /// The first receive.
+    pub fn first_receive(&self) -> Option<OpName>
+        ensures { result ≡ option_map T.name_of (find (isnt T.is_send) self.now.items) }
+    {
+        name_at(&self.list, receive_from(&self.list, self.receive_from))
+    }
+
+    /// The first receive on the context.
+    pub fn receive_on(&self, c: Ctx) -> Option<OpName>
+        ensures { result ≡ option_map T.name_of (find (receives_on T.is_send T.home_of c) self.now.items) }
+    {
+        name_at(
+            &self.list,
+            receive_place(&self.list, &self.receives, self.receives_known, c),
+        )
+    }
+
+    /// The first whose request has ended.
+    pub fn first_left(&self) -> Option<OpName>
+        ensures { result ≡ option_map T.name_of (find T.is_left self.now.items) }
+    {
+        if self.none_left {
+            return None;
+        }
+        name_at(&self.list, over_in(&self.list))
+    }
+
+    /// A receive of the context waits.
+    pub fn is_receiving(&self, c: Ctx) -> bool
+        ensures { result ≡ list_any (receives_on T.is_send T.home_of c) self.now.items }
+    {
+        if self.receives_known {
+            return self.receives.has(c.0);
+        }
+        any_receive(&self.list, c)
+    }
+
+    /// Takes the room for so many.
+    pub fn reserve(&mut self, more: u32) -> Result<(), NoMemory>
+        ensures same { self.new.items ≡ self.old.items }
+        ensures room { OnOk result (more ≤ self.new.room) }
+    {
+        let more = more as usize;
+        let moved = close_up_for(&mut self.list, more + more);
+        self.send_from = stays(moved, self.send_from);
+        self.receive_from = stays(moved, self.receive_from);
+        match self.list.reserve(more + more) {
+            Ok(()) => make_room(&mut self.by_slot, &mut self.receives, &mut self.opens, more),
+            Err(_) => Err(NoMemory),
+        }
+    }
+
+    /// One more waits, the last of all.
+    pub fn push(&mut self, x: T)
+        requires { 0 < self.old.room }
+        ensures items { self.new.items ≡ self.old.items ++ x ∷ [] }
+        ensures room { self.new.room + 1 ≡ self.old.room }
+    {
+        let name = x.op();
+        let sends = x.sends();
+        let open = is_open(&x);
+        let is_over = x.is_over();
+        let c = x.ctx();
+        let n = self.next;
+        self.next = n.wrapping_add(1);
+        let moved = make_spot(&mut self.list);
+        self.list.push_reserved(Spot {
+            number: n,
+            value: Some(x),
+        });
+        self.send_from = send_mark(&self.list, stays(moved, self.send_from));
+        self.receive_from = receive_mark(&self.list, stays(moved, self.receive_from));
+        self.slots_known = know(self.slots_known, &mut self.by_slot, name.slot, n);
+        self.receives_known = know_if(self.receives_known, &mut self.receives, !sends, c, n);
+        self.opens_known = know_if(self.opens_known, &mut self.opens, open, c, n);
+        self.none_left = is_none_left(self.none_left, is_over);
+    }
+
+    /// Takes the operation out.
+    pub fn take(&mut self, op: OpName) -> Option<T>
+        ensures found { result ≡ find (is_named T.name_of op) self.old.items }
+        ensures rest { self.new.items ≡ without_found (is_named T.name_of op) self.old.items }
+        ensures len { length self.new.items + length (option_to_list result) ≡ length self.old.items }
+        ensures room { self.new.room ≡ self.old.room + length (option_to_list result) }
+    {
+        match place_by(&self.list, &self.by_slot, self.slots_known, op) {
+            None => None,
+            Some(i) => match empty(&mut self.list, i) {
+                None => None,
+                Some(x) => {
+                    let c = x.ctx();
+                    let sends = x.sends();
+                    let open = is_open(&x);
+                    lose(&mut self.by_slot, op.slot);
+                    lose_if(&mut self.receives, !sends, c);
+                    lose_if(&mut self.opens, open, c);
+                    self.send_from = send_mark(&self.list, self.send_from);
+                    self.receive_from = receive_mark(&self.list, self.receive_from);
+                    self.none_left = is_none_over(self.none_left, &self.list);
+                    Some(x)
+                }
+            },
+        }
+    }
+
+    // None of the context waits whose request has not ended.
+    fn is_without(&self, c: Ctx) -> bool
+        ensures { result ≡ true → self.now.items ≡ map (left_on T.home_of T.left c) self.now.items }
+    {
+        if !self.receives_known {
+            return false;
+        }
+        if !self.opens_known {
+            return false;
+        }
+        if self.receives.has(c.0) {
+            return false;
+        }
+        !self.opens.has(c.0)
+    }
+
+    /// The request of the context ends.
+    pub fn leave_on(&mut self, c: Ctx)
+        requires { T.may_leave ≡ true }
+        ensures items { self.new.items ≡ map (left_on T.home_of T.left c) self.old.items }
+        ensures room { self.new.room ≡ self.old.room }
+    {
+        if self.is_without(c) {
+            return;
+        }
+        leave_in(&mut self.list, c);
+        lose(&mut self.opens, c.0);
+        self.none_left = false;
+    }
+}
