@@ -1,5 +1,5 @@
 -- What stands in a list.
-use Rattle.std.proofs.Common.{◌≡◌, subst, List, [], ◌∷◌, ◌++◌, suc, ◌+◌, Bool, true, false, cond, arith, Some, inl, inr}
+use Rattle.std.proofs.Common.{◌≡◌, subst, List, [], ◌∷◌, ◌++◌, suc, Bool, true, false, cond, arith, Some, inl, inr}
 use Rattle.std.specs.Prelude.{filter, find, Contains}
 use Rattle.aio_word.specs.Views.{Stands}
 use Rattle.sp_base.specs.declared.OpName.{OpName}

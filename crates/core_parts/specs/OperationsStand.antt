@@ -10,7 +10,7 @@ use Rattle.sp_base.specs.declared.OpName.{OpName}
 use Rattle.sp_history.specs.Lists.{has, same_op}
 use Rattle.sp_history.specs.declared.entry.Entry.{Entry}
 use Rattle.sp_history.specs.declared.setting.Setting.{Setting}
-use Rattle.sp_history.specs.Past.{pend, uncollected, begins, timers, by_deadline, pending}
+use Rattle.sp_history.specs.Past.{pend, uncollected, begins, timers, by_deadline}
 use Rattle.sp_history.specs.Legal.{is_free}
 use Rattle.sp_history.specs.Moments.{Moment, past}
 use Rattle.core_parts.specs.declared.operations.Operations.{Operations}

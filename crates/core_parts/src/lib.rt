@@ -6,6 +6,7 @@
 //! more. No part knows the others.
 #![tactic(auto)]
 
+mod fresh;
 mod leaving;
 mod op_words;
 mod operations;
@@ -13,9 +14,12 @@ mod outcome;
 mod pipes;
 mod reading;
 mod tally;
+mod wire_list;
 
+pub use fresh::fresh_parts;
 pub use op_words::{Decision, OpWords};
 pub use operations::{EndedOperation, Operations};
 pub use outcome::Outcome;
 pub use pipes::{Asked, DownPipe, Flushed, Pipe, Pipes, Pulled};
 pub use tally::Tally;
+pub use wire_list::WireList;
