@@ -15,11 +15,11 @@ pub is_not : (b : Bool) → not b ≡ false → b ≡ true
 is_not true h = refl
 is_not false h = absurd cc
 
-some_put : (b : Bool) (n : ℕ) (o : Option ℕ) → is_some (cond b (Some n) o) ≡ cond b true (is_some o)
+pub some_put : (b : Bool) (n : ℕ) (o : Option ℕ) → is_some (cond b (Some n) o) ≡ cond b true (is_some o)
 some_put true n o = refl
 some_put false n o = refl
 
-some_lost : (b : Bool) (o : Option ℕ) → is_some (cond {A = Option ℕ} b None o) ≡ cond b false (is_some o)
+pub some_lost : (b : Bool) (o : Option ℕ) → is_some (cond {A = Option ℕ} b None o) ≡ cond b false (is_some o)
 some_lost true o = refl
 some_lost false o = refl
 
@@ -78,7 +78,7 @@ module _ {A : Type 0} (key : A → ℕ) where
   pub index_same : (known : ℕ → Bool) (xs ys : List A) → IsIndexed key known xs → map key ys ≡ map key xs → IsIndexed key known ys
   index_same known xs ys h e = (λ q. h.0 q ∙ sym (any_has key xs q) ∙ ap (λ (l : List ℕ). has l q) (sym e) ∙ any_has key ys q, subst AreDistinct (sym e) h.1)
 
-  keys_with : (P : A → Bool) (f : A → A) (xs : List A) → ((x : A) → key (f x) ≡ key x) → map key (with_found P f xs) ≡ map key xs
+  pub keys_with : (P : A → Bool) (f : A → A) (xs : List A) → ((x : A) → key (f x) ≡ key x) → map key (with_found P f xs) ≡ map key xs
   keys_with P f [] s = refl
   keys_with P f (x ∷ xs) s = go (P x) (keys_with P f xs s)
     where
