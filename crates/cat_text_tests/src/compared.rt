@@ -1,5 +1,6 @@
 //! `Plan::read` and `print` beside the plainest readings, over generated words and bodies.
 
+use crate::checks::{is_true, made, same};
 use crate::plain_texts::text_of;
 use crate::plain_words::{
     ListedOption, OptionKind, address_of, drill_of, formats_of, is_right, number_of, plan_of,
@@ -8,7 +9,6 @@ use crate::plain_words::{
 use cat_text::{CatPlan, Data, End, Format, Plan, PlanError, print};
 use sp_base::{Addr, Bytes, NoMemory, Role};
 use std::alloc::Global;
-use std::test::Fail;
 
 /// Words of which lists are made.
 const POOL: [&str; 48] = [
@@ -309,23 +309,21 @@ fn is_read_right(alloc: Global, words: &[String]) -> Result<bool, NoMemory> {
 }
 
 #[test]
-fn any_words_are_read_as_the_plain_reading_reads_them(rt: HostRuntime) -> Result<(), Fail> {
+fn any_words_are_read_as_the_plain_reading_reads_them(rt: HostRuntime) {
     let mut seed: u32 = 7;
     for n in 0..1_000usize {
-        let words = any_words(rt.alloc(), &mut seed, n % 7)?;
-        assert!(rt; is_read_right(rt.alloc(), &words)?);
+        let words = made(&rt, any_words(rt.alloc(), &mut seed, n % 7));
+        is_true(&rt, is_read_right(rt.alloc(), &words));
     }
-    Ok(())
 }
 
 #[test]
-fn likely_words_are_read_as_the_plain_reading_reads_them(rt: HostRuntime) -> Result<(), Fail> {
+fn likely_words_are_read_as_the_plain_reading_reads_them(rt: HostRuntime) {
     let mut seed: u32 = 11;
     for n in 0..2_000usize {
-        let words = likely_words(rt.alloc(), &mut seed, n % 6)?;
-        assert!(rt; is_read_right(rt.alloc(), &words)?);
+        let words = made(&rt, likely_words(rt.alloc(), &mut seed, n % 6));
+        is_true(&rt, is_read_right(rt.alloc(), &words));
     }
-    Ok(())
 }
 
 /// So many bytes, of which most are printed in a special way.
@@ -348,15 +346,14 @@ const FORMATS: [Format; 6] = [
 ];
 
 #[test]
-fn bodies_are_printed_as_the_plain_printing_prints_them(rt: HostRuntime) -> Result<(), Fail> {
+fn bodies_are_printed_as_the_plain_printing_prints_them(rt: HostRuntime) {
     let mut seed: u32 = 13;
     for n in 0..6_000usize {
-        let body = any_body(rt.alloc(), &mut seed, n % 97)?;
+        let body = made(&rt, any_body(rt.alloc(), &mut seed, n % 97));
         let format = FORMATS[n % 6];
-        let mut out = Bytes::from_slice(rt.alloc(), b"ab")?;
-        print(rt.alloc(), format, &body, &mut out)?;
-        let wanted = text_of(rt.alloc(), format, &body, b"ab")?;
-        assert!(rt; out.as_slice() == wanted.as_slice());
+        let mut out = made(&rt, Bytes::from_slice(rt.alloc(), b"ab"));
+        made(&rt, print(rt.alloc(), format, &body, &mut out));
+        let wanted = made(&rt, text_of(rt.alloc(), format, &body, b"ab"));
+        same(&rt, out.as_slice(), wanted.as_slice());
     }
-    Ok(())
 }

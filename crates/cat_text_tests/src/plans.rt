@@ -1,10 +1,10 @@
 //! Which plan words are read as: a plan is shown as a text and compared with it.
 
+use crate::checks::{holds, is_true, made, same};
 use crate::words::words;
 use cat_text::{CatPlan, Data, End, Plan, PlanError};
 use sp_base::{Addr, Bytes, Host, NoMemory};
 use std::alloc::Global;
-use std::test::Fail;
 
 const A: &str = "tcp://127.0.0.1:5555";
 
@@ -127,7 +127,7 @@ fn show_words(alloc: Global, list: &[String]) -> Result<String, NoMemory> {
 }
 
 #[test]
-fn readings_have_their_plan(rt: HostRuntime) -> Result<(), Fail> {
+fn readings_have_their_plan(rt: HostRuntime) {
     let rows: &[(&[&str], &str)] = &[
         (&["--drill", "1"], "drill 1"),
         (&["--drill=1"], "drill 1"),
@@ -200,14 +200,13 @@ fn readings_have_their_plan(rt: HostRuntime) -> Result<(), Fail> {
         ),
     ];
     for (texts, wanted) in rows {
-        let shown = show(rt.alloc(), texts)?;
-        assert_eq!(rt; shown.as_str(), *wanted);
+        let shown = made(&rt, show(rt.alloc(), texts));
+        same(&rt, shown.as_str(), *wanted);
     }
-    Ok(())
 }
 
 #[test]
-fn ends_keep_the_order_of_the_words(rt: HostRuntime) -> Result<(), Fail> {
+fn ends_keep_the_order_of_the_words(rt: HostRuntime) {
     let rows: &[(&[&str], &str)] = &[
         (
             &["--pull", "--listen", A, "--dial", B, "--dial", "inproc://x"],
@@ -252,46 +251,59 @@ fn ends_keep_the_order_of_the_words(rt: HostRuntime) -> Result<(), Fail> {
         ),
     ];
     for (texts, wanted) in rows {
-        let shown = show(rt.alloc(), texts)?;
-        assert_eq!(rt; shown.as_str(), *wanted);
+        let shown = made(&rt, show(rt.alloc(), texts));
+        same(&rt, shown.as_str(), *wanted);
     }
-    Ok(())
 }
 
 #[test]
-fn the_count_is_that_of_the_role(rt: HostRuntime) -> Result<(), Fail> {
+fn the_count_is_that_of_the_role(rt: HostRuntime) {
     let once: &[&str] = &["--push", "--pub", "--req", "--surveyor", "--pair", "--bus"];
     for role in once {
-        let shown = show(rt.alloc(), &[*role, "--listen", A, "--data", "x"])?;
-        assert!(rt; shown.as_str().ends_with(" text 'x' count 1 None"));
-        let shown = show(
-            rt.alloc(),
-            &[*role, "--listen", A, "--data", "x", "--interval", "2"],
-        )?;
-        assert!(rt; shown.as_str().ends_with(" text 'x' interval 2 None"));
-        let shown = show(
-            rt.alloc(),
-            &[*role, "--listen", A, "--data", "x", "--count", "0"],
-        )?;
-        assert!(rt; shown.as_str().ends_with(" text 'x' None"));
+        let shown = made(
+            &rt,
+            show(rt.alloc(), &[*role, "--listen", A, "--data", "x"]),
+        );
+        holds(&rt, shown.as_str().ends_with(" text 'x' count 1 None"));
+        let shown = made(
+            &rt,
+            show(
+                rt.alloc(),
+                &[*role, "--listen", A, "--data", "x", "--interval", "2"],
+            ),
+        );
+        holds(&rt, shown.as_str().ends_with(" text 'x' interval 2 None"));
+        let shown = made(
+            &rt,
+            show(
+                rt.alloc(),
+                &[*role, "--listen", A, "--data", "x", "--count", "0"],
+            ),
+        );
+        holds(&rt, shown.as_str().ends_with(" text 'x' None"));
     }
     let answers: &[&str] = &["--rep", "--respondent"];
     for role in answers {
-        let shown = show(rt.alloc(), &[*role, "--listen", A, "--data", "x"])?;
-        assert!(rt; shown.as_str().ends_with(" text 'x' None"));
+        let shown = made(
+            &rt,
+            show(rt.alloc(), &[*role, "--listen", A, "--data", "x"]),
+        );
+        holds(&rt, shown.as_str().ends_with(" text 'x' None"));
     }
     let silent: &[&str] = &["--pull", "--rep", "--respondent", "--pair", "--bus"];
     for role in silent {
-        let shown = show(rt.alloc(), &[*role, "--listen", A])?;
-        assert!(rt; shown.as_str().ends_with(" listen 127.0.0.1:5555 None"));
-        let shown = show(rt.alloc(), &[*role, "--listen", A, "--count", "3"])?;
-        assert!(rt; shown.as_str().ends_with(" count 3 None"));
+        let shown = made(&rt, show(rt.alloc(), &[*role, "--listen", A]));
+        holds(&rt, shown.as_str().ends_with(" listen 127.0.0.1:5555 None"));
+        let shown = made(
+            &rt,
+            show(rt.alloc(), &[*role, "--listen", A, "--count", "3"]),
+        );
+        holds(&rt, shown.as_str().ends_with(" count 3 None"));
     }
-    Ok(())
 }
 
 #[test]
-fn each_name_of_a_role_is_that_role(rt: HostRuntime) -> Result<(), Fail> {
+fn each_name_of_a_role_is_that_role(rt: HostRuntime) {
     let names: &[(&str, &str, &str)] = &[
         ("--pair", "--pair0", "Pair0 listen"),
         ("--pub", "--pub0", "Pub listen"),
@@ -312,11 +324,10 @@ fn each_name_of_a_role_is_that_role(rt: HostRuntime) -> Result<(), Fail> {
             } else {
                 "--data=x"
             };
-            let shown = show(rt.alloc(), &[word, "--listen", A, last])?;
-            assert!(rt; shown.as_str().starts_with(front));
+            let shown = made(&rt, show(rt.alloc(), &[word, "--listen", A, last]));
+            holds(&rt, shown.as_str().starts_with(front));
         }
     }
-    Ok(())
 }
 
 // Whether the data of a push of these words are these bytes.
@@ -348,16 +359,16 @@ fn sends_file(alloc: Global, name: &str) -> Result<bool, NoMemory> {
 }
 
 #[test]
-fn data_are_the_bytes_of_the_text(rt: HostRuntime) -> Result<(), Fail> {
-    assert!(rt; sends(rt.alloc(), "\u{e9}", &[0xc3, 0xa9])?);
-    assert!(rt;
+fn data_are_the_bytes_of_the_text(rt: HostRuntime) {
+    is_true(&rt, sends(rt.alloc(), "\u{e9}", &[0xc3, 0xa9]));
+    is_true(
+        &rt,
         sends(
             rt.alloc(),
             "\u{20ac}a\u{1f600}",
-            b"\xe2\x82\xaca\xf0\x9f\x98\x80"
-        )?
+            b"\xe2\x82\xaca\xf0\x9f\x98\x80",
+        ),
     );
-    Ok(())
 }
 
 // So many times a letter.
@@ -370,15 +381,14 @@ fn repeated(alloc: Global, times: u32) -> Result<String, NoMemory> {
 }
 
 #[test]
-fn long_data_and_long_names_are_read(rt: HostRuntime) -> Result<(), Fail> {
-    let name = repeated(rt.alloc(), 4_096)?;
-    assert_eq!(rt; name.len(), 4_096);
-    assert!(rt; sends_file(rt.alloc(), name.as_str())?);
+fn long_data_and_long_names_are_read(rt: HostRuntime) {
+    let name = made(&rt, repeated(rt.alloc(), 4_096));
+    same(&rt, name.len(), 4_096);
+    is_true(&rt, sends_file(rt.alloc(), name.as_str()));
     // The longest word that Linux hands to a program.
-    let text = repeated(rt.alloc(), 131_071)?;
-    assert_eq!(rt; text.len(), 131_071);
-    assert!(rt; sends(rt.alloc(), text.as_str(), text.as_bytes())?);
-    Ok(())
+    let text = made(&rt, repeated(rt.alloc(), 131_071));
+    same(&rt, text.len(), 131_071);
+    is_true(&rt, sends(rt.alloc(), text.as_str(), text.as_bytes()));
 }
 
 // Some words behind those that are there.
@@ -406,18 +416,23 @@ fn longest(alloc: Global) -> Result<Vec<String>, NoMemory> {
 }
 
 #[test]
-fn the_longest_list_is_read(rt: HostRuntime) -> Result<(), Fail> {
-    let list = longest(rt.alloc())?;
-    assert_eq!(rt; list.len(), 266);
-    let mut wanted = String::from_str(rt.alloc(), "Sub")?;
+fn the_longest_list_is_read(rt: HostRuntime) {
+    let list = made(&rt, longest(rt.alloc()));
+    same(&rt, list.len(), 266);
+    let mut wanted = made(&rt, String::from_str(rt.alloc(), "Sub"));
     for _ in 0..32u32 {
-        wanted.push_str(" listen 127.0.0.1:5555 dial 127.0.0.1:5556")?;
+        made(
+            &rt,
+            wanted.push_str(" listen 127.0.0.1:5555 dial 127.0.0.1:5556"),
+        );
     }
     for _ in 0..32u32 {
-        wanted.push_str(" topic 'a' topic 'b'")?;
+        made(&rt, wanted.push_str(" topic 'a' topic 'b'"));
     }
-    wanted.push_str(" count 1 interval 2 recv 3 send 4 Hex")?;
-    let shown = show_words(rt.alloc(), &list)?;
-    assert_eq!(rt; shown.as_str(), wanted.as_str());
-    Ok(())
+    made(
+        &rt,
+        wanted.push_str(" count 1 interval 2 recv 3 send 4 Hex"),
+    );
+    let shown = made(&rt, show_words(rt.alloc(), &list));
+    same(&rt, shown.as_str(), wanted.as_str());
 }
