@@ -1,15 +1,15 @@
 //! Links in memory that are opened by a greeting, by serving and by asking, with exact bytes.
-ghost use Rattle.std.specs.Prelude.{IfOk};
 ghost use Rattle.sp_base.specs.Steps.{IsNew};
 ghost use Rattle.sp_fakes.specs.MemLinks.{link_view};
 ghost use Rattle.link_opening.specs.Openings.{CanBegin};
 ghost use Rattle.link_opening.specs.Going.{IsUnderWay};
 
+use crate::checks::{holds, made};
 use link_opening::{Opening, Progress, Way};
 use sp_base::{Addr, Bytes, Host, Role, Scheme};
 use sp_fakes::{LinkStep, MemLink};
-use std::alloc::{AllocError, Global};
-use std::test::Fail;
+use std::alloc::Global;
+use std::process::Abort;
 
 const REQUEST: &[u8] =
     b"GET / HTTP/1.1\r\nHost: 127.0.0.1:5555\r\nUpgrade: websocket\r\nConnection: Upgrade\r\nSec-WebSocket-Key: dGhlIHNhbXBsZSBub25jZQ==\r\nSec-WebSocket-Version: 13\r\nSec-WebSocket-Protocol: rep.sp.nanomsg.org\r\n\r\n";
@@ -26,20 +26,25 @@ const ANSWERED: &[u8] =
 
 // A link that takes 40 bytes a write. It brings these pieces, the second after so many bytes were written.
 fn linked(
+    rt: &impl Abort,
     alloc: Global,
     first: &[u8],
     after: u64,
     second: &[u8],
     scheme: Scheme,
-) -> Result<MemLink, AllocError>
-    ensures { IfOk result (λ l. IsNew (link_view l).place (link_view l)) }
+) -> MemLink
+    ensures { IsNew (link_view result).place (link_view result) }
 {
     let mut script = Vec::new(alloc);
-    script.push(LinkStep::Bytes(Bytes::from_vec(Vec::from_slice(alloc, first)?)))?;
-    script.push(LinkStep::NotYet)?;
-    script.push(LinkStep::After(after))?;
-    script.push(LinkStep::Bytes(Bytes::from_vec(Vec::from_slice(alloc, second)?)))?;
-    Ok(MemLink::new(alloc, script, 40, Vec::new(alloc)).placed(0, scheme))
+    made(rt, script.push(LinkStep::Bytes(bytes(rt, alloc, first))));
+    made(rt, script.push(LinkStep::NotYet));
+    made(rt, script.push(LinkStep::After(after)));
+    made(rt, script.push(LinkStep::Bytes(bytes(rt, alloc, second))));
+    MemLink::new(alloc, script, 40, Vec::new(alloc)).placed(0, scheme)
+}
+
+fn bytes(rt: &impl Abort, alloc: Global, text: &[u8]) -> Bytes {
+    Bytes::from_vec(made(rt, Vec::from_slice(alloc, text)))
 }
 
 // Tries twice, where the first try waits.
@@ -88,77 +93,83 @@ fn is_behind(came: &[u8], used: Option<usize>, behind: &[u8]) -> bool {
 }
 
 #[test]
-fn a_listening_link_answers(rt: HostRuntime) -> Result<(), Fail> {
+fn a_listening_link_answers(rt: HostRuntime) {
     let alloc = rt.alloc();
-    let link = linked(alloc, &REQUEST[..100], 0, &REQUEST[100..], Scheme::Ws)?;
-    let path = Bytes::from_vec(Vec::from_slice(alloc, b"/")?);
-    assert!(rt; opens(alloc, link, Role::Rep, Way::Serves { path }, RESPONSE, b""));
-    Ok(())
+    let link = linked(&rt, alloc, &REQUEST[..100], 0, &REQUEST[100..], Scheme::Ws);
+    let path = bytes(&rt, alloc, b"/");
+    holds(
+        &rt,
+        opens(alloc, link, Role::Rep, Way::Serves { path }, RESPONSE, b""),
+    );
 }
 
 #[test]
-fn a_dialing_link_asks_first(rt: HostRuntime) -> Result<(), Fail> {
+fn a_dialing_link_asks_first(rt: HostRuntime) {
     let alloc = rt.alloc();
-    let mut all = Vec::from_slice(alloc, ANSWERED)?;
-    all.extend_from_slice(b"\x82\x00")?;
-    let link = linked(alloc, b"", 197, &all, Scheme::Ws)?;
-    let path = Bytes::from_vec(Vec::from_slice(alloc, b"/")?);
+    let mut all = made(&rt, Vec::from_slice(alloc, ANSWERED));
+    made(&rt, all.extend_from_slice(b"\x82\x00"));
+    let link = linked(&rt, alloc, b"", 197, &all, Scheme::Ws);
+    let path = bytes(&rt, alloc, b"/");
     let addr = Addr::Ws {
         host: Host::V4(127, 0, 0, 1),
         port: 5555,
         path,
     };
-    assert!(rt;
+    holds(
+        &rt,
         opens(
             alloc,
             link,
             Role::Req,
             Way::Asks { addr, start: 0 },
             ASKED,
-            b"\x82\x00"
-        )
+            b"\x82\x00",
+        ),
     );
-    Ok(())
 }
 
 #[test]
-fn both_sides_greet_over_tcp(rt: HostRuntime) -> Result<(), Fail> {
+fn both_sides_greet_over_tcp(rt: HostRuntime) {
     let alloc = rt.alloc();
     let link = linked(
+        &rt,
         alloc,
         b"\x00SP",
         8,
         b"\x00\x00\x30\x00\x00\x00\x00",
         Scheme::Tcp,
-    )?;
-    assert!(rt;
+    );
+    holds(
+        &rt,
         opens(
             alloc,
             link,
             Role::Rep,
             Way::Greeting,
             b"\x00SP\x00\x00\x31\x00\x00",
-            b"\x00\x00"
-        )
+            b"\x00\x00",
+        ),
     );
-    Ok(())
 }
 
 #[test]
-fn what_is_wrong_is_not_answered(rt: HostRuntime) -> Result<(), Fail> {
+fn what_is_wrong_is_not_answered(rt: HostRuntime) {
     let alloc = rt.alloc();
-    let link = linked(alloc, b"\x00SQ", 0, b"", Scheme::Tcp)?;
-    assert!(rt;
+    let link = linked(&rt, alloc, b"\x00SQ", 0, b"", Scheme::Tcp);
+    holds(
+        &rt,
         is_bad(
             alloc,
             link,
             Role::Rep,
             Way::Greeting,
-            b"\x00SP\x00\x00\x31\x00\x00"
-        )
+            b"\x00SP\x00\x00\x31\x00\x00",
+        ),
     );
-    let path = Bytes::from_vec(Vec::from_slice(alloc, b"/b")?);
-    let link = linked(alloc, REQUEST, 0, b"", Scheme::Ws)?;
-    assert!(rt; is_bad(alloc, link, Role::Rep, Way::Serves { path }, b""));
-    Ok(())
+    let path = bytes(&rt, alloc, b"/b");
+    let link = linked(&rt, alloc, REQUEST, 0, b"", Scheme::Ws);
+    holds(
+        &rt,
+        is_bad(alloc, link, Role::Rep, Way::Serves { path }, b""),
+    );
 }
