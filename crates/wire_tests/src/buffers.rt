@@ -1,14 +1,15 @@
 //! What the buffer of a wire comes to after a large message.
-ghost use Rattle.std.specs.Prelude.{◌≡◌, true, IfOk};
+ghost use Rattle.std.specs.Prelude.{◌≡◌, true};
 ghost use Rattle.wire_tests.specs.Untolds.{untold_view};
 
-use sp_base::{Bytes, Link, LinkRead, LinkWrite, NoMemory};
+use crate::checks::{holds, made, same};
+use sp_base::{Bytes, Link, LinkRead, LinkWrite};
 use sp_fakes::{LinkStep, MemLink};
 use sp_msg::{Wire, WireIn};
 use sp_tcp::TcpWire;
 use std::alloc::Global;
+use std::process::Abort;
 use std::sync::Wait;
-use std::test::Fail;
 
 /// The body of a large message.
 const LARGE: usize = 1_048_576;
@@ -49,31 +50,28 @@ fn is_send_over<L: Link + Send>() {
 }
 
 // The frame of a large message.
-fn large(alloc: Global) -> Result<Bytes, NoMemory> {
-    let mut frame = Bytes::from_slice(alloc, &(LARGE as u64).to_be_bytes())?;
+fn large(rt: &impl Abort, alloc: Global) -> Bytes {
+    let mut frame = made(rt, Bytes::from_slice(alloc, &(LARGE as u64).to_be_bytes()));
     let piece = [7u8; 1_024];
     for _ in 0..LARGE / 1_024 {
-        frame.append(&piece)?;
+        made(rt, frame.append(&piece));
     }
-    Ok(frame)
+    frame
 }
 
 // A wire over a link that brings a large message, and then nothing for ever.
-fn wire(alloc: Global) -> Result<TcpWire<NotingLink>, NoMemory>
-    ensures { IfOk result (λ w. w.wire.is_open ≡ true) }
+fn wire(rt: &impl Abort, alloc: Global) -> TcpWire<NotingLink>
+    ensures { result.wire.is_open ≡ true }
 {
     let mut script = Vec::new(alloc);
-    script.push(LinkStep::Bytes(large(alloc)?))?;
+    made(rt, script.push(LinkStep::Bytes(large(rt, alloc))));
     let link = NotingLink {
         link: MemLink::new(alloc, script, 1, Vec::new(alloc)),
         room: 0,
     };
     match TcpWire::new(alloc, link, &[], LARGE as u32) {
-        Ok(wire) => Ok(wire),
-        Err((e, link)) => {
-            let _ = link;
-            Err(e)
-        }
+        Ok(wire) => wire,
+        Err(_) => panic!(rt; "no memory for a wire"),
     }
 }
 
@@ -97,19 +95,18 @@ fn pulled<W: Wire, R: Wait>(rt: &R, wire: &mut W, times: u32) -> usize
 }
 
 // The room of the last read of so many pulls; none where the message didn't come whole.
-fn room_after<R: Wait>(alloc: Global, rt: &R, times: u32) -> Result<Option<usize>, NoMemory> {
-    let mut wire = wire(alloc)?;
+fn room_after<R: Wait + Abort>(alloc: Global, rt: &R, times: u32) -> Option<usize> {
+    let mut wire = wire(rt, alloc);
     let came = pulled(rt, &mut wire, times);
     let NotingLink { link: _, room } = wire.into_link();
-    Ok((came == LARGE).then_some(room))
+    (came == LARGE).then_some(room)
 }
 
 // The first pull gives the message, and the second one finds nothing more and lets the buffer go.
 #[test]
-fn a_wire_reads_into_little_room_after_a_large_message(rt: HostRuntime) -> Result<(), Fail> {
-    let before = room_after(rt.alloc(), &rt, 2)?;
-    let after = room_after(rt.alloc(), &rt, 3)?;
-    assert!(rt; matches!(before, Some(room) if room >= LARGE));
-    assert_eq!(rt; after, Some(1_024));
-    Ok(())
+fn a_wire_reads_into_little_room_after_a_large_message(rt: HostRuntime) {
+    let before = room_after(rt.alloc(), &rt, 2);
+    let after = room_after(rt.alloc(), &rt, 3);
+    holds(&rt, matches!(before, Some(room) if room >= LARGE));
+    same(&rt, after, Some(1_024));
 }

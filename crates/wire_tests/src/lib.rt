@@ -6,6 +6,8 @@
 #[cfg(test)]
 mod buffers;
 #[cfg(test)]
+mod checks;
+#[cfg(test)]
 mod tests;
 mod tube;
 mod untold;

@@ -5,4 +5,4 @@ use Rattle.sp_spec.proofs.Shows.{length-frame}
 use Rattle.wire_tests.proofs.tests.plainly.Goals as goal
 
 pub pass-requires : goal.pass-requires
-pass-requires c = omega (arith, ap length c.in-Message.ensures.front.1.1, length-append (frame c.in-Message.body.now) c.in-Message.ensures.front.1.0, length-frame c.in-Message.body.now)
+pass-requires g c = omega (arith, ap length c.in-Message.ensures.front.1.1, length-append (frame c.in-Message.body.now) c.in-Message.ensures.front.1.0, length-frame c.in-Message.body.now)
