@@ -1,24 +1,26 @@
 //! What a wire pulls of the frames that come (RFC 6455 sections 5.2 to 5.7).
-ghost use Rattle.std.specs.Prelude.{◌≡◌, true, IfOk};
+ghost use Rattle.std.specs.Prelude.{◌≡◌, true};
 ghost use Rattle.sp_fakes.specs.MemLinks.{link_view};
 
-use sp_base::{Bytes, NoMemory};
+use crate::checks::{holds, made, same};
+use sp_base::Bytes;
 use sp_fakes::{LinkStep, MemLink};
 use sp_msg::{Room, Wire, WireFlush, WireIn};
 use sp_ws::{Side, WsWire};
 use std::alloc::Global;
+use std::process::Abort;
 use std::sync::Wait;
-use std::test::Fail;
 
 const MAX: u32 = 1_048_576;
 
 /// The bytes in pieces of so many with a pause behind each, and then this step.
 pub(crate) fn pieces(
+    rt: &impl Abort,
     alloc: Global,
     bytes: &[u8],
     piece: usize,
     last: LinkStep,
-) -> Result<Vec<LinkStep>, NoMemory> {
+) -> Vec<LinkStep> {
     let mut script = Vec::new(alloc);
     let mut at = 0;
     for _ in 0..bytes.len() {
@@ -26,71 +28,87 @@ pub(crate) fn pieces(
             break;
         }
         let end = at.saturating_add(piece).min(bytes.len());
-        script.push(LinkStep::Bytes(Bytes::from_slice(alloc, &bytes[at..end])?))?;
-        script.push(LinkStep::NotYet)?;
+        made(
+            rt,
+            script.push(LinkStep::Bytes(made(rt, Bytes::from_slice(alloc, &bytes[at..end])))),
+        );
+        made(rt, script.push(LinkStep::NotYet));
         at = end;
     }
-    script.push(last)?;
-    Ok(script)
+    made(rt, script.push(last));
+    script
 }
 
 /// A wire over a link.
 pub(crate) fn over(
+    rt: &impl Abort,
     alloc: Global,
     link: MemLink,
     side: Side,
     rest: &[u8],
     max: u32,
-) -> Result<WsWire<MemLink>, NoMemory>
+) -> WsWire<MemLink>
     requires { (link_view link).is_open ≡ true }
-    ensures { IfOk result (λ w. w.wire.is_open ≡ true) }
+    ensures { result.wire.is_open ≡ true }
 {
     match WsWire::new(alloc, link, side, rest, max) {
-        Ok(wire) => Ok(wire),
-        Err((e, link)) => {
-            let _ = link;
-            Err(e)
-        }
+        Ok(wire) => wire,
+        Err(_) => panic!(rt; "no memory for a wire"),
     }
 }
 
 // What is pulled: each body in brackets, and how it ends.
-fn pulls<W: Wire, R: Wait>(alloc: Global, rt: &R, wire: &mut W) -> Result<Vec<u8>, NoMemory>
+fn pulls<W: Wire, R: Wait + Abort>(alloc: Global, rt: &R, wire: &mut W) -> Vec<u8>
     requires { (W.shown wire.old).is_open ≡ true }
 {
     let mut said = Vec::new(alloc);
     'turns: for _ in 0..200 {
         match wire.pull(rt) {
             WireIn::Message(m) => {
-                said.push(b'[')?;
-                said.extend_from_slice(m.body())?;
-                said.push(b']')?;
+                made(rt, said.push(b'['));
+                made(rt, said.extend_from_slice(m.body()));
+                made(rt, said.push(b']'));
             }
             WireIn::NotYet => {}
             WireIn::Ended => {
-                said.push(b'e')?;
-                return Ok(said);
+                made(rt, said.push(b'e'));
+                return said;
             }
             WireIn::Malformed => {
-                said.push(b'x')?;
-                return Ok(said);
+                made(rt, said.push(b'x'));
+                return said;
             }
             WireIn::Failed => {
-                said.push(b'f')?;
-                return Ok(said);
+                made(rt, said.push(b'f'));
+                return said;
             }
             WireIn::Refused => {
-                said.push(b'r')?;
-                return Ok(said);
+                made(rt, said.push(b'r'));
+                return said;
             }
-            WireIn::NoMemory => return Err(NoMemory),
+            WireIn::NoMemory => panic!(rt; "no memory"),
         }
     }
-    Ok(said)
+    said
+}
+
+// The same of a wire on this side over this link, which has read this already.
+fn pulled<R: Wait + Abort>(
+    alloc: Global,
+    rt: &R,
+    link: MemLink,
+    side: Side,
+    rest: &[u8],
+    max: u32,
+) -> Vec<u8>
+    requires { (link_view link).is_open ≡ true }
+{
+    let mut wire = over(rt, alloc, link, side, rest, max);
+    pulls(alloc, rt, &mut wire)
 }
 
 /// Whether a wire on this side pulls what is wanted of these bytes, in pieces of so many.
-pub(crate) fn gives<R: Wait>(
+pub(crate) fn gives<R: Wait + Abort>(
     alloc: Global,
     rt: &R,
     side: Side,
@@ -98,31 +116,29 @@ pub(crate) fn gives<R: Wait>(
     piece: usize,
     max: u32,
     wanted: &[u8],
-) -> Result<bool, NoMemory> {
-    let script = pieces(alloc, bytes, piece, LinkStep::End)?;
+) -> bool {
+    let script = pieces(rt, alloc, bytes, piece, LinkStep::End);
     let link = MemLink::new(alloc, script, 100, Vec::new(alloc));
-    let mut wire = over(alloc, link, side, &[], max)?;
-    let said = pulls(alloc, rt, &mut wire)?;
-    Ok(said.as_slice() == wanted)
+    pulled(alloc, rt, link, side, &[], max).as_slice() == wanted
 }
 
 // Whether it does so byte by byte, and all at once.
-fn gives_both<R: Wait>(
+fn gives_both<R: Wait + Abort>(
     alloc: Global,
     rt: &R,
     side: Side,
     bytes: &[u8],
     wanted: &[u8],
-) -> Result<bool, NoMemory> {
-    let slow = gives(alloc, rt, side, bytes, 1, MAX, wanted)?;
-    let quick = gives(alloc, rt, side, bytes, 10_000, MAX, wanted)?;
-    Ok(slow && quick)
+) -> bool {
+    let slow = gives(alloc, rt, side, bytes, 1, MAX, wanted);
+    let quick = gives(alloc, rt, side, bytes, 10_000, MAX, wanted);
+    slow && quick
 }
 
 const HELLO: &[u8] = b"\x82\x85\x37\xfa\x21\x3d\x7f\x9f\x4d\x51\x58";
 
 #[test]
-fn a_server_pulls_binary_messages(rt: HostRuntime) -> Result<(), Fail> {
+fn a_server_pulls_binary_messages(rt: HostRuntime) {
     let rows: &[(&[u8], &[u8])] = &[
         (HELLO, b"[Hello]e"),
         (b"\x82\x80\x00\x00\x00\x00", b"[]e"),
@@ -159,13 +175,15 @@ fn a_server_pulls_binary_messages(rt: HostRuntime) -> Result<(), Fail> {
         ),
     ];
     for (bytes, wanted) in rows {
-        assert!(rt; gives_both(rt.alloc(), &rt, Side::Server, bytes, wanted)?);
+        holds(
+            &rt,
+            gives_both(rt.alloc(), &rt, Side::Server, bytes, wanted),
+        );
     }
-    Ok(())
 }
 
 #[test]
-fn a_server_refuses_what_is_no_binary_message(rt: HostRuntime) -> Result<(), Fail> {
+fn a_server_refuses_what_is_no_binary_message(rt: HostRuntime) {
     let rows: &[(&[u8], &[u8])] = &[
         (b"\x81\x85\x37\xfa\x21\x3d\x7f\x9f\x4d\x51\x58", b"x"),
         (b"\x82\x01\x71", b"x"),
@@ -200,13 +218,15 @@ fn a_server_refuses_what_is_no_binary_message(rt: HostRuntime) -> Result<(), Fai
         ),
     ];
     for (bytes, wanted) in rows {
-        assert!(rt; gives_both(rt.alloc(), &rt, Side::Server, bytes, wanted)?);
+        holds(
+            &rt,
+            gives_both(rt.alloc(), &rt, Side::Server, bytes, wanted),
+        );
     }
-    Ok(())
 }
 
 #[test]
-fn a_client_pulls_unmasked_messages(rt: HostRuntime) -> Result<(), Fail> {
+fn a_client_pulls_unmasked_messages(rt: HostRuntime) {
     let client = Side::Client { seed: 7 };
     let rows: &[(&[u8], &[u8])] = &[
         (b"\x82\x05Hello", b"[Hello]e"),
@@ -218,89 +238,102 @@ fn a_client_pulls_unmasked_messages(rt: HostRuntime) -> Result<(), Fail> {
         (b"\x88\x00", b"e"),
     ];
     for (bytes, wanted) in rows {
-        assert!(rt; gives_both(rt.alloc(), &rt, client, bytes, wanted)?);
+        holds(&rt, gives_both(rt.alloc(), &rt, client, bytes, wanted));
     }
-    Ok(())
 }
 
 #[test]
-fn a_message_has_at_most_max_bytes(rt: HostRuntime) -> Result<(), Fail> {
+fn a_message_has_at_most_max_bytes(rt: HostRuntime) {
     let five: &[u8] = b"\x02\x83\x00\x00\x00\x00abc\x80\x82\x00\x00\x00\x00de";
-    assert!(rt; gives(rt.alloc(), &rt, Side::Server, five, 100, 5, b"[abcde]e")?);
-    assert!(rt; gives(rt.alloc(), &rt, Side::Server, five, 100, 4, b"x")?);
-    assert!(rt; gives(rt.alloc(), &rt, Side::Server, HELLO, 100, 5, b"[Hello]e")?);
-    assert!(rt; gives(rt.alloc(), &rt, Side::Server, HELLO, 100, 4, b"x")?);
+    holds(
+        &rt,
+        gives(rt.alloc(), &rt, Side::Server, five, 100, 5, b"[abcde]e"),
+    );
+    holds(
+        &rt,
+        gives(rt.alloc(), &rt, Side::Server, five, 100, 4, b"x"),
+    );
+    holds(
+        &rt,
+        gives(rt.alloc(), &rt, Side::Server, HELLO, 100, 5, b"[Hello]e"),
+    );
+    holds(
+        &rt,
+        gives(rt.alloc(), &rt, Side::Server, HELLO, 100, 4, b"x"),
+    );
     // the second fragment passes the limit, and no fragment is the last
     let begun: &[u8] = b"\x02\x83\x00\x00\x00\x00abc\x00\x82\x00\x00\x00\x00de";
-    assert!(rt; gives(rt.alloc(), &rt, Side::Server, begun, 100, 4, b"x")?);
-    Ok(())
+    holds(
+        &rt,
+        gives(rt.alloc(), &rt, Side::Server, begun, 100, 4, b"x"),
+    );
 }
 
 // A masked frame of so many bytes 0, with its length in eight bytes.
-fn zeroes(alloc: Global, length: u64) -> Result<Vec<u8>, NoMemory> {
-    let mut frame = Vec::from_slice(alloc, b"\x82\xff")?;
-    frame.extend_from_slice(&length.to_be_bytes())?;
-    frame.extend_from_slice(&[0, 0, 0, 0])?;
+fn zeroes(rt: &impl Abort, alloc: Global, length: u64) -> Vec<u8> {
+    let mut frame = made(rt, Vec::from_slice(alloc, b"\x82\xff"));
+    made(rt, frame.extend_from_slice(&length.to_be_bytes()));
+    made(rt, frame.extend_from_slice(&[0, 0, 0, 0]));
     for _ in 0..length {
-        frame.push(0)?;
+        made(rt, frame.push(0));
     }
-    Ok(frame)
+    frame
 }
 
-// How long the first message is that this side pulls of these bytes; and whether what it pulls is malformed.
-fn first_length<R: Wait>(
-    alloc: Global,
-    rt: &R,
-    side: Side,
-    bytes: &[u8],
-) -> Result<(usize, bool), NoMemory> {
-    let mut script = Vec::new(alloc);
-    script.push(LinkStep::Bytes(Bytes::from_slice(alloc, bytes)?))?;
-    let link = MemLink::new(alloc, script, 100, Vec::new(alloc));
-    let mut wire = over(alloc, link, side, &[], MAX)?;
+// How long the first message is that the wire pulls; and whether what it pulls is malformed.
+fn first_of<W: Wire, R: Wait + Abort>(rt: &R, wire: &mut W) -> (usize, bool)
+    requires { (W.shown wire.old).is_open ≡ true }
+{
     match wire.pull(rt) {
-        WireIn::Message(m) => Ok((m.body().len(), false)),
-        WireIn::Malformed => Ok((0, true)),
-        WireIn::NoMemory => Err(NoMemory),
-        _ => Ok((0, false)),
+        WireIn::Message(m) => (m.body().len(), false),
+        WireIn::Malformed => (0, true),
+        WireIn::NoMemory => panic!(rt; "no memory"),
+        _ => (0, false),
     }
 }
 
-#[test]
-fn a_mebibyte_is_pulled_and_no_byte_more(rt: HostRuntime) -> Result<(), Fail> {
-    let longest = zeroes(rt.alloc(), 1_048_576)?;
-    let first = first_length(rt.alloc(), &rt, Side::Server, &longest)?;
-    assert_eq!(rt; first, (1_048_576, false));
-    let longer = zeroes(rt.alloc(), 1_048_577)?;
-    let first = first_length(rt.alloc(), &rt, Side::Server, &longer)?;
-    assert_eq!(rt; first, (0, true));
-    Ok(())
+// The same of a wire on this side, to which these bytes come.
+fn first_length<R: Wait + Abort>(alloc: Global, rt: &R, side: Side, bytes: &[u8]) -> (usize, bool) {
+    let script = pieces(rt, alloc, bytes, bytes.len(), LinkStep::NotYet);
+    let link = MemLink::new(alloc, script, 100, Vec::new(alloc));
+    let mut wire = over(rt, alloc, link, side, &[], MAX);
+    first_of(rt, &mut wire)
 }
 
 #[test]
-fn a_client_pulls_frames_of_each_length(rt: HostRuntime) -> Result<(), Fail> {
+fn a_mebibyte_is_pulled_and_no_byte_more(rt: HostRuntime) {
+    let longest = zeroes(&rt, rt.alloc(), 1_048_576);
+    let first = first_length(rt.alloc(), &rt, Side::Server, &longest);
+    same(&rt, first, (1_048_576, false));
+    let longer = zeroes(&rt, rt.alloc(), 1_048_577);
+    let first = first_length(rt.alloc(), &rt, Side::Server, &longer);
+    same(&rt, first, (0, true));
+}
+
+#[test]
+fn a_client_pulls_frames_of_each_length(rt: HostRuntime) {
     let rows: &[(&[u8], usize)] = &[
         (b"\x82\x7d", 125),
         (b"\x82\x7e\x01\x00", 256),
         (b"\x82\x7f\x00\x00\x00\x00\x00\x01\x00\x00", 65_536),
     ];
     for (header, length) in rows {
-        let mut frame = Vec::from_slice(rt.alloc(), header)?;
-        frame.resize(header.len().saturating_add(*length), b'a')?;
-        let first = first_length(rt.alloc(), &rt, Side::Client { seed: 7 }, &frame)?;
-        assert_eq!(rt; first, (*length, false));
+        let mut frame = made(&rt, Vec::from_slice(rt.alloc(), header));
+        made(
+            &rt,
+            frame.resize(header.len().saturating_add(*length), b'a'),
+        );
+        let first = first_length(rt.alloc(), &rt, Side::Client { seed: 7 }, &frame);
+        same(&rt, first, (*length, false));
     }
-    Ok(())
 }
 
 #[test]
-fn bytes_behind_the_head_come_first(rt: HostRuntime) -> Result<(), Fail> {
-    let script = pieces(rt.alloc(), b"\x58", 1, LinkStep::End)?;
+fn bytes_behind_the_head_come_first(rt: HostRuntime) {
+    let script = pieces(&rt, rt.alloc(), b"\x58", 1, LinkStep::End);
     let link = MemLink::new(rt.alloc(), script, 100, Vec::new(rt.alloc()));
-    let mut w = over(rt.alloc(), link, Side::Server, &HELLO[..10], MAX)?;
-    let said = pulls(rt.alloc(), &rt, &mut w)?;
-    assert!(rt; said.as_slice() == b"[Hello]e".as_slice());
-    Ok(())
+    let said = pulled(rt.alloc(), &rt, link, Side::Server, &HELLO[..10], MAX);
+    same(&rt, said.as_slice(), b"[Hello]e".as_slice());
 }
 
 // Whether the wire has room and nothing to write, and then pulls this message.
@@ -320,24 +353,20 @@ fn gives_after_a_flush<R: Wait>(rt: &R, w: &mut WsWire<MemLink>, wanted: &[u8]) 
 }
 
 #[test]
-fn bytes_behind_the_head_stay_while_nothing_is_pulled(rt: HostRuntime) -> Result<(), Fail> {
+fn bytes_behind_the_head_stay_while_nothing_is_pulled(rt: HostRuntime) {
     let link = MemLink::new(rt.alloc(), Vec::new(rt.alloc()), 100, Vec::new(rt.alloc()));
-    let mut w = over(rt.alloc(), link, Side::Server, HELLO, MAX)?;
-    assert!(rt; gives_after_a_flush(&rt, &mut w, b"Hello"));
-    Ok(())
+    let mut w = over(&rt, rt.alloc(), link, Side::Server, HELLO, MAX);
+    holds(&rt, gives_after_a_flush(&rt, &mut w, b"Hello"));
 }
 
 #[test]
-fn a_link_that_fails_fails_its_wire(rt: HostRuntime) -> Result<(), Fail> {
-    let script = pieces(rt.alloc(), &HELLO[..10], 4, LinkStep::Fail)?;
+fn a_link_that_fails_fails_its_wire(rt: HostRuntime) {
+    let script = pieces(&rt, rt.alloc(), &HELLO[..10], 4, LinkStep::Fail);
     let link = MemLink::new(rt.alloc(), script, 100, Vec::new(rt.alloc()));
-    let mut w = over(rt.alloc(), link, Side::Server, &[], MAX)?;
-    let said = pulls(rt.alloc(), &rt, &mut w)?;
-    assert!(rt; said.as_slice() == b"f".as_slice());
-    let script = pieces(rt.alloc(), HELLO, 4, LinkStep::Fail)?;
+    let said = pulled(rt.alloc(), &rt, link, Side::Server, &[], MAX);
+    same(&rt, said.as_slice(), b"f".as_slice());
+    let script = pieces(&rt, rt.alloc(), HELLO, 4, LinkStep::Fail);
     let link = MemLink::new(rt.alloc(), script, 100, Vec::new(rt.alloc()));
-    let mut w = over(rt.alloc(), link, Side::Server, &[], MAX)?;
-    let said = pulls(rt.alloc(), &rt, &mut w)?;
-    assert!(rt; said.as_slice() == b"[Hello]f".as_slice());
-    Ok(())
+    let said = pulled(rt.alloc(), &rt, link, Side::Server, &[], MAX);
+    same(&rt, said.as_slice(), b"[Hello]f".as_slice());
 }

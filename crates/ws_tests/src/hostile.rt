@@ -1,41 +1,42 @@
 //! Wrong heads, each named by the first rule that it breaks (RFC 6455 section 4.2.1): more than 220 of them, and the sample with
 //! each of its bytes but the last four replaced by 0.
 
+use crate::checks::{holds, made, same};
 use crate::opening::{H, fault, varied, with_lines, without_returns};
 use sp_upgrade::HeadFault;
-use std::alloc::{AllocError, Global};
-use std::test::Fail;
+use std::alloc::Global;
+use std::process::Abort;
 
 // Whether the sample with each of these texts in place of the old one has this fault; else the number of the first
 // that has not.
 fn first_other(
+    rt: &impl Abort,
     alloc: Global,
     old: &[u8],
     texts: &[&[u8]],
     wanted: HeadFault,
-) -> Result<Option<usize>, AllocError> {
+) -> Option<usize> {
     for (number, new) in texts.iter().enumerate() {
-        let came = varied(alloc, H, old, new)?;
+        let came = varied(rt, alloc, H, old, new);
         if fault(alloc, &came) != Some(wanted) {
-            return Ok(Some(number));
+            return Some(number);
         }
     }
-    Ok(None)
+    None
 }
 
 #[test]
-fn other_methods_are_refused(rt: HostRuntime) -> Result<(), Fail> {
+fn other_methods_are_refused(rt: HostRuntime) {
     let texts: &[&[u8]] = &[
         b"POST", b"PUT", b"HEAD", b"DELETE", b"OPTIONS", b"TRACE", b"CONNECT", b"PATCH", b"get",
         b"Get", b"gET", b"GETS", b"GE", b"G", b"PRI", b"LINK", b"MKCOL", b"PURGE", b"GOT", b"XGET",
     ];
-    let other = first_other(rt.alloc(), b"GET", texts, HeadFault::Method)?;
-    assert_eq!(rt; other, None);
-    Ok(())
+    let other = first_other(&rt, rt.alloc(), b"GET", texts, HeadFault::Method);
+    same(&rt, other, None);
 }
 
 #[test]
-fn other_targets_are_refused(rt: HostRuntime) -> Result<(), Fail> {
+fn other_targets_are_refused(rt: HostRuntime) {
     let texts: &[&[u8]] = &[
         b"GET /b ",
         b"GET /?x ",
@@ -51,16 +52,15 @@ fn other_targets_are_refused(rt: HostRuntime) -> Result<(), Fail> {
         b"GET b ",
         b"GET \\ ",
     ];
-    let other = first_other(rt.alloc(), b"GET / ", texts, HeadFault::Path)?;
-    assert_eq!(rt; other, None);
-    Ok(())
+    let other = first_other(&rt, rt.alloc(), b"GET / ", texts, HeadFault::Path);
+    same(&rt, other, None);
 }
 
 #[test]
-fn other_versions_of_http_are_refused(rt: HostRuntime) -> Result<(), Fail> {
+fn other_versions_of_http_are_refused(rt: HostRuntime) {
     let old: &[&[u8]] = &[b"HTTP/1.0"];
-    let other = first_other(rt.alloc(), b"HTTP/1.1", old, HeadFault::Version)?;
-    assert_eq!(rt; other, None);
+    let other = first_other(&rt, rt.alloc(), b"HTTP/1.1", old, HeadFault::Version);
+    same(&rt, other, None);
     let texts: &[&[u8]] = &[
         b"HTTP/1.2",
         b"HTTP/2.0",
@@ -75,13 +75,12 @@ fn other_versions_of_http_are_refused(rt: HostRuntime) -> Result<(), Fail> {
         b"HTTP /1.1",
         b"RTSP/1.1",
     ];
-    let other = first_other(rt.alloc(), b"HTTP/1.1", texts, HeadFault::NotHttp)?;
-    assert_eq!(rt; other, None);
-    Ok(())
+    let other = first_other(&rt, rt.alloc(), b"HTTP/1.1", texts, HeadFault::NotHttp);
+    same(&rt, other, None);
 }
 
 #[test]
-fn what_is_no_head_is_refused(rt: HostRuntime) -> Result<(), Fail> {
+fn what_is_no_head_is_refused(rt: HostRuntime) {
     let texts: &[&[u8]] = &[
         b"Host\r\n",
         b"Host : x\r\n",
@@ -102,23 +101,32 @@ fn what_is_no_head_is_refused(rt: HostRuntime) -> Result<(), Fail> {
         b"\nHost: x\r\n",
     ];
     let other = first_other(
+        &rt,
         rt.alloc(),
         b"Host: 127.0.0.1:5555\r\n",
         texts,
         HeadFault::NotHttp,
-    )?;
-    assert_eq!(rt; other, None);
-    assert_eq!(rt; fault(rt.alloc(), b"x\r\n\r\n"), Some(HeadFault::NotHttp));
-    assert_eq!(rt; fault(rt.alloc(), b"\r\n\r\n"), Some(HeadFault::NotHttp));
-    assert_eq!(rt;
-        fault(rt.alloc(), b"\x16\x03\x01\r\n\r\n"),
-        Some(HeadFault::NotHttp)
     );
-    Ok(())
+    same(&rt, other, None);
+    same(
+        &rt,
+        fault(rt.alloc(), b"x\r\n\r\n"),
+        Some(HeadFault::NotHttp),
+    );
+    same(
+        &rt,
+        fault(rt.alloc(), b"\r\n\r\n"),
+        Some(HeadFault::NotHttp),
+    );
+    same(
+        &rt,
+        fault(rt.alloc(), b"\x16\x03\x01\r\n\r\n"),
+        Some(HeadFault::NotHttp),
+    );
 }
 
 #[test]
-fn folded_lines_are_refused(rt: HostRuntime) -> Result<(), Fail> {
+fn folded_lines_are_refused(rt: HostRuntime) {
     let rows: &[(&[u8], &[u8])] = &[
         (b"Upgrade: websocket", b"Upgrade:\r\n websocket"),
         (b"Upgrade: websocket", b"Upgrade: h2c,\r\n\twebsocket"),
@@ -131,42 +139,39 @@ fn folded_lines_are_refused(rt: HostRuntime) -> Result<(), Fail> {
         (b"nanomsg.org", b"nanomsg.org\r\n , x"),
     ];
     for (old, new) in rows {
-        let came = varied(rt.alloc(), H, old, new)?;
-        assert_eq!(rt; fault(rt.alloc(), &came), Some(HeadFault::NotHttp));
+        let came = varied(&rt, rt.alloc(), H, old, new);
+        same(&rt, fault(rt.alloc(), &came), Some(HeadFault::NotHttp));
     }
-    Ok(())
 }
 
 #[test]
-fn lines_that_end_in_lf_alone_end_no_head(rt: HostRuntime) -> Result<(), Fail> {
-    let mut came = without_returns(rt.alloc(), H)?;
-    assert_eq!(rt; fault(rt.alloc(), &came), None);
-    came.extend_from_slice(b"\r\n\r\n")?;
-    assert_eq!(rt; fault(rt.alloc(), &came), Some(HeadFault::NotHttp));
-    Ok(())
+fn lines_that_end_in_lf_alone_end_no_head(rt: HostRuntime) {
+    let mut came = without_returns(&rt, rt.alloc(), H);
+    same(&rt, fault(rt.alloc(), &came), None);
+    made(&rt, came.extend_from_slice(b"\r\n\r\n"));
+    same(&rt, fault(rt.alloc(), &came), Some(HeadFault::NotHttp));
 }
 
 #[test]
-fn heads_of_too_many_lines_are_refused(rt: HostRuntime) -> Result<(), Fail> {
+fn heads_of_too_many_lines_are_refused(rt: HostRuntime) {
     let counts: &[usize] = &[59, 60, 64, 100, 1_000];
     for more in counts {
-        let came = with_lines(rt.alloc(), *more)?;
-        assert_eq!(rt; fault(rt.alloc(), &came), Some(HeadFault::NotHttp));
+        let came = with_lines(&rt, rt.alloc(), *more);
+        same(&rt, fault(rt.alloc(), &came), Some(HeadFault::NotHttp));
     }
-    Ok(())
 }
 
 // These bytes, and behind them this line 8,192 times.
-fn endless(alloc: Global, begun: &[u8], line: &[u8]) -> Result<Vec<u8>, AllocError> {
-    let mut came = Vec::from_slice(alloc, begun)?;
+fn endless(rt: &impl Abort, alloc: Global, begun: &[u8], line: &[u8]) -> Vec<u8> {
+    let mut came = made(rt, Vec::from_slice(alloc, begun));
     for _ in 0..8_192u32 {
-        came.extend_from_slice(line)?;
+        made(rt, came.extend_from_slice(line));
     }
-    Ok(came)
+    came
 }
 
 #[test]
-fn heads_that_never_end_are_refused(rt: HostRuntime) -> Result<(), Fail> {
+fn heads_that_never_end_are_refused(rt: HostRuntime) {
     let lines: &[&[u8]] = &[
         b"a",
         b"\0",
@@ -178,29 +183,28 @@ fn heads_that_never_end_are_refused(rt: HostRuntime) -> Result<(), Fail> {
         b"Host: 127.0.0.1:5555\r\n",
     ];
     for line in lines {
-        let came = endless(rt.alloc(), b"", line)?;
-        assert_eq!(rt; fault(rt.alloc(), &came), Some(HeadFault::TooLong));
-        let came = endless(rt.alloc(), &H[..195], line)?;
-        assert_eq!(rt; fault(rt.alloc(), &came), Some(HeadFault::TooLong));
+        let came = endless(&rt, rt.alloc(), b"", line);
+        same(&rt, fault(rt.alloc(), &came), Some(HeadFault::TooLong));
+        let came = endless(&rt, rt.alloc(), &H[..195], line);
+        same(&rt, fault(rt.alloc(), &came), Some(HeadFault::TooLong));
     }
-    Ok(())
 }
 
 #[test]
-fn heads_without_a_host_are_refused(rt: HostRuntime) -> Result<(), Fail> {
+fn heads_without_a_host_are_refused(rt: HostRuntime) {
     let texts: &[&[u8]] = &[b"", b"Hosts: x\r\n", b"X-Host: x\r\n", b"Hos: x\r\n"];
     let other = first_other(
+        &rt,
         rt.alloc(),
         b"Host: 127.0.0.1:5555\r\n",
         texts,
         HeadFault::Host,
-    )?;
-    assert_eq!(rt; other, None);
-    Ok(())
+    );
+    same(&rt, other, None);
 }
 
 #[test]
-fn other_upgrades_are_refused(rt: HostRuntime) -> Result<(), Fail> {
+fn other_upgrades_are_refused(rt: HostRuntime) {
     let texts: &[&[u8]] = &[
         b"X: y",
         b"Upgrade: h2c",
@@ -218,13 +222,18 @@ fn other_upgrades_are_refused(rt: HostRuntime) -> Result<(), Fail> {
         b"Upgrades: websocket",
         b"Upgrade: xwebsocket",
     ];
-    let other = first_other(rt.alloc(), b"Upgrade: websocket", texts, HeadFault::Upgrade)?;
-    assert_eq!(rt; other, None);
-    Ok(())
+    let other = first_other(
+        &rt,
+        rt.alloc(),
+        b"Upgrade: websocket",
+        texts,
+        HeadFault::Upgrade,
+    );
+    same(&rt, other, None);
 }
 
 #[test]
-fn other_connections_are_refused(rt: HostRuntime) -> Result<(), Fail> {
+fn other_connections_are_refused(rt: HostRuntime) {
     let texts: &[&[u8]] = &[
         b"X: y",
         b"Connection: keep-alive",
@@ -243,17 +252,17 @@ fn other_connections_are_refused(rt: HostRuntime) -> Result<(), Fail> {
         b"Connection: websocket",
     ];
     let other = first_other(
+        &rt,
         rt.alloc(),
         b"Connection: Upgrade",
         texts,
         HeadFault::Connection,
-    )?;
-    assert_eq!(rt; other, None);
-    Ok(())
+    );
+    same(&rt, other, None);
 }
 
 #[test]
-fn other_versions_of_websocket_are_refused(rt: HostRuntime) -> Result<(), Fail> {
+fn other_versions_of_websocket_are_refused(rt: HostRuntime) {
     let texts: &[&[u8]] = &[
         b"Sec-WebSocket-Version: 12",
         b"Sec-WebSocket-Version: 8",
@@ -274,17 +283,17 @@ fn other_versions_of_websocket_are_refused(rt: HostRuntime) -> Result<(), Fail> 
         b"Sec-WebSocket-Version: 13\r\nsec-websocket-version: 8",
     ];
     let other = first_other(
+        &rt,
         rt.alloc(),
         b"Sec-WebSocket-Version: 13",
         texts,
         HeadFault::WsVersion,
-    )?;
-    assert_eq!(rt; other, None);
-    Ok(())
+    );
+    same(&rt, other, None);
 }
 
 #[test]
-fn other_keys_are_refused(rt: HostRuntime) -> Result<(), Fail> {
+fn other_keys_are_refused(rt: HostRuntime) {
     let texts: &[&[u8]] = &[
         b"AAAA",
         b"",
@@ -308,31 +317,30 @@ fn other_keys_are_refused(rt: HostRuntime) -> Result<(), Fail> {
         b"dGhlIHNhbXBsZSBub25jZQ==\r\nSec-WebSocket-Key: dGhlIHNhbXBsZSBub25jZQ==",
     ];
     let other = first_other(
+        &rt,
         rt.alloc(),
         b"dGhlIHNhbXBsZSBub25jZQ==",
         texts,
         HeadFault::Key,
-    )?;
-    assert_eq!(rt; other, None);
+    );
+    same(&rt, other, None);
     let none: &[&[u8]] = &[b"X-Key"];
-    let other = first_other(rt.alloc(), b"Sec-WebSocket-Key", none, HeadFault::Key)?;
-    assert_eq!(rt; other, None);
-    Ok(())
+    let other = first_other(&rt, rt.alloc(), b"Sec-WebSocket-Key", none, HeadFault::Key);
+    same(&rt, other, None);
 }
 
 #[test]
-fn keys_of_zeroes_that_are_not_16_bytes_are_refused(rt: HostRuntime) -> Result<(), Fail> {
+fn keys_of_zeroes_that_are_not_16_bytes_are_refused(rt: HostRuntime) {
     for length in 0..32usize {
         let mut key = Vec::new(rt.alloc());
-        key.resize(length, b'A')?;
-        let came = varied(rt.alloc(), H, b"dGhlIHNhbXBsZSBub25jZQ==", &key)?;
-        assert_eq!(rt; fault(rt.alloc(), &came), Some(HeadFault::Key));
+        made(&rt, key.resize(length, b'A'));
+        let came = varied(&rt, rt.alloc(), H, b"dGhlIHNhbXBsZSBub25jZQ==", &key);
+        same(&rt, fault(rt.alloc(), &came), Some(HeadFault::Key));
     }
-    Ok(())
 }
 
 #[test]
-fn other_subprotocols_are_refused(rt: HostRuntime) -> Result<(), Fail> {
+fn other_subprotocols_are_refused(rt: HostRuntime) {
     let texts: &[&[u8]] = &[
         b"pair.sp.nanomsg.org",
         b"pair1.sp.nanomsg.org",
@@ -364,31 +372,32 @@ fn other_subprotocols_are_refused(rt: HostRuntime) -> Result<(), Fail> {
         b"chat, superchat",
     ];
     let other = first_other(
+        &rt,
         rt.alloc(),
         b"rep.sp.nanomsg.org",
         texts,
         HeadFault::Protocol,
-    )?;
-    assert_eq!(rt; other, None);
+    );
+    same(&rt, other, None);
     let none: &[&[u8]] = &[b"X-Protocol"];
     let other = first_other(
+        &rt,
         rt.alloc(),
         b"Sec-WebSocket-Protocol",
         none,
         HeadFault::Protocol,
-    )?;
-    assert_eq!(rt; other, None);
-    Ok(())
+    );
+    same(&rt, other, None);
 }
 
 #[test]
-fn a_byte_0_stands_in_no_head(rt: HostRuntime) -> Result<(), Fail> {
-    let mut came = Vec::from_slice(rt.alloc(), H)?;
+fn a_byte_0_stands_in_no_head(rt: HostRuntime) {
+    let mut came = made(&rt, Vec::from_slice(rt.alloc(), H));
     for at in 0..193usize {
-        assert!(rt; at < came.len() && at < H.len());
+        holds(&rt, at < came.len());
+        holds(&rt, at < H.len());
         came[at] = 0;
-        assert_eq!(rt; fault(rt.alloc(), &came), Some(HeadFault::NotHttp));
+        same(&rt, fault(rt.alloc(), &came), Some(HeadFault::NotHttp));
         came[at] = H[at];
     }
-    Ok(())
 }

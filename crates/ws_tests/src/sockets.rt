@@ -1,9 +1,9 @@
 //! What a socket over memory gives, sends and keeps, call by call.
 
-use sp_base::NoMemory;
+use crate::checks::{holds, is_ok, made, same};
 use sp_ws::{FrameIn, FrameOut, Frames, MemorySocket, Side};
 use std::alloc::Global;
-use std::test::Fail;
+use std::process::Abort;
 
 const HELLO: &[u8] = b"\x82\x85\x37\xfa\x21\x3d\x7f\x9f\x4d\x51\x58";
 
@@ -27,46 +27,47 @@ fn take(socket: &mut MemorySocket, n: usize) {
 }
 
 #[test]
-fn a_socket_gives_what_was_fed_and_keeps_what_was_sent(rt: HostRuntime) -> Result<(), Fail> {
+fn a_socket_gives_what_was_fed_and_keeps_what_was_sent(rt: HostRuntime) {
     let mut socket = MemorySocket::new(rt.alloc(), Side::Server, 100);
-    assert!(rt; socket.feed(HELLO).is_ok());
-    assert!(rt; gives(&mut socket, b"Hello"));
-    assert!(rt; is_idle(&mut socket));
-    assert!(rt; socket.waiting().is_empty());
-    assert_eq!(rt; socket.send(b"q"), FrameOut::Done);
-    assert!(rt; socket.waiting() == b"\x82\x01q".as_slice());
+    is_ok(&rt, socket.feed(HELLO));
+    holds(&rt, gives(&mut socket, b"Hello"));
+    holds(&rt, is_idle(&mut socket));
+    holds(&rt, socket.waiting().is_empty());
+    same(&rt, socket.send(b"q"), FrameOut::Done);
+    same(&rt, socket.waiting(), b"\x82\x01q".as_slice());
     take(&mut socket, 2);
-    assert!(rt; socket.waiting() == b"q".as_slice());
-    Ok(())
+    same(&rt, socket.waiting(), b"q".as_slice());
 }
 
 #[test]
-fn what_is_fed_comes_behind_what_was_fed(rt: HostRuntime) -> Result<(), Fail> {
+fn what_is_fed_comes_behind_what_was_fed(rt: HostRuntime) {
     let mut socket = MemorySocket::new(rt.alloc(), Side::Server, 10_000);
     let mut body = Vec::new(rt.alloc());
-    body.resize(9_000, b'a')?;
-    let mut both = Vec::from_slice(rt.alloc(), b"\x82\xfe\x23\x28\x00\x00\x00\x00")?;
-    both.extend_from_slice(&body)?;
-    both.extend_from_slice(HELLO)?;
+    made(&rt, body.resize(9_000, b'a'));
+    let mut both = made(
+        &rt,
+        Vec::from_slice(rt.alloc(), b"\x82\xfe\x23\x28\x00\x00\x00\x00"),
+    );
+    made(&rt, both.extend_from_slice(&body));
+    made(&rt, both.extend_from_slice(HELLO));
     // The socket reads some 4,096 bytes at a time, so some are handed over and not read when more are fed.
-    assert!(rt; socket.feed(HELLO).is_ok());
-    assert!(rt; socket.feed(&both).is_ok());
-    assert!(rt; gives(&mut socket, b"Hello"));
-    assert!(rt; socket.feed(HELLO).is_ok());
-    assert!(rt; gives(&mut socket, &body));
-    assert!(rt; gives(&mut socket, b"Hello"));
-    assert!(rt; gives(&mut socket, b"Hello"));
-    assert!(rt; is_idle(&mut socket));
-    Ok(())
+    is_ok(&rt, socket.feed(HELLO));
+    is_ok(&rt, socket.feed(&both));
+    holds(&rt, gives(&mut socket, b"Hello"));
+    is_ok(&rt, socket.feed(HELLO));
+    holds(&rt, gives(&mut socket, &body));
+    holds(&rt, gives(&mut socket, b"Hello"));
+    holds(&rt, gives(&mut socket, b"Hello"));
+    holds(&rt, is_idle(&mut socket));
 }
 
 // So many pings with the body `p`.
-fn pings(alloc: Global, count: u32) -> Result<Vec<u8>, NoMemory> {
+fn pings(rt: &impl Abort, alloc: Global, count: u32) -> Vec<u8> {
     let mut bytes = Vec::new(alloc);
     for _ in 0..count {
-        bytes.extend_from_slice(b"\x89\x81\x00\x00\x00\x00p")?;
+        made(rt, bytes.extend_from_slice(b"\x89\x81\x00\x00\x00\x00p"));
     }
-    Ok(bytes)
+    bytes
 }
 
 // The most bytes that wait while pings come in so many pieces and the link takes nothing; 0 where one isn't passed over.
@@ -83,30 +84,28 @@ fn most_waiting(socket: &mut MemorySocket, pings: &[u8], pieces: u32) -> usize {
 
 // 100,000 pings, of which the link takes no pong; then it takes all, and the last ping has its pong.
 #[test]
-fn pongs_do_not_pile_up(rt: HostRuntime) -> Result<(), Fail> {
+fn pongs_do_not_pile_up(rt: HostRuntime) {
     let mut socket = MemorySocket::new(rt.alloc(), Side::Server, 100);
-    let bytes = pings(rt.alloc(), 2_000)?;
-    assert_eq!(rt; most_waiting(&mut socket, &bytes, 50), 18_000);
-    assert!(rt; socket.feed(b"\x89\x84\x00\x00\x00\x00last").is_ok());
-    assert!(rt; is_idle(&mut socket));
+    let bytes = pings(&rt, rt.alloc(), 2_000);
+    same(&rt, most_waiting(&mut socket, &bytes, 50), 18_000);
+    is_ok(&rt, socket.feed(b"\x89\x84\x00\x00\x00\x00last"));
+    holds(&rt, is_idle(&mut socket));
     take(&mut socket, 17_999);
-    assert!(rt; is_idle(&mut socket));
-    assert!(rt; socket.waiting() == b"p".as_slice());
+    holds(&rt, is_idle(&mut socket));
+    same(&rt, socket.waiting(), b"p".as_slice());
     take(&mut socket, 1);
-    assert!(rt; is_idle(&mut socket));
-    assert!(rt; socket.waiting() == b"\x8a\x04last".as_slice());
-    Ok(())
+    holds(&rt, is_idle(&mut socket));
+    same(&rt, socket.waiting(), b"\x8a\x04last".as_slice());
 }
 
 // Ten pings in ten pieces have ten pongs, and a message between them keeps its place.
 #[test]
-fn each_ping_has_its_pong(rt: HostRuntime) -> Result<(), Fail> {
+fn each_ping_has_its_pong(rt: HostRuntime) {
     let mut socket = MemorySocket::new(rt.alloc(), Side::Server, 100);
-    let one = pings(rt.alloc(), 1)?;
-    assert_eq!(rt; most_waiting(&mut socket, &one, 5), 15);
-    assert_eq!(rt; socket.send(b"q"), FrameOut::Done);
-    assert_eq!(rt; most_waiting(&mut socket, &one, 5), 33);
+    let one = pings(&rt, rt.alloc(), 1);
+    same(&rt, most_waiting(&mut socket, &one, 5), 15);
+    same(&rt, socket.send(b"q"), FrameOut::Done);
+    same(&rt, most_waiting(&mut socket, &one, 5), 33);
     take(&mut socket, 15);
-    assert!(rt; socket.waiting().starts_with(b"\x82\x01q\x8a\x01p"));
-    Ok(())
+    holds(&rt, socket.waiting().starts_with(b"\x82\x01q\x8a\x01p"));
 }

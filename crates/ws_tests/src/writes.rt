@@ -1,189 +1,198 @@
 //! What a wire writes (RFC 6455 sections 5.2, 5.3 and 5.5).
-ghost use Rattle.std.specs.Prelude.{◌≡◌, true, IfOk};
+ghost use Rattle.std.specs.Prelude.{◌≡◌, true};
 
+use crate::checks::{holds, made, same};
 use crate::frames::{gives, over, pieces};
-use sp_base::NoMemory;
 use sp_fakes::{LinkStep, MemLink};
 use sp_msg::{Message, Room, Wire, WireFlush, WireIn};
 use sp_ws::{Side, WsWire};
 use std::alloc::Global;
+use std::process::Abort;
 use std::sync::Wait;
-use std::test::Fail;
 
 const MAX: u32 = 1_048_576;
 
 // A wire over a link that gives nothing and takes so many bytes a write; the writes with these numbers fail.
 fn quiet(
+    rt: &impl Abort,
     alloc: Global,
     side: Side,
     take: usize,
     fails: Vec<u64>,
-) -> Result<WsWire<MemLink>, NoMemory>
-    ensures { IfOk result (λ w. w.wire.is_open ≡ true) }
+) -> WsWire<MemLink>
+    ensures { result.wire.is_open ≡ true }
 {
     let link = MemLink::new(alloc, Vec::new(alloc), take, fails);
-    over(alloc, link, side, &[], MAX)
+    over(rt, alloc, link, side, &[], MAX)
 }
 
 // What a wire on this side writes after it pulled all of these bytes, which are no message; nothing where the pull or
 // the flush returns otherwise.
-fn answered<R: Wait>(alloc: Global, rt: &R, side: Side, bytes: &[u8]) -> Result<Vec<u8>, NoMemory> {
-    let script = pieces(alloc, bytes, 100, LinkStep::NotYet)?;
+fn answered<R: Wait + Abort>(alloc: Global, rt: &R, side: Side, bytes: &[u8]) -> Vec<u8> {
+    let script = pieces(rt, alloc, bytes, 100, LinkStep::NotYet);
     let link = MemLink::new(alloc, script, 100, Vec::new(alloc));
-    let mut w = over(alloc, link, side, &[], MAX)?;
+    let mut w = over(rt, alloc, link, side, &[], MAX);
     let WireIn::NotYet = w.pull(rt) else {
-        return Ok(Vec::new(alloc));
+        return Vec::new(alloc);
     };
     let WireFlush::Empty = w.flush(rt) else {
-        return Ok(Vec::new(alloc));
+        return Vec::new(alloc);
     };
     let link = w.into_link();
-    Ok(Vec::from_slice(alloc, link.written())?)
+    made(rt, Vec::from_slice(alloc, link.written()))
 }
 
 #[test]
-fn a_pong_answers_a_ping(rt: HostRuntime) -> Result<(), Fail> {
+fn a_pong_answers_a_ping(rt: HostRuntime) {
     let ping: &[u8] = b"\x89\x81\x00\x00\x00\x00p";
-    let bare = answered(rt.alloc(), &rt, Side::Server, ping)?;
-    assert!(rt; bare.as_slice() == b"\x8a\x01p".as_slice());
-    let masked = answered(rt.alloc(), &rt, Side::Client { seed: 7 }, b"\x89\x01p")?;
-    assert!(rt; masked.as_slice() == b"\x8a\x81\x51\x75\xda\x14\x21".as_slice());
-    Ok(())
+    let bare = answered(rt.alloc(), &rt, Side::Server, ping);
+    same(&rt, bare.as_slice(), b"\x8a\x01p".as_slice());
+    let masked = answered(rt.alloc(), &rt, Side::Client { seed: 7 }, b"\x89\x01p");
+    same(
+        &rt,
+        masked.as_slice(),
+        b"\x8a\x81\x51\x75\xda\x14\x21".as_slice(),
+    );
 }
 
 #[test]
-fn nothing_is_written_after_a_close(rt: HostRuntime) -> Result<(), Fail> {
+fn nothing_is_written_after_a_close(rt: HostRuntime) {
     let script = pieces(
+        &rt,
         rt.alloc(),
         b"\x88\x82\x00\x00\x00\x00\x03\xe8",
         100,
         LinkStep::NotYet,
-    )?;
+    );
     let link = MemLink::new(rt.alloc(), script, 100, Vec::new(rt.alloc()));
-    let mut w = over(rt.alloc(), link, Side::Server, &[], MAX)?;
+    let mut w = over(&rt, rt.alloc(), link, Side::Server, &[], MAX);
     match w.pull(&rt) {
         WireIn::Ended => {}
         _ => assert!(rt; false),
     }
-    assert!(rt; w.into_link().written().is_empty());
-    Ok(())
+    holds(&rt, w.into_link().written().is_empty());
 }
 
 // Puts messages `q` until there is no room; how many, and the answer then.
-fn fills<R: Wait>(
-    alloc: Global,
-    rt: &R,
-    wire: &mut WsWire<MemLink>,
-) -> Result<(u32, Room), NoMemory>
+fn fills<R: Wait + Abort>(alloc: Global, rt: &R, wire: &mut WsWire<MemLink>) -> (u32, Room)
     requires { wire.old.wire.is_open ≡ true }
 {
     let mut count = 0;
     for _ in 0..40u32 {
         match wire.room(rt) {
             Room::Yes => {
-                let m = Message::from_body(alloc, b"q")?;
+                let m = made(rt, Message::from_body(alloc, b"q"));
                 wire.put(rt, m);
                 count += 1;
             }
-            other => return Ok((count, other)),
+            other => return (count, other),
         }
     }
-    Ok((count, Room::Yes))
+    (count, Room::Yes)
 }
 
 #[test]
-fn sixteen_messages_wait_at_most(rt: HostRuntime) -> Result<(), Fail> {
-    let mut w = quiet(rt.alloc(), Side::Server, 0, Vec::new(rt.alloc()))?;
-    assert_eq!(rt; fills(rt.alloc(), &rt, &mut w)?, (16, Room::Full));
-    Ok(())
+fn sixteen_messages_wait_at_most(rt: HostRuntime) {
+    let mut w = quiet(&rt, rt.alloc(), Side::Server, 0, Vec::new(rt.alloc()));
+    same(&rt, fills(rt.alloc(), &rt, &mut w), (16, Room::Full));
 }
 
 // How many messages a wire takes whose write with this number fails, what it returns then, and how much was written.
-fn until_it_fails<R: Wait>(
+fn until_it_fails<R: Wait + Abort>(
     alloc: Global,
     rt: &R,
     side: Side,
     take: usize,
     write: u64,
-) -> Result<(u32, Room, usize), NoMemory> {
-    let mut w = quiet(alloc, side, take, Vec::from_slice(alloc, &[write])?)?;
-    let (count, answer) = fills(alloc, rt, &mut w)?;
-    Ok((count, answer, w.into_link().written().len()))
+) -> (u32, Room, usize) {
+    let mut w = quiet(
+        rt,
+        alloc,
+        side,
+        take,
+        made(rt, Vec::from_slice(alloc, &[write])),
+    );
+    let (count, answer) = fills(alloc, rt, &mut w);
+    (count, answer, w.into_link().written().len())
 }
 
 #[test]
-fn a_write_that_fails_fails_its_wire(rt: HostRuntime) -> Result<(), Fail> {
-    let first = until_it_fails(rt.alloc(), &rt, Side::Server, 100, 0)?;
-    assert_eq!(rt; first, (1, Room::Failed, 0));
-    let third = until_it_fails(rt.alloc(), &rt, Side::Client { seed: 1 }, 2, 2)?;
-    assert_eq!(rt; third, (1, Room::Failed, 4));
-    Ok(())
+fn a_write_that_fails_fails_its_wire(rt: HostRuntime) {
+    let first = until_it_fails(rt.alloc(), &rt, Side::Server, 100, 0);
+    same(&rt, first, (1, Room::Failed, 0));
+    let third = until_it_fails(rt.alloc(), &rt, Side::Client { seed: 1 }, 2, 2);
+    same(&rt, third, (1, Room::Failed, 4));
 }
 
 // A wire that sends one message in writes of so many bytes; what it wrote.
-fn sent<R: Wait>(alloc: Global, rt: &R, side: Side, take: usize) -> Result<Vec<u8>, NoMemory> {
-    let mut w = quiet(alloc, side, take, Vec::new(alloc))?;
+fn sent<R: Wait + Abort>(alloc: Global, rt: &R, side: Side, take: usize) -> Vec<u8> {
+    let mut w = quiet(rt, alloc, side, take, Vec::new(alloc));
     if let Room::Yes = w.room(rt) {
-        let mut m = Message::from_body(alloc, b"q")?;
+        let mut m = made(rt, Message::from_body(alloc, b"q"));
         let _ = m.header_append_u32(0x8000_0005);
         w.put(rt, m);
         let _ = w.flush(rt);
     }
     let link = w.into_link();
-    Ok(Vec::from_slice(alloc, link.written())?)
+    made(rt, Vec::from_slice(alloc, link.written()))
 }
 
 #[test]
-fn a_message_is_one_binary_frame(rt: HostRuntime) -> Result<(), Fail> {
+fn a_message_is_one_binary_frame(rt: HostRuntime) {
     let frame = b"\x82\x05\x80\x00\x00\x05q";
-    assert!(rt; sent(rt.alloc(), &rt, Side::Server, 1)?.as_slice() == frame.as_slice());
-    assert!(rt; sent(rt.alloc(), &rt, Side::Server, 100)?.as_slice() == frame.as_slice());
-    let masked = sent(rt.alloc(), &rt, Side::Client { seed: 7 }, 3)?;
-    assert_eq!(rt; masked.len(), 11);
-    assert!(rt; masked.starts_with(b"\x82\x85"));
+    same(
+        &rt,
+        sent(rt.alloc(), &rt, Side::Server, 1).as_slice(),
+        frame.as_slice(),
+    );
+    same(
+        &rt,
+        sent(rt.alloc(), &rt, Side::Server, 100).as_slice(),
+        frame.as_slice(),
+    );
+    let masked = sent(rt.alloc(), &rt, Side::Client { seed: 7 }, 3);
+    same(&rt, masked.len(), 11);
+    holds(&rt, masked.starts_with(b"\x82\x85"));
     let wanted: &[u8] = b"[\x80\x00\x00\x05q]e";
-    assert!(rt; gives(rt.alloc(), &rt, Side::Server, &masked, 2, MAX, wanted)?);
-    Ok(())
+    holds(
+        &rt,
+        gives(rt.alloc(), &rt, Side::Server, &masked, 2, MAX, wanted),
+    );
 }
 
 // Whether there was room for one message more.
-fn puts<R: Wait>(
-    alloc: Global,
-    rt: &R,
-    w: &mut WsWire<MemLink>,
-    body: &[u8],
-) -> Result<bool, NoMemory>
+fn puts<R: Wait + Abort>(alloc: Global, rt: &R, w: &mut WsWire<MemLink>, body: &[u8]) -> bool
     requires { w.old.wire.is_open ≡ true }
-    ensures { IfOk result (λ put. put ≡ true → w.new.wire.is_open ≡ true) }
+    ensures { result ≡ true → w.new.wire.is_open ≡ true }
 {
     let Room::Yes = w.room(rt) else {
-        return Ok(false);
+        return false;
     };
-    let m = Message::from_body(alloc, body)?;
+    let m = made(rt, Message::from_body(alloc, body));
     w.put(rt, m);
-    Ok(true)
+    true
 }
 
 #[test]
-fn each_frame_has_its_own_mask(rt: HostRuntime) -> Result<(), Fail> {
+fn each_frame_has_its_own_mask(rt: HostRuntime) {
     let mut w = quiet(
+        &rt,
         rt.alloc(),
         Side::Client { seed: 7 },
         100,
         Vec::new(rt.alloc()),
-    )?;
+    );
     let body: &[u8] = b"\x80\x00\x00\x05q";
-    if puts(rt.alloc(), &rt, &mut w, body)? && puts(rt.alloc(), &rt, &mut w, body)? {
+    if puts(rt.alloc(), &rt, &mut w, body) && puts(rt.alloc(), &rt, &mut w, body) {
         let _ = w.flush(&rt);
     }
     let wanted: &[u8] =
         b"\x82\x85\x7e\x43\x28\xbc\xfe\x43\x28\xb9\x0f\x82\x85\xf4\xa6\x1a\x7f\x74\xa6\x1a\x7a\x85";
-    assert!(rt; w.into_link().written() == wanted);
-    Ok(())
+    same(&rt, w.into_link().written(), wanted);
 }
 
 #[test]
-fn a_server_writes_frames_of_each_length(rt: HostRuntime) -> Result<(), Fail> {
+fn a_server_writes_frames_of_each_length(rt: HostRuntime) {
     let rows: &[(usize, &[u8])] = &[
         (125, b"\x82\x7d"),
         (126, b"\x82\x7e\x00\x7e"),
@@ -192,14 +201,18 @@ fn a_server_writes_frames_of_each_length(rt: HostRuntime) -> Result<(), Fail> {
     ];
     for (length, header) in rows {
         let mut body = Vec::new(rt.alloc());
-        body.resize(*length, b'a')?;
-        let mut w = quiet(rt.alloc(), Side::Server, 100_000, Vec::new(rt.alloc()))?;
-        if puts(rt.alloc(), &rt, &mut w, &body)? {
+        made(&rt, body.resize(*length, b'a'));
+        let mut w = quiet(&rt, rt.alloc(), Side::Server, 100_000, Vec::new(rt.alloc()));
+        if puts(rt.alloc(), &rt, &mut w, &body) {
             let _ = w.flush(&rt);
         }
         let link = w.into_link();
-        assert!(rt; link.written().starts_with(header) && link.written().ends_with(&body));
-        assert_eq!(rt; link.written().len(), header.len().saturating_add(*length));
+        holds(&rt, link.written().starts_with(header));
+        holds(&rt, link.written().ends_with(&body));
+        same(
+            &rt,
+            link.written().len(),
+            header.len().saturating_add(*length),
+        );
     }
-    Ok(())
 }
