@@ -2,8 +2,14 @@
 #![tactic(auto)]
 
 #[cfg(test)]
-mod parts;
+mod checks;
 #[cfg(test)]
-mod tests;
+mod ends;
+#[cfg(test)]
+mod pipes;
+#[cfg(test)]
+mod receives;
+#[cfg(test)]
+mod sends;
 #[cfg(test)]
 mod threads;
