@@ -25,14 +25,14 @@ use denote.Triple.Entry.{alive}
 use denote.Triple.Spec.{Meets, triple_of}
 use denote.Triple.Table.{entered}
 use denote.Triple.Walked.{says, Stays, stay_dropped, walk_of, ends_at, walk_Meets, Goes-dropped}
-use Rattle.cat_run.specs.Real.{counts_view}
-use Rattle.cat_run.proofs.FieldlessStructs.{none, none_made}
-use Rattle.cat_run.specs.contracts.back.ReturnedLinks as ReturnedLinks
-use Rattle.cat_run.specs.contracts.real.Counts as Counts
-use Rattle.cat_run.specs.contracts.back.ReturnedLinks.with as F
-use Rattle.cat_run.specs.contracts.back.ReturnedLinks.with.Key.{name as #self}
-use Rattle.cat_run.proofs.back.ReturnedLinks.with.Statement as stated
-use Rattle.cat_run.proofs.back.ReturnedLinks.with.Code as code
+use Rattle.cat_real.specs.Real.{counts_view}
+use Rattle.cat_real.proofs.FieldlessStructs.{none, none_made}
+use Rattle.cat_real.specs.contracts.back.ReturnedLinks as ReturnedLinks
+use Rattle.cat_real.specs.contracts.tcp.Counts as Counts
+use Rattle.cat_real.specs.contracts.back.ReturnedLinks.with as F
+use Rattle.cat_real.specs.contracts.back.ReturnedLinks.with.Key.{name as #self}
+use Rattle.cat_real.proofs.back.ReturnedLinks.with.Statement as stated
+use Rattle.cat_real.proofs.back.ReturnedLinks.with.Code as code
 
 abbrev function : Fn
 function = code.function

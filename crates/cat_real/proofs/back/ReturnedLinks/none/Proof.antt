@@ -23,12 +23,12 @@ use denote.Triple.Entry.{alive}
 use denote.Triple.Spec.{Meets, triple_of}
 use denote.Triple.Table.{entered}
 use denote.Triple.Walked.{says, Stays, walk_of, ends_at, walk_Meets}
-use Rattle.cat_run.proofs.FieldlessStructs.{none, none_made}
-use Rattle.cat_run.specs.contracts.back.ReturnedLinks as ReturnedLinks
-use Rattle.cat_run.specs.contracts.back.ReturnedLinks.none as F
-use Rattle.cat_run.specs.contracts.back.ReturnedLinks.none.Key.{name as #self}
-use Rattle.cat_run.proofs.back.ReturnedLinks.none.Statement as stated
-use Rattle.cat_run.proofs.back.ReturnedLinks.none.Code as code
+use Rattle.cat_real.proofs.FieldlessStructs.{none, none_made}
+use Rattle.cat_real.specs.contracts.back.ReturnedLinks as ReturnedLinks
+use Rattle.cat_real.specs.contracts.back.ReturnedLinks.none as F
+use Rattle.cat_real.specs.contracts.back.ReturnedLinks.none.Key.{name as #self}
+use Rattle.cat_real.proofs.back.ReturnedLinks.none.Statement as stated
+use Rattle.cat_real.proofs.back.ReturnedLinks.none.Code as code
 
 abbrev function : Fn
 function = code.function
