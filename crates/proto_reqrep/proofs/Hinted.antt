@@ -38,10 +38,6 @@ either true true d c e k l h = go (k refl)
     go (inl f) = rw f (narrow true e c l h)
     go (inr f) = let bad : true ≡ false = sym h ∙ ap not f in absurd cc
 
-pub or_known : (a b : Bool) → (a || b) ≡ true → (a ≡ true) ⊎ (b ≡ true)
-or_known true b h = inl refl
-or_known false b h = inr h
-
 -- ---- What is kept
 
 module _ (q : ℕ) where

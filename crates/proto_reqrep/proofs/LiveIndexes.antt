@@ -79,13 +79,3 @@ found_same P f cs ids xs ys s t h e =
       by_ctx = index_same live_ctx (is_known cs) xs ys h.by_ctx (ap (map live_ctx) e ∙ keys_with live_ctx P f xs s);
       by_id = index_same live_id (is_known ids) xs ys h.by_id (ap (map live_id) e ∙ keys_with live_id P f xs t);
     }
-
--- the same numbers are known
-pub found_again : (cs ids ds is : List (ℕ × ℕ)) (xs ys : List Live) → ((q : ℕ) → number_at ds q ≡ number_at cs q) → ((q : ℕ) → number_at is q ≡ number_at ids q) → ys ≡ xs → AreFound cs ids xs → AreFound ds is ys
-found_again cs ids ds is xs ys u v e h =
-    rw e (
-    record {
-      by_ctx = (λ q. ap is_some (u q) ∙ h.by_ctx.0 q, h.by_ctx.1);
-      by_id = (λ q. ap is_some (v q) ∙ h.by_id.0 q, h.by_id.1);
-    }
-    )

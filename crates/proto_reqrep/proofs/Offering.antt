@@ -153,10 +153,6 @@ found_gift m op e = go (find (gets m) m.waiting.items) refl e
     go None f e = absurd cc
     go (Some w) f e = (w, first_gift m m.waiting.items w f, sym (some_inj op w.op e), gift_given m m.waiting.items w f)
 
--- the one of a cooked req
-pub reply_gift : (m : Machine) (op : OpName) → m.raw ≡ false → IsReply m.live.items m.waiting.items op → IsGift m op
-reply_gift m op r g = (g.0, g.1, g.2, ap (λ b. is_given b m.kept.items m.live.items g.0.ctx) r ∙ g.3)
-
 -- none can be given a message
 pub no_gift : (m : Machine) → None ≡ option_map (λ (w : Asking). w.op) (find (gets m) m.waiting.items) → find (gets m) m.waiting.items ≡ None
 no_gift m e = unmapped _ _ e
@@ -185,17 +181,6 @@ raw_none m r e = sym (ap (option_map (λ (w : Asking). w.op)) (ap (λ b. find (�
     none : (ws : List Asking) → find (λ (v : Asking). not (is_sending v) && not true) ws ≡ None
     none [] = refl
     none (w ∷ ws) = ap (λ b. cond b (Some w) (find (λ (v : Asking). not (is_sending v) && not true) ws)) (shut (not (is_sending w))) ∙ none ws
-
-pub raw_first : (m : Machine) → m.raw ≡ true → is_nil m.kept.items ≡ false → find (λ (v : Asking). not (is_sending v)) m.waiting.items ≡ find (gets m) m.waiting.items
-raw_first m r e = sym (ap (λ b. find (λ (v : Asking). not (is_sending v) && is_given b m.kept.items m.live.items v.ctx) m.waiting.items) r ∙ ap (λ b. find (λ (v : Asking). not (is_sending v) && not b) m.waiting.items) e ∙ all m.waiting.items)
-  where
-    wide : (b : Bool) → (b && not false) ≡ b
-    wide true = refl
-    wide false = refl
-
-    all : (ws : List Asking) → find (λ (v : Asking). not (is_sending v) && not false) ws ≡ find (λ (v : Asking). not (is_sending v)) ws
-    all [] = refl
-    all (w ∷ ws) = ap (λ b. cond b (Some w) (find (λ (v : Asking). not (is_sending v) && not false) ws)) (wide (not (is_sending w))) ∙ ap (λ o. cond (not (is_sending w)) (Some w) o) (all ws)
 
 pub can_give : (m : Machine) (t : Moment) (w : Asking) → Ties m t → list_any (λ (v : Asking). v.is_orphan) m.waiting.items ≡ false → find (is_receiving_on w.ctx) m.waiting.items ≡ Some w → is_given m.raw m.kept.items m.live.items w.ctx ≡ true → (x : RecordedMessage) × CanGive t w.op (begun_of w) x
 can_give m t w h o f given = go (kept t.z (past t) w.ctx) refl

@@ -411,8 +411,8 @@ fn leave_at<T: Waiter>(list: &mut [Spot<T>], place: Option<usize>, c: Ctx)
     }
 }
 
-// The request of the context ends, and what waits for it is looked at: a receive and a send, which are found by their
-// numbers, if these are known.
+// The request of the context ends, and what waits for it is looked at: a send, and then a receive, which are found by
+// their numbers, if these are known.
 fn leave<T: Waiter>(
     list: &mut [Spot<T>],
     receives: &Numbers,
@@ -431,8 +431,8 @@ fn leave<T: Waiter>(
     }
     let receive = place_on(list, receives, true, false, c);
     let send = place_on(list, opens, true, true, c);
-    note_at(list, receive, ended);
     note_at(list, send, ended);
+    note_at(list, receive, ended);
     leave_at(list, receive, c);
     leave_at(list, send, c);
 }

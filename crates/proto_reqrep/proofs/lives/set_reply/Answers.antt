@@ -3,7 +3,7 @@ use Rattle.proto_reqrep.specs.Reqs.{waits_for, with_kept}
 use Rattle.proto_requests.specs.Spots.{held}
 use Rattle.proto_requests.specs.declared.spots.Spot.{Spot}
 use Rattle.proto_requests.proofs.Positions.{with_none}
-use Rattle.proto_requests.proofs.Spotted.{not_there, changed_there, front_same}
+use Rattle.proto_requests.proofs.Spotted.{not_there, changed_there}
 use Rattle.proto_reqrep.proofs.lives.set_reply.Goals as goal
 
 pub returns-in-None-clause-held : goal.returns-in-None-clause-held

@@ -6,7 +6,7 @@ use Rattle.proto_requests.specs.declared.spots.Spot.{Spot}
 use Rattle.proto_reqrep.specs.declared.req.Live.{Live}
 use Rattle.std.proofs.Common.{◌++◌, ◌∷◌, []}
 use Rattle.std.proofs.lemmas.List.{take-append-le}
-use Rattle.proto_requests.proofs.Spotted.{held_more, held_few, none_before_is}
+use Rattle.proto_requests.proofs.Spotted.{held_more, held_few}
 use Rattle.proto_requests.proofs.KnownOperations.{length_more}
 use Rattle.proto_reqrep.proofs.LiveIndexes.{found_more}
 use Rattle.proto_reqrep.proofs.lives.Lives.push.Goals as goal

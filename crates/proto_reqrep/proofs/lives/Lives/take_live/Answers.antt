@@ -11,7 +11,7 @@ use Rattle.proto_requests.specs.declared.spots.Spot.{Spot}
 use Rattle.proto_requests.specs.FirstFound.{without_found}
 use Rattle.proto_requests.proofs.Positions.{without_none}
 use Rattle.proto_reqrep.proofs.LiveIndexes.{found_less}
-use Rattle.proto_requests.proofs.Spotted.{not_there, never, inside, fewer_one, items_are, none_before_is}
+use Rattle.proto_requests.proofs.Spotted.{not_there, never, inside, fewer_one, items_are}
 use Rattle.proto_reqrep.proofs.lives.Lives.take_live.Goals as goal
 
 pub empty-requires : goal.empty-requires
