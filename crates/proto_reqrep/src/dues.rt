@@ -176,7 +176,7 @@ fn look_at_down(outs: &Hints<SentOut>, due: &mut Hints<u32>, p: PipeId)
     }
 }
 
-// Takes the room for so many more of each.
+// Takes the room for so many more of each, and to look at all that went out.
 fn make_room(
     due: &mut Hints<u32>,
     dry: &mut Hints<u32>,
@@ -187,7 +187,7 @@ fn make_room(
     ensures dry { dry.new ≡ dry.old }
     ensures outs { outs.new ≡ outs.old }
 {
-    due.reserve(more)?;
+    due.reserve(more.saturating_add(outs.len()))?;
     dry.reserve(more)?;
     outs.reserve(more)
 }
