@@ -4,8 +4,8 @@ use Rattle.sp_history.specs.declared.entry.Entry.{Entry}
 use Rattle.sp_history.specs.declared.entry.Entry.TheVariants.{Tick}
 use Rattle.sp_history.specs.Past.{now}
 use Rattle.sp_history.specs.Found.{ticks}
-use Rattle.sp_ends.specs.Standing.{LinkEndsView}
-use Rattle.sp_ends.specs.Turning.{SameEnds}
+use Rattle.end_parts.specs.EndViews.{LinkEndsView}
+use Rattle.sp_ends.specs.EndsTurns.{SameEnds}
 use Rattle.cat_play.specs.Scripts.{has_ticked}
 
 no_tick : (past : List Entry) → has_ticked past ≡ false → ticks past ≡ []

@@ -13,10 +13,11 @@ use Rattle.sp_history.proofs.StandingEntries.{earlier_in_order}
 use Rattle.cat_text.specs.declared.plan.End.{End}
 use Rattle.cat_play.specs.Spending.{CanRise, ticks_where, has_room, roomy_ticks, listens_of, dials_of, spaced_from, AreTries, TriedAtLeast, WereAsked}
 use Rattle.cat_play.proofs.Trying.{are_tries}
-use Rattle.sp_ends.specs.declared.dialer.Dialer.{Dialer}
-use Rattle.sp_ends.specs.Dialing.{IsDialed}
-use Rattle.sp_ends.specs.declared.listener.Listener.{Listener}
-use Rattle.sp_ends.specs.Standing.{Beginning, NetStands, SameCounts, tries_of}
+use Rattle.end_parts.specs.declared.dialer.Dialer.{Dialer}
+use Rattle.end_parts.specs.Dialing.{IsDialed}
+use Rattle.end_parts.specs.declared.listener.Listener.{Listener}
+use Rattle.end_parts.specs.EndViews.{Beginning}
+use Rattle.end_parts.specs.RunLinks.{NetStands, SameCounts, tries_of}
 
 -- ---- Tries
 

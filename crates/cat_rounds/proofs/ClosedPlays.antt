@@ -24,9 +24,9 @@ use Rattle.cat_play.proofs.Stepping.{goes_on, none_first, none_rest, open_after,
 use Rattle.cat_play.proofs.Staying.{counted_stays, texts_stay}
 use Rattle.cat_play.proofs.OneEntryTurns.{until_silent}
 use Rattle.cat_play.proofs.Closing.{closing_turn, goes_on_closed}
-use Rattle.cat_rounds.specs.Stepping.{begins_or_ticks}
-use Rattle.cat_rounds.proofs.Silent.{append_nil, closed_stays, keeps_all}
-use Rattle.cat_rounds.proofs.PlaysStay.{timed_stays}
+use Rattle.cat_player.specs.PlayerSteps.{begins_or_ticks}
+use Rattle.cat_player.proofs.Silent.{append_nil, closed_stays, keeps_all}
+use Rattle.cat_player.proofs.PlaysStay.{timed_stays}
 
 -- ---- The entries of a close
 

@@ -16,7 +16,7 @@ use Rattle.sp_history.proofs.Appending.{past_of-append}
 use Rattle.sp_core.specs.declared.serve.Served.{Served}
 use Rattle.sp_core.specs.Serving.{stalls_in}
 use Rattle.sp_single.specs.Singles.{SingleView, TookOne, Ticks}
-use Rattle.sp_ends.specs.Turning.{Quietly}
+use Rattle.end_parts.specs.SocketSteps.{Quietly}
 use Rattle.cat_text.specs.declared.plan.CatPlan.{CatPlan}
 use Rattle.cat_text.specs.declared.plan.Data.{Data}
 use Rattle.cat_text.specs.declared.plan.Data.TheVariants as datas
@@ -27,23 +27,23 @@ use Rattle.cat_play.specs.Scripts.{over, has_ticked}
 use Rattle.cat_play.specs.Spending.{ticks_where, late_ticks, stalled_turns, is_stall, stalls_from, down_total, out_total, IsPrompt, EndsSoon}
 use Rattle.cat_play.specs.Steps.{AddsNone, moves_play, moves_ends}
 use Rattle.cat_play.proofs.Stepping.{stays}
-use Rattle.cat_rounds.specs.declared.player.PlayEnd.{PlayEnd}
-use Rattle.cat_rounds.specs.declared.player.PlayEnd.TheVariants as overs
-use Rattle.cat_rounds.specs.declared.player.Player.{Player}
-use Rattle.cat_rounds.specs.declared.player.Script.{Script}
+use Rattle.cat_player.specs.declared.player.PlayEnd.{PlayEnd}
+use Rattle.cat_player.specs.declared.player.PlayEnd.TheVariants as overs
+use Rattle.cat_player.specs.declared.player.Player.{Player}
+use Rattle.cat_player.specs.declared.player.Script.{Script}
 use Rattle.cat_rounds.specs.declared.rounds.Round.{Round}
 use Rattle.cat_rounds.specs.declared.rounds.Round.TheVariants as rounds
-use Rattle.cat_rounds.specs.Lasting.{play_of, PlayStands, IsOver}
-use Rattle.cat_rounds.specs.Stepping.{GoesOnBy}
+use Rattle.cat_player.specs.Lasting.{play_of, PlayStands, IsOver}
+use Rattle.cat_player.specs.PlayerSteps.{GoesOnBy}
 use Rattle.cat_rounds.specs.Built.{IsBuilt, IsBuiltData, IsBody, FinishesTo, FinishesAs}
-use Rattle.cat_rounds.specs.Going.{has_more}
+use Rattle.cat_rounds.specs.RunRounds.{has_more}
 use Rattle.cat_rounds.specs.Late.{late_at, IsLateBy, RoundIsLate, StallsMore}
-use Rattle.sp_ends.specs.Standing.{Beginning, LinkEndsView}
+use Rattle.end_parts.specs.EndViews.{Beginning, LinkEndsView}
 use Rattle.cat_rounds.proofs.BeforeRounds.{script_of}
-use Rattle.cat_rounds.proofs.Silent.{keeps_all}
-use Rattle.cat_rounds.proofs.Settling.{settling_silent}
+use Rattle.cat_player.proofs.Silent.{keeps_all}
+use Rattle.cat_player.proofs.Settling.{settling_silent}
 use Rattle.cat_rounds.proofs.PlayTicks.{first_tick, tick_of}
-use Rattle.cat_rounds.proofs.Through.{turn_past}
+use Rattle.cat_player.proofs.Through.{turn_past}
 
 -- ---- Turns with a stall
 

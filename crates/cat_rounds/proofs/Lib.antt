@@ -1,13 +1,4 @@
-pub mod LastCollect
-pub mod CollectedByPlay
-pub mod WhatCounts
-pub mod Settling
-pub mod Begins
-pub mod Silent
-pub mod BeginOrder
-pub mod Through
 pub mod Cleared
-pub mod PlaysStay
 pub mod Rounding
 pub mod PlayTicks
 pub mod WholeRounds
@@ -20,11 +11,8 @@ pub mod RunEnd
 pub mod BeforeRounds
 pub mod Asked
 pub mod Played
-pub mod Pipes
-pub mod TopicsStay
 pub mod Subscribing
 pub mod Late
-pub mod Surveying
 pub mod Unsent
 pub mod Answered
 pub mod Resting

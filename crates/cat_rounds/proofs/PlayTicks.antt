@@ -20,13 +20,13 @@ use Rattle.cat_play.specs.Steps.{moves_play, moves_ends, HasOne, MayPlay}
 use Rattle.cat_play.proofs.Stepping.{stays, goes_on, open_is, under_way_stays, last_result_stays, is_left_stays}
 use Rattle.cat_play.proofs.Staying.{counted_stays, texts_stay}
 use Rattle.cat_play.proofs.OneEntryTurns.{turn_of_one}
-use Rattle.cat_rounds.specs.declared.player.Player.{Player}
-use Rattle.cat_rounds.specs.Lasting.{play_of, PlayStands, IsUnderWay, IsLast, IsDue, MayTick, AreOn}
-use Rattle.cat_rounds.proofs.Silent.{last_send_stays, now_stays, closed_stays}
-use Rattle.cat_rounds.proofs.TopicsStay.{topics_stay, still_on}
-use Rattle.cat_rounds.proofs.Settling.{settling_silent, settling_linkless}
-use Rattle.cat_rounds.proofs.PlaysStay.{timed_stays, over_kept}
-use Rattle.cat_rounds.proofs.Through.{turn_past}
+use Rattle.cat_player.specs.declared.player.Player.{Player}
+use Rattle.cat_player.specs.Lasting.{play_of, PlayStands, IsUnderWay, IsLast, IsDue, MayTick, AreOn}
+use Rattle.cat_player.proofs.Silent.{last_send_stays, now_stays, closed_stays}
+use Rattle.cat_player.proofs.TopicsStay.{topics_stay, still_on}
+use Rattle.cat_player.proofs.Settling.{settling_silent, settling_linkless}
+use Rattle.cat_player.proofs.PlaysStay.{timed_stays, over_kept}
+use Rattle.cat_player.proofs.Through.{turn_past}
 
 -- the tick that an open socket adds
 abbrev pub tick_of : List (Turn Entry) → ℕ → Entry

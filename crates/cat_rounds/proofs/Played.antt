@@ -16,9 +16,10 @@ use Rattle.sp_history.proofs.Appending.{past_of-append}
 use Rattle.sp_history.proofs.Backing.{legal_allowed}
 use Rattle.sp_single.specs.Singles.{SingleView}
 use Rattle.link_opening.specs.Origins.{run_ways}
-use Rattle.sp_ends.specs.Standing.{Beginning, LinkEndsView, NetStands}
-use Rattle.sp_ends.specs.Leaving.{LinksLeft}
-use Rattle.sp_ends.proofs.EndsStay.{linkless}
+use Rattle.end_parts.specs.EndViews.{Beginning, LinkEndsView}
+use Rattle.end_parts.specs.RunLinks.{NetStands}
+use Rattle.sp_ends.specs.LeftLinks.{LinksLeft}
+use Rattle.end_parts.proofs.EndsStay.{linkless}
 use Rattle.cat_text.specs.declared.plan.CatPlan.{CatPlan}
 use Rattle.cat_play.specs.declared.ends.Status.{Status}
 use Rattle.cat_play.specs.declared.ends.Status.TheVariants as status
@@ -29,14 +30,14 @@ use Rattle.cat_play.specs.Scripts.{texts, counted, has_reached, timed_out}
 use Rattle.cat_play.specs.Spending.{Spends, listens_of, dials_of}
 use Rattle.cat_play.specs.Steps.{AddsNone, moves_ends}
 use Rattle.cat_play.proofs.Stepping.{none_first, none_rest}
-use Rattle.cat_rounds.specs.declared.player.PlayEnd.{PlayEnd}
-use Rattle.cat_rounds.specs.declared.player.PlayEnd.TheVariants as overs
-use Rattle.cat_rounds.specs.declared.player.Player.{Player}
-use Rattle.cat_rounds.specs.Lasting.{play_of, IsOver}
-use Rattle.cat_rounds.specs.Going.{RunStands, PrintsTo, IsDryAt, is_dry_at}
+use Rattle.cat_player.specs.declared.player.PlayEnd.{PlayEnd}
+use Rattle.cat_player.specs.declared.player.PlayEnd.TheVariants as overs
+use Rattle.cat_player.specs.declared.player.Player.{Player}
+use Rattle.cat_player.specs.Lasting.{play_of, IsOver}
+use Rattle.cat_rounds.specs.RunRounds.{RunStands, PrintsTo, IsDryAt, is_dry_at}
 use Rattle.cat_rounds.specs.Built.{EndsFor, Follows, FinishesTo, FinishesAs}
-use Rattle.cat_rounds.proofs.Silent.{keeps_all}
-use Rattle.cat_rounds.proofs.PlaysStay.{over_kept}
+use Rattle.cat_player.proofs.Silent.{keeps_all}
+use Rattle.cat_player.proofs.PlaysStay.{over_kept}
 use Rattle.cat_rounds.proofs.Asked.{AreAsked, were_asked}
 
 -- ---- Turns that move no end

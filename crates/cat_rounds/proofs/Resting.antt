@@ -9,17 +9,17 @@ use Rattle.sp_history.specs.Past.{past_of}
 use Rattle.sp_history.specs.Swept.{IsSwept}
 use Rattle.sp_core.specs.declared.serve.Served.{Served}
 use Rattle.sp_single.specs.Singles.{SingleView, TookOne, Ticks}
-use Rattle.sp_ends.specs.Turning.{Quietly}
+use Rattle.end_parts.specs.SocketSteps.{Quietly}
 use Rattle.cat_play.specs.Scripts.{under_way}
 use Rattle.cat_play.specs.Steps.{AddsNone, moves_ends, moves_play}
-use Rattle.cat_rounds.specs.declared.player.PlayEnd.TheVariants as overs
-use Rattle.cat_rounds.specs.declared.player.Player.{Player}
+use Rattle.cat_player.specs.declared.player.PlayEnd.TheVariants as overs
+use Rattle.cat_player.specs.declared.player.Player.{Player}
 use Rattle.cat_rounds.specs.declared.rounds.Going.TheVariants as goings
 use Rattle.cat_rounds.specs.declared.rounds.Round.{Round}
 use Rattle.cat_rounds.specs.declared.rounds.Round.TheVariants as rounds
-use Rattle.cat_rounds.specs.Lasting.{IsUnderWay}
-use Rattle.cat_rounds.specs.Stepping.{Stands, GoesOnBy}
-use Rattle.cat_rounds.specs.Resting.{IsKept, IsAtRest, MovesStill, RoundMoves}
+use Rattle.cat_player.specs.Lasting.{IsUnderWay}
+use Rattle.cat_player.specs.PlayerSteps.{Stands, GoesOnBy, IsKept}
+use Rattle.cat_rounds.specs.Resting.{IsAtRest, MovesStill, RoundMoves}
 use Rattle.cat_rounds.proofs.Rounding.{ServesSo}
 
 -- ---- At rest

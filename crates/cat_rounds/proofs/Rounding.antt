@@ -1,6 +1,6 @@
 -- What parts of a round do, one after the other.
 use Rattle.std.proofs.Common.{◌≡◌, refl, ap, sym, ◌∙◌, subst, inl, inr, List, [], ◌∷◌, ◌++◌, ℕ, ◌≤◌, Bool, true, false, arith, length, Option, Some, None}
-use Rattle.std.specs.Prelude.{IsTrue, ◌&&◌, ◌||◌, not, is_some}
+use Rattle.std.specs.Prelude.{IsTrue, ◌&&◌, ◌||◌, not, is_some, nat_lt}
 use Rattle.std.specs.List.{list_any}
 use Rattle.turn_lock.specs.declared.turn.Turn.{Turn}
 use Rattle.sp_base.specs.Views.{SinkView}
@@ -9,37 +9,34 @@ use Rattle.sp_history.specs.declared.entry.Entry.{Entry}
 use Rattle.sp_history.specs.declared.entry.Entry.TheVariants.{Up, Met, NoUp, Taken, Tick, Begin, Took, Topic, Ctx, Close, Stall}
 use Rattle.sp_history.specs.declared.setting.Setting.{Setting}
 use Rattle.sp_history.specs.Changes.{none_of}
-use Rattle.sp_history.specs.Past.{onto, past_of, up}
-use Rattle.sp_history.proofs.Appending.{past_of-append}
-use Rattle.sp_single.specs.Singles.{SingleView}
-use Rattle.cat_play.specs.Scripts.{has_ticked, under_way, over}
+use Rattle.sp_history.specs.Past.{onto, past_of, up, pend}
+use Rattle.sp_history.proofs.Appending.{past_of-append, LegalFrom-front}
+use Rattle.sp_single.specs.Singles.{SingleView, TookOne}
+use Rattle.cat_play.specs.Scripts.{has_ticked, under_way, over, texts, joined}
 use Rattle.cat_play.specs.Playing.{each, alternates, is_tick, may_rest}
 use Rattle.sp_history.specs.Swept.{IsSwept, AreFlushed}
 use Rattle.sp_core.specs.declared.serve.Served.{Served}
 use Rattle.sp_core.specs.Serving.{IsServing, AreServing, IsServeTurn, ServedBy, stalls_in}
-use Rattle.sp_single.specs.Singles.{TookOne}
 use Rattle.sp_spec.specs.Outside.{grown}
-use Rattle.cat_play.specs.Scripts.{texts, joined}
 use Rattle.cat_play.specs.Steps.{moves_ends, moves_play}
-use Rattle.cat_rounds.specs.declared.player.PlayEnd.TheVariants as overs
-use Rattle.cat_rounds.specs.declared.player.Player.{Player}
-use Rattle.cat_rounds.specs.Lasting.{play_of, PlayStands, IsUnderWay, HasPrinted, HasServed, MayTick, AreOn}
-use Rattle.cat_rounds.specs.Going.{AreCleared, has_more}
-use Rattle.cat_rounds.specs.Stepping.{Stands, GoesOnBy, SameScript}
-use Rattle.cat_rounds.proofs.Silent.{keeps_all, adds_then, swept_stays}
-use Rattle.cat_rounds.proofs.BeginOrder.{goes_on_while_busy, free_pends_none}
+use Rattle.cat_player.specs.declared.player.PlayEnd.TheVariants as overs
+use Rattle.cat_player.specs.declared.player.Player.{Player}
+use Rattle.cat_player.specs.Lasting.{play_of, PlayStands, IsUnderWay, HasPrinted, HasServed, MayTick, AreOn}
+use Rattle.cat_rounds.specs.RunRounds.{AreCleared, has_more}
+use Rattle.cat_player.specs.PlayerSteps.{Stands, GoesOnBy, SameScript, KnowsPipes}
+use Rattle.cat_player.proofs.Silent.{keeps_all, adds_then, swept_stays}
+use Rattle.cat_player.proofs.BeginOrder.{goes_on_while_busy, free_pends_none}
 use Rattle.cat_rounds.proofs.Cleared.{is_stall, all_cleared}
 use Rattle.cat_play.proofs.Stepping.{open_is}
-use Rattle.sp_history.proofs.Appending.{LegalFrom-front}
 use Rattle.sp_history.specs.Legal.{Legal, sending}
 use Rattle.sp_history.specs.Found.{is_begin, is_out}
 use Rattle.sp_history.specs.Setting.{is_req}
 use Rattle.cat_rounds.proofs.Unsent.{IsSilent, nothing_sent, sends_once}
 use Rattle.cat_rounds.proofs.Answered.{is_over_so, none_live}
 use Rattle.std.proofs.lemmas.Bool.Decides.{nat_tests}
-use Rattle.sp_history.specs.Past.{pend}
-use Rattle.cat_rounds.proofs.PlaysStay.{a_serve_serves}
-use Rattle.cat_rounds.proofs.Begins.{at_new, goes_on_by, silent_stands, silent_texts}
+use Rattle.cat_player.proofs.PlaysStay.{a_serve_serves}
+use Rattle.cat_player.proofs.Begins.{at_new, goes_on_by, silent_stands, silent_texts}
+use Rattle.sp_history.specs.Lists.{is_nil}
 
 -- ---- Turns without a tick leave the pipes served
 
@@ -160,6 +157,16 @@ serve_along r s s' p out t took stands =
       },
       at_new s s' took (λ z h. HasServed z h) (a_serve_serves s.setting s.seen took.turn (no_tick took.turn.entries linkless) took.said.0),
     )
+
+-- ---- The answer of a serve
+
+nil_is : (xs : List ℕ) (n : ℕ) → n ≡ length xs → is_nil xs ≡ not (nat_lt 0 n)
+nil_is [] n e = grind (arith, nat_tests)
+nil_is (x ∷ xs) n e = grind (arith, nat_tests)
+
+pub serve_knows : (r : Served) (s s' : SingleView) (p : Player) → TookOne (ServesSo r) s s' → KnowsPipes (nat_lt 0 r.up) s' p
+serve_knows r s s' p took flood body free none =
+    at_new s s' took (λ z h. is_nil (up (past_of h)) ≡ not (nat_lt 0 r.up)) (nil_is (up (past_of (s.seen ++ took.turn ∷ []))) r.up took.said.4)
 
 -- ---- The play is over
 

@@ -2,7 +2,6 @@
 use Rattle.std.proofs.Common.{◌≡◌, refl, ap, sym, ◌∙◌, subst, List, [], ◌∷◌, ◌++◌, ℕ, zero, suc, get_or, ◌≤◌, ◌<◌, ◌+◌, Bool, true, false, arith, length, take, Option, Some, None, Ok, Err, inl, inr}
 use Rattle.std.specs.Prelude.{◌⊎◌, ◌==◌, ◌||◌, ◌&&◌, IsTrue}
 use Rattle.std.specs.List.{list_any, list_all, AllByRecursion}
-use lib.Pointwise.{bytes_decides}
 use Rattle.std.proofs.lemmas.List.Folds.{list_any-append, list_any_at, list_all_more}
 use Rattle.std.proofs.lemmas.Bool.Decides.{nat_tests}
 use Rattle.turn_lock.specs.declared.turn.Turn.{Turn}
@@ -24,9 +23,8 @@ use Rattle.sp_core.specs.declared.contexts.TopicError.TheVariants as topic
 use Rattle.sp_core.specs.Contexts.{SubscribedBy, RefusedTopic}
 use Rattle.sp_core.specs.Moving.{AreSettling}
 use Rattle.sp_core.specs.Standing.{HasFirst}
-use Rattle.sp_single.specs.Singles.{SingleView, TookOne}
-use Rattle.sp_ends.specs.Standing.{Beginning, LinkEndsView}
-use Rattle.sp_ends.specs.Turning.{IsSound}
+use Rattle.sp_single.specs.Singles.{SingleView, TookOne, IsSound}
+use Rattle.end_parts.specs.EndViews.{Beginning, LinkEndsView}
 use Rattle.cat_play.specs.Plans.{Play}
 use Rattle.cat_play.specs.declared.ends.Status.TheVariants as status
 use Rattle.cat_play.specs.Scripts.{joined, has_ticked, has_begun, under_way, last_result, last_send, counted, count_in, texts, texts_in, timed_out, timed_out_in}
@@ -34,19 +32,20 @@ use Rattle.cat_play.specs.Playing.{each, keeps_topics, is_left}
 use Rattle.cat_play.specs.Steps.{moves_play, moves_ends, MayPlay, HasOne}
 use Rattle.cat_play.proofs.Stepping.{stays, goes_on, open_is, under_way_stays, last_result_stays, is_left_stays}
 use Rattle.cat_play.proofs.OneEntryTurns.{turn_of_one}
-use Rattle.cat_rounds.specs.declared.player.Player.{Player}
-use Rattle.cat_rounds.specs.Lasting.{play_of, PlayStands, IsUnderWay, IsLast, IsDue, AreOn, HasPrinted, MayTick}
-use Rattle.cat_rounds.specs.Going.{RunStands, PacedTo, is_dry_at}
-use Rattle.cat_rounds.specs.Starting.{CanSubscribe, IsBefore, Prepares}
-use Rattle.cat_rounds.proofs.Silent.{adds_one, adds_nothing, last_send_stays, ticked_stays}
-use Rattle.cat_rounds.proofs.Settling.{settling_silent, settling_linkless, none_around}
-use Rattle.cat_rounds.proofs.PlaysStay.{play_stays, texts_stay_so, over_kept}
-use Rattle.cat_rounds.proofs.TopicsStay.{topics_stay}
-use Rattle.cat_rounds.proofs.Through.{through, upon, stays_open, count_in_stays, texts_in_stay, timed_in_stays}
-use Rattle.cat_rounds.proofs.Begins.{at_new, sound_new, goes_on_by, ctx_zero}
+use Rattle.cat_player.specs.declared.player.Player.{Player}
+use Rattle.cat_player.specs.Lasting.{play_of, PlayStands, IsUnderWay, IsLast, IsDue, AreOn, HasPrinted, MayTick}
+use Rattle.cat_rounds.specs.RunRounds.{RunStands, PacedTo, is_dry_at}
+use Rattle.cat_rounds.specs.SubscribedTopics.{CanSubscribe, IsBefore, Prepares}
+use Rattle.cat_player.proofs.Silent.{adds_one, adds_nothing, last_send_stays, ticked_stays}
+use Rattle.cat_player.proofs.Settling.{settling_silent, settling_linkless, none_around}
+use Rattle.cat_player.proofs.PlaysStay.{play_stays, texts_stay_so, over_kept}
+use Rattle.cat_player.proofs.TopicsStay.{topics_stay}
+use Rattle.cat_player.proofs.Through.{through, upon, stays_open, count_in_stays, texts_in_stay, timed_in_stays}
+use Rattle.cat_player.proofs.Begins.{at_new, sound_new, goes_on_by, ctx_zero}
 use Rattle.cat_rounds.proofs.Rounding.{goes_then}
 use Rattle.cat_rounds.proofs.WholeRounds.{run_linkless}
 use Rattle.cat_rounds.proofs.AllRounds.{no_ticks}
+use lib.Pointwise.{bytes_decides}
 
 -- ---- What silent entries leave
 

@@ -12,27 +12,29 @@ use Rattle.sp_history.specs.Found.{ticks}
 use Rattle.sp_history.specs.Legal.{Legal}
 use Rattle.sp_core.specs.Collecting.{IsOpen}
 use Rattle.sp_history.proofs.Appending.{past_of-append}
-use Rattle.sp_single.specs.Singles.{SingleView, TookOne, Ticks, KeepsOpen}
-use Rattle.sp_ends.specs.Standing.{EndsView, LinkEndsView, EndsStand, Beginning}
-use Rattle.sp_ends.specs.Turning.{EndsTicked, Quietly, IsSound, IsDry}
-use Rattle.sp_ends.proofs.EndsStay.{linkless}
+use Rattle.sp_single.specs.Singles.{SingleView, TookOne, Ticks, KeepsOpen, IsSound}
+use Rattle.end_parts.specs.EndViews.{EndsView, LinkEndsView, Beginning}
+use Rattle.end_parts.specs.RunLinks.{EndsStand}
+use Rattle.sp_ends.specs.EndsTurns.{EndsTicked}
+use Rattle.end_parts.specs.SocketSteps.{Quietly, IsDry}
+use Rattle.end_parts.proofs.EndsStay.{linkless}
 use Rattle.sp_ends.proofs.TickedEnds.{ticked}
 use Rattle.cat_play.specs.Scripts.{texts, joined}
 use Rattle.cat_play.specs.Running.{has_dry_miss}
 use Rattle.cat_play.specs.Steps.{moves_play, moves_ends}
 use Rattle.cat_play.proofs.Stepping.{stays}
-use Rattle.cat_rounds.specs.declared.player.Player.{Player}
-use Rattle.cat_rounds.specs.Lasting.{play_of, PlayStands, HasPrinted, MayTick, AreOn}
-use Rattle.cat_rounds.proofs.TopicsStay.{on_turn}
-use Rattle.cat_rounds.specs.Stepping.{Stands, GoesOnBy, HasPrintedCut}
+use Rattle.cat_player.specs.declared.player.Player.{Player}
+use Rattle.cat_player.specs.Lasting.{play_of, PlayStands, HasPrinted, MayTick, AreOn}
+use Rattle.cat_player.proofs.TopicsStay.{on_turn}
+use Rattle.cat_player.specs.PlayerSteps.{Stands, GoesOnBy, HasPrintedCut}
 use Rattle.sp_lane.specs.Registry.{Registry}
-use Rattle.cat_rounds.specs.Going.{RunStands, RoundStands, TurnsNames, PrintsRound, past_now}
+use Rattle.cat_rounds.specs.RunRounds.{RunStands, RoundStands, TurnsNames, PrintsRound, past_now}
 use Rattle.cat_rounds.specs.declared.rounds.Round.{Round}
 use Rattle.cat_rounds.specs.declared.rounds.Round.TheVariants as rounds
 use Rattle.cat_play.specs.declared.ends.Status.TheVariants as status
-use Rattle.cat_rounds.proofs.Silent.{keeps_all, now_stays}
-use Rattle.cat_rounds.proofs.PlaysStay.{play_stays, texts_stay_so}
-use Rattle.cat_rounds.proofs.Begins.{at_new, sound_new}
+use Rattle.cat_player.proofs.Silent.{keeps_all, now_stays}
+use Rattle.cat_player.proofs.PlaysStay.{play_stays, texts_stay_so}
+use Rattle.cat_player.proofs.Begins.{at_new, sound_new}
 use Rattle.cat_rounds.proofs.PlayTicks.{first_tick, ticked_play, ticked_now, ticked_texts, ticked_ticks, ticked_dry, ticked_topics, dry_stays, ticks_step}
 
 -- ---- The tick

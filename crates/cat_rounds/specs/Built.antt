@@ -16,10 +16,10 @@ use Rattle.sp_history.specs.Settled.{Settled}
 use Rattle.sp_single.specs.Singles.{SingleView}
 use Rattle.link_opening.specs.Origins.{Origins, IsAmong}
 use Rattle.sp_lane.specs.Registry.{Registry}
-use Rattle.sp_ends.specs.Standing.{EndsView, LinkEndsView, Beginning}
-use Rattle.sp_ends.specs.Adding.{ListensAlso, DialsAlso}
-use Rattle.sp_ends.specs.Leaving.{LinksLeft, ClosedCleared}
-use Rattle.sp_ends.specs.Standing.{SameCounts}
+use Rattle.end_parts.specs.EndViews.{EndsView, LinkEndsView, Beginning}
+use Rattle.sp_ends.specs.AddedEnds.{ListensAlso, DialsAlso}
+use Rattle.sp_ends.specs.LeftLinks.{LinksLeft, ClosedCleared}
+use Rattle.end_parts.specs.RunLinks.{SameCounts}
 use Rattle.cat_text.specs.Drafts.{needs_data}
 use Rattle.cat_text.specs.declared.plan.CatPlan.{CatPlan}
 use Rattle.cat_text.specs.declared.plan.Data.{Data}
@@ -34,11 +34,11 @@ use Rattle.cat_play.specs.Running.{ListensTwice}
 use Rattle.cat_play.specs.Scripts.{texts, counted, timed_out}
 use Rattle.cat_play.specs.Spending.{listens_of, dials_of}
 use Rattle.cat_play.specs.Steps.{AddsNone, moves_ends}
-use Rattle.sp_ends.specs.declared.ends.EndError.{EndError}
-use Rattle.cat_rounds.specs.declared.player.Player.{Player}
-use Rattle.cat_rounds.specs.Lasting.{play_of}
-use Rattle.cat_rounds.specs.Stepping.{Sinks}
-use Rattle.cat_rounds.specs.Going.{AreCleared, WentOrOver, PacedTo}
+use Rattle.end_parts.specs.declared.error.EndError.{EndError}
+use Rattle.cat_player.specs.declared.player.Player.{Player}
+use Rattle.cat_player.specs.Lasting.{play_of}
+use Rattle.cat_player.specs.PlayerSteps.{Sinks}
+use Rattle.cat_rounds.specs.RunRounds.{AreCleared, WentOrOver, PacedTo, RunStands, is_dry_at}
 
 -- ---- Plans
 
@@ -140,6 +140,16 @@ pub record Follows {L : Type 0} (result : Status) (es : List End) (s : SingleVie
   pub asked : (s.seen ≡ []) ⊎ (length e.listeners ≡ listens_of es) × (length e.dialers ≡ dials_of es)
   pub sinks : Sinks (result ≡ status.OutFault) out out'
 
+-- an open run that may follow a plan with these ends
+abbrev pub MayFollow : {L : Type 0} → (L → LinkView) → List End → SingleView → EndsView L → Player → NetView → Type 0
+MayFollow seen es s ends p net =
+    (start : Beginning) × AllByRecursion (IsEndOf start.origins) es × RunStands seen start s ends.links p net false
+
+-- it has followed it
+abbrev pub FollowsOn : {L : Type 0} → (L → LinkView) → List End → SingleView → SingleView → EndsView L → EndsView L → Player → Player → NetView → NetView → Type 0
+FollowsOn seen es s s' ends ends' p p' net net' =
+    (start : Beginning) → AllByRecursion (IsEndOf start.origins) es → RunStands seen start s ends.links p net false → RunStands seen start s' ends'.links p' net' (is_dry_at s')
+
 -- ---- The end
 
 -- a closed, finished run: its record is the history and turns that move no link and no tick; it is a play, of which the
@@ -161,3 +171,12 @@ pub record FinishesTo {L : Type 0} (seen : L → LinkView) (start : Beginning) (
 abbrev pub FinishesAs : {L : Type 0} → (L → LinkView) → Beginning → SingleView → LinkEndsView L → Player → NetView → NetView → Option (List (Turn Entry)) → Type 0
 FinishesAs seen start s e p net net' None = ⊥
 FinishesAs seen start s e p net net' (Some record_) = FinishesTo seen start s e p net net' record_
+
+-- a run whose rounds are over
+abbrev pub RunIsOver : {L : Type 0} → (L → LinkView) → SingleView → EndsView L → Player → NetView → Type 0
+RunIsOver seen s ends p net = (start : Beginning) × RunStands seen start s ends.links p net (is_dry_at s)
+
+-- it is finished, with this record
+abbrev pub RunFinishes : {L : Type 0} → (L → LinkView) → SingleView → EndsView L → Player → NetView → NetView → Option (List (Turn Entry)) → Type 0
+RunFinishes seen s ends p net net' record_ =
+    (start : Beginning) → RunStands seen start s ends.links p net (is_dry_at s) → FinishesAs seen start s ends.links p net net' record_

@@ -1,7 +1,5 @@
-pub mod Lasting
-pub mod Stepping
-pub mod Going
+pub mod RunRounds
 pub mod Built
-pub mod Starting
+pub mod SubscribedTopics
 pub mod Late
 pub mod Resting

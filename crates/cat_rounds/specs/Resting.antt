@@ -10,16 +10,13 @@ use Rattle.core_parts.specs.Tallies.{moves}
 use Rattle.sp_single.specs.Singles.{SingleView}
 use Rattle.cat_play.specs.Scripts.{under_way}
 use Rattle.cat_play.specs.Steps.{AddsNone, moves_ends}
-use Rattle.cat_rounds.specs.declared.player.PlayEnd.TheVariants as overs
-use Rattle.cat_rounds.specs.declared.player.Player.{Player}
+use Rattle.cat_player.specs.declared.player.PlayEnd.TheVariants as overs
+use Rattle.cat_player.specs.declared.player.Player.{Player}
 use Rattle.cat_rounds.specs.declared.rounds.Going.{Going}
 use Rattle.cat_rounds.specs.declared.rounds.Going.TheVariants as goings
 use Rattle.cat_rounds.specs.declared.rounds.Round.{Round}
 use Rattle.cat_rounds.specs.declared.rounds.Round.TheVariants as rounds
-
--- nothing is under way now, or what was before
-abbrev pub IsKept : Option OpName → Option OpName → Type 0
-IsKept old new = (new ≡ None) ⊎ (new ≡ old)
+use Rattle.cat_player.specs.PlayerSteps.{IsKept}
 
 -- a turn since the last tick served the pipes: nothing came, went out, ended or went down in it, and nothing was begun
 -- since that is under way

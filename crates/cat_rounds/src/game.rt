@@ -1,5 +1,5 @@
 //! The parts of a run.
-use crate::player::Player;
+use cat_player::Player;
 use end_wire::EndWire;
 use sp_base::Link;
 use sp_ends::Ends;

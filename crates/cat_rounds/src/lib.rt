@@ -8,15 +8,13 @@
 //! Net, pace and sink are the caller's, and are lent to each round. At the end every link is back with the net, and
 //! what is left is a `CatEnd`: the status and the record.
 //!
-//! `player` has the play: the operation that is under way, what was counted, and what is next (`next`). `game` has the
+//! The play itself is `cat_player`: the operation that is under way, what was counted, and what is next. `game` has the
 //! parts of a run with what stands between two rounds, `topics` puts a sub's topics on before the first round, `rounds`
-//! says what a round does, and `whole` has the beginning and the end. To read: `whole`, then `rounds`, then `player`;
-//! what stands between two rounds is `RunStands` (`specs/Going`).
+//! says what a round does, and `whole` has the beginning and the end. To read: `whole`, then `rounds`, then the player of
+//! `cat_player`; what stands between two rounds is `RunStands` (`specs/RunRounds`).
 #![tactic(auto)]
 
 mod game;
-mod next;
-mod player;
 mod rounds;
 mod topics;
 mod whole;

@@ -1,18 +1,16 @@
 //! The rounds of a run.
-ghost use Rattle.std.specs.Prelude.{◌≡◌, ◌≢◌, ◌≤◌, ◌+◌, ℕ, List, Option, None, true, false, length};
-ghost use Rattle.sp_ends.specs.Standing.{Beginning};
+ghost use Rattle.std.specs.Prelude.{◌≡◌, ◌≢◌, ◌≤◌, ◌+◌, ℕ, None, true, false, length};
 ghost use Rattle.sp_history.specs.Past.{past_of};
-ghost use Rattle.sp_ends.specs.Turning.{SameEnds};
 ghost use Rattle.cat_play.specs.Scripts.{has_ticked, texts};
-ghost use Rattle.cat_rounds.specs.Lasting.{play_of, HasPrinted, HasServed, MayTick};
-ghost use Rattle.cat_rounds.specs.Stepping.{KnowsPipes, Stands, GoesOnBy, SameScript, Sinks};
+ghost use Rattle.cat_player.specs.Lasting.{HasServed, MayTick};
+ghost use Rattle.cat_player.specs.PlayerSteps.{PrintsOn, AddsNoText, KnowsPipes, Stands, GoesOnBy, SameScript, Sinks, IsKept};
 ghost use Rattle.cat_rounds.specs.Late.{IsLateBy, RoundIsLate, StallsMore};
-ghost use Rattle.cat_rounds.specs.Resting.{IsKept, IsAtRest, MovesStill, RoundMoves};
-ghost use Rattle.cat_rounds.specs.Going.{RunStands, RoundStands, GoesTo, RoundGoesTo, WentOrOver, PacedTo, TicksOnce, PrintsTo, PrintsGoing, PrintsRound, TurnsNames, IsDryAt, is_dry_at, past_now, has_more};
+ghost use Rattle.cat_rounds.specs.Resting.{IsAtRest, MovesStill, RoundMoves};
+ghost use Rattle.cat_rounds.specs.RunRounds.{RunIsOpen, RunGoesOn, RoundGoesOn, SameRun, GoesTo, RoundGoesTo, WentOrOver, PacedTo, TicksOnce, PrintsTo, PrintsGoing, PrintsRound, TurnsNames, IsDryAt, past_now, has_more};
 
 use crate::game::Game;
-use crate::player::{PlayEnd, StepResult};
 use cat_play::ends::Status;
+use cat_player::{PlayEnd, StepResult};
 use sp_base::{Link, Net, Pace, Paced, Sink, Tick};
 use sp_proto::Proto;
 use sp_socket::Served;
@@ -55,16 +53,16 @@ impl<P: Proto, L: Link> Game<P, L> {
         pace: &mut Pa,
         out: &mut S,
     ) -> Status
-        requires stands { (start : Beginning) × RunStands L.seen start self.old.single self.old.ends.links self.old.player (N.seen net.old) false }
+        requires stands { RunIsOpen L.seen self.old.single self.old.ends self.old.player (N.seen net.old) }
         requires may_tick { MayTick self.old.single.setting self.old.single.seen self.old.player }
         requires unticked { has_ticked (past_of self.old.single.seen) ≡ false }
-        ensures stands { (start : Beginning) → RunStands L.seen start self.old.single self.old.ends.links self.old.player (N.seen net.old) false → RunStands L.seen start self.new.single self.new.ends.links self.new.player (N.seen net.new) (is_dry_at self.new.single) }
+        ensures stands { RunGoesOn L.seen self.old.single self.new.single self.old.ends self.new.ends self.old.player self.new.player (N.seen net.old) (N.seen net.new) }
         ensures dry { IsDryAt result self.new.single }
         ensures went { WentOrOver result self.new.single self.new.player (S.seen out.old) (S.seen out.new) (Pa.seen pace.new) }
         ensures pace { PacedTo result (Pa.seen pace.old) (Pa.seen pace.new) (past_of self.new.single.seen) }
-        ensures printed { (before : Option (List ℕ)) → HasPrinted before (S.seen out.old).text self.old.single.seen self.old.player → PrintsTo result before (S.seen out.new).text self.new.single.seen self.new.player }
+        ensures printed { PrintsOn (PrintsTo result) (S.seen out.old) (S.seen out.new) self.old.single self.new.single self.old.player self.new.player }
         ensures sinks { Sinks (result ≡ Status.OutFault) (S.seen out.old) (S.seen out.new) }
-        ensures same { SameEnds self.old.ends.links self.new.ends.links × SameScript self.old.player self.new.player × (self.new.single.setting ≡ self.old.single.setting) }
+        ensures same { SameRun self.old.single self.new.single self.old.ends self.new.ends self.old.player self.new.player }
         ensures late { IsLateBy 1 self.new.single self.new.player }
     {
         let mut moved = true;
@@ -89,16 +87,16 @@ impl<P: Proto, L: Link> Game<P, L> {
         out: &mut S,
         now: Tick,
     ) -> Round
-        requires stands { (start : Beginning) × RunStands L.seen start self.old.single self.old.ends.links self.old.player (N.seen net.old) false }
+        requires stands { RunIsOpen L.seen self.old.single self.old.ends self.old.player (N.seen net.old) }
         requires may_tick { MayTick self.old.single.setting self.old.single.seen self.old.player }
         requires later { past_now self.old.single ≤ now }
         requires late { IsLateBy 0 self.old.single self.old.player }
-        ensures stands { (start : Beginning) → RunStands L.seen start self.old.single self.old.ends.links self.old.player (N.seen net.old) false → RoundStands L.seen start result self.new.single self.new.ends.links self.new.player (N.seen net.new) }
+        ensures stands { RoundGoesOn L.seen result self.old.single self.new.single self.old.ends self.new.ends self.old.player self.new.player (N.seen net.old) (N.seen net.new) }
         ensures ticked { TicksOnce now self.old.single self.new.single }
         ensures went { RoundGoesTo result self.new.single self.new.player }
-        ensures printed { (before : Option (List ℕ)) → HasPrinted before (S.seen out.old).text self.old.single.seen self.old.player → PrintsRound result before (S.seen out.new).text self.new.single.seen self.new.player }
+        ensures printed { PrintsOn (PrintsRound result) (S.seen out.old) (S.seen out.new) self.old.single self.new.single self.old.player self.new.player }
         ensures sinks { Sinks (result ≡ Round.Ends Status.OutFault) (S.seen out.old) (S.seen out.new) }
-        ensures same { SameEnds self.old.ends.links self.new.ends.links × SameScript self.old.player self.new.player × (self.new.single.setting ≡ self.old.single.setting) }
+        ensures same { SameRun self.old.single self.new.single self.old.ends self.new.ends self.old.player self.new.player }
         ensures names { TurnsNames now self.old.ends self.new.ends self.old.inproc self.new.inproc }
         ensures late { RoundIsLate result self.new.single self.new.player }
         ensures moved { RoundMoves result self.new.player self.old.single self.new.single }
@@ -124,7 +122,7 @@ impl<P: Proto, L: Link> Game<P, L> {
         ensures stands { Stands self.new.single self.new.player now }
         ensures goes_on { GoesOnBy self.old.single self.new.single }
         ensures went { GoesTo result self.new.single self.new.player }
-        ensures printed { (before : Option (List ℕ)) → HasPrinted before (S.seen out.old).text self.old.single.seen self.old.player → PrintsGoing result before (S.seen out.new).text self.new.single.seen self.new.player }
+        ensures printed { PrintsOn (PrintsGoing result) (S.seen out.old) (S.seen out.new) self.old.single self.new.single self.old.player self.new.player }
         ensures sinks { Sinks (result ≡ Going.OutFault) (S.seen out.old) (S.seen out.new) }
         ensures same { SameScript self.old.player self.new.player × (self.new.ends ≡ self.old.ends) }
         ensures names { self.new.inproc ≡ self.old.inproc }
@@ -154,7 +152,7 @@ impl<P: Proto, L: Link> Game<P, L> {
         ensures still { result ≡ Going.Rests false → IsAtRest self.new.single }
         ensures turns { length self.old.single.seen + 1 ≤ length self.new.single.seen }
         ensures went { GoesTo result self.new.single self.new.player }
-        ensures printed { (before : Option (List ℕ)) → HasPrinted before (S.seen out.old).text self.old.single.seen self.old.player → PrintsGoing result before (S.seen out.new).text self.new.single.seen self.new.player }
+        ensures printed { PrintsOn (PrintsGoing result) (S.seen out.old) (S.seen out.new) self.old.single self.new.single self.old.player self.new.player }
         ensures sinks { Sinks (result ≡ Going.OutFault) (S.seen out.old) (S.seen out.new) }
         ensures same { SameScript self.old.player self.new.player × (self.new.ends ≡ self.old.ends) }
         ensures names { self.new.inproc ≡ self.old.inproc }
@@ -178,7 +176,7 @@ impl<P: Proto, L: Link> Game<P, L> {
         ensures goes_on { GoesOnBy self.old.single self.new.single }
         ensures kept { result ≡ Going.Rests false → IsKept self.old.player.op self.new.player.op }
         ensures went { GoesTo result self.new.single self.new.player }
-        ensures printed { (before : Option (List ℕ)) → HasPrinted before (S.seen out.old).text self.old.single.seen self.old.player → PrintsGoing result before (S.seen out.new).text self.new.single.seen self.new.player }
+        ensures printed { PrintsOn (PrintsGoing result) (S.seen out.old) (S.seen out.new) self.old.single self.new.single self.old.player self.new.player }
         ensures sinks { Sinks (result ≡ Going.OutFault) (S.seen out.old) (S.seen out.new) }
         ensures same { SameScript self.old.player self.new.player × (self.new.ends ≡ self.old.ends) }
         ensures names { self.new.inproc ≡ self.old.inproc }
@@ -203,7 +201,7 @@ impl<P: Proto, L: Link> Game<P, L> {
         ensures stands { (now : ℕ) → Stands self.old.single self.old.player now → Stands self.new.single self.new.player now }
         ensures goes_on { GoesOnBy self.old.single self.new.single }
         ensures went { RoundGoesTo result self.new.single self.new.player }
-        ensures texts { texts (play_of self.old.player.script) (past_of self.new.single.seen) ≡ texts (play_of self.old.player.script) (past_of self.old.single.seen) }
+        ensures texts { AddsNoText self.old.player.script self.old.single self.new.single }
         ensures same { (self.new.player ≡ self.old.player) × (self.new.ends ≡ self.old.ends) }
         ensures names { self.new.inproc ≡ self.old.inproc }
         ensures fault { (result ≡ Round.Ends Status.OutFault → ⊥) × (result ≡ Round.Ends Status.NoMemory → ⊥) }

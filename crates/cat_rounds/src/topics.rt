@@ -1,19 +1,16 @@
 //! The topics of a sub, which are put on before the first round.
-ghost use Rattle.std.specs.Prelude.{◌≡◌, ◌≤◌, ℕ, List, [], Option, false, length, IsTrue};
-ghost use Rattle.sp_ends.specs.Standing.{Beginning};
+ghost use Rattle.std.specs.Prelude.{◌≡◌, ◌≤◌, [], length, IsTrue};
 ghost use Rattle.sp_history.specs.Legal.{has_topic};
 ghost use Rattle.sp_history.specs.Past.{past_of, topics};
 ghost use Rattle.sp_history.specs.Setting.{has_topics};
-ghost use Rattle.sp_ends.specs.Turning.{SameEnds};
-ghost use Rattle.cat_rounds.specs.Lasting.{HasPrinted};
-ghost use Rattle.cat_rounds.specs.Stepping.{SameScript, Sinks};
-ghost use Rattle.cat_rounds.specs.Going.{RunStands, WentOrOver, PacedTo, PrintsTo, IsDryAt, is_dry_at};
+ghost use Rattle.cat_player.specs.PlayerSteps.{PrintsOn, Sinks};
+ghost use Rattle.cat_rounds.specs.RunRounds.{RunIsOpen, RunGoesOn, SameRun, WentOrOver, PacedTo, PrintsTo, IsDryAt};
 ghost use Rattle.cat_rounds.specs.Late.{IsLateBy};
-ghost use Rattle.cat_rounds.specs.Starting.{CanSubscribe, IsBefore, Prepares, IsOnFor, AreOnFor};
+ghost use Rattle.cat_rounds.specs.SubscribedTopics.{CanSubscribe, IsBefore, Prepares, IsOnFor, AreOnFor};
 
 use crate::game::Game;
-use crate::player::{CTX, Player};
 use cat_play::ends::Status;
+use cat_player::{CTX, Player};
 use sp_base::{Link, Net, NoMemory, Pace, Sink};
 use sp_msg::Wire;
 use sp_proto::Proto;
@@ -70,16 +67,16 @@ impl<P: Proto, L: Link> Game<P, L> {
         pace: &mut Pa,
         out: &mut S,
     ) -> Status
-        requires stands { (start : Beginning) × RunStands L.seen start self.old.single self.old.ends.links self.old.player (N.seen net.old) false }
+        requires stands { RunIsOpen L.seen self.old.single self.old.ends self.old.player (N.seen net.old) }
         requires fresh { self.old.single.seen ≡ [] }
         requires can { CanSubscribe self.old.single.setting self.old.player.script.topics }
-        ensures stands { (start : Beginning) → RunStands L.seen start self.old.single self.old.ends.links self.old.player (N.seen net.old) false → RunStands L.seen start self.new.single self.new.ends.links self.new.player (N.seen net.new) (is_dry_at self.new.single) }
+        ensures stands { RunGoesOn L.seen self.old.single self.new.single self.old.ends self.new.ends self.old.player self.new.player (N.seen net.old) (N.seen net.new) }
         ensures dry { IsDryAt result self.new.single }
         ensures went { WentOrOver result self.new.single self.new.player (S.seen out.old) (S.seen out.new) (Pa.seen pace.new) }
         ensures pace { PacedTo result (Pa.seen pace.old) (Pa.seen pace.new) (past_of self.new.single.seen) }
-        ensures printed { (before : Option (List ℕ)) → HasPrinted before (S.seen out.old).text self.old.single.seen self.old.player → PrintsTo result before (S.seen out.new).text self.new.single.seen self.new.player }
+        ensures printed { PrintsOn (PrintsTo result) (S.seen out.old) (S.seen out.new) self.old.single self.new.single self.old.player self.new.player }
         ensures sinks { Sinks (result ≡ Status.OutFault) (S.seen out.old) (S.seen out.new) }
-        ensures same { SameEnds self.old.ends.links self.new.ends.links × SameScript self.old.player self.new.player × (self.new.single.setting ≡ self.old.single.setting) }
+        ensures same { SameRun self.old.single self.new.single self.old.ends self.new.ends self.old.player self.new.player }
         ensures late { IsLateBy 1 self.new.single self.new.player }
     {
         match subscribe_all(rt, &mut self.single, &self.player) {

@@ -1,22 +1,19 @@
 //! A run from its beginning to its end.
-ghost use Rattle.std.specs.Prelude.{◌≡◌, ℕ, List, [], Option, None, false};
-ghost use Rattle.std.specs.List.{AllByRecursion};
+ghost use Rattle.std.specs.Prelude.{◌≡◌, [], Option, None};
 ghost use Rattle.std.specs.Option.{option_map};
 ghost use Rattle.sp_base.specs.Views.{FilesView};
-ghost use Rattle.sp_ends.specs.Standing.{Beginning};
 ghost use Rattle.sp_proto.specs.Kinds.{Kind, Starts, setting_of};
 ghost use Rattle.link_opening.specs.Origins.{run_ways};
 ghost use Rattle.cat_play.specs.Running.{world, run_setting, RunsPlan, EndsPlan};
-ghost use Rattle.cat_rounds.specs.Lasting.{HasPrinted};
-ghost use Rattle.cat_rounds.specs.Stepping.{SameScript};
-ghost use Rattle.cat_rounds.specs.Going.{RunStands, PrintsTo, IsDryAt, is_dry_at};
-ghost use Rattle.cat_rounds.specs.Starting.{CanSubscribe};
+ghost use Rattle.cat_player.specs.PlayerSteps.{PrintsOn, SameScript};
+ghost use Rattle.cat_rounds.specs.RunRounds.{PrintsTo, IsDryAt};
+ghost use Rattle.cat_rounds.specs.SubscribedTopics.{CanSubscribe};
 ghost use Rattle.cat_rounds.specs.Late.{IsLateBy};
-ghost use Rattle.cat_rounds.specs.Built.{IsBuilt, ListensOnce, AreBuilt, IsBuiltEnd, IsBody, Follows, AddsEnd, FinishesAs, IsEndOf, origins_of};
+ghost use Rattle.cat_rounds.specs.Built.{MayFollow, FollowsOn, RunIsOver, RunFinishes, IsBuilt, ListensOnce, AreBuilt, IsBuiltEnd, IsBody, Follows, AddsEnd, origins_of};
 
 use crate::game::Game;
-use crate::player::{Player, Script};
 use cat_play::ends::Status;
+use cat_player::{Player, Script};
 use cat_text::{CatPlan, Data, End};
 use sp_base::{Bytes, Link, Net, Pace, Sink};
 use sp_ends::{EndError, Ends};
@@ -132,16 +129,16 @@ impl<P: Proto, L: Link> Game<P, L> {
         pace: &mut Pa,
         out: &mut S,
     ) -> Status
-        requires stands { (start : Beginning) × AllByRecursion (IsEndOf start.origins) ends.now × RunStands L.seen start self.old.single self.old.ends.links self.old.player (N.seen net.old) false }
+        requires stands { MayFollow L.seen ends.now self.old.single self.old.ends self.old.player (N.seen net.old) }
         requires fresh { self.old.single.seen ≡ [] }
         requires no_ends { (self.old.ends.links.listeners ≡ []) × (self.old.ends.links.dialers ≡ []) }
         requires no_names { self.old.inproc ≡ [] }
         requires built { AreBuilt ends.now }
         requires topics { CanSubscribe self.old.single.setting self.old.player.script.topics }
-        ensures stands { (start : Beginning) → AllByRecursion (IsEndOf start.origins) ends.now → RunStands L.seen start self.old.single self.old.ends.links self.old.player (N.seen net.old) false → RunStands L.seen start self.new.single self.new.ends.links self.new.player (N.seen net.new) (is_dry_at self.new.single) }
+        ensures stands { FollowsOn L.seen ends.now self.old.single self.new.single self.old.ends self.new.ends self.old.player self.new.player (N.seen net.old) (N.seen net.new) }
         ensures dry { IsDryAt result self.new.single }
         ensures followed { Follows result ends.now self.new.single self.new.ends.links self.new.player (N.seen net.old) (N.seen net.new) (Pa.seen pace.old) (Pa.seen pace.new) (S.seen out.old) (S.seen out.new) }
-        ensures printed { (before : Option (List ℕ)) → HasPrinted before (S.seen out.old).text self.old.single.seen self.old.player → PrintsTo result before (S.seen out.new).text self.new.single.seen self.new.player }
+        ensures printed { PrintsOn (PrintsTo result) (S.seen out.old) (S.seen out.new) self.old.single self.new.single self.old.player self.new.player }
         ensures same { SameScript self.old.player self.new.player × (self.new.single.setting ≡ self.old.single.setting) }
         ensures late { IsLateBy 1 self.new.single self.new.player }
     {
@@ -170,9 +167,9 @@ impl<P: Proto, L: Link> Game<P, L> {
 
     // Closes the socket, and gives everything back.
     fn finish<R: Wait, N: Net<L = L>>(self, rt: &R, net: &mut N, status: Status) -> CatEnd
-        requires stands { (start : Beginning) × RunStands L.seen start self.single self.ends.links self.player (N.seen net.old) (is_dry_at self.single) }
+        requires stands { RunIsOver L.seen self.single self.ends self.player (N.seen net.old) }
         ensures status { result.status ≡ status }
-        ensures finished { (start : Beginning) → RunStands L.seen start self.single self.ends.links self.player (N.seen net.old) (is_dry_at self.single) → FinishesAs L.seen start self.single self.ends.links self.player (N.seen net.old) (N.seen net.new) (option_map (λ r. r.turns) result.record_) }
+        ensures finished { RunFinishes L.seen self.single self.ends self.player (N.seen net.old) (N.seen net.new) (option_map (λ r. r.turns) result.record_) }
     {
         let Game {
             mut single,

@@ -16,31 +16,32 @@ use Rattle.sp_proto.specs.Kinds.{verb_of}
 use Rattle.sp_proto.specs.declared.Verb.{Verb}
 use Rattle.proto_rep.specs.declared.rep.Reply.{Reply}
 use Rattle.proto_rep.specs.declared.rep.ReplyContext.{ReplyContext}
-use Rattle.proto_rep.specs.declared.rep.Answer.{Answer}
-use Rattle.proto_rep.specs.declared.rep.ReplyOperation.{ReplyOperation}
-use Rattle.proto_rep.specs.Reps.{Ties, begun_of, act_of, ctx_of, is_home, is_receive, state_at, role_of}
+use Rattle.proto_rep.specs.declared.replies.Answer.{Answer}
+use Rattle.proto_rep.specs.declared.operations.ReplyOperation.{ReplyOperation}
+use Rattle.proto_rep.specs.Reps.{Ties, ctx_of, is_home, state_at, role_of}
+use Rattle.proto_rep.specs.Operations.{begun_of, act_of, receives_on}
 use Rattle.proto_rep.proofs.Replied.{is_rep, is_raw}
 use Rattle.proto_rep.specs.declared.rep.ReplyRole.{ReplyRole}
 use Rattle.proto_rep.specs.declared.rep.ReplyRole.TheVariants as sides
 
-recv_any : (c : ℕ) (ws : List ReplyOperation) → list_any (is_recv_on c) (map begun_of ws) ≡ list_any (λ (w : ReplyOperation). is_receive w && (w.ctx == c)) ws
+recv_any : (c : ℕ) (ws : List ReplyOperation) → list_any (is_recv_on c) (map begun_of ws) ≡ list_any (receives_on c) ws
 recv_any c [] = refl
 recv_any c (w ∷ ws) = go w.answer (recv_any c ws)
   where
-    go : (r : Option Answer) → list_any (is_recv_on c) (map begun_of ws) ≡ list_any (λ (w : ReplyOperation). is_receive w && (w.ctx == c)) ws
-        → (is_recv_on c (record { op = w.op; ctx = w.ctx; act = act_of r }) || list_any (is_recv_on c) (map begun_of ws)) ≡ (not (is_some r) && (w.ctx == c) || list_any (λ (w : ReplyOperation). is_receive w && (w.ctx == c)) ws)
+    go : (r : Option Answer) → list_any (is_recv_on c) (map begun_of ws) ≡ list_any (receives_on c) ws
+        → (is_recv_on c (record { op = w.op; ctx = w.ctx; act = act_of r }) || list_any (is_recv_on c) (map begun_of ws)) ≡ (not (is_some r) && (w.ctx == c) || list_any (receives_on c) ws)
     go None h = ap (λ b. (w.ctx == c) || b) h
     go (Some r) h = h
 
-state_is : (y : ReplyRole) (m : Reply) (t : Moment) (c : ℕ) (act : RecordedAct) → Ties m t → state_for (role_of y) t.z (past t) c act ≡ state_at m.waiting.items m.places.items c (verb_of act)
-state_is sides.Rep m t c Recv h = ap (list_any (is_recv_on c)) (sym h.pending) ∙ recv_any c m.waiting.items
+state_is : (y : ReplyRole) (m : Reply) (t : Moment) (c : ℕ) (act : RecordedAct) → (h : Ties m t) → state_for (role_of y) t.z (past t) c act ≡ state_at h.waits m.places.items c (verb_of act)
+state_is sides.Rep m t c Recv h = ap (list_any (is_recv_on c)) (sym h.pending) ∙ recv_any c h.waits
 state_is sides.Rep m t c (Send x) h = ap (λ (o : Option Origin). not (is_some o)) (sym (h.stored c))
-state_is sides.Respondent m t c Recv h = ap (list_any (is_recv_on c)) (sym h.pending) ∙ recv_any c m.waiting.items
+state_is sides.Respondent m t c Recv h = ap (list_any (is_recv_on c)) (sym h.pending) ∙ recv_any c h.waits
 state_is sides.Respondent m t c (Send x) h = ap (λ (o : Option Origin). not (is_some o)) (sym (h.stored c))
 
-pub refused_for : (m : Reply) (t : Moment) (c : ℕ) (v : Verb) (act : RecordedAct) (b s : Bool) → Ties m t → verb_of act ≡ v → s ≡ state_at m.waiting.items m.places.items c v → (s && not m.raw) ≡ b → is_state t.z (past t) c act ≡ b
+pub refused_for : (m : Reply) (t : Moment) (c : ℕ) (v : Verb) (act : RecordedAct) (b s : Bool) → (h : Ties m t) → verb_of act ≡ v → s ≡ state_at h.waits m.places.items c v → (s && not m.raw) ≡ b → is_state t.z (past t) c act ≡ b
 refused_for m t c v act b s h e k f =
-    ap (λ (r : Role). state_for r t.z (past t) c act && not t.z.raw) (is_rep m t h) ∙ ap (λ q. q && not t.z.raw) (state_is m.role m t c act h ∙ ap (state_at m.waiting.items m.places.items c) e ∙ sym k) ∙ ap (λ q. s && not q) (is_raw m t h) ∙ f
+    ap (λ (r : Role). state_for r t.z (past t) c act && not t.z.raw) (is_rep m t h) ∙ ap (λ q. q && not t.z.raw) (state_is m.role m t c act h ∙ ap (state_at h.waits m.places.items c) e ∙ sym k) ∙ ap (λ q. s && not q) (is_raw m t h) ∙ f
 
 pub never_raw : (m : Reply) (t : Moment) (c : ℕ) (act : RecordedAct) → Ties m t → m.raw ≡ true → is_state t.z (past t) c act ≡ false
 never_raw m t c act h r = ap (λ q. state_for t.z.role t.z (past t) c act && not q) (is_raw m t h ∙ r) ∙ none (state_for t.z.role t.z (past t) c act)

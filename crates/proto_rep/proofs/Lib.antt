@@ -1,5 +1,7 @@
 pub mod ListFronts
 pub mod OperationsLeft
+pub mod ByKind
+pub mod Stuck
 pub mod Homes
 pub mod Replied
 pub mod RepEnds

@@ -17,23 +17,24 @@ use Rattle.sp_history.specs.Requests.{request_of}
 use Rattle.sp_history.specs.Sends.{targets, begun_before, unclaimed, bytes_for}
 use Rattle.sp_history.specs.Settled.{receive_settled, send_settled, has_full}
 use Rattle.sp_history.specs.Legal.{Calm, is_recv, is_recv_on}
-use Rattle.sp_history.specs.Once.{AreApart}
 use Rattle.sp_history.specs.Moments.{Moment, past}
 use Rattle.sp_history.proofs.OnceHolds.{same_op-refl}
 use Rattle.sp_proto.specs.Kinds.{text_of}
 use Rattle.sp_proto.specs.Machines.{CanGive, CanSend, CanDrop, IsIdle}
 use Rattle.proto_rep.specs.declared.rep.Reply.{Reply}
 use Rattle.proto_rep.specs.declared.rep.KeptRequest.{KeptRequest}
-use Rattle.proto_rep.specs.declared.rep.Answer.{Answer}
-use Rattle.proto_rep.specs.declared.rep.ReplyOperation.{ReplyOperation}
+use Rattle.proto_rep.specs.declared.replies.Answer.{Answer}
+use Rattle.proto_rep.specs.declared.operations.ReplyOperation.{ReplyOperation}
 use Rattle.proto_requests.specs.Ports.{PortView, port_of}
 use Rattle.proto_requests.specs.declared.ports.Destination.{Destination}
 use Rattle.proto_requests.specs.declared.ports.Destination.TheVariants as ways
-use Rattle.proto_rep.specs.Reps.{Ties, item_of, origin_of, begun_of, act_of, is_receive, is_ready, can_go, isnt_full, target_of, way_of, out_text, Routed, send_offer, answer_offer, way_offer, role_of}
+use Rattle.proto_rep.specs.Reps.{Ties, item_of, origin_of, out_text, Routed, role_of}
+use Rattle.proto_rep.specs.Operations.{begun_of, act_of, is_receive, is_ready, can_go, send_offer, answer_offer}
+use Rattle.proto_rep.specs.Replies.{isnt_full, target_of, way_of, way_offer}
 use Rattle.proto_rep.proofs.OperationsLeft.{find_own}
 use Rattle.proto_requests.proofs.Piping.{goes_on, is_full_at, nowhere_up, has_number, all_full}
 use Rattle.std.proofs.Common.{inl, inr}
-use Rattle.proto_rep.proofs.RepEnds.{targets_are, route_of, out_bytes}
+use Rattle.proto_rep.proofs.RepEnds.{all_apart, targets_are, route_of, out_bytes}
 use Rattle.sp_proto.specs.Machines.{IsOffered}
 use Rattle.sp_proto.specs.declared.Offer.{Offer}
 use Rattle.sp_history.specs.Sends.{targets_of, bytes_of_act}
@@ -41,16 +42,6 @@ use Rattle.proto_rep.proofs.Replied.{is_rep, is_raw, kept_rep}
 use Rattle.proto_rep.specs.declared.rep.ReplyRole.{ReplyRole}
 use Rattle.proto_rep.proofs.Roles.{replies, no_floods, asks_nothing, no_resends}
 use Rattle.sp_history.specs.Requests.{asked, no_requests}
-
--- ---- The first that passes a test
-
--- what is ready is a send
-pub ready_sends : (raw : Bool) (xs : List PortView) (w : ReplyOperation) → is_ready raw xs w ≡ true → is_some w.answer ≡ true
-ready_sends raw xs w h = go w.answer h
-  where
-    go : (r : Option Answer) → can_go raw xs r ≡ true → is_some r ≡ true
-    go None h = absurd cc
-    go (Some r) h = refl
 
 -- ---- Idle
 
@@ -122,22 +113,22 @@ sends_settled y z before full raw (w ∷ ws) h k o f = go (is_ready raw (map (po
     go true e f again = absurd cc
     go false e f again = both _ _ (settled_send y z before full raw w h k o.0 e) (again f)
 
-pub idle : (m : Reply) (t : Moment) → Ties m t → (m.kept.items ≡ []) ⊎ (find is_receive m.waiting.items ≡ None) → find (is_ready m.raw m.ports.items) m.waiting.items ≡ None → IsIdle t
+pub idle : (m : Reply) (t : Moment) → (h : Ties m t) → (m.kept.items ≡ []) ⊎ (find is_receive h.waits ≡ None) → find (is_ready m.raw m.ports.items) h.waits ≡ None → IsIdle t
 idle m t h r f =
     record {
       settled =
           record {
             receives = rw (← h.pending) (receives r);
-            sends = rw (← h.pending) (sends_settled m.role t.z (past t) (λ q. has_full t.turn q) m.raw m.waiting.items (is_rep m t h) (is_raw m t h) h.routed (ap (λ (xs : List PortView). find (is_ready m.raw xs) m.waiting.items) (sym h.pipes.ports) ∙ f));
+            sends = rw (← h.pending) (sends_settled m.role t.z (past t) (λ q. has_full t.turn q) m.raw h.waits (is_rep m t h) (is_raw m t h) h.routed (ap (λ (xs : List PortView). find (is_ready m.raw xs) h.waits) (sym h.pipes.ports) ∙ f));
             again = λ q. let k : false ≡ true = sym (no_resends m.role t.z (is_rep m t h)) ∙ q in absurd cc;
             finished = ap (λ b. (cond b (asked t.z (past t)) no_requests).orphans) (asks_nothing m.role t.z (is_rep m t h));
           };
       no_flood = λ q. let k : false ≡ true = sym (no_floods m.role t.z (is_rep m t h)) ∙ q in absurd cc;
     }
   where
-    receives : (m.kept.items ≡ []) ⊎ (find is_receive m.waiting.items ≡ None) → list_all (receive_settled t.z (past t)) (map begun_of m.waiting.items) ≡ true
-    receives (inl e) = receives_kept m.role t.z (past t) m.waiting.items (is_rep m t h) (sym h.items ∙ ap (map item_of) e)
-    receives (inr e) = receives_none t.z (past t) m.waiting.items e
+    receives : (m.kept.items ≡ []) ⊎ (find is_receive h.waits ≡ None) → list_all (receive_settled t.z (past t)) (map begun_of h.waits) ≡ true
+    receives (inl e) = receives_kept m.role t.z (past t) h.waits (is_rep m t h) (sym h.items ∙ ap (map item_of) e)
+    receives (inr e) = receives_none t.z (past t) h.waits e
 
 -- ---- Give
 
@@ -172,15 +163,15 @@ receives_act (v ∷ ws) w h = go v.answer refl h (receives_act ws w)
     go None e h again = ap (λ (x : ReplyOperation). is_recv (act_of x.answer)) (sym (some_inj h)) ∙ ap (λ (x : Option Answer). is_recv (act_of x)) e
     go (Some r) e h again = again h
 
-pub can_give : (m : Reply) (t : Moment) (k : KeptRequest) (ks : List KeptRequest) (w : ReplyOperation) → Ties m t → m.kept.items ≡ k ∷ ks → find is_receive m.waiting.items ≡ Some w → CanGive t w.op (begun_of w) (text_of k.message)
+pub can_give : (m : Reply) (t : Moment) (k : KeptRequest) (ks : List KeptRequest) (w : ReplyOperation) → (h : Ties m t) → m.kept.items ≡ k ∷ ks → find is_receive h.waits ≡ Some w → CanGive t w.op (begun_of w) (text_of k.message)
 can_give m t k ks w h e f =
-    let apart = subst (λ (ss : List Begun). AreApart ss) (sym h.pending) h.apart in
+    let apart = all_apart m t h in
     record {
-      pending = ap (find (is_of w.op)) (sym h.pending) ∙ find_own is_receive m.waiting.items w f apart;
+      pending = ap (find (is_of w.op)) (sym h.pending) ∙ find_own is_receive h.waits w f apart;
       may =
           record {
-            is_receive = receives_act m.waiting.items w f;
-            first_pending = ap (λ (ss : List Begun). option_map (λ (s : Begun). s.op) (find (is_recv_on w.ctx) ss)) (sym h.pending) ∙ first_on m.waiting.items w f;
+            is_receive = receives_act h.waits w f;
+            first_pending = ap (λ (ss : List Begun). option_map (λ (s : Begun). s.op) (find (is_recv_on w.ctx) ss)) (sym h.pending) ∙ first_on h.waits w f;
             oldest = rw (kept_rep m.role t.z (past t) w.ctx (is_rep m t h), ← h.items, e) refl;
             live = λ q. let no : false ≡ true = sym (asks_nothing m.role t.z (is_rep m t h)) ∙ q in absurd cc;
           };
@@ -226,16 +217,16 @@ no_earlier y z before full raw (v ∷ ws) w p h k o f n = go (is_ready raw (map 
 is_same : (n : ℕ) → (n == n) ≡ true
 is_same n = grind (arith, nat_tests)
 
-pub can_send : (m : Reply) (t : Moment) (w : ReplyOperation) (r : Answer) (p : ℕ) → Ties m t → find (is_ready m.raw m.ports.items) m.waiting.items ≡ Some w → w.answer ≡ Some r → way_of m.raw m.ports.items r ≡ ways.To p → CanSend t w.op p (begun_of w) (out_text m.raw r)
+pub can_send : (m : Reply) (t : Moment) (w : ReplyOperation) (r : Answer) (p : ℕ) → (h : Ties m t) → find (is_ready m.raw m.ports.items) h.waits ≡ Some w → w.answer ≡ Some r → way_of m.raw m.ports.items r ≡ ways.To p → CanSend t w.op p (begun_of w) (out_text m.raw r)
 can_send m t w r p h f e g =
     let full : ℕ → Bool = λ q. has_full t.turn q in
-    let apart = subst (λ (ss : List Begun). AreApart ss) (sym h.pending) h.apart in
+    let apart = all_apart m t h in
     let way = goes_on full (up (past t)) (target_of m.raw r) p (ap (λ (xs : List PortView). way_of m.raw xs r) (sym h.pipes.ports) ∙ g) in
-    let from : option_map origin_of r.source ≡ route t.z (past t) w.op = route_of (λ o. route t.z (past t) o) (is_ready m.raw m.ports.items) m.waiting.items w r h.routed f e in
-    let found : find (is_ready m.raw (map (port_of full) (up (past t)))) m.waiting.items ≡ Some w = ap (λ (xs : List PortView). find (is_ready m.raw xs) m.waiting.items) (sym h.pipes.ports) ∙ f in
+    let from : option_map origin_of r.source ≡ route t.z (past t) w.op = route_of (λ o. route t.z (past t) o) (is_ready m.raw m.ports.items) h.waits w r h.routed f e in
+    let found : find (is_ready m.raw (map (port_of full) (up (past t)))) h.waits ≡ Some w = ap (λ (xs : List PortView). find (is_ready m.raw xs) h.waits) (sym h.pipes.ports) ∙ f in
     let number : is_number (target_of m.raw r) p ≡ true = ap (λ (to : Option ℕ). is_number to p) way.0 ∙ is_same p in
     record {
-      pending = ap (find (is_of w.op)) (sym h.pending) ∙ find_own (is_ready m.raw m.ports.items) m.waiting.items w f apart;
+      pending = ap (find (is_of w.op)) (sym h.pending) ∙ find_own (is_ready m.raw m.ports.items) h.waits w f apart;
       is_up = way.1;
       target =
           ap (λ us. has us p) (targets_are m.role t.z (past t) m.raw w r (is_rep m t h) (is_raw m t h) e from) ∙ ap (λ (to : Option ℕ). has (filter (is_number to) (up (past t))) p) way.0
@@ -245,19 +236,19 @@ can_send m t w r p h f e g =
           ∙ ap (λ (x : Role). bytes_for x t.z.raw (route t.z (past t) w.op) (request_of t.z (past t) (begun_of w)) (text_of r.message)) (is_rep m t h)
           ∙ ap (λ (x : Bool). bytes_for (role_of m.role) x (route t.z (past t) w.op) (request_of t.z (past t) (begun_of w)) (text_of r.message)) (is_raw m t h)
           ∙ out_bytes m.role m.raw r (route t.z (past t) w.op) (request_of t.z (past t) (begun_of w)) p from number;
-      first = ap not (ap (λ (ss : List Begun). list_any (λ other. has (targets t.z (past t) other) p) (begun_before w.op ss)) (sym h.pending) ∙ no_earlier m.role t.z (past t) full m.raw m.waiting.items w p (is_rep m t h) (is_raw m t h) h.routed found way.2);
+      first = ap not (ap (λ (ss : List Begun). list_any (λ other. has (targets t.z (past t) other) p) (begun_before w.op ss)) (sym h.pending) ∙ no_earlier m.role t.z (past t) full m.raw h.waits w p (is_rep m t h) (is_raw m t h) h.routed found way.2);
       not_full = way.2;
       one_target = no_floods m.role t.z (is_rep m t h);
     }
 
-pub can_drop : (m : Reply) (t : Moment) (w : ReplyOperation) (r : Answer) → Calm t.z (past t) → Ties m t → find (is_ready m.raw m.ports.items) m.waiting.items ≡ Some w → w.answer ≡ Some r → way_of m.raw m.ports.items r ≡ ways.Nowhere → CanDrop t w.op (begun_of w)
+pub can_drop : (m : Reply) (t : Moment) (w : ReplyOperation) (r : Answer) → Calm t.z (past t) → (h : Ties m t) → find (is_ready m.raw m.ports.items) h.waits ≡ Some w → w.answer ≡ Some r → way_of m.raw m.ports.items r ≡ ways.Nowhere → CanDrop t w.op (begun_of w)
 can_drop m t w r q h f e g =
     let full : ℕ → Bool = λ q. has_full t.turn q in
-    let apart = subst (λ (ss : List Begun). AreApart ss) (sym h.pending) h.apart in
+    let apart = all_apart m t h in
     let none = nowhere_up full (up (past t)) (target_of m.raw r) (ap (λ (xs : List PortView). way_of m.raw xs r) (sym h.pipes.ports) ∙ g) in
-    let from : option_map origin_of r.source ≡ route t.z (past t) w.op = route_of (λ o. route t.z (past t) o) (is_ready m.raw m.ports.items) m.waiting.items w r h.routed f e in
+    let from : option_map origin_of r.source ≡ route t.z (past t) w.op = route_of (λ o. route t.z (past t) o) (is_ready m.raw m.ports.items) h.waits w r h.routed f e in
     record {
-      pending = ap (find (is_of w.op)) (sym h.pending) ∙ find_own (is_ready m.raw m.ports.items) m.waiting.items w f apart;
+      pending = ap (find (is_of w.op)) (sym h.pending) ∙ find_own (is_ready m.raw m.ports.items) h.waits w f apart;
       is_send = ap (λ (x : Option Answer). is_recv (act_of x)) e;
       nowhere = all (is_reply t.z.role) (targets t.z (past t) (begun_of w)) (unclaimed t.z (past t)) (replies m.role t.z (is_rep m t h)) (targets_are m.role t.z (past t) m.raw w r (is_rep m t h) (is_raw m t h) e from ∙ none) q.outs_claimed;
     }
@@ -266,8 +257,8 @@ can_drop m t w r q h f e g =
     all x us b h k n = rw (h, k, n) refl
 
 -- what is left to offer where no receive can be given anything
-pub sends_right : (m : Reply) (t : Moment) (x : Offer) → Calm t.z (past t) → Ties m t → (m.kept.items ≡ []) ⊎ (find is_receive m.waiting.items ≡ None) → x ≡ send_offer m.raw m.ports.items (find (is_ready m.raw m.ports.items) m.waiting.items) → IsOffered x t
-sends_right m t x q h r e = subst (λ (y : Offer). IsOffered y t) (sym e) (go (find (is_ready m.raw m.ports.items) m.waiting.items) refl)
+pub sends_right : (m : Reply) (t : Moment) (x : Offer) → Calm t.z (past t) → (h : Ties m t) → (m.kept.items ≡ []) ⊎ (find is_receive h.waits ≡ None) → x ≡ send_offer m.raw m.ports.items (find (is_ready m.raw m.ports.items) h.waits) → IsOffered x t
+sends_right m t x q h r e = subst (λ (y : Offer). IsOffered y t) (sym e) (go (find (is_ready m.raw m.ports.items) h.waits) refl)
   where
     ready : (w : ReplyOperation) (ws : List ReplyOperation) → find (is_ready m.raw m.ports.items) ws ≡ Some w → can_go m.raw m.ports.items w.answer ≡ true
     ready w [] f = absurd cc
@@ -280,15 +271,15 @@ sends_right m t x q h r e = subst (λ (y : Offer). IsOffered y t) (sym e) (go (f
         step true k f again = ap (λ (u : ReplyOperation). can_go m.raw m.ports.items u.answer) (sym (some_inj f)) ∙ k
         step false k f again = again f
 
-    ways_right : (w : ReplyOperation) (p : Answer) (y : Destination) → find (is_ready m.raw m.ports.items) m.waiting.items ≡ Some w → w.answer ≡ Some p → way_of m.raw m.ports.items p ≡ y → isnt_full y ≡ true → IsOffered (way_offer w.op y) t
+    ways_right : (w : ReplyOperation) (p : Answer) (y : Destination) → find (is_ready m.raw m.ports.items) h.waits ≡ Some w → w.answer ≡ Some p → way_of m.raw m.ports.items p ≡ y → isnt_full y ≡ true → IsOffered (way_offer w.op y) t
     ways_right w p ways.Full f g k n = absurd cc
     ways_right w p ways.Nowhere f g k n = (begun_of w, can_drop m t w p q h f g k)
     ways_right w p (ways.To u) f g k n = (begun_of w, out_text m.raw p, can_send m t w p u h f g k)
 
-    replies_right : (w : ReplyOperation) (y : Option Answer) → find (is_ready m.raw m.ports.items) m.waiting.items ≡ Some w → w.answer ≡ y → can_go m.raw m.ports.items y ≡ true → IsOffered (answer_offer m.raw m.ports.items w.op y) t
+    replies_right : (w : ReplyOperation) (y : Option Answer) → find (is_ready m.raw m.ports.items) h.waits ≡ Some w → w.answer ≡ y → can_go m.raw m.ports.items y ≡ true → IsOffered (answer_offer m.raw m.ports.items w.op y) t
     replies_right w None f g n = absurd cc
     replies_right w (Some p) f g n = ways_right w p (way_of m.raw m.ports.items p) f g refl n
 
-    go : (o : Option ReplyOperation) → find (is_ready m.raw m.ports.items) m.waiting.items ≡ o → IsOffered (send_offer m.raw m.ports.items o) t
+    go : (o : Option ReplyOperation) → find (is_ready m.raw m.ports.items) h.waits ≡ o → IsOffered (send_offer m.raw m.ports.items o) t
     go None f = idle m t h r f
-    go (Some w) f = replies_right w w.answer f refl (ready w m.waiting.items f)
+    go (Some w) f = replies_right w w.answer f refl (ready w h.waits f)

@@ -7,8 +7,8 @@ use Rattle.sp_history.specs.Lists.{same_op}
 use Rattle.sp_history.specs.Past.{is_of, without_begun}
 use Rattle.sp_history.specs.Once.{AreApart, occurs}
 use Rattle.sp_history.proofs.OnceHolds.{occurs-find, same_op-refl}
-use Rattle.proto_rep.specs.declared.rep.ReplyOperation.{ReplyOperation}
-use Rattle.proto_rep.specs.Reps.{begun_of, is_for, without_first}
+use Rattle.proto_rep.specs.declared.operations.ReplyOperation.{ReplyOperation}
+use Rattle.proto_rep.specs.Operations.{begun_of, is_for, without_first}
 
 -- ---- As operations
 

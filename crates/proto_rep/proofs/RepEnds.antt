@@ -34,9 +34,11 @@ use Rattle.proto_rep.specs.declared.rep.Reply.{Reply}
 use Rattle.proto_rep.specs.declared.rep.KeptRequest.{KeptRequest}
 use Rattle.proto_rep.specs.declared.rep.Source.{Source}
 use Rattle.proto_rep.specs.declared.rep.ReplyContext.{ReplyContext}
-use Rattle.proto_rep.specs.declared.rep.Answer.{Answer}
-use Rattle.proto_rep.specs.declared.rep.ReplyOperation.{ReplyOperation}
-use Rattle.proto_rep.specs.Reps.{Ties, Stands, item_of, origin_of, origin_at, begun_of, act_of, ctx_of, is_for, target_of, out_text, words_of, without_first, Routed, AreHome, Given, role_of}
+use Rattle.proto_rep.specs.declared.replies.Answer.{Answer}
+use Rattle.proto_rep.specs.declared.operations.ReplyOperation.{ReplyOperation}
+use Rattle.proto_rep.specs.Reps.{Ties, Stands, item_of, origin_of, origin_at, ctx_of, out_text, words_of, Routed, AreHome, Given, role_of}
+use Rattle.proto_rep.specs.Operations.{Holds, begun_of, act_of, is_for, without_first}
+use Rattle.proto_rep.specs.Replies.{StayPassed, target_of}
 use Rattle.proto_rep.proofs.OperationsLeft.{find_begun, without_all}
 use Rattle.proto_requests.proofs.NamesApart.{apart_without}
 use Rattle.sp_history.specs.Lists.{head_of}
@@ -46,16 +48,19 @@ use Rattle.proto_rep.proofs.Replied.{is_rep, is_raw, kept_rep}
 use Rattle.proto_rep.specs.declared.rep.ReplyRole.{ReplyRole}
 use Rattle.proto_rep.specs.declared.rep.ReplyRole.TheVariants as sides
 use Rattle.proto_rep.proofs.Roles.{stores}
+use Rattle.proto_rep.proofs.Stuck.{stay_stuck}
 
 -- the pending operation
-pub the_op : (m : Reply) (t : Moment) (op : OpName) (s : Begun) → Ties m t → pending (past t) op ≡ Some s → (w : ReplyOperation) × (find (is_for op) m.waiting.items ≡ Some w) × (begun_of w ≡ s)
+pub the_op : (m : Reply) (t : Moment) (op : OpName) (s : Begun) → (h : Ties m t) → pending (past t) op ≡ Some s → (w : ReplyOperation) × (find (is_for op) h.waits ≡ Some w) × (begun_of w ≡ s)
 the_op m t op s h p =
-    let q : find (is_of op) (map begun_of m.waiting.items) ≡ Some s = rw h.pending p in find_begun op m.waiting.items s q
+    let q : find (is_of op) (map begun_of h.waits) ≡ Some s = rw h.pending p in find_begun op h.waits s q
 
-left_over : (m : Reply) (t : Moment) (op : OpName) (ws : List ReplyOperation) → Ties m t → ws ≡ without_first op m.waiting.items → map begun_of ws ≡ without_begun (pend (past t)) op
-left_over m t op ws h e =
-    let apart = subst (λ (ss : List Begun). AreApart ss) (sym h.pending) h.apart in
-    ap (map begun_of) e ∙ without_all op m.waiting.items (apart op) ∙ ap (λ (ss : List Begun). without_begun ss op) h.pending
+-- no two have one name
+pub all_apart : (m : Reply) (t : Moment) → (h : Ties m t) → AreApart (map begun_of h.waits)
+all_apart m t h = subst (λ (ss : List Begun). AreApart ss) (sym h.pending) h.apart
+
+left_over : (m : Reply) (t : Moment) (op : OpName) → (h : Ties m t) → map begun_of (without_first op h.waits) ≡ without_begun (pend (past t)) op
+left_over m t op h = without_all op h.waits (all_apart m t h op) ∙ ap (λ (ss : List Begun). without_begun ss op) h.pending
 
 homes_without : (cs : List ℕ) (ss : List Begun) (op : OpName) → AreHome cs ss → AreHome cs (without_begun ss op)
 homes_without cs [] op h = h
@@ -74,33 +79,36 @@ routed_without routes op (w ∷ ws) h = go (is_for op w) (routed_without routes 
     go false k = (h.0, k)
 
 -- the operation is pending no longer
-ended : (m n : Reply) (t : Moment) (op : OpName) → Ties m t → n.waiting.items ≡ without_first op m.waiting.items → n.ports ≡ m.ports → n.kept ≡ m.kept → n.places ≡ m.places → (n.raw ≡ m.raw) × (n.options ≡ m.options) × (n.role ≡ m.role)
+ended : (m n : Reply) (t : Moment) (op : OpName) → (h : Ties m t) → Holds n.waiting (without_first op h.waits) → StayPassed m.waiting.replies n.waiting.replies → n.ports ≡ m.ports → n.kept ≡ m.kept → n.places ≡ m.places → (n.raw ≡ m.raw) × (n.options ≡ m.options) × (n.role ≡ m.role)
     → Stands n (record (reading t) { pend = without_begun (pend (past t)) op })
-ended m n t op h e p f g same =
+ended m n t op h e u p f g same =
     record {
       kind = rw (same.0, same.1, same.2) h.kind;
       most = rw same.1 h.most;
       pipes = rw p h.pipes;
       items = rw f h.items;
-      pending = left_over m t op n.waiting.items h e;
+      waits = without_first op h.waits;
+      holds = e;
+      pending = left_over m t op h;
       apart = apart_without (pend (past t)) op h.apart;
       contexts = rw g h.contexts;
       homes = homes_without (ctxs (past t)) (pend (past t)) op h.homes;
       stored = rw g h.stored;
-      routed = rw e (routed_without (λ o. route t.z (past t) o) op m.waiting.items h.routed);
+      routed = routed_without (λ o. route t.z (past t) o) op h.waits h.routed;
+      stuck = stay_stuck m n p same.0 u h.stuck;
     }
 
-pub lost_ties : (m n : Reply) (t : Moment) (op : OpName) (cause : Cause) (by : ℕ) → Ties m t → n.waiting.items ≡ without_first op m.waiting.items → n.ports ≡ m.ports → n.kept ≡ m.kept → n.places ≡ m.places → (n.raw ≡ m.raw) × (n.options ≡ m.options) × (n.role ≡ m.role)
+pub lost_ties : (m n : Reply) (t : Moment) (op : OpName) (cause : Cause) (by : ℕ) → (h : Ties m t) → Holds n.waiting (without_first op h.waits) → StayPassed m.waiting.replies n.waiting.replies → n.ports ≡ m.ports → n.kept ≡ m.kept → n.places ≡ m.places → (n.raw ≡ m.raw) × (n.options ≡ m.options) × (n.role ≡ m.role)
     → Ties n (also t (End op (Gone cause by)))
-lost_ties m n t op cause by h e p f g same = ended m n t op h e p f g same
+lost_ties m n t op cause by h e u p f g same = ended m n t op h e u p f g same
 
-pub dropped_ties : (m n : Reply) (t : Moment) (op : OpName) → Ties m t → n.waiting.items ≡ without_first op m.waiting.items → n.ports ≡ m.ports → n.kept ≡ m.kept → n.places ≡ m.places → (n.raw ≡ m.raw) × (n.options ≡ m.options) × (n.role ≡ m.role)
+pub dropped_ties : (m n : Reply) (t : Moment) (op : OpName) → (h : Ties m t) → Holds n.waiting (without_first op h.waits) → StayPassed m.waiting.replies n.waiting.replies → n.ports ≡ m.ports → n.kept ≡ m.kept → n.places ≡ m.places → (n.raw ≡ m.raw) × (n.options ≡ m.options) × (n.role ≡ m.role)
     → Ties n (also t (End op (Won Sent)))
-dropped_ties m n t op h e p f g same = ended m n t op h e p f g same
+dropped_ties m n t op h e u p f g same = ended m n t op h e u p f g same
 
-pub sent_ties : (m n : Reply) (t : Moment) (op : OpName) (p : ℕ) (b : List ℕ) → Ties m t → n.waiting.items ≡ without_first op m.waiting.items → n.ports ≡ m.ports → n.kept ≡ m.kept → n.places ≡ m.places → (n.raw ≡ m.raw) × (n.options ≡ m.options) × (n.role ≡ m.role)
+pub sent_ties : (m n : Reply) (t : Moment) (op : OpName) (p : ℕ) (b : List ℕ) → (h : Ties m t) → Holds n.waiting (without_first op h.waits) → StayPassed m.waiting.replies n.waiting.replies → n.ports ≡ m.ports → n.kept ≡ m.kept → n.places ≡ m.places → (n.raw ≡ m.raw) × (n.options ≡ m.options) × (n.role ≡ m.role)
     → Ties n (also (also t (Out p b)) (End op (Won Sent)))
-sent_ties m n t op p b h e r f g same = ended m n t op h e r f g same
+sent_ties m n t op p b h e u r f g same = ended m n t op h e u r f g same
 
 -- ---- What is given
 
@@ -158,10 +166,10 @@ module _ (m n : Reply) (t : Moment) (op : OpName) (s : Begun) (text : RecordedMe
       v r home d ∙ ap (λ (o : Option Origin). cond (s.ctx == d) (Some (record { pipe = k.pipe; words = k.words })) o) (h.stored d)
       ∙ sym (stored_given m.role t.z (past t) op s text (item_of k) (map item_of ks) d (is_rep m t h) raw c.pending items_are)
 
-  pub given_ties : (r : Option MessageView) (k : Option KeptRequest) → Ties m t → CanGive t op s text → Given s.ctx r m n k → n.waiting.items ≡ without_first op m.waiting.items → n.ports ≡ m.ports → (n.raw ≡ m.raw) × (n.options ≡ m.options) × (n.role ≡ m.role)
+  pub given_ties : (r : Option MessageView) (k : Option KeptRequest) → (h : Ties m t) → CanGive t op s text → Given s.ctx r m n k → Holds n.waiting (without_first op h.waits) → StayPassed m.waiting.replies n.waiting.replies → n.ports ≡ m.ports → (n.raw ≡ m.raw) × (n.options ≡ m.options) × (n.role ≡ m.role)
       → (option_map text_of r ≡ Some text) × Ties n (also t (End op (Won (Received text))))
-  given_ties r None h c g e p same = none_given h c g.1
-  given_ties r (Some k) h c g e p same =
+  given_ties r None h c g e u p same = none_given h c g.1
+  given_ties r (Some k) h c g e u p same =
       let items_are : item_of k ∷ map item_of n.kept.items ≡ pool t.z (past t) 0 = sym (ap (map item_of) g.1) ∙ h.items in
       let oldest : Some (text_of k.message) ≡ Some text = rw (kept_rep m.role t.z (past t) s.ctx (is_rep m t h), ← items_are) at c.may.oldest in (
         ap (option_map text_of) g.0 ∙ oldest,
@@ -170,12 +178,15 @@ module _ (m n : Reply) (t : Moment) (op : OpName) (s : Begun) (text : RecordedMe
           most = rw same.1 h.most;
           pipes = rw p h.pipes;
           items = ap (drop 1) items_are ∙ sym (pool_given m.role t.z (past t) op s text (is_rep m t h) c.pending);
-          pending = left_over m t op n.waiting.items h e;
+          waits = without_first op h.waits;
+          holds = e;
+          pending = left_over m t op h;
           apart = apart_without (pend (past t)) op h.apart;
           contexts = g.2 ∙ h.contexts;
           homes = homes_without (ctxs (past t)) (pend (past t)) op h.homes;
           stored = given_stored k n.kept.items h c g.1 m.raw refl g.3 g.4;
-          routed = rw e (routed_without (λ o. route t.z (past t) o) op m.waiting.items h.routed);
+          routed = routed_without (λ o. route t.z (past t) o) op h.waits h.routed;
+          stuck = stay_stuck m n p same.0 u h.stuck;
         },
       )
 
@@ -246,9 +257,9 @@ has_filter P (u ∷ us) p h = go (P u) refl h (has_filter P us p)
     go false e h again = again h
 
 -- what goes out for a send that can go
-pub goes_out : (m : Reply) (t : Moment) (op : OpName) (p : ℕ) (s : Begun) (b : List ℕ) (w : ReplyOperation) (r : Answer) → Ties m t → CanSend t op p s b → find (is_for op) m.waiting.items ≡ Some w → begun_of w ≡ s → w.answer ≡ Some r → out_text m.raw r ≡ b
+pub goes_out : (m : Reply) (t : Moment) (op : OpName) (p : ℕ) (s : Begun) (b : List ℕ) (w : ReplyOperation) (r : Answer) → (h : Ties m t) → CanSend t op p s b → find (is_for op) h.waits ≡ Some w → begun_of w ≡ s → w.answer ≡ Some r → out_text m.raw r ≡ b
 goes_out m t op p s b w r h c f e g =
-    let from : option_map origin_of r.source ≡ route t.z (past t) w.op = route_of (λ o. route t.z (past t) o) (is_for op) m.waiting.items w r h.routed f g in
+    let from : option_map origin_of r.source ≡ route t.z (past t) w.op = route_of (λ o. route t.z (past t) o) (is_for op) h.waits w r h.routed f g in
     let targets_is = targets_are m.role t.z (past t) m.raw w r (is_rep m t h) (is_raw m t h) g from in
     let there : has (targets t.z (past t) (begun_of w)) p ≡ true = subst (λ (q : Begun). has (targets t.z (past t) q) p ≡ true) (sym e) c.target in
     let number : is_number (target_of m.raw r) p ≡ true = has_filter (is_number (target_of m.raw r)) (up (past t)) p (sym (ap (λ us. has us p) targets_is) ∙ there) in
@@ -285,13 +296,13 @@ send_isnt_recv t op s text w r c e g =
 
 -- ---- Taken out
 
-pub taken : (m : Reply) (t : Moment) (op : OpName) (s : Begun) (w : ReplyOperation) → Ties m t → pending (past t) op ≡ Some s → Some w ≡ find (is_for op) m.waiting.items → begun_of w ≡ s
+pub taken : (m : Reply) (t : Moment) (op : OpName) (s : Begun) (w : ReplyOperation) → (h : Ties m t) → pending (past t) op ≡ Some s → Some w ≡ find (is_for op) h.waits → begun_of w ≡ s
 taken m t op s w h p e = let v = the_op m t op s h p in ap begun_of (some_inj v.0 (e ∙ v.1)) ∙ v.2
   where
     some_inj : (v : ReplyOperation) → Some w ≡ Some v → w ≡ v
     some_inj v q = cc
 
-pub none_taken : {A : Type 0} (m : Reply) (t : Moment) (op : OpName) (s : Begun) → Ties m t → pending (past t) op ≡ Some s → None ≡ find (is_for op) m.waiting.items → A
+pub none_taken : {A : Type 0} (m : Reply) (t : Moment) (op : OpName) (s : Begun) → (h : Ties m t) → pending (past t) op ≡ Some s → None ≡ find (is_for op) h.waits → A
 none_taken m t op s h p e = let v = the_op m t op s h p in let k : None ≡ Some v.0 = e ∙ v.1 in absurd cc
 
 pub its_message : (s : Begun) (w : ReplyOperation) (r : Answer) → begun_of w ≡ s → w.answer ≡ Some r → Some (text_of r.message) ≡ message_of s.act

@@ -94,12 +94,15 @@ module _ (m n : Reply) (t : Moment) (p : ℕ) (b x : List ℕ) (k : KeptRequest)
           items =
               ap (map item_of) f ∙ map-append item_of m.kept.items (k ∷ []) ∙ ap (λ (is : List Item). is ++ item_of k ∷ []) h.items
               ∙ sym (pool_frame m.role t.z (past t) p b (is_rep m t h) well ∙ ap (λ (o : Option Item). add_item o (pool t.z (past t) 0)) item);
-          pending = rw v h.pending;
+          waits = h.waits;
+          holds = rw v h.holds;
+          pending = h.pending;
           apart = h.apart;
           contexts = rw l h.contexts;
           homes = h.homes;
           stored = rw l h.stored;
-          routed = rw v h.routed;
+          routed = h.routed;
+          stuck = rw (same.0, g, v) h.stuck;
         },
       )
 
@@ -113,12 +116,15 @@ module _ (m n : Reply) (t : Moment) (p : ℕ) (b x : List ℕ) (k : KeptRequest)
           most = rw same.1 h.most;
           pipes = rw g h.pipes;
           items = ap (map item_of) f ∙ h.items;
-          pending = rw v h.pending;
+          waits = h.waits;
+          holds = rw v h.holds;
+          pending = h.pending;
           apart = h.apart;
           contexts = rw l h.contexts;
           homes = h.homes;
           stored = rw l h.stored;
-          routed = rw v h.routed;
+          routed = h.routed;
+          stuck = rw (same.0, g, v) h.stuck;
         },
       )
 

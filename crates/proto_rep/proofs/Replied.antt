@@ -1,5 +1,5 @@
 -- A rep stands for its history after each call.
-use Rattle.std.proofs.Common.{◌≡◌, ◌≢◌, refl, ap, sym, ◌∙◌, subst, List, [], ◌∷◌, ◌++◌, ℕ, ◌+◌, Bool, true, false, cond, arith, Option, Some, None, length, map}
+use Rattle.std.proofs.Common.{◌≡◌, ◌≢◌, refl, ap, sym, ◌∙◌, subst, List, [], ◌∷◌, ◌++◌, ℕ, Bool, true, false, cond, arith, Option, Some, None, length, map}
 use Rattle.std.specs.Prelude.{filter, not, ◌&&◌, ◌||◌, ◌==◌}
 use Rattle.std.specs.List.{list_any, list_all}
 use Rattle.std.specs.Option.{option_map}
@@ -29,10 +29,12 @@ use Rattle.proto_rep.specs.declared.rep.Reply.{Reply}
 use Rattle.proto_rep.specs.declared.rep.KeptRequest.{KeptRequest}
 use Rattle.proto_rep.specs.declared.rep.Source.{Source}
 use Rattle.proto_rep.specs.declared.rep.ReplyContext.{ReplyContext}
-use Rattle.proto_rep.specs.declared.rep.Answer.{Answer}
-use Rattle.proto_rep.specs.declared.rep.ReplyOperation.{ReplyOperation}
+use Rattle.proto_rep.specs.declared.replies.Answer.{Answer}
+use Rattle.proto_rep.specs.declared.operations.ReplyOperation.{ReplyOperation}
 use Rattle.proto_requests.specs.Ports.{PortView, marked, cleared, is_below}
-use Rattle.proto_rep.specs.Reps.{Ties, item_of, origin_of, origin_at, begun_of, act_of, ctx_of, Routed, AreHome, role_of}
+use Rattle.proto_rep.specs.Reps.{Ties, item_of, origin_of, origin_at, ctx_of, Routed, AreHome, role_of}
+use Rattle.proto_rep.specs.Operations.{Holds, begun_of, act_of}
+use Rattle.proto_rep.specs.Replies.{AreStuck, StayPassed}
 use Rattle.proto_requests.proofs.NamesApart.{apart_more}
 use Rattle.proto_requests.proofs.KnownPipes.{up_knows, known_below, fresh_knows, full_knows, down_knows}
 use Rattle.proto_rep.proofs.Homes.{opens_none, shut_ctxs, shut_origins}
@@ -40,6 +42,7 @@ use Rattle.proto_rep.specs.declared.rep.ReplyRole.{ReplyRole}
 use Rattle.proto_rep.specs.declared.rep.ReplyRole.TheVariants as sides
 use Rattle.proto_rep.proofs.Roles.{replies, no_floods}
 use Rattle.proto_requests.proofs.NumbersIn.{has_first, has_still}
+use Rattle.proto_rep.proofs.Stuck.{none_stuck, marked_stuck, stay_stuck}
 
 pub is_rep : (m : Reply) (t : Moment) → Ties m t → t.z.role ≡ role_of m.role
 is_rep m t h = ap (λ (k : Kind). k.role) h.kind
@@ -91,36 +94,42 @@ pool_down y z before p why h = ap (λ b. cond b (filter (λ i. not (is_from p i)
 pub up_below : (m : Reply) (t : Moment) (p place : ℕ) (name : WireNumbers) → Lawful (also t (Up p place name)) → Ties m t → list_all (is_below p) m.ports.items ≡ true
 up_below m t p place name l h = known_below m.ports.items (up (past t)) (ups (past t)) p (λ q. has_full t.turn q) h.pipes l.turn.0.itself.0
 
-pub up_ties : (m n : Reply) (t : Moment) (p place : ℕ) (name : WireNumbers) → Lawful (also t (Up p place name)) → Ties m t → n.ports.items ≡ m.ports.items ++ record { pipe = p; is_full = false } ∷ [] → n.kept ≡ m.kept → n.waiting ≡ m.waiting → n.places ≡ m.places
+pub up_ties : (m n : Reply) (t : Moment) (p place : ℕ) (name : WireNumbers) → Lawful (also t (Up p place name)) → Ties m t → n.ports.items ≡ m.ports.items ++ record { pipe = p; is_full = false } ∷ [] → n.kept ≡ m.kept → ((ws : List ReplyOperation) → Holds m.waiting ws → Holds n.waiting ws) → n.waiting.replies.passed ≡ 0 → n.places ≡ m.places
     → (n.raw ≡ m.raw) × (n.options ≡ m.options) × (n.role ≡ m.role) → Ties n (also t (Up p place name))
-up_ties m n t p place name l h e f w g same =
+up_ties m n t p place name l h e f w x g same =
     record {
       kind = rw (same.0, same.1, same.2) h.kind;
       most = rw same.1 h.most;
       pipes = up_knows n.ports.items m.ports.items (up (past t)) (ups (past t)) p (λ q. has_full t.turn q) h.pipes l.turn.0.itself.0 e;
       items = rw f h.items;
-      pending = rw w h.pending;
+      waits = h.waits;
+      holds = w h.waits h.holds;
+      pending = h.pending;
       apart = h.apart;
       contexts = rw g h.contexts;
       homes = h.homes;
       stored = rw g h.stored;
-      routed = rw w h.routed;
+      routed = h.routed;
+      stuck = none_stuck n.raw n.ports.items n.waiting.replies x;
     }
 
 pub down_ties : (m n : Reply) (t : Moment) (p : ℕ) (why : Why) → Ties m t → n.ports.items ≡ filter (λ (x : PortView). not (x.pipe == p)) m.ports.items → n.kept.items ≡ filter (λ (k : KeptRequest). not (k.pipe == p)) m.kept.items
-    → n.waiting ≡ m.waiting → n.places ≡ m.places → (n.raw ≡ m.raw) × (n.options ≡ m.options) × (n.role ≡ m.role) → Ties n (also t (Down p why))
-down_ties m n t p why h e f w l same =
+    → ((ws : List ReplyOperation) → Holds m.waiting ws → Holds n.waiting ws) → n.waiting.replies.passed ≡ 0 → n.places ≡ m.places → (n.raw ≡ m.raw) × (n.options ≡ m.options) × (n.role ≡ m.role) → Ties n (also t (Down p why))
+down_ties m n t p why h e f w x l same =
     record {
       kind = rw (same.0, same.1, same.2) h.kind;
       most = rw same.1 h.most;
       pipes = down_knows n.ports.items m.ports.items t p why h.pipes e;
       items = ap (map item_of) f ∙ kept_without p m.kept.items ∙ ap (filter (λ i. not (is_from p i))) h.items ∙ sym (pool_down m.role t.z (past t) p why (is_rep m t h));
-      pending = rw w h.pending;
+      waits = h.waits;
+      holds = w h.waits h.holds;
+      pending = h.pending;
       apart = h.apart;
       contexts = rw l h.contexts;
       homes = h.homes;
       stored = rw l h.stored;
-      routed = rw w h.routed;
+      routed = h.routed;
+      stuck = none_stuck n.raw n.ports.items n.waiting.replies x;
     }
 
 pub full_ties : (m n : Reply) (t : Moment) (p : ℕ) → Lawful (also t (Full p)) → Ties m t → n.ports.items ≡ map (marked p) m.ports.items → n.kept ≡ m.kept → n.waiting ≡ m.waiting → n.places ≡ m.places → (n.raw ≡ m.raw) × (n.options ≡ m.options) × (n.role ≡ m.role) → Ties n (also t (Full p))
@@ -130,27 +139,54 @@ full_ties m n t p l h e f w g same =
       most = rw same.1 h.most;
       pipes = full_knows n.ports.items m.ports.items t p l h.pipes e;
       items = rw f h.items;
-      pending = rw w h.pending;
+      waits = h.waits;
+      holds = rw w h.holds;
+      pending = h.pending;
       apart = h.apart;
       contexts = rw g h.contexts;
       homes = h.homes;
       stored = rw g h.stored;
-      routed = rw w h.routed;
+      routed = h.routed;
+      stuck = rw (same.0, e, w) (marked_stuck m.raw p m.ports.items m.waiting.replies h.stuck);
     }
 
-pub fresh_ties : (m n : Reply) (t : Moment) (k : ℕ) → Ties m t → n.ports.items ≡ map cleared m.ports.items → n.kept ≡ m.kept → n.waiting ≡ m.waiting → n.places ≡ m.places → (n.raw ≡ m.raw) × (n.options ≡ m.options) × (n.role ≡ m.role) → Ties n (next t k)
-fresh_ties m n t k h e f w g same =
+pub fresh_ties : (m n : Reply) (t : Moment) (k : ℕ) → Ties m t → n.ports.items ≡ map cleared m.ports.items → n.kept ≡ m.kept → ((ws : List ReplyOperation) → Holds m.waiting ws → Holds n.waiting ws) → n.waiting.replies.passed ≡ 0 → n.places ≡ m.places → (n.raw ≡ m.raw) × (n.options ≡ m.options) × (n.role ≡ m.role) → Ties n (next t k)
+fresh_ties m n t k h e f w x g same =
     record {
       kind = rw (same.0, same.1, same.2) h.kind;
       most = rw same.1 h.most;
       pipes = fresh_knows n.ports.items m.ports.items (up (past t)) (ups (past t)) (λ q. has_full t.turn q) h.pipes e;
       items = rw f h.items;
-      pending = rw w h.pending;
+      waits = h.waits;
+      holds = w h.waits h.holds;
+      pending = h.pending;
       apart = h.apart;
       contexts = rw g h.contexts;
       homes = h.homes;
       stored = rw g h.stored;
-      routed = rw w h.routed;
+      routed = h.routed;
+      stuck = none_stuck n.raw n.ports.items n.waiting.replies x;
+    }
+
+-- ---- Operations that wait are looked at, or have more room
+
+pub waiting_ties : (m n : Reply) (t : Moment) → Ties m t → ((ws : List ReplyOperation) → Holds m.waiting ws → Holds n.waiting ws) → (AreStuck m.raw m.ports.items m.waiting.replies → AreStuck m.raw m.ports.items n.waiting.replies) → n.ports ≡ m.ports → n.kept ≡ m.kept → n.places ≡ m.places
+    → (n.raw ≡ m.raw) × (n.options ≡ m.options) × (n.role ≡ m.role) → Ties n t
+waiting_ties m n t h w s p f g same =
+    record {
+      kind = rw (same.0, same.1, same.2) h.kind;
+      most = rw same.1 h.most;
+      pipes = rw p h.pipes;
+      items = rw f h.items;
+      waits = h.waits;
+      holds = w h.waits h.holds;
+      pending = h.pending;
+      apart = h.apart;
+      contexts = rw g h.contexts;
+      homes = h.homes;
+      stored = rw g h.stored;
+      routed = h.routed;
+      stuck = rw (same.0, p) (s h.stuck);
     }
 
 -- ---- Contexts
@@ -169,12 +205,15 @@ opened_ties m n t c h e p f w same =
       most = rw same.1 h.most;
       pipes = rw p h.pipes;
       items = rw f h.items;
-      pending = rw w h.pending;
+      waits = h.waits;
+      holds = rw w h.holds;
+      pending = h.pending;
       apart = h.apart;
       contexts = ap (map ctx_of) e ∙ map-append ctx_of m.places.items (record { ctx = c; stored = None } ∷ []) ∙ ap (λ (cs : List ℕ). cs ++ c ∷ []) h.contexts;
       homes = homes_opened (ctxs (past t)) (c ∷ []) (pend (past t)) h.homes;
       stored = λ d. ap (origin_at d) e ∙ opens_none c m.places.items d ∙ h.stored d;
-      routed = rw w h.routed;
+      routed = h.routed;
+      stuck = rw (same.0, p, w) h.stuck;
     }
 
 homes_shut : (cs : List ℕ) (c : ℕ) (ss : List Begun) → AreHome cs ss → list_any (λ (s : Begun). s.ctx == c) ss ≡ false → AreHome (without cs c) ss
@@ -201,12 +240,15 @@ shut_ties m n t c l h e p f w same =
       most = rw same.1 h.most;
       pipes = rw p h.pipes;
       items = rw f h.items ∙ sym (pool_shut t.z (past t) c l.turn.0.itself.0);
-      pending = rw w h.pending;
+      waits = h.waits;
+      holds = rw w h.holds;
+      pending = h.pending;
       apart = h.apart;
       contexts = ap (map ctx_of) e ∙ shut_ctxs c m.places.items ∙ ap (λ cs. without cs c) h.contexts;
       homes = homes_shut (ctxs (past t)) c (pend (past t)) h.homes l.turn.0.itself.2;
       stored = λ d. ap (origin_at d) e ∙ shut_origins c m.places.items d ∙ ap (λ (o : Option Origin). cond (c == d) None o) (h.stored d) ∙ swapped (has_stored t.z) (c == d) _;
-      routed = rw w h.routed;
+      routed = h.routed;
+      stuck = rw (same.0, p, w) h.stuck;
     }
 
 -- ---- Begin
@@ -235,10 +277,10 @@ routed_more routes x op (v ∷ ws) w i h k n = go (is_at op.slot (begun_of v)) r
         let other : same_op op v.op ≡ false = rw (differ v.op.slot op.slot e) refl in
         (λ r q. k.0 r q ∙ sym (ap (λ b. cond b x (routes v.op)) other), again h k.1 n)
 
-pub begun_ties : (m n : Reply) (t : Moment) (w : ReplyOperation) (a : RecordedAct) (source : Option Source) (deadline : Option ℕ) → Lawful (also t (Begin w.op t.caller w.ctx a deadline)) → Ties m t → act_of w.answer ≡ a → ((r : Answer) → w.answer ≡ Some r → r.source ≡ source)
+pub begun_ties : (m n : Reply) (t : Moment) (w : ReplyOperation) (a : RecordedAct) (source : Option Source) (deadline : Option ℕ) → Lawful (also t (Begin w.op t.caller w.ctx a deadline)) → (h : Ties m t) → act_of w.answer ≡ a → ((r : Answer) → w.answer ≡ Some r → r.source ≡ source)
     → option_map origin_of source ≡ origin_at w.ctx m.places.items → ((d : ℕ) → origin_at d n.places.items ≡ cond (w.ctx == d) None (origin_at d m.places.items)) → map ctx_of n.places.items ≡ map ctx_of m.places.items
-    → n.waiting.items ≡ m.waiting.items ++ w ∷ [] → n.ports ≡ m.ports → n.kept ≡ m.kept → (n.raw ≡ m.raw) × (n.options ≡ m.options) × (n.role ≡ m.role) → Ties n (also t (Begin w.op t.caller w.ctx a deadline))
-begun_ties m n t w a source deadline l h i j u v x e p f same =
+    → Holds n.waiting (h.waits ++ w ∷ []) → StayPassed m.waiting.replies n.waiting.replies → n.ports ≡ m.ports → n.kept ≡ m.kept → (n.raw ≡ m.raw) × (n.options ≡ m.options) × (n.role ≡ m.role) → Ties n (also t (Begin w.op t.caller w.ctx a deadline))
+begun_ties m n t w a source deadline l h i j u v x e y p f same =
     let may = l.turn.0.itself in
     let free = left_of _ _ may.slot_free in
     record {
@@ -246,16 +288,17 @@ begun_ties m n t w a source deadline l h i j u v x e p f same =
       most = rw same.1 h.most;
       pipes = rw p h.pipes;
       items = rw f h.items;
+      waits = h.waits ++ w ∷ [];
+      holds = e;
       pending =
-          ap (map begun_of) e ∙ map-append begun_of m.waiting.items (w ∷ []) ∙ ap (λ (ss : List Begun). ss ++ begun_of w ∷ []) h.pending
+          map-append begun_of h.waits (w ∷ []) ∙ ap (λ (ss : List Begun). ss ++ begun_of w ∷ []) h.pending
           ∙ ap (λ (b : RecordedAct). pend (past t) ++ record { op = w.op; ctx = w.ctx; act = b } ∷ []) i;
       apart = apart_more (pend (past t)) (record { op = w.op; ctx = w.ctx; act = a }) h.apart free;
       contexts = x ∙ h.contexts;
       homes = homes_more (ctxs (past t)) (pend (past t)) (record { op = w.op; ctx = w.ctx; act = a }) h.homes may.ctx_open;
       stored = λ d. v d ∙ ap (λ (o : Option Origin). cond (w.ctx == d) None o) (h.stored d) ∙ swapped (has_stored t.z) (w.ctx == d) _;
-      routed =
-          rw e
-          (routed_more (λ o. route t.z (past t) o) (stored t.z (past t) w.ctx) w.op m.waiting.items w refl (rw h.pending free) h.routed (λ r q. ap (option_map origin_of) (j r q) ∙ u ∙ h.stored w.ctx));
+      routed = routed_more (λ o. route t.z (past t) o) (stored t.z (past t) w.ctx) w.op h.waits w refl (rw h.pending free) h.routed (λ r q. ap (option_map origin_of) (j r q) ∙ u ∙ h.stored w.ctx);
+      stuck = stay_stuck m n p same.0 y h.stuck;
     }
 
 -- ---- What a rep never does

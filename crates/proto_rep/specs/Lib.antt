@@ -1,3 +1,6 @@
 pub mod Places
+pub mod Replies
+pub mod Operations
+pub mod OperationLaws
 pub mod Reps
 pub mod RepLaws

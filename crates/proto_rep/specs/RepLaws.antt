@@ -1,12 +1,10 @@
 -- The laws of a rep as a machine.
-use Rattle.std.specs.Prelude.{◌≡◌, true, [], is_some}
-use Rattle.std.proofs.Common.{refl, false}
+use Rattle.std.specs.Prelude.{◌≡◌, []}
 use Rattle.sp_history.specs.declared.entry.Entry.{Entry}
 use Rattle.sp_history.specs.Moments.{Moment, Lawful, past, also, IsSilent}
 use Rattle.sp_proto.specs.Kinds.{Starts, kind_of}
 use Rattle.sp_proto.specs.Readings.{stays, starts}
 use Rattle.proto_rep.specs.declared.rep.Reply.{Reply}
-use Rattle.proto_rep.specs.declared.rep.ReplyOperation.{ReplyOperation}
 use Rattle.proto_rep.specs.Reps.{Ties, Stands, role_of, reply_kind}
 
 pub kinds : (m : Reply) (t : Moment) → Ties m t → kind_of t.z ≡ reply_kind (role_of m.role) m.raw m.options
@@ -17,13 +15,3 @@ silent m t e h l k = stays Stands m t e h k
 
 pub anew : (m : Reply) (t : Moment) → past t ≡ [] → Ties m t → Starts Ties m (reply_kind (role_of m.role) m.raw m.options)
 anew m t e h = starts Stands m t (reply_kind (role_of m.role) m.raw m.options) (kinds m t h) e h
-
--- nothing changes where a request ends
-pub left_same : (w : ReplyOperation) → (w.op ≡ w.op) × (w.ctx ≡ w.ctx) × (is_some w.answer ≡ is_some w.answer)
-left_same w = (refl, refl, refl)
-
-pub left_again : (w : ReplyOperation) → false ≡ true → w ≡ w
-left_again w h = refl
-
-pub left_is : (w : ReplyOperation) → false ≡ true → false ≡ true
-left_is w h = h

@@ -1,36 +1,31 @@
 -- What a rep stands for.
-use Rattle.std.specs.Prelude.{◌≡◌, ◌≤◌, ◌==◌, ◌&&◌, ℕ, Bool, true, false, not, ⊤, if◌then◌else◌, List, [], ◌∷◌, ◌++◌, map, find, drop, Option, Some, None, is_some}
+use Rattle.std.specs.Prelude.{◌≡◌, ◌≤◌, ◌==◌, ℕ, Bool, true, false, not, ⊤, if◌then◌else◌, List, [], ◌∷◌, ◌++◌, map, find, drop, Option, Some, None, is_some}
 use Rattle.std.specs.List.{list_any}
 use Rattle.std.specs.Option.{option_map}
 use Rattle.sp_base.specs.declared.OpName.{OpName}
 use Rattle.sp_base.specs.declared.role.Role.{Role}
 use Rattle.sp_base.specs.declared.role.Role.TheVariants as role
 use Rattle.sp_msg.specs.Views.{MessageView}
-use Rattle.sp_history.specs.declared.entry.RecordedAct.{RecordedAct}
-use Rattle.sp_history.specs.declared.entry.RecordedAct.TheVariants.{Recv, Send}
 use Rattle.sp_history.specs.declared.parts.Begun.{Begun}
 use Rattle.sp_history.specs.declared.parts.Item.{Item}
 use Rattle.sp_history.specs.declared.parts.Origin.{Origin}
 use Rattle.sp_history.specs.declared.setting.Options.{Options}
-use Rattle.sp_history.specs.Lists.{has, same_op, first_word}
+use Rattle.sp_history.specs.Lists.{has}
 use Rattle.sp_history.specs.Once.{AreApart}
 use Rattle.sp_history.specs.Moments.{Moment}
 use Rattle.sp_proto.specs.Kinds.{Kind, text_of}
 use Rattle.sp_proto.specs.Readings.{MomentReading, reading}
-use Rattle.sp_proto.specs.declared.Offer.{Offer}
 use Rattle.sp_proto.specs.declared.Verb.{Verb}
 use Rattle.sp_proto.specs.declared.Verb.TheVariants as verbs
-use Rattle.sp_proto.specs.declared.Offer.TheVariants as offers
-use Rattle.proto_requests.specs.Ports.{PortView, Knows, where_is}
-use Rattle.proto_requests.specs.FirstFound.{without_found}
-use Rattle.proto_requests.specs.declared.ports.Destination.{Destination}
-use Rattle.proto_requests.specs.declared.ports.Destination.TheVariants as ways
+use Rattle.proto_requests.specs.Ports.{Knows}
 use Rattle.proto_rep.specs.declared.rep.Reply.{Reply}
 use Rattle.proto_rep.specs.declared.rep.KeptRequest.{KeptRequest}
 use Rattle.proto_rep.specs.declared.rep.Source.{Source}
 use Rattle.proto_rep.specs.declared.rep.ReplyContext.{ReplyContext}
-use Rattle.proto_rep.specs.declared.rep.Answer.{Answer}
-use Rattle.proto_rep.specs.declared.rep.ReplyOperation.{ReplyOperation}
+use Rattle.proto_rep.specs.declared.replies.Answer.{Answer}
+use Rattle.proto_rep.specs.declared.operations.ReplyOperation.{ReplyOperation}
+use Rattle.proto_rep.specs.Replies.{AreStuck}
+use Rattle.proto_rep.specs.Operations.{Holds, begun_of, receives_on}
 use Rattle.proto_rep.specs.declared.rep.ReplyRole.{ReplyRole}
 use Rattle.proto_rep.specs.declared.rep.ReplyRole.TheVariants as sides
 
@@ -66,47 +61,9 @@ origin_at c xs = origin_in (find (is_home c) xs)
 
 -- ---- Operations
 
-abbrev pub act_of : Option Answer → RecordedAct
-act_of None = Recv
-act_of (Some r) = Send (text_of r.message)
-
-abbrev pub begun_of : ReplyOperation → Begun
-begun_of w = record { op = w.op; ctx = w.ctx; act = act_of w.answer }
-
-abbrev pub is_for : OpName → ReplyOperation → Bool
-is_for op w = same_op w.op op
-
--- without the first of this name
-abbrev pub without_first : OpName → List ReplyOperation → List ReplyOperation
-without_first op ws = without_found (is_for op) ws
-
-abbrev pub is_receive : ReplyOperation → Bool
-is_receive w = not (is_some w.answer)
-
 abbrev pub state_at : List ReplyOperation → List ReplyContext → ℕ → Verb → Bool
-state_at ws xs c verbs.Recv = list_any (λ (w : ReplyOperation). is_receive w && (w.ctx == c)) ws
+state_at ws xs c verbs.Recv = list_any (receives_on c) ws
 state_at ws xs c verbs.Send = not (is_some (origin_at c xs))
-
--- the pipe to which a send may go
-abbrev pub target_of : Bool → Answer → Option ℕ
-target_of true r = first_word r.message.header
-target_of false r = option_map (λ (s : Source). s.pipe) r.source
-
-abbrev pub way_of : Bool → List PortView → Answer → Destination
-way_of raw xs r = where_is xs (target_of raw r)
-
-abbrev pub isnt_full : Destination → Bool
-isnt_full ways.Full = false
-isnt_full ways.Nowhere = true
-isnt_full (ways.To p) = true
-
-abbrev pub can_go : Bool → List PortView → Option Answer → Bool
-can_go raw xs None = false
-can_go raw xs (Some r) = isnt_full (way_of raw xs r)
-
--- a send whose pipe isn't up and full
-abbrev pub is_ready : Bool → List PortView → ReplyOperation → Bool
-is_ready raw xs w = can_go raw xs w.answer
 
 abbrev pub words_of : Option Source → List ℕ
 words_of None = []
@@ -115,19 +72,6 @@ words_of (Some s) = s.words
 abbrev pub out_text : Bool → Answer → List ℕ
 out_text true r = drop 4 r.message.header ++ r.message.body
 out_text false r = words_of r.source ++ r.message.body
-
-abbrev pub way_offer : OpName → Destination → Offer
-way_offer op (ways.To p) = offers.Send op p
-way_offer op ways.Full = offers.Drop op
-way_offer op ways.Nowhere = offers.Drop op
-
-abbrev pub answer_offer : Bool → List PortView → OpName → Option Answer → Offer
-answer_offer raw xs op None = offers.Idle
-answer_offer raw xs op (Some r) = way_offer op (way_of raw xs r)
-
-abbrev pub send_offer : Bool → List PortView → Option ReplyOperation → Offer
-send_offer raw xs None = offers.Idle
-send_offer raw xs (Some w) = answer_offer raw xs w.op w.answer
 
 -- the oldest request is given, and, cooked, stored with the context
 abbrev pub Given : ℕ → Option MessageView → Reply → Reply → Option KeptRequest → Type 0
@@ -154,18 +98,21 @@ AreHome cs (s ∷ ss) = (has cs s.ctx ≡ true) × AreHome cs ss
 
 -- The machine is of this kind; knows these pipes as up and which of them are full; keeps these items; has these operations
 -- pending, the oldest first, each on an open context; and has stored, with each context and with each pending send, this
--- request
+-- request. None of the replies that are passed over can leave.
 pub record Shows (m : Reply) (k : Kind) (us : List ℕ) (last : ℕ) (full : ℕ → Bool) (is : List Item) (ss : List Begun) (cs : List ℕ) (st : ℕ → Option Origin) (routes : OpName → Option Origin) : Type 0 where
   pub kind : k ≡ reply_kind (role_of m.role) m.raw m.options
   pub most : m.options.ttl ≤ 15
   pub pipes : Knows m.ports.items us last full
   pub items : map item_of m.kept.items ≡ is
-  pub pending : map begun_of m.waiting.items ≡ ss
+  pub waits : List ReplyOperation
+  pub holds : Holds m.waiting waits
+  pub pending : map begun_of waits ≡ ss
   pub apart : AreApart ss
   pub contexts : map ctx_of m.places.items ≡ cs
   pub homes : AreHome cs ss
   pub stored : (c : ℕ) → origin_at c m.places.items ≡ st c
-  pub routed : Routed routes m.waiting.items
+  pub routed : Routed routes waits
+  pub stuck : AreStuck m.raw m.ports.items m.waiting.replies
 
 -- it shows what it reads of a moment
 abbrev pub Stands : Reply → MomentReading → Type 0

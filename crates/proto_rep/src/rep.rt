@@ -1,26 +1,23 @@
 //! The machine of rep, and of respondent.
-ghost use Rattle.std.specs.Prelude.{◌≡◌, ◌≤◌, ◌<◌, ◌+◌, ◌==◌, ℕ, List, [], Some, None, IfOk, IfSome, OnOk, not, map, filter, find, length, option_to_list, if◌then◌else◌, ◌∷◌, ◌&&◌, true, is_some};
-ghost use Rattle.std.specs.Option.{option_map};
-ghost use Rattle.std.specs.List.{position, list_any};
+ghost use Rattle.std.specs.Prelude.{◌≡◌, ◌+◌, ℕ, List, [], Some, IfOk, length};
 ghost use Rattle.sp_base.specs.declared.role.Role.TheVariants as role;
 ghost use Rattle.sp_history.specs.Options.{Fits};
-ghost use Rattle.sp_history.specs.Lists.{has};
 ghost use Rattle.sp_history.specs.Frames.{traced_item};
 ghost use Rattle.sp_history.specs.Backtrace.{back};
 ghost use Rattle.sp_history.specs.declared.parts.Back.TheVariants.{Found};
 ghost use Rattle.sp_msg.specs.Views.{wire_text};
 ghost use Rattle.sp_proto.specs.Kinds.{Starts, entry_act};
-ghost use Rattle.proto_rep.specs.declared.rep.ReplyOperation.{ReplyOperation as ReplyOperationType};
-ghost use Rattle.proto_rep.specs.declared.rep.Answer.{Answer as AnswerType};
-ghost use Rattle.proto_requests.specs.Spots.{holds};
-ghost use Rattle.proto_rep.specs.Reps.{Ties, reply_kind, role_of, item_of, origin_of, origin_at, is_for, is_home, is_receive, is_ready, way_of, out_text, without_first, ctx_of, send_offer, Gives, act_of, state_at};
+ghost use Rattle.proto_rep.specs.declared.operations.ReplyOperation.{ReplyOperation as ReplyOperationType};
+ghost use Rattle.proto_rep.specs.declared.replies.Answer.{Answer as AnswerType};
+ghost use Rattle.proto_rep.specs.Operations.{Holds, act_of, count, room};
+ghost use Rattle.proto_rep.specs.Reps.{Ties, reply_kind, role_of, item_of, out_text, Gives, state_at};
 
+use crate::operations::{RepOperations, ReplyOperation};
 use crate::places::Places;
+use crate::replies::Answer;
 use proto_requests::backlog::{Backlog, FromPipe};
-use proto_requests::ports::{Destination, Ports};
-use proto_requests::spots::Spot;
-use proto_requests::trail::{BacktraceWords, Trail, first_word, scan};
-use proto_requests::waits::{Waiter, Waits};
+use proto_requests::ports::Ports;
+use proto_requests::trail::{BacktraceWords, Trail, scan};
 use sp_base::{Ctx, NoMemory, OpName, PipeId, Role, Tick};
 use sp_history::setting::Options;
 use sp_msg::Message;
@@ -57,62 +54,6 @@ pub struct ReplyContext {
     pub stored: Option<Source>,
 }
 
-/// A send that waits: its message, as it was begun, and, cooked, the request that it answers.
-#[derive(Drop)]
-struct Answer {
-    message: Message,
-    source: Option<Source>,
-}
-
-/// An operation that waits: a send, or a receive.
-#[derive(Drop)]
-struct ReplyOperation {
-    op: OpName,
-    ctx: Ctx,
-    answer: Option<Answer>,
-}
-
-impl Waiter for ReplyOperation {
-    ghost use Rattle.std.specs.Prelude.{is_some, false};
-    ghost use Rattle.proto_rep.specs.RepLaws as laws;
-
-    ghost name_of = { λ w. w.op };
-
-    ghost home_of = { λ w. w.ctx };
-
-    ghost is_send = { λ w. is_some w.answer };
-
-    ghost is_left = { λ w. false };
-
-    ghost left = { λ w. w };
-
-    ghost left_same = { laws.left_same };
-
-    ghost left_again = { laws.left_again };
-
-    ghost may_leave = { false };
-
-    ghost left_is = { laws.left_is };
-
-    fn op(&self) -> OpName {
-        self.op
-    }
-
-    fn ctx(&self) -> Ctx {
-        self.ctx
-    }
-
-    fn sends(&self) -> bool {
-        self.answer.is_some()
-    }
-
-    fn is_over(&self) -> bool {
-        false
-    }
-
-    fn leave(&mut self) {}
-}
-
 /// Which of the two it is.
 #[derive(Clone, Copy, PartialEq, Eq, Debug)]
 enum ReplyRole {
@@ -130,53 +71,10 @@ pub struct Reply {
     ports: Ports,
     /// Requests.
     kept: Backlog<KeptRequest>,
-    /// In the order of their begins.
-    waiting: Waits<ReplyOperation>,
+    /// The operations that wait.
+    waiting: RepOperations,
     /// Of the open contexts.
     places: Places,
-}
-
-// Where a send may go.
-fn way_of(raw: bool, ports: &Ports, answer: &Answer) -> Destination
-    ensures { result ≡ way_of raw ports.now.items answer.now }
-{
-    if raw {
-        return match first_word(answer.message.header()) {
-            None => ports.way_to(None),
-            Some(p) => ports.way_to(Some(PipeId(p))),
-        };
-    }
-    match &answer.source {
-        None => ports.way_to(None),
-        Some(s) => ports.way_to(Some(s.pipe)),
-    }
-}
-
-// Whether it is a send whose pipe isn't up and full.
-fn is_ready(raw: bool, ports: &Ports, w: &ReplyOperation) -> bool
-    ensures { result ≡ is_ready raw ports.now.items w.now }
-{
-    match &w.answer {
-        None => false,
-        Some(r) => way_of(raw, ports, r) != Destination::Full,
-    }
-}
-
-// The same of a spot.
-fn is_ready_at(raw: bool, ports: &Ports, s: &Spot<ReplyOperation>) -> bool
-    ensures { result ≡ holds (is_ready raw ports.now.items) s.now }
-{
-    match &s.value {
-        None => false,
-        Some(w) => is_ready(raw, ports, w),
-    }
-}
-
-// Where the first such send stands.
-fn ready_place(raw: bool, ports: &Ports, list: &[Spot<ReplyOperation>]) -> Option<usize>
-    ensures { result ≡ position (holds (is_ready raw ports.now.items)) list.now }
-{
-    list.iter().position(|s| is_ready_at(raw, ports, s))
 }
 
 // A send of the act, with the request that it answers.
@@ -251,7 +149,7 @@ fn unused(alloc: Global, role: ReplyRole, options: Options, raw: bool) -> Result
             options,
             ports: Ports::new(alloc),
             kept: Backlog::new(alloc),
-            waiting: Waits::new(alloc),
+            waiting: RepOperations::new(alloc),
             places,
         }),
     }
@@ -279,34 +177,6 @@ impl Reply {
         unused(alloc, ReplyRole::Rep, options, raw)
     }
 
-    // The first send that can go, or is to go nowhere.
-    fn next_send(&self) -> Offer
-        ensures { result ≡ send_offer self.now.raw self.now.ports.items (find (is_ready self.now.raw self.now.ports.items) self.now.waiting.items) }
-    {
-        let list = self.waiting.sends();
-        match ready_place(self.raw, &self.ports, list) {
-            None => Offer::Idle,
-            Some(i) => match &list[i].value {
-                None => Offer::Idle,
-                Some(w) => self.send_of(w),
-            },
-        }
-    }
-
-    // The send goes out, or nowhere.
-    fn send_of(&self, w: &ReplyOperation) -> Offer
-        ensures { result ≡ send_offer self.now.raw self.now.ports.items (Some w.now) }
-    {
-        match &w.answer {
-            None => Offer::Idle,
-            Some(r) => match way_of(self.raw, &self.ports, r) {
-                Destination::To(pipe) => Offer::Send { op: w.op, pipe },
-                Destination::Full => Offer::Drop { op: w.op },
-                Destination::Nowhere => Offer::Drop { op: w.op },
-            },
-        }
-    }
-
     // Gives the oldest request to a receive of the context, and, cooked, stores where it came from.
     fn give(&mut self, c: Ctx) -> Option<Message>
         ensures same { (self.new.raw ≡ self.old.raw) × (self.new.options ≡ self.old.options) × (self.new.role ≡ self.old.role) × (self.new.ports ≡ self.old.ports) × (self.new.waiting ≡ self.old.waiting) }
@@ -331,7 +201,7 @@ impl Reply {
 
     // The state of the context has no place for it.
     fn has_state(&self, c: Ctx, verb: Verb) -> bool
-        ensures { result ≡ state_at self.now.waiting.items self.now.places.items c verb }
+        ensures { (ws : List ReplyOperationType) → Holds self.now.waiting ws → result ≡ state_at ws self.now.places.items c verb }
     {
         match verb {
             Verb::Recv => self.waiting.is_receiving(c),
@@ -341,8 +211,9 @@ impl Reply {
 }
 
 impl Proto for Reply {
-    ghost use Rattle.std.specs.Prelude.{◌+◌, length};
+    ghost use Rattle.std.specs.Prelude.{◌+◌};
     ghost use Rattle.proto_requests.specs.Ports.{free_count};
+    ghost use Rattle.proto_rep.specs.Operations.{count, room};
     ghost use Rattle.proto_rep.specs.Reps.{Ties, reply_kind, role_of};
     ghost use Rattle.proto_rep.specs.RepLaws as laws;
 
@@ -350,9 +221,9 @@ impl Proto for Reply {
 
     ghost ties = { Ties };
 
-    ghost room = { λ m. m.waiting.room };
+    ghost room = { λ m. room m.waiting };
 
-    ghost left = { λ m. free_count m.ports.items + length m.waiting.items };
+    ghost left = { λ m. free_count m.ports.items + count m.waiting };
 
     ghost copies = { λ m op. 0 };
 
@@ -379,7 +250,10 @@ impl Proto for Reply {
 
     fn up(&mut self, p: PipeId) -> Result<(), UpFault> {
         match self.ports.push(p) {
-            Ok(()) => Ok(()),
+            Ok(()) => {
+                self.waiting.pass_none();
+                Ok(())
+            }
             Err(_) => Err(UpFault::NoMemory),
         }
     }
@@ -387,6 +261,7 @@ impl Proto for Reply {
     fn down(&mut self, p: PipeId) {
         self.ports.forget(p);
         self.kept.forget(p);
+        self.waiting.pass_none();
     }
 
     fn wants(&self, p: PipeId) -> bool {
@@ -434,6 +309,7 @@ impl Proto for Reply {
 
     fn fresh(&mut self) {
         self.ports.clear();
+        self.waiting.pass_none();
     }
 
     fn offer(&mut self) -> Offer {
@@ -443,7 +319,7 @@ impl Proto for Reply {
                 Some(op) => return Offer::Give { op },
             }
         }
-        self.next_send()
+        self.waiting.next_reply(self.raw, &self.ports)
     }
 
     fn full(&mut self, p: PipeId) {

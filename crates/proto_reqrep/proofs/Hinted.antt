@@ -91,22 +91,22 @@ module _ (q : ℕ) where
 -- ---- What is looked at
 
 -- fewer keep a reply
-pub ready_live : (h : HintsView) (xs ys : List Live) (ws : List Asking) → ((q : ℕ) → list_any (keeps_reply q) ys ≡ true → list_any (keeps_reply q) xs ≡ true) → AreReady h xs ws → AreReady h ys ws
+pub ready_live : (h : HintsView ℕ) (xs ys : List Live) (ws : List Asking) → ((q : ℕ) → list_any (keeps_reply q) ys ≡ true → list_any (keeps_reply q) xs ≡ true) → AreReady h xs ws → AreReady h ys ws
 ready_live h xs ys ws k r = none_as (is_missed h xs) (is_missed h ys) ws (λ w e. swap (not (is_sending w)) (list_any (keeps_reply w.ctx) ys) (list_any (keeps_reply w.ctx) xs) (not (covers h w.ctx)) (k w.ctx) e) r
 
 -- more are looked at, and others keep a reply
-pub ready_answered : (h g : HintsView) (xs ys : List Live) (ws : List Asking) → ((q : ℕ) → covers h q ≡ true → covers g q ≡ true) → ((q : ℕ) → list_any (keeps_reply q) ys ≡ true → (list_any (keeps_reply q) xs ≡ true) ⊎ (covers g q ≡ true)) → AreReady h xs ws → AreReady g ys ws
+pub ready_answered : (h g : HintsView ℕ) (xs ys : List Live) (ws : List Asking) → ((q : ℕ) → covers h q ≡ true → covers g q ≡ true) → ((q : ℕ) → list_any (keeps_reply q) ys ≡ true → (list_any (keeps_reply q) xs ≡ true) ⊎ (covers g q ≡ true)) → AreReady h xs ws → AreReady g ys ws
 ready_answered h g xs ys ws s k r =
     none_as (is_missed h xs) (is_missed g ys) ws (λ w e. either (not (is_sending w)) (list_any (keeps_reply w.ctx) ys) (list_any (keeps_reply w.ctx) xs) (covers g w.ctx) (covers h w.ctx) (k w.ctx) (s w.ctx) e) r
 
-pub ready_fewer : (h : HintsView) (xs : List Live) (P : Asking → Bool) (ws vs : List Asking) → vs ≡ without_found P ws → AreReady h xs ws → AreReady h xs vs
+pub ready_fewer : (h : HintsView ℕ) (xs : List Live) (P : Asking → Bool) (ws vs : List Asking) → vs ≡ without_found P ws → AreReady h xs ws → AreReady h xs vs
 ready_fewer h xs P ws vs e r = any_less (is_missed h xs) P ws vs e r
 
-pub ready_more : (h : HintsView) (xs : List Live) (ws vs : List Asking) (w : Asking) → vs ≡ ws ++ w ∷ [] → is_missed h xs w ≡ false → AreReady h xs ws → AreReady h xs vs
+pub ready_more : (h : HintsView ℕ) (xs : List Live) (ws vs : List Asking) (w : Asking) → vs ≡ ws ++ w ∷ [] → is_missed h xs w ≡ false → AreReady h xs ws → AreReady h xs vs
 ready_more h xs ws vs w e n r = any_more (is_missed h xs) ws vs w e r n
 
 -- requests end
-pub ready_marked : (h : HintsView) (xs : List Live) (c : ℕ) (ws vs : List Asking) → vs ≡ map (orphaned c) ws → AreReady h xs ws → AreReady h xs vs
+pub ready_marked : (h : HintsView ℕ) (xs : List Live) (c : ℕ) (ws vs : List Asking) → vs ≡ map (orphaned c) ws → AreReady h xs ws → AreReady h xs vs
 ready_marked h xs c ws vs e r = rw e (go ws ∙ r)
   where
     go : (ws : List Asking) → list_any (is_missed h xs) (map (orphaned c) ws) ≡ list_any (is_missed h xs) ws
@@ -114,7 +114,7 @@ ready_marked h xs c ws vs e r = rw e (go ws ∙ r)
     go (w ∷ ws) = ap (λ b. is_missed h xs w || b) (go ws)
 
 -- none keeps a reply
-pub ready_none : (h : HintsView) (xs : List Live) (ws : List Asking) → xs ≡ [] → AreReady h xs ws
+pub ready_none : (h : HintsView ℕ) (xs : List Live) (ws : List Asking) → xs ≡ [] → AreReady h xs ws
 ready_none h xs ws e = rw e (go ws)
   where
     none : (b c : Bool) → ((b && false) && c) ≡ false
@@ -126,7 +126,7 @@ ready_none h xs ws e = rw e (go ws)
     go (w ∷ ws) = ap (λ b. b || list_any (is_missed h []) ws) (none (not (is_sending w)) (not (covers h w.ctx))) ∙ go ws
 
 -- none that keeps a reply receives
-pub ready_idle : (h : HintsView) (xs : List Live) (ws : List Asking) → list_any (answers xs) ws ≡ false → AreReady h xs ws
+pub ready_idle : (h : HintsView ℕ) (xs : List Live) (ws : List Asking) → list_any (answers xs) ws ≡ false → AreReady h xs ws
 ready_idle h xs ws e = none_as (answers xs) (is_missed h xs) ws (λ w k. first (answers xs w) (not (covers h w.ctx)) k) e
   where
     first : (a b : Bool) → (a && b) ≡ true → a ≡ true
@@ -134,7 +134,7 @@ ready_idle h xs ws e = none_as (answers xs) (is_missed h xs) ws (λ w k. first (
     first false b h = h
 
 -- all are looked at, and none is left
-pub idle_ready : (h : HintsView) (xs : List Live) (ws : List Asking) → h.whole ≡ true → h.items ≡ [] → AreReady h xs ws → list_any (answers xs) ws ≡ false
+pub idle_ready : (h : HintsView ℕ) (xs : List Live) (ws : List Asking) → h.whole ≡ true → h.items ≡ [] → AreReady h xs ws → list_any (answers xs) ws ≡ false
 idle_ready h xs ws e f r = none_as (is_missed h xs) (answers xs) ws (λ w k. rw (e, f) (last (answers xs w) k)) r
   where
     last : (a : Bool) → a ≡ true → (a && true) ≡ true
@@ -206,7 +206,7 @@ dropped_receives whole c cs xs (w ∷ ws) n r =
         ap (λ b. b || list_any (is_missed (record { whole = whole; items = cs }) xs) ws) (this (is_sending w) (list_any (keeps_reply w.ctx) xs) (c == w.ctx) (w.ctx == c) (has cs w.ctx) e (turned (c == w.ctx) refl) m) ∙ again n
 
 -- one that gets none is looked at no more
-pub ready_dropped : (h g : HintsView) (xs : List Live) (ws : List Asking) (c : ℕ) → Some c ≡ head_of h.items → g ≡ record { whole = h.whole; items = drop 1 h.items } → None ≡ ready_on xs ws c → AreReady h xs ws → AreReady g xs ws
+pub ready_dropped : (h g : HintsView ℕ) (xs : List Live) (ws : List Asking) (c : ℕ) → Some c ≡ head_of h.items → g ≡ record { whole = h.whole; items = drop 1 h.items } → None ≡ ready_on xs ws c → AreReady h xs ws → AreReady g xs ws
 ready_dropped h g xs ws c e f n r = rw f (go h.items e r)
   where
     gone : (b : Bool) → list_any (keeps_reply c) xs ≡ b → (o : Option Asking) → find (is_receiving_on c) ws ≡ o → None ≡ cond {A = Option OpName} b (option_map (λ (w : Asking). w.op) o) None → (cs : List ℕ) → AreReady (record { whole = h.whole; items = c ∷ cs }) xs ws → AreReady (record { whole = h.whole; items = cs }) xs ws
@@ -219,7 +219,7 @@ ready_dropped h g xs ws c e f n r = rw f (go h.items e r)
     go (i ∷ is) e r = let same : c ≡ i = some_is c i e in gone (list_any (keeps_reply c) xs) refl (find (is_receiving_on c) ws) refl n is (rw same r)
 
 -- one receive more waits
-pub ready_begun : (h g : HintsView) (xs : List Live) (ws : List Asking) (w : Asking) (c : ℕ) → w.ctx ≡ c → ((q : ℕ) → covers h q ≡ true → covers g q ≡ true) → (covers g c ≡ true) ⊎ (list_any (keeps_reply c) xs ≡ false) → AreReady h xs ws → AreReady g xs (ws ++ w ∷ [])
+pub ready_begun : (h g : HintsView ℕ) (xs : List Live) (ws : List Asking) (w : Asking) (c : ℕ) → w.ctx ≡ c → ((q : ℕ) → covers h q ≡ true → covers g q ≡ true) → (covers g c ≡ true) ⊎ (list_any (keeps_reply c) xs ≡ false) → AreReady h xs ws → AreReady g xs (ws ++ w ∷ [])
 ready_begun h g xs ws w c e s o r = ready_more g xs ws (ws ++ w ∷ []) w refl (rw e at_it) (ready_answered h g xs xs ws s (λ q k. inl k) r)
   where
     shut : (a k : Bool) → ((a && k) && not true) ≡ false
@@ -239,7 +239,7 @@ ready_begun h g xs ws w c e s o r = ready_more g xs ws (ws ++ w ∷ []) w refl (
     at_it = go o
 
 -- one reply more is kept
-pub ready_kept : (h g : HintsView) (xs ys : List Live) (ws : List Asking) (id : ℕ) (k : KeptReply) (c : ℕ) → ys ≡ with_reply id k xs → Some c ≡ option_map live_ctx (find (waits_for id) xs) → covers g c ≡ true → ((q : ℕ) → covers h q ≡ true → covers g q ≡ true) → AreReady h xs ws → AreReady g ys ws
+pub ready_kept : (h g : HintsView ℕ) (xs ys : List Live) (ws : List Asking) (id : ℕ) (k : KeptReply) (c : ℕ) → ys ≡ with_reply id k xs → Some c ≡ option_map live_ctx (find (waits_for id) xs) → covers g c ≡ true → ((q : ℕ) → covers h q ≡ true → covers g q ≡ true) → AreReady h xs ws → AreReady g ys ws
 ready_kept h g xs ys ws id k c e f v s r = ready_answered h g xs ys ws s (λ q n. go q (keeps_more q id k xs (ap (list_any (keeps_reply q)) (sym e) ∙ n))) r
   where
     go : (q : ℕ) → (list_any (keeps_reply q) xs ≡ true) ⊎ (option_map live_ctx (find (waits_for id) xs) ≡ Some q) → (list_any (keeps_reply q) xs ≡ true) ⊎ (covers g q ≡ true)
@@ -247,20 +247,12 @@ ready_kept h g xs ys ws id k c e f v s r = ready_answered h g xs ys ws s (λ q n
     go q (inr n) = let same : c ≡ q = some_is c q (f ∙ n) in inr (ap (covers g) (sym same) ∙ v)
 
 -- none waits for the reply
-pub ready_unkept : (h : HintsView) (xs ys : List Live) (ws : List Asking) (id : ℕ) (k : KeptReply) → ys ≡ with_reply id k xs → None ≡ option_map live_ctx (find (waits_for id) xs) → AreReady h xs ws → AreReady h ys ws
+pub ready_unkept : (h : HintsView ℕ) (xs ys : List Live) (ws : List Asking) (id : ℕ) (k : KeptReply) → ys ≡ with_reply id k xs → None ≡ option_map live_ctx (find (waits_for id) xs) → AreReady h xs ws → AreReady h ys ws
 ready_unkept h xs ys ws id k e f r = ready_live h xs ys ws (λ q n. go q (keeps_more q id k xs (ap (list_any (keeps_reply q)) (sym e) ∙ n))) r
   where
     go : (q : ℕ) → (list_any (keeps_reply q) xs ≡ true) ⊎ (option_map live_ctx (find (waits_for id) xs) ≡ Some q) → list_any (keeps_reply q) xs ≡ true
     go q (inl n) = n
     go q (inr n) = let bad : None ≡ Some q = f ∙ n in absurd cc
-
-pub shorter : (n : ℕ) (is : List ℕ) → Some n ≡ head_of is → length (drop 1 is) < length is
-shorter n [] e = absurd cc
-shorter n (i ∷ is) e = omega arith
-
-pub no_head : (is : List ℕ) → None ≡ head_of is → is ≡ []
-no_head [] e = refl
-no_head (i ∷ is) e = absurd cc
 
 -- a request begins
 pub asked_ready : (m n : Machine) (c : ℕ) (body : List ℕ) (op : OpName) (x : MessageView) (ws : List Asking) → Asks c body m n → ws ≡ n.waiting.items ++ record { op = op; ctx = c; message = Some x; is_orphan = false } ∷ [] → AreReady m.ready m.live.items m.waiting.items → AreReady n.ready n.live.items ws

@@ -6,7 +6,8 @@ pub mod Owning
 pub mod Requested
 pub mod LiveIndexes
 pub mod WorkLeft
-pub mod Calming
+pub mod DueRequests
+pub mod RequestsDue
 pub mod Hinted
 pub mod ReqStands
 pub mod Reaching

@@ -1,8 +1,9 @@
 -- What a req offers.
-use Rattle.std.proofs.Common.{◌≡◌, refl, ap, sym, ◌∙◌, subst, List, [], ◌∷◌, ℕ, ◌+◌, ◌≤◌, Bool, true, false, cond, arith, Option, Some, None, map, inl, inr}
-use Rattle.std.specs.Prelude.{find, filter, not, is_some, nat_lt, IsTrue, ◌⊎◌, ◌&&◌, ◌||◌, ◌==◌}
+use Rattle.std.proofs.Common.{◌≡◌, refl, ap, sym, ◌∙◌, subst, List, [], ◌∷◌, ℕ, ◌+◌, ◌≤◌, Bool, true, false, cond, arith, Option, Some, None, map, inl, inr, length, suc}
+use Rattle.std.specs.Prelude.{IfSome, IfNone, find, filter, not, is_some, nat_lt, IsTrue, ◌⊎◌, ◌&&◌, ◌||◌, ◌==◌}
 use Rattle.std.specs.List.{list_any, list_all}
 use Rattle.std.specs.Option.{option_map}
+use Rattle.std.proofs.lemmas.Bool.Decides.{nat_tests}
 use Rattle.sp_base.specs.declared.OpName.{OpName}
 use Rattle.sp_base.specs.declared.role.Role.{Role}
 use Rattle.sp_base.specs.declared.role.Role.TheVariants as role
@@ -18,7 +19,7 @@ use Rattle.sp_history.specs.declared.parts.Requests.{Requests}
 use Rattle.sp_history.specs.declared.setting.Setting.{Setting}
 use Rattle.sp_history.specs.Lists.{has, head_of, is_nil, same_op}
 use Rattle.sp_history.specs.Setting.{is_reply, has_requests, resends}
-use Rattle.sp_history.specs.Past.{is_of, pending, up, ctxs}
+use Rattle.sp_history.specs.Past.{is_of, pending, up, ups, ctxs}
 use Rattle.sp_history.specs.Kept.{kept, route, replies_of}
 use Rattle.sp_history.specs.Requests.{requests, is_orphan, wire_of, live_on, request_of as asked_of, no_requests}
 use Rattle.sp_history.specs.Sends.{may_go, targets, targets_of, bytes_of, bytes_of_act, bytes_for, begun_before, is_due_again}
@@ -36,9 +37,10 @@ use Rattle.proto_requests.specs.Ports.{port_of, is_free, is_free_behind, next_po
 use Rattle.proto_reqrep.specs.declared.req.Request.{Request as Machine}
 use Rattle.proto_reqrep.specs.declared.req.Live.{Live}
 use Rattle.proto_reqrep.specs.declared.req.Asking.{Asking}
-use Rattle.proto_requests.specs.Hints.{HintsView}
-use Rattle.proto_requests.proofs.Spotted.{none_find}
-use Rattle.proto_reqrep.specs.Reqs.{gets, answers, AreReady, is_receiving_on, Ties, IsNextPipe, begun_of, act_of, is_sending, is_live_on, live_ctx, request_of, is_due, out_offer, is_given, dry_at, HasLive}
+use Rattle.proto_requests.proofs.Spotted.{none_find, unmapped}
+use Rattle.proto_reqrep.specs.Reqs.{gets, answers, IsReply, IsGift, is_receiving_on, Ties, IsNextPipe, begun_of, act_of, is_sending, is_live_on, live_ctx, request_of, is_due, due_in, IsOut, IsDueOn, IsSeen, AreReady, is_given, dry_at, HasLive}
+use Rattle.proto_reqrep.proofs.DueRequests.{none_at}
+use Rattle.proto_reqrep.proofs.RequestLives.{found_ctx}
 use Rattle.proto_reqrep.proofs.Orphaned.{orphan_found, all_finished}
 use Rattle.proto_reqrep.proofs.Owning.{owned_at}
 use Rattle.proto_reqrep.proofs.ReqStands.{is_req_role, is_raw, flag, live_is, kept_is}
@@ -64,15 +66,6 @@ none_any P (x ∷ xs) h = go (P x) h (none_any P xs)
     go : (b : Bool) → cond b (Some x) (find P xs) ≡ None → (find P xs ≡ None → list_any P xs ≡ false) → (b || list_any P xs) ≡ false
     go true h again = absurd cc
     go false h again = again h
-
-none_at : {A : Type 0} (P Q : A → Bool) (xs : List A) (x : A) → list_any P xs ≡ false → find Q xs ≡ Some x → P x ≡ false
-none_at P Q [] x h f = absurd cc
-none_at P Q (y ∷ xs) x h f = go (P y) refl h (Q y) f (none_at P Q xs x)
-  where
-    go : (b : Bool) → P y ≡ b → (b || list_any P xs) ≡ false → (c : Bool) → cond c (Some y) (find Q xs) ≡ Some x → (list_any P xs ≡ false → find Q xs ≡ Some x → P x ≡ false) → P x ≡ false
-    go true e h c f again = absurd cc
-    go false e h true f again = ap P (sym (some_inj y x f)) ∙ e
-    go false e h false f again = again h f
 
 -- where no name stands twice, it is the operation of its name
 find_own : (P : Asking → Bool) (ws : List Asking) (w : Asking) → find P ws ≡ Some w → AreApart (map begun_of ws) → find (is_of w.op) (map begun_of ws) ≡ Some (begun_of w)
@@ -104,10 +97,10 @@ own_pending m t P w h f = ap (find (is_of w.op)) (sym h.3.pending) ∙ find_own 
 
 -- ---- Finish
 
-pub can_finish : (m : Machine) (t : Moment) (w : Asking) → Ties m t → find (λ (v : Asking). v.is_orphan) m.waiting.items ≡ Some w → CanFinish t w.op (begun_of w) causes.Superseded
-can_finish m t w h f =
-    let it : is_orphan (requests t.z (past t)) w.op ≡ true = flag m t (λ (v : Asking). v.is_orphan) w h f ∙ found_true (λ (v : Asking). v.is_orphan) m.waiting.items w f in
-    record { pending = own_pending m t (λ (v : Asking). v.is_orphan) w h f; is_finish = inl refl; may = (refl, orphan_found (requests t.z (past t)).orphans w.op it h.3.causes) }
+pub can_finish : (m : Machine) (t : Moment) (P : Asking → Bool) (w : Asking) → Ties m t → find P m.waiting.items ≡ Some w → w.is_orphan ≡ true → CanFinish t w.op (begun_of w) causes.Superseded
+can_finish m t P w h f o =
+    let it : is_orphan (requests t.z (past t)) w.op ≡ true = flag m t P w h f ∙ o in
+    record { pending = own_pending m t P w h f; is_finish = inl refl; may = (refl, orphan_found (requests t.z (past t)).orphans w.op it h.3.causes) }
 
 -- ---- Give
 
@@ -152,30 +145,57 @@ first_gift m (v ∷ ws) w h = go (gets m v) refl h (λ q. first_gift m ws w q)
 pub gift_given : (m : Machine) (ws : List Asking) (w : Asking) → find (gets m) ws ≡ Some w → is_given m.raw m.kept.items m.live.items w.ctx ≡ true
 gift_given m ws w f = second_of (not (is_sending w)) _ (found_true (gets m) ws w f)
 
--- one was searched for
-pub left_gift : (m : Machine) (op : OpName) (b : Bool) → Some op ≡ cond {A = Option OpName} b (option_map (λ (w : Asking). w.op) (find (gets m) m.waiting.items)) None → (w : Asking) × (find (gets m) m.waiting.items ≡ Some w) × (w.op ≡ op)
-left_gift m op false e = absurd cc
-left_gift m op true e = go (find (gets m) m.waiting.items) refl e
+-- the one that was searched for
+pub found_gift : (m : Machine) (op : OpName) → Some op ≡ option_map (λ (w : Asking). w.op) (find (gets m) m.waiting.items) → IsGift m op
+found_gift m op e = go (find (gets m) m.waiting.items) refl e
   where
-    go : (o : Option Asking) → find (gets m) m.waiting.items ≡ o → Some op ≡ option_map (λ (w : Asking). w.op) o → (w : Asking) × (find (gets m) m.waiting.items ≡ Some w) × (w.op ≡ op)
+    go : (o : Option Asking) → find (gets m) m.waiting.items ≡ o → Some op ≡ option_map (λ (w : Asking). w.op) o → IsGift m op
     go None f e = absurd cc
-    go (Some w) f e = (w, f, sym (some_inj op w.op e))
+    go (Some w) f e = (w, first_gift m m.waiting.items w f, sym (some_inj op w.op e), gift_given m m.waiting.items w f)
+
+-- the one of a cooked req
+pub reply_gift : (m : Machine) (op : OpName) → m.raw ≡ false → IsReply m.live.items m.waiting.items op → IsGift m op
+reply_gift m op r g = (g.0, g.1, g.2, ap (λ b. is_given b m.kept.items m.live.items g.0.ctx) r ∙ g.3)
 
 -- none can be given a message
-pub no_gift : (m : Machine) (r : HintsView) → r.whole ≡ m.ready.whole → (m.raw ≡ false → AreReady m.ready m.live.items m.waiting.items → m.ready.whole ≡ true → list_any (answers m.live.items) m.waiting.items ≡ false)
-    → None ≡ cond {A = Option OpName} (m.raw || not r.whole) (option_map (λ (w : Asking). w.op) (find (gets m) m.waiting.items)) None → AreReady m.ready m.live.items m.waiting.items → find (gets m) m.waiting.items ≡ None
-no_gift m r w k e h = go m.raw refl r.whole refl e
-  where
-    empty : (o : Option Asking) → None ≡ option_map (λ (w : Asking). w.op) o → o ≡ None
-    empty None q = refl
-    empty (Some x) q = absurd cc
+pub no_gift : (m : Machine) → None ≡ option_map (λ (w : Asking). w.op) (find (gets m) m.waiting.items) → find (gets m) m.waiting.items ≡ None
+no_gift m e = unmapped _ _ e
 
-    go : (b : Bool) → m.raw ≡ b → (c : Bool) → r.whole ≡ c → None ≡ cond {A = Option OpName} (b || not c) (option_map (λ (w : Asking). w.op) (find (gets m) m.waiting.items)) None → find (gets m) m.waiting.items ≡ None
-    go true p c q f = empty _ f
-    go false p false q f = empty _ f
-    go false p true q f =
-        let cooked : find (answers m.live.items) m.waiting.items ≡ None = none_find (answers m.live.items) m.waiting.items (k p h (sym w ∙ q)) in
-        ap (λ b. find (λ (v : Asking). not (is_sending v) && is_given b m.kept.items m.live.items v.ctx) m.waiting.items) p ∙ cooked
+pub no_reply : (m : Machine) → m.raw ≡ false → list_any (answers m.live.items) m.waiting.items ≡ false → find (gets m) m.waiting.items ≡ None
+no_reply m r e = ap (λ b. find (λ (v : Asking). not (is_sending v) && is_given b m.kept.items m.live.items v.ctx) m.waiting.items) r ∙ none_find (answers m.live.items) m.waiting.items e
+
+pub no_answers : (m : Machine) → m.raw ≡ false → find (gets m) m.waiting.items ≡ None → list_any (answers m.live.items) m.waiting.items ≡ false
+no_answers m r e = none_any (answers m.live.items) m.waiting.items (sym (ap (λ b. find (λ (v : Asking). not (is_sending v) && is_given b m.kept.items m.live.items v.ctx) m.waiting.items) r) ∙ e)
+
+pub nil_is : {A : Type 0} (xs : List A) → is_nil xs ≡ (length xs == 0)
+nil_is [] = refl
+nil_is (x ∷ xs) = more (length xs)
+  where
+    more : (n : ℕ) → false ≡ (suc n == 0)
+    more n = grind (arith, nat_tests)
+
+-- a raw req without a message gives none, and else its first receive
+pub raw_none : (m : Machine) → m.raw ≡ true → is_nil m.kept.items ≡ true → None ≡ option_map (λ (w : Asking). w.op) (find (gets m) m.waiting.items)
+raw_none m r e = sym (ap (option_map (λ (w : Asking). w.op)) (ap (λ b. find (λ (v : Asking). not (is_sending v) && is_given b m.kept.items m.live.items v.ctx) m.waiting.items) r ∙ ap (λ b. find (λ (v : Asking). not (is_sending v) && not b) m.waiting.items) e ∙ none m.waiting.items))
+  where
+    shut : (b : Bool) → (b && not true) ≡ false
+    shut true = refl
+    shut false = refl
+
+    none : (ws : List Asking) → find (λ (v : Asking). not (is_sending v) && not true) ws ≡ None
+    none [] = refl
+    none (w ∷ ws) = ap (λ b. cond b (Some w) (find (λ (v : Asking). not (is_sending v) && not true) ws)) (shut (not (is_sending w))) ∙ none ws
+
+pub raw_first : (m : Machine) → m.raw ≡ true → is_nil m.kept.items ≡ false → find (λ (v : Asking). not (is_sending v)) m.waiting.items ≡ find (gets m) m.waiting.items
+raw_first m r e = sym (ap (λ b. find (λ (v : Asking). not (is_sending v) && is_given b m.kept.items m.live.items v.ctx) m.waiting.items) r ∙ ap (λ b. find (λ (v : Asking). not (is_sending v) && not b) m.waiting.items) e ∙ all m.waiting.items)
+  where
+    wide : (b : Bool) → (b && not false) ≡ b
+    wide true = refl
+    wide false = refl
+
+    all : (ws : List Asking) → find (λ (v : Asking). not (is_sending v) && not false) ws ≡ find (λ (v : Asking). not (is_sending v)) ws
+    all [] = refl
+    all (w ∷ ws) = ap (λ b. cond b (Some w) (find (λ (v : Asking). not (is_sending v) && not false) ws)) (wide (not (is_sending w))) ∙ ap (λ o. cond (not (is_sending w)) (Some w) o) (all ws)
 
 pub can_give : (m : Machine) (t : Moment) (w : Asking) → Ties m t → list_any (λ (v : Asking). v.is_orphan) m.waiting.items ≡ false → find (is_receiving_on w.ctx) m.waiting.items ≡ Some w → is_given m.raw m.kept.items m.live.items w.ctx ≡ true → (x : RecordedMessage) × CanGive t w.op (begun_of w) x
 can_give m t w h o f given = go (kept t.z (past t) w.ctx) refl
@@ -276,7 +296,7 @@ sends_settled m t full h (w ∷ ws) (inr f) = go w.message refl f (λ q. sends_s
 
 -- a request is settled where all pipes are full, or it is not due, or its context is dry
 again_settled : (m : Machine) (t : Moment) (full : ℕ → Bool) (h : Ties m t) (xs : List Live) → ((c : ℕ) → has (map live_ctx xs) c ≡ true → has (ctxs (past t)) c ≡ true)
-    → (list_all full (up (past t)) ≡ true) ⊎ (find (is_due m.options.resend m.tick m.ports.items m.seats.items) xs ≡ None) → list_all (request_settled t.z (past t) full) (map request_of xs) ≡ true
+    → (list_all full (up (past t)) ≡ true) ⊎ (list_any (due_in m) xs ≡ false) → list_all (request_settled t.z (past t) full) (map request_of xs) ≡ true
 again_settled m t full h [] o f = refl
 again_settled m t full h (x ∷ xs) o (inl f) = both _ _ (rw f (middle (not (is_due_again t.z (past t) (request_of x))) (is_dry (past t) x.ctx))) (again_settled m t full h xs (λ c k. o c (more (x.ctx == c) k)) (inl f))
   where
@@ -307,8 +327,8 @@ again_settled m t full h (x ∷ xs) o (inr f) = go (is_due m.options.resend m.ti
         let due : is_due_again t.z (past t) (request_of x) ≡ false = sym (due_is m t h x k) ∙ e in
         rw due refl
 
-    go : (b : Bool) → is_due m.options.resend m.tick m.ports.items m.seats.items x ≡ b → cond b (Some x) (find (is_due m.options.resend m.tick m.ports.items m.seats.items) xs) ≡ None
-        → (find (is_due m.options.resend m.tick m.ports.items m.seats.items) xs ≡ None → list_all (request_settled t.z (past t) full) (map request_of xs) ≡ true) → list_all (request_settled t.z (past t) full) (map request_of (x ∷ xs)) ≡ true
+    go : (b : Bool) → is_due m.options.resend m.tick m.ports.items m.seats.items x ≡ b → (b || list_any (due_in m) xs) ≡ false
+        → (list_any (due_in m) xs ≡ false → list_all (request_settled t.z (past t) full) (map request_of xs) ≡ true) → list_all (request_settled t.z (past t) full) (map request_of (x ∷ xs)) ≡ true
     go true e k again = absurd cc
     go false e k again = both _ _ (one e (dry_at x.ctx m.seats.items) refl) (again k)
 
@@ -320,8 +340,8 @@ all_full full (u ∷ us) f = go (full u) refl f (all_full full us)
     go true e f again = again f
     go false e f again = absurd cc
 
-idle : (m : Machine) (t : Moment) → Ties m t → find (λ (v : Asking). v.is_orphan) m.waiting.items ≡ None → find (gets m) m.waiting.items ≡ None
-    → (list_all (λ q. has_full t.turn q) (up (past t)) ≡ true) ⊎ (find is_sending m.waiting.items ≡ None) → (list_all (λ q. has_full t.turn q) (up (past t)) ≡ true) ⊎ (find (is_due m.options.resend m.tick m.ports.items m.seats.items) m.live.items ≡ None) → IsIdle t
+idle : (m : Machine) (t : Moment) → Ties m t → list_any (λ (v : Asking). v.is_orphan) m.waiting.items ≡ false → find (gets m) m.waiting.items ≡ None
+    → (list_all (λ q. has_full t.turn q) (up (past t)) ≡ true) ⊎ (find is_sending m.waiting.items ≡ None) → (list_all (λ q. has_full t.turn q) (up (past t)) ≡ true) ⊎ (list_any (due_in m) m.live.items ≡ false) → IsIdle t
 idle m t h o g s d =
     record {
       settled =
@@ -329,7 +349,7 @@ idle m t h o g s d =
             receives = rw (← h.3.pending) (receives_settled m t h m.waiting.items g);
             sends = rw (← h.3.pending) (sends_settled m t (λ q. has_full t.turn q) h m.waiting.items s);
             again = λ q. rw (← h.3.live) (again_settled m t (λ q. has_full t.turn q) h m.live.items h.4.homes d);
-            finished = all_finished m.waiting.items (requests t.z (past t)) h.3.orphans (none_any (λ (v : Asking). v.is_orphan) m.waiting.items o);
+            finished = all_finished m.waiting.items (requests t.z (past t)) h.3.orphans o;
           };
       no_flood = λ q. let k : false ≡ true = rw (is_req_role m t h) at q in absurd cc;
     }
@@ -339,7 +359,7 @@ no_second : {A : Type 0} (x y : Option A) → or_else x y ≡ None → y ≡ Non
 no_second None y e = e
 no_second (Some x) y e = absurd cc
 
-pub idle_full : (m : Machine) (t : Moment) → Ties m t → find (λ (v : Asking). v.is_orphan) m.waiting.items ≡ None → find (gets m) m.waiting.items ≡ None → next_port m.last_pipe m.ports.items ≡ None → IsIdle t
+pub idle_full : (m : Machine) (t : Moment) → Ties m t → list_any (λ (v : Asking). v.is_orphan) m.waiting.items ≡ false → find (gets m) m.waiting.items ≡ None → next_port m.last_pipe m.ports.items ≡ None → IsIdle t
 idle_full m t h o g f = let full = all_full (λ q. has_full t.turn q) (up (past t)) (ap (find is_free) (sym h.1.ports) ∙ no_second _ _ f) in idle m t h o g (inl full) (inl full)
 
 -- ---- Send and Again
@@ -411,22 +431,6 @@ is_next m t q h f =
     number None e = absurd cc
     number (Some n) e = ap (λ (x : PortView). Some x.pipe) (some_inj (port_of (λ p. has_full t.turn p) n) q e)
 
-pub sent_on : (n p : ℕ) (op : OpName) (a : Option Asking) (b : Option Live) → out_offer n a b ≡ offers.Send op p → n ≡ p
-sent_on n p op (Some w) b e = pipe_of w.op op n p e
-  where
-    pipe_of : (x y : OpName) (i j : ℕ) → offers.Send x i ≡ offers.Send y j → i ≡ j
-    pipe_of x y i j e = cc
-sent_on n p op None None e = absurd cc
-sent_on n p op None (Some x) e = absurd cc
-
-pub again_on : (n p c : ℕ) (a : Option Asking) (b : Option Live) → out_offer n a b ≡ offers.Again c p → n ≡ p
-again_on n p c (Some w) b e = absurd cc
-again_on n p c None None e = absurd cc
-again_on n p c None (Some x) e = pipe_of x.ctx c n p e
-  where
-    pipe_of : (x y : ℕ) (i j : ℕ) → offers.Again x i ≡ offers.Again y j → i ≡ j
-    pipe_of x y i j e = cc
-
 no_earlier : (z : Setting) (before : List Entry) (p : ℕ) (ws : List Asking) (w : Asking) → find is_sending ws ≡ Some w → list_any (λ other. has (targets z before other) p) (begun_before w.op (map begun_of ws)) ≡ false
 no_earlier z before p [] w f = absurd cc
 no_earlier z before p (v ∷ ws) w f = go v.message refl f (no_earlier z before p ws w)
@@ -495,7 +499,7 @@ can_send m t w p h o f u n = go w.message refl
         )
 
 -- the request that is found is that of its context
-found_alone : (P : Live → Bool) (xs : List Live) (x : Live) → AreDistinct (map live_ctx xs) → find P xs ≡ Some x → find (is_live_on x.ctx) xs ≡ Some x
+pub found_alone : (P : Live → Bool) (xs : List Live) (x : Live) → AreDistinct (map live_ctx xs) → find P xs ≡ Some x → find (is_live_on x.ctx) xs ≡ Some x
 found_alone P [] x d f = absurd cc
 found_alone P (y ∷ xs) x d f = go (P y) f (found_alone P xs x d.1)
   where
@@ -523,11 +527,9 @@ found_alone P (y ∷ xs) x d f = go (P y) f (found_alone P xs x d.1)
             let bad : true ≡ false = sym (there xs k) ∙ away in absurd cc
         step false e more = more
 
-pub can_again : (m : Machine) (t : Moment) (x : Live) (p : ℕ) → Ties m t → find (is_due m.options.resend m.tick m.ports.items m.seats.items) m.live.items ≡ Some x → has (up (past t)) p ≡ true → has_full t.turn p ≡ false → CanAgain t x.ctx p (request_of x)
-can_again m t x p h f u n =
-    let due = is_due m.options.resend m.tick m.ports.items m.seats.items in
-    let alone = found_alone due m.live.items x h.3.places f in
-    let it : due x ≡ true = found_true due m.live.items x f in
+pub can_again : (m : Machine) (t : Moment) (c p : ℕ) (x : Live) → Ties m t → find (is_live_on c) m.live.items ≡ Some x → due_in m x ≡ true → has (up (past t)) p ≡ true → has_full t.turn p ≡ false → CanAgain t x.ctx p (request_of x)
+can_again m t c p x h f it u n =
+    let alone = found_alone (is_live_on c) m.live.items x h.3.places f in
     let open_ : has (ctxs (past t)) x.ctx ≡ true = h.4.homes x.ctx (there m.live.items alone) in
     let wet : dry_at x.ctx m.seats.items ≡ false = not_dry _ _ _ it in
     record {
@@ -568,17 +570,24 @@ can_again m t x p h f u n =
         nothing [] e k = absurd cc
         nothing (v ∷ vs) e k = absurd cc
 
-pub out_right : (m : Machine) (t : Moment) (q : PortView) (y : Offer) → Ties m t → find (λ (v : Asking). v.is_orphan) m.waiting.items ≡ None → find (gets m) m.waiting.items ≡ None → next_port m.last_pipe m.ports.items ≡ Some q
-    → y ≡ out_offer q.pipe (find is_sending m.waiting.items) (find (is_due m.options.resend m.tick m.ports.items m.seats.items) m.live.items) → IsOffered y t
-out_right m t q y h o g f e = subst (λ (z : Offer). IsOffered z t) (sym e) (go (find is_sending m.waiting.items) refl (find (is_due m.options.resend m.tick m.ports.items m.seats.items) m.live.items) refl)
+pub out_right : (m : Machine) (t : Moment) (q : PortView) (y : Offer) → Ties m t → list_any (λ (v : Asking). v.is_orphan) m.waiting.items ≡ false → find (gets m) m.waiting.items ≡ None → next_port m.last_pipe m.ports.items ≡ Some q → IsOut m q.pipe y → IsOffered y t
+out_right m t q y h o g f = go y
   where
     free : (has (up (past t)) q.pipe ≡ true) × (has_full t.turn q.pipe ≡ false)
     free = next_is (λ p. has_full t.turn p) m.last_pipe (up (past t)) q (ap (next_port m.last_pipe) (sym h.1.ports) ∙ f)
 
-    go : (a : Option Asking) → find is_sending m.waiting.items ≡ a → (b : Option Live) → find (is_due m.options.resend m.tick m.ports.items m.seats.items) m.live.items ≡ b → IsOffered (out_offer q.pipe a b) t
-    go (Some w) k b l = let z = can_send m t w q.pipe h (none_any (λ (v : Asking). v.is_orphan) m.waiting.items o) k free.0 free.1 in (begun_of w, z.0, z.1)
-    go None k None l = idle m t h o g (inr k) (inr l)
-    go None k (Some x) l = (request_of x, can_again m t x q.pipe h l free.0 free.1)
+    go : (y : Offer) → IsOut m q.pipe y → IsOffered y t
+    go offers.Idle k = idle m t h o g (inr k.0) (inr k.1)
+    go (offers.Send op p) k =
+        let z = can_send m t k.0 p h o k.1 (subst (λ n. has (up (past t)) n ≡ true) k.3 free.0) (subst (λ n. has_full t.turn n ≡ false) k.3 free.1) in
+        (begun_of k.0, z.0, subst (λ (op : OpName). CanSend t op p (begun_of k.0) z.0) k.2 z.1)
+    go (offers.Again c p) k =
+        let x = k.0 in
+        (request_of x.0, subst (λ n. CanAgain t n p (request_of x.0)) (found_ctx c m.live.items x.0 x.1) (can_again m t c p x.0 h x.1 x.2 (subst (λ n. has (up (past t)) n ≡ true) k.1 free.0) (subst (λ n. has_full t.turn n ≡ false) k.1 free.1)))
+    go (offers.Give op) k = absurd k
+    go (offers.Flood op) k = absurd k
+    go (offers.Drop op) k = absurd k
+    go (offers.Finish op cause) k = absurd k
 
 pub no_port : (o : Option PortView) → None ≡ option_map (λ (x : PortView). x.pipe) o → o ≡ None
 no_port None e = refl
@@ -588,8 +597,35 @@ pub some_port : (o : Option PortView) (p : ℕ) → Some p ≡ option_map (λ (x
 some_port None p e = absurd cc
 some_port (Some x) p e = (x, refl, sym (some_inj p x.pipe e))
 
--- it never goes to all
-pub never_floods_out : {A : Type 0} (p : ℕ) (op : OpName) (w : Option Asking) (x : Option Live) → out_offer p w x ≡ offers.Flood op → A
-never_floods_out p op (Some w) x e = absurd cc
-never_floods_out p op None None e = absurd cc
-never_floods_out p op None (Some x) e = absurd cc
+-- ---- What was found
+
+pub some_as : {A : Type 0} (P Q : A → Type 0) (r : Option A) → ((x : A) → P x → Q x) → IfSome r P → IfSome r Q
+some_as P Q None k h = tt
+some_as P Q (Some x) k h = k x h
+
+-- the context of the first that is due
+pub searched_due : (m : Machine) (c : ℕ) → AreDistinct (map live_ctx m.live.items) → option_map live_ctx (find (due_in m) m.live.items) ≡ Some c → IsDueOn m c
+searched_due m c d e = go (find (due_in m) m.live.items) refl e
+  where
+    go : (o : Option Live) → find (due_in m) m.live.items ≡ o → option_map live_ctx o ≡ Some c → IsDueOn m c
+    go None f e = absurd cc
+    go (Some x) f e = (x, subst (λ n. find (is_live_on n) m.live.items ≡ Some x) (some_inj x.ctx c e) (found_alone (due_in m) m.live.items x d f), found_true (due_in m) m.live.items x f)
+
+pub given_found : (m : Machine) (r : Option OpName) → r ≡ option_map (λ (w : Asking). w.op) (find (gets m) m.waiting.items) → IfSome r (λ op. IsGift m op)
+given_found m None e = tt
+given_found m (Some op) e = found_gift m op e
+
+pub no_reply_left : (m : Machine) (r : Option OpName) → m.raw ≡ false → IfNone r (list_any (answers m.live.items) m.waiting.items ≡ false) → IfNone r (find (gets m) m.waiting.items ≡ None)
+no_reply_left m None q e = no_reply m q e
+no_reply_left m (Some op) q e = tt
+
+pub gift_offered : (m : Machine) (t : Moment) (op : OpName) → Ties m t → list_any (λ (v : Asking). v.is_orphan) m.waiting.items ≡ false → IsGift m op → IsOffered (offers.Give op) t
+gift_offered m t op h o g = let k = can_give m t g.0 h o g.1 g.3 in (begun_of g.0, k.0, subst (λ (op : OpName). CanGive t op (begun_of g.0) k.0) g.2 k.1)
+
+-- ---- A req that looks at other things
+
+pub ties_ready : (m n : Machine) (t : Moment) → n ≡ record m { ready = n.ready } → (AreReady m.ready m.live.items m.waiting.items → AreReady n.ready m.live.items m.waiting.items) → Ties m t → Ties n t
+ties_ready m n t e k h = subst (λ (x : Machine). Ties x t) (sym e) (h.0, h.1, h.2, h.3, h.4, (h.5.0, k h.5.1))
+
+pub ties_dues : (m n : Machine) (t : Moment) → n ≡ record m { dues = n.dues } → (IsSeen m (ups (past t)) → IsSeen n (ups (past t))) → Ties m t → Ties n t
+ties_dues m n t e k h = subst (λ (x : Machine). Ties x t) (sym e) (h.0, h.1, h.2, h.3, h.4, (subst (λ (x : Machine). IsSeen x (ups (past t))) e (k h.5.0), h.5.1))

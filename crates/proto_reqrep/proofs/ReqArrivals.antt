@@ -44,7 +44,7 @@ use Rattle.proto_reqrep.specs.declared.req.Request.{Request as Machine}
 use Rattle.proto_reqrep.specs.declared.req.Live.{Live}
 use Rattle.proto_reqrep.specs.declared.req.KeptReply.{KeptReply}
 use Rattle.proto_reqrep.specs.declared.req.Asking.{Asking}
-use Rattle.proto_reqrep.specs.Reqs.{Ties, AreCalm, AreReady, Asked, begun_of, act_of, is_receiving_on, orphaned, without_live, live_ctx, is_live_on, request_of, with_reply, item_of, HasLive, HaveLive, Opened, SetTo, seat_ctx, ask_state, Keeps, live_id, free_number, keeps_reply, is_given, Asks, KeepsRaw}
+use Rattle.proto_reqrep.specs.Reqs.{Ties, IsSeen, AreReady, Asked, begun_of, act_of, is_receiving_on, orphaned, without_live, live_ctx, is_live_on, request_of, with_reply, item_of, HasLive, HaveLive, Opened, SetTo, seat_ctx, ask_state, Keeps, live_id, free_number, keeps_reply, is_given, Asks, KeepsRaw}
 use Rattle.proto_requests.specs.FirstFound.{with_found}
 use Rattle.proto_requests.specs.Ids.{raw_item, number_after}
 use Rattle.proto_reqrep.proofs.Requested.{ended, reply_came, begun_one, begun_new}
@@ -55,7 +55,7 @@ use Rattle.proto_reqrep.proofs.RequestLives.{ctx_less, gone_on}
 use Rattle.proto_reqrep.proofs.ReqStands.{is_req_role, is_raw, asks, asks_nothing, req_is, raw_same, live_is, kept_is, kept_raw}
 use Rattle.proto_reqrep.proofs.Owning.{all_marked}
 use Rattle.proto_reqrep.proofs.WorkLeft.{length_same}
-use Rattle.proto_reqrep.proofs.Calming.{begun_calm}
+use Rattle.proto_reqrep.proofs.RequestsDue.{begun_seen}
 use Rattle.proto_reqrep.proofs.Hinted.{asked_ready}
 use Rattle.proto_reqrep.proofs.Outgoing.{ctxs_kept}
 use Rattle.sp_history.proofs.LiveRequests.{next_is_new}
@@ -512,12 +512,12 @@ pub all_begun : (m n : Machine) (t : Moment) (op : OpName) (c : ℕ) (x : Messag
     → ws ≡ n.waiting.items ++ record { op = op; ctx = c; message = Some x; is_orphan = false } ∷ []
     → SetTo n.raw n.options n.tick n.last_pipe (kind_of t.z) (now (past t)) (out_last (past t)) × Knows n.ports.items (up (past t)) (ups (past t)) (λ q. has_full t.turn q) × Keeps n.raw n.kept.items (pool t.z (past t) 0)
     × Asked n.raw n.live.items n.last_id ws (pend (past t) ++ record { op = op; ctx = c; act = Send (text_of x) } ∷ []) (requests t.z (Begin op t.caller c (Send (text_of x)) d ∷ past t)) × Opened n.live.items n.seats.items (ctxs (past t)) (λ q. is_dry (past t) q)
-    × (AreCalm n.options.resend n.tick n.ports.items n.seats.items n.live.calm n.live.items × AreReady n.ready n.live.items ws)
+    × (IsSeen n (ups (past t)) × AreReady n.ready n.live.items ws)
 all_begun m n t op c x d ws r l h a e = (
   rw (a.6, a.7, a.8, a.11) h.0,
   rw a.9 h.1,
   rw (a.6, a.10) h.2,
   asked_ops e (send_asked m n t op c x d r l h a),
   send_opened m n c x.body (ctxs (past t)) (λ q. is_dry (past t) q) a l.turn.0.itself.ctx_open h.4,
-  (begun_calm m n c x.body a h.5, asked_ready m n c x.body op x ws a e h.5.1),
+  (begun_seen m n c (ups (past t)) x.body a h.3.places h.5.0, asked_ready m n c x.body op x ws a e h.5.1),
 )

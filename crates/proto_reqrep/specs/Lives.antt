@@ -7,12 +7,9 @@ use Rattle.proto_requests.specs.Spots.{held}
 use Rattle.proto_requests.specs.declared.spots.Spot.{Spot}
 use Rattle.proto_reqrep.specs.declared.req.Live.{Live}
 
--- the live requests, in the order of their begins; how many of them are skipped, and the spots of the others; and how
--- many more have room
+-- the live requests, in the order of their begins, and how many more have room
 pub record LivesView : Type 0 where
   pub items : List Live
-  pub calm : ℕ
-  pub rest : List (Spot Live)
   pub room : ℕ
 
 -- numbers are known by the contexts and by the ids of these requests, and no two share one
@@ -29,12 +26,7 @@ abbrev pub is_answered : Option Live → Bool
 is_answered None = false
 is_answered (Some x) = is_some x.reply
 
--- what is skipped stays so
-abbrev pub StayCalm : LivesView → LivesView → Type 0
-StayCalm old new = (P : Live → Bool) → list_any P (take old.calm old.items) ≡ false → list_any P (take new.calm new.items) ≡ false
-
--- they are known by their contexts and ids, if it is said; so many are live, and the mark is one of a spot or the end
-pub record AreKept (indexed : Bool) (cs ids : List (ℕ × ℕ)) (alive skipped : ℕ) (ss : List (Spot Live)) : Type 0 where
+-- they are known by their contexts and ids, if it is said, and so many are live
+pub record AreKept (indexed : Bool) (cs ids : List (ℕ × ℕ)) (alive : ℕ) (ss : List (Spot Live)) : Type 0 where
   pub by_number : AreIndexed indexed cs ids (held ss)
   pub number : alive ≡ length (held ss)
-  pub bound : skipped ≤ length ss

@@ -29,7 +29,7 @@ use Rattle.sp_proto.specs.declared.Verb.TheVariants as verbs
 use Rattle.sp_proto.specs.declared.Verdict.{Verdict}
 use Rattle.sp_proto.specs.declared.Verdict.TheVariants as verdict
 use Rattle.proto_requests.specs.Ports.{PortView, Knows, is_pipe, free_count, next_number as next_pipe}
-use Rattle.proto_reqrep.specs.Lives.{StayCalm}
+use Rattle.proto_reqrep.specs.Dues.{DuesView, AreSeen, StaySeen}
 use Rattle.proto_requests.specs.Hints.{HintsView, covers}
 use Rattle.std.specs.Option.{option_map}
 use Rattle.proto_reqrep.specs.declared.req.Request.{Request as Machine}
@@ -170,10 +170,6 @@ is_late_in resend t ps (Some o) = is_late resend t ps o
 abbrev pub is_due : ℕ → ℕ → List PortView → List RequestContext → Live → Bool
 is_due resend t ps ss x = not (is_some x.reply) && (is_late_in resend t ps x.last_out && not (dry_at x.ctx ss))
 
--- no request before this place may go out again
-abbrev pub AreCalm : ℕ → ℕ → List PortView → List RequestContext → ℕ → List Live → Type 0
-AreCalm resend t ps ss n xs = list_any (is_due resend t ps ss) (take n xs) ≡ false
-
 -- a receive for which a reply is kept
 abbrev pub answers : List Live → Asking → Bool
 answers xs w = not (is_sending w) && list_any (keeps_reply w.ctx) xs
@@ -187,24 +183,61 @@ abbrev pub IsReply : List Live → List Asking → OpName → Type 0
 IsReply xs ws op = (w : Asking) × (find (is_receiving_on w.ctx) ws ≡ Some w) × (w.op ≡ op) × (list_any (keeps_reply w.ctx) xs ≡ true)
 
 -- its context is not among those that are to be looked at
-abbrev pub is_missed : HintsView → List Live → Asking → Bool
+abbrev pub is_missed : HintsView ℕ → List Live → Asking → Bool
 is_missed h xs w = answers xs w && not (covers h w.ctx)
 
 -- the contexts of receives for which a reply is kept are to be looked at
-abbrev pub AreReady : HintsView → List Live → List Asking → Type 0
+abbrev pub AreReady : HintsView ℕ → List Live → List Asking → Type 0
 AreReady h xs ws = list_any (is_missed h xs) ws ≡ false
 
-abbrev pub IsCalm : Machine → Type 0
-IsCalm m = AreCalm m.options.resend m.tick m.ports.items m.seats.items m.live.calm m.live.items × AreReady m.ready m.live.items m.waiting.items
+-- its last Out is late
+abbrev pub late_in : Machine → LastOut → Bool
+late_in m o = is_late m.options.resend m.tick m.ports.items o
+
+abbrev pub dry_in : Machine → ℕ → Bool
+dry_in m c = dry_at c m.seats.items
+
+-- the live request may go out again
+abbrev pub due_in : Machine → Live → Bool
+due_in m x = is_due m.options.resend m.tick m.ports.items m.seats.items x
+
+-- that of the context, which waits for a reply since it went out so
+abbrev pub is_due_out : Machine → Option LastOut → ℕ → Bool
+is_due_out m None c = false
+is_due_out m (Some o) c = late_in m o && not (dry_in m c)
+
+-- that of the context may go out again
+abbrev pub IsDueOn : Machine → ℕ → Type 0
+IsDueOn m c = (x : Live) × (find (is_live_on c) m.live.items ≡ Some x) × (due_in m x ≡ true)
+
+-- each request that waits for a reply is looked at when it is due, where no pipe's number is above this one
+abbrev pub IsSeen : Machine → ℕ → Type 0
+IsSeen m last = AreSeen m.dues (late_in m) (dry_in m) last m.live.items
+
+-- the request of the context goes out so, and is looked at when it is due
+abbrev pub NotesOut : DuesView → DuesView → List Live → ℕ → LastOut → Type 0
+NotesOut old new xs c o = (late : LastOut → Bool) (dry : ℕ → Bool) (last : ℕ) → late o ≡ false → nat_le o.pipe last ≡ true → AreSeen old late dry last xs → AreSeen new late dry last (with_found (is_live_on c) (sent_at o) xs)
+
+abbrev pub IsCalm : Machine → ℕ → Type 0
+IsCalm m last = IsSeen m last × AreReady m.ready m.live.items m.waiting.items
 
 -- a receive that can be given a message
 abbrev pub gets : Machine → Asking → Bool
 gets m w = not (is_sending w) && is_given m.raw m.kept.items m.live.items w.ctx
 
-abbrev pub out_offer : ℕ → Option Asking → Option Live → Offer
-out_offer p (Some w) x = offers.Send w.op p
-out_offer p None None = offers.Idle
-out_offer p None (Some x) = offers.Again x.ctx p
+-- it is the first receive on its context, and can be given a message
+abbrev pub IsGift : Machine → OpName → Type 0
+IsGift m op = (w : Asking) × (find (is_receiving_on w.ctx) m.waiting.items ≡ Some w) × (w.op ≡ op) × (is_given m.raw m.kept.items m.live.items w.ctx ≡ true)
+
+-- what can go out on the pipe: the first send, or a request that may go out again
+abbrev pub IsOut : Machine → ℕ → Offer → Type 0
+IsOut m p offers.Idle = (find is_sending m.waiting.items ≡ None) × (list_any (due_in m) m.live.items ≡ false)
+IsOut m p (offers.Send op q) = (w : Asking) × (find is_sending m.waiting.items ≡ Some w) × (w.op ≡ op) × (p ≡ q)
+IsOut m p (offers.Again c q) = IsDueOn m c × (p ≡ q)
+IsOut m p (offers.Give op) = ⊥
+IsOut m p (offers.Flood op) = ⊥
+IsOut m p (offers.Drop op) = ⊥
+IsOut m p (offers.Finish op cause) = ⊥
 
 -- the state has no place for it: a receive wants a live request, and no other receive
 abbrev pub ask_state : List Asking → List Live → ℕ → Verb → Bool
@@ -237,7 +270,7 @@ Asks c body m n =
     (x : Live) × IsNew m c body x × (length (without_live c m.live.items) < 2 ^ 31) × (n.live.items ≡ without_live c m.live.items ++ x ∷ [])
     × (n.waiting.items ≡ map (orphaned c) m.waiting.items) × (n.last_id ≡ Some x.id)
     × (n.raw ≡ m.raw) × (n.options ≡ m.options) × (n.tick ≡ m.tick) × (n.ports ≡ m.ports) × (n.kept ≡ m.kept) × (n.last_pipe ≡ m.last_pipe) × (n.seats ≡ m.seats) × (n.ready ≡ m.ready)
-    × StayCalm m.live n.live
+    × (AreDistinct (map live_ctx m.live.items) → StaySeen m.dues n.dues m.live.items)
 
 -- a raw frame is kept
 abbrev pub KeepsRaw : Verdict → ℕ → List ℕ → List KeptReply → List KeptReply → Type 0
@@ -326,7 +359,7 @@ Stands m r =
     × Keeps m.raw m.kept.items (r.pool 0)
     × Asked m.raw m.live.items m.last_id m.waiting.items r.pend r.requests
     × Opened m.live.items m.seats.items r.ctxs r.dry
-    × IsCalm m
+    × IsCalm m r.ups
 
 abbrev pub Ties : Machine → Moment → Type 0
 Ties m t = Stands m (reading t)

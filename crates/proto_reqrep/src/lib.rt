@@ -8,6 +8,7 @@
 //! `Reply` is a rep, or a respondent, as `proto_rep` has it.
 #![tactic(auto)]
 
+mod dues;
 mod lives;
 mod req;
 mod seats;

@@ -14,12 +14,13 @@ ghost use Rattle.proto_requests.specs.Backlogs.{IsIndexed};
 ghost use Rattle.proto_reqrep.specs.Reqs.{is_live_on, live_ctx, live_id, waits_for, keeps_reply, with_reply, without_live, sent_at, with_kept};
 ghost use Rattle.proto_requests.specs.FirstFound.{with_found};
 ghost use Rattle.proto_requests.specs.Spots.{holds, held, changed};
-ghost use Rattle.proto_reqrep.specs.Lives.{is_answered, StayCalm};
+ghost use Rattle.proto_reqrep.specs.Lives.{is_answered};
+ghost use Rattle.proto_reqrep.specs.Dues.{awaited};
 ghost use Rattle.proto_requests.specs.Numbers.{number_at, is_known};
 
 use crate::req::{KeptReply, Live};
 use proto_requests::numbers::Numbers;
-use proto_requests::spots::{Spot, close_up_half, empty, hint, rest, stays};
+use proto_requests::spots::{Spot, close_up_half, empty, hint};
 use sp_base::{Ctx, NoMemory};
 use sp_history::parts::LastOut;
 use sp_msg::Message;
@@ -41,21 +42,19 @@ pub struct Lives {
     is_indexed: bool,
     /// So many are live.
     alive: usize,
-    /// Those before this spot are skipped.
-    skipped: usize,
 }
 
 impl Model for Lives {
-    ghost use Rattle.std.specs.Prelude.{◌-◌, take, drop, length};
+    ghost use Rattle.std.specs.Prelude.{◌-◌};
     ghost use Rattle.std.specs.Vec.{vec_len, vec_capacity};
     ghost use Rattle.proto_requests.specs.Spots.{held};
     ghost use Rattle.proto_reqrep.specs.Lives.{LivesView, AreKept};
 
     ghost Value = { LivesView };
 
-    ghost view = { λ m. record { items = held m.list.items; calm = length (held (take m.skipped m.list.items)); rest = drop m.skipped m.list.items; room = vec_capacity m.list - vec_len m.list } };
+    ghost view = { λ m. record { items = held m.list.items; room = vec_capacity m.list - vec_len m.list } };
 
-    ghost invariant = { λ m. AreKept m.is_indexed m.by_ctx m.by_id m.alive m.skipped m.list.items };
+    ghost invariant = { λ m. AreKept m.is_indexed m.by_ctx m.by_id m.alive m.list.items };
 }
 
 // ---- Spots
@@ -239,6 +238,34 @@ pub fn ctx_at(list: &[Spot<Live>], place: Option<usize>) -> Option<Ctx>
     }
 }
 
+// How it went out, if it waits for a reply.
+fn out_awaited(x: &Live) -> Option<LastOut>
+    ensures { result ≡ awaited (Some x.now) }
+{
+    if x.reply.is_some() {
+        return None;
+    }
+    x.last_out
+}
+
+// The same of the one that stands there.
+fn out_at(list: &[Spot<Live>], place: Option<usize>) -> Option<LastOut>
+    ensures { (P : LiveType → Bool) → place ≡ position (holds P) list.now → result ≡ awaited (find P (held list.now)) }
+{
+    match place {
+        None => None,
+        Some(i) => {
+            if i >= list.len() {
+                return None;
+            }
+            match &list[i].value {
+                None => None,
+                Some(x) => out_awaited(x),
+            }
+        }
+    }
+}
+
 // It keeps a reply.
 fn is_answered(x: &Live) -> bool
     ensures { result ≡ is_some x.now.reply }
@@ -288,7 +315,6 @@ fn answer_spot(s: &mut Spot<Live>, kept: KeptReply)
 fn set_out(list: &mut [Spot<Live>], place: Option<usize>, c: Ctx, out: LastOut)
     requires { place ≡ position (holds (is_live_on c)) list.old }
     ensures held { held list.new ≡ with_found (is_live_on c) (sent_at out) (held list.old) }
-    ensures front { (n : ℕ) → length (held (take n list.new)) ≡ length (held (take n list.old)) }
     ensures len { length list.new ≡ length list.old }
 {
     match place {
@@ -301,7 +327,6 @@ fn set_out(list: &mut [Spot<Live>], place: Option<usize>, c: Ctx, out: LastOut)
 fn set_reply(list: &mut [Spot<Live>], place: Option<usize>, id: u32, kept: KeptReply)
     requires { place ≡ position (holds (waits_for id)) list.old }
     ensures held { held list.new ≡ with_reply id kept (held list.old) }
-    ensures front { (n : ℕ) → length (held (take n list.new)) ≡ length (held (take n list.old)) }
     ensures len { length list.new ≡ length list.old }
 {
     match place {
@@ -361,7 +386,6 @@ impl Lives {
     /// None is live.
     pub fn new(alloc: Global) -> Lives
         ensures items { result.items ≡ [] }
-        ensures calm { result.calm ≡ 0 }
     {
         Lives {
             list: Vec::new(alloc),
@@ -370,7 +394,6 @@ impl Lives {
             by_id: Numbers::new(alloc),
             is_indexed: true,
             alive: 0,
-            skipped: 0,
         }
     }
 
@@ -445,47 +468,29 @@ impl Lives {
         self.by_id.has(id)
     }
 
-    /// Those that are not skipped, and the spots between them.
-    pub fn rest(&self) -> &[Spot<Live>]
-        ensures all { result.now ≡ self.now.rest }
-        ensures items { held self.now.rest ≡ drop self.now.calm self.now.items }
+    /// The spots, where they stand in the order of their begins.
+    pub fn spots(&self) -> &[Spot<Live>]
+        ensures { held result.now ≡ self.now.items }
     {
-        rest(&self.list, self.skipped)
+        &self.list
     }
 
-    /// Those before this place of the rest are skipped, or all.
-    pub fn skip(&mut self, place: Option<usize>)
-        ensures items { self.new.items ≡ self.old.items }
-        ensures calm { (P : LiveType → Bool) → place ≡ position (holds P) self.old.rest → list_any P (take self.old.calm self.old.items) ≡ false → list_any P (take self.new.calm self.new.items) ≡ false }
+    /// How that of the context went out, if it waits for a reply.
+    pub fn out_of(&self, c: Ctx) -> Option<LastOut>
+        ensures { result ≡ awaited (find (is_live_on c) self.now.items) }
     {
-        let from = self.skipped;
-        let len = self.list.len();
-        match place {
-            None => self.skipped = len,
-            Some(i) => {
-                if i < len - from {
-                    self.skipped = from + i;
-                }
-            }
-        }
-    }
-
-    /// None is skipped.
-    pub fn skip_none(&mut self)
-        ensures items { self.new.items ≡ self.old.items }
-        ensures calm { self.new.calm ≡ 0 }
-    {
-        self.skipped = 0;
+        out_at(
+            &self.list,
+            ctx_place(&self.list, &self.by_ctx, self.is_indexed, c),
+        )
     }
 
     /// Takes the room for one more.
     pub fn reserve(&mut self) -> Result<(), NoMemory>
         ensures same { self.new.items ≡ self.old.items }
-        ensures calm { StayCalm self.old self.new }
         ensures room { OnOk result (0 < self.new.room) }
     {
-        let moved = close_up_half(&mut self.list, self.alive);
-        self.skipped = stays(moved, self.skipped);
+        let _ = close_up_half(&mut self.list, self.alive);
         match self.list.reserve(1) {
             Ok(()) => make_room(&mut self.by_ctx, &mut self.by_id),
             Err(_) => Err(NoMemory),
@@ -496,7 +501,6 @@ impl Lives {
     pub fn push(&mut self, x: Live)
         requires { 0 < self.old.room }
         ensures items { self.new.items ≡ self.old.items ++ x ∷ [] }
-        ensures calm { StayCalm self.old self.new }
     {
         self.is_indexed = know(
             self.is_indexed,
@@ -518,7 +522,6 @@ impl Lives {
     pub fn take_live(&mut self, c: Ctx) -> Option<Live>
         ensures found { result ≡ find (is_live_on c) self.old.items }
         ensures rest { self.new.items ≡ without_live c self.old.items }
-        ensures calm { StayCalm self.old self.new }
         ensures len { length self.new.items ≤ length self.old.items }
         ensures room { self.old.room ≤ self.new.room }
     {
@@ -538,7 +541,6 @@ impl Lives {
     /// That of the context goes out.
     pub fn note_out(&mut self, c: Ctx, out: LastOut)
         ensures items { self.new.items ≡ with_found (is_live_on c) (sent_at out) self.old.items }
-        ensures calm { self.new.calm ≡ self.old.calm }
     {
         let place = ctx_place(&self.list, &self.by_ctx, self.is_indexed, c);
         set_out(&mut self.list, place, c, out);
@@ -548,7 +550,6 @@ impl Lives {
     pub fn keep_reply(&mut self, id: u32, kept: KeptReply) -> Option<Ctx>
         ensures ctx { result ≡ option_map live_ctx (find (waits_for id) self.old.items) }
         ensures items { self.new.items ≡ with_reply id kept self.old.items }
-        ensures calm { self.new.calm ≡ self.old.calm }
     {
         let place = id_place(&self.list, &self.by_id, self.is_indexed, id);
         let ctx = ctx_at(&self.list, place);
@@ -559,13 +560,11 @@ impl Lives {
     /// None is live any more.
     pub fn clear(&mut self)
         ensures items { self.new.items ≡ [] }
-        ensures calm { self.new.calm ≡ 0 }
     {
         self.list.clear();
         self.by_ctx.clear();
         self.by_id.clear();
         self.is_indexed = true;
         self.alive = 0;
-        self.skipped = 0;
     }
 }

@@ -6,6 +6,7 @@ ghost use Rattle.sp_base.specs.declared.OpName.{OpName};
 ghost use Rattle.sp_history.specs.declared.entry.Entry.TheVariants.{Frame};
 ghost use Rattle.sp_history.specs.Past.{up};
 ghost use Rattle.sp_history.specs.Legal.{Calm};
+ghost use Rattle.sp_history.specs.Once.{AreDistinct};
 ghost use Rattle.sp_history.specs.Moments.{Moment, Lawful, past, also};
 ghost use Rattle.sp_proto.specs.Machines.{IsOffered, Frames};
 ghost use Rattle.sp_history.specs.Options.{Fits};
@@ -17,12 +18,15 @@ ghost use Rattle.proto_reqrep.specs.declared.req.KeptReply.{KeptReply as KeptRep
 ghost use Rattle.proto_reqrep.specs.declared.req.Live.{Live as LiveType};
 ghost use Rattle.proto_reqrep.specs.declared.req.Asking.{Asking as AskingType};
 ghost use Rattle.proto_reqrep.specs.declared.req.RequestContext.{RequestContext as RequestContextType};
+ghost use Rattle.proto_requests.specs.Ports.{PortView, next_port};
 ghost use Rattle.proto_requests.specs.Spots.{holds};
-ghost use Rattle.proto_reqrep.specs.Lives.{StayCalm};
-ghost use Rattle.proto_reqrep.specs.Reqs.{Ties, req_kind, is_live_on, is_asked, without_first, without_live, orphaned, sent_at, is_sending, is_due, dry_at, dried, wetted, free_number, reply_in, gets, answers, with_reply, ready_on, AreReady, IsReply, Asks, KeepsRaw, is_given, is_late, IsCalm, live_ctx, out_offer, ask_state, is_receiving_on, work_left, IsNextPipe};
+ghost use Rattle.proto_requests.specs.Waits.{IsOver};
+ghost use Rattle.proto_reqrep.specs.Dues.{AreSeen, awaited, StaySeen};
+ghost use Rattle.proto_reqrep.specs.Reqs.{Ties, req_kind, is_live_on, is_asked, without_first, without_live, orphaned, sent_at, is_sending, is_due, dry_at, dried, wetted, free_number, reply_in, gets, answers, with_reply, ready_on, AreReady, IsReply, IsGift, Asks, KeepsRaw, is_given, is_late, IsSeen, IsDueOn, IsOut, NotesOut, due_in, is_due_out, live_ctx, ask_state, is_receiving_on, work_left, IsNextPipe};
 ghost use Rattle.proto_requests.specs.FirstFound.{with_found};
 ghost use Rattle.proto_requests.specs.Ids.{number_after};
 
+use crate::dues::{Dues, is_past};
 use crate::lives::{Lives, ctx_at};
 use crate::seats::Seats;
 use proto_requests::backlog::{Backlog, FromPipe};
@@ -142,12 +146,14 @@ pub struct Request {
     ports: Ports,
     /// Raw: replies.
     kept: Backlog<KeptReply>,
-    /// Cooked: at most one of each context. None of those that are skipped may go out again.
+    /// Cooked: at most one of each context.
     live: Lives,
+    /// The contexts of those that are looked at when they are due.
+    dues: Dues,
     /// In the order of their begins.
     waiting: Waits<Asking>,
     /// The contexts that have both a receive and a reply are among these.
-    ready: Hints,
+    ready: Hints<u32>,
     /// Of the open contexts.
     seats: Seats,
 }
@@ -182,7 +188,6 @@ fn leave_behind(waiting: &mut Waits<Asking>, c: Ctx)
 fn answered(live: &mut Lives, c: Ctx) -> Option<Message>
     ensures reply { result ≡ reply_in (find (is_live_on c) live.old.items) }
     ensures rest { live.new.items ≡ without_live c live.old.items }
-    ensures calm { StayCalm live.old live.new }
 {
     match live.take_live(c) {
         None => None,
@@ -206,7 +211,6 @@ fn led(message: Message, id: u32) -> Message
 // The message of a send with the id of its request, which goes out.
 fn asked(live: &mut Lives, c: Ctx, message: Message, out: LastOut) -> Message
     ensures live { live.new.items ≡ with_found (is_live_on c) (sent_at out) live.old.items }
-    ensures calm { live.new.calm ≡ live.old.calm }
     ensures message { (x : LiveType) → find (is_live_on c) live.old.items ≡ Some x → wire_text result ≡ word x.id ++ message.body }
 {
     match live.id_of(c) {
@@ -269,9 +273,8 @@ fn oldest(kept: &mut Backlog<KeptReply>) -> Option<Message>
 // ---- Receives that can be given a reply
 
 // A reply is kept for the request that waits for it, if there is one. Its context is looked at.
-fn keep_reply(live: &mut Lives, ready: &mut Hints, id: u32, kept: KeptReply)
+fn keep_reply(live: &mut Lives, ready: &mut Hints<u32>, id: u32, kept: KeptReply)
     ensures live { live.new.items ≡ with_reply id kept live.old.items }
-    ensures calm { live.new.calm ≡ live.old.calm }
     ensures ready { (ws : List AskingType) → AreReady ready.old live.old.items ws → AreReady ready.new live.new.items ws }
 {
     match live.keep_reply(id, kept) {
@@ -281,7 +284,7 @@ fn keep_reply(live: &mut Lives, ready: &mut Hints, id: u32, kept: KeptReply)
 }
 
 // A receive of the context is to wait. It is looked at, if a reply is kept for it.
-fn look_at(ready: &mut Hints, live: &Lives, c: Ctx)
+fn look_at(ready: &mut Hints<u32>, live: &Lives, c: Ctx)
     ensures { (w : AskingType) (ws : List AskingType) → w.ctx ≡ c → AreReady ready.old live.now.items ws → AreReady ready.new live.now.items (ws ++ w ∷ []) }
 {
     if live.has_reply(c) {
@@ -301,7 +304,7 @@ fn ready_on(live: &Lives, waiting: &Waits<Asking>, c: Ctx) -> Option<OpName>
 
 // A receive that can be given a reply, of the contexts that are to be looked at. Those before its own are looked at no
 // more.
-fn next_ready(ready: &mut Hints, live: &Lives, waiting: &Waits<Asking>) -> Option<OpName>
+fn next_ready(ready: &mut Hints<u32>, live: &Lives, waiting: &Waits<Asking>) -> Option<OpName>
     ensures ready { AreReady ready.old live.now.items waiting.now.items → AreReady ready.new live.now.items waiting.now.items }
     ensures whole { ready.new.whole ≡ ready.old.whole }
     ensures given { IfSome result (λ op. IsReply live.now.items waiting.now.items op) }
@@ -314,19 +317,6 @@ fn next_ready(ready: &mut Hints, live: &Lives, waiting: &Waits<Asking>) -> Optio
         }
     }
     None
-}
-
-// The same of a cooked req.
-fn next_reply(raw: bool, ready: &mut Hints, live: &Lives, waiting: &Waits<Asking>) -> Option<OpName>
-    ensures ready { AreReady ready.old live.now.items waiting.now.items → AreReady ready.new live.now.items waiting.now.items }
-    ensures whole { ready.new.whole ≡ ready.old.whole }
-    ensures given { IfSome result (λ op. (raw ≡ false) × IsReply live.now.items waiting.now.items op) }
-    ensures none { raw ≡ false → AreReady ready.old live.now.items waiting.now.items → ready.old.whole ≡ true → IfNone result (list_any (answers live.now.items) waiting.now.items ≡ false) }
-{
-    if raw {
-        return None;
-    }
-    next_ready(ready, live, waiting)
 }
 
 impl Request {
@@ -346,6 +336,7 @@ impl Request {
                 ports: Ports::new(alloc),
                 kept: Backlog::new(alloc),
                 live: Lives::new(alloc),
+                dues: Dues::new(alloc),
                 waiting: Waits::new(alloc),
                 ready: Hints::new(alloc),
                 seats,
@@ -356,7 +347,7 @@ impl Request {
     // A new request of the context takes the place of the one that is live.
     fn ask(&mut self, c: Ctx, m: &Message) -> Result<(), NoMemory>
         ensures asked { OnOk result (Asks c m.now.body self.old self.new) }
-        ensures same { OnErr result ((self.new.live.items ≡ self.old.live.items) × StayCalm self.old.live self.new.live × (self.new ≡ record self.old { live = self.new.live })) }
+        ensures same { OnErr result ((self.new.live.items ≡ self.old.live.items) × (AreDistinct (map live_ctx self.old.live.items) → StaySeen self.old.dues self.new.dues self.old.live.items) × (self.new ≡ record self.old { live = self.new.live; dues = self.new.dues })) }
         ensures room { self.new.waiting.room ≡ self.old.waiting.room }
     {
         if self.live.len() >= MOST_LIVE {
@@ -375,6 +366,9 @@ impl Request {
             .reserve(self.live.len().saturating_add(2))
             .is_err()
         {
+            return Err(NoMemory);
+        }
+        if self.dues.reserve(&self.live).is_err() {
             return Err(NoMemory);
         }
         let _ = self.live.take_live(c);
@@ -416,7 +410,6 @@ impl Request {
         ensures same { self.new ≡ record self.old { live = self.new.live; kept = self.new.kept } }
         ensures raw { self.old.raw ≡ true → (result ≡ option_map (λ (k : KeptReplyType). k.message) (head_of self.old.kept.items)) × (self.new.kept.items ≡ drop 1 self.old.kept.items) × (self.new.live ≡ self.old.live) }
         ensures cooked { self.old.raw ≡ false → (result ≡ reply_in (find (is_live_on c) self.old.live.items)) × (self.new.live.items ≡ without_live c self.old.live.items) × (self.new.kept ≡ self.old.kept) }
-        ensures calm { StayCalm self.old.live self.new.live }
     {
         if self.raw {
             return oldest(&mut self.kept);
@@ -426,11 +419,11 @@ impl Request {
 
     // What goes out for a send of the context.
     fn send(&mut self, c: Ctx, m: Message, out: Option<PipeId>) -> Message
-        ensures same { self.new ≡ record self.old { live = self.new.live; last_pipe = self.new.last_pipe } }
+        ensures same { self.new ≡ record self.old { live = self.new.live; dues = self.new.dues; last_pipe = self.new.last_pipe } }
         ensures pipe { (p : ℕ) → out ≡ Some p → self.new.last_pipe ≡ p }
-        ensures calm { self.new.live.calm ≡ self.old.live.calm }
-        ensures raw { self.old.raw ≡ true → (result ≡ m) × (self.new.live ≡ self.old.live) }
+        ensures raw { self.old.raw ≡ true → (result ≡ m) × (self.new.live ≡ self.old.live) × (self.new.dues ≡ self.old.dues) }
         ensures cooked { self.old.raw ≡ false → (p : ℕ) → out ≡ Some p → self.new.live.items ≡ with_found (is_live_on c) (sent_at (record { pipe = p; when = self.old.tick })) self.old.live.items }
+        ensures seen { self.old.raw ≡ false → (p : ℕ) → out ≡ Some p → NotesOut self.old.dues self.new.dues self.old.live.items c (record { pipe = p; when = self.old.tick }) }
         ensures message { self.old.raw ≡ false → (p : ℕ) → out ≡ Some p → (x : LiveType) → find (is_live_on c) self.old.live.items ≡ Some x → wire_text result ≡ word x.id ++ m.body }
     {
         match out {
@@ -440,6 +433,7 @@ impl Request {
                 if self.raw {
                     return m;
                 }
+                self.dues.note_out(c, pipe, self.tick);
                 let out = LastOut {
                     pipe,
                     when: self.tick,
@@ -476,22 +470,64 @@ impl Request {
         list.iter().position(|s| self.gives_at(s))
     }
 
-    // The first receive that can be given a message. They are searched through.
-    fn search_give(&self) -> Option<OpName>
-        ensures { result ≡ option_map (λ (w : AskingType). w.op) (find (gets self.now) self.now.waiting.items) }
+    // One whose request has ended.
+    fn next_left(&mut self) -> Option<OpName>
+        ensures same { self.new ≡ self.old }
+        ensures over { IfSome result (λ op. IsOver (λ (w : AskingType). w.op) (λ (w : AskingType). w.is_orphan) self.old.waiting.items op) }
+        ensures none { IfNone result (list_any (λ (w : AskingType). w.is_orphan) self.old.waiting.items ≡ false) }
     {
-        let list = self.waiting.receives();
-        name_at(list, self.give_place(list))
+        self.waiting.first_left()
     }
 
-    // The same, where not all contexts that are worth it are looked at: raw, none is.
-    fn give_left(&self) -> Option<OpName>
-        ensures { result ≡ (if self.now.raw || not self.now.ready.whole then option_map (λ (w : AskingType). w.op) (find (gets self.now) self.now.waiting.items) else None) }
+    // The next pipe behind that of the last Out that is not full, in the round of their numbers.
+    fn next_port(&mut self) -> Option<PipeId>
+        ensures same { self.new ≡ self.old }
+        ensures port { result ≡ option_map (λ (x : PortView). x.pipe) (next_port self.old.last_pipe self.old.ports.items) }
     {
-        if self.raw || !self.ready.is_whole() {
+        self.ports.free_port(self.last_pipe)
+    }
+
+    // A receive that can be given a message. They are searched through.
+    fn search_give(&mut self) -> Option<OpName>
+        ensures same { self.new ≡ record self.old { ready = self.new.ready } }
+        ensures ready { self.old.raw ≡ false → AreReady self.old.ready self.old.live.items self.old.waiting.items → AreReady self.new.ready self.old.live.items self.old.waiting.items }
+        ensures given { IfSome result (λ op. IsGift self.old op) }
+        ensures none { self.old.raw ≡ false → IfNone result (find (gets self.old) self.old.waiting.items ≡ None) }
+    {
+        let list = self.waiting.receives();
+        match name_at(list, self.give_place(list)) {
+            None => {
+                self.ready.clear();
+                None
+            }
+            Some(op) => Some(op),
+        }
+    }
+
+    // The first receive of a raw req, if a message is kept.
+    fn raw_give(&self) -> Option<OpName>
+        ensures { self.now.raw ≡ true → result ≡ option_map (λ (w : AskingType). w.op) (find (gets self.now) self.now.waiting.items) }
+    {
+        if self.kept.is_empty() {
+            return None;
+        }
+        self.waiting.first_receive()
+    }
+
+    // A receive that can be given a message.
+    fn next_give(&mut self) -> Option<OpName>
+        ensures same { self.new ≡ record self.old { ready = self.new.ready } }
+        ensures ready { AreReady self.old.ready self.old.live.items self.old.waiting.items → AreReady self.new.ready self.old.live.items self.old.waiting.items }
+        ensures given { IfSome result (λ op. IsGift self.old op) }
+        ensures none { AreReady self.old.ready self.old.live.items self.old.waiting.items → IfNone result (find (gets self.old) self.old.waiting.items ≡ None) }
+    {
+        if self.raw {
+            return self.raw_give();
+        }
+        if !self.ready.is_whole() {
             return self.search_give();
         }
-        None
+        next_ready(&mut self.ready, &self.live, &self.waiting)
     }
 
     // The live request may go out again.
@@ -511,8 +547,7 @@ impl Request {
     fn is_late(&self, out: LastOut) -> bool
         ensures { result ≡ is_late self.now.options.resend self.now.tick self.now.ports.items out }
     {
-        !self.ports.is_up(out.pipe)
-            || (out.when.0 <= self.tick.0 && self.tick.0 - out.when.0 >= self.options.resend)
+        !self.ports.is_up(out.pipe) || is_past(out.when, self.tick, self.options.resend)
     }
 
     // A live request stands there that may go out again.
@@ -532,27 +567,67 @@ impl Request {
         list.iter().position(|s| self.is_due_at(s))
     }
 
-    // The context of the first live request that may go out again. Those that are skipped are not looked at, and all
-    // before it are skipped then.
-    fn next_due(&mut self) -> Option<Ctx>
-        ensures same { self.new ≡ record self.old { live = self.new.live } }
-        ensures live { self.new.live.items ≡ self.old.live.items }
-        ensures calm { IsCalm self.old → IsCalm self.new }
-        ensures ctx { IsCalm self.old → result ≡ option_map live_ctx (find (is_due self.old.options.resend self.old.tick self.old.ports.items self.old.seats.items) self.old.live.items) }
+    // The live request of the context may go out again.
+    fn is_due_on(&self, c: Ctx) -> bool
+        ensures { result ≡ is_due_out self.now (awaited (find (is_live_on c) self.now.live.items)) c }
     {
-        let rest = self.live.rest();
-        let place = self.due_among(rest);
-        let ctx = ctx_at(rest, place);
-        self.live.skip(place);
-        ctx
+        match self.live.out_of(c) {
+            None => false,
+            Some(out) => self.is_late(out) && !self.seats.is_dry(c),
+        }
+    }
+
+    // The context of a live request that may go out again. Those before it are looked at no more.
+    fn next_looked(&mut self) -> Option<Ctx>
+        ensures same { self.new ≡ record self.old { dues = self.new.dues } }
+        ensures seen { (last : ℕ) → AreDistinct (map live_ctx self.old.live.items) → IsSeen self.old last → IsSeen self.new last }
+        ensures due { IfSome result (λ c. is_due_out self.old (awaited (find (is_live_on c) self.old.live.items)) c ≡ true) }
+        ensures none { (last : ℕ) → AreDistinct (map live_ctx self.old.live.items) → IsSeen self.old last → self.old.dues.due.whole ≡ true → IfNone result (list_any (due_in self.old) self.old.live.items ≡ false) }
+    {
+        while let Some(c) = self.dues.first() {
+            if self.is_due_on(c) {
+                return Some(c);
+            }
+            self.dues.drop_first();
+        }
+        None
+    }
+
+    // The same. They are searched through.
+    fn search_due(&mut self) -> Option<Ctx>
+        ensures same { self.new ≡ record self.old { dues = self.new.dues } }
+        ensures seen { (last : ℕ) → IsSeen self.old last → IsSeen self.new last }
+        ensures due { IfSome result (λ c. option_map live_ctx (find (due_in self.old) self.old.live.items) ≡ Some c) }
+        ensures none { IfNone result (list_any (due_in self.old) self.old.live.items ≡ false) }
+    {
+        let list = self.live.spots();
+        match ctx_at(list, self.due_among(list)) {
+            None => {
+                self.dues.clear_due();
+                None
+            }
+            Some(c) => Some(c),
+        }
+    }
+
+    // The same. They are searched through only where not all that may be due are looked at.
+    fn next_due(&mut self) -> Option<Ctx>
+        ensures same { self.new ≡ record self.old { dues = self.new.dues } }
+        ensures seen { (last : ℕ) → AreDistinct (map live_ctx self.old.live.items) → IsSeen self.old last → IsSeen self.new last }
+        ensures due { AreDistinct (map live_ctx self.old.live.items) → IfSome result (λ c. IsDueOn self.old c) }
+        ensures none { (last : ℕ) → AreDistinct (map live_ctx self.old.live.items) → IsSeen self.old last → IfNone result (list_any (due_in self.old) self.old.live.items ≡ false) }
+    {
+        if !self.dues.is_whole() {
+            return self.search_due();
+        }
+        self.next_looked()
     }
 
     // What can go out on this pipe: the first send, or a request that is due again.
     fn next_out(&mut self, pipe: PipeId) -> Offer
-        ensures same { self.new ≡ record self.old { live = self.new.live } }
-        ensures live { self.new.live.items ≡ self.old.live.items }
-        ensures calm { IsCalm self.old → IsCalm self.new }
-        ensures offer { IsCalm self.old → result ≡ out_offer pipe (find is_sending self.old.waiting.items) (find (is_due self.old.options.resend self.old.tick self.old.ports.items self.old.seats.items) self.old.live.items) }
+        ensures same { self.new ≡ record self.old { dues = self.new.dues } }
+        ensures seen { (last : ℕ) → AreDistinct (map live_ctx self.old.live.items) → IsSeen self.old last → IsSeen self.new last }
+        ensures offer { (last : ℕ) → AreDistinct (map live_ctx self.old.live.items) → IsSeen self.old last → IsOut self.old pipe result }
     {
         match self.waiting.first_send() {
             Some(op) => Offer::Send { op, pipe },
@@ -615,7 +690,7 @@ impl Proto for Request {
 
     fn down(&mut self, p: PipeId) {
         self.ports.forget(p);
-        self.live.skip_none();
+        self.dues.down(p);
     }
 
     fn wants(&self, p: PipeId) -> bool {
@@ -702,19 +777,16 @@ impl Proto for Request {
         ensures next { (op : OpName) (p : ℕ) → result ≡ Offer.Send op p → (t : Moment) → Ties self.old t → IsNextPipe t p }
         ensures resend { (c p : ℕ) → result ≡ Offer.Again c p → (t : Moment) → Ties self.old t → IsNextPipe t p }
     {
-        if let Some(op) = self.waiting.first_left() {
+        if let Some(op) = self.next_left() {
             return Offer::Finish {
                 op,
                 cause: Cause::Superseded,
             };
         }
-        if let Some(op) = next_reply(self.raw, &mut self.ready, &self.live, &self.waiting) {
+        if let Some(op) = self.next_give() {
             return Offer::Give { op };
         }
-        if let Some(op) = self.give_left() {
-            return Offer::Give { op };
-        }
-        match self.ports.free_port(self.last_pipe) {
+        match self.next_port() {
             None => Offer::Idle,
             Some(pipe) => self.next_out(pipe),
         }
@@ -740,10 +812,12 @@ impl Proto for Request {
         match self.live.copy_of(c) {
             None => {
                 self.seats.dry(c);
+                self.dues.note_dry(c);
                 None
             }
             Some(copy) => {
                 self.last_pipe = p;
+                self.dues.note_out(c, p, self.tick);
                 let out = LastOut {
                     pipe: p,
                     when: self.tick,
@@ -782,7 +856,7 @@ impl Proto for Request {
     fn clock(&mut self, now: Tick) {
         self.tick = now;
         self.seats.wet();
-        self.live.skip_none();
+        self.dues.tick(&self.live, now, self.options.resend);
     }
 
     fn open_ctx(&mut self, c: Ctx) -> Result<(), NoMemory> {
@@ -803,6 +877,7 @@ impl Proto for Request {
 
     fn close(&mut self) {
         self.live.clear();
+        self.dues.clear();
         self.ready.clear();
         self.kept.clear();
     }

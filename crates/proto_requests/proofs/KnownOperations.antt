@@ -13,7 +13,7 @@ use Rattle.proto_requests.specs.declared.spots.Spot.{Spot}
 use Rattle.proto_requests.specs.Backlogs.{is_of, IsIndexed}
 use Rattle.proto_requests.specs.FirstFound.{without_found, reached}
 use Rattle.proto_requests.specs.Spots.{any_in, holds, with_value, held, stays}
-use Rattle.proto_requests.specs.Waits.{is_named, slot_of, isnt, is_open, receives_on, left_on, left_spot, IsMark}
+use Rattle.proto_requests.specs.Waits.{is_named, slot_of, is_open, left_on, left_spot, IsMark}
 use Rattle.proto_requests.proofs.Backlogged.{kept_more, kept_left}
 use Rattle.proto_requests.proofs.NumberIndexes.{index_less, index_same}
 use Rattle.proto_requests.proofs.PortsInOrder.{at_place_is}
@@ -108,30 +108,30 @@ module _ {A : Type 0} where
             let w = stands P (slice_index_or ss i d).value t in
             absurd (kind_apart ss k i d v.0 w.0 h m l v.1 w.1 (q v.0 v.2) (q w.0 w.2) (s v.0 w.0 v.2 w.2))
 
-  pub receive_is : (home : A → ℕ) (sends : A → Bool) (c : ℕ) (v : A) → receives_on sends home c v ≡ true → isnt sends v ≡ true
-  receive_is home sends c v h = go (sends v) h
+  pub kind_is : (home : A → ℕ) (R : A → Bool) (c : ℕ) (v : A) → (R v && (home v == c)) ≡ true → R v ≡ true
+  kind_is home R c v h = go (R v) h
     where
-      go : (b : Bool) → (not b && (home v == c)) ≡ true → not b ≡ true
-      go true h = absurd cc
-      go false h = refl
+      go : (b : Bool) → (b && (home v == c)) ≡ true → b ≡ true
+      go true h = refl
+      go false h = absurd cc
 
-  on_home : (home : A → ℕ) (sends : A → Bool) (c : ℕ) (v : A) → receives_on sends home c v ≡ true → home v ≡ c
-  on_home home sends c v h = go (sends v) (home v == c) refl h
+  on_home : (home : A → ℕ) (R : A → Bool) (c : ℕ) (v : A) → (R v && (home v == c)) ≡ true → home v ≡ c
+  on_home home R c v h = go (R v) (home v == c) refl h
     where
-      go : (a b : Bool) → (home v == c) ≡ b → (not a && b) ≡ true → home v ≡ c
-      go true b e h = absurd cc
-      go false true e h = equal_of (home v) c e
-      go false false e h = absurd cc
+      go : (a b : Bool) → (home v == c) ≡ b → (a && b) ≡ true → home v ≡ c
+      go false b e h = absurd cc
+      go true true e h = equal_of (home v) c e
+      go true false e h = absurd cc
 
-  pub same_home : (home : A → ℕ) (sends : A → Bool) (c : ℕ) (v w : A) → receives_on sends home c v ≡ true → receives_on sends home c w ≡ true → home v ≡ home w
-  same_home home sends c v w h k = on_home home sends c v h ∙ sym (on_home home sends c w k)
+  pub same_home : (home : A → ℕ) (R : A → Bool) (c : ℕ) (v w : A) → (R v && (home v == c)) ≡ true → (R w && (home w == c)) ≡ true → home v ≡ home w
+  same_home home R c v w h k = on_home home R c v h ∙ sym (on_home home R c w k)
 
   pub same_slot : (name : A → OpName) (op : OpName) (v w : A) → is_named name op v ≡ true → is_named name op w ≡ true → slot_of name v ≡ slot_of name w
   same_slot name op v w h k = same_op-slot (name v) op h ∙ sym (same_op-slot (name w) op k)
 
   -- ---- Only those that pass a test
 
-  find_kept : (P R : A → Bool) (xs : List A) (x : A) → find P xs ≡ Some x → R x ≡ true → find P (filter R xs) ≡ Some x
+  pub find_kept : (P R : A → Bool) (xs : List A) (x : A) → find P xs ≡ Some x → R x ≡ true → find P (filter R xs) ≡ Some x
   find_kept P R [] x f r = absurd cc
   find_kept P R (y ∷ ys) x f r = go (P y) refl f (λ q. find_kept P R ys x q r)
     where
@@ -143,7 +143,7 @@ module _ {A : Type 0} where
           step true k = rw e k
           step false k = k
 
-  rest_kept : (P R : A → Bool) (xs : List A) (x : A) → find P xs ≡ Some x → R x ≡ true → filter R (without_found P xs) ≡ without_found P (filter R xs)
+  pub rest_kept : (P R : A → Bool) (xs : List A) (x : A) → find P xs ≡ Some x → R x ≡ true → filter R (without_found P xs) ≡ without_found P (filter R xs)
   rest_kept P R [] x f r = refl
   rest_kept P R (y ∷ ys) x f r = go (P y) refl f (λ q. rest_kept P R ys x q r)
     where
@@ -156,7 +156,7 @@ module _ {A : Type 0} where
           step true k = rw e (ap (λ (l : List A). y ∷ l) k)
           step false k = k
 
-  rest_other : (P R : A → Bool) (xs : List A) (x : A) → find P xs ≡ Some x → R x ≡ false → filter R (without_found P xs) ≡ filter R xs
+  pub rest_other : (P R : A → Bool) (xs : List A) (x : A) → find P xs ≡ Some x → R x ≡ false → filter R (without_found P xs) ≡ filter R xs
   rest_other P R [] x f r = refl
   rest_other P R (y ∷ ys) x f r = go (P y) f (λ q. rest_other P R ys x q r)
     where
@@ -164,7 +164,7 @@ module _ {A : Type 0} where
       go true f again = let it : R y ≡ false = ap R (some_is y x f) ∙ r in rw it refl
       go false f again = ap (λ (l : List A). cond (R y) (y ∷ l) l) (again f)
 
-  filter_more : (R : A → Bool) (xs ys : List A) → filter R (xs ++ ys) ≡ filter R xs ++ filter R ys
+  pub filter_more : (R : A → Bool) (xs ys : List A) → filter R (xs ++ ys) ≡ filter R xs ++ filter R ys
   filter_more R [] ys = refl
   filter_more R (x ∷ xs) ys = go (R x) (filter_more R xs ys)
     where
@@ -219,35 +219,13 @@ module _ {A : Type 0} where
   pub all_same : (key : A → ℕ) (old new : ℕ → Bool) (xs ys : List A) → IsIndexed key old xs → ((q : ℕ) → new q ≡ old q) → ys ≡ xs → IsIndexed key new ys
   all_same key old new xs ys h u e = rw e (λ q. u q ∙ h.0 q, h.1)
 
-  pub any_receive : (home : A → ℕ) (sends : A → Bool) (c : ℕ) (xs : List A) → list_any (is_of home c) (filter (isnt sends) xs) ≡ list_any (receives_on sends home c) xs
-  any_receive home sends c [] = refl
-  any_receive home sends c (x ∷ xs) = go (sends x) (any_receive home sends c xs)
+  pub any_kind : (home : A → ℕ) (R : A → Bool) (c : ℕ) (xs : List A) → list_any (is_of home c) (filter R xs) ≡ list_any (λ x. R x && (home x == c)) xs
+  any_kind home R c [] = refl
+  any_kind home R c (x ∷ xs) = go (R x) (any_kind home R c xs)
     where
-      go : (b : Bool) → list_any (is_of home c) (filter (isnt sends) xs) ≡ list_any (receives_on sends home c) xs
-          → list_any (is_of home c) (cond (not b) (x ∷ filter (isnt sends) xs) (filter (isnt sends) xs)) ≡ ((not b && (home x == c)) || list_any (receives_on sends home c) xs)
-      go true k = k
-      go false k = ap (λ v. (home x == c) || v) k
-
-  -- none is of the context
-  pub none_leaves : (home : A → ℕ) (sends is_left : A → Bool) (left : A → A) → ((x : A) → is_left x ≡ true → left x ≡ x) → (c : ℕ) (xs : List A) → list_any (is_of home c) (filter (isnt sends) xs) ≡ false → list_any (is_of home c) (filter (is_open sends is_left) xs) ≡ false → xs ≡ map (left_on home left c) xs
-  none_leaves home sends is_left left again c [] h k = refl
-  none_leaves home sends is_left left again c (x ∷ xs) h k = go (sends x) (is_left x) refl h k (λ h k. none_leaves home sends is_left left again c xs h k)
-    where
-      rest : (list_any (is_of home c) (filter (isnt sends) xs) ≡ false → list_any (is_of home c) (filter (is_open sends is_left) xs) ≡ false → xs ≡ map (left_on home left c) xs) → list_any (is_of home c) (filter (isnt sends) xs) ≡ false → list_any (is_of home c) (filter (is_open sends is_left) xs) ≡ false → x ≡ cond (c == home x) (left x) x → x ∷ xs ≡ cond (c == home x) (left x) x ∷ map (left_on home left c) xs
-      rest f h k e = ap (λ (y : A). y ∷ xs) e ∙ ap (λ (l : List A). cond (c == home x) (left x) x ∷ l) (f h k)
-
-      other : (b : Bool) → (home x == c) ≡ b → b ≡ false → x ≡ cond (c == home x) (left x) x
-      other b e f = let no : (c == home x) ≡ false = turned (home x) c false (e ∙ f) in rw no refl
-
-      over : (b : Bool) → is_left x ≡ true → x ≡ cond b (left x) x
-      over true e = sym (again x e)
-      over false e = refl
-
-      go : (a b : Bool) → is_left x ≡ b → list_any (is_of home c) (cond (not a) (x ∷ filter (isnt sends) xs) (filter (isnt sends) xs)) ≡ false → list_any (is_of home c) (cond (a && not b) (x ∷ filter (is_open sends is_left) xs) (filter (is_open sends is_left) xs)) ≡ false
-          → (list_any (is_of home c) (filter (isnt sends) xs) ≡ false → list_any (is_of home c) (filter (is_open sends is_left) xs) ≡ false → xs ≡ map (left_on home left c) xs) → x ∷ xs ≡ cond (c == home x) (left x) x ∷ map (left_on home left c) xs
-      go false b e h k f = let v = both_false (home x == c) (list_any (is_of home c) (filter (isnt sends) xs)) h in rest f v.1 k (other (home x == c) refl v.0)
-      go true false e h k f = let v = both_false (home x == c) (list_any (is_of home c) (filter (is_open sends is_left) xs)) k in rest f h v.1 (other (home x == c) refl v.0)
-      go true true e h k f = rest f h k (over (c == home x) e)
+      go : (b : Bool) → list_any (is_of home c) (filter R xs) ≡ list_any (λ x. R x && (home x == c)) xs → list_any (is_of home c) (cond b (x ∷ filter R xs) (filter R xs)) ≡ (b && (home x == c) || list_any (λ x. R x && (home x == c)) xs)
+      go true k = ap (λ v. (home x == c) || v) k
+      go false k = k
 
   -- no send of the context is open
   opens_left : (home : A → ℕ) (sends is_left : A → Bool) (left : A → A) → ((x : A) → is_left (left x) ≡ true) → (c : ℕ) (xs : List A) → filter (is_open sends is_left) (map (left_on home left c) xs) ≡ filter (λ x. not (is_of home c x)) (filter (is_open sends is_left) xs)

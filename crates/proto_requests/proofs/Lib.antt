@@ -12,3 +12,4 @@ pub mod NumberIndexes
 pub mod Trailing
 pub mod Spotted
 pub mod KnownOperations
+pub mod EndedOperations

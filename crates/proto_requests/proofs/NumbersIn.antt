@@ -1,17 +1,25 @@
 -- The numbers of a list with more of them, or without one.
-use Rattle.std.proofs.Common.{◌≡◌, refl, ap, ◌∙◌, List, [], ◌∷◌, ◌++◌, ℕ, ◌+◌, Bool, true, false, cond, arith}
+use Rattle.std.proofs.Common.{◌≡◌, refl, ap, ◌∙◌, List, [], ◌∷◌, ◌++◌, ℕ, Bool, true, false, cond, arith}
 use Rattle.std.specs.Prelude.{not, ◌||◌, ◌==◌}
 use Rattle.std.proofs.lemmas.Bool.Decides.{nat_tests}
 use Rattle.sp_history.specs.Lists.{has, without}
-use Rattle.proto_requests.proofs.TestValues.{same_number}
+use Rattle.std.specs.List.{list_any}
+use Rattle.proto_requests.proofs.TestValues.{same_number, or_true}
 
-pub has_first : (cs ds : List ℕ) (c : ℕ) → has cs c ≡ true → has (cs ++ ds) c ≡ true
-has_first [] ds c h = absurd cc
-has_first (x ∷ cs) ds c h = go (x == c) h (has_first cs ds c)
+pub any_first : {A : Type 0} (P : A → Bool) (xs ys : List A) → list_any P xs ≡ true → list_any P (xs ++ ys) ≡ true
+any_first P [] ys h = absurd cc
+any_first P (x ∷ xs) ys h = go (P x) h (any_first P xs ys)
   where
-    go : (b : Bool) → (b || has cs c) ≡ true → (has cs c ≡ true → has (cs ++ ds) c ≡ true) → (b || has (cs ++ ds) c) ≡ true
+    go : (b : Bool) → (b || list_any P xs) ≡ true → (list_any P xs ≡ true → list_any P (xs ++ ys) ≡ true) → (b || list_any P (xs ++ ys)) ≡ true
     go true h again = refl
     go false h again = again h
+
+pub any_last : {A : Type 0} (P : A → Bool) (xs : List A) (x : A) → P x ≡ true → list_any P (xs ++ x ∷ []) ≡ true
+any_last P [] x h = ap (λ b. b || false) h
+any_last P (y ∷ ys) x h = ap (λ b. P y || b) (any_last P ys x h) ∙ or_true (P y)
+
+pub has_first : (cs ds : List ℕ) (c : ℕ) → has cs c ≡ true → has (cs ++ ds) c ≡ true
+has_first cs ds c h = any_first (λ n. n == c) cs ds h
 
 pub has_still : (cs : List ℕ) (c d : ℕ) → has cs d ≡ true → (d == c) ≡ false → has (without cs c) d ≡ true
 has_still [] c d h k = absurd cc

@@ -1,6 +1,6 @@
 -- Where in a list the first stands that passes a test, and loops that write each element.
 use Rattle.std.proofs.Common.{◌≡◌, refl, ap, sym, Option, ◌∙◌, List, [], ◌∷◌, ◌++◌, ℕ, zero, suc, ◌+◌, Bool, true, false, cond, arith, Some, None, length, take, drop, map, slice_index_or, slice_set, ◌<◌, ◌≤◌, add-one}
-use Rattle.std.specs.Prelude.{find, nat_lt, remove, ◌||◌, Vec, ◌-◌}
+use Rattle.std.specs.Prelude.{find, nat_lt, remove, ◌||◌, Vec}
 use Rattle.proto_requests.specs.FirstFound.{without_found, with_found}
 use Rattle.std.specs.List.{position, position_or_len, slice_get, list_any}
 use Rattle.std.proofs.lemmas.Bool.Decides.{nat_tests}

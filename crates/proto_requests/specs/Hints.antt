@@ -1,12 +1,16 @@
--- Numbers that are worth a look.
-use Rattle.std.specs.Prelude.{ℕ, Bool, not, ◌||◌, List}
-use Rattle.sp_history.specs.Lists.{has}
+-- Entries that are worth a look.
+use Rattle.std.specs.Prelude.{ℕ, ◌==◌, Bool, not, ◌||◌, List}
+use Rattle.std.specs.List.{list_any}
 
--- the numbers, the oldest first, and whether all that are worth a look are among them
-pub record HintsView : Type 0 where
+-- the entries, the oldest first, and whether all that are worth a look are among them
+pub record HintsView (A : Type 0) : Type 0 where
   pub whole : Bool
-  pub items : List ℕ
+  pub items : List A
+
+-- if an entry that passes the test is worth a look, one is among them
+abbrev pub covers_by : {A : Type 0} → HintsView A → (A → Bool) → Bool
+covers_by h P = not h.whole || list_any P h.items
 
 -- if the number is worth a look, it is among them
-abbrev pub covers : HintsView → ℕ → Bool
-covers h q = not h.whole || has h.items q
+abbrev pub covers : HintsView ℕ → ℕ → Bool
+covers h q = covers_by h (λ n. n == q)

@@ -1,10 +1,11 @@
 -- Operations that wait.
-use Rattle.std.specs.Prelude.{◌≡◌, ◌≤◌, ℕ, ◌==◌, ◌&&◌, Bool, true, false, not, if◌then◌else◌, List, take, filter, length}
+use Rattle.std.specs.Prelude.{◌≡◌, ◌≤◌, ℕ, ◌==◌, ◌&&◌, Bool, true, false, not, if◌then◌else◌, List, take, filter, find, length, Option, Some, None}
 use Rattle.std.specs.List.{list_any}
 use Rattle.std.specs.Option.{option_map}
 use Rattle.sp_base.specs.declared.OpName.{OpName}
 use Rattle.sp_history.specs.Lists.{same_op}
 use Rattle.proto_requests.specs.Backlogs.{IsIndexed}
+use Rattle.proto_requests.specs.Hints.{HintsView, covers_by}
 use Rattle.proto_requests.specs.Numbers.{is_known}
 use Rattle.proto_requests.specs.Spots.{holds, held}
 use Rattle.proto_requests.specs.declared.spots.Spot.{Spot}
@@ -28,6 +29,15 @@ isnt P x = not (P x)
 abbrev pub is_open : {A : Type 0} → (A → Bool) → (A → Bool) → A → Bool
 is_open sends is_left x = sends x && not (is_left x)
 
+-- a send whose request has not ended, or a receive
+abbrev pub is_kind : {A : Type 0} → (A → Bool) → (A → Bool) → Bool → A → Bool
+is_kind sends is_left true x = is_open sends is_left x
+is_kind sends is_left false x = isnt sends x
+
+-- the same, on the context
+abbrev pub is_kind_on : {A : Type 0} → (A → Bool) → (A → Bool) → (A → ℕ) → Bool → ℕ → A → Bool
+is_kind_on sends is_left home send c x = is_kind sends is_left send x && (home x == c)
+
 -- a receive on the context
 abbrev pub receives_on : {A : Type 0} → (A → Bool) → (A → ℕ) → ℕ → A → Bool
 receives_on sends home c x = not (sends x) && (home x == c)
@@ -39,17 +49,35 @@ left_on home left c x = if c == home x then left x else x
 abbrev pub left_spot : {A : Type 0} → (A → ℕ) → (A → A) → ℕ → Spot A → Spot A
 left_spot home left c s = record { number = s.number; value = option_map (left_on home left c) s.value }
 
+-- the name of the one that was found, if its request has ended
+abbrev pub over_name : {A : Type 0} → (A → OpName) → (A → Bool) → Option A → Option OpName
+over_name name is_left None = None
+over_name name is_left (Some x) = if is_left x then Some (name x) else None
+
+-- the operation of this name is among them, and its request has ended
+abbrev pub IsOver : {A : Type 0} → (A → OpName) → (A → Bool) → List A → OpName → Type 0
+IsOver {A} name is_left xs op = (P : A → Bool) × (x : A) × (find P xs ≡ Some x) × (is_left x ≡ true) × (name x ≡ op)
+
+-- its request has ended, and it is not among those that are to be looked at
+abbrev pub is_overlooked : {A : Type 0} → (A → OpName) → (A → Bool) → HintsView OpName → A → Bool
+is_overlooked name is_left h x = is_left x && not (covers_by h (same_op (name x)))
+
 -- none that passes the test stands before this spot
 pub record IsMark {A : Type 0} (P : A → Bool) (from : ℕ) (ss : List (Spot A)) : Type 0 where
   pub bound : from ≤ length ss
   pub none : list_any (holds P) (take from ss) ≡ false
 
 -- No two have one slot, no two receives one context, no two open sends one context, and these are known, if it is said.
--- No send stands before the one spot, no receive before the other. No request has ended, if it is said.
-pub record AreNoted {A : Type 0} (name : A → OpName) (home : A → ℕ) (sends : A → Bool) (is_left : A → Bool) (slots_known : Bool) (slots : List (ℕ × ℕ)) (receives_known : Bool) (receives : List (ℕ × ℕ)) (sends_known : Bool) (opens : List (ℕ × ℕ)) (send_from receive_from : ℕ) (none_left : Bool) (ss : List (Spot A)) : Type 0 where
+-- No send stands before the one spot, no receive before the other. Those whose requests have ended are to be looked at.
+pub record AreNoted {A : Type 0} (name : A → OpName) (home : A → ℕ) (sends : A → Bool) (is_left : A → Bool) (slots_known : Bool) (slots : List (ℕ × ℕ)) (receives_known : Bool) (receives : List (ℕ × ℕ)) (sends_known : Bool) (opens : List (ℕ × ℕ)) (send_from receive_from : ℕ) (ended : HintsView OpName) (ss : List (Spot A)) : Type 0 where
   pub by_slot : slots_known ≡ true → IsIndexed (slot_of name) (is_known slots) (held ss)
   pub by_receive : receives_known ≡ true → IsIndexed home (is_known receives) (filter (isnt sends) (held ss))
   pub by_send : sends_known ≡ true → IsIndexed home (is_known opens) (filter (is_open sends is_left) (held ss))
   pub send : IsMark sends send_from ss
   pub receive : IsMark (isnt sends) receive_from ss
-  pub left : none_left ≡ true → list_any is_left (held ss) ≡ false
+  pub left : list_any (is_overlooked name is_left ended) (held ss) ≡ false
+
+-- no two receives are of one context, nor two open sends, and these contexts are known
+abbrev pub AreApartOn : {A : Type 0} → (A → ℕ) → (A → Bool) → (A → Bool) → List (ℕ × ℕ) → List (ℕ × ℕ) → List (Spot A) → Type 0
+AreApartOn home sends is_left receives opens ss =
+    IsIndexed home (is_known receives) (filter (isnt sends) (held ss)) × IsIndexed home (is_known opens) (filter (is_open sends is_left) (held ss))

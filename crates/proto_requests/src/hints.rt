@@ -1,36 +1,39 @@
 //! What is worth a look.
 //!
-//! Numbers, in the order in which they came, among them each one that is worth a look, and others as well. Where there
+//! Entries, in the order in which they came, among them each one that is worth a look, and others as well. Where there
 //! was no room for one, all are.
-ghost use Rattle.std.specs.Prelude.{◌≡◌, ℕ, true, [], drop};
+ghost use Rattle.std.specs.Prelude.{◌≡◌, ◌⊎◌, ◌++◌, ◌∷◌, Bool, true, false, [], drop, length};
+ghost use Rattle.std.specs.List.{slice_get};
+ghost use Rattle.std.specs.Fn.{CalledAt};
+ghost use Rattle.std.specs.List.Retain.{IsFiltered};
 ghost use Rattle.sp_history.specs.Lists.{head_of};
-ghost use Rattle.proto_requests.specs.Hints.{covers};
+ghost use Rattle.proto_requests.specs.Hints.{covers_by};
 
 use sp_base::NoMemory;
 use std::alloc::Global;
 use std::collections::VecDeque;
 use std::marker::Model;
 
-/// Numbers that are worth a look. What a call costs doesn't grow with them.
+/// Entries that are worth a look. What a call costs doesn't grow with them.
 #[derive(Drop)]
-pub struct Hints {
+pub struct Hints<T: Copy> {
     /// The oldest first.
-    queue: VecDeque<u32>,
+    queue: VecDeque<T>,
     /// They are all among these.
     is_whole: bool,
 }
 
-impl Model for Hints {
+impl<T: Copy> Model for Hints<T> {
     ghost use Rattle.proto_requests.specs.Hints.{HintsView};
 
-    ghost Value = { HintsView };
+    ghost Value = { HintsView T };
 
     ghost view = { λ m. record { whole = m.is_whole; items = m.queue.items } };
 }
 
-impl Hints {
+impl<T: Copy> Hints<T> {
     /// None is worth a look.
-    pub fn new(alloc: Global) -> Hints
+    pub fn new(alloc: Global) -> Hints<T>
         ensures { result ≡ record { whole = true; items = [] } }
     {
         Hints {
@@ -46,11 +49,25 @@ impl Hints {
         self.is_whole
     }
 
+    /// How many they are.
+    pub fn len(&self) -> usize
+        ensures { result ≡ length self.now.items }
+    {
+        self.queue.len()
+    }
+
     /// The oldest.
-    pub fn first(&self) -> Option<u32>
+    pub fn first(&self) -> Option<T>
         ensures { result ≡ head_of self.now.items }
     {
         self.queue.front().copied()
+    }
+
+    /// The one at this place.
+    pub fn at(&self, i: usize) -> Option<T>
+        ensures { result ≡ slice_get self.now.items i }
+    {
+        self.queue.get(i).copied()
     }
 
     /// The oldest is not looked at any more.
@@ -70,16 +87,40 @@ impl Hints {
         }
     }
 
-    /// The number is worth a look. Takes no memory.
-    pub fn add(&mut self, n: u32)
-        ensures more { covers self.new n ≡ true }
-        ensures same { (q : ℕ) → covers self.old q ≡ true → covers self.new q ≡ true }
+    /// The entry is worth a look. Takes no memory.
+    pub fn add(&mut self, x: T)
+        ensures more { (P : T → Bool) → P x ≡ true → covers_by self.new P ≡ true }
+        ensures same { (P : T → Bool) → covers_by self.old P ≡ true → covers_by self.new P ≡ true }
+        ensures items { (self.new.items ≡ self.old.items ++ x ∷ []) ⊎ (self.new.items ≡ []) }
     {
         if self.queue.len() < self.queue.capacity() {
-            self.queue.push_back_reserved(n);
+            self.queue.push_back_reserved(x);
         } else {
-            self.is_whole = false;
+            self.give_up();
         }
+    }
+
+    /// What is worth a look there is so here, in its place. Takes no memory.
+    pub fn take_over(&mut self, other: &mut Hints<T>)
+        ensures it { (P : T → Bool) → covers_by other.old P ≡ true → covers_by self.new P ≡ true }
+        ensures same { (P : T → Bool) → covers_by self.old P ≡ true → covers_by self.new P ≡ true }
+        ensures other { other.new ≡ record { whole = true; items = [] } }
+    {
+        if !other.is_whole || other.queue.len() > self.queue.capacity() - self.queue.len() {
+            self.give_up();
+        } else if self.queue.append(&mut other.queue).is_err() {
+            self.give_up();
+        }
+        other.clear();
+    }
+
+    /// Only those that pass the test are looked at any more.
+    pub fn retain<F: FnMut(&T) -> bool>(&mut self, keep: F)
+        requires { F.IsAlwaysCallable keep }
+        ensures filtered { IsFiltered (CalledAt F.FnMut) keep self.old.items self.new.items }
+        ensures whole { self.new.whole ≡ self.old.whole }
+    {
+        self.queue.retain(keep);
     }
 
     /// None is worth a look.
@@ -88,5 +129,13 @@ impl Hints {
     {
         self.queue.clear();
         self.is_whole = true;
+    }
+
+    /// All are worth a look.
+    pub fn give_up(&mut self)
+        ensures { self.new ≡ record { whole = false; items = [] } }
+    {
+        self.queue.clear();
+        self.is_whole = false;
     }
 }

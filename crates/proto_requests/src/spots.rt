@@ -64,7 +64,20 @@ pub fn close_up_for<T: Drop>(list: &mut Vec<Spot<T>>, more: usize) -> bool
     true
 }
 
-/// Where no room is left and nothing stands at half of the spots, takes those out. Whether the others moved.
+/// Where nothing stands at half of the spots, takes those out. Whether the others moved.
+pub fn close_up_sparse<T: Drop>(list: &mut Vec<Spot<T>>, standing: usize) -> bool
+    ensures held { held list.new.items ≡ held list.old.items }
+    ensures same { result ≡ false → list.new.items ≡ list.old.items }
+    ensures capacity { vec_capacity list.new ≡ vec_capacity list.old }
+{
+    if standing > list.len() / 2 {
+        return false;
+    }
+    close_up(list);
+    true
+}
+
+/// The same, where no room is left.
 pub fn close_up_half<T: Drop>(list: &mut Vec<Spot<T>>, standing: usize) -> bool
     ensures held { held list.new.items ≡ held list.old.items }
     ensures same { result ≡ false → list.new.items ≡ list.old.items }
@@ -72,11 +85,7 @@ pub fn close_up_half<T: Drop>(list: &mut Vec<Spot<T>>, standing: usize) -> bool
     if list.len() < list.capacity() {
         return false;
     }
-    if standing > list.len() / 2 {
-        return false;
-    }
-    close_up(list);
-    true
+    close_up_sparse(list, standing)
 }
 
 /// The mark, if nothing moved.

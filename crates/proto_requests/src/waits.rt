@@ -2,22 +2,25 @@
 //!
 //! They stand in the order of their begins, each at a spot that it leaves behind when it ends, so that none of the others
 //! moves; once all spots are used, those that are left are closed up. By the slot of its name the number of its spot is
-//! known, and by that the spot is found by halving, where it is then looked at. The contexts on which a receive waits
-//! are known, those on which a send waits whose request has not ended, and where the first send and the first receive
-//! stand. They are searched through only where two have one slot, or where two receives or two such sends are of one
-//! context, as those of a raw socket are.
-ghost use Rattle.std.specs.Prelude.{◌≡◌, ◌≤◌, ◌<◌, ◌+◌, ◌==◌, ◌++◌, ◌∷◌, ◌&&◌, ℕ, Bool, [], Some, None, true, false, not, if◌then◌else◌, find, map, filter, take, length, option_to_list, OnOk};
+//! known, and by that the spot is found by halving, where it is then looked at. The same is known by the context of a
+//! receive, and of a send whose request has not ended. Where the first send and the first receive stand is known, and
+//! those whose requests have ended stand in a queue. They are searched through only where two have one slot, or where
+//! two receives or two such sends are of one context, as those of a raw socket are.
+ghost use Rattle.std.specs.Prelude.{◌≡◌, ◌≤◌, ◌<◌, ◌+◌, ◌==◌, ◌++◌, ◌∷◌, ◌&&◌, ℕ, Bool, [], Some, None, true, false, not, if◌then◌else◌, find, map, filter, take, length, option_to_list, OnOk, IfSome, IfNone};
 ghost use Rattle.std.specs.Vec.{vec_len, vec_capacity};
 ghost use Rattle.std.specs.Option.{option_map};
 ghost use Rattle.std.specs.List.{position, list_any};
 ghost use Rattle.sp_base.specs.declared.OpName.{OpName as Name};
+ghost use Rattle.sp_history.specs.Lists.{same_op};
 ghost use Rattle.sp_history.specs.Once.{AreDistinct};
 ghost use Rattle.proto_requests.specs.Backlogs.{IsIndexed};
+ghost use Rattle.proto_requests.specs.Hints.{covers_by};
 ghost use Rattle.proto_requests.specs.Numbers.{is_known};
-ghost use Rattle.proto_requests.specs.FirstFound.{without_found, reached};
+ghost use Rattle.proto_requests.specs.FirstFound.{without_found, with_found, reached};
 ghost use Rattle.proto_requests.specs.Spots.{holds, held};
-ghost use Rattle.proto_requests.specs.Waits.{is_named, slot_of, isnt, is_open, receives_on, left_on, left_spot, IsMark};
+ghost use Rattle.proto_requests.specs.Waits.{is_named, slot_of, isnt, is_open, is_kind, is_kind_on, receives_on, left_on, left_spot, over_name, is_overlooked, IsOver, IsMark, AreApartOn};
 
+use crate::hints::Hints;
 use crate::numbers::Numbers;
 use crate::spots::{Spot, close_up, close_up_for, empty, hint, rest, stays};
 use sp_base::{Ctx, NoMemory, OpName};
@@ -93,8 +96,8 @@ pub struct Waits<T: Waiter> {
     send_from: usize,
     /// No receive stands before this spot.
     receive_from: usize,
-    /// No request of theirs has ended.
-    none_left: bool,
+    /// Those whose requests have ended are among these.
+    ended: Hints<OpName>,
 }
 
 impl<T: Waiter> Model for Waits<T> {
@@ -107,7 +110,7 @@ impl<T: Waiter> Model for Waits<T> {
 
     ghost view = { λ m. record { items = held m.list.items; room = vec_capacity m.list - length (held m.list.items) } };
 
-    ghost invariant = { λ m. AreNoted T.name_of T.home_of T.is_send T.is_left m.slots_known m.by_slot m.receives_known m.receives m.opens_known m.opens m.send_from m.receive_from m.none_left m.list.items };
+    ghost invariant = { λ m. AreNoted T.name_of T.home_of T.is_send T.is_left m.slots_known m.by_slot m.receives_known m.receives m.opens_known m.opens m.send_from m.receive_from m.ended m.list.items };
 }
 
 // ---- Spots
@@ -150,13 +153,23 @@ fn receives<T: Waiter>(s: &Spot<T>) -> bool
     }
 }
 
-// A receive on the context stands there.
-fn receives_on<T: Waiter>(s: &Spot<T>, c: Ctx) -> bool
-    ensures { result ≡ holds (receives_on T.is_send T.home_of c) s.now }
+// It is a send whose request has not ended, or a receive.
+fn is_kind<T: Waiter>(x: &T, send: bool) -> bool
+    ensures { result ≡ is_kind T.is_send T.is_left send x.now }
+{
+    if send {
+        return is_open(x);
+    }
+    !x.sends()
+}
+
+// One of these on the context stands there.
+fn stands_on<T: Waiter>(s: &Spot<T>, send: bool, c: Ctx) -> bool
+    ensures { result ≡ holds (is_kind_on T.is_send T.is_left T.home_of send c) s.now }
 {
     match &s.value {
         None => false,
-        Some(x) => !x.sends() && x.ctx().0 == c.0,
+        Some(x) => is_kind(x, send) && x.ctx().0 == c.0,
     }
 }
 
@@ -189,20 +202,20 @@ fn place_of<T: Waiter>(list: &[Spot<T>], i: usize, op: OpName) -> Option<usize>
     search(list, op)
 }
 
-// The same, where its number may be known.
-fn place_by<T: Waiter>(
+/// Where the operation stands, whose number may be known.
+pub fn place_by<T: Waiter>(
     list: &[Spot<T>],
     by_slot: &Numbers,
     known: bool,
     op: OpName,
 ) -> Option<usize>
-    ensures { (known ≡ true → AreDistinct (map (slot_of T.name_of) (held list.now))) → result ≡ position (holds (is_named T.name_of op)) list.now }
+    ensures { (known ≡ true → IsIndexed (slot_of T.name_of) (is_known by_slot.now) (held list.now)) → result ≡ position (holds (is_named T.name_of op)) list.now }
 {
     if !known {
         return search(list, op);
     }
     match by_slot.get(op.slot) {
-        None => search(list, op),
+        None => None,
         Some(n) => place_of(list, hint(list, n), op),
     }
 }
@@ -298,65 +311,49 @@ fn reached(place: Option<usize>, end: usize) -> usize
     }
 }
 
-// Where the first receive on the context stands.
-fn search_receive<T: Waiter>(list: &[Spot<T>], c: Ctx) -> Option<usize>
-    ensures { result ≡ position (holds (receives_on T.is_send T.home_of c)) list.now }
+// Where the first of these on the context stands: sends whose requests have not ended, or receives.
+fn search_on<T: Waiter>(list: &[Spot<T>], send: bool, c: Ctx) -> Option<usize>
+    ensures { result ≡ position (holds (is_kind_on T.is_send T.is_left T.home_of send c)) list.now }
 {
-    list.iter().position(|s| receives_on(s, c))
+    list.iter().position(|s| stands_on(s, send, c))
 }
 
 // The same, where no other is on the context. It is looked for here first.
-fn receive_at<T: Waiter>(list: &[Spot<T>], i: usize, c: Ctx) -> Option<usize>
-    ensures { AreDistinct (map T.home_of (filter (isnt T.is_send) (held list.now))) → result ≡ position (holds (receives_on T.is_send T.home_of c)) list.now }
+fn place_at<T: Waiter>(list: &[Spot<T>], i: usize, send: bool, c: Ctx) -> Option<usize>
+    ensures { AreDistinct (map T.home_of (filter (is_kind T.is_send T.is_left send) (held list.now))) → result ≡ position (holds (is_kind_on T.is_send T.is_left T.home_of send c)) list.now }
 {
     if i < list.len() {
-        if receives_on(&list[i], c) {
+        if stands_on(&list[i], send, c) {
             return Some(i);
         }
     }
-    search_receive(list, c)
+    search_on(list, send, c)
 }
 
 // The same, where its number may be known.
-fn receive_place<T: Waiter>(
+fn place_on<T: Waiter>(
     list: &[Spot<T>],
     numbers: &Numbers,
     known: bool,
+    send: bool,
     c: Ctx,
 ) -> Option<usize>
-    ensures { (known ≡ true → IsIndexed T.home_of (is_known numbers.now) (filter (isnt T.is_send) (held list.now))) → result ≡ position (holds (receives_on T.is_send T.home_of c)) list.now }
+    ensures { (known ≡ true → IsIndexed T.home_of (is_known numbers.now) (filter (is_kind T.is_send T.is_left send) (held list.now))) → result ≡ position (holds (is_kind_on T.is_send T.is_left T.home_of send c)) list.now }
 {
     if !known {
-        return search_receive(list, c);
+        return search_on(list, send, c);
     }
     match numbers.get(c.0) {
         None => None,
-        Some(n) => receive_at(list, hint(list, n), c),
+        Some(n) => place_at(list, hint(list, n), send, c),
     }
-}
-
-// One has ended.
-fn any_over<T: Waiter>(list: &[Spot<T>]) -> bool
-    ensures { result ≡ list_any (holds T.is_left) list.now }
-{
-    list.iter().any(|s| is_over(s))
-}
-
-// None has ended. It is looked for, unless that is known.
-fn is_none_over<T: Waiter>(known: bool, list: &[Spot<T>]) -> bool
-    ensures { (known ≡ true → list_any T.is_left (held list.now) ≡ false) → result ≡ true → list_any T.is_left (held list.now) ≡ false }
-{
-    if known {
-        return true;
-    }
-    !any_over(list)
 }
 
 // A receive on the context is among them.
 fn any_receive<T: Waiter>(list: &[Spot<T>], c: Ctx) -> bool
     ensures { result ≡ list_any (holds (receives_on T.is_send T.home_of c)) list.now }
 {
-    list.iter().any(|s| receives_on(s, c))
+    list.iter().any(|s| stands_on(s, false, c))
 }
 
 // It is a send whose request has not ended.
@@ -364,13 +361,6 @@ fn is_open<T: Waiter>(x: &T) -> bool
     ensures { result ≡ is_open T.is_send T.is_left x.now }
 {
     x.sends() && !x.is_over()
-}
-
-// None has ended, if none had, with one more.
-fn is_none_left(none: bool, is_over: bool) -> bool
-    ensures { result ≡ (none && not is_over) }
-{
-    none && !is_over
 }
 
 // The request of the one that stands there ends, if it is of the context.
@@ -396,8 +386,97 @@ fn leave_in<T: Waiter>(list: &mut [Spot<T>], c: Ctx)
     }
 }
 
-// Has a spot for one more, for which there is room, and says whether the others moved.
-fn make_spot<T: Waiter>(list: &mut Vec<Spot<T>>) -> bool
+// The one that stands here is looked at.
+fn note_at<T: Waiter>(list: &[Spot<T>], place: Option<usize>, ended: &mut Hints<OpName>)
+    ensures it { (P : T → Bool) (x : T) → place ≡ position (holds P) list.now → find P (held list.now) ≡ Some x → covers_by ended.new (same_op (T.name_of x)) ≡ true }
+    ensures more { (P : Name → Bool) → covers_by ended.old P ≡ true → covers_by ended.new P ≡ true }
+{
+    match name_at(list, place) {
+        None => {}
+        Some(op) => ended.add(op),
+    }
+}
+
+// The request of the one that stands here ends, if it is of the context.
+fn leave_at<T: Waiter>(list: &mut [Spot<T>], place: Option<usize>, c: Ctx)
+    ensures { (P : T → Bool) → place ≡ position (holds P) list.old → list.new ≡ with_found (holds P) (left_spot T.home_of T.left c) list.old }
+{
+    match place {
+        None => {}
+        Some(i) => {
+            if i < list.len() {
+                leave_spot(&mut list[i], c);
+            }
+        }
+    }
+}
+
+// The request of the context ends, and what waits for it is looked at: a receive and a send, which are found by their
+// numbers, if these are known.
+fn leave<T: Waiter>(
+    list: &mut [Spot<T>],
+    receives: &Numbers,
+    opens: &Numbers,
+    known: bool,
+    ended: &mut Hints<OpName>,
+    c: Ctx,
+)
+    ensures list { (known ≡ true → AreApartOn T.home_of T.is_send T.is_left receives.now opens.now list.old) → list.new ≡ map (left_spot T.home_of T.left c) list.old }
+    ensures ended { (known ≡ true → AreApartOn T.home_of T.is_send T.is_left receives.now opens.now list.old) → list_any (is_overlooked T.name_of T.is_left ended.old) (held list.old) ≡ false → list_any (is_overlooked T.name_of T.is_left ended.new) (held list.new) ≡ false }
+{
+    if !known {
+        leave_in(list, c);
+        ended.give_up();
+        return;
+    }
+    let receive = place_on(list, receives, true, false, c);
+    let send = place_on(list, opens, true, true, c);
+    note_at(list, receive, ended);
+    note_at(list, send, ended);
+    leave_at(list, receive, c);
+    leave_at(list, send, c);
+}
+
+// The name of the one that stands there, if its request has ended.
+fn over_at<T: Waiter>(list: &[Spot<T>], place: Option<usize>) -> Option<OpName>
+    ensures { (P : T → Bool) → place ≡ position (holds P) list.now → result ≡ over_name T.name_of T.is_left (find P (held list.now)) }
+{
+    match place {
+        None => None,
+        Some(i) => {
+            if i >= list.len() {
+                return None;
+            }
+            match &list[i].value {
+                None => None,
+                Some(x) => { if x.is_over() { Some(x.op()) } else { None } }
+            }
+        }
+    }
+}
+
+// One whose request has ended, of those that are looked at. Those before it are looked at no more.
+fn next_over<T: Waiter>(
+    ended: &mut Hints<OpName>,
+    list: &[Spot<T>],
+    by_slot: &Numbers,
+) -> Option<OpName>
+    requires { IsIndexed (slot_of T.name_of) (is_known by_slot.now) (held list.now) }
+    ensures ended { list_any (is_overlooked T.name_of T.is_left ended.old) (held list.now) ≡ false → list_any (is_overlooked T.name_of T.is_left ended.new) (held list.now) ≡ false }
+    ensures over { IfSome result (λ op. IsOver T.name_of T.is_left (held list.now) op) }
+    ensures none { list_any (is_overlooked T.name_of T.is_left ended.old) (held list.now) ≡ false → ended.old.whole ≡ true → IfNone result (list_any T.is_left (held list.now) ≡ false) }
+{
+    while let Some(op) = ended.first() {
+        match over_at(list, place_by(list, by_slot, true, op)) {
+            Some(found) => return Some(found),
+            None => ended.drop_first(),
+        }
+    }
+    None
+}
+
+/// Has a spot for one more, for which there is room, and says whether the others moved.
+pub fn make_spot<T: Waiter>(list: &mut Vec<Spot<T>>) -> bool
     requires { length (held list.old.items) < vec_capacity list.old }
     ensures held { held list.new.items ≡ held list.old.items }
     ensures same { result ≡ false → list.new.items ≡ list.old.items }
@@ -413,8 +492,8 @@ fn make_spot<T: Waiter>(list: &mut Vec<Spot<T>>) -> bool
 
 // ---- Numbers
 
-// Whether all numbers are known, if they were, with this one more. Not where one is known by the same.
-fn know(all: bool, numbers: &mut Numbers, k: u32, n: u64) -> bool
+/// Whether all numbers are known, if they were, with this one more. Not where one is known by the same.
+pub fn know(all: bool, numbers: &mut Numbers, k: u32, n: u64) -> bool
     ensures all { result ≡ true → all ≡ true }
     ensures more { result ≡ true → (is_known numbers.old k ≡ false) × ((q : ℕ) → is_known numbers.new q ≡ (if k == q then true else is_known numbers.old q)) }
 {
@@ -442,8 +521,25 @@ fn know_if(all: bool, numbers: &mut Numbers, is_one: bool, c: Ctx, n: u64) -> bo
     know(all, numbers, c.0, n)
 }
 
-// None is known by this one.
-fn lose(numbers: &mut Numbers, k: u32)
+// The operation is looked at, if its request has ended.
+fn note_if(ended: &mut Hints<OpName>, is_over: bool, op: OpName)
+    ensures it { is_over ≡ true → covers_by ended.new (same_op op) ≡ true }
+    ensures more { (P : Name → Bool) → covers_by ended.old P ≡ true → covers_by ended.new P ≡ true }
+{
+    if is_over {
+        ended.add(op);
+    }
+}
+
+// Both are known.
+fn both(receives: bool, opens: bool) -> bool
+    ensures { result ≡ (receives && opens) }
+{
+    receives && opens
+}
+
+/// None is known by this one.
+pub fn lose(numbers: &mut Numbers, k: u32)
     ensures { (q : ℕ) → is_known numbers.new q ≡ (if k == q then false else is_known numbers.old q) }
 {
     numbers.remove(k);
@@ -463,15 +559,18 @@ fn make_room(
     by_slot: &mut Numbers,
     receives: &mut Numbers,
     opens: &mut Numbers,
+    ended: &mut Hints<OpName>,
     more: usize,
 ) -> Result<(), NoMemory>
     ensures slot { (q : ℕ) → is_known by_slot.new q ≡ is_known by_slot.old q }
     ensures receive { (q : ℕ) → is_known receives.new q ≡ is_known receives.old q }
     ensures open { (q : ℕ) → is_known opens.new q ≡ is_known opens.old q }
+    ensures ended { ended.new ≡ ended.old }
 {
     by_slot.reserve(more)?;
     receives.reserve(more)?;
-    opens.reserve(more)
+    opens.reserve(more)?;
+    ended.reserve(more)
 }
 
 impl<T: Waiter> Waits<T> {
@@ -490,15 +589,8 @@ impl<T: Waiter> Waits<T> {
             opens_known: true,
             send_from: 0,
             receive_from: 0,
-            none_left: true,
+            ended: Hints::new(alloc),
         }
-    }
-
-    /// All from a spot on before which no send stands.
-    pub fn sends(&self) -> &[Spot<T>]
-        ensures { (P : T → Bool) → ((x : T) → P x ≡ true → T.is_send x ≡ true) → find P (held result.now) ≡ find P self.now.items }
-    {
-        rest(&self.list, self.send_from)
     }
 
     /// All from a spot on before which no receive stands.
@@ -528,18 +620,38 @@ impl<T: Waiter> Waits<T> {
     {
         name_at(
             &self.list,
-            receive_place(&self.list, &self.receives, self.receives_known, c),
+            place_on(&self.list, &self.receives, self.receives_known, false, c),
         )
     }
 
-    /// The first whose request has ended.
-    pub fn first_left(&self) -> Option<OpName>
-        ensures { result ≡ option_map T.name_of (find T.is_left self.now.items) }
+    /// One whose request has ended.
+    pub fn first_left(&mut self) -> Option<OpName>
+        ensures same { self.new ≡ self.old }
+        ensures over { IfSome result (λ op. IsOver T.name_of T.is_left self.old.items op) }
+        ensures none { IfNone result (list_any T.is_left self.old.items ≡ false) }
     {
-        if self.none_left {
-            return None;
+        if !self.slots_known {
+            return self.search_left();
         }
-        name_at(&self.list, over_in(&self.list))
+        if !self.ended.is_whole() {
+            return self.search_left();
+        }
+        next_over(&mut self.ended, &self.list, &self.by_slot)
+    }
+
+    // The same. They are searched through.
+    fn search_left(&mut self) -> Option<OpName>
+        ensures same { self.new ≡ self.old }
+        ensures over { IfSome result (λ op. IsOver T.name_of T.is_left self.old.items op) }
+        ensures none { IfNone result (list_any T.is_left self.old.items ≡ false) }
+    {
+        match name_at(&self.list, over_in(&self.list)) {
+            None => {
+                self.ended.clear();
+                None
+            }
+            Some(op) => Some(op),
+        }
     }
 
     /// A receive of the context waits.
@@ -552,17 +664,31 @@ impl<T: Waiter> Waits<T> {
         any_receive(&self.list, c)
     }
 
+    /// At least as many spots as operations wait.
+    pub fn spots(&self) -> usize
+        ensures { length self.now.items ≤ result }
+    {
+        self.list.len()
+    }
+
     /// Takes the room for so many.
     pub fn reserve(&mut self, more: u32) -> Result<(), NoMemory>
         ensures same { self.new.items ≡ self.old.items }
         ensures room { OnOk result (more ≤ self.new.room) }
+        ensures kept { self.old.room ≤ self.new.room }
     {
         let more = more as usize;
         let moved = close_up_for(&mut self.list, more + more);
         self.send_from = stays(moved, self.send_from);
         self.receive_from = stays(moved, self.receive_from);
         match self.list.reserve(more + more) {
-            Ok(()) => make_room(&mut self.by_slot, &mut self.receives, &mut self.opens, more),
+            Ok(()) => make_room(
+                &mut self.by_slot,
+                &mut self.receives,
+                &mut self.opens,
+                &mut self.ended,
+                more,
+            ),
             Err(_) => Err(NoMemory),
         }
     }
@@ -590,7 +716,7 @@ impl<T: Waiter> Waits<T> {
         self.slots_known = know(self.slots_known, &mut self.by_slot, name.slot, n);
         self.receives_known = know_if(self.receives_known, &mut self.receives, !sends, c, n);
         self.opens_known = know_if(self.opens_known, &mut self.opens, open, c, n);
-        self.none_left = is_none_left(self.none_left, is_over);
+        note_if(&mut self.ended, is_over, name);
     }
 
     /// Takes the operation out.
@@ -613,27 +739,10 @@ impl<T: Waiter> Waits<T> {
                     lose_if(&mut self.opens, open, c);
                     self.send_from = send_mark(&self.list, self.send_from);
                     self.receive_from = receive_mark(&self.list, self.receive_from);
-                    self.none_left = is_none_over(self.none_left, &self.list);
                     Some(x)
                 }
             },
         }
-    }
-
-    // None of the context waits whose request has not ended.
-    fn is_without(&self, c: Ctx) -> bool
-        ensures { result ≡ true → self.now.items ≡ map (left_on T.home_of T.left c) self.now.items }
-    {
-        if !self.receives_known {
-            return false;
-        }
-        if !self.opens_known {
-            return false;
-        }
-        if self.receives.has(c.0) {
-            return false;
-        }
-        !self.opens.has(c.0)
     }
 
     /// The request of the context ends.
@@ -642,11 +751,14 @@ impl<T: Waiter> Waits<T> {
         ensures items { self.new.items ≡ map (left_on T.home_of T.left c) self.old.items }
         ensures room { self.new.room ≡ self.old.room }
     {
-        if self.is_without(c) {
-            return;
-        }
-        leave_in(&mut self.list, c);
+        leave(
+            &mut self.list,
+            &self.receives,
+            &self.opens,
+            both(self.receives_known, self.opens_known),
+            &mut self.ended,
+            c,
+        );
         lose(&mut self.opens, c.0);
-        self.none_left = false;
     }
 }

@@ -28,14 +28,15 @@ use Rattle.cat_play.specs.Playing.{each}
 use Rattle.cat_play.specs.Recording.{Records, lane_place, place_of, greeting, Each, HasCause, IsBack, IsUndone, times_out_rightly}
 use Rattle.cat_play.specs.Running.{max_body, KeepsOthers, AreWhole}
 use Rattle.cat_play.specs.Spending.{IsAsked, greeting_ticks}
-use Rattle.sp_ends.specs.declared.newcomer.Newcomer.{Newcomer}
-use Rattle.sp_ends.specs.Standing.{Beginning, LinkEndsView, places, in_order, WasGreeted, LinksKept, EndsStand, HasCarried, IsShut, IsCarried, IsSomewhere, SameCounts}
-use Rattle.sp_ends.specs.Leaving.{LinksLeft, ClosedCleared, with_links, with_wires, CanShut, IsBelow, AreHandedOut}
-use Rattle.sp_ends.specs.Turning.{shut_link, shut_under}
-use Rattle.sp_ends.proofs.LinkPlaces.{passed, inside, met_inside, up_inside, up_once}
-use Rattle.sp_ends.proofs.LeavingWires.{NamedAt, NamedSo, named_so, LeftBy, carried_by, at_link, at_lanes}
-use Rattle.sp_ends.proofs.LeavingAll.{from_all, OneOf, IsElsewhere, NoneOf, look_wires, at_id, both_of, mapped_all, shut_of, OneCame, NoneCame, look_links, was_missed, missed_place, missed_rests, named_place}
-use Rattle.sp_ends.proofs.Greeting.{incomplete, wrote}
+use Rattle.end_parts.specs.declared.newcomer.Newcomer.{Newcomer}
+use Rattle.end_parts.specs.EndViews.{Beginning, LinkEndsView}
+use Rattle.end_parts.specs.RunLinks.{places, in_order, WasGreeted, LinksKept, EndsStand, HasCarried, IsShut, IsCarried, IsSomewhere, SameCounts}
+use Rattle.sp_ends.specs.LeftLinks.{LinksLeft, ClosedCleared}
+use Rattle.end_parts.specs.ShutWires.{with_links, with_wires, CanShut, IsBelow, AreHandedOut, shut_link, shut_under}
+use Rattle.end_parts.proofs.LinkPlaces.{passed, inside, met_inside, up_inside, up_once}
+use Rattle.end_parts.proofs.LeavingWires.{NamedAt, NamedSo, named_so, LeftBy, carried_by, at_link, at_lanes}
+use Rattle.end_parts.proofs.LeavingAll.{from_all, OneOf, IsElsewhere, NoneOf, look_wires, at_id, both_of, mapped_all, shut_of, OneCame, NoneCame, look_links, was_missed, missed_place, missed_rests, named_place}
+use Rattle.end_parts.proofs.GreetingCauses.{incomplete, wrote}
 
 -- ---- A link that was left in progress
 

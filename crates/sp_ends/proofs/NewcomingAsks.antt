@@ -11,15 +11,18 @@ use Rattle.sp_history.specs.Found.{ticks, last_tick, before_last_tick}
 use Rattle.sp_history.specs.Past.{past_of}
 use Rattle.sp_single.specs.Singles.{SingleView}
 use Rattle.cat_play.specs.Spending.{CanRise, ticks_where, has_room}
-use Rattle.sp_ends.specs.declared.listener.Listener.{Listener}
-use Rattle.sp_ends.specs.declared.dialer.Dialer.{Dialer}
-use Rattle.sp_ends.specs.declared.newcomer.Newcomer.{Newcomer}
-use Rattle.sp_ends.specs.Dialing.{IsDialed, IsDialable}
-use Rattle.sp_ends.specs.Standing.{Beginning, LinkEndsView, NetStands, IsListener, sum_of, tries_of}
-use Rattle.sp_ends.specs.Freeing.{Frees}
-use Rattle.sp_ends.specs.Turning.{Quietly, NoLane, IsDry, InTurn, SameEnds, IsSameDialer, AreSameDialers, AsksNet, asks_of, AsksUntilFull, AreYoung, AreWaitingBehind, HasAsked}
-use Rattle.sp_ends.proofs.Serving.{same_dialers, dialers_both, dialers_long, ends_none, ends_both}
-use Rattle.sp_ends.proofs.Turns.{quiet_both, quiet_none, quiet_ticks, quiet_before, quiet_where, lanes_both, lanes_none}
+use Rattle.end_parts.specs.declared.listener.Listener.{Listener}
+use Rattle.end_parts.specs.declared.dialer.Dialer.{Dialer}
+use Rattle.end_parts.specs.declared.newcomer.Newcomer.{Newcomer}
+use Rattle.end_parts.specs.Dialing.{IsDialed, IsDialable}
+use Rattle.end_parts.specs.EndViews.{Beginning, LinkEndsView}
+use Rattle.end_parts.specs.RunLinks.{NetStands, IsListener, sum_of, tries_of}
+use Rattle.sp_ends.specs.Freeing.{Frees, AreSameDialers}
+use Rattle.end_parts.specs.SocketSteps.{Quietly, NoLane, IsDry}
+use Rattle.sp_ends.specs.EndsTurns.{InTurn, SameEnds, AsksNet, asks_of, AsksUntilFull, AreYoung, AreWaitingBehind, HasAsked}
+use Rattle.end_parts.specs.DialerSteps.{IsSameDialer}
+use Rattle.sp_ends.proofs.TurnParts.{same_dialers, dialers_both, dialers_long, ends_none, ends_both}
+use Rattle.end_parts.proofs.Turns.{quiet_both, quiet_none, quiet_ticks, quiet_before, quiet_where, lanes_both, lanes_none}
 use Rattle.sp_ends.proofs.FreedDialers.{frees_none, frees_both}
 
 -- ---- The last tick
@@ -40,9 +43,6 @@ pub at_of : {X : Type 0} (P : X → Type 0) (xs : List X) (i : ℕ) (x : X) → 
 at_of P [] i x all e = cc
 at_of P (y ∷ ys) zero x all e = let same : y ≡ x = cc in subst P same all.0
 at_of P (y ∷ ys) (suc i) x all e = at_of P ys i x all.1 e
-
-pub at_index : {X : Type 0} (xs ys : List X) (i : ℕ) (x : X) → xs ≡ ys → i < length ys → x ≡ get_or xs i x → slice_get ys i ≡ Some x
-at_index xs ys i x e lt is = ap (λ zs. slice_get zs i) (sym e) ∙ slice_get_read xs (length xs) i x refl (omega (arith, lt, ap length e)) is
 
 pub same_tries : (ds es : List Dialer) → AreSameDialers ds es → tries_of es ≡ tries_of ds
 same_tries [] [] s = refl

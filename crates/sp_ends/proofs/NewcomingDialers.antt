@@ -1,8 +1,9 @@
 -- Dialers that have lost their links.
 use Rattle.std.proofs.Common.{◌<◌, ℕ, zero, suc, List, [], ◌∷◌, length, arith, set, get_or}
-use Rattle.sp_ends.specs.declared.dialer.Dialer.{Dialer}
-use Rattle.sp_ends.specs.Turning.{IsSameDialer, AreSameDialers}
-use Rattle.sp_ends.proofs.Serving.{dialer_both}
+use Rattle.end_parts.specs.declared.dialer.Dialer.{Dialer}
+use Rattle.end_parts.specs.DialerSteps.{IsSameDialer}
+use Rattle.sp_ends.specs.Freeing.{AreSameDialers}
+use Rattle.sp_ends.proofs.TurnParts.{dialer_both}
 
 -- one of them has lost its link
 pub one_lost : (xs ys : List Dialer) (i : ℕ) (y z : Dialer) → AreSameDialers xs ys → i < length ys → IsSameDialer (get_or ys i y) z → AreSameDialers xs (set ys i z)

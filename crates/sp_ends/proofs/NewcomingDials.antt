@@ -5,12 +5,16 @@ use Rattle.sp_base.specs.Views.{LinkView, NetView}
 use Rattle.sp_base.specs.Steps.{IsHandedOut}
 use Rattle.sp_base.specs.declared.addr.Scheme.{Scheme}
 use Rattle.sp_single.specs.Singles.{SingleView}
-use Rattle.sp_ends.specs.declared.dialer.Dialer.{Dialer}
-use Rattle.sp_ends.specs.Moments.{moment}
-use Rattle.sp_ends.specs.Standing.{Beginning, LinkEndsView, LinksStand, SameCounts, tries_of}
-use Rattle.sp_ends.specs.Turning.{InTurn, SameEnds, IsSameDialer, AreSameDialers, AsksNet, HasDialed, DialsOne, addrs_of}
-use Rattle.sp_ends.proofs.Serving.{same_dialers, dialers_both, dialer_both, ends_both, of_run_on}
-use Rattle.sp_ends.proofs.NewcomingAsks.{at_index, same_tries}
+use Rattle.end_parts.specs.declared.dialer.Dialer.{Dialer}
+use Rattle.end_parts.specs.DialMoments.{moment}
+use Rattle.end_parts.specs.EndViews.{Beginning, LinkEndsView}
+use Rattle.end_parts.specs.RunLinks.{LinksStand, SameCounts, tries_of}
+use Rattle.sp_ends.specs.EndsTurns.{InTurn, SameEnds, AsksNet, HasDialed, DialsOne, addrs_of}
+use Rattle.end_parts.specs.DialerSteps.{IsSameDialer}
+use Rattle.sp_ends.specs.Freeing.{AreSameDialers}
+use Rattle.sp_ends.proofs.TurnParts.{same_dialers, dialers_both, dialer_both, ends_both, of_run_on}
+use Rattle.end_parts.proofs.ListReads.{at_index}
+use Rattle.sp_ends.proofs.NewcomingAsks.{same_tries}
 
 -- ---- One dial
 

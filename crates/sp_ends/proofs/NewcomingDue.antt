@@ -6,13 +6,14 @@ use Rattle.std.proofs.lemmas.Bool.{cases_lt}
 use Rattle.sp_history.specs.declared.entry.Entry.{Entry}
 use Rattle.sp_history.specs.Found.{ticks}
 use Rattle.cat_play.specs.Spending.{spaced_from}
-use Rattle.sp_ends.specs.declared.dialer.Dialer.{Dialer}
-use Rattle.sp_ends.specs.Moments.{moment, IsDueAt}
-use Rattle.sp_ends.specs.Dialing.{IsDialed, IsDialable, next_from}
-use Rattle.sp_ends.specs.Freeing.{IsDue}
-use Rattle.sp_ends.specs.Turning.{IsSameDialer, AreSameDialers, HasDialed, DialsOne}
-use Rattle.sp_ends.proofs.Serving.{dialers_both}
-use Rattle.sp_ends.proofs.NewcomingMoments.{due_moment, moment_due, next_more, spaced_more, spaced_short, le_true, le_false, tries_up, one_try, short_of, through, at_least, no_ticks}
+use Rattle.end_parts.specs.declared.dialer.Dialer.{Dialer}
+use Rattle.end_parts.specs.DialMoments.{moment, IsDueAt}
+use Rattle.end_parts.specs.Dialing.{IsDialed, IsDialable, next_from}
+use Rattle.sp_ends.specs.Freeing.{IsDue, AreSameDialers}
+use Rattle.end_parts.specs.DialerSteps.{IsSameDialer}
+use Rattle.sp_ends.specs.EndsTurns.{HasDialed, DialsOne}
+use Rattle.sp_ends.proofs.TurnParts.{dialers_both}
+use Rattle.end_parts.proofs.NewcomingMoments.{due_moment, moment_due, next_more, spaced_more, spaced_short, le_true, le_false, tries_up, one_try, short_of, through, at_least, no_ticks}
 
 -- ---- A dialer in a turn
 

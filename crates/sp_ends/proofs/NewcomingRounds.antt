@@ -10,17 +10,20 @@ use Rattle.sp_history.proofs.Backing.{legal_allowed}
 use Rattle.sp_history.proofs.StandingEntries.{last_is_now}
 use Rattle.cat_play.specs.Spending.{CanRise, ticks_where, has_room, spaced_from}
 use Rattle.sp_single.specs.Singles.{SingleView}
-use Rattle.sp_ends.specs.declared.dialer.Dialer.{Dialer}
-use Rattle.sp_ends.specs.declared.newcomer.Newcomer.{Newcomer}
-use Rattle.sp_ends.specs.Moments.{moment, IsDueAt, is_due_at, is_due}
-use Rattle.sp_ends.specs.Dialing.{IsDialed, IsDialable, next_from}
-use Rattle.sp_ends.specs.Standing.{Beginning, LinkEndsView, NetStands, IsListener, sum_of, tries_of}
-use Rattle.sp_ends.specs.Freeing.{IsDue, FreesOne, GotBack, Redials, KnowsLinks}
-use Rattle.sp_ends.specs.Turning.{Quietly, NoLane, IsDry, InTurn, SameEnds, AreSameDialers, AsksNet, AsksDue, dues_of, DialsAt, AreYoung, AreWaitingBehind}
-use Rattle.sp_ends.proofs.LinkPlaces.{left_of, right_of}
-use Rattle.sp_ends.proofs.Serving.{same_dialers, dials_long, ends_none, ends_both}
-use Rattle.sp_ends.proofs.Turns.{quiet_both, quiet_none, quiet_ticks, quiet_where, lanes_both, lanes_none}
-use Rattle.sp_ends.proofs.NewcomingAsks.{at_index, ticks_last, listens_still}
+use Rattle.end_parts.specs.declared.dialer.Dialer.{Dialer}
+use Rattle.end_parts.specs.declared.newcomer.Newcomer.{Newcomer}
+use Rattle.end_parts.specs.DialMoments.{moment, IsDueAt, is_due_at, is_due}
+use Rattle.end_parts.specs.Dialing.{IsDialed, IsDialable, next_from}
+use Rattle.end_parts.specs.EndViews.{Beginning, LinkEndsView}
+use Rattle.end_parts.specs.RunLinks.{NetStands, IsListener, sum_of, tries_of}
+use Rattle.sp_ends.specs.Freeing.{IsDue, FreesOne, GotBack, Redials, KnowsLinks, AreSameDialers}
+use Rattle.end_parts.specs.SocketSteps.{Quietly, NoLane, IsDry}
+use Rattle.sp_ends.specs.EndsTurns.{InTurn, SameEnds, AsksNet, AsksDue, dues_of, DialsAt, AreYoung, AreWaitingBehind}
+use Rattle.end_parts.proofs.LinkPlaces.{left_of, right_of}
+use Rattle.sp_ends.proofs.TurnParts.{same_dialers, dials_long, ends_none, ends_both}
+use Rattle.end_parts.proofs.Turns.{quiet_both, quiet_none, quiet_ticks, quiet_where, lanes_both, lanes_none}
+use Rattle.end_parts.proofs.ListReads.{at_index}
+use Rattle.sp_ends.proofs.NewcomingAsks.{ticks_last, listens_still}
 use Rattle.sp_ends.proofs.NewcomingDials.{dials_tries}
 use Rattle.sp_ends.proofs.FreedDialers.{got_none, got_both, same_all, TurnedTo, turned_due, turned_not_due}
 use Rattle.sp_ends.proofs.DialedLinks.{knows_none, knows_next}

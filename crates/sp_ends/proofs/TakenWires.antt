@@ -14,12 +14,13 @@ use Rattle.sp_history.specs.Past.{past_of, up}
 use Rattle.sp_history.proofs.Backing.{legal_allowed}
 use Rattle.core_parts.specs.Wires.{IsDownWire}
 use Rattle.cat_play.specs.Recording.{lane_place, place_of}
-use Rattle.sp_ends.specs.Standing.{Beginning, HasCarried, IsAskedIn, LinksKept}
-use Rattle.sp_ends.specs.Turning.{IsLeftOf, shut_link, shut_under}
-use Rattle.sp_ends.proofs.LinkPlaces.{up_inside}
-use Rattle.sp_ends.proofs.Serving.{down_off}
-use Rattle.sp_ends.proofs.LeavingAll.{named_place}
-use Rattle.sp_ends.proofs.LeavingWires.{NamedSo, named_so, carried_by, at_link, at_lanes, LeftBy}
+use Rattle.end_parts.specs.EndViews.{Beginning}
+use Rattle.end_parts.specs.RunLinks.{HasCarried, IsAskedIn, LinksKept}
+use Rattle.end_parts.specs.ShutWires.{IsLeftOf, shut_link, shut_under}
+use Rattle.end_parts.proofs.LinkPlaces.{up_inside}
+use Rattle.sp_ends.proofs.TurnParts.{down_off}
+use Rattle.end_parts.proofs.LeavingAll.{named_place}
+use Rattle.end_parts.proofs.LeavingWires.{NamedSo, named_so, carried_by, at_link, at_lanes, LeftBy}
 
 -- what a link shows that a pipe had that is down
 pub record IsLeft (z : Setting) (start : Beginning) (net : NetView) (h : List (Turn Entry)) (p : ℕ) (link : LinkView) : Type 0 where

@@ -6,10 +6,11 @@ use Rattle.std.proofs.lemmas.List.{drop_all, take-append-le, drop-append-le}
 use Rattle.sp_spec.specs.Outside.{Rose}
 use Rattle.sp_base.specs.Views.{LinkView}
 use Rattle.link_opening.specs.Going.{WaitsFor}
-use Rattle.sp_ends.specs.declared.newcomer.Newcomer.{Newcomer}
-use Rattle.sp_ends.specs.declared.turn.NewcomerFate.{NewcomerFate}
-use Rattle.sp_ends.specs.declared.turn.NewcomerFate.TheVariants as fates
-use Rattle.sp_ends.specs.Turning.{IsOut, HasWaitedOn, IsOneOf, IsFirstOrNew, HasWaitedSince, AreWaitingBehind, FateHasWaited}
+use Rattle.end_parts.specs.declared.newcomer.Newcomer.{Newcomer}
+use Rattle.end_parts.specs.declared.greeting.NewcomerFate.{NewcomerFate}
+use Rattle.end_parts.specs.declared.greeting.NewcomerFate.TheVariants as fates
+use Rattle.end_parts.specs.NewcomerSteps.{IsOut, HasWaitedOn, FateHasWaited}
+use Rattle.sp_ends.specs.EndsTurns.{IsOneOf, IsFirstOrNew, HasWaitedSince, AreWaitingBehind}
 
 rose_once : (a b : ℕ) → Rose a b → 1 ≤ b
 rose_once a b r = omega (arith, r)
@@ -19,11 +20,6 @@ all_behind P [] y a p = (p, tt)
 all_behind P (x ∷ xs) y a p = (a.0, all_behind P xs y a.1 p)
 
 module _ {L : Type 0} (seen : L → LinkView) where
-  pub out_waited : (n : Newcomer L) (f : NewcomerFate L) → IsOut f → FateHasWaited seen n f
-  out_waited n (fates.Stays m) out = absurd out
-  out_waited n fates.Up out = tt
-  out_waited n (fates.Missed miss) out = tt
-
   -- one that was known before has waited since
   pub waited_since : (first : List (Newcomer L)) (opened : ℕ) (m n : Newcomer L) → IsFirstOrNew seen first opened m → HasWaitedOn seen m n → HasWaitedSince seen first opened n
   waited_since first opened m n (inl one) w = inl (m, one, w)

@@ -2,17 +2,13 @@
 use Rattle.std.proofs.Common.{◌≡◌, ◌≤◌, ◌++◌, ◌∷◌, ℕ, zero, suc, List, [], length, sym, subst, arith}
 use Rattle.std.specs.List.{AllByRecursion}
 use Rattle.std.proofs.lemmas.List.{drop_all}
-use Rattle.sp_ends.specs.declared.newcomer.Newcomer.{Newcomer}
-use Rattle.sp_ends.specs.declared.turn.NewcomerFate.{NewcomerFate}
-use Rattle.sp_ends.specs.declared.turn.NewcomerFate.TheVariants as fates
-use Rattle.sp_ends.specs.Turning.{IsYoung, AreYoung, FateIsYoung, IsOut}
+use Rattle.end_parts.specs.declared.newcomer.Newcomer.{Newcomer}
+use Rattle.end_parts.specs.declared.greeting.NewcomerFate.{NewcomerFate}
+use Rattle.end_parts.specs.declared.greeting.NewcomerFate.TheVariants as fates
+use Rattle.end_parts.specs.NewcomerSteps.{IsYoung, FateIsYoung, IsOut}
+use Rattle.sp_ends.specs.EndsTurns.{AreYoung}
 
 module _ {L : Type 0} (now : ℕ) where
-  pub out_young : (f : NewcomerFate L) → IsOut f → FateIsYoung now f
-  out_young (fates.Stays n) out = absurd out
-  out_young fates.Up out = tt
-  out_young (fates.Missed miss) out = tt
-
   -- none is left but those at the front
   pub young_none : (k : ℕ) (ns : List (Newcomer L)) → length ns ≤ k → AreYoung now k ns
   young_none k ns le = subst (AllByRecursion (IsYoung now)) (sym (drop_all k ns le)) tt

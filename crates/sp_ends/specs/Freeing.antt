@@ -1,22 +1,18 @@
 -- What becomes of dialers whose links come back, and of those that are dialed.
-use Rattle.std.specs.Prelude.{◌≡◌, ◌≤◌, ◌<◌, ◌+◌, ◌*◌, ◌⊎◌, ℕ, zero, suc, ⊤, List, [], ◌∷◌, Some, None}
+use Rattle.std.specs.Prelude.{◌≡◌, ◌≤◌, ◌<◌, ◌+◌, ◌*◌, ◌⊎◌, ℕ, ⊤, List, [], ◌∷◌, Some, None, zero, suc}
 use Rattle.std.specs.List.{AllByRecursion}
 use Rattle.std.specs.FinMap.{get}
-use Rattle.sp_base.specs.Views.{LinkView, NetView}
-use Rattle.sp_base.specs.Steps.{AfterGiveBack}
-use Rattle.sp_ends.specs.Moments.{moment, IsDueAt}
-use Rattle.sp_ends.specs.declared.dialer.Dialer.{Dialer}
-use Rattle.sp_ends.specs.declared.turn.NewcomerFate.{NewcomerFate}
-use Rattle.sp_ends.specs.declared.turn.NewcomerFate.TheVariants as fates
+use Rattle.sp_base.specs.Views.{NetView}
+use Rattle.sp_history.specs.Past.{now}
+use Rattle.end_parts.specs.declared.dialer.Dialer.{Dialer}
+use Rattle.end_parts.specs.DialMoments.{IsDueAt}
+use Rattle.end_parts.specs.DialerSteps.{IsSameDialer, IsFree, IsFreed}
 
--- the dialer has no link, and may dial after the pause
-abbrev pub IsFree : ℕ → Dialer → Type 0
-IsFree now d = (d.place ≡ None) × (d.next ≡ moment (now + 100))
-
--- the dialer whose link has this place is free; any other is the same
-pub record IsFreed (now place : ℕ) (old new : Dialer) : Type 0 where
-  pub lost : old.place ≡ Some place → IsFree now new
-  pub others : (old.place ≡ Some place → ⊥) → new ≡ old
+-- one by one
+abbrev pub AreSameDialers : List Dialer → List Dialer → Type 0
+AreSameDialers [] [] = ⊤
+AreSameDialers (d ∷ ds) (e ∷ es) = IsSameDialer d e × AreSameDialers ds es
+AreSameDialers _ _ = ⊥
 
 -- one by one
 abbrev pub AreFreed : ℕ → ℕ → List Dialer → List Dialer → Type 0
@@ -25,19 +21,6 @@ AreFreed now place (d ∷ ds) (e ∷ es) = IsFreed now place d e × AreFreed now
 AreFreed now place _ _ = ⊥
 
 -- ---- Links that come back
-
--- the link with this place is back
-pub record GivesOneBack (place : ℕ) (old new : NetView) : Type 0 where
-  pub link : LinkView
-  pub is_place : link.place ≡ place
-  pub inside : place < old.opened
-  pub back : AfterGiveBack link old new
-
--- a link is back where it was missed
-abbrev pub FateBack : {L : Type 0} → NewcomerFate L → ℕ → NetView → NetView → Type 0
-FateBack (fates.Stays n) place old new = new.back ≡ old.back
-FateBack fates.Up place old new = new.back ≡ old.back
-FateBack (fates.Missed miss) place old new = GivesOneBack place old new
 
 -- its link isn't back, where it was not
 abbrev pub KeepsLink : NetView → NetView → Dialer → Type 0

@@ -1,8 +1,5 @@
-pub mod Moments
-pub mod Dialing
-pub mod Standing
-pub mod Adding
-pub mod Turning
+pub mod AddedEnds
 pub mod Freeing
-pub mod Leaving
-pub mod Calling
+pub mod EndsTurns
+pub mod NameTurns
+pub mod LeftLinks

@@ -1,25 +1,15 @@
 //! All ends of a run.
-ghost use Rattle.std.specs.Prelude.{◌≡◌, [], true, IfOk};
+ghost use Rattle.std.specs.Prelude.{◌≡◌, true, IfOk};
 ghost use Rattle.sp_base.specs.Addresses.{is_dialable, is_linked};
-ghost use Rattle.sp_ends.specs.Adding.{ListensAlso, DialsAlso};
+ghost use Rattle.end_parts.specs.EndViews.{no_ends};
+ghost use Rattle.sp_ends.specs.AddedEnds.{ListensAlso, DialsAlso};
 
 use crate::links::LinkEnds;
-use crate::names::NameEnds;
+use end_parts::{EndError, NameEnds};
 use sp_base::{Addr, Link, Net, NoMemory, Role};
 use sp_lane::Inproc;
 use std::alloc::Global;
 use std::marker::Model;
-
-/// Why an end could not be added.
-#[derive(Clone, Copy, Debug, PartialEq, Eq)]
-pub enum EndError {
-    /// The net failed to listen.
-    Fault,
-    /// The name is listened on within the process.
-    InUse,
-    /// Out of memory.
-    NoMemory,
-}
 
 /// Addresses over links of a net that are listened at and dialed, the links that are being opened, and names within the
 /// process that are listened on and dialed. Its room for links is taken when it is made.
@@ -29,7 +19,7 @@ pub struct Ends<L: Link> {
 }
 
 impl<L: Link> Model for Ends<L> {
-    ghost use Rattle.sp_ends.specs.Standing.{EndsView};
+    ghost use Rattle.end_parts.specs.EndViews.{EndsView};
 
     ghost Value = { EndsView L };
 
@@ -39,7 +29,7 @@ impl<L: Link> Model for Ends<L> {
 impl<L: Link> Ends<L> {
     /// No end. The key of the n-th opening over WebSocket that is dialed is made from `dice` + n, n from 0 on.
     pub fn new(alloc: Global, role: Role, dice: u32) -> Result<Ends<L>, NoMemory>
-        ensures { IfOk result (λ e. e ≡ record { links = record { role = role; dice = dice; asked = 0; listeners = []; dialers = []; newcomers = [] }; names = record { names = []; callers = [] } }) }
+        ensures { IfOk result (λ e. e ≡ no_ends role dice) }
     {
         Ok(Ends {
             links: LinkEnds::new(alloc, role, dice)?,

@@ -9,19 +9,15 @@
 //! Names within the process are dialed and asked after that. What they bring is a lane, which needs no greeting: it
 //! becomes a pipe in the same turn, at a place that no link has, or it is shut, which tells the other half.
 //!
-//! `newcomer` has one link and its greetings, `dialer` one address that is dialed, `links` all ends over links; `caller`
-//! has one name that is dialed, `names` all names; `ends` both; `turn` what one turn does, and `leave` how it ends.
+//! One link, one dialer and the names stand in `end_parts`. `links` has all ends over links, `ends` these and the names;
+//! `turn` what one turn does, and `leave` how it ends.
 #![tactic(auto)]
 
-mod caller;
-mod dialer;
 mod ends;
 mod leave;
 mod links;
-mod listener;
-mod names;
-mod newcomer;
 mod turn;
 
-pub use ends::{EndError, Ends};
-pub use turn::{EndsTurn, MAX_BODY};
+pub use end_parts::{EndError, MAX_BODY};
+pub use ends::Ends;
+pub use turn::EndsTurn;

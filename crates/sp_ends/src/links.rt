@@ -1,14 +1,12 @@
 //! The ends of a run that are reached over links of a net.
-ghost use Rattle.std.specs.Prelude.{◌≡◌, [], true, IfOk};
+ghost use Rattle.std.specs.Prelude.{◌≡◌, true, IfOk};
 ghost use Rattle.sp_base.specs.Addresses.{is_dialable, is_linked};
-ghost use Rattle.sp_ends.specs.Adding.{ListensLink, DialsLink};
+ghost use Rattle.end_parts.specs.EndViews.{no_links};
+ghost use Rattle.sp_ends.specs.AddedEnds.{ListensLink, DialsLink};
 ghost use Rattle.sp_ends.specs.Freeing.{AreFreed};
-ghost use Rattle.sp_ends.specs.Turning.{SameButPlaces};
+ghost use Rattle.sp_ends.specs.EndsTurns.{SameButPlaces};
 
-use crate::dialer::Dialer;
-use crate::ends::EndError;
-use crate::listener::Listener;
-use crate::newcomer::Newcomer;
+use end_parts::{Dialer, EndError, Listener, Newcomer};
 use link_opening::copy_of;
 use sp_base::{Addr, Link, Listened, Net, NoMemory, Role, Tick};
 use std::alloc::Global;
@@ -39,7 +37,7 @@ pub(crate) struct LinkEnds<L: Link> {
 impl<L: Link> Model for LinkEnds<L> {
     ghost use Rattle.std.specs.Prelude.{◌≤◌};
     ghost use Rattle.std.specs.VecDeque.{deque_capacity};
-    ghost use Rattle.sp_ends.specs.Standing.{LinkEndsView};
+    ghost use Rattle.end_parts.specs.EndViews.{LinkEndsView};
 
     ghost Value = { LinkEndsView L };
 
@@ -51,7 +49,7 @@ impl<L: Link> Model for LinkEnds<L> {
 impl<L: Link> LinkEnds<L> {
     /// No end. The key of the n-th opening over WebSocket that is dialed is made from `dice` + n, n from 0 on.
     pub fn new(alloc: Global, role: Role, dice: u32) -> Result<LinkEnds<L>, NoMemory>
-        ensures { IfOk result (λ e. e ≡ record { role = role; dice = dice; asked = 0; listeners = []; dialers = []; newcomers = [] }) }
+        ensures { IfOk result (λ e. e ≡ no_links role dice) }
     {
         Ok(LinkEnds {
             alloc,

@@ -10,7 +10,7 @@ use Rattle.sp_history.specs.declared.entry.Ending.TheVariants.{Gone}
 use Rattle.sp_history.specs.declared.entry.Entry.{Entry}
 use Rattle.sp_history.specs.declared.setting.Setting.{Setting}
 use Rattle.sp_history.specs.Options.{usual}
-use Rattle.sp_history.specs.Past.{past_of, ends, pending}
+use Rattle.sp_history.specs.Past.{past_of, ends, pending, now}
 use Rattle.sp_history.specs.declared.parts.Begun.{Begun}
 use Rattle.sp_history.specs.Legal.{Legal}
 use Rattle.sp_history.specs.Settled.{Settled}
@@ -28,6 +28,15 @@ use Rattle.sp_socket.specs.Passes.{SocketName, PassView, ListView, IsOf}
 pub record SingleView : Type 0 where
   pub setting : Setting
   pub seen : List (Turn Entry)
+
+-- its history is legal and settled
+pub record IsSound (s : SingleView) : Type 0 where
+  pub legal : Legal s.setting s.seen
+  pub settled : Settled s.setting s.seen
+
+-- the moment is that of the history
+abbrev pub IsNow : ℕ → SingleView → Type 0
+IsNow t s = t ≡ now (past_of s.seen)
 
 -- the setting of a pass; one of no socket has none, and any stands for it
 abbrev pub setting_in : Option CoreLabel → Setting

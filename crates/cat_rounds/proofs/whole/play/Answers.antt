@@ -1,6 +1,6 @@
 use Rattle.std.proofs.Common.{sym, ap, ◌∙◌, subst, List}
 use Rattle.std.specs.Option.{option_map}
-use Rattle.sp_ends.specs.Standing.{EndsView}
+use Rattle.end_parts.specs.EndViews.{EndsView}
 use Rattle.cat_text.specs.declared.plan.End.{End}
 use Rattle.cat_play.specs.declared.ends.Status.{Status}
 use Rattle.link_opening.specs.Origins.{run_ways}

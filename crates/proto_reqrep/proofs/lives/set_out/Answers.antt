@@ -11,6 +11,3 @@ returns-in-None-clause-held c = with_none (is_live_on c.args.c) (sent_at c.args.
 
 pub returns-in-Some-clause-held : goal.returns-in-Some-clause-held
 returns-in-Some-clause-held c = ap (λ (s : Spot _). held (slice_set c.args.list.now c.in-Some.i s)) c.send_spot.ensures ∙ changed_there (is_live_on c.args.c) (sent_at c.args.out) c.args.list.now c.in-Some.i c.index-list-i.result (sym c.requires ∙ c.in-Some.is)
-
-pub returns-in-Some-clause-front : goal.returns-in-Some-clause-front
-returns-in-Some-clause-front c = λ n. ap (λ (s : Spot _). length (held (take n (slice_set c.args.list.now c.in-Some.i s)))) c.send_spot.ensures ∙ front_same (sent_at c.args.out) n c.args.list.now c.in-Some.i c.index-list-i.result

@@ -11,6 +11,3 @@ returns-in-None-clause-held c = with_none (waits_for c.args.id) (with_kept c.arg
 
 pub returns-in-Some-clause-held : goal.returns-in-Some-clause-held
 returns-in-Some-clause-held c = ap (λ (s : Spot _). held (slice_set c.args.list.now c.in-Some.i s)) c.answer_spot.ensures ∙ changed_there (waits_for c.args.id) (with_kept c.args.kept) c.args.list.now c.in-Some.i c.index-list-i.result (sym c.requires ∙ c.in-Some.is)
-
-pub returns-in-Some-clause-front : goal.returns-in-Some-clause-front
-returns-in-Some-clause-front c = λ n. ap (λ (s : Spot _). length (held (take n (slice_set c.args.list.now c.in-Some.i s)))) c.answer_spot.ensures ∙ front_same (with_kept c.args.kept) n c.args.list.now c.in-Some.i c.index-list-i.result

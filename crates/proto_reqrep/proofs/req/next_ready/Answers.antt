@@ -1,6 +1,7 @@
 use Rattle.std.proofs.Common.{◌∙◌, ap, sym, refl}
 use Rattle.proto_requests.specs.Hints.{HintsView}
-use Rattle.proto_reqrep.proofs.Hinted.{ready_dropped, reply_on, idle_ready, shorter, no_head}
+use Rattle.proto_reqrep.proofs.Hinted.{ready_dropped, reply_on, idle_ready}
+use Rattle.proto_requests.proofs.EndedOperations.{shorter, no_head}
 use Rattle.proto_reqrep.proofs.req.next_ready.Goals as goal
 
 pub loop-c-init : goal.loop-c-init
@@ -13,7 +14,7 @@ pub loop-c-preserved : goal.loop-c-preserved
 loop-c-preserved c =
     record {
       ready = λ r. ready_dropped c.loop-c.ready c.drop_first.new.self c.args.live.now.items c.args.waiting.now.items c.in-Some.c (sym c.in-Some.is ∙ c.first.ensures) c.drop_first.ensures c.in-None.ensures (c.loop-c.invariant.ready r);
-      whole = ap (λ (v : HintsView). v.whole) c.drop_first.ensures ∙ c.loop-c.invariant.whole;
+      whole = ap (λ (v : HintsView _). v.whole) c.drop_first.ensures ∙ c.loop-c.invariant.whole;
     }
 
 pub returns-clause-none : goal.returns-clause-none

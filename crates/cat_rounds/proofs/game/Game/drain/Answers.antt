@@ -1,5 +1,5 @@
 use Rattle.std.proofs.Common.{sym, ◌∙◌, ◌≡◌, None, true, false}
-use Rattle.cat_rounds.specs.Going.{has_more}
+use Rattle.cat_rounds.specs.RunRounds.{has_more}
 use Rattle.sp_base.specs.Views.{SinkView}
 use Rattle.cat_rounds.proofs.Rounding.{serve_along, serve_texts, may_tick_at_end, through}
 use Rattle.cat_rounds.proofs.Late.{serve_stalls, something_waits}

@@ -2,8 +2,8 @@ use Rattle.std.proofs.Common.{◌≡◌, ◌<◌, ◌+◌, ◌++◌, ◌∙◌, 
 use Rattle.std.proofs.lemmas.List.{take_all}
 use Rattle.cat_play.specs.Spending.{listens_of, dials_of}
 use Rattle.sp_single.specs.Singles.{SingleView}
-use Rattle.cat_rounds.specs.declared.player.Player.{Player}
-use Rattle.cat_rounds.specs.Starting.{CanSubscribe}
+use Rattle.cat_player.specs.declared.player.Player.{Player}
+use Rattle.cat_rounds.specs.SubscribedTopics.{CanSubscribe}
 use Rattle.sp_lane.specs.Registry.{AreApart}
 use Rattle.cat_rounds.specs.Built.{IsEndOf, listen_names}
 use Rattle.cat_rounds.proofs.Following.{adds_on, refuses_on, refused, grows, name_one, listens_next, dials_next, names_next, followed_on, unfollowed, net_fault, in_use_twice, end_at, as_many, rose_on}

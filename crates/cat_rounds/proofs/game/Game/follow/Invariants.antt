@@ -1,8 +1,8 @@
 use Rattle.std.proofs.Common.{◌≡◌, ◌≤◌, ◌+◌, take, false, length}
 use Rattle.std.specs.List.{AllByRecursion}
-use Rattle.sp_ends.specs.Standing.{Beginning}
+use Rattle.end_parts.specs.EndViews.{Beginning}
 use Rattle.cat_play.specs.Spending.{listens_of, dials_of}
-use Rattle.cat_rounds.specs.Going.{RunStands}
+use Rattle.cat_rounds.specs.RunRounds.{RunStands}
 use Rattle.sp_lane.specs.Registry.{names, AreApart}
 use Rattle.cat_rounds.specs.Built.{IsEndOf, listen_names}
 use Rattle.cat_rounds.proofs.game.Game.follow.Given as goal

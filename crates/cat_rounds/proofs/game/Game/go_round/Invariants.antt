@@ -1,11 +1,11 @@
 use Rattle.std.proofs.Common.{◌≡◌, ◌≤◌, ◌+◌, ℕ, List, Option, false, length}
-use Rattle.sp_ends.specs.Standing.{Beginning}
+use Rattle.end_parts.specs.EndViews.{Beginning}
 use Rattle.sp_history.specs.Past.{past_of}
 use Rattle.sp_history.specs.Found.{ticks}
-use Rattle.sp_ends.specs.Turning.{SameEnds}
-use Rattle.cat_rounds.specs.Lasting.{HasPrinted, MayTick}
-use Rattle.cat_rounds.specs.Stepping.{SameScript}
-use Rattle.cat_rounds.specs.Going.{RunStands, past_now}
+use Rattle.sp_ends.specs.EndsTurns.{SameEnds}
+use Rattle.cat_player.specs.Lasting.{HasPrinted, MayTick}
+use Rattle.cat_player.specs.PlayerSteps.{SameScript}
+use Rattle.cat_rounds.specs.RunRounds.{RunStands, past_now}
 use Rattle.cat_rounds.specs.Late.{IsLateBy}
 use Rattle.cat_rounds.proofs.game.Game.go_round.Given as goal
 

@@ -1,14 +1,13 @@
-use Rattle.std.proofs.Common.{◌≡◌, sym, ◌∙◌, ap, subst, refl, inl, inr}
+use Rattle.std.proofs.Common.{◌≡◌, sym, ◌∙◌, ap, subst, refl, inl, inr, false}
 use Rattle.sp_spec.specs.Outside.{grown}
 use Rattle.cat_play.specs.Scripts.{joined}
-use Rattle.std.proofs.Common.{false}
-use Rattle.sp_ends.specs.Turning.{IsDry}
-use Rattle.cat_rounds.specs.Lasting.{HasPrinted}
+use Rattle.end_parts.specs.SocketSteps.{IsDry}
+use Rattle.cat_player.specs.Lasting.{HasPrinted}
 use Rattle.cat_rounds.proofs.WholeRounds.{opens, quiet_stands, quiet_texts, quiet_ticks, on_ticks, run_on, names_then, round_stands, round_prints, cut_nowhere}
-use Rattle.cat_rounds.specs.declared.player.Player.{Player}
+use Rattle.cat_player.specs.declared.player.Player.{Player}
 use Rattle.cat_rounds.specs.declared.rounds.Going.TheVariants as goings
 use Rattle.cat_rounds.proofs.Late.{late_tick, late_quiet, late_on, late_then, ends_late, goes_early, drains_late, open_or}
-use Rattle.cat_rounds.specs.Going.{GoesTo}
+use Rattle.cat_rounds.specs.RunRounds.{GoesTo}
 use Rattle.cat_rounds.specs.Resting.{MovesStill}
 use Rattle.cat_rounds.proofs.Resting.{before_play, round_moves, drained_moves}
 use Rattle.cat_rounds.proofs.game.Game.round.Goals as goal

@@ -1,6 +1,6 @@
 use Rattle.std.proofs.Common.{◌≡◌, ◌<◌, false}
-use Rattle.cat_rounds.specs.Lasting.{HasServed, HasPlayed}
-use Rattle.cat_rounds.specs.Stepping.{KnowsPipes}
+use Rattle.cat_player.specs.Lasting.{HasServed, HasPlayed}
+use Rattle.cat_player.specs.PlayerSteps.{KnowsPipes}
 use Rattle.cat_rounds.proofs.Rounding.{Along}
 use Rattle.cat_rounds.proofs.game.Game.steps.Given as goal
 

@@ -1,5 +1,4 @@
-use Rattle.cat_rounds.proofs.Rounding.{serve_along, goes_then}
-use Rattle.cat_rounds.proofs.Pipes.{serve_knows}
+use Rattle.cat_rounds.proofs.Rounding.{serve_along, goes_then, serve_knows}
 use Rattle.cat_rounds.proofs.Resting.{swept_more}
 use Rattle.cat_rounds.proofs.game.Game.sweep.Goals as goal
 

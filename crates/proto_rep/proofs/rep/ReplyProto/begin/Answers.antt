@@ -1,7 +1,7 @@
 use Rattle.std.proofs.Common.{refl}
 use Rattle.sp_proto.specs.Kinds.{entry_act}
 use Rattle.proto_rep.specs.declared.rep.Reply.{Reply}
-use Rattle.proto_rep.specs.declared.rep.ReplyOperation.{ReplyOperation}
+use Rattle.proto_rep.specs.declared.operations.ReplyOperation.{ReplyOperation}
 use Rattle.proto_rep.proofs.Replied.{begun_ties}
 use Rattle.proto_rep.proofs.rep.ReplyProto.begin.Goals as goal
 
@@ -26,7 +26,8 @@ returns-clause-begun c =
     c.unstore-source.ensures.result
     c.unstore-source.ensures.stored
     c.unstore-source.ensures.ctxs
-    c.push.ensures.items
+    (c.push.ensures.more h.waits h.holds)
+    c.push.ensures.passed
     refl
     refl
     (refl, refl, refl)

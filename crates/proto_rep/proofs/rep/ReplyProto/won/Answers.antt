@@ -1,27 +1,28 @@
-use Rattle.std.proofs.Common.{refl, arith, ◌∙◌, sym, ap, subst, ◌≡◌, length}
+use Rattle.std.proofs.Common.{refl, arith, ◌∙◌, sym, ap, subst, ◌≡◌}
 use Rattle.proto_requests.specs.Ports.{free_count}
+use Rattle.proto_rep.specs.Operations.{count, room}
 use Rattle.proto_rep.specs.Reps.{Gives}
 use Rattle.sp_history.specs.declared.parts.Begun.{Begun}
 use Rattle.proto_rep.specs.declared.rep.Reply.{Reply}
-use Rattle.proto_rep.proofs.RepEnds.{given_ties, sent_ties, dropped_ties, goes_out, taken, none_taken, recv_isnt_send, recv_isnt_answer, send_isnt_recv}
+use Rattle.proto_rep.proofs.RepEnds.{all_apart, given_ties, sent_ties, dropped_ties, goes_out, taken, none_taken, recv_isnt_send, recv_isnt_answer, send_isnt_recv}
 use Rattle.proto_rep.proofs.Replied.{never_floods}
 use Rattle.proto_rep.proofs.rep.ReplyProto.won.Goals as goal
 
 pub returns-in-None-clause-given : goal.returns-in-None-clause-given
-returns-in-None-clause-given c = λ t s m o l h k. none_taken c.args.self.now t c.args.op s h k.pending c.in-None.ensures.found
+returns-in-None-clause-given c = λ t s m o l h k. none_taken c.args.self.now t c.args.op s h k.pending (c.in-None.ensures.found h.waits (all_apart c.args.self.now t h) h.holds)
 
 pub returns-in-None-clause-flooded : goal.returns-in-None-clause-flooded
 returns-in-None-clause-flooded c = λ t s o l h p f. never_floods c.args.self.now t h f
 
 pub returns-in-None-clause-dropped : goal.returns-in-None-clause-dropped
-returns-in-None-clause-dropped c = λ t s o l h k. none_taken c.args.self.now t c.args.op s h k.pending c.in-None.ensures.found
+returns-in-None-clause-dropped c = λ t s o l h k. none_taken c.args.self.now t c.args.op s h k.pending (c.in-None.ensures.found h.waits (all_apart c.args.self.now t h) h.holds)
 
 pub returns-in-None-clause-sent : goal.returns-in-None-clause-sent
-returns-in-None-clause-sent c = λ t p s b o l h k. none_taken c.args.self.now t c.args.op s h k.pending c.in-None.ensures.found
+returns-in-None-clause-sent c = λ t p s b o l h k. none_taken c.args.self.now t c.args.op s h k.pending (c.in-None.ensures.found h.waits (all_apart c.args.self.now t h) h.holds)
 
 pub returns-in-Some-answer-clause-given : goal.returns-in-Some-answer-clause-given
 returns-in-Some-answer-clause-given c =
-    λ t s m o l h k. send_isnt_recv t c.args.op s m c.in-Some.w c.in-Some-answer.r k (taken c.args.self.now t c.args.op s c.in-Some.w h k.pending c.in-Some.ensures.found) c.in-Some-answer.is
+    λ t s m o l h k. send_isnt_recv t c.args.op s m c.in-Some.w c.in-Some-answer.r k (taken c.args.self.now t c.args.op s c.in-Some.w h k.pending (c.in-Some.ensures.found h.waits (all_apart c.args.self.now t h) h.holds)) c.in-Some-answer.is
 
 pub returns-in-Some-answer-clause-flooded : goal.returns-in-Some-answer-clause-flooded
 returns-in-Some-answer-clause-flooded c = λ t s o l h p f. never_floods c.args.self.now t h f
@@ -31,8 +32,8 @@ returns-in-Some-answer-clause-dropped c =
     λ t s o l h k.
     let was = c.args.self.now in
     let is : Reply = record { alloc = was.alloc; role = was.role; raw = was.raw; options = was.options; ports = was.ports; kept = was.kept; waiting = c.take.new.self; places = was.places } in (
-      dropped_ties was is t c.args.op h c.take.ensures.rest refl refl refl (refl, refl, refl),
-      (omega (arith, c.in-Some.ensures.len), omega (arith, c.in-Some.ensures.room)),
+      dropped_ties was is t c.args.op h (c.take.ensures.rest h.waits (all_apart was t h) h.holds) c.take.ensures.passed refl refl refl (refl, refl, refl),
+      (omega (arith, (c.in-Some.ensures.served h.waits h.holds).0), (c.in-Some.ensures.served h.waits h.holds).1),
     )
 
 pub returns-in-Some-answer-clause-sent : goal.returns-in-Some-answer-clause-sent
@@ -40,9 +41,9 @@ returns-in-Some-answer-clause-sent c =
     λ t p s b o l h k.
     let was = c.args.self.now in
     let is : Reply = record { alloc = was.alloc; role = was.role; raw = was.raw; options = was.options; ports = was.ports; kept = was.kept; waiting = c.take.new.self; places = was.places } in (
-      c.outward.ensures ∙ rw c.in-Some-answer.is (goes_out was t c.args.op p s b c.in-Some.w c.in-Some-answer.r h k (sym c.in-Some.ensures.found) (taken was t c.args.op s c.in-Some.w h k.pending c.in-Some.ensures.found) c.in-Some-answer.is),
-      sent_ties was is t c.args.op p b h c.take.ensures.rest refl refl refl (refl, refl, refl),
-      (omega (arith, c.in-Some.ensures.len), omega (arith, c.in-Some.ensures.room)),
+      c.outward.ensures ∙ rw c.in-Some-answer.is (goes_out was t c.args.op p s b c.in-Some.w c.in-Some-answer.r h k (sym (c.in-Some.ensures.found h.waits (all_apart was t h) h.holds)) (taken was t c.args.op s c.in-Some.w h k.pending (c.in-Some.ensures.found h.waits (all_apart was t h) h.holds)) c.in-Some-answer.is),
+      sent_ties was is t c.args.op p b h (c.take.ensures.rest h.waits (all_apart was t h) h.holds) c.take.ensures.passed refl refl refl (refl, refl, refl),
+      (omega (arith, (c.in-Some.ensures.served h.waits h.holds).0), (c.in-Some.ensures.served h.waits h.holds).1),
     )
 
 pub returns-in-None-answer-clause-given : goal.returns-in-None-answer-clause-given
@@ -51,14 +52,15 @@ returns-in-None-answer-clause-given c =
     let was = c.args.self.now in
     let is = c.give.new.self in
     let same = c.give.ensures.same in
-    let g : Gives s.ctx c.give.result was is = subst (λ (q : Begun). Gives q.ctx c.give.result was is) (taken was t c.args.op s c.in-Some.w h k.pending c.in-Some.ensures.found) c.give.ensures.given in
-    let given = given_ties was is t c.args.op s m c.give.result g.0 h k g.1 (ap (λ q. q.items) same.4 ∙ c.take.ensures.rest) same.3 (same.0, same.1, same.2) in
-    let long : length is.waiting.items ≡ length c.take.new.self.items = ap (λ q. length q.items) same.4 in
-    let wide : is.waiting.room ≡ c.take.new.self.room = ap (λ q. q.room) same.4 in
+    let g : Gives s.ctx c.give.result was is = subst (λ (q : Begun). Gives q.ctx c.give.result was is) (taken was t c.args.op s c.in-Some.w h k.pending (c.in-Some.ensures.found h.waits (all_apart was t h) h.holds)) c.give.ensures.given in
+    let given = given_ties was is t c.args.op s m c.give.result g.0 h k g.1 (rw same.4 (c.take.ensures.rest h.waits (all_apart was t h) h.holds)) (rw same.4 c.take.ensures.passed) same.3 (same.0, same.1, same.2) in
+    let long : count is.waiting ≡ count c.take.new.self = ap count same.4 in
+    let wide : room is.waiting ≡ room c.take.new.self = ap room same.4 in
+    let served = c.in-Some.ensures.served h.waits h.holds in
     let free : free_count is.ports.items ≡ free_count was.ports.items = ap (λ v. free_count v.items) same.3 in (
       given.0,
       given.1,
-      (omega (arith, long, free, c.in-Some.ensures.len), omega (arith, wide, c.in-Some.ensures.room)),
+      (omega (arith, long, free, served.0), omega (arith, wide, served.1)),
     )
 
 pub returns-in-None-answer-clause-flooded : goal.returns-in-None-answer-clause-flooded
@@ -66,8 +68,8 @@ returns-in-None-answer-clause-flooded c = λ t s o l h p f. never_floods c.args.
 
 pub returns-in-None-answer-clause-dropped : goal.returns-in-None-answer-clause-dropped
 returns-in-None-answer-clause-dropped c =
-    λ t s o l h k. recv_isnt_answer t c.args.op s c.in-Some.w k (taken c.args.self.now t c.args.op s c.in-Some.w h k.pending c.in-Some.ensures.found) c.in-None-answer.is
+    λ t s o l h k. recv_isnt_answer t c.args.op s c.in-Some.w k (taken c.args.self.now t c.args.op s c.in-Some.w h k.pending (c.in-Some.ensures.found h.waits (all_apart c.args.self.now t h) h.holds)) c.in-None-answer.is
 
 pub returns-in-None-answer-clause-sent : goal.returns-in-None-answer-clause-sent
 returns-in-None-answer-clause-sent c =
-    λ t p s b o l h k. recv_isnt_send c.args.self.now t c.args.op p s b c.in-Some.w k (taken c.args.self.now t c.args.op s c.in-Some.w h k.pending c.in-Some.ensures.found) c.in-None-answer.is
+    λ t p s b o l h k. recv_isnt_send c.args.self.now t c.args.op p s b c.in-Some.w k (taken c.args.self.now t c.args.op s c.in-Some.w h k.pending (c.in-Some.ensures.found h.waits (all_apart c.args.self.now t h) h.holds)) c.in-None-answer.is

@@ -38,16 +38,13 @@ invariant_of-self c =
     let ts = c.set_out.new.list in
     let same : (with_items v ts).items ≡ ts = items_are v ts (c.set_out.ensures.len ∙ ap length d) in
     let whole : held (with_items v ts).items ≡ with_found P f (held ss) = ap held same ∙ c.set_out.ensures.held ∙ ap (λ (xs : List (Spot _)). with_found P f (held xs)) d in
-    let long = ap length same ∙ c.set_out.ensures.len ∙ ap length d in
-    let bound = c.self.invariant.bound in
     record {
       by_number = λ h. found_same P f c.self.inside.by_ctx c.self.inside.by_id (held ss) _ (λ x. refl) (λ x. refl) (c.self.invariant.by_number h) whole;
       number = c.self.invariant.number ∙ sym (ap length whole ∙ length_same P f (held ss));
-      bound = omega (arith, long, bound);
     }
 
-pub returns-clause-items : goal.returns-clause-items
-returns-clause-items c =
+pub returns : goal.returns
+returns c =
     let P = is_live_on c.args.c in
     let f = sent_at c.args.out in
     let v = c.self.inside.list in
@@ -59,20 +56,4 @@ returns-clause-items c =
     let ts = c.set_out.new.list in
     let same : (with_items v ts).items ≡ ts = items_are v ts (c.set_out.ensures.len ∙ ap length d) in
     let whole : held (with_items v ts).items ≡ with_found P f (held ss) = ap held same ∙ c.set_out.ensures.held ∙ ap (λ (xs : List (Spot _)). with_found P f (held xs)) d in
-    whole ∙ ap (λ (w : LivesView). with_found P f w.items) c.self.view_is
-
-pub returns-clause-calm : goal.returns-clause-calm
-returns-clause-calm c =
-    let P = is_live_on c.args.c in
-    let f = sent_at c.args.out in
-    let v = c.self.inside.list in
-    let ss = v.items in
-    let e = c.deref.ensures.value in
-    let d = c.deref_mut.ensures.value in
-    let index : c.self.inside.is_indexed ≡ true → IsIndexed live_ctx (is_known c.self.inside.by_ctx) (held c.deref.result.now) = λ h. subst (λ (xs : List (Spot _)). IsIndexed live_ctx (is_known c.self.inside.by_ctx) (held xs)) (sym e) (c.self.invariant.by_number h).by_ctx in
-    let at : c.ctx_place-place.result ≡ position (holds P) ss = c.ctx_place-place.ensures index ∙ ap (position (holds P)) e in
-    let ts = c.set_out.new.list in
-    let same : (with_items v ts).items ≡ ts = items_are v ts (c.set_out.ensures.len ∙ ap length d) in
-    let whole : held (with_items v ts).items ≡ with_found P f (held ss) = ap held same ∙ c.set_out.ensures.held ∙ ap (λ (xs : List (Spot _)). with_found P f (held xs)) d in
-    let n = c.self.inside.skipped in
-    ap (λ (xs : List (Spot _)). length (held (take n xs))) same ∙ c.set_out.ensures.front n ∙ ap (λ (xs : List (Spot _)). length (held (take n xs))) d ∙ ap (λ (w : LivesView). w.calm) c.self.view_is
+    record { items = whole ∙ ap (λ (w : LivesView). with_found P f w.items) c.self.view_is }

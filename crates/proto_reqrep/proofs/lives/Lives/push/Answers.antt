@@ -25,34 +25,19 @@ invariant_of-self c =
     let len = v.ok.0 in
     let cap = v.ok.1 in
     let small = v.small in
-    let long = ap length e ∙ length_more ss s in
     let more = ap length whole ∙ length_more (held ss) x in
-    let bound = c.self.invariant.bound in
     let alive = c.saturating_add-self-inside.ensures in
     record {
       by_number = λ h. found_more c.self.inside.next c.self.inside.by_ctx c.self.inside.by_id c.know-self-inside.new.by_ctx c.know-self-inside.new.by_id (held ss) (held ys) x (c.self.invariant.by_number (c.know-self-inside.ensures.all h)) (c.know-self-inside.ensures.ctx h) (c.know-self-inside.ensures.id h) whole;
       number = omega (arith, alive, fewer, m, len, cap, small, more);
-      bound = omega (arith, long, bound);
     }
 
-pub returns-clause-items : goal.returns-clause-items
-returns-clause-items c =
+pub returns : goal.returns
+returns c =
     let ss = c.self.inside.list.items in
     let ys = c.push_reserved.new.self.items in
     let x = c.args.x in
     let s : Spot Live = record { number = c.self.inside.next; value = Some x } in
     let e : ys ≡ ss ++ s ∷ [] = c.push_reserved.ensures.items in
     let whole : held ys ≡ held ss ++ x ∷ [] = ap held e ∙ held_more ss s in
-    whole ∙ ap (λ (v : LivesView). v.items ++ x ∷ []) c.self.view_is
-
-pub returns-clause-calm : goal.returns-clause-calm
-returns-clause-calm c = λ P h.
-    let ss = c.self.inside.list.items in
-    let ys = c.push_reserved.new.self.items in
-    let x = c.args.x in
-    let s : Spot Live = record { number = c.self.inside.next; value = Some x } in
-    let e : ys ≡ ss ++ s ∷ [] = c.push_reserved.ensures.items in
-    let whole : held ys ≡ held ss ++ x ∷ [] = ap held e ∙ held_more ss s in
-    let n = c.self.inside.skipped in
-    let front : take n (ss ++ s ∷ []) ≡ take n ss = take-append-le n ss (s ∷ []) c.self.invariant.bound in
-    none_before_is P n ys ∙ ap (λ (xs : List (Spot Live)). list_any (holds P) (take n xs)) e ∙ ap (list_any (holds P)) front ∙ sym (none_before_is P n ss) ∙ ap (λ (v : LivesView). list_any P (take v.calm v.items)) c.self.view_is ∙ h
+    record { items = whole ∙ ap (λ (v : LivesView). v.items ++ x ∷ []) c.self.view_is }

@@ -54,8 +54,6 @@ invariant_of-self-in-Some-empty c =
     let same : (with_items v ts).items ≡ ts = items_are v ts (c.empty.ensures.len ∙ ap length f) in
     let rest : held ts ≡ without_found P (held ss) = c.empty.ensures.rest P there ∙ ap (λ (xs : List (Spot _)). without_found P (held xs)) f in
     let whole : held (with_items v ts).items ≡ without_found P (held ss) = ap held same ∙ rest in
-    let long = ap length same ∙ c.empty.ensures.len ∙ ap length f in
-    let bound = c.self.invariant.bound in
     let m = c.self.invariant.number in
     let alive = c.saturating_sub-self-inside.ensures in
     let fewer = fewer_one P (held ss) x found in
@@ -63,7 +61,6 @@ invariant_of-self-in-Some-empty c =
     record {
       by_number = λ h. found_less c.args.c c.self.inside.by_ctx c.self.inside.by_id c.lose.new.by_ctx c.lose.new.by_id (held ss) _ x (c.self.invariant.by_number h) found c.lose.ensures.ctx c.lose.ensures.id whole;
       number = omega (arith, alive, m, fewer, less);
-      bound = omega (arith, long, bound);
     }
 
 pub returns-in-None-clause-found : goal.returns-in-None-clause-found
@@ -133,25 +130,6 @@ returns-in-Some-empty-clause-rest c =
     let rest : held ts ≡ without_found P (held ss) = c.empty.ensures.rest P there ∙ ap (λ (xs : List (Spot _)). without_found P (held xs)) f in
     let whole : held (with_items v ts).items ≡ without_found P (held ss) = ap held same ∙ rest in
     whole ∙ ap (λ (w : LivesView). without_found P w.items) c.self.view_is
-
-pub returns-in-Some-empty-clause-calm : goal.returns-in-Some-empty-clause-calm
-returns-in-Some-empty-clause-calm c = λ Q h.
-    let P = is_live_on c.args.c in
-    let v = c.self.inside.list in
-    let ss = v.items in
-    let e = c.deref.ensures.value in
-    let index : c.self.inside.is_indexed ≡ true → IsIndexed live_ctx (is_known c.self.inside.by_ctx) (held c.deref.result.now) = λ h. subst (λ (xs : List (Spot _)). IsIndexed live_ctx (is_known c.self.inside.by_ctx) (held xs)) (sym e) (c.self.invariant.by_number h).by_ctx in
-    let f = c.deref_mut.ensures.value in
-    let at : position (holds P) ss ≡ Some c.in-Some.i = ap (position (holds P)) (sym e) ∙ sym (c.in-Some.ensures index) in
-    let there : position (holds P) c.deref_mut.result.now ≡ Some c.in-Some.i = ap (position (holds P)) f ∙ at in
-    let x = c.in-Some-empty.x in
-    let found : find P (held ss) ≡ Some x = sym (c.in-Some-empty.ensures.found P there ∙ ap (λ (xs : List (Spot _)). find P (held xs)) f) in
-    let ts = c.empty.new.list in
-    let same : (with_items v ts).items ≡ ts = items_are v ts (c.empty.ensures.len ∙ ap length f) in
-    let rest : held ts ≡ without_found P (held ss) = c.empty.ensures.rest P there ∙ ap (λ (xs : List (Spot _)). without_found P (held xs)) f in
-    let whole : held (with_items v ts).items ≡ without_found P (held ss) = ap held same ∙ rest in
-    let n = c.self.inside.skipped in
-    none_before_is Q n (with_items v ts).items ∙ ap (λ (xs : List (Spot _)). list_any (holds Q) (take n xs)) same ∙ c.empty.ensures.none Q n (ap (λ (xs : List (Spot _)). list_any (holds Q) (take n xs)) f ∙ sym (none_before_is Q n ss) ∙ ap (λ (w : LivesView). list_any Q (take w.calm w.items)) c.self.view_is ∙ h)
 
 pub returns-in-Some-empty-clause-len : goal.returns-in-Some-empty-clause-len
 returns-in-Some-empty-clause-len c =

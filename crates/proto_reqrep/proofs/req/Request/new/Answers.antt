@@ -1,7 +1,17 @@
 use Rattle.std.proofs.Common.{rules}
-use Rattle.proto_requests.proofs.Spotted.{none_of_none}
+use Rattle.proto_requests.proofs.TestValues.{not_both}
+use Rattle.proto_reqrep.specs.Reqs.{is_late, dry_at}
+use Rattle.proto_reqrep.proofs.DueRequests.{seen_none}
+use Rattle.proto_reqrep.proofs.RequestsDue.{none_dry}
 use Rattle.proto_reqrep.proofs.Hinted.{ready_none}
 use Rattle.proto_reqrep.proofs.req.Request.new.Goals as goal
 
 pub returns-in-Ok : goal.returns-in-Ok
-returns-in-Ok c = λ slots callers caller. (search rules, search rules, λ r. search rules, rw (c.new-in-Ok-3.ensures.items, c.new-in-Ok-4.ensures) (search rules), rw c.new-in-Ok-3.ensures.items (search rules), (none_of_none _ _ c.new-in-Ok-3.result.items c.new-in-Ok-3.ensures.calm, ready_none _ c.new-in-Ok-3.result.items c.new-in-Ok-4.result.items c.new-in-Ok-3.ensures.items))
+returns-in-Ok c = λ slots callers caller. (
+  search rules,
+  search rules,
+  λ r. search rules,
+  rw (c.new-in-Ok-3.ensures.items, c.new-in-Ok-5.ensures) (search rules),
+  rw c.new-in-Ok-3.ensures.items (search rules),
+  (seen_none c.new-in-Ok-4.result (λ o. is_late c.args.options.resend 0 c.new-in-Ok.result.items o) (λ q. dry_at q c.in-Ok.seats.items) 0 c.new-in-Ok-3.result.items c.new-in-Ok-3.ensures.items (λ q k. not_both k (none_dry q c.in-Ok.seats.items c.in-Ok.ensures)), ready_none _ c.new-in-Ok-3.result.items c.new-in-Ok-5.result.items c.new-in-Ok-3.ensures.items),
+)

@@ -2,6 +2,7 @@ use Rattle.std.proofs.Common.{None, Some, refl, false}
 use Rattle.proto_reqrep.specs.declared.req.Asking.{Asking}
 use Rattle.proto_reqrep.proofs.ReqArrivals.{recv_asked, send_raw_asked, asked_ops, all_begun}
 use Rattle.proto_reqrep.proofs.Hinted.{ready_more}
+use Rattle.proto_reqrep.proofs.RequestsDue.{kept_back}
 use Rattle.proto_reqrep.proofs.req.RequestProto.begin.Goals as goal
 
 pub returns-in-Recv-clause-begun : goal.returns-in-Recv-clause-begun
@@ -18,3 +19,6 @@ returns-then-self-clause-begun c =
 
 pub returns-in-Ok-clause-begun : goal.returns-in-Ok-clause-begun
 returns-in-Ok-clause-begun c = rw c.in-Send.is (λ t d n l h. all_begun c.args.self.now c.ask.new.self t c.args.op c.args.c c.in-Send.m d _ c.if-self.false l h c.in-Ok.ensures.asked c.wait-in-Ok.ensures.items)
+
+pub returns-in-Err-clause-same : goal.returns-in-Err-clause-same
+returns-in-Err-clause-same c = λ t h. kept_back c.args.self.now c.ask.new.self t c.in-Err.ensures.same h

@@ -4,8 +4,10 @@ use Rattle.proto_reqrep.specs.declared.req.KeptReply.{KeptReply}
 use Rattle.proto_reqrep.proofs.ReqArrivals.{none_kept, raw_frames, short_frame, long_frame, short_asked, reply_asked, asked_live, ctxs_replied, some_word, trimmed_is}
 use Rattle.proto_requests.proofs.TestValues.{not_both}
 use Rattle.proto_reqrep.proofs.Reaching.{opened_as}
-use Rattle.proto_reqrep.specs.Reqs.{is_due, waits_for, with_kept}
-use Rattle.proto_requests.proofs.FirstPlaces.{none_changed}
+use Rattle.proto_reqrep.specs.Reqs.{late_in, dry_in, waits_for, with_kept}
+use Rattle.sp_history.specs.Past.{ups}
+use Rattle.sp_history.specs.Moments.{past}
+use Rattle.proto_reqrep.proofs.DueRequests.{seen_kept}
 use Rattle.proto_reqrep.proofs.req.RequestProto.frame.Goals as goal
 
 pub returns-then-self-clause-kept : goal.returns-then-self-clause-kept
@@ -40,6 +42,6 @@ returns-in-Some-clause-kept c =
         λ r. not_both r c.if-self.false,
         asked_live live (reply_asked was t c.args.p c.in-Some.id c.args.m.body k c.if-self.false h one (trimmed_is c.args.p c.args.m c.trim.new.self c.trim.result c.trim.ensures c.requires (some_word _ c.in-Some.id one))),
         opened_as was.live.items _ was.seats.items _ _ (ctxs_replied c.in-Some.id k was.live.items _ live) h.4,
-        (rw c.keep_reply.ensures.calm (none_changed (is_due was.options.resend was.tick was.ports.items was.seats.items) (waits_for c.in-Some.id) (with_kept k) was.live.calm was.live.items _ (λ x. refl) live h.5.0), c.keep_reply.ensures.ready was.waiting.items h.5.1),
+        (seen_kept was.dues (late_in was) (dry_in was) (ups (past t)) (waits_for c.in-Some.id) (with_kept k) was.live.items _ (λ x. refl) live h.5.0, c.keep_reply.ensures.ready was.waiting.items h.5.1),
       ),
     )

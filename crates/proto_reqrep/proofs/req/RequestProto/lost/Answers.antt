@@ -1,11 +1,14 @@
 use Rattle.std.proofs.Common.{◌∙◌, arith, ap, map}
-use Rattle.proto_reqrep.specs.Reqs.{is_live_on, is_asked, is_due, orphaned}
+use Rattle.proto_reqrep.specs.Reqs.{is_live_on, is_asked, late_in, dry_in, orphaned}
 use Rattle.proto_reqrep.proofs.ReqStands.{none_taken, is_begun, lost_raw, lost_orphan, lost_live, its_lost}
 use Rattle.proto_reqrep.proofs.ReqArrivals.{asked_live, asked_ops, opened_live}
 use Rattle.proto_reqrep.proofs.Reaching.{opened_less}
 use Rattle.proto_reqrep.proofs.Hinted.{ready_live, ready_fewer, ready_marked, keeps_less}
 use Rattle.proto_reqrep.proofs.WorkLeft.{less_waiting, fewer_live, fewer_due, fewer_ops, fewer_marked, not_true, not_false}
 use Rattle.proto_reqrep.proofs.req.RequestProto.lost.Goals.{else-not-self-via-then-not-self+else-not-w, else-not-self-via-else-not-self}
+use Rattle.sp_history.specs.Past.{ups}
+use Rattle.sp_history.specs.Moments.{past}
+use Rattle.proto_reqrep.proofs.DueRequests.{seen_less}
 use Rattle.proto_reqrep.proofs.req.RequestProto.lost.Goals as goal
 
 pub returns-in-None-clause-lost : goal.returns-in-None-clause-lost
@@ -26,7 +29,7 @@ returns-then-not-w-clause-lost c =
         h.2,
         asked_live live (asked_ops (ops ∙ ap (map (orphaned w.ctx)) c.take.ensures.rest) (lost_live was t c.args.op s w cause by h p f c.if-not-self.true (not_true w.is_orphan c.if-not-w.true))),
         opened_live live (opened_less w.ctx was.live.items was.seats.items _ _ h.4),
-        (c.take_live.ensures.calm (is_due was.options.resend was.tick was.ports.items was.seats.items) h.5.0, ready_marked was.ready c.take_live.new.self.items w.ctx c.take.new.self.items _ ops (ready_live was.ready was.live.items c.take_live.new.self.items c.take.new.self.items (λ q k. keeps_less q (is_live_on w.ctx) was.live.items c.take_live.new.self.items live k) (ready_fewer was.ready was.live.items (is_asked c.args.op) was.waiting.items c.take.new.self.items c.take.ensures.rest h.5.1))),
+        (seen_less was.dues (late_in was) (dry_in was) (ups (past t)) (is_live_on w.ctx) was.live.items c.take_live.new.self.items live h.5.0, ready_marked was.ready c.take_live.new.self.items w.ctx c.take.new.self.items _ ops (ready_live was.ready was.live.items c.take_live.new.self.items c.take.new.self.items (λ q k. keeps_less q (is_live_on w.ctx) was.live.items c.take_live.new.self.items live k) (ready_fewer was.ready was.live.items (is_asked c.args.op) was.waiting.items c.take.new.self.items c.take.ensures.rest h.5.1))),
       ),
       (
         less_waiting _ _ _ _ _ _ _ (fewer_live w.ctx was.live.items _ live) (fewer_due _ w.ctx was.live.items _ live) (fewer_marked (is_asked c.args.op) (orphaned w.ctx) was.waiting.items c.take.new.self.items _ w f c.take.ensures.rest ops),

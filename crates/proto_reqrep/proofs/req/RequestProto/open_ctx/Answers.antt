@@ -1,11 +1,13 @@
 use Rattle.std.proofs.lemmas.Result.{on_ok_weaker}
 use Rattle.proto_reqrep.proofs.Reaching.{opened_more}
 use Rattle.proto_reqrep.proofs.ReqArrivals.{opened_seats}
-use Rattle.proto_reqrep.proofs.Calming.{calm_opened}
+use Rattle.sp_history.specs.Past.{ups}
+use Rattle.sp_history.specs.Moments.{past}
+use Rattle.proto_reqrep.proofs.RequestsDue.{seen_opened}
 use Rattle.proto_reqrep.proofs.req.RequestProto.open_ctx.Goals as goal
 
 pub returns-clause-opened : goal.returns-clause-opened
 returns-clause-opened c =
     on_ok_weaker c.open.result (λ items t l h.
     let was = c.args.self.now in
-    (h.0, h.1, h.2, h.3, opened_seats items (opened_more was t c.args.c l h), (calm_opened was.options.resend was.tick was.live.calm c.args.c was.ports.items was.seats.items c.open.new.self.items was.live.items items h.5.0, h.5.1))) c.open.ensures.more
+    (h.0, h.1, h.2, h.3, opened_seats items (opened_more was t c.args.c l h), (seen_opened was (ups (past t)) c.args.c c.open.new.self.items items h.5.0, h.5.1))) c.open.ensures.more

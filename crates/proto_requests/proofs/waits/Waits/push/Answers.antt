@@ -2,12 +2,15 @@ use Rattle.std.proofs.Common.{◌≡◌, ◌∙◌, sym, ap, cond, true, arith, 
 use Rattle.std.specs.Prelude.{not, ◌==◌, Some}
 use Rattle.sp_base.specs.declared.OpName.{OpName}
 use Rattle.proto_requests.specs.declared.spots.Spot.{Spot}
+use Rattle.sp_history.specs.Lists.{same_op}
+use Rattle.proto_requests.specs.Hints.{covers_by}
 use Rattle.proto_requests.specs.Numbers.{is_known}
-use Rattle.proto_requests.specs.Waits.{WaitsView, IsMark, isnt, is_open, slot_of}
+use Rattle.proto_requests.specs.Waits.{WaitsView, IsMark, isnt, is_open, is_overlooked, slot_of}
 use Rattle.proto_requests.specs.Spots.{held}
 use Rattle.proto_requests.proofs.Backlogged.{kept_more}
 use Rattle.proto_requests.proofs.Spotted.{held_more}
-use Rattle.proto_requests.proofs.KnownOperations.{kind_more, mark_more, any_more, both_true, not_false, length_more}
+use Rattle.proto_requests.proofs.KnownOperations.{kind_more, mark_more, any_more, length_more}
+use Rattle.proto_requests.proofs.EndedOperations.{more_seen, it_seen}
 use Rattle.proto_requests.proofs.waits.Waits.push.Goals as goal
 
 pub invariant_of-self : goal.invariant_of-self
@@ -34,7 +37,9 @@ invariant_of-self g c =
           (λ s q. ap (λ es. is_known es q) (c.know_if-self-inside-2.ensures.same s)) (c.know_if-self-inside-2.ensures.more h) whole;
       send = subst (λ xs. IsMark (W.is_send) c.send_mark-self-inside.result xs) c.deref.ensures.value (c.send_mark-self-inside.ensures (subst (λ xs. IsMark (W.is_send) c.stays.result xs) (sym c.deref.ensures.value) (subst (λ n. IsMark (W.is_send) n ys) (sym c.stays.ensures) (mark_more (W.is_send) c.make_spot-moved.result c.self.inside.send_from ss ts ys s c.make_spot-moved.ensures.same e c.self.invariant.send))));
       receive = subst (λ xs. IsMark (isnt W.is_send) c.receive_mark-self-inside.result xs) c.deref-2.ensures.value (c.receive_mark-self-inside.ensures (subst (λ xs. IsMark (isnt W.is_send) c.stays-2.result xs) (sym c.deref-2.ensures.value) (subst (λ n. IsMark (isnt W.is_send) n ys) (sym c.stays-2.ensures) (mark_more (isnt W.is_send) c.make_spot-moved.result c.self.inside.receive_from ss ts ys s c.make_spot-moved.ensures.same e c.self.invariant.receive))));
-      left = λ h. let k = both_true c.self.inside.none_left (not c.is_over-is_over.result) (sym c.is_none_left-self-inside.ensures ∙ h) in any_more W.is_left (held ss) (held ys) x whole (c.self.invariant.left k.0) (sym c.is_over-is_over.ensures ∙ not_false _ k.1);
+      left =
+          any_more (is_overlooked W.name_of W.is_left c.note_if.new.ended) (held ss) (held ys) x whole (more_seen W.name_of W.is_left c.self.inside.ended c.note_if.new.ended (held ss) c.note_if.ensures.more c.self.invariant.left)
+          (it_seen W.name_of W.is_left c.note_if.new.ended x (λ h. ap (λ (n : OpName). covers_by c.note_if.new.ended (same_op n)) (sym c.op-name.ensures) ∙ c.note_if.ensures.it (c.is_over-is_over.ensures ∙ h)));
     }
 
 pub returns-clause-items : goal.returns-clause-items

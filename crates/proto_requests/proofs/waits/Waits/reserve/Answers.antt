@@ -1,8 +1,10 @@
 use Rattle.std.proofs.Common.{◌≡◌, ◌∙◌, ap, arith, refl, false}
 use Rattle.std.specs.List.{list_any}
+use Rattle.sp_base.specs.declared.OpName.{OpName}
+use Rattle.proto_requests.specs.Hints.{HintsView}
 use Rattle.proto_requests.specs.Numbers.{is_known}
 use Rattle.proto_requests.specs.Spots.{held}
-use Rattle.proto_requests.specs.Waits.{slot_of, isnt, is_open}
+use Rattle.proto_requests.specs.Waits.{slot_of, isnt, is_open, is_overlooked}
 use Rattle.proto_requests.proofs.KnownOperations.{all_same, kind_same, mark_kept}
 use Rattle.proto_requests.proofs.Spotted.{held_few, on_ok}
 use Rattle.proto_requests.proofs.waits.Waits.reserve.Goals as goal
@@ -20,7 +22,7 @@ invariant_of-self g c =
       by_send = λ h. kind_same W.home_of (is_open W.is_send W.is_left) (is_known c.self.inside.opens) (is_known c.make_room.new.opens) (held ss) (held us) (c.self.invariant.by_send h) c.make_room.ensures.open whole;
       send = mark_kept W.is_send c.close_up_for-moved.result c.self.inside.send_from c.stays-self-inside.result ss us c.stays-self-inside.ensures same c.self.invariant.send;
       receive = mark_kept (isnt W.is_send) c.close_up_for-moved.result c.self.inside.receive_from c.stays-self-inside-2.result ss us c.stays-self-inside-2.ensures same c.self.invariant.receive;
-      left = λ h. ap (list_any W.is_left) whole ∙ c.self.invariant.left h;
+      left = ap (λ (v : HintsView OpName). list_any (is_overlooked W.name_of W.is_left v) (held us)) c.make_room.ensures.ended ∙ ap (list_any (is_overlooked W.name_of W.is_left c.self.inside.ended)) whole ∙ c.self.invariant.left;
     }
 
 pub invariant_of-self-in-Err : goal.invariant_of-self-in-Err
@@ -36,7 +38,7 @@ invariant_of-self-in-Err g c =
       by_send = λ h. kind_same W.home_of (is_open W.is_send W.is_left) (is_known c.self.inside.opens) (is_known c.self.inside.opens) (held ss) (held us) (c.self.invariant.by_send h) (λ q. refl) whole;
       send = mark_kept W.is_send c.close_up_for-moved.result c.self.inside.send_from c.stays-self-inside.result ss us c.stays-self-inside.ensures same c.self.invariant.send;
       receive = mark_kept (isnt W.is_send) c.close_up_for-moved.result c.self.inside.receive_from c.stays-self-inside-2.result ss us c.stays-self-inside-2.ensures same c.self.invariant.receive;
-      left = λ h. ap (list_any W.is_left) whole ∙ c.self.invariant.left h;
+      left = ap (list_any (is_overlooked W.name_of W.is_left c.self.inside.ended)) whole ∙ c.self.invariant.left;
     }
 
 pub returns-in-Ok-clause-room : goal.returns-in-Ok-clause-room

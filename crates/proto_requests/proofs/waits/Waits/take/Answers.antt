@@ -1,11 +1,11 @@
-use Rattle.std.proofs.Common.{◌≡◌, ◌∙◌, sym, ap, subst, cond, Some, None, true, false, arith, map, length, take, ◌+◌}
+use Rattle.std.proofs.Common.{◌≡◌, ◌∙◌, sym, ap, subst, cond, Some, None, true, false, arith, length, take, ◌+◌}
 use Rattle.std.specs.Prelude.{find, not, ◌==◌}
 use Rattle.std.specs.Vec.{with_items}
 use Rattle.std.specs.List.{position, list_any}
-use Rattle.sp_history.specs.Once.{AreDistinct}
+use Rattle.proto_requests.specs.Backlogs.{IsIndexed}
 use Rattle.proto_requests.specs.Numbers.{is_known}
 use Rattle.proto_requests.specs.Spots.{holds, held}
-use Rattle.proto_requests.specs.Waits.{WaitsView, IsMark, is_named, isnt, is_open, slot_of}
+use Rattle.proto_requests.specs.Waits.{WaitsView, IsMark, is_named, isnt, is_open, is_overlooked, slot_of}
 use Rattle.proto_requests.specs.FirstFound.{without_found}
 use Rattle.proto_requests.proofs.Positions.{without_none}
 use Rattle.proto_requests.proofs.NumberIndexes.{index_less}
@@ -21,7 +21,7 @@ invariant_of-self g c =
     let ss = v.items in
     let e = c.deref.ensures.value in
     let f = c.deref_mut.ensures.value in
-    let apart : c.self.inside.slots_known ≡ true → AreDistinct (map (slot_of W.name_of) (held c.deref.result.now)) = λ h. subst (λ xs. AreDistinct (map (slot_of W.name_of) (held xs))) (sym e) (c.self.invariant.by_slot h).1 in
+    let apart : c.self.inside.slots_known ≡ true → IsIndexed (slot_of W.name_of) (is_known c.self.inside.by_slot) (held c.deref.result.now) = λ h. subst (λ xs. IsIndexed (slot_of W.name_of) (is_known c.self.inside.by_slot) (held xs)) (sym e) (c.self.invariant.by_slot h) in
     let at : position (holds P) ss ≡ Some c.in-Some.i = ap (position (holds P)) (sym e) ∙ sym (c.in-Some.ensures apart) in
     let there : position (holds P) c.deref_mut.result.now ≡ Some c.in-Some.i = ap (position (holds P)) f ∙ at in
     absurd (never P c.deref_mut.result.now c.in-Some.i there (c.in-None-empty.ensures.found P there))
@@ -34,7 +34,7 @@ invariant_of-self-in-Some-empty g c =
     let ss = v.items in
     let e = c.deref.ensures.value in
     let f = c.deref_mut.ensures.value in
-    let apart : c.self.inside.slots_known ≡ true → AreDistinct (map (slot_of W.name_of) (held c.deref.result.now)) = λ h. subst (λ xs. AreDistinct (map (slot_of W.name_of) (held xs))) (sym e) (c.self.invariant.by_slot h).1 in
+    let apart : c.self.inside.slots_known ≡ true → IsIndexed (slot_of W.name_of) (is_known c.self.inside.by_slot) (held c.deref.result.now) = λ h. subst (λ xs. IsIndexed (slot_of W.name_of) (is_known c.self.inside.by_slot) (held xs)) (sym e) (c.self.invariant.by_slot h) in
     let at : position (holds P) ss ≡ Some c.in-Some.i = ap (position (holds P)) (sym e) ∙ sym (c.in-Some.ensures apart) in
     let there : position (holds P) c.deref_mut.result.now ≡ Some c.in-Some.i = ap (position (holds P)) f ∙ at in
     let x = c.in-Some-empty.x in
@@ -53,7 +53,7 @@ invariant_of-self-in-Some-empty g c =
       by_send = λ h. kind_less W.home_of (is_open W.is_send W.is_left) P (is_known c.self.inside.opens) (is_known c.lose_if-in-Some-empty.new.numbers) c.is_open-open.result c.ctx-c.result (held ss) _ x (c.self.invariant.by_send h) found c.is_open-open.ensures c.ctx-c.ensures c.lose_if-in-Some-empty.ensures whole;
       send = subst (λ xs. IsMark W.is_send c.send_mark-self-inside.result xs) c.deref-in-Some-empty.ensures.value (c.send_mark-self-inside.ensures (subst (λ xs. IsMark W.is_send c.self.inside.send_from xs) (sym c.deref-in-Some-empty.ensures.value) send));
       receive = subst (λ xs. IsMark (isnt W.is_send) c.receive_mark-self-inside.result xs) c.deref-in-Some-empty-2.ensures.value (c.receive_mark-self-inside.ensures (subst (λ xs. IsMark (isnt W.is_send) c.self.inside.receive_from xs) (sym c.deref-in-Some-empty-2.ensures.value) receive));
-      left = λ h. ap (λ xs. list_any W.is_left (held xs)) (sym c.deref-in-Some-empty-3.ensures.value) ∙ c.is_none_over-self-inside.ensures (λ n. ap (λ xs. list_any W.is_left (held xs)) c.deref-in-Some-empty-3.ensures.value ∙ any_less W.is_left P (held ss) _ whole (c.self.invariant.left n)) h;
+      left = any_less (is_overlooked W.name_of W.is_left c.self.inside.ended) P (held ss) _ whole c.self.invariant.left;
     }
 
 pub returns-in-None-clause-found : goal.returns-in-None-clause-found
@@ -61,7 +61,7 @@ returns-in-None-clause-found g c =
     let W = g.T.Waiter in
     let P = is_named W.name_of c.args.op in
     let e = c.deref.ensures.value in
-    let apart : c.self.inside.slots_known ≡ true → AreDistinct (map (slot_of W.name_of) (held c.deref.result.now)) = λ h. subst (λ xs. AreDistinct (map (slot_of W.name_of) (held xs))) (sym e) (c.self.invariant.by_slot h).1 in
+    let apart : c.self.inside.slots_known ≡ true → IsIndexed (slot_of W.name_of) (is_known c.self.inside.by_slot) (held c.deref.result.now) = λ h. subst (λ xs. IsIndexed (slot_of W.name_of) (is_known c.self.inside.by_slot) (held xs)) (sym e) (c.self.invariant.by_slot h) in
     let none : find P c.args.self.now.items ≡ None = ap (λ (v : WaitsView _). find P v.items) (sym c.self.view_is) ∙ ap (λ xs. find P (held xs)) (sym e) ∙ not_there P c.deref.result.now (sym (c.in-None.ensures apart)) in
     sym none
 
@@ -70,7 +70,7 @@ returns-in-None-clause-rest g c =
     let W = g.T.Waiter in
     let P = is_named W.name_of c.args.op in
     let e = c.deref.ensures.value in
-    let apart : c.self.inside.slots_known ≡ true → AreDistinct (map (slot_of W.name_of) (held c.deref.result.now)) = λ h. subst (λ xs. AreDistinct (map (slot_of W.name_of) (held xs))) (sym e) (c.self.invariant.by_slot h).1 in
+    let apart : c.self.inside.slots_known ≡ true → IsIndexed (slot_of W.name_of) (is_known c.self.inside.by_slot) (held c.deref.result.now) = λ h. subst (λ xs. IsIndexed (slot_of W.name_of) (is_known c.self.inside.by_slot) (held xs)) (sym e) (c.self.invariant.by_slot h) in
     let none : find P c.args.self.now.items ≡ None = ap (λ (v : WaitsView _). find P v.items) (sym c.self.view_is) ∙ ap (λ xs. find P (held xs)) (sym e) ∙ not_there P c.deref.result.now (sym (c.in-None.ensures apart)) in
     without_none P c.args.self.now.items none
 
@@ -82,7 +82,7 @@ returns-in-None-empty-clause-len g c =
     let ss = v.items in
     let e = c.deref.ensures.value in
     let f = c.deref_mut.ensures.value in
-    let apart : c.self.inside.slots_known ≡ true → AreDistinct (map (slot_of W.name_of) (held c.deref.result.now)) = λ h. subst (λ xs. AreDistinct (map (slot_of W.name_of) (held xs))) (sym e) (c.self.invariant.by_slot h).1 in
+    let apart : c.self.inside.slots_known ≡ true → IsIndexed (slot_of W.name_of) (is_known c.self.inside.by_slot) (held c.deref.result.now) = λ h. subst (λ xs. IsIndexed (slot_of W.name_of) (is_known c.self.inside.by_slot) (held xs)) (sym e) (c.self.invariant.by_slot h) in
     let at : position (holds P) ss ≡ Some c.in-Some.i = ap (position (holds P)) (sym e) ∙ sym (c.in-Some.ensures apart) in
     let there : position (holds P) c.deref_mut.result.now ≡ Some c.in-Some.i = ap (position (holds P)) f ∙ at in
     absurd (never P c.deref_mut.result.now c.in-Some.i there (c.in-None-empty.ensures.found P there))
@@ -95,7 +95,7 @@ returns-in-None-empty-clause-room g c =
     let ss = v.items in
     let e = c.deref.ensures.value in
     let f = c.deref_mut.ensures.value in
-    let apart : c.self.inside.slots_known ≡ true → AreDistinct (map (slot_of W.name_of) (held c.deref.result.now)) = λ h. subst (λ xs. AreDistinct (map (slot_of W.name_of) (held xs))) (sym e) (c.self.invariant.by_slot h).1 in
+    let apart : c.self.inside.slots_known ≡ true → IsIndexed (slot_of W.name_of) (is_known c.self.inside.by_slot) (held c.deref.result.now) = λ h. subst (λ xs. IsIndexed (slot_of W.name_of) (is_known c.self.inside.by_slot) (held xs)) (sym e) (c.self.invariant.by_slot h) in
     let at : position (holds P) ss ≡ Some c.in-Some.i = ap (position (holds P)) (sym e) ∙ sym (c.in-Some.ensures apart) in
     let there : position (holds P) c.deref_mut.result.now ≡ Some c.in-Some.i = ap (position (holds P)) f ∙ at in
     absurd (never P c.deref_mut.result.now c.in-Some.i there (c.in-None-empty.ensures.found P there))
@@ -108,7 +108,7 @@ returns-in-Some-empty-clause-found g c =
     let ss = v.items in
     let e = c.deref.ensures.value in
     let f = c.deref_mut.ensures.value in
-    let apart : c.self.inside.slots_known ≡ true → AreDistinct (map (slot_of W.name_of) (held c.deref.result.now)) = λ h. subst (λ xs. AreDistinct (map (slot_of W.name_of) (held xs))) (sym e) (c.self.invariant.by_slot h).1 in
+    let apart : c.self.inside.slots_known ≡ true → IsIndexed (slot_of W.name_of) (is_known c.self.inside.by_slot) (held c.deref.result.now) = λ h. subst (λ xs. IsIndexed (slot_of W.name_of) (is_known c.self.inside.by_slot) (held xs)) (sym e) (c.self.invariant.by_slot h) in
     let at : position (holds P) ss ≡ Some c.in-Some.i = ap (position (holds P)) (sym e) ∙ sym (c.in-Some.ensures apart) in
     let there : position (holds P) c.deref_mut.result.now ≡ Some c.in-Some.i = ap (position (holds P)) f ∙ at in
     let x = c.in-Some-empty.x in
@@ -127,7 +127,7 @@ returns-in-Some-empty-clause-rest g c =
     let ss = v.items in
     let e = c.deref.ensures.value in
     let f = c.deref_mut.ensures.value in
-    let apart : c.self.inside.slots_known ≡ true → AreDistinct (map (slot_of W.name_of) (held c.deref.result.now)) = λ h. subst (λ xs. AreDistinct (map (slot_of W.name_of) (held xs))) (sym e) (c.self.invariant.by_slot h).1 in
+    let apart : c.self.inside.slots_known ≡ true → IsIndexed (slot_of W.name_of) (is_known c.self.inside.by_slot) (held c.deref.result.now) = λ h. subst (λ xs. IsIndexed (slot_of W.name_of) (is_known c.self.inside.by_slot) (held xs)) (sym e) (c.self.invariant.by_slot h) in
     let at : position (holds P) ss ≡ Some c.in-Some.i = ap (position (holds P)) (sym e) ∙ sym (c.in-Some.ensures apart) in
     let there : position (holds P) c.deref_mut.result.now ≡ Some c.in-Some.i = ap (position (holds P)) f ∙ at in
     let x = c.in-Some-empty.x in
@@ -146,7 +146,7 @@ returns-in-Some-empty-clause-len g c =
     let ss = v.items in
     let e = c.deref.ensures.value in
     let f = c.deref_mut.ensures.value in
-    let apart : c.self.inside.slots_known ≡ true → AreDistinct (map (slot_of W.name_of) (held c.deref.result.now)) = λ h. subst (λ xs. AreDistinct (map (slot_of W.name_of) (held xs))) (sym e) (c.self.invariant.by_slot h).1 in
+    let apart : c.self.inside.slots_known ≡ true → IsIndexed (slot_of W.name_of) (is_known c.self.inside.by_slot) (held c.deref.result.now) = λ h. subst (λ xs. IsIndexed (slot_of W.name_of) (is_known c.self.inside.by_slot) (held xs)) (sym e) (c.self.invariant.by_slot h) in
     let at : position (holds P) ss ≡ Some c.in-Some.i = ap (position (holds P)) (sym e) ∙ sym (c.in-Some.ensures apart) in
     let there : position (holds P) c.deref_mut.result.now ≡ Some c.in-Some.i = ap (position (holds P)) f ∙ at in
     let x = c.in-Some-empty.x in
@@ -165,7 +165,7 @@ returns-in-Some-empty-clause-room g c =
     let ss = v.items in
     let e = c.deref.ensures.value in
     let f = c.deref_mut.ensures.value in
-    let apart : c.self.inside.slots_known ≡ true → AreDistinct (map (slot_of W.name_of) (held c.deref.result.now)) = λ h. subst (λ xs. AreDistinct (map (slot_of W.name_of) (held xs))) (sym e) (c.self.invariant.by_slot h).1 in
+    let apart : c.self.inside.slots_known ≡ true → IsIndexed (slot_of W.name_of) (is_known c.self.inside.by_slot) (held c.deref.result.now) = λ h. subst (λ xs. IsIndexed (slot_of W.name_of) (is_known c.self.inside.by_slot) (held xs)) (sym e) (c.self.invariant.by_slot h) in
     let at : position (holds P) ss ≡ Some c.in-Some.i = ap (position (holds P)) (sym e) ∙ sym (c.in-Some.ensures apart) in
     let there : position (holds P) c.deref_mut.result.now ≡ Some c.in-Some.i = ap (position (holds P)) f ∙ at in
     let x = c.in-Some-empty.x in

@@ -1,6 +1,6 @@
 -- Each listener is asked.
 use Rattle.std.proofs.Common.{◌≡◌, ◌+◌, ◌*◌, ap, arith, length}
-use Rattle.sp_ends.specs.Standing.{LinkEndsView}
+use Rattle.end_parts.specs.EndViews.{LinkEndsView}
 use Rattle.sp_ends.proofs.NewcomingAsks.{asked_none, asked_both, asked_as, filled_less, still_listens}
 use Rattle.sp_ends.proofs.links.LinkEnds.accept_all.Goals as goal
 

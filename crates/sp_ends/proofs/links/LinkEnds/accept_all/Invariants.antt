@@ -1,5 +1,5 @@
 use Rattle.std.proofs.Common.{◌*◌}
-use Rattle.sp_ends.specs.Turning.{HasAsked}
+use Rattle.sp_ends.specs.EndsTurns.{HasAsked}
 use Rattle.sp_ends.proofs.links.LinkEnds.accept_all.Given as goal
 
 abbrev pub invariant-accepts : goal.invariant-accepts

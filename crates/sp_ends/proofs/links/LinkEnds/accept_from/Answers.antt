@@ -1,7 +1,7 @@
 -- The listener is asked until it has no link.
 use Rattle.std.proofs.Common.{◌+◌, ap, arith, length}
 use Rattle.std.specs.Prelude.{min}
-use Rattle.sp_ends.specs.Standing.{LinkEndsView}
+use Rattle.end_parts.specs.EndViews.{LinkEndsView}
 use Rattle.sp_ends.proofs.NewcomingAsks.{asked_none, asked_one, asked_both, asked_as, asked_full, filled_less, filled_last, still_listens, listener_at}
 use Rattle.sp_ends.proofs.links.LinkEnds.accept_from.Goals as goal
 

@@ -1,5 +1,5 @@
 use Rattle.std.specs.Prelude.{min}
-use Rattle.sp_ends.specs.Turning.{HasAsked}
+use Rattle.sp_ends.specs.EndsTurns.{HasAsked}
 use Rattle.sp_ends.proofs.links.LinkEnds.accept_from.Given as goal
 
 abbrev pub invariant-links : goal.invariant-links

@@ -1,7 +1,7 @@
 use Rattle.std.proofs.Common.{◌≡◌, Some, ap, slice_get, refl, arith}
-use Rattle.sp_ends.specs.Standing.{LinkEndsView}
-use Rattle.sp_ends.proofs.NewcomingAsks.{at_index}
-use Rattle.sp_ends.proofs.Serving.{same_dialers}
+use Rattle.end_parts.specs.EndViews.{LinkEndsView}
+use Rattle.end_parts.proofs.ListReads.{at_index}
+use Rattle.sp_ends.proofs.TurnParts.{same_dialers}
 use Rattle.sp_ends.proofs.NewcomingTurn.{untouched}
 use Rattle.sp_ends.proofs.Arriving.{arrives_served}
 use Rattle.sp_ends.proofs.FreedDialers.{frees_none, frees_both}

@@ -2,15 +2,15 @@ use Rattle.std.proofs.Common.{◌≡◌, ◌∙◌, List, length, Some, None, su
 use Rattle.std.proofs.lemmas.Option.{slice_get_within}
 use Rattle.sp_base.specs.Addresses.{scheme_of}
 use Rattle.sp_base.specs.Steps.{IsHandedOut}
-use Rattle.sp_ends.specs.declared.dialer.Dialer.{Dialer}
-use Rattle.sp_ends.specs.declared.newcomer.Newcomer.{Newcomer}
-use Rattle.sp_ends.specs.Standing.{LinkEndsView}
-use Rattle.sp_ends.specs.Freeing.{Frees}
-use Rattle.sp_ends.specs.Turning.{AreSameDialers, AreYoung, AreWaitingBehind}
-use Rattle.sp_ends.proofs.NewcomingAsks.{at_index}
+use Rattle.end_parts.specs.declared.dialer.Dialer.{Dialer}
+use Rattle.end_parts.specs.declared.newcomer.Newcomer.{Newcomer}
+use Rattle.end_parts.specs.EndViews.{LinkEndsView}
+use Rattle.sp_ends.specs.Freeing.{Frees, AreSameDialers}
+use Rattle.sp_ends.specs.EndsTurns.{AreYoung, AreWaitingBehind}
+use Rattle.end_parts.proofs.ListReads.{at_index}
 use Rattle.sp_ends.proofs.NewcomingTurn.{untouched}
 use Rattle.sp_ends.proofs.NewcomingDials.{turned_as, tried, asked_on, asked_got, dialed_at, dials_then}
-use Rattle.sp_ends.proofs.Serving.{dials_addrs, ends_both, of_run_on}
+use Rattle.sp_ends.proofs.TurnParts.{dials_addrs, ends_both, of_run_on}
 use Rattle.sp_ends.proofs.Arriving.{arrives_dialed, set_at}
 use Rattle.sp_ends.proofs.FreedDialers.{redials_none, redials_got}
 use Rattle.sp_ends.proofs.DialedLinks.{knows_none, knows_got}

@@ -1,13 +1,12 @@
 use Rattle.std.proofs.Common.{◌≡◌, ◌<◌, ◌≤◌, length, List, ℕ, refl, ap, subst, sym, ◌∙◌, arith, add-one, set}
 use Rattle.std.specs.Vec.{with_items}
 use Rattle.std.proofs.lemmas.List.{with_items_is}
-use Rattle.sp_ends.specs.declared.dialer.Dialer.{Dialer}
-use Rattle.sp_ends.specs.Freeing.{AreFreed}
-use Rattle.sp_ends.specs.Turning.{AreSameDialers}
-use Rattle.sp_ends.specs.Standing.{LinkEndsView}
+use Rattle.end_parts.specs.declared.dialer.Dialer.{Dialer}
+use Rattle.sp_ends.specs.Freeing.{AreFreed, AreSameDialers}
+use Rattle.end_parts.specs.EndViews.{LinkEndsView}
 use Rattle.sp_ends.proofs.FreedDialers.{FreedTo, freed_next, freed_whole}
 use Rattle.sp_ends.proofs.NewcomingDialers.{one_lost}
-use Rattle.sp_ends.proofs.Serving.{same_dialers}
+use Rattle.sp_ends.proofs.TurnParts.{same_dialers}
 use Rattle.sp_ends.proofs.links.LinkEnds.lost.Goals as goal
 
 pub loop-dialer-init : goal.loop-dialer-init

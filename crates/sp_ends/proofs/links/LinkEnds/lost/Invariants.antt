@@ -1,4 +1,4 @@
-use Rattle.sp_ends.specs.Turning.{AreSameDialers}
+use Rattle.sp_ends.specs.Freeing.{AreSameDialers}
 use Rattle.sp_ends.proofs.FreedDialers.{FreedTo}
 use Rattle.sp_ends.proofs.links.LinkEnds.lost.Given as goal
 

@@ -1,6 +1,6 @@
 -- One wire after the other is taken, until there is none.
 use Rattle.std.proofs.Common.{refl, true, ◌∙◌}
-use Rattle.sp_ends.proofs.DialedNames.{takes_same, takes_lost, takes_all}
+use Rattle.sp_ends.proofs.TurnedNames.{takes_same, takes_lost, takes_all}
 use Rattle.sp_ends.proofs.TakenAll.{none_untaken, off_stays}
 use Rattle.sp_ends.proofs.WholeTurn.{takes_none, takes_more}
 use Rattle.sp_ends.proofs.links.LinkEnds.take_all_ended.Goals as goal

@@ -1,6 +1,6 @@
 -- What stands, and what the callers know.
 use Rattle.std.proofs.Common.{◌≡◌}
-use Rattle.sp_ends.proofs.DialedNames.{TakesSome}
+use Rattle.sp_ends.proofs.TurnedNames.{TakesSome}
 use Rattle.sp_ends.proofs.WholeTurn.{StillTakes}
 use Rattle.sp_ends.proofs.links.LinkEnds.take_all_ended.Given as goal
 

@@ -6,13 +6,14 @@ use Rattle.sp_history.specs.declared.entry.Miss.TheVariants as misses
 use Rattle.link_opening.specs.declared.way.Way.{Way}
 use Rattle.link_opening.specs.Openings.{CanBegin, scheme_for}
 use Rattle.sp_single.specs.Singles.{SingleView, TookOne}
-use Rattle.sp_ends.specs.declared.newcomer.Newcomer.{Newcomer}
-use Rattle.sp_ends.specs.Standing.{Beginning, LinkEndsView, HandStands, LinksStand, IsCauseOf}
-use Rattle.sp_ends.specs.Freeing.{GivesOneBack}
+use Rattle.end_parts.specs.declared.newcomer.Newcomer.{Newcomer}
+use Rattle.end_parts.specs.EndViews.{Beginning, LinkEndsView}
+use Rattle.end_parts.specs.RunLinks.{HandStands, LinksStand, IsCauseOf}
+use Rattle.end_parts.specs.NewcomerSteps.{GivesOneBack}
 use Rattle.link_opening.specs.Origins.{Origins}
-use Rattle.sp_ends.specs.Turning.{InTurn, Arrives, AreYoung, AreWaitingBehind, FitsIn}
-use Rattle.sp_ends.proofs.Turns.{lanes_both, quiet_both}
-use Rattle.sp_ends.proofs.Serving.{turn_on, ends_lost, newcomers_lost}
+use Rattle.sp_ends.specs.EndsTurns.{InTurn, Arrives, AreYoung, AreWaitingBehind, FitsIn}
+use Rattle.end_parts.proofs.Turns.{lanes_both, quiet_both}
+use Rattle.sp_ends.proofs.TurnParts.{turn_on, ends_lost, newcomers_lost}
 use Rattle.sp_ends.proofs.FreedDialers.{frees_lost}
 use Rattle.sp_ends.proofs.NewcomingTurn.{MeetsAt, meets_quiet, meets_lanes, meets_dry, met_hand, welcomed, dry_cause}
 use Rattle.sp_ends.proofs.links.LinkEnds.welcome.Goals as goal

@@ -1,0 +1,12 @@
+pub mod LastCollect
+pub mod CollectedByPlay
+pub mod WhatCounts
+pub mod Settling
+pub mod Begins
+pub mod Silent
+pub mod BeginOrder
+pub mod Through
+pub mod PlaysStay
+pub mod Pipes
+pub mod TopicsStay
+pub mod Surveying

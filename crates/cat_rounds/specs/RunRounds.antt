@@ -1,0 +1,149 @@
+-- What stands of a run between two rounds, and what it comes to.
+use Rattle.std.specs.Prelude.{◌≡◌, ◌<◌, ◌+◌, ◌^◌, ℕ, ⊤, true, false, Bool, List, length, Option, None, nat_lt}
+use Rattle.turn_lock.specs.declared.turn.Turn.{Turn}
+use Rattle.sp_base.specs.Views.{LinkView, NetView, PaceView, SinkView}
+use Rattle.sp_history.specs.declared.entry.Entry.{Entry}
+use Rattle.sp_history.specs.Past.{past_of, up, now, is_cleared}
+use Rattle.sp_history.specs.Lists.{has}
+use Rattle.sp_core.specs.declared.serve.Served.{Served}
+use Rattle.sp_single.specs.Singles.{SingleView, IsSound}
+use Rattle.sp_lane.specs.Registry.{Registry}
+use Rattle.sp_ends.specs.NameTurns.{TurnsLanes}
+use Rattle.end_parts.specs.EndViews.{EndsView, LinkEndsView, Beginning}
+use Rattle.end_parts.specs.RunLinks.{EndsStand}
+use Rattle.end_parts.specs.SocketSteps.{IsDry}
+use Rattle.cat_play.specs.declared.ends.Status.{Status}
+use Rattle.cat_play.specs.declared.ends.Status.TheVariants as status
+use Rattle.cat_play.specs.Running.{has_dry_miss}
+use Rattle.sp_history.specs.Found.{ticks}
+use Rattle.cat_player.specs.declared.player.PlayEnd.TheVariants as overs
+use Rattle.cat_player.specs.declared.player.Player.{Player}
+use Rattle.cat_rounds.specs.declared.rounds.Round.{Round}
+use Rattle.cat_rounds.specs.declared.rounds.Round.TheVariants as rounds
+use Rattle.cat_rounds.specs.declared.rounds.Going.{Going}
+use Rattle.cat_rounds.specs.declared.rounds.Going.TheVariants as goings
+use Rattle.cat_player.specs.Lasting.{PlayStands, HasPrinted, MayTick, HasPlayed, HasServed}
+use Rattle.cat_player.specs.PlayerSteps.{HasPrintedCut, SameScript}
+use Rattle.sp_ends.specs.EndsTurns.{SameEnds}
+
+-- the parts of a run that is open, between two calls of a round behind the turn of the ends
+pub record RunStands {L : Type 0} (seen : L → LinkView) (start : Beginning) (s : SingleView) (ends : LinkEndsView L) (p : Player) (net : NetView) (is_dry : Bool) : Type 0 where
+  pub sound : IsSound s
+  pub play : PlayStands s.setting s.seen p
+  pub ends_stand : EndsStand seen s.setting start s.seen net ends
+  pub dry : IsDry is_dry s
+
+-- each pipe that is up has all written that was put on it
+abbrev pub AreCleared : List Entry → Type 0
+AreCleared past = (p : ℕ) → has (up past) p ≡ true → is_cleared past p ≡ true
+
+-- a pipe has something left to write
+abbrev pub has_more : Served → Bool
+has_more r = nat_lt 0 r.waiting
+
+-- nothing is under way, the play came to its end, and all is written
+pub record IsThrough (s : SingleView) (p : Player) : Type 0 where
+  pub free : p.op ≡ None
+  pub cleared : AreCleared (past_of s.seen)
+
+-- ---- Parts of a round
+
+-- what a part of a round left
+abbrev pub GoesTo : Going → SingleView → Player → Type 0
+GoesTo (goings.Rests moved) s p = HasServed s.setting s.seen × HasPlayed s.setting s.seen p
+GoesTo goings.Over s p = (p.op ≡ None) × (p.over ≡ overs.Open → ⊥)
+GoesTo goings.OutFault s p = ⊤
+GoesTo goings.NoMemory s p = ⊤
+
+abbrev pub PrintsGoing : Going → Option (List ℕ) → Option (List ℕ) → List (Turn Entry) → Player → Type 0
+PrintsGoing (goings.Rests moved) before now h p = HasPrinted before now h p
+PrintsGoing goings.Over before now h p = HasPrinted before now h p
+PrintsGoing goings.OutFault before now h p = HasPrintedCut before now h p
+PrintsGoing goings.NoMemory before now h p = HasPrintedCut before now h p
+
+-- ---- Rounds
+
+-- what a round left
+abbrev pub RoundGoesTo : Round → SingleView → Player → Type 0
+RoundGoesTo (rounds.Goes moved) s p = MayTick s.setting s.seen p
+RoundGoesTo (rounds.Ends status.Done) s p = IsThrough s p × (p.over ≡ overs.Finished)
+RoundGoesTo (rounds.Ends status.SendTimedOut) s p = IsThrough s p × (p.over ≡ overs.SendTimedOut)
+RoundGoesTo (rounds.Ends status.OutFault) s p = ⊤
+RoundGoesTo (rounds.Ends status.NoMemory) s p = ⊤
+RoundGoesTo (rounds.Ends _) s p = ⊥
+
+abbrev pub PrintsRound : Round → Option (List ℕ) → Option (List ℕ) → List (Turn Entry) → Player → Type 0
+PrintsRound (rounds.Ends status.OutFault) before now h p = HasPrintedCut before now h p
+PrintsRound (rounds.Ends status.NoMemory) before now h p = HasPrintedCut before now h p
+PrintsRound _ before now h p = HasPrinted before now h p
+
+-- the names were dialed and asked once, in the registry that the round found, and the round leaves it as that did
+abbrev pub TurnsNames : {L : Type 0} → ℕ → EndsView L → EndsView L → Registry → Registry → Type 0
+TurnsNames now old new reg reg' =
+    (s : SingleView) × (s' : SingleView) × TurnsLanes now old.links.role (length new.links.newcomers) old.names.names s s' reg reg' old.names.callers new.names.callers
+
+-- a link was missed when out of memory at most where the round ends so
+abbrev pub RoundStands : {L : Type 0} → (L → LinkView) → Beginning → Round → SingleView → LinkEndsView L → Player → NetView → Type 0
+RoundStands seen start (rounds.Ends status.NoMemory) s ends p net = (is_dry : Bool) × RunStands seen start s ends p net is_dry
+RoundStands seen start _ s ends p net = RunStands seen start s ends p net false
+
+-- the last tick of the history
+abbrev pub past_now : SingleView → ℕ
+past_now s = now (past_of s.seen)
+
+-- the round ticked once, at this moment
+pub record TicksOnce (t : ℕ) (old new : SingleView) : Type 0 where
+  pub now_is : past_now new ≡ t
+  pub ticks_are : length (ticks (past_of new.seen)) ≡ length (ticks (past_of old.seen)) + 1
+
+-- ---- All rounds
+
+-- a link was missed when out of memory
+abbrev pub is_dry_at : SingleView → Bool
+is_dry_at s = has_dry_miss (past_of s.seen)
+
+-- at most where the run ends so
+abbrev pub IsDryAt : Status → SingleView → Type 0
+IsDryAt status.NoMemory s = ⊤
+IsDryAt _ s = is_dry_at s ≡ false
+
+-- why the rounds ended so
+abbrev pub WentOrOver : Status → SingleView → Player → SinkView → SinkView → PaceView → Type 0
+WentOrOver status.Over s p out out' pace = (pace.left ≡ 0) × (pace.is_over ≡ true)
+WentOrOver status.Done s p out out' pace = IsThrough s p × (p.over ≡ overs.Finished)
+WentOrOver status.SendTimedOut s p out out' pace = IsThrough s p × (p.over ≡ overs.SendTimedOut)
+WentOrOver status.OutFault s p out out' pace = ⊤
+WentOrOver status.NoMemory s p out out' pace = ⊤
+WentOrOver _ s p out out' pace = ⊥
+
+-- what the pace gave and said
+pub record PacedTo (s : Status) (old new : PaceView) (past : List Entry) : Type 0 where
+  pub left : old.left ≡ new.left + length (ticks past)
+  pub few : length (ticks past) < 2 ^ 64
+  pub over : s ≡ status.Over → new.is_over ≡ true
+  pub not_over : ¬ (s ≡ status.Over) → new.is_over ≡ old.is_over
+
+-- what stands in the sink when the rounds ended so
+abbrev pub PrintsTo : Status → Option (List ℕ) → Option (List ℕ) → List (Turn Entry) → Player → Type 0
+PrintsTo status.OutFault before now h p = HasPrintedCut before now h p
+PrintsTo status.NoMemory before now h p = HasPrintedCut before now h p
+PrintsTo _ before now h p = HasPrinted before now h p
+
+-- ---- Before and after
+
+abbrev pub RunIsOpen : {L : Type 0} → (L → LinkView) → SingleView → EndsView L → Player → NetView → Type 0
+RunIsOpen seen s ends p net = (start : Beginning) × RunStands seen start s ends.links p net false
+
+-- an open run goes on, and what stood between two rounds stands
+abbrev pub RunGoesOn : {L : Type 0} → (L → LinkView) → SingleView → SingleView → EndsView L → EndsView L → Player → Player → NetView → NetView → Type 0
+RunGoesOn seen s s' ends ends' p p' net net' =
+    (start : Beginning) → RunStands seen start s ends.links p net false → RunStands seen start s' ends'.links p' net' (is_dry_at s')
+
+-- the same of one round
+abbrev pub RoundGoesOn : {L : Type 0} → (L → LinkView) → Round → SingleView → SingleView → EndsView L → EndsView L → Player → Player → NetView → NetView → Type 0
+RoundGoesOn seen result s s' ends ends' p p' net net' =
+    (start : Beginning) → RunStands seen start s ends.links p net false → RoundStands seen start result s' ends'.links p' net'
+
+-- the same run: its ends, its script, and the setting of its socket
+abbrev pub SameRun : {L : Type 0} → SingleView → SingleView → EndsView L → EndsView L → Player → Player → Type 0
+SameRun s s' ends ends' p p' = SameEnds ends.links ends'.links × SameScript p p' × (s'.setting ≡ s.setting)

@@ -1,0 +1,30 @@
+-- When an address is dialed.
+use Rattle.std.specs.Prelude.{◌≡◌, ◌≤◌, ◌<◌, ◌+◌, ◌^◌, ℕ, true, List, [], ◌∷◌, length, Some, None, if◌then◌else◌, nat_le}
+use Rattle.sp_base.specs.Addresses.{is_dialable}
+use Rattle.sp_history.specs.declared.entry.Entry.{Entry}
+use Rattle.cat_play.specs.Spending.{spaced_from}
+use Rattle.sp_history.specs.Found.{ticks}
+use Rattle.end_parts.specs.declared.dialer.Dialer.{Dialer}
+use Rattle.sp_base.specs.declared.addr.Addr.{Addr}
+use Rattle.end_parts.specs.DialMoments.{moment}
+
+-- from this moment on the next try may come, after tries at the first tick from `from` on, and then at each that is at
+-- least 100 above the one before
+abbrev pub next_from : ℕ → List ℕ → ℕ
+next_from from [] = from
+next_from from (t ∷ ts) = if nat_le from t then next_from (t + 100) ts else next_from from ts
+
+-- a link to it can be asked for
+abbrev pub IsDialable : Addr → Type 0
+IsDialable addr = is_dialable addr ≡ true
+
+-- The address can be dialed. As long as no link was handed out, it was dialed at each tick at which it may have been;
+-- and it was dialed at the first tick
+pub record IsDialed (same : Type 0) (past : List Entry) (d : Dialer) : Type 0 where
+  pub dialable : IsDialable d.addr
+  pub free : same → d.place ≡ None
+  pub next : same → d.next ≡ moment (next_from 0 (ticks past))
+  pub tries : same → length (ticks past) < 2 ^ 64 → length (spaced_from 0 (ticks past)) ≤ d.tries
+  -- before the first tick it is free, and may be dialed at once
+  pub begun : ticks past ≡ [] → (d.place ≡ None) × (d.next ≡ Some 0)
+  pub once : 0 < length (ticks past) → 1 ≤ d.tries

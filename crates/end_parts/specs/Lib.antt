@@ -1,0 +1,10 @@
+pub mod DialMoments
+pub mod Dialing
+pub mod EndViews
+pub mod RunLinks
+pub mod DialerSteps
+pub mod SocketSteps
+pub mod NewcomerSteps
+pub mod ShutWires
+pub mod AddedNames
+pub mod NameSteps

@@ -1,0 +1,36 @@
+-- Replies that are passed over, none of which can leave.
+use Rattle.std.proofs.Common.{◌≡◌, List, [], ◌∷◌, ℕ, Bool, true, false, cond, Option, Some, None, map, take}
+use Rattle.std.specs.Prelude.{find, ◌||◌, ◌==◌}
+use Rattle.proto_requests.specs.Ports.{PortView, marked, is_pipe, way_at, where_is}
+use Rattle.proto_requests.specs.declared.ports.Destination.TheVariants as ways
+use Rattle.proto_requests.proofs.FirstPlaces.{none_as}
+use Rattle.proto_requests.proofs.Spotted.{none_of_none}
+use Rattle.proto_rep.specs.declared.rep.Reply.{Reply}
+use Rattle.proto_rep.specs.Replies.{RepliesView, AreStuck, StayPassed, can_leave, isnt_full, target_of}
+
+pub none_stuck : (raw : Bool) (xs : List PortView) (v : RepliesView) → v.passed ≡ 0 → AreStuck raw xs v
+none_stuck raw xs v e = none_of_none (can_leave raw xs) v.passed v.items e
+
+pub stay_stuck : (m n : Reply) → n.ports ≡ m.ports → n.raw ≡ m.raw → StayPassed m.waiting.replies n.waiting.replies → AreStuck m.raw m.ports.items m.waiting.replies → AreStuck n.raw n.ports.items n.waiting.replies
+stay_stuck m n p r s h = rw (p, r) (s (can_leave m.raw m.ports.items) h)
+
+-- where one more pipe is full, no more can go
+still_full : (p : ℕ) (xs : List PortView) (to : Option ℕ) → isnt_full (where_is (map (marked p) xs) to) ≡ true → isnt_full (where_is xs to) ≡ true
+still_full p xs None h = h
+still_full p xs (Some q) h = go xs h
+  where
+    full : (a b : Bool) → isnt_full (cond (a || b) ways.Full (ways.To q)) ≡ true → isnt_full (cond b ways.Full (ways.To q)) ≡ true
+    full true b h = absurd cc
+    full false b h = h
+
+    go : (xs : List PortView) → isnt_full (way_at q (find (is_pipe q) (map (marked p) xs))) ≡ true → isnt_full (way_at q (find (is_pipe q) xs)) ≡ true
+    go [] h = h
+    go (x ∷ xs) h = step (x.pipe == q) h (go xs)
+      where
+        step : (b : Bool) → isnt_full (way_at q (cond b (Some (marked p x)) (find (is_pipe q) (map (marked p) xs)))) ≡ true → (isnt_full (way_at q (find (is_pipe q) (map (marked p) xs))) ≡ true → isnt_full (way_at q (find (is_pipe q) xs)) ≡ true)
+            → isnt_full (way_at q (cond b (Some x) (find (is_pipe q) xs))) ≡ true
+        step true h again = full (p == x.pipe) x.is_full h
+        step false h again = again h
+
+pub marked_stuck : (raw : Bool) (p : ℕ) (xs : List PortView) (v : RepliesView) → AreStuck raw xs v → AreStuck raw (map (marked p) xs) v
+marked_stuck raw p xs v h = none_as (can_leave raw xs) (can_leave raw (map (marked p) xs)) (take v.passed v.items) (λ w. still_full p xs (target_of raw w.answer)) h

@@ -1,0 +1,73 @@
+-- One end more.
+use Rattle.std.specs.Prelude.{◌≡◌, ◌≤◌, ◌+◌, ◌++◌, ℕ, [], ◌∷◌, Some, None, Result, Ok, Err}
+use Rattle.std.specs.FinMap.{get, insert}
+use Rattle.sp_spec.specs.Outside.{Rose}
+use Rattle.sp_base.specs.Views.{NetView}
+use Rattle.sp_base.specs.declared.addr.Scheme.{Scheme}
+use Rattle.sp_base.specs.Addresses.{scheme_of}
+use Rattle.end_parts.specs.declared.dialer.Dialer.{Dialer}
+use Rattle.end_parts.specs.declared.listener.Listener.{Listener}
+use Rattle.end_parts.specs.Dialing.{IsDialable}
+use Rattle.sp_base.specs.Steps.{Untouched}
+use Rattle.sp_base.specs.declared.error.NoMemory.{NoMemory}
+use Rattle.sp_base.specs.declared.addr.Addr.{Addr}
+use Rattle.end_parts.specs.EndViews.{LinkEndsView, EndsView}
+use Rattle.sp_base.specs.declared.addr.Addr.TheVariants as addrs
+use Rattle.sp_lane.specs.Registry.{Registry, names}
+use Rattle.end_parts.specs.declared.error.EndError.{EndError}
+use Rattle.end_parts.specs.declared.error.EndError.TheVariants as errors
+use Rattle.end_parts.specs.AddedNames.{ListensName, DialsName}
+
+-- the net listens under a new number
+pub record ListensAt (at : ℕ) (scheme : Scheme) (old new : NetView) : Type 0 where
+  pub fresh : get old.listens at ≡ None
+  pub listens : new.listens ≡ insert old.listens at scheme
+  pub opened : new.opened ≡ old.opened
+  pub back : new.back ≡ old.back
+  pub faults : old.faults ≤ new.faults
+  pub idles : new.idles ≡ old.idles
+
+-- the net failed to
+pub record FailsToListen (old new : NetView) : Type 0 where
+  pub untouched : Untouched old new
+  pub fault : Rose old.faults new.faults
+  pub later : old.faults ≤ new.faults
+  pub idles : new.idles ≡ old.idles
+
+-- one listener more, or none and why
+abbrev pub ListensLink : {L : Type 0} → Result (Unit {0}) EndError → Addr → LinkEndsView L → LinkEndsView L → NetView → NetView → Type 0
+ListensLink (Ok done) addr old new net net' =
+    (l : Listener) × (l.addr ≡ addr) × (new ≡ record old { listeners = old.listeners ++ l ∷ [] }) × ListensAt l.at (scheme_of addr) net net'
+ListensLink (Err errors.Fault) addr old new net net' = (new ≡ old) × FailsToListen net net'
+ListensLink (Err errors.InUse) addr old new net net' = ⊥
+ListensLink (Err errors.NoMemory) addr old new net net' = (new ≡ old) × (net' ≡ net)
+
+-- a dialer of this address that has not dialed yet
+pub record IsNewDialer (addr : Addr) (d : Dialer) : Type 0 where
+  pub addr_is : d.addr ≡ addr
+  pub dialable : IsDialable d.addr
+  pub next : d.next ≡ Some 0
+  pub place : d.place ≡ None
+  pub tries : d.tries ≡ 0
+
+-- one dialer more, or none when out of memory
+abbrev pub DialsLink : {L : Type 0} → Result (Unit {0}) EndError → Addr → LinkEndsView L → LinkEndsView L → Type 0
+DialsLink (Ok done) addr old new = (d : Dialer) × IsNewDialer addr d × (new ≡ record old { dialers = old.dialers ++ d ∷ [] })
+DialsLink (Err errors.Fault) addr old new = ⊥
+DialsLink (Err errors.InUse) addr old new = ⊥
+DialsLink (Err errors.NoMemory) addr old new = new ≡ old
+
+-- ---- Either
+
+abbrev pub ListensAlso : {L : Type 0} → Result (Unit {0}) EndError → Addr → EndsView L → EndsView L → NetView → NetView → Registry → Registry → Type 0
+ListensAlso result (addrs.Tcp host port) old new net net' reg reg' =
+    ListensLink result (addrs.Tcp host port) old.links new.links net net' × (new.names ≡ old.names) × (reg' ≡ reg)
+ListensAlso result (addrs.Ws host port path) old new net net' reg reg' =
+    ListensLink result (addrs.Ws host port path) old.links new.links net net' × (new.names ≡ old.names) × (reg' ≡ reg)
+ListensAlso result (addrs.Inproc name) old new net net' reg reg' =
+    ListensName result name old.links.role old.names new.names reg reg' × (new.links ≡ old.links) × (net' ≡ net)
+
+abbrev pub DialsAlso : {L : Type 0} → Result (Unit {0}) EndError → Addr → EndsView L → EndsView L → Type 0
+DialsAlso result (addrs.Tcp host port) old new = DialsLink result (addrs.Tcp host port) old.links new.links × (new.names ≡ old.names)
+DialsAlso result (addrs.Ws host port path) old new = DialsLink result (addrs.Ws host port path) old.links new.links × (new.names ≡ old.names)
+DialsAlso result (addrs.Inproc name) old new = DialsName result name old.names new.names × (new.links ≡ old.links)

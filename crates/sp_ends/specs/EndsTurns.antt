@@ -1,0 +1,286 @@
+-- What a turn of the ends does, and its parts.
+use Rattle.std.specs.Prelude.{◌≡◌, ◌≤◌, ◌<◌, ◌+◌, ◌*◌, ◌^◌, ◌⊎◌, ℕ, ⊤, Bool, true, false, List, [], ◌∷◌, length, map, take, drop, Some, None, ◌-◌, min, zero, suc, if◌then◌else◌, Result, Ok, IfOk}
+use Rattle.std.specs.List.{AllByRecursion}
+use Rattle.turn_lock.specs.declared.turn.Turn.{Turn}
+use Rattle.sp_base.specs.Views.{LinkView, NetView}
+use Rattle.sp_base.specs.declared.addr.Scheme.{Scheme}
+use Rattle.sp_base.specs.declared.addr.Scheme.TheVariants as schemes
+use Rattle.sp_history.specs.declared.entry.Entry.{Entry}
+use Rattle.sp_history.specs.declared.setting.Setting.{Setting}
+use Rattle.sp_history.specs.Lists.{has}
+use Rattle.sp_history.specs.Past.{past_of, untaken, now}
+use Rattle.cat_play.specs.Spending.{CanRise, has_room}
+use Rattle.sp_history.specs.Found.{ticks, before_last_tick}
+use Rattle.end_parts.specs.declared.newcomer.Newcomer.{Newcomer}
+use Rattle.end_parts.specs.declared.dialer.Dialer.{Dialer}
+use Rattle.link_opening.specs.declared.way.Way.{Way}
+use Rattle.link_opening.specs.Openings.{scheme_for, CanBegin}
+use Rattle.link_opening.specs.Origins.{Origins, IsKnown}
+use Rattle.sp_base.specs.Steps.{IsHandedOut}
+use Rattle.sp_base.specs.declared.error.NoMemory.{NoMemory}
+use Rattle.sp_single.specs.Singles.{SingleView, IsSound, IsNow}
+use Rattle.sp_base.specs.declared.addr.Addr.{Addr}
+use Rattle.sp_ends.specs.Freeing.{Frees, AreSameDialers}
+use Rattle.end_parts.specs.DialMoments.{moment, is_due}
+use Rattle.end_parts.specs.EndViews.{LinkEndsView, Beginning}
+use Rattle.end_parts.specs.RunLinks.{AreOfRun, LinksStand, NetStands, SameCounts, sum_of, EndsStand}
+use Rattle.end_parts.specs.SocketSteps.{Quietly, NoLane, IsDry}
+use Rattle.end_parts.specs.DialerSteps.{IsSameDialer}
+use Rattle.end_parts.specs.NewcomerSteps.{IsYoung, HasWaitedOn}
+
+-- since the last tick nobody was greeted, accepted or dialed yet
+pub record EndsTicked {L : Type 0} (seen : L → LinkView) (z : Setting) (start : Beginning) (h : List (Turn Entry)) (net : NetView) (ends : LinkEndsView L) : Type 0 where
+  pub role : ends.role ≡ z.role
+  pub links : LinksStand seen z start h net ends.newcomers (length ends.newcomers)
+  pub asked : NetStands start (before_last_tick (past_of h)) (before_last_tick (past_of h)) net ends.listeners ends.dialers
+  pub of_run : AreOfRun start.origins ends
+  pub ticked : 0 < length (ticks (past_of h))
+  pub few : length ends.newcomers ≤ 320
+  -- where there was room at the tick, not more are to be greeted
+  pub room : has_room (before_last_tick (past_of h)) ≡ true → length ends.newcomers ≤ 192
+
+-- each pipe that was down and not taken is taken
+abbrev pub AllTaken : SingleView → SingleView → Type 0
+AllTaken old new = (p : ℕ) → has (untaken (past_of old.seen)) p ≡ true → has (untaken (past_of new.seen)) p ≡ false
+
+abbrev pub addrs_of : List Dialer → List Addr
+addrs_of ds = map (λ (d : Dialer). d.addr) ds
+
+-- the same ends, but for their links and what dialers know of theirs
+pub record SameEnds {L : Type 0} (old new : LinkEndsView L) : Type 0 where
+  pub role : new.role ≡ old.role
+  pub dice : new.dice ≡ old.dice
+  pub listeners : new.listeners ≡ old.listeners
+  pub dials : addrs_of new.dialers ≡ addrs_of old.dialers
+
+-- within a turn of the ends, where so many links are still to be greeted
+pub record InTurn {L : Type 0} (seen : L → LinkView) (start : Beginning) (ends : LinkEndsView L) (net : NetView) (s : SingleView) (now : ℕ) (k : ℕ) : Type 0 where
+  pub role : ends.role ≡ s.setting.role
+  pub links : LinksStand seen s.setting start s.seen net ends.newcomers k
+  pub of_run : AreOfRun start.origins ends
+  pub now_is : IsNow now s
+  pub ticked : 0 < length (ticks (past_of s.seen))
+  pub few : length ends.newcomers ≤ 320
+  pub sound : IsSound s
+
+-- the same with this link before the newcomers
+pub record InTurnWith {L : Type 0} (seen : L → LinkView) (start : Beginning) (n : Newcomer L) (ends : LinkEndsView L) (net : NetView) (s : SingleView) (now : ℕ) (k : ℕ) : Type 0 where
+  pub role : ends.role ≡ s.setting.role
+  pub links : LinksStand seen s.setting start s.seen net (n ∷ ends.newcomers) (suc k)
+  pub of_run : AreOfRun start.origins ends
+  pub now_is : IsNow now s
+  pub ticked : 0 < length (ticks (past_of s.seen))
+  pub sound : IsSound s
+
+-- a part of the turn that asks the net for no link
+pub record Serves {L : Type 0} (old new : LinkEndsView L) (net net' : NetView) (s s' : SingleView) : Type 0 where
+  pub ends : SameEnds old new
+  pub dialers : AreSameDialers old.dialers new.dialers
+  pub counts : SameCounts net net'
+  pub quietly : Quietly s s'
+  pub lanes : NoLane s s'
+
+-- the same ends, but for the dialers that have lost their link
+pub record SameButPlaces {L : Type 0} (old new : LinkEndsView L) : Type 0 where
+  pub ends : new ≡ record old { dialers = new.dialers }
+  pub dialers : AreSameDialers old.dialers new.dialers
+
+-- ---- Asking the net
+
+-- the net was asked once for a link
+pub record AsksNet (old new : NetView) : Type 0 where
+  pub listens : new.listens ≡ old.listens
+  pub opened : old.opened ≤ new.opened
+  pub idles : old.idles ≤ new.idles
+  pub faults : old.faults ≤ new.faults
+  pub rose : CanRise new.idles → CanRise new.faults → sum_of old + 1 ≤ sum_of new
+
+-- the dialer has tried once more; where no link was handed out it is free
+pub record HasDialed (now : ℕ) (same : Type 0) (old new : Dialer) : Type 0 where
+  pub addr : new.addr ≡ old.addr
+  pub tries : new.tries ≡ min (old.tries + 1) (2 ^ 64 - 1)
+  pub next : same → (new.next ≡ moment (now + 100)) × (new.place ≡ None)
+
+-- the dialer at this place has, and the others are the same but for the links that they have lost
+abbrev pub DialsOne : ℕ → ℕ → Type 0 → List Dialer → List Dialer → Type 0
+DialsOne i now same [] [] = ⊤
+DialsOne zero now same (d ∷ ds) (e ∷ es) = HasDialed now same d e × AreSameDialers ds es
+DialsOne (suc i) now same (d ∷ ds) (e ∷ es) = IsSameDialer d e × DialsOne i now same ds es
+DialsOne _ now same _ _ = ⊥
+
+abbrev pub DialsAt : ℕ → ℕ → NetView → NetView → List Dialer → List Dialer → Type 0
+DialsAt i now old new ds es = DialsOne i now (new.opened ≡ old.opened) ds es
+
+-- how many of the dialers are due
+abbrev pub dues_of : ℕ → List Dialer → ℕ
+dues_of now [] = 0
+dues_of now (d ∷ ds) = if is_due now d then dues_of now ds + 1 else dues_of now ds
+
+-- each listener was asked, and each dialer that was due was dialed. Where more than 192 links were in progress the listeners
+-- need not have been
+abbrev pub AsksAll : {L : Type 0} → ℕ → LinkEndsView L → NetView → NetView → Type 0
+AsksAll now ends old new =
+    length ends.newcomers ≤ 192 → CanRise new.idles → CanRise new.faults → sum_of old + length ends.listeners + dues_of now ends.dialers ≤ sum_of new
+
+-- those that were accepted made no more than 256 in progress, and each dial made one more at most
+abbrev pub FewInProgress : {L : Type 0} → LinkEndsView L → LinkEndsView L → Type 0
+FewInProgress old new = length old.newcomers ≤ 256 → length new.newcomers ≤ 256 + length old.dialers
+
+-- What was asked of the net for links, where each link counts once, and each answer that there is none, and each fault, as often
+-- as a listener is asked in a turn
+abbrev pub asks_of : NetView → ℕ
+asks_of net = 16 * (net.idles + net.faults) + net.opened
+
+-- so much was asked, or 256 links were in progress
+abbrev pub AsksUntilFull : {L : Type 0} → ℕ → LinkEndsView L → NetView → NetView → Type 0
+AsksUntilFull much ends old new =
+    CanRise new.idles → CanRise new.faults → (asks_of old + much ≤ asks_of new) ⊎ (256 + old.opened ≤ length ends.newcomers + new.opened)
+
+-- each listener was asked until it had no link, failed or had brought 16, and each dialer that was due was dialed; or 256 links
+-- were in progress
+abbrev pub AsksEach : {L : Type 0} → ℕ → LinkEndsView L → NetView → NetView → Type 0
+AsksEach now ends old new = AsksUntilFull (16 * length ends.listeners + dues_of now ends.dialers) ends old new
+
+-- each dialer that was due was dialed
+abbrev pub AsksDue : ℕ → List Dialer → NetView → NetView → Type 0
+AsksDue now ds old new = CanRise new.idles → CanRise new.faults → sum_of old + dues_of now ds ≤ sum_of new
+
+-- the same of all, but for so many at the front
+abbrev pub AreYoung : {L : Type 0} → ℕ → ℕ → List (Newcomer L) → Type 0
+AreYoung now k ns = AllByRecursion (IsYoung now) (drop k ns)
+
+-- ---- Links that waited
+
+abbrev pub IsOneOf : {L : Type 0} → List (Newcomer L) → Newcomer L → Type 0
+IsOneOf [] n = ⊥
+IsOneOf (m ∷ ms) n = (n ≡ m) ⊎ IsOneOf ms n
+
+-- it is one of those that were in progress first, or was handed out since
+abbrev pub IsFirstOrNew : {L : Type 0} → (L → LinkView) → List (Newcomer L) → ℕ → Newcomer L → Type 0
+IsFirstOrNew seen first opened n = IsOneOf first n ⊎ (opened ≤ (seen n.opening.link).place)
+
+-- since it was one of the first, or was handed out, it brought nothing or took nothing once
+abbrev pub HasWaitedSince : {L : Type 0} → (L → LinkView) → List (Newcomer L) → ℕ → Newcomer L → Type 0
+HasWaitedSince {L} seen first opened n =
+    ((m : Newcomer L) × IsOneOf first m × HasWaitedOn seen m n) ⊎ ((opened ≤ (seen n.opening.link).place) × ((1 ≤ (seen n.opening.link).idles) ⊎ (1 ≤ (seen n.opening.link).stalls)))
+
+-- so many at the front are still to be greeted; each other has waited
+pub record AreWaitingBehind {L : Type 0} (seen : L → LinkView) (first : List (Newcomer L)) (opened k : ℕ) (ns : List (Newcomer L)) : Type 0 where
+  pub within : k ≤ length ns
+  pub front : AllByRecursion (IsFirstOrNew seen first opened) (take k ns)
+  pub rest : AllByRecursion (HasWaitedSince seen first opened) (drop k ns)
+
+-- So many listeners were asked, until 256 links were in progress, and brought so many links at most
+pub record HasAsked {L : Type 0} (seen : L → LinkView) (asked most : ℕ) (old new : LinkEndsView L) (net net' : NetView) (s s' : SingleView) (now : ℕ) (is_dry : Bool) : Type 0 where
+  pub in_turn : (start : Beginning) → InTurn seen start old net s now 0 → InTurn seen start new net' s' now 0
+  pub ends : SameEnds old new
+  pub dialers : AreSameDialers old.dialers new.dialers
+  pub frees : Frees now net net' old.dialers new.dialers
+  pub quietly : Quietly s s'
+  pub lanes : NoLane s s'
+  pub dry : IsDry is_dry s'
+  pub few : length new.newcomers + net.opened ≤ length old.newcomers + net'.opened
+  -- none is asked for while 256 links are in progress
+  pub held : (n : ℕ) → 256 ≤ n → length old.newcomers ≤ n → length new.newcomers ≤ n
+  pub listens : net'.listens ≡ net.listens
+  pub opened : net.opened ≤ net'.opened
+  pub handed : net'.opened ≤ net.opened + most
+  pub young : AreYoung now 0 old.newcomers → AreYoung now 0 new.newcomers
+  pub waited : (first : List (Newcomer L)) (opened : ℕ) → opened ≤ net.opened → AreWaitingBehind seen first opened 0 old.newcomers → AreWaitingBehind seen first opened 0 new.newcomers
+  pub idles : net.idles ≤ net'.idles
+  pub faults : net.faults ≤ net'.faults
+  pub rose : CanRise net'.idles → CanRise net'.faults → (sum_of net + asked ≤ sum_of net') ⊎ (256 + net.opened ≤ length old.newcomers + net'.opened)
+  -- each had no link, failed, or brought 16
+  pub filled : AsksUntilFull most old net net'
+
+-- the same way, where there is room for one link more
+abbrev pub FitsIn : {L : Type 0} → Result Way NoMemory → Result Way NoMemory → LinkEndsView L → Type 0
+FitsIn way result ends = IfOk result (λ w. (way ≡ Ok w) × (length ends.newcomers < 320))
+
+-- ---- A link that is new
+
+-- a link that was handed out begins in a known way; this is the way, unless out of memory
+pub record Arrives (o : Origins) (link : LinkView) (way : Result Way NoMemory) (old new : NetView) : Type 0 where
+  pub begins : Way
+  pub is : IfOk way (λ w. w ≡ begins)
+  pub known : IsKnown o begins
+  pub can : CanBegin begins
+  pub handed : IsHandedOut link (Some (scheme_for begins)) old new
+
+-- how many links of WebSocket were dialed, once one of this scheme was
+abbrev pub asked_after : Scheme → ℕ → ℕ
+asked_after schemes.Tcp asked = asked
+asked_after schemes.Ws asked = min (asked + 1) (2 ^ 64 - 1)
+asked_after schemes.Inproc asked = asked
+
+-- ---- Before and after a part of the turn
+
+abbrev pub HaveTicked : {L : Type 0} → (L → LinkView) → SingleView → NetView → LinkEndsView L → Type 0
+HaveTicked seen s net ends = (start : Beginning) × EndsTicked seen s.setting start s.seen net ends
+
+-- ends that have ticked stand between two rounds again
+abbrev pub StandAgain : {L : Type 0} → (L → LinkView) → SingleView → SingleView → NetView → NetView → LinkEndsView L → LinkEndsView L → Type 0
+StandAgain seen s s' net net' old new =
+    (start : Beginning) → EndsTicked seen s.setting start s.seen net old → EndsStand seen s'.setting start s'.seen net' new
+
+abbrev pub IsInTurn : {L : Type 0} → (L → LinkView) → LinkEndsView L → NetView → SingleView → ℕ → ℕ → Type 0
+IsInTurn seen ends net s now k = (start : Beginning) × InTurn seen start ends net s now k
+
+-- within the turn, with so many links that are still to be greeted before and after
+abbrev pub TurnGoesOn : {L : Type 0} → (L → LinkView) → ℕ → LinkEndsView L → LinkEndsView L → NetView → NetView → SingleView → SingleView → ℕ → ℕ → Type 0
+TurnGoesOn seen now old new net net' s s' k k' =
+    (start : Beginning) → InTurn seen start old net s now k → InTurn seen start new net' s' now k'
+
+-- the same where all are still to be greeted
+abbrev pub UngreetedGoOn : {L : Type 0} → (L → LinkView) → ℕ → LinkEndsView L → LinkEndsView L → NetView → NetView → SingleView → SingleView → Type 0
+UngreetedGoOn seen now old new net net' s s' =
+    TurnGoesOn seen now old new net net' s s' (length old.newcomers) (length new.newcomers)
+
+-- no listener was asked since the last tick, and no address dialed
+abbrev pub AreToBeAsked : {L : Type 0} → (L → LinkView) → LinkEndsView L → NetView → SingleView → ℕ → Type 0
+AreToBeAsked seen ends net s now =
+    (start : Beginning) × InTurn seen start ends net s now (length ends.newcomers) × NetStands start (before_last_tick (past_of s.seen)) (before_last_tick (past_of s.seen)) net ends.listeners ends.dialers
+
+-- they were, and the ends stand between two rounds
+abbrev pub AskedStand : {L : Type 0} → (L → LinkView) → ℕ → LinkEndsView L → LinkEndsView L → NetView → NetView → SingleView → SingleView → Type 0
+AskedStand seen now old new net net' s s' =
+    (start : Beginning) → InTurn seen start old net s now (length old.newcomers) → NetStands start (before_last_tick (past_of s.seen)) (before_last_tick (past_of s.seen)) net old.listeners old.dialers → EndsStand seen s'.setting start s'.seen net' new
+
+-- the listeners were asked, and no address was dialed since the last tick
+abbrev pub AreToBeDialed : {L : Type 0} → (L → LinkView) → LinkEndsView L → NetView → SingleView → ℕ → Type 0
+AreToBeDialed seen ends net s now =
+    (start : Beginning) × InTurn seen start ends net s now 0 × NetStands start (past_of s.seen) (before_last_tick (past_of s.seen)) net ends.listeners ends.dialers
+
+-- each that was due is dialed
+abbrev pub DialedStand : {L : Type 0} → (L → LinkView) → ℕ → LinkEndsView L → LinkEndsView L → NetView → NetView → SingleView → SingleView → Type 0
+DialedStand seen now old new net net' s s' =
+    (start : Beginning) → InTurn seen start old net s now 0 → NetStands start (past_of s.seen) (before_last_tick (past_of s.seen)) net old.listeners old.dialers → NetStands start (past_of s'.seen) (past_of s'.seen) net' new.listeners new.dialers
+
+abbrev pub CountsRise : NetView → NetView → Type 0
+CountsRise old new = (old.idles ≤ new.idles) × (old.faults ≤ new.faults) × (old.opened ≤ new.opened)
+
+-- whichever were in progress first, and from whichever place on links are new, not above this one: all waited before, and all
+-- have waited now
+abbrev pub WaitOn : {L : Type 0} → (L → LinkView) → ℕ → List (Newcomer L) → List (Newcomer L) → Type 0
+WaitOn {L} seen most old new =
+    (first : List (Newcomer L)) (opened : ℕ) → opened ≤ most → AreWaitingBehind seen first opened 0 old → AreWaitingBehind seen first opened 0 new
+
+-- the same where this one was the first of them
+abbrev pub WaitWith : {L : Type 0} → (L → LinkView) → Newcomer L → List (Newcomer L) → List (Newcomer L) → Type 0
+WaitWith {L} seen n old new =
+    (first : List (Newcomer L)) (opened k : ℕ) → IsFirstOrNew seen first opened n → AreWaitingBehind seen first opened k old → AreWaitingBehind seen first opened k new
+
+-- the first of the newcomers is greeted
+abbrev pub GreetsInTurn : {L : Type 0} → (L → LinkView) → ℕ → Newcomer L → LinkEndsView L → LinkEndsView L → NetView → NetView → SingleView → SingleView → Type 0
+GreetsInTurn seen now n old new net net' s s' =
+    (start : Beginning) (k : ℕ) → InTurnWith seen start n old net s now k → InTurn seen start new net' s' now k
+
+-- the net handed this link out within the turn
+abbrev pub HasArrived : {L : Type 0} → (L → LinkView) → ℕ → L → Result Way NoMemory → LinkEndsView L → NetView → SingleView → Type 0
+HasArrived seen now link way ends net s =
+    (start : Beginning) × (before : NetView) × InTurn seen start ends before s now 0 × Arrives start.origins (seen link) way before net
+
+-- it is met, and greeted
+abbrev pub MeetsInTurn : {L : Type 0} → (L → LinkView) → ℕ → L → Result Way NoMemory → LinkEndsView L → LinkEndsView L → NetView → NetView → SingleView → SingleView → Type 0
+MeetsInTurn seen now link way old new net net' s s' =
+    (start : Beginning) (before : NetView) → InTurn seen start old before s now 0 → Arrives start.origins (seen link) way before net → InTurn seen start new net' s' now 0
