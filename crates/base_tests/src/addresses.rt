@@ -1,7 +1,7 @@
 //! Addresses of each transport, right and wrong, with the place of each fault.
+use crate::checks::{holds, made, same};
 use sp_base::{Addr, AddrError, Host};
 use std::alloc::Global;
-use std::test::Fail;
 
 // The host and the port of an address of TCP.
 fn endpoint_of(alloc: Global, text: &str) -> Result<(Host, u16), AddrError> {
@@ -26,7 +26,7 @@ fn addresses_are_read(rt: HostRuntime) {
         ),
     ];
     for (text, host, port) in read {
-        assert_eq!(rt; endpoint_of(rt.alloc(), text), Ok((*host, *port)));
+        same(&rt, endpoint_of(rt.alloc(), text), Ok((*host, *port)));
     }
     let refused: &[(&str, u32)] = &[
         ("inproc://", 9),
@@ -57,9 +57,10 @@ fn addresses_are_read(rt: HostRuntime) {
         ("ws://1.2.3.4:080", 14),
     ];
     for (text, at) in refused {
-        assert_eq!(rt;
+        same(
+            &rt,
             endpoint_of(rt.alloc(), text),
-            Err(AddrError::Fault { at: *at })
+            Err(AddrError::Fault { at: *at }),
         );
     }
 }
@@ -76,13 +77,14 @@ fn name_is(alloc: Global, text: &str, wanted: &[u8]) -> bool {
 fn names_within_the_process_are_read(rt: HostRuntime) {
     const LONGEST: &str =
         "inproc://0123456789012345678901234567890123456789012345678901234567890123456789012345678901234567890123456789012345678901234567890123456789";
-    assert!(rt; name_is(rt.alloc(), "inproc://x", b"x"));
-    assert!(rt; name_is(rt.alloc(), "inproc://!~", b"!~"));
+    holds(&rt, name_is(rt.alloc(), "inproc://x", b"x"));
+    holds(&rt, name_is(rt.alloc(), "inproc://!~", b"!~"));
     let name = LONGEST.as_bytes();
-    assert!(rt; name.len() > 137);
-    assert_eq!(rt;
+    holds(&rt, name.len() > 137);
+    same(
+        &rt,
         endpoint_of(rt.alloc(), LONGEST),
-        Err(AddrError::Fault { at: 137 })
+        Err(AddrError::Fault { at: 137 }),
     );
 }
 
@@ -101,7 +103,7 @@ fn web_is(alloc: Global, text: &str, host: Host, port: u16, path: &[u8]) -> bool
 }
 
 #[test]
-fn addresses_of_websocket_are_read(rt: HostRuntime) -> Result<(), Fail> {
+fn addresses_of_websocket_are_read(rt: HostRuntime) {
     const LOCAL: Host = Host::V4(127, 0, 0, 1);
     const FOUR: Host = Host::V4(1, 2, 3, 4);
     let read: &[(&str, Host, u16, &[u8])] = &[
@@ -112,32 +114,32 @@ fn addresses_of_websocket_are_read(rt: HostRuntime) -> Result<(), Fail> {
         ("ws://1.2.3.4:0//aZ09-._~/", FOUR, 0, b"//aZ09-._~/"),
     ];
     for (text, host, port, path) in read {
-        assert!(rt; web_is(rt.alloc(), text, *host, *port, path));
+        holds(&rt, web_is(rt.alloc(), text, *host, *port, path));
     }
-    Ok(())
 }
 
 #[test]
-fn a_path_has_at_most_128_bytes(rt: HostRuntime) -> Result<(), Fail> {
-    let mut text = String::from_str(rt.alloc(), "ws://1.2.3.4:80/")?;
+fn a_path_has_at_most_128_bytes(rt: HostRuntime) {
+    let mut text = made(&rt, String::from_str(rt.alloc(), "ws://1.2.3.4:80/"));
     for _ in 0..127u32 {
-        text.push_str("a")?;
+        made(&rt, text.push_str("a"));
     }
-    let path = text.as_bytes().to_vec(rt.alloc())?;
+    let path = made(&rt, text.as_bytes().to_vec(rt.alloc()));
     assert!(rt; path.len() == 143);
-    assert!(rt;
+    holds(
+        &rt,
         web_is(
             rt.alloc(),
             text.as_str(),
             Host::V4(1, 2, 3, 4),
             80,
-            &path[15..]
-        )
+            &path[15..],
+        ),
     );
-    text.push_str("a")?;
-    assert_eq!(rt;
+    made(&rt, text.push_str("a"));
+    same(
+        &rt,
         endpoint_of(rt.alloc(), text.as_str()),
-        Err(AddrError::Fault { at: 143 })
+        Err(AddrError::Fault { at: 143 }),
     );
-    Ok(())
 }

@@ -1,12 +1,13 @@
 //! Worked runs of lanes, of the wire over two of them and of names within the process.
 ghost use Rattle.std.specs.Prelude.{◌≡◌, true};
 
+use crate::checks::{holds, is_none, is_ok, made, same};
 use sp_base::Role;
 use sp_lane::{Inproc, InprocError, LaneIn, LaneOut, LaneWire, Put, PutEnd, Taken, finish, lane};
 use sp_msg::{Message, Room, Wire, WireFlush, WireIn};
 use std::alloc::Global;
+use std::process::Abort;
 use std::sync::Wait;
-use std::test::Fail;
 use std::thread::join;
 
 fn put_one<R: Wait>(rt: &R, mut input: LaneIn, m: Message) -> LaneIn
@@ -27,9 +28,9 @@ fn take_one<R: Wait>(rt: &R, mut output: LaneOut) -> LaneOut
 
 // Both ends go to threads of their own.
 #[test]
-fn ends_go_to_threads(rt: HostRuntime) -> Result<(), Fail> {
-    let (input, output) = lane(rt.alloc(), 1)?;
-    let m = Message::from_body(rt.alloc(), b"a")?;
+fn ends_go_to_threads(rt: HostRuntime) {
+    let (input, output) = made(&rt, lane(rt.alloc(), 1));
+    let m = made(&rt, Message::from_body(rt.alloc(), b"a"));
     let (input, output) = join(
         &rt,
         move || -> LaneIn
@@ -40,33 +41,27 @@ fn ends_go_to_threads(rt: HostRuntime) -> Result<(), Fail> {
         { take_one(&rt, output) },
     );
     let end = finish(input, output);
-    assert!(rt; end.left <= 1);
-    Ok(())
+    holds(&rt, end.left <= 1);
 }
 
 // Whether a put of this text was done.
-fn puts<R: Wait>(rt: &R, alloc: Global, input: &mut LaneIn, text: &[u8]) -> Result<bool, Fail> {
-    let m = Message::from_body(alloc, text)?;
+fn puts<R: Wait + Abort>(rt: &R, alloc: Global, input: &mut LaneIn, text: &[u8]) -> bool {
+    let m = made(rt, Message::from_body(alloc, text));
     if input.is_ended() {
-        return Ok(false);
+        return false;
     }
-    Ok(matches!(input.put(rt, m), Put::Done))
+    matches!(input.put(rt, m), Put::Done)
 }
 
 // Whether a put of this text is refused, and the same message comes back.
-fn is_refused<R: Wait>(
-    rt: &R,
-    alloc: Global,
-    input: &mut LaneIn,
-    text: &[u8],
-) -> Result<bool, Fail> {
-    let m = Message::from_body(alloc, text)?;
+fn is_refused<R: Wait + Abort>(rt: &R, alloc: Global, input: &mut LaneIn, text: &[u8]) -> bool {
+    let m = made(rt, Message::from_body(alloc, text));
     if input.is_ended() {
-        return Ok(false);
+        return false;
     }
     match input.put(rt, m) {
-        Put::Done => Ok(false),
-        Put::Full(back) => Ok(back.header().is_empty() && back.body() == text),
+        Put::Done => false,
+        Put::Full(back) => back.header().is_empty() && back.body() == text,
     }
 }
 
@@ -87,15 +82,14 @@ fn gives<R: Wait>(rt: &R, output: &mut LaneOut, text: &[u8]) -> bool {
 }
 
 #[test]
-fn lanes_give_in_order(rt: HostRuntime) -> Result<(), Fail> {
-    let (mut input, mut output) = lane(rt.alloc(), 1)?;
-    assert!(rt; puts(&rt, rt.alloc(), &mut input, b"a")?);
-    assert!(rt; is_refused(&rt, rt.alloc(), &mut input, b"b")?);
-    assert!(rt; gives(&rt, &mut output, b"a"));
-    assert!(rt; matches!(output.take(&rt), Taken::Empty));
-    assert!(rt; ends(&rt, &mut input));
-    assert!(rt; matches!(output.take(&rt), Taken::End));
-    Ok(())
+fn lanes_give_in_order(rt: HostRuntime) {
+    let (mut input, mut output) = made(&rt, lane(rt.alloc(), 1));
+    holds(&rt, puts(&rt, rt.alloc(), &mut input, b"a"));
+    holds(&rt, is_refused(&rt, rt.alloc(), &mut input, b"b"));
+    holds(&rt, gives(&rt, &mut output, b"a"));
+    holds(&rt, matches!(output.take(&rt), Taken::Empty));
+    holds(&rt, ends(&rt, &mut input));
+    holds(&rt, matches!(output.take(&rt), Taken::End));
 }
 
 // The number of the answer, or 0.
@@ -110,17 +104,16 @@ fn number(answer: Result<LaneWire, InprocError>) -> u32 {
 }
 
 #[test]
-fn inproc_names_are_dialed_and_accepted(rt: HostRuntime) -> Result<(), Fail> {
+fn inproc_names_are_dialed_and_accepted(rt: HostRuntime) {
     let mut names = Inproc::new(rt.alloc());
-    assert_eq!(rt; number(names.dial(b"x", Role::Req)), 12);
-    assert!(rt; names.listen(b"x", Role::Rep).is_ok());
+    same(&rt, number(names.dial(b"x", Role::Req)), 12);
+    is_ok(&rt, names.listen(b"x", Role::Rep));
     let again = names.listen(b"x", Role::Rep);
-    assert!(rt; matches!(again, Err(InprocError::InUse)));
-    assert_eq!(rt; number(names.dial(b"x", Role::Push)), 13);
-    assert_eq!(rt; number(names.dial(b"x", Role::Req)), 0);
-    assert!(rt; names.accept(b"x").is_some());
-    assert!(rt; names.accept(b"x").is_none());
-    Ok(())
+    holds(&rt, matches!(again, Err(InprocError::InUse)));
+    same(&rt, number(names.dial(b"x", Role::Push)), 13);
+    same(&rt, number(names.dial(b"x", Role::Req)), 0);
+    holds(&rt, names.accept(b"x").is_some());
+    is_none(&rt, names.accept(b"x"));
 }
 
 // Puts a message on a wire that has room.
@@ -167,23 +160,18 @@ fn has_ended<R: Wait>(rt: &R, wire: &mut LaneWire) -> bool {
 }
 
 #[test]
-fn a_wire_within_the_process_carries_and_ends(rt: HostRuntime) -> Result<(), Fail> {
+fn a_wire_within_the_process_carries_and_ends(rt: HostRuntime) {
     let mut names = Inproc::new(rt.alloc());
-    assert!(rt; names.listen(b"x", Role::Rep).is_ok());
-    let Ok(mut dialed) = names.dial(b"x", Role::Req) else {
-        assert!(rt; false);
-        return Ok(());
-    };
+    is_ok(&rt, names.listen(b"x", Role::Rep));
+    let mut dialed = made(&rt, names.dial(b"x", Role::Req));
     let Some(mut met) = names.accept(b"x") else {
-        assert!(rt; false);
-        return Ok(());
+        panic!(rt; "nobody came")
     };
-    let mut m = Message::from_body(rt.alloc(), b"b")?;
-    assert!(rt; m.header_append_u32(0x6861_6861).is_ok());
-    assert!(rt; sends(&rt, &mut dialed, m));
-    assert!(rt; is_written(&rt, &mut dialed));
-    assert!(rt; pulls(&rt, &mut met, b"hahab"));
-    assert!(rt; shuts(&rt, &mut dialed));
-    assert!(rt; has_ended(&rt, &mut met));
-    Ok(())
+    let mut m = made(&rt, Message::from_body(rt.alloc(), b"b"));
+    is_ok(&rt, m.header_append_u32(0x6861_6861));
+    holds(&rt, sends(&rt, &mut dialed, m));
+    holds(&rt, is_written(&rt, &mut dialed));
+    holds(&rt, pulls(&rt, &mut met, b"hahab"));
+    holds(&rt, shuts(&rt, &mut dialed));
+    holds(&rt, has_ended(&rt, &mut met));
 }

@@ -5,6 +5,8 @@
 #[cfg(test)]
 mod addresses;
 #[cfg(test)]
+mod checks;
+#[cfg(test)]
 mod deadlines;
 #[cfg(test)]
 mod lanes;

@@ -1,21 +1,21 @@
 //! Numbers of errors, and of listeners with the schemes of their addresses.
+use crate::checks::{holds, made, same};
 use sp_base::{AddrError, ListenerSchemes, NoMemory, Scheme, SpError};
-use std::test::Fail;
 
 #[test]
 fn errors_have_their_numbers(rt: HostRuntime) {
-    assert_eq!(rt; SpError::from(NoMemory).code(), 2);
-    assert_eq!(rt; AddrError::from(NoMemory), AddrError::NoMemory);
-    assert_eq!(rt; SpError::from(AddrError::NoMemory).code(), 2);
-    assert_eq!(rt; SpError::from(AddrError::Fault { at: 3 }).code(), 15);
+    same(&rt, SpError::from(NoMemory).code(), 2);
+    same(&rt, AddrError::from(NoMemory), AddrError::NoMemory);
+    same(&rt, SpError::from(AddrError::NoMemory).code(), 2);
+    same(&rt, SpError::from(AddrError::Fault { at: 3 }).code(), 15);
 }
 
 #[test]
-fn listeners_are_numbered_from_0_on(rt: HostRuntime) -> Result<(), Fail> {
+fn listeners_are_numbered_from_0_on(rt: HostRuntime) {
     let mut schemes = ListenerSchemes::new(rt.alloc());
-    assert_eq!(rt; schemes.add(Scheme::Tcp)?, 0);
-    assert_eq!(rt; schemes.add(Scheme::Ws)?, 1);
-    assert_eq!(rt; schemes.add(Scheme::Tcp)?, 2);
-    assert!(rt; schemes.has(2) && !schemes.has(3));
-    Ok(())
+    same(&rt, made(&rt, schemes.add(Scheme::Tcp)), 0);
+    same(&rt, made(&rt, schemes.add(Scheme::Ws)), 1);
+    same(&rt, made(&rt, schemes.add(Scheme::Tcp)), 2);
+    holds(&rt, schemes.has(2));
+    holds(&rt, !schemes.has(3));
 }

@@ -3,6 +3,7 @@ ghost use Rattle.std.specs.Prelude.{◌≡◌, ◌<◌, true};
 ghost use Rattle.aio_word.specs.Word.{is_core_end};
 ghost use Rattle.aio_word.specs.Answers.{HasSeen, IsName};
 
+use crate::checks::{holds, is_none, made, same};
 use aio_word::{CallSeat, CoreSeat, Decided, Look, Phase, Polled, Raced, Words, words};
 use sp_base::OpName;
 use std::process::Abort;
@@ -12,53 +13,56 @@ use std::thread::{Threads, join};
 const RACES: u32 = 10_000;
 
 #[test]
-fn two_shares_name_the_same_words(rt: HostRuntime) -> Result<(), Fail> {
-    let (one, mut core, mut seats) = words(rt.alloc(), 2, 2)?;
-    let two = one.share()?;
+fn two_shares_name_the_same_words(rt: HostRuntime) {
+    let (one, mut core, mut seats) = made(&rt, words(rt.alloc(), 2, 2));
+    let two = made(&rt, one.share());
     let Some(mut second) = seats.pop() else {
         panic!(rt; "no seat")
     };
     let Some(mut first) = seats.pop() else {
         panic!(rt; "no seat")
     };
-    assert!(rt; seats.pop().is_none() && first.number() == 1 && second.number() == 2);
+    is_none(&rt, seats.pop());
+    same(&rt, first.number(), 1);
+    same(&rt, second.number(), 2);
 
     let Ok(op) = one.begin(&mut core, 0) else {
         panic!(rt; "a new slot is worn")
     };
-    assert!(rt; op.slot == 0 && op.generation == 1);
-    assert_eq!(rt; two.cancel(&mut second, op), Raced::Won);
+    same(&rt, op.slot, 0);
+    same(&rt, op.generation, 1);
+    same(&rt, two.cancel(&mut second, op), Raced::Won);
     let cancelled = Decided::Other {
         phase: Phase::Cancelled,
         by: 2,
     };
-    assert_eq!(rt; one.decide(&mut core, op, Phase::Won), cancelled);
+    same(&rt, one.decide(&mut core, op, Phase::Won), cancelled);
     let never = OpName {
         slot: 0,
         generation: 0,
     };
-    assert_eq!(rt; two.cancel(&mut first, never), Raced::Stale);
+    same(&rt, two.cancel(&mut first, never), Raced::Stale);
     let outside = OpName {
         slot: 2,
         generation: 1,
     };
-    assert_eq!(rt; one.cancel(&mut first, outside), Raced::Stale);
+    same(&rt, one.cancel(&mut first, outside), Raced::Stale);
 
     let Ok(op) = two.begin(&mut core, 0) else {
         panic!(rt; "a slot is worn at once")
     };
-    assert!(rt; op.slot == 0 && op.generation == 2);
-    assert_eq!(rt; one.poll(&mut first, op), Polled::Pending);
-    assert_eq!(rt; two.decide(&mut core, op, Phase::Won), Decided::Mine);
+    same(&rt, op.slot, 0);
+    same(&rt, op.generation, 2);
+    same(&rt, one.poll(&mut first, op), Polled::Pending);
+    same(&rt, two.decide(&mut core, op, Phase::Won), Decided::Mine);
     let won = Raced::Ended {
         phase: Phase::Won,
         by: 0,
     };
-    assert_eq!(rt; one.expire(&mut first, op), won);
+    same(&rt, one.expire(&mut first, op), won);
 
     one.join(&mut core, first);
     two.join(&mut core, second);
-    Ok(())
 }
 
 fn is_ended_by_core(
@@ -82,18 +86,18 @@ fn is_ended_by_core(
         phase: Phase::Pending,
         by: 0,
     };
-    assert_eq!(rt; words.look(core, op), pending);
-    assert_eq!(rt; words.decide(core, op, to), Decided::Mine);
+    same(rt, words.look(core, op), pending);
+    same(rt, words.decide(core, op, to), Decided::Mine);
     let ended = Look { phase: to, by: 0 };
-    assert_eq!(rt; words.look(core, op), ended);
-    assert_eq!(rt; words.poll(seat, op), Polled::Ended { phase: to, by: 0 });
+    same(rt, words.look(core, op), ended);
+    same(rt, words.poll(seat, op), Polled::Ended { phase: to, by: 0 });
     let again = words.decide(core, op, Phase::Shut);
-    assert_eq!(rt; again, Decided::Other { phase: to, by: 0 });
+    same(rt, again, Decided::Other { phase: to, by: 0 });
 }
 
 #[test]
-fn the_core_ends_in_four_ways(rt: HostRuntime) -> Result<(), Fail> {
-    let (words, mut core, mut seats) = words(rt.alloc(), 1, 1)?;
+fn the_core_ends_in_four_ways(rt: HostRuntime) {
+    let (words, mut core, mut seats) = made(&rt, words(rt.alloc(), 1, 1));
     let Some(mut seat) = seats.pop() else {
         panic!(rt; "no seat")
     };
@@ -101,7 +105,6 @@ fn the_core_ends_in_four_ways(rt: HostRuntime) -> Result<(), Fail> {
     is_ended_by_core(&rt, &words, &mut core, &mut seat, Phase::Shut);
     is_ended_by_core(&rt, &words, &mut core, &mut seat, Phase::Superseded);
     is_ended_by_core(&rt, &words, &mut core, &mut seat, Phase::SurveyOver);
-    Ok(())
 }
 
 #[test]
@@ -188,8 +191,8 @@ fn race<R: Threads + Sync>(
 }
 
 #[test]
-fn each_raced_operation_has_one_winner(rt: HostRuntime) -> Result<(), Fail> {
-    let (words, mut core, mut seats) = words(rt.alloc(), 1, 1)?;
+fn each_raced_operation_has_one_winner(rt: HostRuntime) {
+    let (words, mut core, mut seats) = made(&rt, words(rt.alloc(), 1, 1));
     let Some(mut seat) = seats.pop() else {
         panic!(rt; "no seat")
     };
@@ -202,11 +205,10 @@ fn each_raced_operation_has_one_winner(rt: HostRuntime) -> Result<(), Fail> {
         let ((next_core, mine), (next_seat, won)) = race(&rt, &words, core, seat, op);
         core = next_core;
         seat = next_seat;
-        assert!(rt; mine != won);
+        holds(&rt, mine != won);
         decided += u32::from(mine);
         cancelled += u32::from(won);
     }
     words.join(&mut core, seat);
-    assert_eq!(rt; decided + cancelled, RACES);
-    Ok(())
+    same(&rt, decided + cancelled, RACES);
 }

@@ -2,13 +2,13 @@
 ghost use Rattle.std.specs.Prelude.{◌≡◌, true};
 ghost use Rattle.sp_base.specs.Addresses.{is_dialable};
 
+use crate::checks::{holds, made, same};
 use sp_base::{Addr, Bytes, Files, Host, Link, LinkRead, Linked, Net, Role, Whole, next_value};
 use sp_fakes::{LinkStep, MemFiles, MemLink, MemNet, Returned};
 use sp_tcp::Greeting;
-use std::test::Fail;
 
 #[test]
-fn roles_have_their_numbers(rt: HostRuntime) -> Result<(), Fail> {
+fn roles_have_their_numbers(rt: HostRuntime) {
     // Each with its number, its peer's, its name, and whether it sends, receives and has contexts.
     let roles: &[(Role, u16, u16, &str, [bool; 3])] = &[
         (Role::Pair0, 16, 16, "pair", [true, true, false]),
@@ -23,56 +23,58 @@ fn roles_have_their_numbers(rt: HostRuntime) -> Result<(), Fail> {
         (Role::Bus, 112, 112, "bus", [true, true, false]),
     ];
     for (role, number, peer, name, can) in roles {
-        assert_eq!(rt; role.number(), *number);
-        assert_eq!(rt; role.peer().number(), *peer);
-        assert_eq!(rt; role.name(), *name);
-        assert_eq!(rt; [role.sends(), role.receives(), role.contexts()], *can);
-        assert_eq!(rt; Role::from_number(*number), Some(*role));
+        same(&rt, role.number(), *number);
+        same(&rt, role.peer().number(), *peer);
+        same(&rt, role.name(), *name);
+        same(&rt, [role.sends(), role.receives(), role.contexts()], *can);
+        same(&rt, Role::from_number(*number), Some(*role));
     }
     for number in [0, 17, 34, 65_535] {
-        assert_eq!(rt; Role::from_number(number), None);
+        same(&rt, Role::from_number(number), None);
     }
-    Ok(())
 }
 
 #[test]
-fn the_generator_begins_with_two_known_values(rt: HostRuntime) -> Result<(), Fail> {
+fn the_generator_begins_with_two_known_values(rt: HostRuntime) {
     let first = next_value(0);
-    assert_eq!(rt; first, 1_442_695_040_888_963_407);
-    assert_eq!(rt; next_value(first), 1_876_011_003_808_476_466);
-    Ok(())
+    same(&rt, first, 1_442_695_040_888_963_407);
+    same(&rt, next_value(first), 1_876_011_003_808_476_466);
 }
 
 #[test]
-fn bytes_grow(rt: HostRuntime) -> Result<(), Fail> {
-    let mut bytes = Bytes::from_slice(rt.alloc(), b"x")?;
-    bytes.append(b"yz")?;
-    assert_eq!(rt; bytes.as_slice(), b"xyz".as_slice());
+fn bytes_grow(rt: HostRuntime) {
+    let mut bytes = made(&rt, Bytes::from_slice(rt.alloc(), b"x"));
+    made(&rt, bytes.append(b"yz"));
+    same(&rt, bytes.as_slice(), b"xyz".as_slice());
     let mut items = bytes.into_vec();
-    items.push(b'!')?;
+    made(&rt, items.push(b'!'));
     let bytes = Bytes::from_vec(items);
-    assert_eq!(rt; bytes.as_slice(), b"xyz!".as_slice());
-    Ok(())
+    same(&rt, bytes.as_slice(), b"xyz!".as_slice());
 }
 
 #[test]
-fn files_in_memory_are_read_by_their_names(rt: HostRuntime) -> Result<(), Fail> {
+fn files_in_memory_are_read_by_their_names(rt: HostRuntime) {
     let alloc = rt.alloc();
     let mut pairs = Vec::new(alloc);
-    pairs.push((
-        String::from_str(alloc, "a")?,
-        Bytes::from_slice(alloc, b"one")?,
-    ))?;
+    made(
+        &rt,
+        pairs.push((
+            made(&rt, String::from_str(alloc, "a")),
+            made(&rt, Bytes::from_slice(alloc, b"one")),
+        )),
+    );
     let mut files = MemFiles::new(alloc, pairs, Vec::new(alloc));
     let found = files.whole("a");
-    assert!(rt; matches!(&found, Whole::Bytes(b) if b.as_slice() == b"one".as_slice()));
+    holds(
+        &rt,
+        matches!(&found, Whole::Bytes(b) if b.as_slice() == b"one".as_slice()),
+    );
     let missing = files.whole("b");
-    assert!(rt; matches!(&missing, Whole::Failed));
-    Ok(())
+    holds(&rt, matches!(&missing, Whole::Failed));
 }
 
 #[test]
-fn greetings_of_all_roles(rt: HostRuntime) -> Result<(), Fail> {
+fn greetings_of_all_roles(rt: HostRuntime) {
     let greetings: &[(Role, &[u8])] = &[
         (Role::Pair0, b"\x00SP\x00\x00\x10\x00\x00"),
         (Role::Pub, b"\x00SP\x00\x00\x20\x00\x00"),
@@ -87,9 +89,8 @@ fn greetings_of_all_roles(rt: HostRuntime) -> Result<(), Fail> {
     ];
     for (role, bytes) in greetings {
         let greeting = Greeting::new(*role);
-        assert_eq!(rt; greeting.hello(), *bytes);
+        same(&rt, greeting.hello(), *bytes);
     }
-    Ok(())
 }
 
 // Reads once, and says what came: the first byte, or a mark.
@@ -123,31 +124,35 @@ fn reads_of<L: Link>(link: &mut L) -> [u8; 8]
 }
 
 #[test]
-fn a_link_in_memory_goes_by_its_script(rt: HostRuntime) -> Result<(), Fail> {
+fn a_link_in_memory_goes_by_its_script(rt: HostRuntime) {
     let alloc = rt.alloc();
     let mut script = Vec::new(alloc);
-    script.push(LinkStep::Bytes(Bytes::from_slice(alloc, b"a")?))?;
-    script.push(LinkStep::Fail)?;
-    script.push(LinkStep::NotYet)?;
-    script.push(LinkStep::After(3))?;
-    script.push(LinkStep::Bytes(Bytes::from_slice(alloc, b"b")?))?;
-    script.push(LinkStep::End)?;
+    made(
+        &rt,
+        script.push(LinkStep::Bytes(made(&rt, Bytes::from_slice(alloc, b"a")))),
+    );
+    made(&rt, script.push(LinkStep::Fail));
+    made(&rt, script.push(LinkStep::NotYet));
+    made(&rt, script.push(LinkStep::After(3)));
+    made(
+        &rt,
+        script.push(LinkStep::Bytes(made(&rt, Bytes::from_slice(alloc, b"b")))),
+    );
+    made(&rt, script.push(LinkStep::End));
     let mut link = MemLink::new(alloc, script, 9, Vec::new(alloc));
-    assert_eq!(rt; reads_of(&mut link), *b"a!---b..");
-    assert_eq!(rt; link.written(), b"xyz".as_slice());
-    Ok(())
+    same(&rt, reads_of(&mut link), *b"a!---b..");
+    same(&rt, link.written(), b"xyz".as_slice());
 }
 
 #[test]
-fn a_long_list_of_links_that_came_back_is_let_go(rt: HostRuntime) -> Result<(), Fail> {
+fn a_long_list_of_links_that_came_back_is_let_go(rt: HostRuntime) {
     let alloc = rt.alloc();
     let mut came_back = Returned::Nothing;
     for _ in 0..100_000u32 {
         let link = MemLink::new(alloc, Vec::new(alloc), 9, Vec::new(alloc));
-        came_back = Returned::More(link, Box::new(alloc, came_back)?);
+        came_back = Returned::More(link, made(&rt, Box::new(alloc, came_back)));
     }
     drop(came_back);
-    Ok(())
 }
 
 // Dials twice: whether the first was a fault, and the second a link.
@@ -182,14 +187,24 @@ fn address() -> Addr
 }
 
 #[test]
-fn a_failed_dial_uses_up_no_link(rt: HostRuntime) -> Result<(), Fail> {
+fn a_failed_dial_uses_up_no_link(rt: HostRuntime) {
     let alloc = rt.alloc();
     let mut links = Vec::new(alloc);
-    links.push(MemLink::new(alloc, Vec::new(alloc), 9, Vec::new(alloc)))?;
+    made(
+        &rt,
+        links.push(MemLink::new(alloc, Vec::new(alloc), 9, Vec::new(alloc))),
+    );
     let mut outgoing = Vec::new(alloc);
-    outgoing.push((address(), links))?;
-    let mut net = MemNet::new(alloc, Vec::new(alloc), outgoing, vec![in alloc; 0]?)?;
-    assert!(rt; dials(&mut net, &address()));
-    assert_eq!(rt; net.opened(), 1);
-    Ok(())
+    made(&rt, outgoing.push((address(), links)));
+    let mut net = made(
+        &rt,
+        MemNet::new(
+            alloc,
+            Vec::new(alloc),
+            outgoing,
+            made(&rt, vec![in alloc; 0]),
+        ),
+    );
+    holds(&rt, dials(&mut net, &address()));
+    same(&rt, net.opened(), 1);
 }

@@ -3,6 +3,7 @@ ghost use Rattle.std.specs.Prelude.{◌≡◌, ◌^◌, ◌-◌, min, length, []
 ghost use Rattle.turn_lock.specs.declared.turn.Turn.{Turn};
 ghost use Rattle.turn_lock.specs.Passes.{IsReady, OwnTurn};
 
+use crate::checks::{holds, same};
 use std::marker::Brand;
 use std::sync::Wait;
 use std::thread::join;
@@ -129,13 +130,13 @@ fn types_name_the_turns(rt: HostRuntime) {
     let Some(first) = list.pop() else {
         unreachable!()
     };
-    assert_eq!(rt; first.number(), 1);
+    same(&rt, first.number(), 1);
     let first = take_first_turn(&rt, &lock, first);
     let second = take_bare_turn(&rt, &lock, second);
     list.give(first);
     list.give(second);
     let (Count(count), _pass) = lock.end(&rt, list);
-    assert_eq!(rt; count, 2);
+    same(&rt, count, 2);
 }
 
 #[test]
@@ -144,16 +145,16 @@ fn two_threads_take_a_turn_each(rt: HostRuntime) {
     let Ok((lock, mut list)) = made else {
         panic!(rt; "no memory")
     };
-    assert!(rt; list.is_full());
+    holds(&rt, list.is_full());
     let Some(second) = list.pop() else {
         unreachable!()
     };
     let Some(first) = list.pop() else {
         unreachable!()
     };
-    assert!(rt; !list.is_full());
-    assert_eq!(rt; first.number(), 1);
-    assert_eq!(rt; second.number(), 2);
+    holds(&rt, !list.is_full());
+    same(&rt, first.number(), 1);
+    same(&rt, second.number(), 2);
     let (first, second) = join(
         &rt,
         || -> TurnPass<Count>
@@ -168,9 +169,9 @@ fn two_threads_take_a_turn_each(rt: HostRuntime) {
     list.give(second);
     list.give(first);
     let (Count(count), pass) = lock.end(&rt, list);
-    assert_eq!(rt; count, 2);
-    assert_eq!(rt; pass.number(), 1);
-    assert!(rt; !pass.is_inside());
+    same(&rt, count, 2);
+    same(&rt, pass.number(), 1);
+    holds(&rt, !pass.is_inside());
 }
 
 #[test]
@@ -182,16 +183,16 @@ fn a_pass_is_inside_from_enter_to_leave(rt: HostRuntime) {
     let Some(mut pass) = list.pop() else {
         unreachable!()
     };
-    assert!(rt; !pass.is_inside());
+    holds(&rt, !pass.is_inside());
     let state = lock.enter(&rt, &mut pass);
-    assert!(rt; pass.is_inside());
+    holds(&rt, pass.is_inside());
     let Count(count) = state;
     let counted = Count(count.saturating_add(1));
     lock.leave_some::<Brand, ()>(&mut pass, counted, &());
-    assert!(rt; !pass.is_inside());
+    holds(&rt, !pass.is_inside());
     list.give(pass);
     let (Count(count), _pass) = lock.end(&rt, list);
-    assert_eq!(rt; count, 1);
+    same(&rt, count, 1);
 }
 
 #[test]
@@ -202,7 +203,7 @@ fn a_lock_has_up_to_64_passes(rt: HostRuntime) {
             panic!(rt; "no memory")
         };
         let (Count(count), pass) = lock.end(&rt, list);
-        assert_eq!(rt; count, 0);
-        assert_eq!(rt; pass.number(), callers);
+        same(&rt, count, 0);
+        same(&rt, pass.number(), callers);
     }
 }

@@ -1,5 +1,5 @@
 //! A counter and a register that threads use in turns.
-use std::test::Fail;
+use crate::checks::{made, same};
 use turn_lock_uses::{count_in_turns, write_in_turns};
 
 #[test]
@@ -8,28 +8,26 @@ fn two_threads_add_in_turns(rt: HostRuntime) {
     let Some((count, _pass)) = counted else {
         panic!(rt; "no memory")
     };
-    assert_eq!(rt; count, 4000);
+    same(&rt, count, 4000);
 }
 
 // Each caller's writes stand in the log once, in the order in which it made them.
 #[test]
-fn three_threads_write_into_one_register(rt: HostRuntime) -> Result<(), Fail> {
-    let log = write_in_turns(&rt, rt.alloc(), 300, 900)?;
-    assert_eq!(rt; log.len(), 900);
+fn three_threads_write_into_one_register(rt: HostRuntime) {
+    let log = made(&rt, write_in_turns(&rt, rt.alloc(), 300, 900));
+    same(&rt, log.len(), 900);
     let mut next = [0u64; 4];
     for write in &log {
         let by = write.by as usize;
         assert!(rt; 1 <= by && by <= 3);
-        assert_eq!(rt; write.value, next[by]);
+        same(&rt, write.value, next[by]);
         next[by] = next[by].saturating_add(1);
     }
-    assert_eq!(rt; next, [0, 300, 300, 300]);
-    Ok(())
+    same(&rt, next, [0, 300, 300, 300]);
 }
 
 #[test]
-fn a_full_register_writes_nothing_more(rt: HostRuntime) -> Result<(), Fail> {
-    let log = write_in_turns(&rt, rt.alloc(), 300, 10)?;
-    assert_eq!(rt; log.len(), 10);
-    Ok(())
+fn a_full_register_writes_nothing_more(rt: HostRuntime) {
+    let log = made(&rt, write_in_turns(&rt, rt.alloc(), 300, 10));
+    same(&rt, log.len(), 10);
 }
