@@ -14,6 +14,21 @@ none_fewer P (suc k) zero xs l h = absurd (omega (arith, l))
 none_fewer P (suc k) (suc n) [] l h = refl
 none_fewer P (suc k) (suc n) (x ∷ xs) l h = let b = both_false (P x) (list_any P (take n xs)) h in ap (λ v. v || list_any P (take k xs)) b.0 ∙ none_fewer P k n xs (omega (arith, l)) b.1
 
+-- one is changed, and does not pass then
+none_with : {A : Type 0} (P Q : A → Bool) (f : A → A) (n : ℕ) (xs : List A) → ((x : A) → P (f x) ≡ false) → list_any P (take n xs) ≡ false → list_any P (take n (with_found Q f xs)) ≡ false
+none_with P Q f zero xs c h = refl
+none_with P Q f (suc n) [] c h = refl
+none_with P Q f (suc n) (x ∷ xs) c h =
+    let b = both_false (P x) (list_any P (take n xs)) h in
+    go (Q x) b.0 b.1 (none_with P Q f n xs c b.1)
+  where
+    go : (b : Bool) → P x ≡ false → list_any P (take n xs) ≡ false → list_any P (take n (with_found Q f xs)) ≡ false → list_any P (take (suc n) (cond b (f x ∷ xs) (x ∷ with_found Q f xs))) ≡ false
+    go true e g again = ap (λ v. v || list_any P (take n xs)) (c x) ∙ g
+    go false e g again = ap (λ v. v || list_any P (take n (with_found Q f xs))) e ∙ again
+
+pub none_changed : {A : Type 0} (P Q : A → Bool) (f : A → A) (n : ℕ) (xs ys : List A) → ((x : A) → P (f x) ≡ false) → ys ≡ with_found Q f xs → list_any P (take n xs) ≡ false → list_any P (take n ys) ≡ false
+none_changed P Q f n xs ys c e h = rw e (none_with P Q f n xs c h)
+
 -- no more pass
 pub none_as : {A : Type 0} (P Q : A → Bool) (xs : List A) → ((x : A) → Q x ≡ true → P x ≡ true) → list_any P xs ≡ false → list_any Q xs ≡ false
 none_as P Q [] c h = refl
@@ -67,6 +82,12 @@ nowhere_past P n xs l h e = go (position_or_len P (drop n xs)) (length (drop n x
         step : (v : Bool) → nat_lt a b ≡ v → cond {A = Option ℕ} v (Some a) None ≡ None → None ≡ cond {A = Option ℕ} (nat_lt c d) (Some c) None
         step true q k = absurd cc
         step false q k = let not_below : nat_lt c d ≡ false = grind (arith, nat_tests) in rw not_below refl
+
+-- where none before any place passes, none does
+pub nowhere_all : {A : Type 0} (P : A → Bool) (n : ℕ) (xs : List A) → length xs ≤ n → list_any P (take n xs) ≡ false → list_any P xs ≡ false
+nowhere_all P n [] l h = refl
+nowhere_all P zero (x ∷ xs) l h = absurd (omega (arith, l))
+nowhere_all P (suc n) (x ∷ xs) l h = let b = both_false (P x) (list_any P (take n xs)) h in ap (λ v. v || list_any P xs) b.0 ∙ nowhere_all P n xs (omega (arith, l)) b.1
 
 -- before the place of the first, or the end
 pub none_to : {A : Type 0} (P : A → Bool) (i : ℕ) (xs : List A) → Some i ≡ position P xs → list_any P (take i xs) ≡ false

@@ -34,6 +34,14 @@ has_still (x ∷ cs) c d h k = go (x == c) refl (x == d) refl h (has_still cs c 
     go false f true g h again = rw g refl
     go false f false g h again = rw g (again h k)
 
+pub has_last : (n : ℕ) (is : List ℕ) → has (is ++ n ∷ []) n ≡ true
+has_last n [] = ap (λ b. b || false) (same_number n)
+has_last n (i ∷ is) = ap (λ b. (i == n) || b) (has_last n is) ∙ last (i == n)
+  where
+    last : (b : Bool) → (b || true) ≡ true
+    last true = refl
+    last false = refl
+
 pub or_last : (a b : Bool) → b ≡ true → (a || b) ≡ true
 or_last true b h = refl
 or_last false b h = h

@@ -184,6 +184,21 @@ module _ {A : Type 0} (P : A → Bool) (f : A → A) where
   pub changed_there : (ss : List (Spot A)) (i : ℕ) (d : Spot A) → position (holds P) ss ≡ Some i → held (slice_set ss i (changed f (slice_index_or ss i d))) ≡ with_found P f (held ss)
   changed_there ss i d h = let at = position-Some (holds P) ss i d h in changes ss i d at.0 at.1 at.2
 
+-- as many stand before a spot
+pub front_same : {A : Type 0} (f : A → A) (n : ℕ) (ss : List (Spot A)) (i : ℕ) (d : Spot A) → length (held (take n (slice_set ss i (changed f (slice_index_or ss i d))))) ≡ length (held (take n ss))
+front_same {A} f zero ss i d = refl
+front_same {A} f (suc n) [] i d = refl
+front_same {A} f (suc n) (s ∷ ss) zero d = go s.value
+  where
+    go : (v : Option A) → length (with_value (option_map f v) (held (take n ss))) ≡ length (with_value v (held (take n ss)))
+    go None = refl
+    go (Some x) = refl
+front_same {A} f (suc n) (s ∷ ss) (suc i) d = go s.value (front_same f n ss i d)
+  where
+    go : (v : Option A) → length (held (take n (slice_set ss i (changed f (slice_index_or ss i d))))) ≡ length (held (take n ss)) → length (with_value v (held (take n (slice_set ss i (changed f (slice_index_or ss i d)))))) ≡ length (with_value v (held (take n ss)))
+    go None h = h
+    go (Some x) h = omega (arith, h)
+
 -- ---- Those before a spot, and the others
 
 module _ {A : Type 0} where
@@ -204,3 +219,26 @@ module _ {A : Type 0} where
       go : (v : Option A) → held (drop n ss) ≡ drop (length (held (take n ss))) (held ss) → held (drop n ss) ≡ drop (length (with_value v (held (take n ss)))) (with_value v (held ss))
       go None h = h
       go (Some x) h = h
+
+  -- none of those before the spot passes the test
+  pub none_before_is : (P : A → Bool) (n : ℕ) (ss : List (Spot A)) → list_any P (take (length (held (take n ss))) (held ss)) ≡ list_any (holds P) (take n ss)
+  none_before_is P n ss = ap (list_any P) (front_is n ss) ∙ sym (any_held P (take n ss))
+
+  pub find_past : (P : A → Bool) (n : ℕ) (xs : List A) → list_any P (take n xs) ≡ false → find P xs ≡ find P (drop n xs)
+  find_past P zero xs h = refl
+  find_past P (suc n) [] h = refl
+  find_past P (suc n) (x ∷ xs) h = let b = both_false (P x) (list_any P (take n xs)) h in rw b.0 (find_past P n xs b.1)
+
+pub none_of_none : {A : Type 0} (P : A → Bool) (n : ℕ) (xs : List A) → n ≡ 0 → list_any P (take n xs) ≡ false
+none_of_none P n xs e = rw e refl
+
+-- ---- Closed up, or as it was
+
+module _ {A : Type 0} where
+  pub calm_closed : (P : A → Bool) (moved : Bool) (n k : ℕ) (ss us : List (Spot A)) → k ≡ stays moved n → (moved ≡ false → us ≡ ss) → list_any P (take (length (held (take n ss))) (held ss)) ≡ false → list_any P (take (length (held (take k us))) (held us)) ≡ false
+  calm_closed P true n k ss us e s h = rw e refl
+  calm_closed P false n k ss us e s h = let same = s refl in rw (e, same) h
+
+  pub bound_closed : (moved : Bool) (n k : ℕ) (ss us : List (Spot A)) → k ≡ stays moved n → (moved ≡ false → us ≡ ss) → n ≤ length ss → k ≤ length us
+  bound_closed true n k ss us e s h = omega (arith, e)
+  bound_closed false n k ss us e s h = let same = ap length (s refl) in omega (arith, e, same, h)
