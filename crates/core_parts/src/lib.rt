@@ -4,6 +4,15 @@
 //! Each part goes with a moment of the socket's history by one relation (`OpWordsStand`, `OperationsStand`,
 //! `PipesStand`, `Tallies`). Each of its calls leads from the relation at one moment to the relation with one entry
 //! more. No part knows the others.
+//!
+//! Who owns what: `OpWords` has the words, which callers share, and the core's one seat at them. `Operations` has the
+//! lists of pending and ended operations, the free slots and the deadlines, with all memory taken at the start. `Pipes`
+//! has each wire from the moment it becomes a pipe until it is taken. `Tally` has numbers alone. All of them belong to
+//! one core.
+//!
+//! The order to read: `op_words`, with `reading` for what callers' seats show; `operations`, with `leaving` for what
+//! goes out of the lists and `outcome` for what an operation came to; `pipes`, with `wire_list` for what a closed core
+//! leaves; `tally`; and last `fresh`, which makes a new core's parts.
 #![tactic(auto)]
 
 mod fresh;

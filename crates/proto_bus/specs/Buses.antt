@@ -31,6 +31,10 @@ offers_left m = count m.pending
 abbrev pub places_left : Bus → ℕ
 places_left m = room m.pending
 
+-- the copies of a send that have not gone out
+abbrev pub copies_left : Bus → ℕ
+copies_left m = length m.copies.items
+
 -- the receive that gets the oldest of these messages
 abbrev pub receiver_of : List MessageView → List Begun → Option OpName
 receiver_of [] ss = None

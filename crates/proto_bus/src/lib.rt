@@ -26,7 +26,7 @@ ghost use Rattle.sp_proto.specs.Kinds.{Starts, entry_act};
 ghost use Rattle.sp_proto.specs.Machines.{Frames, NoFlood, Takes};
 ghost use Rattle.proto_floods.specs.Copies.{TakesCopies};
 ghost use Rattle.proto_pending.specs.Waits.{Holds};
-ghost use Rattle.proto_bus.specs.Buses.{Ties, bus_kind, places_left, receiver_of, left_out_of, header_of};
+ghost use Rattle.proto_bus.specs.Buses.{Ties, bus_kind, copies_left, places_left, receiver_of, left_out_of, header_of};
 
 use circular_buffer::HeapCircularBuffer;
 use proto_floods::copies_of;
@@ -196,7 +196,7 @@ impl Proto for Bus {
         ensures same { OnErr result ((t : Moment) → Ties self.old t → Ties self.new t) }
         ensures room { places_left self.old ≤ places_left self.new + 1 }
         ensures room_kept { OnErr result (places_left self.old ≤ places_left self.new) }
-        ensures copies { OnOk result ((t : Moment) → Ties self.old t → TakesCopies act (length (up (past t))) (length self.new.copies.items)) }
+        ensures copies { OnOk result ((t : Moment) → Ties self.old t → TakesCopies act (length (up (past t))) (copies_left self.new)) }
         ensures alone { (t : Moment) → Ties self.old t → up (past t) ≡ [] → OnErr result ⊥ }
     {
         match act {

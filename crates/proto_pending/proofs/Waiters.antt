@@ -20,7 +20,8 @@ use Rattle.sp_proto.specs.Kinds.{text_of}
 use Rattle.sp_proto.specs.Machines.{message_of}
 use Rattle.proto_pending.specs.declared.Pending.{Pending}
 use Rattle.proto_pending.specs.declared.Waiting.{Waiting}
-use Rattle.proto_pending.specs.Waits.{Holds, Ends, begun_of, act_of, is_for, is_receive, is_send, without_first}
+use Rattle.sp_proto.specs.Kinds.{act_of}
+use Rattle.proto_pending.specs.Waits.{Holds, Ends, begun_of, is_for, is_receive, is_send, without_first}
 use Rattle.proto_pending.proofs.Places.{found_at}
 use Rattle.proto_pending.proofs.Splits.{absent, apart_without, apart_more, occurs_most, find_passing, without_passing, other_stay, passing_append}
 

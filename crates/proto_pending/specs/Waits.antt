@@ -4,22 +4,15 @@ use Rattle.std.specs.Option.{option_map}
 use Rattle.std.specs.VecDeque.{deque_len, deque_capacity}
 use Rattle.sp_base.specs.declared.OpName.{OpName}
 use Rattle.sp_msg.specs.Views.{MessageView}
-use Rattle.sp_history.specs.declared.entry.RecordedAct.{RecordedAct}
-use Rattle.sp_history.specs.declared.entry.RecordedAct.TheVariants.{Recv, Send}
 use Rattle.sp_history.specs.declared.parts.Begun.{Begun}
 use Rattle.sp_history.specs.Lists.{head_of, same_op}
 use Rattle.sp_history.specs.Legal.{is_recv}
 use Rattle.sp_history.specs.Past.{without_begun}
 use Rattle.sp_history.specs.Once.{AreApart}
-use Rattle.sp_proto.specs.Kinds.{text_of}
+use Rattle.sp_proto.specs.Kinds.{act_of}
 use Rattle.sp_proto.specs.Machines.{Served}
 use Rattle.proto_pending.specs.declared.Pending.{Pending}
 use Rattle.proto_pending.specs.declared.Waiting.{Waiting}
-
--- a send has a message
-abbrev pub act_of : Option MessageView → RecordedAct
-act_of None = Recv
-act_of (Some m) = Send (text_of m)
 
 abbrev pub begun_of : Waiting → Begun
 begun_of w = record { op = w.op; ctx = w.ctx; act = act_of w.message }

@@ -25,6 +25,10 @@ offers_left m = count m.pending
 abbrev pub places_left : Publish → ℕ
 places_left m = room m.pending
 
+-- the copies of a send that have not gone out
+abbrev pub copies_left : Publish → ℕ
+copies_left m = length m.copies.items
+
 -- the copies are those of the send
 abbrev pub IsFlood : List MessageView → RecordedAct → Type 0
 IsFlood copies Recv = ⊤

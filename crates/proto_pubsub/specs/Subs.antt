@@ -1,6 +1,7 @@
 -- What a sub stands for.
-use Rattle.std.specs.Prelude.{◌≡◌, ℕ, ◌≤◌, ◌||◌, Bool, true, false, not, nat_lt, if◌then◌else◌, List, [], ◌∷◌, length, map, take, find, Option, Some, None}
+use Rattle.std.specs.Prelude.{◌≡◌, ℕ, ◌≤◌, ◌-◌, ◌||◌, Bool, true, false, not, nat_lt, if◌then◌else◌, List, [], ◌∷◌, length, map, take, find, Option, Some, None}
 use Rattle.std.specs.List.{list_any}
+use Rattle.std.specs.VecDeque.{deque_len, deque_capacity}
 use Rattle.sp_base.specs.declared.OpName.{OpName}
 use Rattle.sp_base.specs.declared.role.Role.TheVariants as role
 use Rattle.sp_msg.specs.Views.{MessageView}
@@ -22,6 +23,10 @@ use Rattle.proto_pubsub.specs.declared.subscribe.WaitingReceive.{WaitingReceive}
 
 abbrev pub sub_kind : Bool → Options → Kind
 sub_kind raw options = record { role = role.Sub; raw = raw; options = options }
+
+-- so many receives more can wait
+abbrev pub places_left : Subscribe → ℕ
+places_left m = deque_capacity m.waiting - deque_len m.waiting
 
 -- a message that is kept, as it is given
 abbrev pub view_of : Item → MessageView

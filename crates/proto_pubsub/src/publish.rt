@@ -9,7 +9,7 @@ ghost use Rattle.sp_history.specs.Past.{up};
 ghost use Rattle.sp_proto.specs.Kinds.{Starts, entry_act};
 ghost use Rattle.sp_proto.specs.Machines.{Frames, NoFlood, Takes};
 ghost use Rattle.proto_floods.specs.Copies.{TakesCopies};
-ghost use Rattle.proto_pubsub.specs.Pubs.{Ties, pub_kind, places_left};
+ghost use Rattle.proto_pubsub.specs.Pubs.{Ties, pub_kind, copies_left, places_left};
 
 use proto_floods::copies_of;
 use proto_pending::Pending;
@@ -129,7 +129,7 @@ impl Proto for Publish {
         ensures same { OnErr result ((t : Moment) → Ties self.old t → Ties self.new t) }
         ensures room { places_left self.old ≤ places_left self.new + 1 }
         ensures room_kept { OnErr result (places_left self.old ≤ places_left self.new) }
-        ensures copies { OnOk result ((t : Moment) → Ties self.old t → TakesCopies act (length (up (past t))) (length self.new.copies.items)) }
+        ensures copies { OnOk result ((t : Moment) → Ties self.old t → TakesCopies act (length (up (past t))) (copies_left self.new)) }
         ensures alone { (t : Moment) → Ties self.old t → up (past t) ≡ [] → OnErr result ⊥ }
     {
         match act {

@@ -108,7 +108,7 @@ impl Seat {
         }
     }
 
-    /// Keeps a copy of the frame, where a topic matches it, or raw. Answers false where a copy was needed and found no
+    /// Keeps a copy of the frame, where a topic matches it, or raw. Returns false where a copy was needed and found no
     /// memory; then all is as before.
     pub fn keep_copy(&mut self, raw: bool, options: Options, m: &Message) -> bool
         ensures kept { result ≡ true → self.new ≡ kept_in raw options m.now self.old }
@@ -160,7 +160,7 @@ impl Seat {
         drop_unwanted(&mut self.kept, &self.topics);
     }
 
-    /// Puts a topic on, or takes it off. Answers whether that changed something.
+    /// Puts a topic on, or takes it off. Returns whether that changed something.
     pub fn switch(&mut self, alloc: Global, t: &[u8], on: bool) -> Result<bool, NoMemory>
         ensures { Switches result self.old self.new t.now on }
     {

@@ -16,7 +16,7 @@ ghost use Rattle.sp_history.specs.Past.{ctxs};
 ghost use Rattle.sp_proto.specs.Kinds.{Starts};
 ghost use Rattle.sp_proto.specs.Machines.{Frames};
 ghost use Rattle.proto_pubsub.specs.Seats.{kept_in, takes_frame, emptied, fresh_seat, given_from, is_home, first_in, with_found, SwitchesIn, StopsAt, SeatView, InOrder};
-ghost use Rattle.proto_pubsub.specs.Subs.{Ties, NeedsCopy, sub_kind, is_for, is_ready, keeps_at, without_first, NoneBefore};
+ghost use Rattle.proto_pubsub.specs.Subs.{Ties, NeedsCopy, places_left, sub_kind, is_for, is_ready, keeps_at, without_first, NoneBefore};
 ghost use Rattle.proto_pubsub.specs.declared.subscribe.WaitingReceive.{WaitingReceive as WaitingReceiveType};
 
 use crate::seats::Seat;
@@ -139,7 +139,7 @@ fn take(
     }
 }
 
-// Keeps a copy of the frame in each of so many contexts that takes it. Answers the first for which there was no memory,
+// Keeps a copy of the frame in each of so many contexts that takes it. Returns the first for which there was no memory,
 // with which it stops.
 fn spread(seats: &mut [Seat], most: usize, raw: bool, options: Options, m: &Message) -> Option<Ctx>
     requires { most ≤ length seats.old }
@@ -155,7 +155,7 @@ fn spread(seats: &mut [Seat], most: usize, raw: bool, options: Options, m: &Mess
     None
 }
 
-// Keeps the frame in each context that takes it: the last has the frame itself, each other one a copy. Answers the
+// Keeps the frame in each context that takes it: the last has the frame itself, each other one a copy. Returns the
 // first for which there was no memory, with which it stops.
 fn keep_in_all(seats: &mut [Seat], raw: bool, options: Options, m: Message) -> Option<Ctx>
     ensures whole { result ≡ None → seats.new ≡ map (kept_in raw options m) seats.old }
@@ -186,7 +186,7 @@ fn give(seats: &mut [Seat], c: Ctx) -> Option<Message>
     }
 }
 
-// Puts a topic of the context on, or takes it off. Answers whether that changed something.
+// Puts a topic of the context on, or takes it off. Returns whether that changed something.
 fn switch(seats: &mut [Seat], alloc: Global, c: Ctx, t: &[u8], on: bool) -> Result<bool, NoMemory>
     ensures switched { InOrder seats.old → SwitchesIn result (find (is_home c) seats.old) c seats.old seats.new t.now on }
     ensures off { on ≡ false → OnErr result ⊥ }
@@ -246,16 +246,15 @@ impl Subscribe {
 }
 
 impl Proto for Subscribe {
-    ghost use Rattle.std.specs.Prelude.{◌-◌};
-    ghost use Rattle.std.specs.VecDeque.{deque_len, deque_capacity};
-    ghost use Rattle.proto_pubsub.specs.Subs.{Ties, sub_kind};
+    ghost use Rattle.std.specs.VecDeque.{deque_len};
+    ghost use Rattle.proto_pubsub.specs.Subs.{Ties, places_left, sub_kind};
     ghost use Rattle.proto_pubsub.specs.SubLaws as laws;
 
     ghost kind = { λ m. sub_kind m.raw m.options };
 
     ghost ties = { Ties };
 
-    ghost room = { λ m. deque_capacity m.waiting - deque_len m.waiting };
+    ghost room = { places_left };
 
     ghost left = { λ m. deque_len m.waiting };
 
@@ -301,7 +300,7 @@ impl Proto for Subscribe {
     fn frame(&mut self, p: PipeId, m: Message) -> Verdict
         requires { m.header ≡ [] }
         ensures kept { (t : Moment) → Lawful (also t (Frame p m.body)) → Ties self.old t → Frames (Ties self.new) result t p m.body }
-        ensures room { deque_capacity self.old.waiting - deque_len self.old.waiting ≤ deque_capacity self.new.waiting - deque_len self.new.waiting }
+        ensures room { places_left self.old ≤ places_left self.new }
         ensures one { (t : Moment) → Ties self.old t → length (ctxs (past t)) ≤ 1 → result ≡ Verdict.Fine }
         ensures raw { (t : Moment) → Lawful (also t (Frame p m.body)) → Ties self.old t → t.z.raw ≡ true → result ≡ Verdict.Fine }
         ensures dry { (t : Moment) (c : ℕ) → Lawful (also t (Frame p m.body)) → Ties self.old t → result ≡ Verdict.Dry c → NeedsCopy t.z (past t) c p m.body }

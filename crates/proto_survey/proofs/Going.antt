@@ -52,7 +52,8 @@ use Rattle.proto_survey.specs.declared.waiting.SurveyOperation.{SurveyOperation}
 use Rattle.proto_survey.specs.declared.waiting.SurveyEnd.{SurveyEnd}
 use Rattle.proto_survey.specs.declared.waiting.SurveyEnd.TheVariants as ends
 use Rattle.proto_survey.specs.Lives.{SurveyView, view_of, survey_of, survey_ctx, survey_id, is_live_on, given_from, first_in, is_kept}
-use Rattle.proto_survey.specs.Askings.{act_of, begun_of, is_asked, is_sending, without_first, cause_is, how_of, how_in}
+use Rattle.sp_proto.specs.Kinds.{act_of}
+use Rattle.proto_survey.specs.Askings.{begun_of, is_asked, is_sending, without_first, cause_is, how_of, how_in}
 use Rattle.proto_survey.specs.Surveys.{Ties, Asked, IsFlood, out_text, item_of, gets, is_given, survey_state}
 use Rattle.proto_survey.proofs.SurveyLives.{equal_of, same_number, alone, keys_kept, map_of, find_of, any_of}
 use Rattle.proto_survey.proofs.OrphanedOperations.{find_begun, begun_found, find_own, not_orphan, all_finished}

@@ -3,8 +3,6 @@ use Rattle.std.specs.Prelude.{◌≡◌, ◌==◌, ◌&&◌, not, ℕ, Bool, if�
 use Rattle.std.specs.Option.{option_map}
 use Rattle.sp_base.specs.declared.OpName.{OpName}
 use Rattle.sp_msg.specs.Views.{MessageView}
-use Rattle.sp_history.specs.declared.entry.RecordedAct.{RecordedAct}
-use Rattle.sp_history.specs.declared.entry.RecordedAct.TheVariants.{Recv, Send}
 use Rattle.sp_history.specs.declared.entry.Cause.{Cause}
 use Rattle.sp_history.specs.declared.entry.Cause.TheVariants.{Superseded, SurveyOver}
 use Rattle.sp_history.specs.declared.parts.Begun.{Begun}
@@ -12,16 +10,11 @@ use Rattle.sp_history.specs.declared.parts.Orphan.{Orphan}
 use Rattle.sp_history.specs.declared.parts.How.{How}
 use Rattle.sp_history.specs.declared.parts.How.TheVariants as how
 use Rattle.sp_history.specs.Lists.{same_op}
-use Rattle.sp_proto.specs.Kinds.{text_of}
+use Rattle.sp_proto.specs.Kinds.{act_of}
 use Rattle.proto_requests.specs.FirstFound.{without_found}
 use Rattle.proto_survey.specs.declared.waiting.SurveyOperation.{SurveyOperation}
 use Rattle.proto_survey.specs.declared.waiting.SurveyEnd.{SurveyEnd}
 use Rattle.proto_survey.specs.declared.waiting.SurveyEnd.TheVariants as ends
-
--- a send has a message
-abbrev pub act_of : Option MessageView → RecordedAct
-act_of None = Recv
-act_of (Some m) = Send (text_of m)
 
 abbrev pub begun_of : SurveyOperation → Begun
 begun_of w = record { op = w.op; ctx = w.ctx; act = act_of w.message }

@@ -36,6 +36,13 @@ survey_kind raw options = record { role = role.Surveyor; raw = raw; options = op
 abbrev pub places_left : Survey → ℕ
 places_left m = vec_capacity m.waiting - vec_len m.waiting
 
+-- the copies of a send that have not gone out
+abbrev pub copies_left : Survey → ℕ
+copies_left m = length m.copies.items
+
+abbrev pub is_raw : Survey → Bool
+is_raw m = m.raw
+
 -- ---- What calls do
 
 -- without the survey of the context
@@ -81,6 +88,9 @@ KeepsReply false id most m old new = (new ≡ old) × (list_any (awaits id most)
 -- the frame is a response to a live survey that keeps fewer than so many
 abbrev pub IsAwaited : ℕ → List ℕ → List SurveyView → Type 0
 IsAwaited most b xs = (id : ℕ) × (first_word b ≡ Some id) × (list_any (awaits id most) xs ≡ true)
+
+abbrev pub Awaits : Survey → List ℕ → Type 0
+Awaits m b = IsAwaited m.options.queue b m.live.items
 
 -- a message can be given to a receive of the context
 abbrev pub is_given : Bool → List KeptResponse → List SurveyView → ℕ → Bool

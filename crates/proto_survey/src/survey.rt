@@ -18,7 +18,7 @@ ghost use Rattle.proto_requests.specs.Ids.{number_after};
 ghost use Rattle.proto_requests.specs.FirstFound.{with_found};
 ghost use Rattle.proto_survey.specs.declared.survey.KeptResponse.{KeptResponse as KeptResponseType};
 ghost use Rattle.proto_survey.specs.Lives.{SurveyView, is_live_on, has_number, keeps_at, first_in, given_from, with_reply, without_over, is_over, free_number};
-ghost use Rattle.proto_survey.specs.Surveys.{Ties, survey_kind, places_left, without_live, out_text, AreSame, Asks, KeepsRaw, KeepsReply, IsAwaited, gets, is_given, is_fed, IsNext, survey_state};
+ghost use Rattle.proto_survey.specs.Surveys.{Ties, survey_kind, places_left, without_live, out_text, AreSame, Asks, Awaits, KeepsRaw, KeepsReply, is_raw, copies_left, gets, is_given, is_fed, IsNext, survey_state};
 
 use crate::live::LiveSurvey;
 use crate::waiting::{
@@ -439,7 +439,7 @@ impl Proto for Survey {
         requires { m.header ≡ [] }
         ensures kept { (t : Moment) → Lawful (also t (Frame p m.body)) → Ties self.old t → Frames (Ties self.new) result t p m.body }
         ensures room { places_left self.old ≤ places_left self.new }
-        ensures memory { self.old.raw ≡ false → result ≡ verdict.NoMemory → IsAwaited self.old.options.queue m.body self.old.live.items }
+        ensures memory { is_raw self.old ≡ false → result ≡ verdict.NoMemory → Awaits self.old m.body }
     {
         if self.raw {
             return self.keep_raw(p, m);
@@ -483,7 +483,7 @@ impl Proto for Survey {
         ensures same { OnErr result ((t : Moment) → Ties self.old t → Ties self.new t) }
         ensures room { places_left self.old ≤ places_left self.new + 1 }
         ensures room_kept { OnErr result (places_left self.old ≤ places_left self.new) }
-        ensures copies { OnOk result ((t : Moment) → Ties self.old t → TakesCopies act (length (up (past t))) (length self.new.copies.items)) }
+        ensures copies { OnOk result ((t : Moment) → Ties self.old t → TakesCopies act (length (up (past t))) (copies_left self.new)) }
     {
         match act {
             Act::Recv => {

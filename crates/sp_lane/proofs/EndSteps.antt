@@ -7,7 +7,7 @@ use Rattle.crossbeam_queue.specs.Fifo.{Pushes, Pops, Forks, Merges, Learns}
 use Rattle.crossbeam_queue.proofs.Lists.{at_set, at_snoc}
 use Rattle.sp_lane.specs.declared.rule.EndView.{EndView}
 use Rattle.sp_lane.specs.declared.item.LaneItem.{LaneItem}
-use Rattle.sp_lane.specs.Prefixes.{IsPrefix}
+use Rattle.sp_spec.specs.Outside.{IsPrefix}
 use Rattle.sp_lane.specs.Order.{both_ends, spent, putting, taking, joined, marked, told, hearing, with_put, with_taken, HasPut, HasTaken, IsHeld, IsWaiting, IsLeft, Knows, Fits, IsInOrder}
 use Rattle.sp_lane.proofs.Prefixes.{front_nil, front_self, front_more, front_is}
 

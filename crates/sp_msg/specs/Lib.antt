@@ -1,4 +1,5 @@
 pub mod Views
 pub mod Messages
+pub mod Links
 pub mod Marks
 pub mod Wires

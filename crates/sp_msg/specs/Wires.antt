@@ -1,5 +1,5 @@
 -- What each call of a wire returns, and what it does to what the wire shows.
-use Rattle.std.specs.Prelude.{◌≡◌, ◌≤◌, ◌+◌, ◌++◌, ◌||◌, ℕ, Bool, true, false, List, [], ◌∷◌, Option, Some, None}
+use Rattle.std.specs.Prelude.{◌≡◌, ◌≤◌, ◌<◌, ◌⊎◌, ◌+◌, ◌++◌, ◌||◌, ℕ, Bool, true, false, List, [], ◌∷◌, Option, Some, None}
 use Rattle.sp_msg.specs.Views.{MessageView, WireView, wire_text}
 use Rattle.sp_msg.specs.Marks.{one_more}
 use Rattle.sp_msg.specs.declared.wire.WireIn.{WireIn}
@@ -81,3 +81,11 @@ IsBare ins.Malformed = Unit {0}
 IsBare ins.Failed = Unit {0}
 IsBare ins.Refused = Unit {0}
 IsBare ins.NoMemory = Unit {0}
+
+-- the answer on room, by how the writing ended and how many messages are not wholly written after it
+abbrev pub RoomAfter : WireFlush → ℕ → Room → Type 0
+RoomAfter flushes.Empty waits room = room ≡ rooms.Yes
+RoomAfter flushes.NotYet waits room = ((waits < 16) × (room ≡ rooms.Yes)) ⊎ ((16 ≤ waits) × (room ≡ rooms.Full))
+RoomAfter flushes.Failed waits room = room ≡ rooms.Failed
+RoomAfter flushes.Refused waits room = room ≡ rooms.Refused
+RoomAfter flushes.NoMemory waits room = room ≡ rooms.NoMemory

@@ -1,18 +1,17 @@
 //! The calls, each one turn.
-ghost use Rattle.std.specs.Prelude.{◌≡◌, ◌≢◌, ◌++◌, ◌∷◌, [], length, Err, IfErr, IfOk, true};
+ghost use Rattle.std.specs.Prelude.{◌≡◌, ◌≢◌, Err, IfErr, IfOk, true};
 ghost use Rattle.sp_proto.specs.Kinds.{text_of};
 ghost use Rattle.sp_history.specs.declared.entry.RecordedAct.TheVariants as acts;
 ghost use Rattle.sp_history.specs.declared.entry.Entry.TheVariants as entries;
-ghost use Rattle.sp_history.specs.Past.{past_of, up, is_closed};
-ghost use Rattle.sp_history.specs.Swept.{IsSwept, AreFlushed};
+ghost use Rattle.sp_history.specs.Past.{past_of, is_closed};
 ghost use Rattle.sp_core.specs.declared.ops.BeginError.TheVariants as error;
+ghost use Rattle.sp_core.specs.CallSays.{ServesPipes};
 ghost use Rattle.sp_core.specs.Standing.{BeganBy, began, HasFirst};
 ghost use Rattle.sp_core.specs.Collecting.{CollectedBy, DueBy, IsOpen};
 ghost use Rattle.sp_core.specs.Closing.{ClosedBy};
 ghost use Rattle.sp_core.specs.Contexts.{SubscribedBy};
 ghost use Rattle.core_parts.specs.Wires.{numbers_of, IsUnused};
 ghost use Rattle.sp_core.specs.Attaching.{AttachedBy, attached, TookWire};
-ghost use Rattle.sp_core.specs.Serving.{IsServeTurn, ServedBy};
 ghost use Rattle.sp_socket.specs.Turns.{AllEnded};
 ghost use Rattle.sp_single.specs.Singles.{TookOne, Ticks, KeepsOpen, StaysOpen, StaysPending};
 
@@ -109,7 +108,7 @@ impl<P: Proto, W: Wire> Single<P, W> {
     /// Serves the pipes.
     pub fn serve<R: Wait>(&mut self, rt: &R) -> Served
         ensures open_ { KeepsOpen self.old self.new }
-        ensures turn { TookOne (λ z h t. IsSwept z (past_of h) t × AreFlushed (past_of h) t × IsServeTurn t × ServedBy result t × (result.up ≡ length (up (past_of (h ++ t ∷ []))))) self.old self.new }
+        ensures turn { TookOne (λ z h t. ServesPipes result z h t) self.old self.new }
     {
         self.socket.serve(rt, &mut self.pass)
     }

@@ -10,7 +10,7 @@ use Rattle.sp_msg.specs.declared.wire.Room.{Room}
 use Rattle.sp_msg.specs.declared.wire.Room.TheVariants as rooms
 use Rattle.sp_msg.specs.declared.wire.WireFlush.{WireFlush}
 use Rattle.sp_msg.specs.declared.wire.WireFlush.TheVariants as flushes
-use Rattle.sp_tcp.specs.Links.{ReadCounts, WriteCounts}
+use Rattle.sp_msg.specs.Links.{ReadCounts, WriteCounts}
 use Rattle.sp_tcp.specs.Inlets.{PullAnswer}
 use Rattle.sp_tcp.specs.Outlets.{FlushAnswer}
 use Rattle.sp_tcp.specs.TcpWires.{MarksHold}

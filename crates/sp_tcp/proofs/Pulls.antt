@@ -5,7 +5,7 @@ use Rattle.sp_spec.specs.Outside.{Rose, grown}
 use Rattle.sp_base.specs.Views.{LinkView}
 use Rattle.sp_base.specs.Steps.{Came, Quiet}
 use Rattle.sp_msg.specs.declared.wire.WireIn.{WireIn}
-use Rattle.sp_tcp.specs.Links.{ReadCounts}
+use Rattle.sp_msg.specs.Links.{ReadCounts}
 use Rattle.sp_tcp.specs.Inlets.{PullAnswer, PulledFrom}
 use Rattle.sp_tcp.specs.Marked.{head_of, IsMarkedPart}
 

@@ -8,7 +8,7 @@ use Rattle.sp_base.specs.declared.outside.LinkWrite.{LinkWrite}
 use Rattle.sp_base.specs.declared.outside.LinkWrite.TheVariants as writes
 use Rattle.sp_msg.specs.Views.{MessageView, wire_text}
 use Rattle.sp_tcp.specs.Views.{OutletView}
-use Rattle.sp_tcp.specs.Links.{WriteCounts}
+use Rattle.sp_msg.specs.Links.{WriteCounts}
 use Rattle.sp_tcp.specs.Marked.{marked, marked_all, IsMark}
 use Rattle.sp_tcp.specs.Outlets.{SentWithin, IsLongRest, Passed, WroteFront, Wrote, WrotePiece}
 use Rattle.sp_tcp.proofs.Buffers.{take_apart}

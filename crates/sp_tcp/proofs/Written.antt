@@ -18,7 +18,8 @@ use Rattle.sp_msg.specs.declared.wire.WireFlush.TheVariants as flushes
 use Rattle.sp_msg.proofs.Shown.{WaitsAs, after_room, after_flush, after_put}
 use Rattle.sp_tcp.specs.Views.{OutletView}
 use Rattle.sp_tcp.specs.Outlets.{SentWithin, Wrote, FlushAnswer, FlushedFrom}
-use Rattle.sp_tcp.specs.TcpWires.{greatest, told_number, taken_in, put_in, ReadsAs, WritesAs, MarksHold, TcpState, wire_name, wire_of, tcp_view, Holds, Framed, TcpWrote, RoomAfter, RoomCause, FlushCause}
+use Rattle.sp_msg.specs.Wires.{RoomAfter}
+use Rattle.sp_tcp.specs.TcpWires.{greatest, told_number, taken_in, put_in, ReadsAs, WritesAs, MarksHold, TcpState, wire_name, wire_of, tcp_view, Holds, Framed, TcpWrote, RoomCause, FlushCause}
 use Rattle.sp_tcp.proofs.MarksKept.{RoomFacts, flushed_marks, roomed_marks, put_marks, shut_marks, ready_flushed, ready_roomed}
 use Rattle.sp_tcp.proofs.Framing.{Fit-apart, told_writes, own_on, put_on, told_more, put_more}
 use Rattle.sp_tcp.proofs.Framed.{framed}

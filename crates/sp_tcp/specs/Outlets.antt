@@ -10,7 +10,7 @@ use Rattle.sp_msg.specs.Views.{MessageView, wire_text}
 use Rattle.sp_msg.specs.declared.wire.WireFlush.{WireFlush}
 use Rattle.sp_msg.specs.declared.wire.WireFlush.TheVariants as flushes
 use Rattle.sp_tcp.specs.Views.{OutletView}
-use Rattle.sp_tcp.specs.Links.{WriteCounts}
+use Rattle.sp_msg.specs.Links.{WriteCounts}
 
 -- a part of the first frame, and not all of it
 abbrev pub SentWithin : List ℕ → ℕ → List (List ℕ) → Type 0

@@ -17,7 +17,7 @@ use Rattle.sp_msg.specs.declared.wire.Room.TheVariants as rooms
 use Rattle.sp_msg.specs.declared.wire.WireFlush.{WireFlush}
 use Rattle.sp_msg.specs.declared.wire.WireFlush.TheVariants as flushes
 use Rattle.sp_tcp.specs.Views.{TcpView, InletView, OutletView}
-use Rattle.sp_tcp.specs.Links.{ReadCounts, WriteCounts}
+use Rattle.sp_msg.specs.Links.{ReadCounts, WriteCounts}
 use Rattle.sp_tcp.specs.Readings.{IsPart, IsTooLong}
 use Rattle.sp_tcp.specs.Outlets.{SentWithin}
 
@@ -187,14 +187,6 @@ RoomCause rooms.Full old new = (new.wire.waits ≡ 16) × Rose old.link.stalls n
 RoomCause rooms.Failed old new = Rose old.link.faults new.link.faults
 RoomCause rooms.Refused old new = ⊥
 RoomCause rooms.NoMemory old new = ⊥
-
--- the answer on room, by how the writing ended and how many messages are not wholly written after it
-abbrev pub RoomAfter : WireFlush → ℕ → Room → Type 0
-RoomAfter flushes.Empty waits room = room ≡ rooms.Yes
-RoomAfter flushes.NotYet waits room = ((waits < 16) × (room ≡ rooms.Yes)) ⊎ ((16 ≤ waits) × (room ≡ rooms.Full))
-RoomAfter flushes.Failed waits room = room ≡ rooms.Failed
-RoomAfter flushes.Refused waits room = room ≡ rooms.Refused
-RoomAfter flushes.NoMemory waits room = room ≡ rooms.NoMemory
 
 abbrev pub FlushCause : WireFlush → TcpView → TcpView → Type 0
 FlushCause flushes.Empty old new = Unit {0}

@@ -3,7 +3,8 @@ ghost use Rattle.std.specs.Prelude.{◌≡◌, ℕ, true, MatchResult};
 ghost use Rattle.sp_base.specs.Steps.{AfterShut as LinkShut};
 ghost use Rattle.sp_msg.specs.Wires.{AfterPull, AfterRoom, AfterPut, AfterFlush, AfterShut, may_flush};
 ghost use Rattle.sp_msg.specs.Marks.{fresh_marks};
-ghost use Rattle.sp_tcp.specs.TcpWires.{tcp_state, tcp_view, Holds, Met, IsNewWire, Framed, TcpPulled, TcpWrote, RoomAfter, RoomCause, FlushCause};
+ghost use Rattle.sp_msg.specs.Wires.{RoomAfter};
+ghost use Rattle.sp_tcp.specs.TcpWires.{tcp_state, tcp_view, Holds, Met, IsNewWire, Framed, TcpPulled, TcpWrote, RoomCause, FlushCause};
 
 use crate::inlet::{Inlet, pull_from};
 use crate::outlet::{MOST_WAITING, Outlet, write_from};
@@ -14,7 +15,7 @@ use std::alloc::Global;
 use std::marker::Model;
 use std::sync::Wait;
 
-/// A wire over a link that is greeted (SP over TCP). It reads into one buffer, from which it takes message after
+/// A wire over a link that is greeted (SP over TCP, nng_tcp(7)). It reads into one buffer, from which it takes message after
 /// message, and writes many small frames at once. `pull` alone takes memory.
 #[derive(Drop)]
 pub struct TcpWire<L: Link> {

@@ -7,7 +7,7 @@ use Rattle.sp_spec.specs.Outside.{grown}
 use Rattle.sp_base.specs.Views.{LinkView}
 use Rattle.sp_base.specs.Steps.{Went, Quiet}
 use Rattle.sp_ws.specs.Views.{FramesView, FrameOutletView, count_of}
-use Rattle.sp_ws.specs.Links.{WriteCounts}
+use Rattle.sp_msg.specs.Links.{WriteCounts}
 use Rattle.websocket.specs.declared.protocol.config.Role.{Role}
 use Rattle.sp_ws.specs.Frames.{IsFrame}
 use Rattle.websocket.specs.declared.protocol.frame.coding.OpCode.TheVariants as codes

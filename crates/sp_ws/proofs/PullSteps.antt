@@ -12,7 +12,7 @@ use Rattle.sp_base.specs.Steps.{Came, Quiet}
 use Rattle.sp_msg.specs.declared.wire.WireIn.{WireIn}
 use Rattle.sp_msg.specs.declared.wire.WireIn.TheVariants as ins
 use Rattle.sp_ws.specs.Views.{FramesView, all_fed, IsFed}
-use Rattle.sp_ws.specs.Links.{ReadCounts}
+use Rattle.sp_msg.specs.Links.{ReadCounts}
 use Rattle.sp_ws.specs.Frames.{IsPassed, Names, came_with, AfterNext}
 use Rattle.sp_ws.specs.Pulls.{IsIdle, PullAnswer, PullGoing, GoesOn, ReadOn, ReadLast, PullReads, WasFed, PulledFrom, IsTaken}
 use Rattle.sp_ws.specs.declared.frames.FrameIn.{FrameIn}

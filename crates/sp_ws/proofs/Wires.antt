@@ -4,7 +4,7 @@ use Rattle.std.proofs.lemmas.List.{length-append, take_at}
 use Rattle.sp_base.specs.Views.{LinkView}
 use Rattle.sp_base.specs.Steps.{AfterShut as LinkShut}
 use Rattle.sp_base.specs.Wires.{scheme_number}
-use Rattle.sp_ws.specs.Links.{WriteCounts}
+use Rattle.sp_msg.specs.Links.{WriteCounts}
 use Rattle.sp_msg.specs.Views.{OverLink, MessageView, wire_text}
 use Rattle.sp_msg.specs.Marks.{fresh_marks, marks_pulled, marks_roomed, marks_flushed, marks_put, marks_shut}
 use Rattle.sp_msg.specs.Wires.{AfterPull, AfterRoom, AfterFlush, AfterPut, AfterShut, with_text, came_after, IsBare}
@@ -22,7 +22,8 @@ use Rattle.websocket.specs.declared.protocol.config.WebSocketConfig.{WebSocketCo
 use Rattle.sp_ws.specs.declared.side.Side.{Side}
 use Rattle.sp_ws.specs.Outlets.{AreWithin, passed, FlushAnswer, FlushedFrom}
 use Rattle.sp_ws.specs.Pulls.{NoneCame, OneLost, PullAnswer, PulledFrom}
-use Rattle.sp_ws.specs.Wires.{came_in, wire_name, WsState, ws_state, wire_of, ws_view, MarksHold, Holds, Tied, PullCause, WsPulled, WsWrote, RoomAfter, RoomCause, FlushCause, IsNewWire}
+use Rattle.sp_msg.specs.Wires.{RoomAfter}
+use Rattle.sp_ws.specs.Wires.{came_in, wire_name, WsState, ws_state, wire_of, ws_view, MarksHold, Holds, Tied, PullCause, WsPulled, WsWrote, RoomCause, FlushCause, IsNewWire}
 use Rattle.sp_ws.proofs.Outlets.{within_more, wrote_within, fewer}
 use Rattle.sp_ws.proofs.Marks.{RoomFacts, pulled_marks, ready_pulled, flushed_marks, ready_flushed, roomed_marks, ready_roomed, put_marks, shut_marks}
 

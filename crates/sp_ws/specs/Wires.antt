@@ -14,7 +14,7 @@ use Rattle.sp_msg.specs.declared.wire.Room.TheVariants as rooms
 use Rattle.sp_msg.specs.declared.wire.WireFlush.{WireFlush}
 use Rattle.sp_msg.specs.declared.wire.WireFlush.TheVariants as flushes
 use Rattle.sp_ws.specs.Views.{FramesView, FrameOutletView, count_of, fresh_frames, HasLimits}
-use Rattle.sp_ws.specs.Links.{ReadCounts, WriteCounts}
+use Rattle.sp_msg.specs.Links.{ReadCounts, WriteCounts}
 use Rattle.sp_ws.specs.Outlets.{AreWithin, AreFrames, passed, Written}
 use Rattle.sp_ws.specs.Sides.{role_of}
 use Rattle.sp_ws.specs.declared.side.Side.{Side}
@@ -146,14 +146,6 @@ pub record WsWrote (old new : WsView) : Type 0 where
   pub counts : WriteCounts old.link new.link
   pub kept : new.frames ≡ record old.frames { waiting = new.frames.waiting; sent = new.frames.sent }
   pub max : new.max ≡ old.max
-
--- the answer on room, by how the writing ended and how many messages are not wholly written after it
-abbrev pub RoomAfter : WireFlush → ℕ → Room → Type 0
-RoomAfter flushes.Empty waits room = room ≡ rooms.Yes
-RoomAfter flushes.NotYet waits room = ((waits < 16) × (room ≡ rooms.Yes)) ⊎ ((16 ≤ waits) × (room ≡ rooms.Full))
-RoomAfter flushes.Failed waits room = room ≡ rooms.Failed
-RoomAfter flushes.Refused waits room = room ≡ rooms.Refused
-RoomAfter flushes.NoMemory waits room = room ≡ rooms.NoMemory
 
 abbrev pub RoomCause : Room → WsView → WsView → Type 0
 RoomCause rooms.Yes old new = (new.wire.waits < 16) × (((new.wire.waits ≡ 0) × Written new.frames old.link new.link) ⊎ Rose old.link.stalls new.link.stalls)

@@ -4,7 +4,8 @@ ghost use Rattle.sp_base.specs.Steps.{AfterShut as LinkShut};
 ghost use Rattle.sp_msg.specs.Views.{wire_text};
 ghost use Rattle.sp_msg.specs.Marks.{fresh_marks};
 ghost use Rattle.sp_msg.specs.Wires.{AfterPull, AfterRoom, AfterPut, AfterFlush, AfterShut, may_flush};
-ghost use Rattle.sp_ws.specs.Wires.{IsNewWire, Tied, WsPulled, WsWrote, RoomAfter, RoomCause, FlushCause, Holds, ws_state, ws_view};
+ghost use Rattle.sp_msg.specs.Wires.{RoomAfter};
+ghost use Rattle.sp_ws.specs.Wires.{IsNewWire, Tied, WsPulled, WsWrote, RoomCause, FlushCause, Holds, ws_state, ws_view};
 
 use crate::frames::Frames;
 use crate::inlet::{pull_from, read_room};
@@ -18,7 +19,7 @@ use std::alloc::Global;
 use std::marker::Model;
 use std::sync::Wait;
 
-/// A wire over a link whose WebSocket is open: each message, header then body, is one binary message (RFC 6455 sections
+/// A wire over a link whose WebSocket is open (nng_ws(7)): each message, header then body, is one binary message (RFC 6455 sections
 /// 5.6 and 6). At most 16 messages wait. After any answer but a message, `NotYet`, `Yes`, `Full` and `Empty` only `shut`
 /// is lawful.
 #[derive(Drop)]

@@ -2,7 +2,7 @@ use Rattle.std.proofs.Common.{ℕ, sym, subst}
 use Rattle.sp_msg.specs.declared.marks.WireMarks.{WireMarks}
 use Rattle.sp_tcp.specs.TcpWires.{TcpState, tcp_state}
 use Rattle.std.proofs.Common.{length}
-use Rattle.sp_tcp.specs.TcpWires.{RoomAfter}
+use Rattle.sp_msg.specs.Wires.{RoomAfter}
 use Rattle.sp_tcp.proofs.Written.{Roomed, roomed}
 use Rattle.sp_tcp.proofs.wire.TcpWireWire.room.Goals as goal
 

@@ -1,6 +1,6 @@
 use Rattle.std.proofs.Common.{ap, map, length, arith}
 use Rattle.sp_msg.specs.Views.{wire_text}
-use Rattle.sp_ws.specs.Links.{WriteCounts}
+use Rattle.sp_msg.specs.Links.{WriteCounts}
 use Rattle.sp_ws.proofs.Outlets.{passed_shorter, passed_zero, took, wrote_none}
 use Rattle.sp_ws.proofs.outlet.FrameOutlet.write_once.Goals as goal
 

@@ -1,6 +1,7 @@
 use Rattle.std.proofs.Common.{◌≡◌, ℕ, true, sym, ap, subst, ◌∙◌}
 use Rattle.sp_msg.specs.declared.marks.WireMarks.{WireMarks}
-use Rattle.sp_ws.specs.Wires.{WsState, WsView, ws_state, RoomAfter}
+use Rattle.sp_msg.specs.Wires.{RoomAfter}
+use Rattle.sp_ws.specs.Wires.{WsState, WsView, ws_state}
 use Rattle.sp_ws.specs.Views.{count_of}
 use Rattle.sp_ws.proofs.Wires.{Roomed, roomed}
 use Rattle.sp_ws.proofs.wire.WsWireWire.room.Goals as goal

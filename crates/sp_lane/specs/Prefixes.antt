@@ -1,6 +1,0 @@
--- A prefix of a list.
-use Rattle.std.specs.Prelude.{◌≡◌, List, ◌++◌}
-
--- the second list begins with the first
-abbrev pub IsPrefix : {A : Type 0} → List A → List A → Type 0
-IsPrefix {A} front all = (rest : List A) × (all ≡ front ++ rest)
