@@ -29,7 +29,7 @@ fn the_line_of_a_context_has_its_operations_in_order(rt: HostRuntime) {
     same(&rt, pending.some_on(Ctx(5)), Some(SECOND));
     same(&rt, pending.some_on(Ctx(2)), None);
     let mut slots = Vec::new(rt.alloc());
-    if let Some(x) = pending.first_in_line(Ctx(1)) {
+    if let Some(x) = pending.first_in_bucket(Ctx(1)) {
         made(&rt, slots.push(x.name().slot));
     }
     same(&rt, slots.as_slice(), [2].as_slice());

@@ -7,7 +7,7 @@ use Rattle.sp_base.specs.declared.OpName.{OpName}
 use Rattle.sp_pending.specs.declared.pending.PendingOperation.{PendingOperation}
 use Rattle.sp_pending.specs.declared.rings.Rings.{Rings}
 use Rattle.sp_pending.specs.Rings.{at, IsPath, AreAlone, PutsLast, TakesOut}
-use Rattle.sp_pending.specs.Pendings.{is_named, others_than, slot_of, line_of, in_line, first_of, behind, IsAmong, IsIn, NotIn, Differ, place_at, ArePlaced, with_one, placed, shown, Keeps}
+use Rattle.sp_pending.specs.Pendings.{is_named, others_than, slot_of, bucket_of, in_bucket, first_of, behind, IsAmong, IsIn, NotIn, Differ, place_at, ArePlaced, with_one, placed, shown, Keeps}
 use Rattle.sp_pending.proofs.RingSteps.{same, is_same, differs, apart, not_in, in_middle, differ-last, differ-without, last_in, before_in, after_in, kept, put_at, removed, walked}
 
 -- ---- Names
@@ -73,27 +73,27 @@ module _ (p : PendingOperation → Bool) where
       go false m = m
 
 module _ (slots n : ℕ) where
-  line_on : (fs gs : List PendingOperation) (x : PendingOperation) → line_of slots x.ctx ≡ n → in_line slots n (fs ++ x ∷ gs) ≡ in_line slots n fs ++ x ∷ in_line slots n gs
-  line_on [] gs x e = rw (is_same (line_of slots x.ctx) n e) refl
-  line_on (f ∷ fs) gs x e = go (line_of slots f.ctx == n) (line_on fs gs x e)
+  bucket_on : (fs gs : List PendingOperation) (x : PendingOperation) → bucket_of slots x.ctx ≡ n → in_bucket slots n (fs ++ x ∷ gs) ≡ in_bucket slots n fs ++ x ∷ in_bucket slots n gs
+  bucket_on [] gs x e = rw (is_same (bucket_of slots x.ctx) n e) refl
+  bucket_on (f ∷ fs) gs x e = go (bucket_of slots f.ctx == n) (bucket_on fs gs x e)
     where
-      go : (b : Bool) → in_line slots n (fs ++ x ∷ gs) ≡ in_line slots n fs ++ x ∷ in_line slots n gs → cond b (f ∷ in_line slots n (fs ++ x ∷ gs)) (in_line slots n (fs ++ x ∷ gs)) ≡ cond b (f ∷ in_line slots n fs) (in_line slots n fs) ++ x ∷ in_line slots n gs
+      go : (b : Bool) → in_bucket slots n (fs ++ x ∷ gs) ≡ in_bucket slots n fs ++ x ∷ in_bucket slots n gs → cond b (f ∷ in_bucket slots n (fs ++ x ∷ gs)) (in_bucket slots n (fs ++ x ∷ gs)) ≡ cond b (f ∷ in_bucket slots n fs) (in_bucket slots n fs) ++ x ∷ in_bucket slots n gs
       go true k = ap (λ (zs : List PendingOperation). f ∷ zs) k
       go false k = k
 
-  line_off : (fs gs : List PendingOperation) (x : PendingOperation) → line_of slots x.ctx ≢ n → in_line slots n (fs ++ x ∷ gs) ≡ in_line slots n (fs ++ gs)
-  line_off [] gs x e = rw (differs (line_of slots x.ctx) n e) refl
-  line_off (f ∷ fs) gs x e = go (line_of slots f.ctx == n) (line_off fs gs x e)
+  bucket_off : (fs gs : List PendingOperation) (x : PendingOperation) → bucket_of slots x.ctx ≢ n → in_bucket slots n (fs ++ x ∷ gs) ≡ in_bucket slots n (fs ++ gs)
+  bucket_off [] gs x e = rw (differs (bucket_of slots x.ctx) n e) refl
+  bucket_off (f ∷ fs) gs x e = go (bucket_of slots f.ctx == n) (bucket_off fs gs x e)
     where
-      go : (b : Bool) → in_line slots n (fs ++ x ∷ gs) ≡ in_line slots n (fs ++ gs) → cond b (f ∷ in_line slots n (fs ++ x ∷ gs)) (in_line slots n (fs ++ x ∷ gs)) ≡ cond b (f ∷ in_line slots n (fs ++ gs)) (in_line slots n (fs ++ gs))
+      go : (b : Bool) → in_bucket slots n (fs ++ x ∷ gs) ≡ in_bucket slots n (fs ++ gs) → cond b (f ∷ in_bucket slots n (fs ++ x ∷ gs)) (in_bucket slots n (fs ++ x ∷ gs)) ≡ cond b (f ∷ in_bucket slots n (fs ++ gs)) (in_bucket slots n (fs ++ gs))
       go true k = ap (λ (zs : List PendingOperation). f ∷ zs) k
       go false k = k
 
-  line_parts : (fs gs : List PendingOperation) → in_line slots n (fs ++ gs) ≡ in_line slots n fs ++ in_line slots n gs
-  line_parts [] gs = refl
-  line_parts (f ∷ fs) gs = go (line_of slots f.ctx == n) (line_parts fs gs)
+  bucket_parts : (fs gs : List PendingOperation) → in_bucket slots n (fs ++ gs) ≡ in_bucket slots n fs ++ in_bucket slots n gs
+  bucket_parts [] gs = refl
+  bucket_parts (f ∷ fs) gs = go (bucket_of slots f.ctx == n) (bucket_parts fs gs)
     where
-      go : (b : Bool) → in_line slots n (fs ++ gs) ≡ in_line slots n fs ++ in_line slots n gs → cond b (f ∷ in_line slots n (fs ++ gs)) (in_line slots n (fs ++ gs)) ≡ cond b (f ∷ in_line slots n fs) (in_line slots n fs) ++ in_line slots n gs
+      go : (b : Bool) → in_bucket slots n (fs ++ gs) ≡ in_bucket slots n fs ++ in_bucket slots n gs → cond b (f ∷ in_bucket slots n (fs ++ gs)) (in_bucket slots n (fs ++ gs)) ≡ cond b (f ∷ in_bucket slots n fs) (in_bucket slots n fs) ++ in_bucket slots n gs
       go true k = ap (λ (zs : List PendingOperation). f ∷ zs) k
       go false k = k
 
@@ -141,28 +141,28 @@ module _ (slots : ℕ) (places : List (Option PendingOperation)) where
   all_placed (x ∷ xs) h = ap (λ (o : Option PendingOperation). with_one o (placed places (map slot_of xs))) h.1 ∙ ap (λ (zs : List PendingOperation). x ∷ zs) (all_placed xs h.2)
 
   -- the operation of a slot in a bucket
-  on_line : (n i : ℕ) (xs : List PendingOperation) → ArePlaced slots places xs → IsIn i (map slot_of (in_line slots n xs)) → (x : PendingOperation) × (place_at places i ≡ Some x) × (line_of slots x.ctx ≡ n) × (i < slots)
-  on_line n i [] h m = absurd m
-  on_line n i (x ∷ xs) h m = go (λ k. on_line n i xs h.2 k) (line_of slots x.ctx == n) refl m
+  on_bucket : (n i : ℕ) (xs : List PendingOperation) → ArePlaced slots places xs → IsIn i (map slot_of (in_bucket slots n xs)) → (x : PendingOperation) × (place_at places i ≡ Some x) × (bucket_of slots x.ctx ≡ n) × (i < slots)
+  on_bucket n i [] h m = absurd m
+  on_bucket n i (x ∷ xs) h m = go (λ k. on_bucket n i xs h.2 k) (bucket_of slots x.ctx == n) refl m
     where
-      go : (IsIn i (map slot_of (in_line slots n xs)) → (y : PendingOperation) × (place_at places i ≡ Some y) × (line_of slots y.ctx ≡ n) × (i < slots)) → (b : Bool) → (line_of slots x.ctx == n) ≡ b → IsIn i (map slot_of (cond b (x ∷ in_line slots n xs) (in_line slots n xs))) → (y : PendingOperation) × (place_at places i ≡ Some y) × (line_of slots y.ctx ≡ n) × (i < slots)
-      go rest true e (inl s) = (x, ap (place_at places) (sym s) ∙ h.1, same (line_of slots x.ctx) n e, omega (arith, h.0, s))
+      go : (IsIn i (map slot_of (in_bucket slots n xs)) → (y : PendingOperation) × (place_at places i ≡ Some y) × (bucket_of slots y.ctx ≡ n) × (i < slots)) → (b : Bool) → (bucket_of slots x.ctx == n) ≡ b → IsIn i (map slot_of (cond b (x ∷ in_bucket slots n xs) (in_bucket slots n xs))) → (y : PendingOperation) × (place_at places i ≡ Some y) × (bucket_of slots y.ctx ≡ n) × (i < slots)
+      go rest true e (inl s) = (x, ap (place_at places) (sym s) ∙ h.1, same (bucket_of slots x.ctx) n e, omega (arith, h.0, s))
       go rest true e (inr k) = rest k
       go rest false e k = rest k
 
-  lines_apart : (n m i j : ℕ) (xs : List PendingOperation) → n ≢ m → ArePlaced slots places xs → IsIn i (map slot_of (in_line slots n xs)) → IsIn j (map slot_of (in_line slots m xs)) → i ≢ j
-  lines_apart n m i j xs o h a b s =
-      let x = on_line n i xs h a in
-      let y = on_line m j xs h b in
-      o (sym x.2 ∙ ap (λ (z : PendingOperation). line_of slots z.ctx) (same_Some x.0 y.0 (sym x.1 ∙ ap (place_at places) s ∙ y.1)) ∙ y.2)
+  buckets_apart : (n m i j : ℕ) (xs : List PendingOperation) → n ≢ m → ArePlaced slots places xs → IsIn i (map slot_of (in_bucket slots n xs)) → IsIn j (map slot_of (in_bucket slots m xs)) → i ≢ j
+  buckets_apart n m i j xs o h a b s =
+      let x = on_bucket n i xs h a in
+      let y = on_bucket m j xs h b in
+      o (sym x.2 ∙ ap (λ (z : PendingOperation). bucket_of slots z.ctx) (same_Some x.0 y.0 (sym x.1 ∙ ap (place_at places) s ∙ y.1)) ∙ y.2)
 
   -- a member of one bucket's ring is none of another's
-  elsewhere : (n m i : ℕ) (xs : List PendingOperation) → n ≢ m → ArePlaced slots places xs → IsIn i ((slots + n) ∷ map slot_of (in_line slots n xs)) → NotIn i ((slots + m) ∷ map slot_of (in_line slots m xs))
+  elsewhere : (n m i : ℕ) (xs : List PendingOperation) → n ≢ m → ArePlaced slots places xs → IsIn i ((slots + n) ∷ map slot_of (in_bucket slots n xs)) → NotIn i ((slots + m) ∷ map slot_of (in_bucket slots m xs))
   elsewhere n m i xs o h (inl s) =
-      ((λ t. o (omega (arith, s, t))), subst (λ (k : ℕ). NotIn k (map slot_of (in_line slots m xs))) s (head_out (slots + n) (in_line slots m xs) (omega arith) (placed_filter (λ x. line_of slots x.ctx == m) slots places xs h)))
+      ((λ t. o (omega (arith, s, t))), subst (λ (k : ℕ). NotIn k (map slot_of (in_bucket slots m xs))) s (head_out (slots + n) (in_bucket slots m xs) (omega arith) (placed_filter (λ x. bucket_of slots x.ctx == m) slots places xs h)))
   elsewhere n m i xs o h (inr k) =
-      let x = on_line n i xs h k in
-      ((λ t. omega (arith, t, x.3)), not_in (map slot_of (in_line slots m xs)) i (λ j l. lines_apart n m i j xs o h k l))
+      let x = on_bucket n i xs h k in
+      ((λ t. omega (arith, t, x.3)), not_in (map slot_of (in_bucket slots m xs)) i (λ j l. buckets_apart n m i j xs o h k l))
 
 moved : (f g b c : List ℕ) (a : ℕ) (xs ys : List ℕ) (e : ℕ) → g ≡ f → c ≡ b → ys ≡ xs → IsPath f b a xs e → IsPath g c a ys e
 moved f g b c a xs ys e p q r h = subst (λ (zs : List ℕ). IsPath g c a zs e) (sym r) (subst (λ (zs : List ℕ). IsPath g zs a xs e) (sym q) (subst (λ (zs : List ℕ). IsPath zs b a xs e) (sym p) h))
@@ -178,7 +178,7 @@ seen slots places o l xs h =
 -- ---- One more
 
 module _ (slots : ℕ) (places more : List (Option PendingOperation)) (o l p q : Rings) (xs : List PendingOperation) (x : PendingOperation) where
-  pub put_in : Keeps slots places o l xs → x.op.slot < slots → NotIn x.op.slot (map slot_of xs) → length xs < slots → PutsLast slots x.op.slot o p → line_of slots x.ctx < slots → PutsLast (slots + line_of slots x.ctx) x.op.slot l q → more ≡ set places x.op.slot (Some x) → Keeps slots more p q (xs ++ x ∷ [])
+  pub put_in : Keeps slots places o l xs → x.op.slot < slots → NotIn x.op.slot (map slot_of xs) → length xs < slots → PutsLast slots x.op.slot o p → bucket_of slots x.ctx < slots → PutsLast (slots + bucket_of slots x.ctx) x.op.slot l q → more ≡ set places x.op.slot (Some x) → Keeps slots more p q (xs ++ x ∷ [])
   put_in h inside free room po lx pl pm =
       let i = x.op.slot in
       let out = head_out slots places slots xs (omega arith) h.are_placed in
@@ -193,49 +193,49 @@ module _ (slots : ℕ) (places more : List (Option PendingOperation)) (o l p q :
         are_placed = subst (λ (ys : List (Option PendingOperation)). ArePlaced slots ys (xs ++ x ∷ [])) (sym pm) (placed_append slots (set places i (Some x)) xs (x ∷ []) (placed_else slots places i (Some x) xs free h.are_placed) (inside, here, tt));
         in_order = moved _ p.after.items _ p.before.items slots _ (map slot_of (xs ++ x ∷ [])) slots po.0 po.1 slots_are
             (put_at o.after.items o.before.items i slots slots (map slot_of xs) h.in_order (out, h.differ) out ((λ s. omega (arith, s, inside)), free) (λ s. omega (arith, s, inside)) (omega (arith, last, h.order_after)) (omega (arith, inside, h.order_after)) (omega (arith, h.order_before)) (omega (arith, inside, h.order_before)));
-        in_lines = λ n k. lined n k (line_of slots x.ctx == n) refl;
+        in_buckets = λ n k. bucketd n k (bucket_of slots x.ctx == n) refl;
         place_count = ap length pm ∙ length-set places i (Some x) ∙ h.place_count;
         order_after = ap length po.0 ∙ length-set (set o.after.items (at o.before.items slots) i) i slots ∙ length-set o.after.items (at o.before.items slots) i ∙ h.order_after;
         order_before = ap length po.1 ∙ length-set (set o.before.items slots i) i (at o.before.items slots) ∙ length-set o.before.items slots i ∙ h.order_before;
-        lines_after = ap length pl.0 ∙ length-set (set l.after.items (at l.before.items (slots + line_of slots x.ctx)) i) i (slots + line_of slots x.ctx) ∙ length-set l.after.items (at l.before.items (slots + line_of slots x.ctx)) i ∙ h.lines_after;
-        lines_before = ap length pl.1 ∙ length-set (set l.before.items (slots + line_of slots x.ctx) i) i (at l.before.items (slots + line_of slots x.ctx)) ∙ length-set l.before.items (slots + line_of slots x.ctx) i ∙ h.lines_before;
+        buckets_after = ap length pl.0 ∙ length-set (set l.after.items (at l.before.items (slots + bucket_of slots x.ctx)) i) i (slots + bucket_of slots x.ctx) ∙ length-set l.after.items (at l.before.items (slots + bucket_of slots x.ctx)) i ∙ h.buckets_after;
+        buckets_before = ap length pl.1 ∙ length-set (set l.before.items (slots + bucket_of slots x.ctx) i) i (at l.before.items (slots + bucket_of slots x.ctx)) ∙ length-set l.before.items (slots + bucket_of slots x.ctx) i ∙ h.buckets_before;
       }
     where
       -- the last of its bucket
-      in_ring : IsIn (at l.before.items (slots + line_of slots x.ctx)) ((slots + line_of slots x.ctx) ∷ map slot_of (in_line slots (line_of slots x.ctx) xs))
-      in_ring = last_in l.after.items l.before.items (slots + line_of slots x.ctx) (map slot_of (in_line slots (line_of slots x.ctx) xs)) (slots + line_of slots x.ctx) (h.in_lines (line_of slots x.ctx) lx)
+      in_ring : IsIn (at l.before.items (slots + bucket_of slots x.ctx)) ((slots + bucket_of slots x.ctx) ∷ map slot_of (in_bucket slots (bucket_of slots x.ctx) xs))
+      in_ring = last_in l.after.items l.before.items (slots + bucket_of slots x.ctx) (map slot_of (in_bucket slots (bucket_of slots x.ctx) xs)) (slots + bucket_of slots x.ctx) (h.in_buckets (bucket_of slots x.ctx) lx)
 
-      on_it : IsPath q.after.items q.before.items (slots + line_of slots x.ctx) (map slot_of (in_line slots (line_of slots x.ctx) (xs ++ x ∷ []))) (slots + line_of slots x.ctx)
+      on_it : IsPath q.after.items q.before.items (slots + bucket_of slots x.ctx) (map slot_of (in_bucket slots (bucket_of slots x.ctx) (xs ++ x ∷ []))) (slots + bucket_of slots x.ctx)
       on_it =
           let i = x.op.slot in
-          let n = line_of slots x.ctx in
-          let ys = in_line slots n xs in
-          let test : PendingOperation → Bool = λ y. line_of slots y.ctx == n in
+          let n = bucket_of slots x.ctx in
+          let ys = in_bucket slots n xs in
+          let test : PendingOperation → Bool = λ y. bucket_of slots y.ctx == n in
           let there = placed_filter test slots places xs h.are_placed in
           let out = head_out slots places (slots + n) ys (omega arith) there in
           let last : at l.before.items (slots + n) < slots + slots = member_below slots places (slots + slots) (slots + n) (at l.before.items (slots + n)) ys there (omega (arith, lx)) (omega arith) in_ring in
-          let slots_are : map slot_of (in_line slots n (xs ++ x ∷ [])) ≡ map slot_of ys ++ i ∷ [] = ap (map slot_of) (line_on slots n xs [] x refl) ∙ map-append slot_of ys (x ∷ []) in
+          let slots_are : map slot_of (in_bucket slots n (xs ++ x ∷ [])) ≡ map slot_of ys ++ i ∷ [] = ap (map slot_of) (bucket_on slots n xs [] x refl) ∙ map-append slot_of ys (x ∷ []) in
           moved _ q.after.items _ q.before.items (slots + n) _ _ (slots + n) pl.0 pl.1 slots_are
-          (put_at l.after.items l.before.items i (slots + n) (slots + n) (map slot_of ys) (h.in_lines n lx) (out, differ_filter test xs h.differ) out ((λ s. omega (arith, s, inside)), not_in_filter test xs i free) (λ s. omega (arith, s, inside)) (omega (arith, last, h.lines_after)) (omega (arith, inside, h.lines_after)) (omega (arith, lx, h.lines_before)) (omega (arith, inside, h.lines_before)))
+          (put_at l.after.items l.before.items i (slots + n) (slots + n) (map slot_of ys) (h.in_buckets n lx) (out, differ_filter test xs h.differ) out ((λ s. omega (arith, s, inside)), not_in_filter test xs i free) (λ s. omega (arith, s, inside)) (omega (arith, last, h.buckets_after)) (omega (arith, inside, h.buckets_after)) (omega (arith, lx, h.buckets_before)) (omega (arith, inside, h.buckets_before)))
 
-      lined : (n : ℕ) → n < slots → (b : Bool) → (line_of slots x.ctx == n) ≡ b → IsPath q.after.items q.before.items (slots + n) (map slot_of (in_line slots n (xs ++ x ∷ []))) (slots + n)
-      lined n k true e = subst (λ (m : ℕ). IsPath q.after.items q.before.items (slots + m) (map slot_of (in_line slots m (xs ++ x ∷ []))) (slots + m)) (same (line_of slots x.ctx) n e) on_it
-      lined n k false e =
+      bucketd : (n : ℕ) → n < slots → (b : Bool) → (bucket_of slots x.ctx == n) ≡ b → IsPath q.after.items q.before.items (slots + n) (map slot_of (in_bucket slots n (xs ++ x ∷ []))) (slots + n)
+      bucketd n k true e = subst (λ (m : ℕ). IsPath q.after.items q.before.items (slots + m) (map slot_of (in_bucket slots m (xs ++ x ∷ []))) (slots + m)) (same (bucket_of slots x.ctx) n e) on_it
+      bucketd n k false e =
           let i = x.op.slot in
-          let m = line_of slots x.ctx in
-          let test : PendingOperation → Bool = λ y. line_of slots y.ctx == n in
+          let m = bucket_of slots x.ctx in
+          let test : PendingOperation → Bool = λ y. bucket_of slots y.ctx == n in
           let far : m ≢ n = (λ s. let no : true ≡ false = sym (is_same m n s) ∙ e in absurd cc) in
-          let ys = map slot_of (in_line slots n xs) in
+          let ys = map slot_of (in_bucket slots n xs) in
           let last = at l.before.items (slots + m) in
           let none : NotIn i ((slots + n) ∷ ys) = ((λ s. omega (arith, s, inside)), not_in_filter test xs i free) in
-          let one = kept l.after.items l.before.items last i (slots + m) i (slots + n) ys (slots + n) (elsewhere slots places m n last xs far h.are_placed in_ring) (elsewhere slots places m n (slots + m) xs far h.are_placed (inl refl)) (h.in_lines n k) in
+          let one = kept l.after.items l.before.items last i (slots + m) i (slots + n) ys (slots + n) (elsewhere slots places m n last xs far h.are_placed in_ring) (elsewhere slots places m n (slots + m) xs far h.are_placed (inl refl)) (h.in_buckets n k) in
           let two = kept (set l.after.items last i) (set l.before.items (slots + m) i) i (slots + m) i last (slots + n) ys (slots + n) none none one in
-          moved _ q.after.items _ q.before.items (slots + n) _ _ (slots + n) pl.0 pl.1 (ap (map slot_of) (line_off slots n xs [] x far ∙ ap (in_line slots n) (no_more xs))) two
+          moved _ q.after.items _ q.before.items (slots + n) _ _ (slots + n) pl.0 pl.1 (ap (map slot_of) (bucket_off slots n xs [] x far ∙ ap (in_bucket slots n) (no_more xs))) two
 
 -- ---- One fewer
 
 module _ (slots : ℕ) (places fewer : List (Option PendingOperation)) (o l p q : Rings) (xs : List PendingOperation) (x : PendingOperation) where
-  pub taken_out : Keeps slots places o l xs → IsAmong x xs → line_of slots x.ctx < slots → TakesOut x.op.slot o p → TakesOut x.op.slot l q → fewer ≡ set places x.op.slot None → Keeps slots fewer p q (filter (λ y. not (is_named x.op y)) xs)
+  pub taken_out : Keeps slots places o l xs → IsAmong x xs → bucket_of slots x.ctx < slots → TakesOut x.op.slot o p → TakesOut x.op.slot l q → fewer ≡ set places x.op.slot None → Keeps slots fewer p q (filter (λ y. not (is_named x.op y)) xs)
   taken_out h m lx po pl pm = subst (Keeps slots fewer p q) (sym s.left) rest
     where
       i : ℕ
@@ -265,42 +265,42 @@ module _ (slots : ℕ) (places fewer : List (Option PendingOperation)) (o l p q 
       among : IsIn x.op.slot (map slot_of xs)
       among = among_in x xs m
 
-      line_is : in_line slots (line_of slots x.ctx) xs ≡ in_line slots (line_of slots x.ctx) s.fs ++ x ∷ in_line slots (line_of slots x.ctx) s.gs
-      line_is = ap (in_line slots (line_of slots x.ctx)) s.is ∙ line_on slots (line_of slots x.ctx) s.fs s.gs x refl
+      bucket_is : in_bucket slots (bucket_of slots x.ctx) xs ≡ in_bucket slots (bucket_of slots x.ctx) s.fs ++ x ∷ in_bucket slots (bucket_of slots x.ctx) s.gs
+      bucket_is = ap (in_bucket slots (bucket_of slots x.ctx)) s.is ∙ bucket_on slots (bucket_of slots x.ctx) s.fs s.gs x refl
 
-      line_slots : map slot_of (in_line slots (line_of slots x.ctx) xs) ≡ map slot_of (in_line slots (line_of slots x.ctx) s.fs) ++ x.op.slot ∷ map slot_of (in_line slots (line_of slots x.ctx) s.gs)
-      line_slots = ap (map slot_of) line_is ∙ map-append slot_of (in_line slots (line_of slots x.ctx) s.fs) (x ∷ in_line slots (line_of slots x.ctx) s.gs)
+      bucket_slots : map slot_of (in_bucket slots (bucket_of slots x.ctx) xs) ≡ map slot_of (in_bucket slots (bucket_of slots x.ctx) s.fs) ++ x.op.slot ∷ map slot_of (in_bucket slots (bucket_of slots x.ctx) s.gs)
+      bucket_slots = ap (map slot_of) bucket_is ∙ map-append slot_of (in_bucket slots (bucket_of slots x.ctx) s.fs) (x ∷ in_bucket slots (bucket_of slots x.ctx) s.gs)
 
-      in_its_line : IsIn x.op.slot (map slot_of (in_line slots (line_of slots x.ctx) xs))
-      in_its_line = subst (IsIn x.op.slot) (sym line_slots) (in_middle (map slot_of (in_line slots (line_of slots x.ctx) s.fs)) x.op.slot (map slot_of (in_line slots (line_of slots x.ctx) s.gs)))
+      in_its_bucket : IsIn x.op.slot (map slot_of (in_bucket slots (bucket_of slots x.ctx) xs))
+      in_its_bucket = subst (IsIn x.op.slot) (sym bucket_slots) (in_middle (map slot_of (in_bucket slots (bucket_of slots x.ctx) s.fs)) x.op.slot (map slot_of (in_bucket slots (bucket_of slots x.ctx) s.gs)))
 
-      before_it : IsIn (at l.before.items x.op.slot) ((slots + line_of slots x.ctx) ∷ map slot_of (in_line slots (line_of slots x.ctx) xs))
-      before_it = before_in l.after.items l.before.items (slots + line_of slots x.ctx) (map slot_of (in_line slots (line_of slots x.ctx) xs)) (slots + line_of slots x.ctx) x.op.slot (h.in_lines (line_of slots x.ctx) lx) in_its_line
+      before_it : IsIn (at l.before.items x.op.slot) ((slots + bucket_of slots x.ctx) ∷ map slot_of (in_bucket slots (bucket_of slots x.ctx) xs))
+      before_it = before_in l.after.items l.before.items (slots + bucket_of slots x.ctx) (map slot_of (in_bucket slots (bucket_of slots x.ctx) xs)) (slots + bucket_of slots x.ctx) x.op.slot (h.in_buckets (bucket_of slots x.ctx) lx) in_its_bucket
 
-      after_it : IsIn (at l.after.items x.op.slot) ((slots + line_of slots x.ctx) ∷ map slot_of (in_line slots (line_of slots x.ctx) xs))
-      after_it = after_in l.after.items l.before.items (slots + line_of slots x.ctx) (map slot_of (in_line slots (line_of slots x.ctx) xs)) (slots + line_of slots x.ctx) x.op.slot (h.in_lines (line_of slots x.ctx) lx) in_its_line
+      after_it : IsIn (at l.after.items x.op.slot) ((slots + bucket_of slots x.ctx) ∷ map slot_of (in_bucket slots (bucket_of slots x.ctx) xs))
+      after_it = after_in l.after.items l.before.items (slots + bucket_of slots x.ctx) (map slot_of (in_bucket slots (bucket_of slots x.ctx) xs)) (slots + bucket_of slots x.ctx) x.op.slot (h.in_buckets (bucket_of slots x.ctx) lx) in_its_bucket
 
-      on_it : IsPath q.after.items q.before.items (slots + line_of slots x.ctx) (map slot_of (in_line slots (line_of slots x.ctx) (s.fs ++ s.gs))) (slots + line_of slots x.ctx)
+      on_it : IsPath q.after.items q.before.items (slots + bucket_of slots x.ctx) (map slot_of (in_bucket slots (bucket_of slots x.ctx) (s.fs ++ s.gs))) (slots + bucket_of slots x.ctx)
       on_it =
-          let n = line_of slots x.ctx in
-          let test : PendingOperation → Bool = λ y. line_of slots y.ctx == n in
+          let n = bucket_of slots x.ctx in
+          let test : PendingOperation → Bool = λ y. bucket_of slots y.ctx == n in
           let placed_there = placed_filter test slots places xs h.are_placed in
-          let no_head = subst (NotIn (slots + n)) line_slots (head_out slots places (slots + n) (in_line slots n xs) (omega arith) placed_there) in
-          let apart_there = subst Differ line_slots (differ_filter test xs h.differ) in
-          let path = subst (λ (zs : List ℕ). IsPath l.after.items l.before.items (slots + n) zs (slots + n)) line_slots (h.in_lines n lx) in
-          let b : at l.before.items x.op.slot < slots + slots = member_below slots places (slots + slots) (slots + n) (at l.before.items x.op.slot) (in_line slots n xs) placed_there (omega (arith, lx)) (omega arith) before_it in
-          let a : at l.after.items x.op.slot < slots + slots = member_below slots places (slots + slots) (slots + n) (at l.after.items x.op.slot) (in_line slots n xs) placed_there (omega (arith, lx)) (omega arith) after_it in
-          moved _ q.after.items _ q.before.items (slots + n) _ _ (slots + n) pl.0 pl.1 (ap (map slot_of) (line_parts slots n s.fs s.gs) ∙ map-append slot_of (in_line slots n s.fs) (in_line slots n s.gs))
-          (removed l.after.items l.before.items x.op.slot (slots + n) (slots + n) (map slot_of (in_line slots n s.fs)) (map slot_of (in_line slots n s.gs)) path (no_head, apart_there) no_head (omega (arith, b, h.lines_after)) (omega (arith, a, h.lines_before)))
+          let no_head = subst (NotIn (slots + n)) bucket_slots (head_out slots places (slots + n) (in_bucket slots n xs) (omega arith) placed_there) in
+          let apart_there = subst Differ bucket_slots (differ_filter test xs h.differ) in
+          let path = subst (λ (zs : List ℕ). IsPath l.after.items l.before.items (slots + n) zs (slots + n)) bucket_slots (h.in_buckets n lx) in
+          let b : at l.before.items x.op.slot < slots + slots = member_below slots places (slots + slots) (slots + n) (at l.before.items x.op.slot) (in_bucket slots n xs) placed_there (omega (arith, lx)) (omega arith) before_it in
+          let a : at l.after.items x.op.slot < slots + slots = member_below slots places (slots + slots) (slots + n) (at l.after.items x.op.slot) (in_bucket slots n xs) placed_there (omega (arith, lx)) (omega arith) after_it in
+          moved _ q.after.items _ q.before.items (slots + n) _ _ (slots + n) pl.0 pl.1 (ap (map slot_of) (bucket_parts slots n s.fs s.gs) ∙ map-append slot_of (in_bucket slots n s.fs) (in_bucket slots n s.gs))
+          (removed l.after.items l.before.items x.op.slot (slots + n) (slots + n) (map slot_of (in_bucket slots n s.fs)) (map slot_of (in_bucket slots n s.gs)) path (no_head, apart_there) no_head (omega (arith, b, h.buckets_after)) (omega (arith, a, h.buckets_before)))
 
-      lined : (n : ℕ) → n < slots → (b : Bool) → (line_of slots x.ctx == n) ≡ b → IsPath q.after.items q.before.items (slots + n) (map slot_of (in_line slots n (s.fs ++ s.gs))) (slots + n)
-      lined n k true e = subst (λ (j : ℕ). IsPath q.after.items q.before.items (slots + j) (map slot_of (in_line slots j (s.fs ++ s.gs))) (slots + j)) (same (line_of slots x.ctx) n e) on_it
-      lined n k false e =
-          let j = line_of slots x.ctx in
+      bucketd : (n : ℕ) → n < slots → (b : Bool) → (bucket_of slots x.ctx == n) ≡ b → IsPath q.after.items q.before.items (slots + n) (map slot_of (in_bucket slots n (s.fs ++ s.gs))) (slots + n)
+      bucketd n k true e = subst (λ (j : ℕ). IsPath q.after.items q.before.items (slots + j) (map slot_of (in_bucket slots j (s.fs ++ s.gs))) (slots + j)) (same (bucket_of slots x.ctx) n e) on_it
+      bucketd n k false e =
+          let j = bucket_of slots x.ctx in
           let far : j ≢ n = (λ t. let no : true ≡ false = sym (is_same j n t) ∙ e in absurd cc) in
-          let ys = map slot_of (in_line slots n xs) in
-          let one = kept l.after.items l.before.items (at l.before.items x.op.slot) (at l.after.items x.op.slot) (at l.after.items x.op.slot) (at l.before.items x.op.slot) (slots + n) ys (slots + n) (elsewhere slots places j n (at l.before.items x.op.slot) xs far h.are_placed before_it) (elsewhere slots places j n (at l.after.items x.op.slot) xs far h.are_placed after_it) (h.in_lines n k) in
-          moved _ q.after.items _ q.before.items (slots + n) _ _ (slots + n) pl.0 pl.1 (ap (map slot_of) (sym (line_off slots n s.fs s.gs x far) ∙ ap (in_line slots n) (sym s.is))) one
+          let ys = map slot_of (in_bucket slots n xs) in
+          let one = kept l.after.items l.before.items (at l.before.items x.op.slot) (at l.after.items x.op.slot) (at l.after.items x.op.slot) (at l.before.items x.op.slot) (slots + n) ys (slots + n) (elsewhere slots places j n (at l.before.items x.op.slot) xs far h.are_placed before_it) (elsewhere slots places j n (at l.after.items x.op.slot) xs far h.are_placed after_it) (h.in_buckets n k) in
+          moved _ q.after.items _ q.before.items (slots + n) _ _ (slots + n) pl.0 pl.1 (ap (map slot_of) (sym (bucket_off slots n s.fs s.gs x far) ∙ ap (in_bucket slots n) (sym s.is))) one
 
       rest : Keeps slots fewer p q (s.fs ++ s.gs)
       rest =
@@ -315,12 +315,12 @@ module _ (slots : ℕ) (places fewer : List (Option PendingOperation)) (o l p q 
             are_placed = subst (λ (zs : List (Option PendingOperation)). ArePlaced slots zs (s.fs ++ s.gs)) (sym pm) (placed_else slots places x.op.slot None (s.fs ++ s.gs) (subst (NotIn x.op.slot) (sym rest_are) differ.1) (placed_without slots places s.fs s.gs x there));
             in_order = moved _ p.after.items _ p.before.items slots _ _ slots po.0 po.1 rest_are
                 (removed o.after.items o.before.items x.op.slot slots slots (map slot_of s.fs) (map slot_of s.gs) path (out slots (omega arith), subst Differ slots_are h.differ) (out slots (omega arith)) (omega (arith, b, h.order_after)) (omega (arith, a, h.order_before)));
-            in_lines = λ n k. lined n k (line_of slots x.ctx == n) refl;
+            in_buckets = λ n k. bucketd n k (bucket_of slots x.ctx == n) refl;
             place_count = ap length pm ∙ length-set places x.op.slot None ∙ h.place_count;
             order_after = ap length po.0 ∙ length-set o.after.items (at o.before.items x.op.slot) (at o.after.items x.op.slot) ∙ h.order_after;
             order_before = ap length po.1 ∙ length-set o.before.items (at o.after.items x.op.slot) (at o.before.items x.op.slot) ∙ h.order_before;
-            lines_after = ap length pl.0 ∙ length-set l.after.items (at l.before.items x.op.slot) (at l.after.items x.op.slot) ∙ h.lines_after;
-            lines_before = ap length pl.1 ∙ length-set l.before.items (at l.after.items x.op.slot) (at l.before.items x.op.slot) ∙ h.lines_before;
+            buckets_after = ap length pl.0 ∙ length-set l.after.items (at l.before.items x.op.slot) (at l.after.items x.op.slot) ∙ h.buckets_after;
+            buckets_before = ap length pl.1 ∙ length-set l.before.items (at l.after.items x.op.slot) (at l.before.items x.op.slot) ∙ h.buckets_before;
           }
 
 -- ---- The next one
@@ -373,34 +373,34 @@ module _ (slots : ℕ) (places : List (Option PendingOperation)) (o l : Rings) (
   pub first_told : (n : ℕ) → n ≡ at o.after.items slots → PlaceTells places n slots (first_of xs)
   first_told n s = told o.after.items slots slots n (first_of xs) (first_is slots places o.after.items o.before.items slots slots xs h.in_order h.are_placed (omega arith)) s
 
-  pub line_first_told : (c head n : ℕ) → head ≡ slots + line_of slots c → line_of slots c < slots → n ≡ at l.after.items head → PlaceTells places n head (first_of (in_line slots (line_of slots c) xs))
-  line_first_told c head n e k s =
-      let line = line_of slots c in
-      let ys = in_line slots line xs in
-      let t = told l.after.items (slots + line) (slots + line) n (first_of ys) (first_is slots places l.after.items l.before.items (slots + line) (slots + line) ys (h.in_lines line k) (placed_filter (λ x. line_of slots x.ctx == line) slots places xs h.are_placed) (omega arith)) (s ∙ ap (at l.after.items) e) in
+  pub bucket_first_told : (c head n : ℕ) → head ≡ slots + bucket_of slots c → bucket_of slots c < slots → n ≡ at l.after.items head → PlaceTells places n head (first_of (in_bucket slots (bucket_of slots c) xs))
+  bucket_first_told c head n e k s =
+      let bucket = bucket_of slots c in
+      let ys = in_bucket slots bucket xs in
+      let t = told l.after.items (slots + bucket) (slots + bucket) n (first_of ys) (first_is slots places l.after.items l.before.items (slots + bucket) (slots + bucket) ys (h.in_buckets bucket k) (placed_filter (λ x. bucket_of slots x.ctx == bucket) slots places xs h.are_placed) (omega arith)) (s ∙ ap (at l.after.items) e) in
       subst (λ (i : ℕ). PlaceTells places n i (first_of ys)) (sym e) t
 
-  pub line_next_told : (x : PendingOperation) (head n : ℕ) → IsAmong x xs → head ≡ slots + line_of slots x.ctx → line_of slots x.ctx < slots → n ≡ at l.after.items x.op.slot → PlaceTells places n head (behind x.op (in_line slots (line_of slots x.ctx) xs))
-  line_next_told x head n m e k s =
-      let line = line_of slots x.ctx in
-      let ys = in_line slots line xs in
-      let p : PendingOperation → Bool = λ y. line_of slots y.ctx == line in
-      let there = among_filter p x xs (is_same line line refl) m in
-      let next = behind_is slots places l.after.items l.before.items (slots + line) (slots + line) x ys there (differ_filter p xs h.differ) (h.in_lines line k) (placed_filter p slots places xs h.are_placed) (omega arith) in
-      subst (λ (i : ℕ). PlaceTells places n i (behind x.op ys)) (sym e) (told l.after.items x.op.slot (slots + line) n (behind x.op ys) next s)
+  pub bucket_next_told : (x : PendingOperation) (head n : ℕ) → IsAmong x xs → head ≡ slots + bucket_of slots x.ctx → bucket_of slots x.ctx < slots → n ≡ at l.after.items x.op.slot → PlaceTells places n head (behind x.op (in_bucket slots (bucket_of slots x.ctx) xs))
+  bucket_next_told x head n m e k s =
+      let bucket = bucket_of slots x.ctx in
+      let ys = in_bucket slots bucket xs in
+      let p : PendingOperation → Bool = λ y. bucket_of slots y.ctx == bucket in
+      let there = among_filter p x xs (is_same bucket bucket refl) m in
+      let next = behind_is slots places l.after.items l.before.items (slots + bucket) (slots + bucket) x ys there (differ_filter p xs h.differ) (h.in_buckets bucket k) (placed_filter p slots places xs h.are_placed) (omega arith) in
+      subst (λ (i : ℕ). PlaceTells places n i (behind x.op ys)) (sym e) (told l.after.items x.op.slot (slots + bucket) n (behind x.op ys) next s)
 
   pub order_room : (i : ℕ) → i < slots → (slots < length o.before.items) × (i < length o.before.items) × (i < length o.after.items) × (at o.before.items slots < length o.after.items)
   order_room i k =
       let last : at o.before.items slots < slots + 1 = member_below slots places (slots + 1) slots (at o.before.items slots) xs h.are_placed (omega arith) (omega arith) (last_in o.after.items o.before.items slots (map slot_of xs) slots h.in_order) in
       (omega (arith, h.order_before), omega (arith, k, h.order_before), omega (arith, k, h.order_after), omega (arith, last, h.order_after))
 
-  pub line_room : (c i head : ℕ) → i < slots → head ≡ slots + line_of slots c → line_of slots c < slots → (head < length l.before.items) × (i < length l.before.items) × (i < length l.after.items) × (at l.before.items head < length l.after.items)
-  line_room c i head k e b =
-      let line = line_of slots c in
-      let ys = in_line slots line xs in
-      let last : at l.before.items (slots + line) < slots + slots = member_below slots places (slots + slots) (slots + line) (at l.before.items (slots + line)) ys (placed_filter (λ x. line_of slots x.ctx == line) slots places xs h.are_placed) (omega (arith, b)) (omega arith) (last_in l.after.items l.before.items (slots + line) (map slot_of ys) (slots + line) (h.in_lines line b)) in
-      let same : at l.before.items head ≡ at l.before.items (slots + line) = ap (at l.before.items) e in
-      (omega (arith, e, b, h.lines_before), omega (arith, k, h.lines_before), omega (arith, k, h.lines_after), omega (arith, last, same, h.lines_after))
+  pub bucket_room : (c i head : ℕ) → i < slots → head ≡ slots + bucket_of slots c → bucket_of slots c < slots → (head < length l.before.items) × (i < length l.before.items) × (i < length l.after.items) × (at l.before.items head < length l.after.items)
+  bucket_room c i head k e b =
+      let bucket = bucket_of slots c in
+      let ys = in_bucket slots bucket xs in
+      let last : at l.before.items (slots + bucket) < slots + slots = member_below slots places (slots + slots) (slots + bucket) (at l.before.items (slots + bucket)) ys (placed_filter (λ x. bucket_of slots x.ctx == bucket) slots places xs h.are_placed) (omega (arith, b)) (omega arith) (last_in l.after.items l.before.items (slots + bucket) (map slot_of ys) (slots + bucket) (h.in_buckets bucket b)) in
+      let same : at l.before.items head ≡ at l.before.items (slots + bucket) = ap (at l.before.items) e in
+      (omega (arith, e, b, h.buckets_before), omega (arith, k, h.buckets_before), omega (arith, k, h.buckets_after), omega (arith, last, same, h.buckets_after))
 
   pub slot_inside : (x : PendingOperation) → IsAmong x xs → x.op.slot < slots
   slot_inside x m = (placed_here slots places x xs h.are_placed m).0
@@ -413,17 +413,17 @@ module _ (slots : ℕ) (places : List (Option PendingOperation)) (o l : Rings) (
       let a : at o.after.items x.op.slot < slots + 1 = member_below slots places (slots + 1) slots (at o.after.items x.op.slot) xs h.are_placed (omega arith) (omega arith) (after_in o.after.items o.before.items slots (map slot_of xs) slots x.op.slot h.in_order among) in
       (omega (arith, k, h.order_before), omega (arith, k, h.order_after), omega (arith, b, h.order_after), omega (arith, a, h.order_before))
 
-  pub line_neighbours : (x : PendingOperation) → IsAmong x xs → line_of slots x.ctx < slots → (x.op.slot < length l.before.items) × (x.op.slot < length l.after.items) × (at l.before.items x.op.slot < length l.after.items) × (at l.after.items x.op.slot < length l.before.items)
-  line_neighbours x m lx =
+  pub bucket_neighbours : (x : PendingOperation) → IsAmong x xs → bucket_of slots x.ctx < slots → (x.op.slot < length l.before.items) × (x.op.slot < length l.after.items) × (at l.before.items x.op.slot < length l.after.items) × (at l.after.items x.op.slot < length l.before.items)
+  bucket_neighbours x m lx =
       let k = slot_inside x m in
-      let line = line_of slots x.ctx in
-      let p : PendingOperation → Bool = λ y. line_of slots y.ctx == line in
-      let ys = in_line slots line xs in
+      let bucket = bucket_of slots x.ctx in
+      let p : PendingOperation → Bool = λ y. bucket_of slots y.ctx == bucket in
+      let ys = in_bucket slots bucket xs in
       let there = placed_filter p slots places xs h.are_placed in
-      let among = among_in x ys (among_filter p x xs (is_same line line refl) m) in
-      let b : at l.before.items x.op.slot < slots + slots = member_below slots places (slots + slots) (slots + line) (at l.before.items x.op.slot) ys there (omega (arith, lx)) (omega arith) (before_in l.after.items l.before.items (slots + line) (map slot_of ys) (slots + line) x.op.slot (h.in_lines line lx) among) in
-      let a : at l.after.items x.op.slot < slots + slots = member_below slots places (slots + slots) (slots + line) (at l.after.items x.op.slot) ys there (omega (arith, lx)) (omega arith) (after_in l.after.items l.before.items (slots + line) (map slot_of ys) (slots + line) x.op.slot (h.in_lines line lx) among) in
-      (omega (arith, k, h.lines_before), omega (arith, k, h.lines_after), omega (arith, b, h.lines_after), omega (arith, a, h.lines_before))
+      let among = among_in x ys (among_filter p x xs (is_same bucket bucket refl) m) in
+      let b : at l.before.items x.op.slot < slots + slots = member_below slots places (slots + slots) (slots + bucket) (at l.before.items x.op.slot) ys there (omega (arith, lx)) (omega arith) (before_in l.after.items l.before.items (slots + bucket) (map slot_of ys) (slots + bucket) x.op.slot (h.in_buckets bucket lx) among) in
+      let a : at l.after.items x.op.slot < slots + slots = member_below slots places (slots + slots) (slots + bucket) (at l.after.items x.op.slot) ys there (omega (arith, lx)) (omega arith) (after_in l.after.items l.before.items (slots + bucket) (map slot_of ys) (slots + bucket) x.op.slot (h.in_buckets bucket lx) among) in
+      (omega (arith, k, h.buckets_before), omega (arith, k, h.buckets_after), omega (arith, b, h.buckets_after), omega (arith, a, h.buckets_before))
 
 -- at the start
 pub made : (slots : ℕ) (places : List (Option PendingOperation)) (o l : Rings) → 0 < slots → slots ≤ 4096 → places ≡ replicate slots None → AreAlone (slots + 1) o.after.items → AreAlone (slots + 1) o.before.items → AreAlone (slots + slots) l.after.items → AreAlone (slots + slots) l.before.items → Keeps slots places o l []
@@ -434,18 +434,18 @@ made slots places o l s f p oa ob la lb = record {
   differ = tt;
   are_placed = tt;
   in_order = (oa.each slots (omega arith), ob.each slots (omega arith));
-  in_lines = λ n k. (la.each (slots + n) (omega (arith, k)), lb.each (slots + n) (omega (arith, k)));
+  in_buckets = λ n k. (la.each (slots + n) (omega (arith, k)), lb.each (slots + n) (omega (arith, k)));
   place_count = ap length p ∙ length-replicate slots None;
   order_after = oa.count;
   order_before = ob.count;
-  lines_after = la.count;
-  lines_before = lb.count;
+  buckets_after = la.count;
+  buckets_before = lb.count;
 }
 
-pub line_below : (slots c : ℕ) → 0 < slots → line_of slots c < slots
-line_below slots c s = search arith
+pub bucket_below : (slots c : ℕ) → 0 < slots → bucket_of slots c < slots
+bucket_below slots c s = search arith
 
 -- the operation of this name is taken out
 pub named_out : (slots : ℕ) (places : List (Option PendingOperation)) (o l p q : Rings) (xs : List PendingOperation) (x : PendingOperation) (op : OpName) → x.op ≡ op → Keeps slots places o l xs → IsAmong x xs → TakesOut op.slot o p → TakesOut op.slot l q → Keeps slots (set places op.slot None) p q (others_than op xs)
 named_out slots places o l p q xs x op e h m =
-    subst (λ (n : OpName). TakesOut n.slot o p → TakesOut n.slot l q → Keeps slots (set places n.slot None) p q (others_than n xs)) e (λ a b. taken_out slots places (set places x.op.slot None) o l p q xs x h m (line_below slots x.ctx h.some) a b refl)
+    subst (λ (n : OpName). TakesOut n.slot o p → TakesOut n.slot l q → Keeps slots (set places n.slot None) p q (others_than n xs)) e (λ a b. taken_out slots places (set places x.op.slot None) o l p q xs x h m (bucket_below slots x.ctx h.some) a b refl)

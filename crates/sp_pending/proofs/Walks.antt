@@ -3,7 +3,7 @@ use Rattle.std.proofs.Common.{◌≡◌, refl, ap, sym, ◌∙◌, subst, List, 
 use Rattle.std.specs.Prelude.{map, filter, not, ◌≢◌, ◌==◌}
 use Rattle.sp_base.specs.declared.OpName.{OpName}
 use Rattle.sp_pending.specs.declared.pending.PendingOperation.{PendingOperation}
-use Rattle.sp_pending.specs.Pendings.{is_named, slot_of, line_of, in_line, first_of, behind, from_on, left_of, others_than, IsAmong, IsNextIn, Differ}
+use Rattle.sp_pending.specs.Pendings.{is_named, slot_of, bucket_of, in_bucket, first_of, behind, from_on, left_of, others_than, IsAmong, IsNextIn, Differ}
 use Rattle.sp_pending.proofs.RingSteps.{same, is_same, apart}
 use Rattle.sp_pending.proofs.PendingSteps.{split, named_self, unnamed, among_in, among_filter, differ_filter}
 
@@ -85,21 +85,21 @@ module _ (p q : PendingOperation → Bool) where
       go false true e f k = rw e k
       go false false e f k = k
 
-pub line_without : (slots n : ℕ) (op : OpName) (xs : List PendingOperation) → in_line slots n (others_than op xs) ≡ others_than op (in_line slots n xs)
-line_without slots n op xs = filters (λ x. line_of slots x.ctx == n) (λ x. not (is_named op x)) xs
+pub bucket_without : (slots n : ℕ) (op : OpName) (xs : List PendingOperation) → in_bucket slots n (others_than op xs) ≡ others_than op (in_bucket slots n xs)
+bucket_without slots n op xs = filters (λ x. bucket_of slots x.ctx == n) (λ x. not (is_named op x)) xs
 
-pub among_line : (slots n : ℕ) (x : PendingOperation) (xs : List PendingOperation) → IsAmong x (in_line slots n xs) → IsAmong x xs × (line_of slots x.ctx ≡ n)
-among_line slots n x [] m = absurd m
-among_line slots n x (y ∷ ys) m = go (line_of slots y.ctx == n) refl m (λ k. among_line slots n x ys k)
+pub among_bucket : (slots n : ℕ) (x : PendingOperation) (xs : List PendingOperation) → IsAmong x (in_bucket slots n xs) → IsAmong x xs × (bucket_of slots x.ctx ≡ n)
+among_bucket slots n x [] m = absurd m
+among_bucket slots n x (y ∷ ys) m = go (bucket_of slots y.ctx == n) refl m (λ k. among_bucket slots n x ys k)
   where
-    go : (b : Bool) → (line_of slots y.ctx == n) ≡ b → IsAmong x (cond b (y ∷ in_line slots n ys) (in_line slots n ys)) → (IsAmong x (in_line slots n ys) → IsAmong x ys × (line_of slots x.ctx ≡ n)) → IsAmong x (y ∷ ys) × (line_of slots x.ctx ≡ n)
-    go true e (inl s) again = (inl s, ap (λ (z : PendingOperation). line_of slots z.ctx) (sym s) ∙ same (line_of slots y.ctx) n e)
+    go : (b : Bool) → (bucket_of slots y.ctx == n) ≡ b → IsAmong x (cond b (y ∷ in_bucket slots n ys) (in_bucket slots n ys)) → (IsAmong x (in_bucket slots n ys) → IsAmong x ys × (bucket_of slots x.ctx ≡ n)) → IsAmong x (y ∷ ys) × (bucket_of slots x.ctx ≡ n)
+    go true e (inl s) again = (inl s, ap (λ (z : PendingOperation). bucket_of slots z.ctx) (sym s) ∙ same (bucket_of slots y.ctx) n e)
     go true e (inr k) again = let r = again k in (inr r.0, r.1)
     go false e k again = let r = again k in (inr r.0, r.1)
 
 -- the step in the bucket of the operation
-pub line_step : (slots n : ℕ) (x : PendingOperation) (xs : List PendingOperation) → IsAmong x (in_line slots n xs) → Differ (map slot_of xs) → Step x (in_line slots n xs)
-line_step slots n x xs m d = step x (in_line slots n xs) m (differ_filter (λ y. line_of slots y.ctx == n) xs d)
+pub bucket_step : (slots n : ℕ) (x : PendingOperation) (xs : List PendingOperation) → IsAmong x (in_bucket slots n xs) → Differ (map slot_of xs) → Step x (in_bucket slots n xs)
+bucket_step slots n x xs m d = step x (in_bucket slots n xs) m (differ_filter (λ y. bucket_of slots y.ctx == n) xs d)
 
 -- ---- One of a context
 
@@ -107,8 +107,8 @@ line_step slots n x xs m d = step x (in_line slots n xs) m (differ_filter (λ y.
 abbrev pub AreLeft : ℕ → List PendingOperation → List PendingOperation → Type 0
 AreLeft c xs left = (x : PendingOperation) → IsAmong x xs → x.ctx ≡ c → IsAmong x left
 
-pub all_left : (slots c : ℕ) (xs : List PendingOperation) → AreLeft c xs (in_line slots (line_of slots c) xs)
-all_left slots c xs x m e = among_filter (λ y. line_of slots y.ctx == line_of slots c) x xs (is_same (line_of slots x.ctx) (line_of slots c) (ap (line_of slots) e)) m
+pub all_left : (slots c : ℕ) (xs : List PendingOperation) → AreLeft c xs (in_bucket slots (bucket_of slots c) xs)
+all_left slots c xs x m e = among_filter (λ y. bucket_of slots y.ctx == bucket_of slots c) x xs (is_same (bucket_of slots x.ctx) (bucket_of slots c) (ap (bucket_of slots) e)) m
 
 pub fewer_left : (c : ℕ) (xs : List PendingOperation) (y : PendingOperation) (left : List PendingOperation) → y.ctx ≢ c → AreLeft c xs (y ∷ left) → AreLeft c xs left
 fewer_left c xs y left n h x m e = go (h x m e)

@@ -18,12 +18,12 @@ abbrev pub slot_of : PendingOperation → ℕ
 slot_of x = x.op.slot
 
 -- the bucket of the context
-abbrev pub line_of : ℕ → ℕ → ℕ
-line_of slots c = c % slots
+abbrev pub bucket_of : ℕ → ℕ → ℕ
+bucket_of slots c = c % slots
 
 -- those of a bucket
-abbrev pub in_line : ℕ → ℕ → List PendingOperation → List PendingOperation
-in_line slots n xs = filter (λ x. line_of slots x.ctx == n) xs
+abbrev pub in_bucket : ℕ → ℕ → List PendingOperation → List PendingOperation
+in_bucket slots n xs = filter (λ x. bucket_of slots x.ctx == n) xs
 
 abbrev pub first_of : List PendingOperation → Option PendingOperation
 first_of [] = None
@@ -100,16 +100,16 @@ abbrev pub shown : ℕ → List (Option PendingOperation) → Rings → List Pen
 shown slots places order = placed places (walk order.after.items slots slots slots)
 
 -- these are kept, in rings: all of them in one, and each bucket in one of its own
-pub record Keeps (slots : ℕ) (places : List (Option PendingOperation)) (order lines : Rings) (items : List PendingOperation) : Type 0 where
+pub record Keeps (slots : ℕ) (places : List (Option PendingOperation)) (order buckets : Rings) (items : List PendingOperation) : Type 0 where
   pub some : 0 < slots
   pub few : slots ≤ 4096
   pub count : length items ≤ slots
   pub differ : Differ (map slot_of items)
   pub are_placed : ArePlaced slots places items
   pub in_order : IsPath order.after.items order.before.items slots (map slot_of items) slots
-  pub in_lines : (n : ℕ) → n < slots → IsPath lines.after.items lines.before.items (slots + n) (map slot_of (in_line slots n items)) (slots + n)
+  pub in_buckets : (n : ℕ) → n < slots → IsPath buckets.after.items buckets.before.items (slots + n) (map slot_of (in_bucket slots n items)) (slots + n)
   pub place_count : length places ≡ slots
   pub order_after : length order.after.items ≡ slots + 1
   pub order_before : length order.before.items ≡ slots + 1
-  pub lines_after : length lines.after.items ≡ slots + slots
-  pub lines_before : length lines.before.items ≡ slots + slots
+  pub buckets_after : length buckets.after.items ≡ slots + slots
+  pub buckets_before : length buckets.before.items ≡ slots + slots

@@ -1,7 +1,7 @@
 //! The operations of a socket that are pending: those that were begun and have not ended.
 //!
 //! They are kept by slot. Two doubly linked lists of slots go through them: one of all, in the order of their begins,
-//! and one for each bucket of contexts, in the same order. A context's bucket (`line` in names here) is its number's
+//! and one for each bucket of contexts, in the same order. A context's bucket is its number's
 //! remainder by the slots. Contexts are numbered one after the other, so two that are open share a bucket only where as
 //! many contexts as there are slots were opened between them. Each list is a ring of places that ends where it began,
 //! at a head of its own.

@@ -1,11 +1,11 @@
 //! The operations that are pending: all of them in the order of their begins, and those of each context.
 //!
-//! Contexts are in buckets (`line` in names here): a context's bucket is its number's remainder by the slots. Contexts
+//! Contexts are in buckets: a context's bucket is its number's remainder by the slots. Contexts
 //! are numbered one after the other, so two that are open share one only where as many contexts as slots were opened
 //! from the one to the other.
 ghost use Rattle.std.specs.Prelude.{◌≡◌, ◌<◌, ◌≤◌, ◌+◌, ◌==◌, ◌++◌, ◌∷◌, [], map, length, replicate, None, IfOk};
 ghost use Rattle.sp_pending.specs.declared.pending.PendingOperation.{PendingOperation as PendingOperationType};
-ghost use Rattle.sp_pending.specs.Pendings.{NotIn, Differ, IsAmong, FindsOn, slot_of, others_than, in_line, line_of, first_of, behind};
+ghost use Rattle.sp_pending.specs.Pendings.{NotIn, Differ, IsAmong, FindsOn, slot_of, others_than, in_bucket, bucket_of, first_of, behind};
 
 use crate::rings::Rings;
 use sp_base::{Ctx, NoMemory, OpName};
@@ -47,7 +47,7 @@ pub struct PendingOps {
     // All slots of pending operations, in the order of their begins, behind the place `slots`.
     order: Rings,
     // Those of each bucket, behind the place `slots` and its number.
-    lines: Rings,
+    buckets: Rings,
 }
 
 impl Model for PendingOps {
@@ -57,7 +57,7 @@ impl Model for PendingOps {
 
     ghost view = { λ d. record { slots = d.slots; items = shown d.slots d.places.items d.order } };
 
-    ghost invariant = { λ d. Keeps d.slots d.places.items d.order d.lines (shown d.slots d.places.items d.order) };
+    ghost invariant = { λ d. Keeps d.slots d.places.items d.order d.buckets (shown d.slots d.places.items d.order) };
 }
 
 // A place for each slot, with nothing there.
@@ -81,14 +81,14 @@ impl PendingOps {
             slots,
             places: no_places(alloc, slots)?,
             order: Rings::alone(alloc, slots + 1)?,
-            lines: Rings::alone(alloc, slots + slots)?,
+            buckets: Rings::alone(alloc, slots + slots)?,
         })
     }
 
     // The place before the first of the context's bucket.
     fn head_of(&self, ctx: Ctx) -> u32
-        ensures head { result ≡ self.now.slots + line_of self.now.slots ctx }
-        ensures line { line_of self.now.slots ctx < self.now.slots }
+        ensures head { result ≡ self.now.slots + bucket_of self.now.slots ctx }
+        ensures bucket { bucket_of self.now.slots ctx < self.now.slots }
     {
         self.slots + ctx.0 % self.slots
     }
@@ -102,7 +102,7 @@ impl PendingOps {
     {
         let head = self.head_of(ctx);
         self.order.put_last(self.slots, op.slot);
-        self.lines.put_last(head, op.slot);
+        self.buckets.put_last(head, op.slot);
         self.places[op.slot as usize] = Some(PendingOperation { op, ctx });
     }
 
@@ -112,7 +112,7 @@ impl PendingOps {
         ensures { self.new ≡ record self.old { items = others_than op self.old.items } }
     {
         self.order.take_out(op.slot);
-        self.lines.take_out(op.slot);
+        self.buckets.take_out(op.slot);
         self.places[op.slot as usize] = None;
     }
 
@@ -128,11 +128,11 @@ impl PendingOps {
     }
 
     /// The first in the bucket of the context.
-    pub fn first_in_line(&self, ctx: Ctx) -> Option<PendingOperation>
-        ensures { result ≡ first_of (in_line self.now.slots (line_of self.now.slots ctx) self.now.items) }
+    pub fn first_in_bucket(&self, ctx: Ctx) -> Option<PendingOperation>
+        ensures { result ≡ first_of (in_bucket self.now.slots (bucket_of self.now.slots ctx) self.now.items) }
     {
         let head = self.head_of(ctx);
-        let slot = self.lines.next(head);
+        let slot = self.buckets.next(head);
         if slot == head {
             return None;
         }
@@ -140,13 +140,13 @@ impl PendingOps {
     }
 
     /// The next in the bucket of the pending operation.
-    pub fn next_in_line(&self, x: &PendingOperation) -> Option<PendingOperation>
+    pub fn next_in_bucket(&self, x: &PendingOperation) -> Option<PendingOperation>
         requires { IsAmong x.now self.now.items }
         ensures apart { Differ (map slot_of self.now.items) }
-        ensures next { result ≡ behind x.now.op (in_line self.now.slots (line_of self.now.slots x.now.ctx) self.now.items) }
+        ensures next { result ≡ behind x.now.op (in_bucket self.now.slots (bucket_of self.now.slots x.now.ctx) self.now.items) }
     {
         let head = self.head_of(x.ctx);
-        let slot = self.lines.next(x.op.slot);
+        let slot = self.buckets.next(x.op.slot);
         if slot == head {
             return None;
         }
@@ -157,12 +157,12 @@ impl PendingOps {
     pub fn some_on(&self, ctx: Ctx) -> Option<OpName>
         ensures { FindsOn result ctx self.now.items }
     {
-        let mut next = self.first_in_line(ctx);
+        let mut next = self.first_in_bucket(ctx);
         while let Some(x) = next {
             if x.is_on(ctx) {
                 return Some(x.name());
             }
-            next = self.next_in_line(&x);
+            next = self.next_in_bucket(&x);
         }
         None
     }

@@ -1,5 +1,5 @@
 use Rattle.std.proofs.Common.{length}
-use Rattle.sp_pending.specs.Pendings.{IsNextIn, in_line, left_of, line_of}
+use Rattle.sp_pending.specs.Pendings.{IsNextIn, in_bucket, left_of, bucket_of}
 use Rattle.sp_pending.proofs.Walks.{AreLeft}
 use Rattle.sp_pending.proofs.pending.PendingOps.some_on.Given as goal
 
@@ -7,9 +7,9 @@ use Rattle.sp_pending.proofs.pending.PendingOps.some_on.Given as goal
 abbrev pub invariant-loop-next : goal.invariant-loop-next
 invariant-loop-next l =
     record {
-      there : IsNextIn l.next (in_line l.fn.self.slots (line_of l.fn.self.slots l.fn.ctx) l.fn.self.items);
-      left : AreLeft l.fn.ctx l.fn.self.items (left_of l.next (in_line l.fn.self.slots (line_of l.fn.self.slots l.fn.ctx) l.fn.self.items));
+      there : IsNextIn l.next (in_bucket l.fn.self.slots (bucket_of l.fn.self.slots l.fn.ctx) l.fn.self.items);
+      left : AreLeft l.fn.ctx l.fn.self.items (left_of l.next (in_bucket l.fn.self.slots (bucket_of l.fn.self.slots l.fn.ctx) l.fn.self.items));
     }
 
 abbrev pub decreases-loop-next : goal.decreases-loop-next
-decreases-loop-next l = length (left_of l.next (in_line l.fn.self.slots (line_of l.fn.self.slots l.fn.ctx) l.fn.self.items))
+decreases-loop-next l = length (left_of l.next (in_bucket l.fn.self.slots (bucket_of l.fn.self.slots l.fn.ctx) l.fn.self.items))
