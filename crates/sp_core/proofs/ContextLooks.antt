@@ -17,9 +17,9 @@ use Rattle.sp_history.specs.Past.{pend, is_of, onto}
 use Rattle.sp_history.specs.Moments.{Moment, past, also}
 use Rattle.sp_history.proofs.OnceHolds.{same_op-eq, same_op-refl}
 use Rattle.sp_pending.specs.declared.pending.PendingOperation.{PendingOperation}
-use Rattle.sp_pending.specs.Pendings.{PendingView, IsNextIn, behind, in_line, left_of, line_of}
+use Rattle.sp_pending.specs.Pendings.{PendingView, IsNextIn, behind, in_bucket, left_of, bucket_of}
 use Rattle.sp_pending.proofs.RingSteps.{is_same}
-use Rattle.sp_pending.proofs.Walks.{Step, line_without}
+use Rattle.sp_pending.proofs.Walks.{Step, bucket_without}
 use Rattle.sp_core.specs.Looking.{ends_in, HasLooked, IsLeft, LooksTo, ReadsPending, FoundOf, line_on}
 use Rattle.core_parts.specs.Reads.{Grows}
 use Rattle.core_parts.specs.declared.operations.Operations.{Operations}
@@ -47,26 +47,26 @@ stands_right e (x ∷ xs) ys h = inr (stands_right e xs ys h)
 
 -- ---- The loop
 
-first_left : (ss : List Begun) (slots : ℕ) (op : OpName) (s : Begun) (c : ℕ) → find (is_of op) ss ≡ Some s → s.ctx ≡ c → IsLeft op c (in_line slots (line_of slots c) (map pending_of ss))
+first_left : (ss : List Begun) (slots : ℕ) (op : OpName) (s : Begun) (c : ℕ) → find (is_of op) ss ≡ Some s → s.ctx ≡ c → IsLeft op c (in_bucket slots (bucket_of slots c) (map pending_of ss))
 first_left [] slots op s c h e = absurd cc
 first_left (r ∷ ss) slots op s c h e = go (is_of op r) refl h (first_left ss slots op s c)
   where
-    more : (b : Bool) → IsLeft op c (in_line slots (line_of slots c) (map pending_of ss)) → IsLeft op c (cond b (pending_of r ∷ in_line slots (line_of slots c) (map pending_of ss)) (in_line slots (line_of slots c) (map pending_of ss)))
+    more : (b : Bool) → IsLeft op c (in_bucket slots (bucket_of slots c) (map pending_of ss)) → IsLeft op c (cond b (pending_of r ∷ in_bucket slots (bucket_of slots c) (map pending_of ss)) (in_bucket slots (bucket_of slots c) (map pending_of ss)))
     more true k = inr k
     more false k = k
 
-    go : (b : Bool) → is_of op r ≡ b → cond b (Some r) (find (is_of op) ss) ≡ Some s → (find (is_of op) ss ≡ Some s → s.ctx ≡ c → IsLeft op c (in_line slots (line_of slots c) (map pending_of ss)))
-        → IsLeft op c (in_line slots (line_of slots c) (map pending_of (r ∷ ss)))
+    go : (b : Bool) → is_of op r ≡ b → cond b (Some r) (find (is_of op) ss) ≡ Some s → (find (is_of op) ss ≡ Some s → s.ctx ≡ c → IsLeft op c (in_bucket slots (bucket_of slots c) (map pending_of ss)))
+        → IsLeft op c (in_bucket slots (bucket_of slots c) (map pending_of (r ∷ ss)))
     go true k q again =
         let here : r.ctx ≡ c = ap (λ (x : Begun). x.ctx) (same_Some r s q) ∙ e in
-        rw (is_same (line_of slots r.ctx) (line_of slots c) (ap (line_of slots) here)) (inl (same_op-eq r.op op k, here))
-    go false k q again = more (line_of slots r.ctx == line_of slots c) (again q e)
+        rw (is_same (bucket_of slots r.ctx) (bucket_of slots c) (ap (bucket_of slots) here)) (inl (same_op-eq r.op op k, here))
+    go false k q again = more (bucket_of slots r.ctx == bucket_of slots c) (again q e)
 
 pub looks_first : (sh : Operations) (c : ℕ) (t : Moment) (reads : List word.ShownOperation) → OperationsStand [] sh t → LooksTo (line_on c sh.pending) c t t reads reads
 looks_first sh c t reads h = record {
   more = [];
   grew = sym (append-nil reads);
-  each = λ op s p e. inr (inr (subst (λ (xs : List PendingOperation). IsLeft op c (in_line sh.pending.slots (line_of sh.pending.slots c) xs)) (sym h.pending_is) (first_left (pend (past t)) sh.pending.slots op s c p e)));
+  each = λ op s p e. inr (inr (subst (λ (xs : List PendingOperation). IsLeft op c (in_bucket sh.pending.slots (bucket_of sh.pending.slots c) xs)) (sym h.pending_is) (first_left (pend (past t)) sh.pending.slots op s c p e)));
 }
 
 looks_on : (x : PendingOperation) (rest : List PendingOperation) (c : ℕ) (t u v : Moment) (old mid new : List word.ShownOperation) → LooksTo (x ∷ rest) c t u old mid → v ≡ u → ReadsPending x c mid new → LooksTo rest c t v old new
@@ -109,7 +109,7 @@ line_then x c t u before after old new s (inl f) =
     subst (λ (v : PendingView). (left_of (behind x.op (line_on c before.pending)) (line_on c v) ≡ s.rest) × IsNextIn (behind x.op (line_on c before.pending)) (line_on c v)) (sym f.1) (s.stays, s.stays_in)
 line_then x c t u before after old new s (inr f) =
     let b = before.pending in
-    let gone = line_without b.slots (line_of b.slots c) x.op b.items in
+    let gone = bucket_without b.slots (bucket_of b.slots c) x.op b.items in
     subst (λ (v : PendingView). (left_of (behind x.op (line_on c b)) (line_on c v) ≡ s.rest) × IsNextIn (behind x.op (line_on c b)) (line_on c v)) (sym f.0)
     (subst (λ (xs : List PendingOperation). (left_of (behind x.op (line_on c b)) xs ≡ s.rest) × IsNextIn (behind x.op (line_on c b)) xs) (sym gone) (s.gone, s.gone_in))
 

@@ -213,18 +213,6 @@ back_is Recv (Some m) h = cc
 back_is (Send m) None h = cc
 back_is (Send m) (Some v) h = let same : text_of v ≡ m = cc in ap (λ (x : RecordedMessage). Some (view_of x)) same
 
-module _ {P W : Type 0} (ties : P → Moment → Type 0) (room : P → ℕ) (shown : W → WireView) where
-  -- a caller has ended it, and the core has recorded that
-  pub gone : (c d : Core P W) (t : Moment) (op : OpName) (s : Begun) (cause : Cause) (by : ℕ) → Owns ties room shown [] c t → pending (past t) op ≡ Some s → DecidedAs (decision.Gone cause by) op t d.op_words
-      → ties d.proto (also t (End op (Gone cause by))) → OperationsStand [] d.operations (also t (End op (Gone cause by))) → d.pipes ≡ c.pipes → Tallies d.tally (also t (End op (Gone cause by))) → d.closed ≡ c.closed → length d.operations.free.items + done_count d.operations ≤ room d.proto
-      → Owns ties room shown [] d (also t (End op (Gone cause by)))
-  gone c d t op s cause by g p h pr sh li ta cl ro =
-      ended ties room shown c d t op s (Gone cause by) g p (callers_end t s cause by h.0 h.1 h.2) (callers_open cause h.0) pr h.3 sh li ta cl ro
-
--- it may end so
-pub gone_lawful : (t : Moment) (op : OpName) (s : Begun) (cause : Cause) (by : ℕ) (d : OpWords) → Lawful t → Calm t.z (past t) → pending (past t) op ≡ Some s → DecidedAs (decision.Gone cause by) op t d → Lawful (also t (End op (Gone cause by)))
-gone_lawful t op s cause by d l calm p h = may_end t op s (Gone cause by) l calm p (callers_end t s cause by h.0 h.1 h.2)
-
 pub some_of : (r : Option MessageView) (m : RecordedMessage) → option_map text_of r ≡ Some m → (v : MessageView) × (r ≡ Some v)
 some_of None m h = cc
 some_of (Some v) m h = (v, refl)

@@ -1,32 +1,25 @@
 -- What the steps of a begin lead to, within a turn.
 use Rattle.sp_base.specs.declared.OpName.{OpName}
 use Rattle.sp_core.specs.Keeping.{KeepsReads, KeepsWords}
-use Rattle.sp_core.specs.Cores.{words_of}
-use Rattle.core_parts.specs.OpWordsStand.{DecidedAs, IsNext}
-use Rattle.core_parts.specs.PartSteps.{LeavesPending}
+use Rattle.core_parts.specs.OpWordsStand.{IsNext}
 use Rattle.sp_core.specs.Looking.{HasLooked, reads_of}
 use Rattle.sp_core.specs.Moving.{AreSettling}
 use Rattle.sp_core.specs.Owning.{CanBegin, Owns}
 use Rattle.core_parts.specs.OperationsStand.{AllTaken}
 use Rattle.sp_core.specs.Standing.{IsSettled, RefusedFor, StandsFor, Turns, core_setting}
-use Rattle.core_parts.specs.declared.op_words.OpWords.{OpWords as OpWordsType}
 use Rattle.sp_core.specs.declared.ops.BeginError.{BeginError}
 use Rattle.sp_core.specs.declared.owner.Core.{Core}
 use Rattle.sp_history.specs.Moments.{Moment, also, next, past}
-use Rattle.sp_history.specs.Past.{past_of, pending}
+use Rattle.sp_history.specs.Past.{past_of}
 use Rattle.sp_history.specs.declared.entry.RecordedAct.{RecordedAct as RecordedActType}
-use Rattle.sp_history.specs.declared.entry.Cause.{Cause}
-use Rattle.sp_history.specs.declared.entry.Ending.TheVariants.{Gone}
 use Rattle.sp_history.specs.declared.entry.Entry.{Entry}
-use Rattle.sp_history.specs.declared.entry.Entry.TheVariants.{Begin, End}
-use Rattle.sp_history.specs.declared.parts.Begun.{Begun}
+use Rattle.sp_history.specs.declared.entry.Entry.TheVariants.{Begin}
 use Rattle.sp_msg.specs.Views.{MessageView, WireView}
 use Rattle.sp_proto.specs.Kinds.{Kind, verb_of}
 use Rattle.sp_proto.specs.Machines.{NoFlood}
 use Rattle.sp_proto.specs.declared.Verb.{Verb}
-use Rattle.std.specs.Prelude.{List, MatchOption, MatchResult, Option, Result, Some, [], ℕ, ◌∷◌, ◌≡◌, ◌≢◌, ◌<◌}
+use Rattle.std.specs.Prelude.{List, MatchOption, MatchResult, Option, Result, [], ℕ, ◌∷◌, ◌≡◌, ◌≢◌}
 use Rattle.turn_lock.specs.declared.turn.Turn.{Turn}
-use Rattle.core_parts.specs.declared.op_words.Decision.TheVariants as decision
 use Rattle.sp_core.specs.declared.ops.BeginError.TheVariants as begin_error
 
 -- the turn begins: callers' ends on the context are recorded, and all is done that can be
@@ -34,27 +27,10 @@ abbrev pub OpensTurn : {P W : Type 0} → (P → Moment → Type 0) → (P → �
 OpensTurn ties room shown k c kind old new =
     KeepsWords old new ((h : List (Turn Entry)) → StandsFor ties room shown old h → (t : Moment) × AreSettling t.turn × IsSettled t × (t.z ≡ core_setting kind old) × Turns ties room shown [] new h k t × HasLooked c (past_of h) t.turn (reads_of old) (reads_of new))
 
--- the words show already how a caller ended the pending operation, and nothing else does yet
-abbrev pub MayNoteEnd : {P W : Type 0} → (P → Moment → Type 0) → (P → ℕ) → (W → WireView) → OpName → Cause → ℕ → Core P W → Type 0
-MayNoteEnd ties room shown op cause by old =
-    (d : OpWordsType) × (t : Moment) × (s : Begun) × Owns ties room shown [] (record old { op_words = d }) t × (pending (past t) op ≡ Some s) × DecidedAs (decision.Gone cause by) op t old.op_words
-
--- this end is recorded, and less is left to be done
-pub record NotesEnd {P W : Type 0} (ties : P → Moment → Type 0) (room measure : P → ℕ) (shown : W → WireView) (op : OpName) (cause : Cause) (by : ℕ) (old new : Core P W) : Type 0 where
-  pub later : (d : OpWordsType) (t : Moment) (s : Begun) → Owns ties room shown [] (record old { op_words = d }) t → pending (past t) op ≡ Some s → DecidedAs (decision.Gone cause by) op t old.op_words → Owns ties room shown [] new (also t (End op (Gone cause by)))
-  pub left : measure new.proto < measure old.proto
-  pub leaves : LeavesPending op old.operations new.operations
-  pub words : words_of new ≡ words_of old
-  pub reads : reads_of new ≡ reads_of old
-
 -- whether the operation may begin, or why not
 abbrev pub TellsMayBegin : {P W : Type 0} → (P → Moment → Type 0) → (P → ℕ) → (W → WireView) → Result (Unit {0}) BeginError → ℕ → Verb → Core P W → Type 0
 TellsMayBegin ties room shown r c verb x =
     (t : Moment) (act : RecordedActType) → Owns ties room shown [] x t → verb_of act ≡ verb → MatchResult r (λ _. CanBegin t c act) (λ e. RefusedFor e t.z (past t) c act × (e ≢ begin_error.NoMemory))
-
--- no slot is drawn yet
-abbrev pub MayDraw : {P W : Type 0} → (P → Moment → Type 0) → (P → ℕ) → (W → WireView) → Core P W → Type 0
-MayDraw ties room shown old = (t : Moment) × Owns ties room shown [] old t
 
 -- a free slot is drawn, or every one is taken
 abbrev pub DrawsSlot : {P W : Type 0} → (P → Moment → Type 0) → (P → ℕ) → (W → WireView) → Option OpName → Core P W → Core P W → Type 0

@@ -1,8 +1,12 @@
 -- What contracts see of a core.
-use Rattle.std.specs.Prelude.{ℕ}
+use Rattle.std.specs.Prelude.{ℕ, Bool, List}
 use Rattle.aio_word.specs.Sight.{Named}
 use Rattle.aio_word.specs.declared.rule.WordsView.{WordsView}
+use Rattle.sp_pending.specs.declared.pending.PendingOperation.{PendingOperation}
 use Rattle.sp_proto.specs.Kinds.{Kind}
+use Rattle.core_parts.specs.declared.operations.Operations.{Operations}
+use Rattle.core_parts.specs.declared.pipes.Pipe.{Pipe}
+use Rattle.core_parts.specs.declared.pipes.Pipes.{Pipes}
 use Rattle.sp_core.specs.declared.owner.Core.{Core}
 
 -- the words of its operations
@@ -20,6 +24,38 @@ callers_of c = c.op_words.words.callers
 -- what its seat has seen of the words
 abbrev pub sight_of : {P W : Type 0} → Core P W → WordsView
 sight_of c = c.op_words.seat.view
+
+-- its operations
+abbrev pub operations_of : {P W : Type 0} → Core P W → Operations
+operations_of c = c.operations
+
+-- those of them that are pending
+abbrev pub pending_of : {P W : Type 0} → Core P W → List PendingOperation
+pending_of c = c.operations.pending.items
+
+-- its pipes
+abbrev pub pipes_of : {P W : Type 0} → Core P W → Pipes W
+pipes_of c = c.pipes
+
+-- those of them that are up
+abbrev pub up_of : {P W : Type 0} → Core P W → List (Pipe W)
+up_of c = c.pipes.up.items
+
+-- how many contexts were opened
+abbrev pub opened_of : {P W : Type 0} → Core P W → ℕ
+opened_of c = c.tally.opened
+
+-- how many contexts are open
+abbrev pub open_ctxs_of : {P W : Type 0} → Core P W → ℕ
+open_ctxs_of c = c.tally.open_ctxs
+
+-- whether it is closed
+abbrev pub is_core_closed : {P W : Type 0} → Core P W → Bool
+is_core_closed c = c.closed
+
+-- its machine
+abbrev pub proto_of : {P W : Type 0} → Core P W → P
+proto_of c = c.proto
 
 -- the kind of its machine
 abbrev pub kind_of_core : {P W : Type 0} → (P → Kind) → Core P W → Kind

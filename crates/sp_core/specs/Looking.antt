@@ -13,7 +13,7 @@ use Rattle.sp_history.specs.Lists.{same_op}
 use Rattle.sp_history.specs.Past.{pending}
 use Rattle.sp_history.specs.Moments.{Moment, past, also}
 use Rattle.sp_pending.specs.declared.pending.PendingOperation.{PendingOperation}
-use Rattle.sp_pending.specs.Pendings.{PendingView, in_line, line_of}
+use Rattle.sp_pending.specs.Pendings.{PendingView, in_bucket, bucket_of}
 use Rattle.core_parts.specs.PartSteps.{LeavesPending}
 use Rattle.core_parts.specs.declared.operations.Operations.{Operations}
 use Rattle.sp_core.specs.declared.owner.Core.{Core}
@@ -39,7 +39,7 @@ pub record HasLooked (c : ℕ) (past entries : List Entry) (old new : List word.
 
 -- the pending operations in the line of the context
 abbrev pub line_on : ℕ → PendingView → List PendingOperation
-line_on c v = in_line v.slots (line_of v.slots c) v.items
+line_on c v = in_bucket v.slots (bucket_of v.slots c) v.items
 
 -- an operation of this name and context is among these
 abbrev pub IsLeft : OpName → ℕ → List PendingOperation → Type 0

@@ -11,10 +11,6 @@ use Rattle.sp_core.specs.Moving.{Later}
 use Rattle.sp_core.specs.Owning.{Owns}
 use Rattle.sp_core.specs.Standing.{IsSettled}
 
--- the core stands for a moment of a turn
-abbrev pub MaySettle : {P W : Type 0} → (P → Moment → Type 0) → (P → ℕ) → (W → WireView) → Core P W → Type 0
-MaySettle ties room shown old = (t : Moment) × Owns ties room shown [] old t
-
 -- from each moment to a later one, of which this is so, on the same words
 pub record SettlesTo {P W : Type 0} (ties : P → Moment → Type 0) (room : P → ℕ) (shown : W → WireView) (old new : Core P W) (fact : Moment → Moment → Type 0) : Type 0 where
   pub later : (t : Moment) → Owns ties room shown [] old t → (u : Moment) × Later t u × Owns ties room shown [] new u × fact t u

@@ -8,7 +8,7 @@ ghost use Rattle.sp_history.specs.Moments.{Moment, past};
 ghost use Rattle.sp_proto.specs.Machines.{NoFlood};
 ghost use Rattle.core_parts.specs.Wires.{IsUnused};
 ghost use Rattle.sp_core.specs.Errors.{attach_number};
-ghost use Rattle.sp_core.specs.Owning.{Owns};
+ghost use Rattle.sp_core.specs.Owning.{Owns, IsInTurn};
 ghost use Rattle.sp_core.specs.Standing.{HasFirst};
 ghost use Rattle.sp_core.specs.Attaching.{NotesLink, TookWire};
 ghost use Rattle.sp_core.specs.ServeSteps.{BringsUp, TellsMayAttach, LeavesNumbers};
@@ -156,7 +156,7 @@ impl<P: Proto, W: Wire> Core<P, W> {
 
     // Why no pipe may come up, other than being out of memory.
     fn why_not(&self) -> Option<AttachError>
-        requires { (t : Moment) × Owns P.ties P.room W.shown [] self.now t }
+        requires { IsInTurn P.ties P.room W.shown self.now }
         ensures told { TellsMayAttach P.ties P.room W.shown result self.now }
         ensures room { LeavesNumbers result self.now }
     {

@@ -5,9 +5,8 @@
 ghost use Rattle.std.specs.Prelude.{◌≡◌, []};
 ghost use Rattle.sp_history.specs.Moments.{Moment};
 ghost use Rattle.sp_core.specs.Errors.{now_number};
-ghost use Rattle.sp_core.specs.Owning.{Owns};
+ghost use Rattle.sp_core.specs.Owning.{Owns, IsInTurn};
 ghost use Rattle.sp_core.specs.Standing.{IsSettled};
-ghost use Rattle.sp_core.specs.BeginSteps.{MayDraw};
 ghost use Rattle.sp_core.specs.CollectSteps.{DrawsToReceive, ReceivesAtOnce, TriesOnce};
 ghost use Rattle.sp_core.specs.CallSays.{MayTakeTurn, ReceivesNow, TakesOneTurn};
 
@@ -96,7 +95,7 @@ impl<P: Proto, W: Wire> Core<P, W> {
 
     // Draws a slot for a receive that can be given something at once.
     fn draw_to_receive(&mut self, c: Ctx) -> Result<OpName, NowError>
-        requires { MayDraw P.ties P.room W.shown self.old }
+        requires { IsInTurn P.ties P.room W.shown self.old }
         ensures { DrawsToReceive P.ties P.room W.shown result c self.old self.new }
     {
         if let Err(e) = self.may_begin(c, Verb::Recv) {

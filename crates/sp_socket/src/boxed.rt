@@ -2,7 +2,7 @@
 ghost use Rattle.std.specs.Prelude.{◌≡◌, ◌≤◌, [], Some, IfOk, IfErr};
 ghost use Rattle.turn_lock.specs.Passes.{new_list};
 ghost use Rattle.sp_core.specs.Standing.{StandsFor};
-ghost use Rattle.sp_socket.specs.Turns.{label_of};
+ghost use Rattle.sp_core.specs.CallSays.{core_label};
 
 use sp_core::{Core, CoreLabel};
 use sp_history::entry::Entry;
@@ -19,7 +19,7 @@ pub struct BoxedCore<P, W> {
 // It stands for what its core stands for.
 impl<P: Proto, W: Wire> Stands for BoxedCore<P, W> {
     ghost use Rattle.sp_core.specs.Standing.{StandsFor};
-    ghost use Rattle.sp_socket.specs.Turns.{label_of};
+    ghost use Rattle.sp_core.specs.CallSays.{core_label};
 
     type Entry = Entry;
 
@@ -27,7 +27,7 @@ impl<P: Proto, W: Wire> Stands for BoxedCore<P, W> {
 
     ghost stands = { λ b h. StandsFor P.ties P.room W.shown b.core.value h };
 
-    ghost label = { λ b. label_of P.kind b.core.value };
+    ghost label = { λ b. core_label P.kind b.core.value };
 }
 
 impl<P, W> BoxedCore<P, W> {
@@ -47,7 +47,7 @@ pub(crate) fn locked<P: Proto, W: Wire>(
 ) -> Result<(TurnLock<BoxedCore<P, W>>, PassList<BoxedCore<P, W>>), Core<P, W>>
     requires callers { (1 ≤ callers) × (callers ≤ 64) }
     requires stands { StandsFor P.ties P.room W.shown core [] }
-    ensures ok { IfOk result (λ made. made.1 ≡ new_list made.0 (Some (label_of P.kind core)) callers) }
+    ensures ok { IfOk result (λ made. made.1 ≡ new_list made.0 (Some (core_label P.kind core)) callers) }
     ensures err { IfErr result (λ back. back ≡ core) }
 {
     match Box::new(alloc, core) {

@@ -4,7 +4,7 @@ ghost use Rattle.aio_word.specs.Views.{Each};
 ghost use Rattle.turn_lock.specs.declared.turn.Turn.{Turn};
 ghost use Rattle.sp_history.specs.declared.entry.Entry.{Entry};
 ghost use Rattle.sp_core.specs.Standing.{StandsFor};
-ghost use Rattle.sp_socket.specs.Turns.{label_of};
+ghost use Rattle.sp_core.specs.CallSays.{core_label};
 ghost use Rattle.sp_socket.specs.Finishing.{HasSeenClose, IsFinished, Joins};
 
 use crate::boxed::BoxedCore;
@@ -58,9 +58,9 @@ impl<P: Proto, W: Wire> Socket<P, W> {
 // The core takes in what the seats have won and read, the last seat first.
 fn join_all<P: Proto, W: Wire>(core: &mut Core<P, W>, hands: &mut Stack<Hands>)
     requires stands { (h : List (Turn Entry)) × StandsFor P.ties P.room W.shown core.old h }
-    requires own { Each (λ x. x.seat.words ≡ (label_of P.kind core.old).words) hands.old }
+    requires own { Each (λ x. x.seat.words ≡ (core_label P.kind core.old).words) hands.old }
     ensures stands { (h : List (Turn Entry)) → StandsFor P.ties P.room W.shown core.old h → StandsFor P.ties P.room W.shown core.new h }
-    ensures label { label_of P.kind core.new ≡ label_of P.kind core.old }
+    ensures label { core_label P.kind core.new ≡ core_label P.kind core.old }
     ensures joined { Joins core.old core.new hands.old }
     ensures taken { hands.new ≡ [] }
 {

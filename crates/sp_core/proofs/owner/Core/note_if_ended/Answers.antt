@@ -14,6 +14,8 @@ use Rattle.core_parts.specs.Reads.{Grows}
 use Rattle.core_parts.specs.PartSteps.{LeavesPending}
 use Rattle.core_parts.proofs.Among.{pending_there}
 use Rattle.sp_core.proofs.MomentSteps.{with_op_words, is_gone, later-now, later-one}
+use Rattle.core_parts.specs.declared.op_words.OpWords.{OpWords}
+use Rattle.sp_core.proofs.GoneOperations.{owns_decided}
 use Rattle.sp_core.proofs.owner.Core.note_if_ended.Goals as goal
 
 pub look-requires : goal.look-requires
@@ -33,8 +35,7 @@ note_gone-requires g c =
     let r = c.requires in
     let f = pending_there c.args.self.now.operations r.0 c.args.x.now r.1.operations r.1.lawful r.2 in
     let p = ap (pending (past r.0)) c.name-op.ensures ∙ f.1 in
-    let k = c.in-Some-Gone.ensures.looked r.0 f.0 r.1.lawful r.1.op_words p in
-    (c.args.self.now.op_words, r.0, f.0, r.1, p, is_gone c.in-Some-Gone.field-0 c.in-Some-Gone.cause c.in-Some-Gone.by c.name-op.result r.0 c.look.new.self c.in-Some-Gone.field-0-is k.1)
+    (r.0, f.0, r.1.operations, r.1.lawful, p)
 
 pub returns-then-not-is_on : goal.returns-then-not-is_on
 returns-then-not-is_on g c = record {
@@ -71,12 +72,12 @@ returns-in-Some-Gone g c = record {
       let e = End c.name-op.result ending in (
         also t e,
         later-one t e tt,
-        c.note_gone.ensures.later c.args.self.now.op_words t f.0 h p (is_gone c.in-Some-Gone.field-0 c.in-Some-Gone.cause c.in-Some-Gone.by c.name-op.result t c.look.new.self c.in-Some-Gone.field-0-is k.1),
+        (owns_decided g.P.Proto.ties g.P.Proto.room g.P.Proto.left g.W.Wire.shown c.args.self.now c.note_gone.new.self c.look.new.self t c.name-op.result f.0 c.in-Some-Gone.cause c.in-Some-Gone.by h p (is_gone c.in-Some-Gone.field-0 c.in-Some-Gone.cause c.in-Some-Gone.by c.name-op.result t c.look.new.self c.in-Some-Gone.field-0-is k.1) c.note_gone.ensures).0,
         inr (
           subst (λ (o : OpName). LeavesPending o c.args.self.now.operations c.note_gone.new.self.operations) c.name-op.ensures c.note_gone.ensures.leaves,
-          subst (λ (xs : List word.ShownOperation). Grows (reads_of c.args.self.now) xs) (sym c.note_gone.ensures.reads) c.in-Some-Gone.ensures.reads.1,
+          subst (λ (xs : List word.ShownOperation). Grows (reads_of c.args.self.now) xs) (sym (ap (λ (x : OpWords). x.seat.view.reads) c.note_gone.ensures.op_words)) c.in-Some-Gone.ensures.reads.1,
           (ending, ap (λ (o : OpName). also t (End o ending)) c.name-op.ensures),
         ),
       );
-  words = c.note_gone.ensures.words ∙ c.look.ensures.reads.0;
+  words = ap (λ (x : OpWords). x.words) c.note_gone.ensures.op_words ∙ c.look.ensures.reads.0;
 }

@@ -4,7 +4,7 @@ use Rattle.sp_history.specs.declared.entry.Entry.{Entry}
 use Rattle.sp_socket.specs.Passes.{pass_of, IsPass}
 use Rattle.sp_socket.proofs.Pairs.{length-paired}
 use Rattle.sp_socket.proofs.Finishes.{own_seats, closed_all, recorded}
-use Rattle.sp_socket.specs.Turns.{label_of}
+use Rattle.sp_core.specs.CallSays.{core_label}
 use Rattle.sp_history.specs.Past.{past_of}
 use Rattle.sp_socket.specs.Finishing.{HasSeenClose, IsRecord}
 use Rattle.sp_core.specs.declared.owner.Core.{Core}
@@ -21,8 +21,8 @@ pub join_all-requires-clause-own : goal.join_all-requires-clause-own
 join_all-requires-clause-own g c =
     let e = c.end-held in
     let core = c.into_core-core.result in
-    let is = e.ensures.label ∙ ap (λ (x : Core _ _). Some (label_of g.P.Proto.kind x)) (sym c.into_core-core.ensures) in
-    own_seats e.result.1.seen e.result.1.label (label_of g.P.Proto.kind core) c.passes.inside.turns.items c.passes.inside.hands is c.passes.invariant e.ensures.passes
+    let is = e.ensures.label ∙ ap (λ (x : Core _ _). Some (core_label g.P.Proto.kind x)) (sym c.into_core-core.ensures) in
+    own_seats e.result.1.seen e.result.1.label (core_label g.P.Proto.kind core) c.passes.inside.turns.items c.passes.inside.hands is c.passes.invariant e.ensures.passes
 
 pub into_wires-requires : goal.into_wires-requires
 into_wires-requires g c =
@@ -37,9 +37,9 @@ returns g c =
     let e = c.end-held in
     let seen = e.result.1.seen in
     let core = c.into_core-core.result in
-    let label = label_of g.P.Proto.kind core in
+    let label = core_label g.P.Proto.kind core in
     let state = subst (λ (x : Core _ _). StandsFor g.P.Proto.ties g.P.Proto.room g.W.Wire.shown x seen) (sym c.into_core-core.ensures) e.ensures.state in
-    let is = e.ensures.label ∙ ap (λ (x : Core _ _). Some (label_of g.P.Proto.kind x)) (sym c.into_core-core.ensures) in
+    let is = e.ensures.label ∙ ap (λ (x : Core _ _). Some (core_label g.P.Proto.kind x)) (sym c.into_core-core.ensures) in
     let stands = c.join_all.ensures.stands seen state in
     let ended = subst (HasSeenClose c.args.self) (ap (λ l. l.items) (sym c.passes.view_is)) c.requires.closed in
     let closed = closed_all c.args.self seen e.result.1.label c.passes.inside.turns.items c.passes.inside.hands c.passes.invariant e.ensures.passes ended in
