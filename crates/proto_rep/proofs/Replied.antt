@@ -42,7 +42,7 @@ use Rattle.proto_rep.specs.declared.rep.ReplyRole.{ReplyRole}
 use Rattle.proto_rep.specs.declared.rep.ReplyRole.TheVariants as sides
 use Rattle.proto_rep.proofs.Roles.{replies, no_floods}
 use Rattle.proto_requests.proofs.NumbersIn.{has_first, has_still}
-use Rattle.proto_rep.proofs.Stuck.{none_stuck, marked_stuck, stay_stuck}
+use Rattle.proto_rep.proofs.Stuck.{none_stuck, marked_stuck, more_stuck, stay_stuck}
 
 pub is_rep : (m : Reply) (t : Moment) → Ties m t → t.z.role ≡ role_of m.role
 is_rep m t h = ap (λ (k : Kind). k.role) h.kind
@@ -94,23 +94,23 @@ pool_down y z before p why h = ap (λ b. cond b (filter (λ i. not (is_from p i)
 pub up_below : (m : Reply) (t : Moment) (p place : ℕ) (name : WireNumbers) → Lawful (also t (Up p place name)) → Ties m t → list_all (is_below p) m.ports.items ≡ true
 up_below m t p place name l h = known_below m.ports.items (up (past t)) (ups (past t)) p (λ q. has_full t.turn q) h.pipes l.turn.0.itself.0
 
-pub up_ties : (m n : Reply) (t : Moment) (p place : ℕ) (name : WireNumbers) → Lawful (also t (Up p place name)) → Ties m t → n.ports.items ≡ m.ports.items ++ record { pipe = p; is_full = false } ∷ [] → n.kept ≡ m.kept → ((ws : List ReplyOperation) → Holds m.waiting ws → Holds n.waiting ws) → n.waiting.replies.passed ≡ 0 → n.places ≡ m.places
+pub up_ties : (m n : Reply) (t : Moment) (p place : ℕ) (name : WireNumbers) → Lawful (also t (Up p place name)) → Ties m t → n.ports.items ≡ m.ports.items ++ record { pipe = p; is_full = false } ∷ [] → n.kept ≡ m.kept → n.waiting ≡ m.waiting → n.places ≡ m.places
     → (n.raw ≡ m.raw) × (n.options ≡ m.options) × (n.role ≡ m.role) → Ties n (also t (Up p place name))
-up_ties m n t p place name l h e f w x g same =
+up_ties m n t p place name l h e f w g same =
     record {
       kind = rw (same.0, same.1, same.2) h.kind;
       most = rw same.1 h.most;
       pipes = up_knows n.ports.items m.ports.items (up (past t)) (ups (past t)) p (λ q. has_full t.turn q) h.pipes l.turn.0.itself.0 e;
       items = rw f h.items;
       waits = h.waits;
-      holds = w h.waits h.holds;
+      holds = rw w h.holds;
       pending = h.pending;
       apart = h.apart;
       contexts = rw g h.contexts;
       homes = h.homes;
       stored = rw g h.stored;
       routed = h.routed;
-      stuck = none_stuck n.raw n.ports.items n.waiting.replies x;
+      stuck = rw (same.0, e, w) (more_stuck m.raw (record { pipe = p; is_full = false }) m.ports.items m.waiting.replies h.stuck);
     }
 
 pub down_ties : (m n : Reply) (t : Moment) (p : ℕ) (why : Why) → Ties m t → n.ports.items ≡ filter (λ (x : PortView). not (x.pipe == p)) m.ports.items → n.kept.items ≡ filter (λ (k : KeptRequest). not (k.pipe == p)) m.kept.items

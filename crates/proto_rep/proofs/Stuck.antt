@@ -1,5 +1,5 @@
 -- Replies that are passed over, none of which can leave.
-use Rattle.std.proofs.Common.{◌≡◌, List, [], ◌∷◌, ℕ, Bool, true, false, cond, Option, Some, None, map, take}
+use Rattle.std.proofs.Common.{◌≡◌, refl, List, [], ◌∷◌, ◌++◌, ℕ, Bool, true, false, cond, Option, Some, None, map, take}
 use Rattle.std.specs.Prelude.{find, ◌||◌, ◌==◌}
 use Rattle.proto_requests.specs.Ports.{PortView, marked, is_pipe, way_at, where_is}
 use Rattle.proto_requests.specs.declared.ports.Destination.TheVariants as ways
@@ -34,3 +34,20 @@ still_full p xs (Some q) h = go xs h
 
 pub marked_stuck : (raw : Bool) (p : ℕ) (xs : List PortView) (v : RepliesView) → AreStuck raw xs v → AreStuck raw (map (marked p) xs) v
 marked_stuck raw p xs v h = none_as (can_leave raw xs) (can_leave raw (map (marked p) xs)) (take v.passed v.items) (λ w. still_full p xs (target_of raw w.answer)) h
+
+-- where one more pipe is up, what goes to a full one can't go, either
+full_among : (x : PortView) (xs : List PortView) (to : Option ℕ) → isnt_full (where_is (xs ++ x ∷ []) to) ≡ true → isnt_full (where_is xs to) ≡ true
+full_among x xs None h = h
+full_among x xs (Some q) h = go xs h
+  where
+    go : (ys : List PortView) → isnt_full (way_at q (find (is_pipe q) (ys ++ x ∷ []))) ≡ true → isnt_full (way_at q (find (is_pipe q) ys)) ≡ true
+    go [] h = refl
+    go (y ∷ ys) h = step (y.pipe == q) h (go ys)
+      where
+        step : (b : Bool) → isnt_full (way_at q (cond b (Some y) (find (is_pipe q) (ys ++ x ∷ [])))) ≡ true → (isnt_full (way_at q (find (is_pipe q) (ys ++ x ∷ []))) ≡ true → isnt_full (way_at q (find (is_pipe q) ys)) ≡ true)
+            → isnt_full (way_at q (cond b (Some y) (find (is_pipe q) ys))) ≡ true
+        step true h again = h
+        step false h again = again h
+
+pub more_stuck : (raw : Bool) (x : PortView) (xs : List PortView) (v : RepliesView) → AreStuck raw xs v → AreStuck raw (xs ++ x ∷ []) v
+more_stuck raw x xs v h = none_as (can_leave raw xs) (can_leave raw (xs ++ x ∷ [])) (take v.passed v.items) (λ w. full_among x xs (target_of raw w.answer)) h

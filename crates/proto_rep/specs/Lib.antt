@@ -4,3 +4,4 @@ pub mod Operations
 pub mod OperationLaws
 pub mod Reps
 pub mod RepLaws
+pub mod Wins

@@ -1,5 +1,5 @@
 -- What a rep stands for.
-use Rattle.std.specs.Prelude.{◌≡◌, ◌≤◌, ◌==◌, ℕ, Bool, true, false, not, ⊤, if◌then◌else◌, List, [], ◌∷◌, ◌++◌, map, find, drop, Option, Some, None, is_some}
+use Rattle.std.specs.Prelude.{◌≡◌, ◌≤◌, ◌+◌, ◌==◌, ℕ, Bool, true, false, not, ⊤, if◌then◌else◌, List, [], ◌∷◌, ◌++◌, map, find, drop, Option, Some, None, is_some}
 use Rattle.std.specs.List.{list_any}
 use Rattle.std.specs.Option.{option_map}
 use Rattle.sp_base.specs.declared.OpName.{OpName}
@@ -11,13 +11,15 @@ use Rattle.sp_history.specs.declared.parts.Item.{Item}
 use Rattle.sp_history.specs.declared.parts.Origin.{Origin}
 use Rattle.sp_history.specs.declared.setting.Options.{Options}
 use Rattle.sp_history.specs.Lists.{has}
+use Rattle.sp_history.specs.Backtrace.{back}
+use Rattle.sp_history.specs.declared.parts.Back.TheVariants.{TooFar}
 use Rattle.sp_history.specs.Once.{AreApart}
 use Rattle.sp_history.specs.Moments.{Moment}
 use Rattle.sp_proto.specs.Kinds.{Kind, text_of}
 use Rattle.sp_proto.specs.Readings.{MomentReading, reading}
 use Rattle.sp_proto.specs.declared.Verb.{Verb}
 use Rattle.sp_proto.specs.declared.Verb.TheVariants as verbs
-use Rattle.proto_requests.specs.Ports.{Knows}
+use Rattle.proto_requests.specs.Ports.{Knows, free_count}
 use Rattle.proto_rep.specs.declared.rep.Reply.{Reply}
 use Rattle.proto_rep.specs.declared.rep.KeptRequest.{KeptRequest}
 use Rattle.proto_rep.specs.declared.rep.Source.{Source}
@@ -25,7 +27,7 @@ use Rattle.proto_rep.specs.declared.rep.ReplyContext.{ReplyContext}
 use Rattle.proto_rep.specs.declared.replies.Answer.{Answer}
 use Rattle.proto_rep.specs.declared.operations.ReplyOperation.{ReplyOperation}
 use Rattle.proto_rep.specs.Replies.{AreStuck}
-use Rattle.proto_rep.specs.Operations.{Holds, begun_of, receives_on}
+use Rattle.proto_rep.specs.Operations.{Holds, begun_of, count, receives_on, room}
 use Rattle.proto_rep.specs.declared.rep.ReplyRole.{ReplyRole}
 use Rattle.proto_rep.specs.declared.rep.ReplyRole.TheVariants as sides
 
@@ -36,6 +38,18 @@ role_of sides.Respondent = role.Respondent
 -- a rep or a respondent, cooked or raw
 abbrev pub reply_kind : Role → Bool → Options → Kind
 reply_kind r raw options = record { role = r; raw = raw; options = options }
+
+-- so many operations more can wait
+abbrev pub places_left : Reply → ℕ
+places_left m = room m.waiting
+
+-- each pipe that is free may be offered once more, and each operation
+abbrev pub offers_left : Reply → ℕ
+offers_left m = free_count m.ports.items + count m.waiting
+
+-- a frame whose backtrace has more words than are read
+abbrev pub CameTooFar : Reply → List ℕ → Type 0
+CameTooFar m b = back m.options.ttl b ≡ TooFar
 
 abbrev pub item_of : KeptRequest → Item
 item_of k = record { pipe = k.pipe; words = k.words; message = text_of k.message }

@@ -1,6 +1,9 @@
 //! The machine of rep, and of respondent.
-ghost use Rattle.std.specs.Prelude.{◌≡◌, ◌+◌, ℕ, List, [], Some, IfOk, length};
+ghost use Rattle.std.specs.Prelude.{◌≡◌, ◌≤◌, ◌+◌, ℕ, List, [], Some, None, IfOk, MatchOption, length};
 ghost use Rattle.sp_base.specs.declared.role.Role.TheVariants as role;
+ghost use Rattle.sp_history.specs.declared.entry.Entry.TheVariants.{Frame};
+ghost use Rattle.sp_history.specs.Moments.{Moment, Lawful, also};
+ghost use Rattle.sp_proto.specs.Machines.{Frames};
 ghost use Rattle.sp_history.specs.Options.{Fits};
 ghost use Rattle.sp_history.specs.Frames.{traced_item};
 ghost use Rattle.sp_history.specs.Backtrace.{back};
@@ -9,8 +12,9 @@ ghost use Rattle.sp_msg.specs.Views.{wire_text};
 ghost use Rattle.sp_proto.specs.Kinds.{Starts, entry_act};
 ghost use Rattle.proto_rep.specs.declared.operations.ReplyOperation.{ReplyOperation as ReplyOperationType};
 ghost use Rattle.proto_rep.specs.declared.replies.Answer.{Answer as AnswerType};
-ghost use Rattle.proto_rep.specs.Operations.{Holds, act_of, count, room};
-ghost use Rattle.proto_rep.specs.Reps.{Ties, reply_kind, role_of, item_of, out_text, Gives, state_at};
+ghost use Rattle.proto_rep.specs.Operations.{Holds, act_of};
+ghost use Rattle.proto_rep.specs.Wins.{HasNoMessage, WinsFlood, WinsNowhere, WinsOut, WinsReceive};
+ghost use Rattle.proto_rep.specs.Reps.{Ties, CameTooFar, offers_left, places_left, reply_kind, role_of, item_of, out_text, Gives, state_at};
 
 use crate::operations::{RepOperations, ReplyOperation};
 use crate::places::Places;
@@ -105,6 +109,17 @@ fn outward(raw: bool, answer: Answer) -> Message
         Some(s) => s.words.lead(&mut message),
     }
     message
+}
+
+// What a reply that was won puts on the pipe. One that goes nowhere has none.
+fn put_out(raw: bool, answer: Answer, out: Option<PipeId>) -> Option<Message>
+    ensures nothing { out ≡ None → result ≡ None }
+    ensures message { (p : ℕ) (b : List ℕ) → out ≡ Some p → out_text raw answer ≡ b → MatchOption result ⊥ (λ m. wire_text m ≡ b) }
+{
+    match out {
+        None => None,
+        Some(_) => Some(outward(raw, answer)),
+    }
 }
 
 // A frame with a whole backtrace, as it is kept.
@@ -211,19 +226,16 @@ impl Reply {
 }
 
 impl Proto for Reply {
-    ghost use Rattle.std.specs.Prelude.{◌+◌};
-    ghost use Rattle.proto_requests.specs.Ports.{free_count};
-    ghost use Rattle.proto_rep.specs.Operations.{count, room};
-    ghost use Rattle.proto_rep.specs.Reps.{Ties, reply_kind, role_of};
+    ghost use Rattle.proto_rep.specs.Reps.{Ties, offers_left, places_left, reply_kind, role_of};
     ghost use Rattle.proto_rep.specs.RepLaws as laws;
 
     ghost kind = { λ m. reply_kind (role_of m.role) m.raw m.options };
 
     ghost ties = { Ties };
 
-    ghost room = { λ m. room m.waiting };
+    ghost room = { places_left };
 
-    ghost left = { λ m. free_count m.ports.items + count m.waiting };
+    ghost left = { offers_left };
 
     ghost copies = { λ m op. 0 };
 
@@ -250,10 +262,7 @@ impl Proto for Reply {
 
     fn up(&mut self, p: PipeId) -> Result<(), UpFault> {
         match self.ports.push(p) {
-            Ok(()) => {
-                self.waiting.pass_none();
-                Ok(())
-            }
+            Ok(()) => Ok(()),
             Err(_) => Err(UpFault::NoMemory),
         }
     }
@@ -268,7 +277,13 @@ impl Proto for Reply {
         !self.kept.has(p)
     }
 
-    fn frame(&mut self, p: PipeId, m: Message) -> Verdict {
+    /// One that came too far takes no memory, and its pipe stays.
+    fn frame(&mut self, p: PipeId, m: Message) -> Verdict
+        requires { m.header ≡ [] }
+        ensures kept { (t : Moment) → Lawful (also t (Frame p m.body)) → Ties self.old t → Frames (Ties self.new) result t p m.body }
+        ensures room { places_left self.old ≤ places_left self.new }
+        ensures too_far { CameTooFar self.old m.body → result ≡ Verdict.Fine }
+    {
         match scan(m.body(), self.options.ttl) {
             Trail::Short => Verdict::Malformed,
             Trail::TooFar => Verdict::Fine,
@@ -344,12 +359,19 @@ impl Proto for Reply {
         None
     }
 
-    fn won(&mut self, op: OpName, out: Option<PipeId>) -> Option<Message> {
-        let _ = out;
+    /// A reply that goes nowhere has no message.
+    fn won(&mut self, op: OpName, out: Option<PipeId>) -> Option<Message>
+        ensures given { WinsReceive self.old self.new op out result }
+        ensures flooded { WinsFlood self.old self.new op out }
+        ensures dropped { WinsNowhere self.old self.new op out }
+        ensures sent { WinsOut self.old self.new op out result }
+        ensures room { places_left self.old ≤ places_left self.new }
+        ensures nothing { HasNoMessage self.old op out result }
+    {
         match self.waiting.take(op) {
             None => None,
             Some(w) => match w.answer {
-                Some(r) => Some(outward(self.raw, r)),
+                Some(r) => put_out(self.raw, r, out),
                 None => self.give(w.ctx),
             },
         }

@@ -10,7 +10,7 @@ pub mod DueRequests
 pub mod RequestsDue
 pub mod Hinted
 pub mod ReqStands
-pub mod Reaching
+pub mod RequestMoments
 pub mod ReqArrivals
 pub mod ReqWins
 pub mod Offering

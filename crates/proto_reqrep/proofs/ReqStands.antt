@@ -34,7 +34,8 @@ use Rattle.proto_reqrep.specs.declared.req.Request.{Request as Machine}
 use Rattle.proto_reqrep.specs.declared.req.Live.{Live}
 use Rattle.proto_reqrep.specs.declared.req.KeptReply.{KeptReply}
 use Rattle.proto_reqrep.specs.declared.req.Asking.{Asking}
-use Rattle.proto_reqrep.specs.Reqs.{Ties, Asked, begun_of, act_of, is_asked, is_sending, orphaned, without_first, without_live, is_live_on, request_of, item_of, items_of, reply_in, message_in}
+use Rattle.sp_proto.specs.Kinds.{act_of}
+use Rattle.proto_reqrep.specs.Reqs.{Ties, Asked, begun_of, is_asked, is_sending, orphaned, without_first, without_live, is_live_on, request_of, item_of, items_of, reply_in, message_in}
 use Rattle.proto_reqrep.proofs.Orphaned.{flag_of}
 use Rattle.proto_reqrep.proofs.RequestLives.{find_request, sound_at}
 use Rattle.proto_reqrep.proofs.Owning.{owned_taken, only_receive, none_beside}

@@ -1,5 +1,5 @@
 -- Which live requests are looked at when they are due.
-use Rattle.std.specs.Prelude.{◌≡◌, ◌≤◌, ℕ, ◌==◌, ◌&&◌, ◌||◌, nat_le, nat_lt, Bool, true, false, not, ⊤, if◌then◌else◌, List, [], ◌∷◌, Option, Some, None, is_some}
+use Rattle.std.specs.Prelude.{◌≡◌, ◌≤◌, ◌⊎◌, ◌+◌, ℕ, ◌==◌, ◌&&◌, ◌||◌, nat_le, nat_lt, Bool, true, false, not, ⊤, if◌then◌else◌, List, [], ◌∷◌, Option, Some, None, is_some}
 use Rattle.std.specs.List.{list_any}
 use Rattle.sp_history.specs.declared.parts.LastOut.{LastOut}
 use Rattle.proto_requests.specs.Hints.{HintsView, covers, covers_by}
@@ -51,7 +51,27 @@ is_at e (Some o) = (e.pipe == o.pipe) && (e.when == o.when)
 abbrev pub StayLate : (LastOut → Bool) → (LastOut → Bool) → Type 0
 StayLate late later = (o : LastOut) → late o ≡ true → later o ≡ true
 
+-- so long ago is it, or longer
+abbrev pub is_past : ℕ → ℕ → LastOut → Bool
+is_past resend now o = nat_le (o.when + resend) now
+
+-- late now is what was, and that of which this is true
+abbrev pub IsLater : (LastOut → Bool) → (LastOut → Bool) → (LastOut → Type 0) → Type 0
+IsLater late later T = StayLate late later × ((o : LastOut) → later o ≡ true → (late o ≡ true) ⊎ T o) × ((o : LastOut) → T o → later o ≡ true)
+
+-- the context is dry now; each request is still looked at when it is due
+abbrev pub NotesDry : DuesView → DuesView → ℕ → Type 0
+NotesDry old new c = (late : LastOut → Bool) (dry now : ℕ → Bool) (last : ℕ) (xs : List Live) → ((q : ℕ) → (q == c) ≡ false → now q ≡ dry q) → (dry c ≡ true → now c ≡ true) → AreSeen old late dry last xs → AreSeen new late now last xs
+
+-- what is not past is still among them
+abbrev pub KeepRecent : (LastOut → Bool) → HintsView SentOut → HintsView SentOut → Type 0
+KeepRecent past old new = (c : ℕ) (o : LastOut) → past o ≡ false → covers_by old (is_sent c o) ≡ true → covers_by new (is_sent c o) ≡ true
+
 -- none is later than one behind it, nor than this tick
 abbrev pub AreInTime : ℕ → List SentOut → Type 0
 AreInTime last [] = ⊤
 AreInTime last (e ∷ es) = (e.when ≤ last) × (list_any (λ (f : SentOut). nat_lt f.when e.when) es ≡ false) × AreInTime last es
+
+-- that stays so
+abbrev pub StayInTime : List SentOut → List SentOut → Type 0
+StayInTime old new = (last : ℕ) → AreInTime last old → AreInTime last new

@@ -1,6 +1,5 @@
 -- The live requests of a req, and how one is found by its context and by its id.
-use Rattle.std.specs.Prelude.{◌≡◌, ◌≤◌, ℕ, Bool, true, false, is_some, List, take, length, Option, Some, None}
-use Rattle.std.specs.List.{list_any}
+use Rattle.std.specs.Prelude.{◌≡◌, ℕ, Bool, true, false, is_some, List, length, Option, Some, None}
 use Rattle.proto_requests.specs.Backlogs.{IsIndexed}
 use Rattle.proto_requests.specs.Numbers.{is_known}
 use Rattle.proto_requests.specs.Spots.{held}

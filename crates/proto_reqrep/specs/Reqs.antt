@@ -1,11 +1,9 @@
 -- What a req stands for.
-use Rattle.std.specs.Prelude.{◌≡◌, ◌≢◌, ◌≤◌, ◌<◌, ◌+◌, ◌*◌, ◌^◌, ◌%◌, ◌==◌, ◌&&◌, ◌||◌, ℕ, zero, suc, Bool, true, false, not, ⊤, nat_le, if◌then◌else◌, List, [], ◌∷◌, ◌++◌, length, map, find, take, drop, Option, Some, None, is_some}
+use Rattle.std.specs.Prelude.{◌≡◌, ◌≢◌, ◌≤◌, ◌<◌, ◌+◌, ◌*◌, ◌^◌, ◌==◌, ◌&&◌, ◌||◌, ℕ, zero, suc, Bool, true, false, not, ⊤, nat_le, if◌then◌else◌, List, [], ◌∷◌, ◌++◌, length, map, find, take, drop, Option, Some, None, is_some}
 use Rattle.std.specs.List.{list_any, list_all}
 use Rattle.sp_base.specs.declared.OpName.{OpName}
 use Rattle.sp_base.specs.declared.role.Role.TheVariants as role
-use Rattle.sp_msg.specs.Views.{MessageView}
-use Rattle.sp_history.specs.declared.entry.RecordedAct.{RecordedAct}
-use Rattle.sp_history.specs.declared.entry.RecordedAct.TheVariants.{Recv, Send}
+use Rattle.sp_msg.specs.Views.{MessageView, wire_text}
 use Rattle.sp_history.specs.declared.parts.Begun.{Begun}
 use Rattle.sp_history.specs.declared.parts.Item.{Item}
 use Rattle.sp_history.specs.declared.parts.Orphan.{Orphan}
@@ -13,14 +11,14 @@ use Rattle.sp_history.specs.declared.parts.LiveRequest.{LiveRequest}
 use Rattle.sp_history.specs.declared.parts.Requests.{Requests}
 use Rattle.sp_history.specs.declared.parts.LastOut.{LastOut}
 use Rattle.sp_history.specs.declared.setting.Options.{Options}
-use Rattle.sp_history.specs.Lists.{has, same_op, is_nil, first_word}
+use Rattle.sp_history.specs.Lists.{has, same_op, is_nil, first_word, head_of, word}
 use Rattle.sp_history.specs.Past.{up}
 use Rattle.sp_history.specs.Requests.{is_orphan, next_number}
 use Rattle.sp_history.specs.Legal.{was_superseded}
 use Rattle.sp_history.specs.Once.{AreApart, AreDistinct}
 use Rattle.sp_history.specs.Settled.{has_full}
 use Rattle.sp_history.specs.Moments.{Moment, past}
-use Rattle.sp_proto.specs.Kinds.{Kind, text_of}
+use Rattle.sp_proto.specs.Kinds.{Kind, act_of, text_of}
 use Rattle.sp_proto.specs.Readings.{MomentReading, reading, out_last}
 use Rattle.sp_proto.specs.declared.Offer.{Offer}
 use Rattle.sp_proto.specs.declared.Offer.TheVariants as offers
@@ -29,14 +27,15 @@ use Rattle.sp_proto.specs.declared.Verb.TheVariants as verbs
 use Rattle.sp_proto.specs.declared.Verdict.{Verdict}
 use Rattle.sp_proto.specs.declared.Verdict.TheVariants as verdict
 use Rattle.proto_requests.specs.Ports.{PortView, Knows, is_pipe, free_count, next_number as next_pipe}
-use Rattle.proto_reqrep.specs.Dues.{DuesView, AreSeen, StaySeen}
-use Rattle.proto_requests.specs.Hints.{HintsView, covers}
+use Rattle.proto_reqrep.specs.Dues.{DuesView, AreSeen, AreInTime, StaySeen, IsLater, awaited, is_sent}
+use Rattle.proto_reqrep.specs.declared.dues.SentOut.{SentOut}
+use Rattle.proto_requests.specs.Hints.{HintsView, covers, covers_by}
 use Rattle.std.specs.Option.{option_map}
 use Rattle.proto_reqrep.specs.declared.req.Request.{Request as Machine}
 use Rattle.proto_reqrep.specs.declared.req.Live.{Live}
 use Rattle.proto_reqrep.specs.declared.req.KeptReply.{KeptReply}
 use Rattle.proto_reqrep.specs.declared.req.Asking.{Asking}
-use Rattle.proto_reqrep.specs.declared.req.RequestContext.{RequestContext}
+use Rattle.proto_reqrep.specs.Seats.{SeatView}
 use Rattle.proto_requests.specs.FirstFound.{without_found, with_found}
 use Rattle.proto_requests.specs.Ids.{number_after, raw_item}
 
@@ -45,24 +44,20 @@ req_kind raw options = record { role = role.Req; raw = raw; options = options }
 
 -- ---- Contexts
 
-abbrev pub seat_ctx : RequestContext → ℕ
+abbrev pub seat_ctx : SeatView → ℕ
 seat_ctx s = s.ctx
 
 -- a copy for the context found no memory
-abbrev pub dry_at : ℕ → List RequestContext → Bool
-dry_at c xs = list_any (λ (s : RequestContext). (s.ctx == c) && s.is_dry) xs
+abbrev pub dry_at : ℕ → List SeatView → Bool
+dry_at c xs = list_any (λ (s : SeatView). (s.ctx == c) && s.is_dry) xs
 
-abbrev pub dried : ℕ → RequestContext → RequestContext
+abbrev pub dried : ℕ → SeatView → SeatView
 dried c s = record { ctx = s.ctx; is_dry = s.is_dry || (s.ctx == c) }
 
-abbrev pub wetted : RequestContext → RequestContext
+abbrev pub wetted : SeatView → SeatView
 wetted s = record { ctx = s.ctx; is_dry = false }
 
 -- ---- Operations
-
-abbrev pub act_of : Option MessageView → RecordedAct
-act_of None = Recv
-act_of (Some m) = Send (text_of m)
 
 abbrev pub begun_of : Asking → Begun
 begun_of w = record { op = w.op; ctx = w.ctx; act = act_of w.message }
@@ -139,6 +134,18 @@ with_reply id k xs = with_found (waits_for id) (with_kept k) xs
 abbrev pub sent_at : LastOut → Live → Live
 sent_at o x = record { ctx = x.ctx; id = x.id; copy = x.copy; birth = x.birth; last_out = Some o; reply = x.reply }
 
+-- with the request of the context sent out so
+abbrev pub with_out : ℕ → LastOut → List Live → List Live
+with_out c o xs = with_found (is_live_on c) (sent_at o) xs
+
+-- how the request of the context went out, if it waits for a reply
+abbrev pub out_of : List Live → ℕ → Option LastOut
+out_of xs c = awaited (find (is_live_on c) xs)
+
+-- no two are of one context
+abbrev pub OnePerContext : List Live → Type 0
+OnePerContext xs = AreDistinct (map live_ctx xs)
+
 abbrev pub out_on : ℕ → LastOut → Live → Option LastOut
 out_on c o x = if x.ctx == c then Some o else x.last_out
 
@@ -167,7 +174,7 @@ is_late_in resend t ps None = false
 is_late_in resend t ps (Some o) = is_late resend t ps o
 
 -- the live request may go out again
-abbrev pub is_due : ℕ → ℕ → List PortView → List RequestContext → Live → Bool
+abbrev pub is_due : ℕ → ℕ → List PortView → List SeatView → Live → Bool
 is_due resend t ps ss x = not (is_some x.reply) && (is_late_in resend t ps x.last_out && not (dry_at x.ctx ss))
 
 -- a receive for which a reply is kept
@@ -201,6 +208,14 @@ dry_in m c = dry_at c m.seats.items
 abbrev pub due_in : Machine → Live → Bool
 due_in m x = is_due m.options.resend m.tick m.ports.items m.seats.items x
 
+-- none may go out again
+abbrev pub NoneDue : Machine → Type 0
+NoneDue m = list_any (due_in m) m.live.items ≡ false
+
+-- the contexts of its receives for which a reply is kept are among these
+abbrev pub ReadyAmong : Machine → HintsView ℕ → Type 0
+ReadyAmong m h = AreReady h m.live.items m.waiting.items
+
 -- that of the context, which waits for a reply since it went out so
 abbrev pub is_due_out : Machine → Option LastOut → ℕ → Bool
 is_due_out m None c = false
@@ -214,12 +229,25 @@ IsDueOn m c = (x : Live) × (find (is_live_on c) m.live.items ≡ Some x) × (du
 abbrev pub IsSeen : Machine → ℕ → Type 0
 IsSeen m last = AreSeen m.dues (late_in m) (dry_in m) last m.live.items
 
+-- what waits for a reply since it went out so is still among them
+abbrev pub KeepAwaited : List Live → HintsView SentOut → HintsView SentOut → Type 0
+KeepAwaited xs old new = (c : ℕ) (o : LastOut) → out_of xs c ≡ Some o → covers_by old (is_sent c o) ≡ true → covers_by new (is_sent c o) ≡ true
+
+-- of what is past and was among the Outs, each that waits for a reply is looked at
+abbrev pub LookAtPast : (LastOut → Bool) → List Live → HintsView SentOut → HintsView ℕ → Type 0
+LookAtPast past xs outs due = (last c : ℕ) (o : LastOut) → AreInTime last outs.items → outs.whole ≡ true → past o ≡ true → out_of xs c ≡ Some o → covers_by outs (is_sent c o) ≡ true → covers due c ≡ true
+
+-- where more is late, by this, and other contexts are dry, each request that waits for a reply is still looked at when it
+-- is due
+abbrev pub SeeLater : DuesView → DuesView → (LastOut → Type 0) → ((ℕ → Bool) → ℕ → Bool) → List Live → Type 0
+SeeLater old new T next xs = OnePerContext xs → (late later : LastOut → Bool) (dry : ℕ → Bool) (last : ℕ) → IsLater late later T → AreSeen old late dry last xs → AreSeen new later (next dry) last xs
+
 -- the request of the context goes out so, and is looked at when it is due
 abbrev pub NotesOut : DuesView → DuesView → List Live → ℕ → LastOut → Type 0
-NotesOut old new xs c o = (late : LastOut → Bool) (dry : ℕ → Bool) (last : ℕ) → late o ≡ false → nat_le o.pipe last ≡ true → AreSeen old late dry last xs → AreSeen new late dry last (with_found (is_live_on c) (sent_at o) xs)
+NotesOut old new xs c o = (late : LastOut → Bool) (dry : ℕ → Bool) (last : ℕ) → late o ≡ false → nat_le o.pipe last ≡ true → AreSeen old late dry last xs → AreSeen new late dry last (with_out c o xs)
 
 abbrev pub IsCalm : Machine → ℕ → Type 0
-IsCalm m last = IsSeen m last × AreReady m.ready m.live.items m.waiting.items
+IsCalm m last = IsSeen m last × ReadyAmong m m.ready
 
 -- a receive that can be given a message
 abbrev pub gets : Machine → Asking → Bool
@@ -231,7 +259,7 @@ IsGift m op = (w : Asking) × (find (is_receiving_on w.ctx) m.waiting.items ≡ 
 
 -- what can go out on the pipe: the first send, or a request that may go out again
 abbrev pub IsOut : Machine → ℕ → Offer → Type 0
-IsOut m p offers.Idle = (find is_sending m.waiting.items ≡ None) × (list_any (due_in m) m.live.items ≡ false)
+IsOut m p offers.Idle = (find is_sending m.waiting.items ≡ None) × NoneDue m
 IsOut m p (offers.Send op q) = (w : Asking) × (find is_sending m.waiting.items ≡ Some w) × (w.op ≡ op) × (p ≡ q)
 IsOut m p (offers.Again c q) = IsDueOn m c × (p ≡ q)
 IsOut m p (offers.Give op) = ⊥
@@ -247,6 +275,13 @@ ask_state ws xs c verbs.Send = false
 abbrev pub due_count : (Live → Bool) → List Live → ℕ
 due_count due [] = 0
 due_count due (x ∷ xs) = if due x then due_count due xs + 1 else due_count due xs
+
+abbrev pub is_raw : Machine → Bool
+is_raw m = m.raw
+
+-- so many operations more can wait
+abbrev pub places_left : Machine → ℕ
+places_left m = m.waiting.room
 
 -- each pipe that is free may take one more of all requests, when it goes down
 abbrev pub work_left : Machine → ℕ
@@ -270,7 +305,27 @@ Asks c body m n =
     (x : Live) × IsNew m c body x × (length (without_live c m.live.items) < 2 ^ 31) × (n.live.items ≡ without_live c m.live.items ++ x ∷ [])
     × (n.waiting.items ≡ map (orphaned c) m.waiting.items) × (n.last_id ≡ Some x.id)
     × (n.raw ≡ m.raw) × (n.options ≡ m.options) × (n.tick ≡ m.tick) × (n.ports ≡ m.ports) × (n.kept ≡ m.kept) × (n.last_pipe ≡ m.last_pipe) × (n.seats ≡ m.seats) × (n.ready ≡ m.ready)
-    × (AreDistinct (map live_ctx m.live.items) → StaySeen m.dues n.dues m.live.items)
+    × (OnePerContext m.live.items → StaySeen m.dues n.dues m.live.items)
+
+-- none begins
+abbrev pub AsksNot : Machine → Machine → Type 0
+AsksNot m n = (n.live.items ≡ m.live.items) × (OnePerContext m.live.items → StaySeen m.dues n.dues m.live.items) × (n ≡ record m { live = n.live; dues = n.dues })
+
+-- raw, a receive gets the oldest message
+abbrev pub GivesRaw : Option MessageView → Machine → Machine → Type 0
+GivesRaw r m n = (r ≡ option_map (λ (k : KeptReply). k.message) (head_of m.kept.items)) × (n.kept.items ≡ drop 1 m.kept.items) × (n.live ≡ m.live)
+
+-- a receive of the context gets the reply to its request, which is answered by it
+abbrev pub GivesReply : ℕ → Option MessageView → Machine → Machine → Type 0
+GivesReply c r m n = (r ≡ reply_in (find (is_live_on c) m.live.items)) × (n.live.items ≡ without_live c m.live.items) × (n.kept ≡ m.kept)
+
+-- it goes out now, on this pipe
+abbrev pub sent_now : Machine → ℕ → LastOut
+sent_now m p = record { pipe = p; when = m.tick }
+
+-- what goes out for the request of the context: its id, and behind it this body
+abbrev pub IsLed : List Live → ℕ → List ℕ → MessageView → Type 0
+IsLed xs c body r = (x : Live) → find (is_live_on c) xs ≡ Some x → wire_text r ≡ word x.id ++ body
 
 -- a raw frame is kept
 abbrev pub KeepsRaw : Verdict → ℕ → List ℕ → List KeptReply → List KeptReply → Type 0
@@ -342,7 +397,7 @@ pub record Asked (raw : Bool) (xs : List Live) (id : Option ℕ) (ws : List Aski
   pub owned : raw ≡ false → HaveLive xs ws
 
 -- the open contexts, those of the live requests among them, and which are dry
-pub record Opened (xs : List Live) (seats : List RequestContext) (cs : List ℕ) (dry : ℕ → Bool) : Type 0 where
+pub record Opened (xs : List Live) (seats : List SeatView) (cs : List ℕ) (dry : ℕ → Bool) : Type 0 where
   pub homes : (c : ℕ) → has (map live_ctx xs) c ≡ true → has cs c ≡ true
   pub contexts : map seat_ctx seats ≡ cs
   pub dryness : (c : ℕ) → has cs c ≡ true → dry_at c seats ≡ dry c

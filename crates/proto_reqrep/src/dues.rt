@@ -4,16 +4,15 @@
 //! come, or its pipe is down, its context is looked at before the next request goes out again. A context for which a copy
 //! found no memory is looked at again after the next tick. What is left of requests that ended is dropped where it comes
 //! to more than the live ones.
-ghost use Rattle.std.specs.Prelude.{◌≡◌, ◌⊎◌, ◌≤◌, ◌+◌, ◌==◌, ℕ, Bool, List, [], Some, true, false, nat_le, find, map, drop};
+ghost use Rattle.std.specs.Prelude.{◌≡◌, ◌+◌, ℕ, List, [], Some, true, false, nat_le, drop};
 ghost use Rattle.std.specs.List.{list_any, slice_get};
 ghost use Rattle.sp_history.specs.declared.parts.LastOut.{LastOut as LastOutType};
 ghost use Rattle.sp_history.specs.Lists.{head_of};
-ghost use Rattle.sp_history.specs.Once.{AreDistinct};
-ghost use Rattle.proto_requests.specs.Hints.{covers, covers_by};
+ghost use Rattle.proto_requests.specs.Hints.{covers, StayAmong, StayCovered};
 ghost use Rattle.proto_reqrep.specs.declared.req.Live.{Live as LiveType};
 ghost use Rattle.proto_reqrep.specs.declared.dues.SentOut.{SentOut as SentOutType};
-ghost use Rattle.proto_reqrep.specs.Dues.{AreSeen, StayLate, AreInTime, awaited, is_at, is_sent};
-ghost use Rattle.proto_reqrep.specs.Reqs.{is_live_on, live_ctx, NotesOut};
+ghost use Rattle.proto_reqrep.specs.Dues.{AreInTime, StayInTime, StaySeen, KeepRecent, NotesDry, is_at, is_past, is_sent};
+ghost use Rattle.proto_reqrep.specs.Reqs.{OnePerContext, KeepAwaited, LookAtPast, NotesOut, SeeLater, out_of};
 
 use crate::lives::Lives;
 use proto_requests::hints::Hints;
@@ -61,7 +60,7 @@ pub fn is_past(when: Tick, now: Tick, resend: u64) -> bool
 
 // The request waits for a reply since it went out so.
 fn is_awaited(live: &Lives, e: &SentOut) -> bool
-    ensures { result ≡ is_at e.now (awaited (find (is_live_on e.now.ctx) live.now.items)) }
+    ensures { result ≡ is_at e.now (out_of live.now.items e.now.ctx) }
 {
     match live.out_of(e.ctx) {
         None => false,
@@ -74,7 +73,7 @@ fn is_awaited(live: &Lives, e: &SentOut) -> bool
 // Nothing went out after this, or it is forgotten.
 fn put_in_time(outs: &mut Hints<SentOut>, last: Tick, when: Tick)
     ensures time { AreInTime last outs.old.items → AreInTime when outs.new.items }
-    ensures more { (P : SentOutType → Bool) → covers_by outs.old P ≡ true → covers_by outs.new P ≡ true }
+    ensures more { StayCovered outs.old outs.new }
 {
     if when.0 < last.0 {
         outs.give_up();
@@ -83,8 +82,8 @@ fn put_in_time(outs: &mut Hints<SentOut>, last: Tick, when: Tick)
 
 // What waits for no reply is dropped, if it is more than so many.
 fn shorten(outs: &mut Hints<SentOut>, live: &Lives, many: usize)
-    ensures kept { (c : ℕ) (o : LastOutType) → awaited (find (is_live_on c) live.now.items) ≡ Some o → covers_by outs.old (is_sent c o) ≡ true → covers_by outs.new (is_sent c o) ≡ true }
-    ensures time { (last : ℕ) → AreInTime last outs.old.items → AreInTime last outs.new.items }
+    ensures kept { KeepAwaited live.now.items outs.old outs.new }
+    ensures time { StayInTime outs.old.items outs.new.items }
 {
     if outs.len() / 2 > many {
         outs.retain(|e| is_awaited(live, e));
@@ -95,7 +94,7 @@ fn shorten(outs: &mut Hints<SentOut>, live: &Lives, many: usize)
 
 // All are looked at, if they are more than so many.
 fn limit(contexts: &mut Hints<u32>, many: usize)
-    ensures { (q : ℕ) → covers contexts.old q ≡ true → covers contexts.new q ≡ true }
+    ensures { StayAmong contexts.old contexts.new }
 {
     if contexts.len() / 2 > many {
         contexts.give_up();
@@ -105,7 +104,7 @@ fn limit(contexts: &mut Hints<u32>, many: usize)
 // All are looked at, if not all that went out is known.
 fn look_at_all(due: &mut Hints<u32>, known: bool)
     ensures all { known ≡ false → (q : ℕ) → covers due.new q ≡ true }
-    ensures more { (q : ℕ) → covers due.old q ≡ true → covers due.new q ≡ true }
+    ensures more { StayAmong due.old due.new }
 {
     if !known {
         due.give_up();
@@ -114,8 +113,8 @@ fn look_at_all(due: &mut Hints<u32>, known: bool)
 
 // The context is looked at, if its request waits for a reply since it went out so.
 fn look_if_awaited(due: &mut Hints<u32>, live: &Lives, e: &SentOut)
-    ensures it { is_at e.now (awaited (find (is_live_on e.now.ctx) live.now.items)) ≡ true → covers due.new e.now.ctx ≡ true }
-    ensures more { (q : ℕ) → covers due.old q ≡ true → covers due.new q ≡ true }
+    ensures it { is_at e.now (out_of live.now.items e.now.ctx) ≡ true → covers due.new e.now.ctx ≡ true }
+    ensures more { StayAmong due.old due.new }
 {
     if is_awaited(live, e) {
         due.add(e.ctx.0);
@@ -125,7 +124,7 @@ fn look_if_awaited(due: &mut Hints<u32>, live: &Lives, e: &SentOut)
 // The context is looked at, if it went out on the pipe.
 fn look_if_on(due: &mut Hints<u32>, e: &SentOut, p: PipeId)
     ensures it { e.now.pipe ≡ p → covers due.new e.now.ctx ≡ true }
-    ensures more { (q : ℕ) → covers due.old q ≡ true → covers due.new q ≡ true }
+    ensures more { StayAmong due.old due.new }
 {
     if e.pipe.0 == p.0 {
         due.add(e.ctx.0);
@@ -141,10 +140,10 @@ fn look_at_late(
     resend: u64,
 )
     ensures whole { outs.new.whole ≡ outs.old.whole }
-    ensures kept { (c : ℕ) (o : LastOutType) → nat_le (o.when + resend) now ≡ false → covers_by outs.old (is_sent c o) ≡ true → covers_by outs.new (is_sent c o) ≡ true }
-    ensures late { (last c : ℕ) (o : LastOutType) → AreInTime last outs.old.items → outs.old.whole ≡ true → nat_le (o.when + resend) now ≡ true → awaited (find (is_live_on c) live.now.items) ≡ Some o → covers_by outs.old (is_sent c o) ≡ true → covers due.new c ≡ true }
-    ensures more { (q : ℕ) → covers due.old q ≡ true → covers due.new q ≡ true }
-    ensures time { (last : ℕ) → AreInTime last outs.old.items → AreInTime last outs.new.items }
+    ensures kept { KeepRecent (is_past resend now) outs.old outs.new }
+    ensures late { LookAtPast (is_past resend now) live.now.items outs.old due.new }
+    ensures more { StayAmong due.old due.new }
+    ensures time { StayInTime outs.old.items outs.new.items }
 {
     while let Some(e) = outs.first() {
         if !is_past(e.when, now, resend) {
@@ -158,7 +157,7 @@ fn look_at_late(
 // The context of this place is looked at, if it went out on the pipe.
 fn look_at_place(outs: &Hints<SentOut>, due: &mut Hints<u32>, i: usize, p: PipeId)
     ensures it { (e : SentOutType) → slice_get outs.now.items i ≡ Some e → e.pipe ≡ p → covers due.new e.ctx ≡ true }
-    ensures more { (q : ℕ) → covers due.old q ≡ true → covers due.new q ≡ true }
+    ensures more { StayAmong due.old due.new }
 {
     match outs.at(i) {
         None => {}
@@ -169,7 +168,7 @@ fn look_at_place(outs: &Hints<SentOut>, due: &mut Hints<u32>, i: usize, p: PipeI
 // Those that went out on the pipe are looked at.
 fn look_at_down(outs: &Hints<SentOut>, due: &mut Hints<u32>, p: PipeId)
     ensures down { (c : ℕ) (o : LastOutType) → o.pipe ≡ p → list_any (is_sent c o) outs.now.items ≡ true → covers due.new c ≡ true }
-    ensures more { (q : ℕ) → covers due.old q ≡ true → covers due.new q ≡ true }
+    ensures more { StayAmong due.old due.new }
 {
     for i in 0..outs.len() {
         look_at_place(outs, due, i, p);
@@ -205,14 +204,20 @@ impl Dues {
 
     /// Takes the room for one live request more.
     pub fn reserve(&mut self, live: &Lives) -> Result<(), NoMemory>
-        ensures { AreDistinct (map live_ctx live.now.items) → (late : LastOutType → Bool) (dry : ℕ → Bool) (last : ℕ) → AreSeen self.old late dry last live.now.items → AreSeen self.new late dry last live.now.items }
+        ensures { OnePerContext live.now.items → StaySeen self.old self.new live.now.items }
     {
         let many = live.len();
-        shorten(&mut self.outs, live, many);
         limit(&mut self.due, many);
         limit(&mut self.dry, many);
         let more = many.saturating_add(2);
         make_room(&mut self.due, &mut self.dry, &mut self.outs, more)
+    }
+
+    /// Drops what is left of requests that ended, where it comes to more than the live ones. Takes no memory.
+    pub fn shorten(&mut self, live: &Lives)
+        ensures { OnePerContext live.now.items → StaySeen self.old self.new live.now.items }
+    {
+        shorten(&mut self.outs, live, live.len());
     }
 
     /// The request of the context goes out, at no earlier tick than any before.
@@ -226,14 +231,14 @@ impl Dues {
 
     /// A copy for the context finds no memory.
     pub fn note_dry(&mut self, c: Ctx)
-        ensures { (late : LastOutType → Bool) (dry now : ℕ → Bool) (last : ℕ) (xs : List LiveType) → ((q : ℕ) → (q == c) ≡ false → now q ≡ dry q) → (dry c ≡ true → now c ≡ true) → AreSeen self.old late dry last xs → AreSeen self.new late now last xs }
+        ensures { NotesDry self.old self.new c }
     {
         self.dry.add(c.0);
     }
 
     /// A tick: what is late by it is looked at, and no context is dry any more.
     pub fn tick(&mut self, live: &Lives, now: Tick, resend: u64)
-        ensures { AreDistinct (map live_ctx live.now.items) → (late later : LastOutType → Bool) (dry : ℕ → Bool) (last : ℕ) → StayLate late later → ((o : LastOutType) → later o ≡ true → (late o ≡ true) ⊎ (nat_le (o.when + resend) now ≡ true)) → ((o : LastOutType) → nat_le (o.when + resend) now ≡ true → later o ≡ true) → AreSeen self.old late dry last live.now.items → AreSeen self.new later (λ q. false) last live.now.items }
+        ensures { SeeLater self.old self.new (λ o. is_past resend now o ≡ true) (λ dry q. false) live.now.items }
     {
         look_at_all(&mut self.due, self.outs.is_whole());
         look_at_late(&mut self.outs, &mut self.due, live, now, resend);
@@ -242,7 +247,7 @@ impl Dues {
 
     /// The pipe is down: what went out on it is looked at.
     pub fn down(&mut self, p: PipeId)
-        ensures { (late later : LastOutType → Bool) (dry : ℕ → Bool) (last : ℕ) (xs : List LiveType) → AreDistinct (map live_ctx xs) → StayLate late later → ((o : LastOutType) → later o ≡ true → (late o ≡ true) ⊎ (o.pipe ≡ p)) → ((o : LastOutType) → o.pipe ≡ p → later o ≡ true) → AreSeen self.old late dry last xs → AreSeen self.new later dry last xs }
+        ensures { (xs : List LiveType) → SeeLater self.old self.new (λ o. o.pipe ≡ p) (λ dry. dry) xs }
     {
         look_at_all(&mut self.due, self.outs.is_whole());
         look_at_down(&self.outs, &mut self.due, p);

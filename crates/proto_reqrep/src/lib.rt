@@ -7,14 +7,15 @@
 //!
 //! `lives` has the live requests, found by context and by id, and what goes out again for each. `dues` has which of them
 //! are looked at because they may be due, `seats` the open contexts; pipes, replies that are kept raw and operations that
-//! wait are parts of `proto_requests`. `req` puts them together, and is what a core calls. To read: `Ties` in `specs/Reqs`,
-//! then `Dues` and the calls of the trait in `req`.
+//! wait are parts of `proto_requests`. `req` puts them together, and is what a core calls; `offers` finds what can be done.
+//! To read: `Ties` in `specs/Reqs`, then `Dues` and the calls of the trait in `req`.
 //!
 //! `Reply` is a rep, or a respondent, as `proto_rep` has it.
 #![tactic(auto)]
 
 mod dues;
 mod lives;
+mod offers;
 mod req;
 mod seats;
 

@@ -3,16 +3,15 @@
 //! They stand in the order of their begins, each at a spot that it leaves behind when it ends, so that none of the
 //! others moves; where no room is left and nothing stands at half of the spots, the others are closed up. By its context
 //! and by its id the number of its spot is known, and by that its spot is found by halving, where it is then looked at.
-//! One that isn't there is not known, either. They are searched through only where a number isn't known, for which a
-//! reserve leaves no cause.
-ghost use Rattle.std.specs.Prelude.{◌≡◌, ◌≤◌, ◌<◌, ◌+◌, ◌-◌, ◌==◌, ◌++◌, ◌∷◌, ℕ, Bool, [], Some, None, true, false, if◌then◌else◌, find, map, take, drop, length, is_some, OnOk, IfSome};
+//! One that isn't there is not known, either. They are searched through only where a number isn't known, which is rare
+//! (`Numbers::put` says when).
+ghost use Rattle.std.specs.Prelude.{◌≡◌, ◌≤◌, ◌<◌, ◌+◌, ◌-◌, ◌==◌, ◌++◌, ◌∷◌, ℕ, Bool, [], Some, None, true, false, if◌then◌else◌, find, map, length, is_some, OnOk, IfSome};
 ghost use Rattle.std.specs.List.{position, list_any};
 ghost use Rattle.std.specs.Option.{option_map};
 ghost use Rattle.sp_history.specs.Once.{AreDistinct};
 ghost use Rattle.proto_reqrep.specs.declared.req.Live.{Live as LiveType};
 ghost use Rattle.proto_requests.specs.Backlogs.{IsIndexed};
-ghost use Rattle.proto_reqrep.specs.Reqs.{is_live_on, live_ctx, live_id, waits_for, keeps_reply, with_reply, without_live, sent_at, with_kept};
-ghost use Rattle.proto_requests.specs.FirstFound.{with_found};
+ghost use Rattle.proto_reqrep.specs.Reqs.{is_live_on, live_ctx, live_id, waits_for, keeps_reply, with_reply, without_live, sent_at, with_kept, with_out, out_of};
 ghost use Rattle.proto_requests.specs.Spots.{holds, held, changed};
 ghost use Rattle.proto_reqrep.specs.Lives.{is_answered};
 ghost use Rattle.proto_reqrep.specs.Dues.{awaited};
@@ -314,7 +313,7 @@ fn answer_spot(s: &mut Spot<Live>, kept: KeptReply)
 // The request of the context, which stands here, goes out.
 fn set_out(list: &mut [Spot<Live>], place: Option<usize>, c: Ctx, out: LastOut)
     requires { place ≡ position (holds (is_live_on c)) list.old }
-    ensures held { held list.new ≡ with_found (is_live_on c) (sent_at out) (held list.old) }
+    ensures held { held list.new ≡ with_out c out (held list.old) }
     ensures len { length list.new ≡ length list.old }
 {
     match place {
@@ -477,7 +476,7 @@ impl Lives {
 
     /// How that of the context went out, if it waits for a reply.
     pub fn out_of(&self, c: Ctx) -> Option<LastOut>
-        ensures { result ≡ awaited (find (is_live_on c) self.now.items) }
+        ensures { result ≡ out_of self.now.items c }
     {
         out_at(
             &self.list,
@@ -540,7 +539,7 @@ impl Lives {
 
     /// That of the context goes out.
     pub fn note_out(&mut self, c: Ctx, out: LastOut)
-        ensures items { self.new.items ≡ with_found (is_live_on c) (sent_at out) self.old.items }
+        ensures items { self.new.items ≡ with_out c out self.old.items }
     {
         let place = ctx_place(&self.list, &self.by_ctx, self.is_indexed, c);
         set_out(&mut self.list, place, c, out);

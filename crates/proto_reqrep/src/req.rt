@@ -1,12 +1,11 @@
 //! The machine of req.
-ghost use Rattle.std.specs.Prelude.{◌≡◌, ◌≢◌, ◌≤◌, ◌<◌, ◌+◌, ◌-◌, ◌^◌, ◌%◌, ◌==◌, ◌++◌, ◌&&◌, ◌||◌, if◌then◌else◌, ℕ, List, [], ◌∷◌, None, Some, IfOk, IfSome, IfNone, OnOk, OnErr, false, true, not, map, filter, find, drop, length, option_to_list, is_some};
+ghost use Rattle.std.specs.Prelude.{◌≡◌, ◌≢◌, ◌≤◌, ◌<◌, ◌+◌, ◌-◌, ◌%◌, ◌==◌, ◌++◌, ◌&&◌, ◌||◌, ℕ, List, [], ◌∷◌, None, Some, IfOk, IfSome, IfNone, OnOk, OnErr, false, true, map, find, drop, length, is_some};
 ghost use Rattle.std.specs.Option.{option_map};
-ghost use Rattle.std.specs.List.{position, list_any};
+ghost use Rattle.std.specs.List.{list_any};
 ghost use Rattle.sp_base.specs.declared.OpName.{OpName};
 ghost use Rattle.sp_history.specs.declared.entry.Entry.TheVariants.{Frame};
 ghost use Rattle.sp_history.specs.Past.{up};
 ghost use Rattle.sp_history.specs.Legal.{Calm};
-ghost use Rattle.sp_history.specs.Once.{AreDistinct};
 ghost use Rattle.sp_history.specs.Moments.{Moment, Lawful, past, also};
 ghost use Rattle.sp_proto.specs.Machines.{IsOffered, Frames};
 ghost use Rattle.sp_history.specs.Options.{Fits};
@@ -15,26 +14,18 @@ ghost use Rattle.sp_history.specs.Requests.{next_number};
 ghost use Rattle.sp_msg.specs.Views.{wire_text};
 ghost use Rattle.sp_proto.specs.Kinds.{Starts};
 ghost use Rattle.proto_reqrep.specs.declared.req.KeptReply.{KeptReply as KeptReplyType};
-ghost use Rattle.proto_reqrep.specs.declared.req.Live.{Live as LiveType};
 ghost use Rattle.proto_reqrep.specs.declared.req.Asking.{Asking as AskingType};
-ghost use Rattle.proto_reqrep.specs.declared.req.RequestContext.{RequestContext as RequestContextType};
-ghost use Rattle.proto_requests.specs.Ports.{PortView, next_port};
-ghost use Rattle.proto_requests.specs.Spots.{holds};
-ghost use Rattle.proto_requests.specs.Waits.{IsOver};
-ghost use Rattle.proto_reqrep.specs.Dues.{AreSeen, awaited, StaySeen};
-ghost use Rattle.proto_reqrep.specs.Reqs.{Ties, req_kind, is_live_on, is_asked, without_first, without_live, orphaned, sent_at, is_sending, is_due, dry_at, dried, wetted, free_number, reply_in, gets, answers, with_reply, ready_on, AreReady, IsReply, IsGift, Asks, KeepsRaw, is_given, is_late, IsSeen, IsDueOn, IsOut, NotesOut, due_in, is_due_out, live_ctx, ask_state, is_receiving_on, work_left, IsNextPipe};
-ghost use Rattle.proto_requests.specs.FirstFound.{with_found};
+ghost use Rattle.proto_reqrep.specs.Reqs.{Ties, req_kind, is_live_on, without_live, orphaned, free_number, reply_in, gets, answers, with_reply, ready_on, AreReady, IsReply, Asks, KeepsRaw, NotesOut, ask_state, work_left, IsNextPipe, AsksNot, GivesRaw, GivesReply, IsLed, sent_now, with_out, is_raw, places_left};
 ghost use Rattle.proto_requests.specs.Ids.{number_after};
 
-use crate::dues::{Dues, is_past};
-use crate::lives::{Lives, ctx_at};
+use crate::dues::Dues;
+use crate::lives::Lives;
 use crate::seats::Seats;
 use proto_requests::backlog::{Backlog, FromPipe};
 use proto_requests::hints::Hints;
 use proto_requests::ports::Ports;
-use proto_requests::spots::Spot;
 use proto_requests::trail::first_word;
-use proto_requests::waits::{Waiter, Waits, name_at};
+use proto_requests::waits::{Waiter, Waits};
 use sp_base::{Ctx, NoMemory, OpName, PipeId, Role, Tick};
 use sp_history::entry::Cause;
 use sp_history::parts::LastOut;
@@ -75,12 +66,12 @@ pub struct Live {
 
 /// An operation that waits: a send has its message, as it was begun.
 #[derive(Drop)]
-struct Asking {
-    op: OpName,
-    ctx: Ctx,
-    message: Option<Message>,
+pub struct Asking {
+    pub op: OpName,
+    pub ctx: Ctx,
+    pub message: Option<Message>,
     /// Its request has ended.
-    is_orphan: bool,
+    pub is_orphan: bool,
 }
 
 impl Waiter for Asking {
@@ -126,36 +117,28 @@ impl Waiter for Asking {
     }
 }
 
-/// An open context.
-#[derive(Clone, Copy)]
-pub struct RequestContext {
-    pub ctx: Ctx,
-    /// A copy of a request of it found no memory since the last tick.
-    pub is_dry: bool,
-}
-
 /// A req (nng_req(7)), cooked or raw.
 #[derive(Drop)]
 pub struct Request {
-    raw: bool,
-    options: Options,
-    tick: Tick,
-    last_id: Option<u32>,
+    pub(crate) raw: bool,
+    pub(crate) options: Options,
+    pub(crate) tick: Tick,
+    pub(crate) last_id: Option<u32>,
     /// Of the last Out, or 0. The next goes to one behind it.
-    last_pipe: PipeId,
-    ports: Ports,
+    pub(crate) last_pipe: PipeId,
+    pub(crate) ports: Ports,
     /// Raw: replies.
-    kept: Backlog<KeptReply>,
+    pub(crate) kept: Backlog<KeptReply>,
     /// Cooked: at most one of each context.
-    live: Lives,
+    pub(crate) live: Lives,
     /// The contexts of those that are looked at when they are due.
-    dues: Dues,
+    pub(crate) dues: Dues,
     /// In the order of their begins.
-    waiting: Waits<Asking>,
+    pub(crate) waiting: Waits<Asking>,
     /// The contexts that have both a receive and a reply are among these.
-    ready: Hints<u32>,
+    pub(crate) ready: Hints<u32>,
     /// Of the open contexts.
-    seats: Seats,
+    pub(crate) seats: Seats,
 }
 
 // ---- Operations
@@ -210,8 +193,8 @@ fn led(message: Message, id: u32) -> Message
 
 // The message of a send with the id of its request, which goes out.
 fn asked(live: &mut Lives, c: Ctx, message: Message, out: LastOut) -> Message
-    ensures live { live.new.items ≡ with_found (is_live_on c) (sent_at out) live.old.items }
-    ensures message { (x : LiveType) → find (is_live_on c) live.old.items ≡ Some x → wire_text result ≡ word x.id ++ message.body }
+    ensures live { live.new.items ≡ with_out c out live.old.items }
+    ensures message { IsLed live.old.items c message.body result }
 {
     match live.id_of(c) {
         None => {
@@ -302,9 +285,9 @@ fn ready_on(live: &Lives, waiting: &Waits<Asking>, c: Ctx) -> Option<OpName>
     waiting.receive_on(c)
 }
 
-// A receive that can be given a reply, of the contexts that are to be looked at. Those before its own are looked at no
-// more.
-fn next_ready(ready: &mut Hints<u32>, live: &Lives, waiting: &Waits<Asking>) -> Option<OpName>
+/// A receive that can be given a reply, of the contexts that are to be looked at. Those before its own are looked at no
+/// more.
+pub fn next_ready(ready: &mut Hints<u32>, live: &Lives, waiting: &Waits<Asking>) -> Option<OpName>
     ensures ready { AreReady ready.old live.now.items waiting.now.items → AreReady ready.new live.now.items waiting.now.items }
     ensures whole { ready.new.whole ≡ ready.old.whole }
     ensures given { IfSome result (λ op. IsReply live.now.items waiting.now.items op) }
@@ -347,7 +330,7 @@ impl Request {
     // A new request of the context takes the place of the one that is live.
     fn ask(&mut self, c: Ctx, m: &Message) -> Result<(), NoMemory>
         ensures asked { OnOk result (Asks c m.now.body self.old self.new) }
-        ensures same { OnErr result ((self.new.live.items ≡ self.old.live.items) × (AreDistinct (map live_ctx self.old.live.items) → StaySeen self.old.dues self.new.dues self.old.live.items) × (self.new ≡ record self.old { live = self.new.live; dues = self.new.dues })) }
+        ensures same { OnErr result (AsksNot self.old self.new) }
         ensures room { self.new.waiting.room ≡ self.old.waiting.room }
     {
         if self.live.len() >= MOST_LIVE {
@@ -408,8 +391,8 @@ impl Request {
     // The message that a receive of the context gets.
     fn give(&mut self, c: Ctx) -> Option<Message>
         ensures same { self.new ≡ record self.old { live = self.new.live; kept = self.new.kept } }
-        ensures raw { self.old.raw ≡ true → (result ≡ option_map (λ (k : KeptReplyType). k.message) (head_of self.old.kept.items)) × (self.new.kept.items ≡ drop 1 self.old.kept.items) × (self.new.live ≡ self.old.live) }
-        ensures cooked { self.old.raw ≡ false → (result ≡ reply_in (find (is_live_on c) self.old.live.items)) × (self.new.live.items ≡ without_live c self.old.live.items) × (self.new.kept ≡ self.old.kept) }
+        ensures raw { self.old.raw ≡ true → GivesRaw result self.old self.new }
+        ensures cooked { self.old.raw ≡ false → GivesReply c result self.old self.new }
     {
         if self.raw {
             return oldest(&mut self.kept);
@@ -422,9 +405,9 @@ impl Request {
         ensures same { self.new ≡ record self.old { live = self.new.live; dues = self.new.dues; last_pipe = self.new.last_pipe } }
         ensures pipe { (p : ℕ) → out ≡ Some p → self.new.last_pipe ≡ p }
         ensures raw { self.old.raw ≡ true → (result ≡ m) × (self.new.live ≡ self.old.live) × (self.new.dues ≡ self.old.dues) }
-        ensures cooked { self.old.raw ≡ false → (p : ℕ) → out ≡ Some p → self.new.live.items ≡ with_found (is_live_on c) (sent_at (record { pipe = p; when = self.old.tick })) self.old.live.items }
-        ensures seen { self.old.raw ≡ false → (p : ℕ) → out ≡ Some p → NotesOut self.old.dues self.new.dues self.old.live.items c (record { pipe = p; when = self.old.tick }) }
-        ensures message { self.old.raw ≡ false → (p : ℕ) → out ≡ Some p → (x : LiveType) → find (is_live_on c) self.old.live.items ≡ Some x → wire_text result ≡ word x.id ++ m.body }
+        ensures cooked { self.old.raw ≡ false → (p : ℕ) → out ≡ Some p → self.new.live.items ≡ with_out c (sent_now self.old p) self.old.live.items }
+        ensures seen { self.old.raw ≡ false → (p : ℕ) → out ≡ Some p → NotesOut self.old.dues self.new.dues self.old.live.items c (sent_now self.old p) }
+        ensures message { self.old.raw ≡ false → (p : ℕ) → out ≡ Some p → IsLed self.old.live.items c m.body result }
     {
         match out {
             None => m,
@@ -443,201 +426,6 @@ impl Request {
         }
     }
 
-    // A message can be given to a receive of the context.
-    fn gives(&self, c: Ctx) -> bool
-        ensures { result ≡ is_given self.now.raw self.now.kept.items self.now.live.items c }
-    {
-        if self.raw {
-            return !self.kept.is_empty();
-        }
-        self.live.has_reply(c)
-    }
-
-    // A receive stands there that can be given a message.
-    fn gives_at(&self, s: &Spot<Asking>) -> bool
-        ensures { result ≡ holds (gets self.now) s.now }
-    {
-        match &s.value {
-            None => false,
-            Some(w) => w.message.is_none() && self.gives(w.ctx),
-        }
-    }
-
-    // Where the first receive stands that can be given a message.
-    fn give_place(&self, list: &[Spot<Asking>]) -> Option<usize>
-        ensures { result ≡ position (holds (gets self.now)) list.now }
-    {
-        list.iter().position(|s| self.gives_at(s))
-    }
-
-    // One whose request has ended.
-    fn next_left(&mut self) -> Option<OpName>
-        ensures same { self.new ≡ self.old }
-        ensures over { IfSome result (λ op. IsOver (λ (w : AskingType). w.op) (λ (w : AskingType). w.is_orphan) self.old.waiting.items op) }
-        ensures none { IfNone result (list_any (λ (w : AskingType). w.is_orphan) self.old.waiting.items ≡ false) }
-    {
-        self.waiting.first_left()
-    }
-
-    // The next pipe behind that of the last Out that is not full, in the round of their numbers.
-    fn next_port(&mut self) -> Option<PipeId>
-        ensures same { self.new ≡ self.old }
-        ensures port { result ≡ option_map (λ (x : PortView). x.pipe) (next_port self.old.last_pipe self.old.ports.items) }
-    {
-        self.ports.free_port(self.last_pipe)
-    }
-
-    // A receive that can be given a message. They are searched through.
-    fn search_give(&mut self) -> Option<OpName>
-        ensures same { self.new ≡ record self.old { ready = self.new.ready } }
-        ensures ready { self.old.raw ≡ false → AreReady self.old.ready self.old.live.items self.old.waiting.items → AreReady self.new.ready self.old.live.items self.old.waiting.items }
-        ensures given { IfSome result (λ op. IsGift self.old op) }
-        ensures none { self.old.raw ≡ false → IfNone result (find (gets self.old) self.old.waiting.items ≡ None) }
-    {
-        let list = self.waiting.receives();
-        match name_at(list, self.give_place(list)) {
-            None => {
-                self.ready.clear();
-                None
-            }
-            Some(op) => Some(op),
-        }
-    }
-
-    // The first receive of a raw req, if a message is kept.
-    fn raw_give(&self) -> Option<OpName>
-        ensures { self.now.raw ≡ true → result ≡ option_map (λ (w : AskingType). w.op) (find (gets self.now) self.now.waiting.items) }
-    {
-        if self.kept.is_empty() {
-            return None;
-        }
-        self.waiting.first_receive()
-    }
-
-    // A receive that can be given a message.
-    fn next_give(&mut self) -> Option<OpName>
-        ensures same { self.new ≡ record self.old { ready = self.new.ready } }
-        ensures ready { AreReady self.old.ready self.old.live.items self.old.waiting.items → AreReady self.new.ready self.old.live.items self.old.waiting.items }
-        ensures given { IfSome result (λ op. IsGift self.old op) }
-        ensures none { AreReady self.old.ready self.old.live.items self.old.waiting.items → IfNone result (find (gets self.old) self.old.waiting.items ≡ None) }
-    {
-        if self.raw {
-            return self.raw_give();
-        }
-        if !self.ready.is_whole() {
-            return self.search_give();
-        }
-        next_ready(&mut self.ready, &self.live, &self.waiting)
-    }
-
-    // The live request may go out again.
-    fn is_due(&self, x: &Live) -> bool
-        ensures { result ≡ is_due self.now.options.resend self.now.tick self.now.ports.items self.now.seats.items x.now }
-    {
-        if x.reply.is_some() {
-            return false;
-        }
-        match x.last_out {
-            None => false,
-            Some(out) => self.is_late(out) && !self.seats.is_dry(x.ctx),
-        }
-    }
-
-    // Its pipe is down, or it is too long ago.
-    fn is_late(&self, out: LastOut) -> bool
-        ensures { result ≡ is_late self.now.options.resend self.now.tick self.now.ports.items out }
-    {
-        !self.ports.is_up(out.pipe) || is_past(out.when, self.tick, self.options.resend)
-    }
-
-    // A live request stands there that may go out again.
-    fn is_due_at(&self, s: &Spot<Live>) -> bool
-        ensures { result ≡ holds (is_due self.now.options.resend self.now.tick self.now.ports.items self.now.seats.items) s.now }
-    {
-        match &s.value {
-            None => false,
-            Some(x) => self.is_due(x),
-        }
-    }
-
-    // Where the first of these stands that may go out again.
-    fn due_among(&self, list: &[Spot<Live>]) -> Option<usize>
-        ensures { result ≡ position (holds (is_due self.now.options.resend self.now.tick self.now.ports.items self.now.seats.items)) list.now }
-    {
-        list.iter().position(|s| self.is_due_at(s))
-    }
-
-    // The live request of the context may go out again.
-    fn is_due_on(&self, c: Ctx) -> bool
-        ensures { result ≡ is_due_out self.now (awaited (find (is_live_on c) self.now.live.items)) c }
-    {
-        match self.live.out_of(c) {
-            None => false,
-            Some(out) => self.is_late(out) && !self.seats.is_dry(c),
-        }
-    }
-
-    // The context of a live request that may go out again. Those before it are looked at no more.
-    fn next_looked(&mut self) -> Option<Ctx>
-        ensures same { self.new ≡ record self.old { dues = self.new.dues } }
-        ensures seen { (last : ℕ) → AreDistinct (map live_ctx self.old.live.items) → IsSeen self.old last → IsSeen self.new last }
-        ensures due { IfSome result (λ c. is_due_out self.old (awaited (find (is_live_on c) self.old.live.items)) c ≡ true) }
-        ensures none { (last : ℕ) → AreDistinct (map live_ctx self.old.live.items) → IsSeen self.old last → self.old.dues.due.whole ≡ true → IfNone result (list_any (due_in self.old) self.old.live.items ≡ false) }
-    {
-        while let Some(c) = self.dues.first() {
-            if self.is_due_on(c) {
-                return Some(c);
-            }
-            self.dues.drop_first();
-        }
-        None
-    }
-
-    // The same. They are searched through.
-    fn search_due(&mut self) -> Option<Ctx>
-        ensures same { self.new ≡ record self.old { dues = self.new.dues } }
-        ensures seen { (last : ℕ) → IsSeen self.old last → IsSeen self.new last }
-        ensures due { IfSome result (λ c. option_map live_ctx (find (due_in self.old) self.old.live.items) ≡ Some c) }
-        ensures none { IfNone result (list_any (due_in self.old) self.old.live.items ≡ false) }
-    {
-        let list = self.live.spots();
-        match ctx_at(list, self.due_among(list)) {
-            None => {
-                self.dues.clear_due();
-                None
-            }
-            Some(c) => Some(c),
-        }
-    }
-
-    // The same. They are searched through only where not all that may be due are looked at.
-    fn next_due(&mut self) -> Option<Ctx>
-        ensures same { self.new ≡ record self.old { dues = self.new.dues } }
-        ensures seen { (last : ℕ) → AreDistinct (map live_ctx self.old.live.items) → IsSeen self.old last → IsSeen self.new last }
-        ensures due { AreDistinct (map live_ctx self.old.live.items) → IfSome result (λ c. IsDueOn self.old c) }
-        ensures none { (last : ℕ) → AreDistinct (map live_ctx self.old.live.items) → IsSeen self.old last → IfNone result (list_any (due_in self.old) self.old.live.items ≡ false) }
-    {
-        if !self.dues.is_whole() {
-            return self.search_due();
-        }
-        self.next_looked()
-    }
-
-    // What can go out on this pipe: the first send, or a request that is due again.
-    fn next_out(&mut self, pipe: PipeId) -> Offer
-        ensures same { self.new ≡ record self.old { dues = self.new.dues } }
-        ensures seen { (last : ℕ) → AreDistinct (map live_ctx self.old.live.items) → IsSeen self.old last → IsSeen self.new last }
-        ensures offer { (last : ℕ) → AreDistinct (map live_ctx self.old.live.items) → IsSeen self.old last → IsOut self.old pipe result }
-    {
-        match self.waiting.first_send() {
-            Some(op) => Offer::Send { op, pipe },
-            None => match self.next_due() {
-                None => Offer::Idle,
-                Some(ctx) => Offer::Again { ctx, pipe },
-            },
-        }
-    }
-
     // The state of the context has no place for it: a receive wants a live request, and no other receive.
     fn has_state(&self, c: Ctx, verb: Verb) -> bool
         ensures { result ≡ ask_state self.now.waiting.items self.now.live.items c verb }
@@ -650,14 +438,14 @@ impl Request {
 }
 
 impl Proto for Request {
-    ghost use Rattle.proto_reqrep.specs.Reqs.{Ties, req_kind, work_left};
+    ghost use Rattle.proto_reqrep.specs.Reqs.{Ties, places_left, req_kind, work_left};
     ghost use Rattle.proto_reqrep.specs.ReqLaws as laws;
 
     ghost kind = { λ m. req_kind m.raw m.options };
 
     ghost ties = { Ties };
 
-    ghost room = { λ m. m.waiting.room };
+    ghost room = { places_left };
 
     ghost left = { work_left };
 
@@ -701,8 +489,8 @@ impl Proto for Request {
     fn frame(&mut self, p: PipeId, m: Message) -> Verdict
         requires { m.header ≡ [] }
         ensures kept { (t : Moment) → Lawful (also t (Frame p m.body)) → Ties self.old t → Frames (Ties self.new) result t p m.body }
-        ensures room { self.old.waiting.room ≤ self.new.waiting.room }
-        ensures memory { self.old.raw ≡ false → result ≢ Verdict.NoMemory }
+        ensures room { places_left self.old ≤ places_left self.new }
+        ensures memory { is_raw self.old ≡ false → result ≢ Verdict.NoMemory }
     {
         if self.raw {
             return self.keep_raw(p, m);
@@ -755,6 +543,7 @@ impl Proto for Request {
                 match self.ask(c, &m) {
                     Err(_) => Err(m),
                     Ok(()) => {
+                        self.dues.shorten(&self.live);
                         wait(&mut self.waiting, op, c, Some(m));
                         Ok(())
                     }
@@ -773,7 +562,7 @@ impl Proto for Request {
         ensures offered { (t : Moment) → Lawful t → Calm t.z (past t) → Ties self.old t → IsOffered result t }
         ensures copies { (op : OpName) → result ≡ Offer.Flood op → (t : Moment) → Lawful t → Calm t.z (past t) → Ties self.old t → length (up (past t)) ≤ 0 }
         ensures left { work_left self.new ≤ work_left self.old }
-        ensures room { self.old.waiting.room ≤ self.new.waiting.room }
+        ensures room { places_left self.old ≤ places_left self.new }
         ensures next { (op : OpName) (p : ℕ) → result ≡ Offer.Send op p → (t : Moment) → Ties self.old t → IsNextPipe t p }
         ensures resend { (c p : ℕ) → result ≡ Offer.Again c p → (t : Moment) → Ties self.old t → IsNextPipe t p }
     {

@@ -62,6 +62,10 @@ IsOver {A} name is_left xs op = (P : A → Bool) × (x : A) × (find P xs ≡ So
 abbrev pub is_overlooked : {A : Type 0} → (A → OpName) → (A → Bool) → HintsView OpName → A → Bool
 is_overlooked name is_left h x = is_left x && not (covers_by h (same_op (name x)))
 
+-- each whose request has ended is among those that are to be looked at
+abbrev pub AreLookedAt : {A : Type 0} → (A → OpName) → (A → Bool) → HintsView OpName → List (Spot A) → Type 0
+AreLookedAt name is_left h ss = list_any (is_overlooked name is_left h) (held ss) ≡ false
+
 -- none that passes the test stands before this spot
 pub record IsMark {A : Type 0} (P : A → Bool) (from : ℕ) (ss : List (Spot A)) : Type 0 where
   pub bound : from ≤ length ss
@@ -75,7 +79,7 @@ pub record AreNoted {A : Type 0} (name : A → OpName) (home : A → ℕ) (sends
   pub by_send : sends_known ≡ true → IsIndexed home (is_known opens) (filter (is_open sends is_left) (held ss))
   pub send : IsMark sends send_from ss
   pub receive : IsMark (isnt sends) receive_from ss
-  pub left : list_any (is_overlooked name is_left ended) (held ss) ≡ false
+  pub left : AreLookedAt name is_left ended ss
 
 -- no two receives are of one context, nor two open sends, and these contexts are known
 abbrev pub AreApartOn : {A : Type 0} → (A → ℕ) → (A → Bool) → (A → Bool) → List (ℕ × ℕ) → List (ℕ × ℕ) → List (Spot A) → Type 0

@@ -3,7 +3,7 @@
 //! Contexts are opened in the order of their numbers, so the one of a context is found by halving. Should they come in
 //! another order, they are searched through. One that goes leaves its place to those behind it: their bytes move, and
 //! none is compared.
-ghost use Rattle.std.specs.Prelude.{◌≡◌, ℕ, List, true, not, filter, nat_lt};
+ghost use Rattle.std.specs.Prelude.{◌≡◌, ℕ, true, not, filter};
 ghost use Rattle.std.specs.List.{position, list_all};
 ghost use Rattle.proto_requests.specs.Backlogs.{is_of};
 ghost use Rattle.proto_requests.specs.Ordered.{is_before, AreOrdered};

@@ -7,14 +7,14 @@ ghost use Rattle.std.specs.List.{slice_get};
 ghost use Rattle.std.specs.Fn.{CalledAt};
 ghost use Rattle.std.specs.List.Retain.{IsFiltered};
 ghost use Rattle.sp_history.specs.Lists.{head_of};
-ghost use Rattle.proto_requests.specs.Hints.{covers_by};
+ghost use Rattle.proto_requests.specs.Hints.{covers_by, StayCovered};
 
 use sp_base::NoMemory;
 use std::alloc::Global;
 use std::collections::VecDeque;
 use std::marker::Model;
 
-/// Entries that are worth a look. What a call costs doesn't grow with them.
+/// Entries that are worth a look. A look, an `add` and a `drop_first` cost the same however many they are.
 #[derive(Drop)]
 pub struct Hints<T: Copy> {
     /// The oldest first.
@@ -90,7 +90,7 @@ impl<T: Copy> Hints<T> {
     /// The entry is worth a look. Takes no memory.
     pub fn add(&mut self, x: T)
         ensures more { (P : T → Bool) → P x ≡ true → covers_by self.new P ≡ true }
-        ensures same { (P : T → Bool) → covers_by self.old P ≡ true → covers_by self.new P ≡ true }
+        ensures same { StayCovered self.old self.new }
         ensures items { (self.new.items ≡ self.old.items ++ x ∷ []) ⊎ (self.new.items ≡ []) }
     {
         if self.queue.len() < self.queue.capacity() {
@@ -102,8 +102,8 @@ impl<T: Copy> Hints<T> {
 
     /// What is worth a look there is so here, in its place. Takes no memory.
     pub fn take_over(&mut self, other: &mut Hints<T>)
-        ensures it { (P : T → Bool) → covers_by other.old P ≡ true → covers_by self.new P ≡ true }
-        ensures same { (P : T → Bool) → covers_by self.old P ≡ true → covers_by self.new P ≡ true }
+        ensures it { StayCovered other.old self.new }
+        ensures same { StayCovered self.old self.new }
         ensures other { other.new ≡ record { whole = true; items = [] } }
     {
         if !other.is_whole || other.queue.len() > self.queue.capacity() - self.queue.len() {

@@ -1,5 +1,5 @@
 //! The words that lead a reply back.
-ghost use Rattle.std.specs.Prelude.{◌≡◌, ◌≤◌, ◌+◌, ◌*◌, ◌++◌, ℕ, List, [], length, OnOk, IfOk, IfErr};
+ghost use Rattle.std.specs.Prelude.{◌≡◌, ◌≤◌, ◌+◌, ◌*◌, ◌++◌, ℕ, List, [], length, OnOk, IfOk};
 ghost use Rattle.sp_history.specs.Lists.{first_word};
 ghost use Rattle.sp_history.specs.Backtrace.{back};
 ghost use Rattle.sp_history.specs.declared.parts.Back.TheVariants.{Found};

@@ -14,11 +14,11 @@ ghost use Rattle.sp_base.specs.declared.OpName.{OpName as Name};
 ghost use Rattle.sp_history.specs.Lists.{same_op};
 ghost use Rattle.sp_history.specs.Once.{AreDistinct};
 ghost use Rattle.proto_requests.specs.Backlogs.{IsIndexed};
-ghost use Rattle.proto_requests.specs.Hints.{covers_by};
+ghost use Rattle.proto_requests.specs.Hints.{covers_by, StayCovered};
 ghost use Rattle.proto_requests.specs.Numbers.{is_known};
 ghost use Rattle.proto_requests.specs.FirstFound.{without_found, with_found, reached};
 ghost use Rattle.proto_requests.specs.Spots.{holds, held};
-ghost use Rattle.proto_requests.specs.Waits.{is_named, slot_of, isnt, is_open, is_kind, is_kind_on, receives_on, left_on, left_spot, over_name, is_overlooked, IsOver, IsMark, AreApartOn};
+ghost use Rattle.proto_requests.specs.Waits.{is_named, slot_of, isnt, is_open, is_kind, is_kind_on, receives_on, left_on, left_spot, over_name, AreLookedAt, IsOver, IsMark, AreApartOn};
 
 use crate::hints::Hints;
 use crate::numbers::Numbers;
@@ -389,7 +389,7 @@ fn leave_in<T: Waiter>(list: &mut [Spot<T>], c: Ctx)
 // The one that stands here is looked at.
 fn note_at<T: Waiter>(list: &[Spot<T>], place: Option<usize>, ended: &mut Hints<OpName>)
     ensures it { (P : T → Bool) (x : T) → place ≡ position (holds P) list.now → find P (held list.now) ≡ Some x → covers_by ended.new (same_op (T.name_of x)) ≡ true }
-    ensures more { (P : Name → Bool) → covers_by ended.old P ≡ true → covers_by ended.new P ≡ true }
+    ensures more { StayCovered ended.old ended.new }
 {
     match name_at(list, place) {
         None => {}
@@ -422,7 +422,7 @@ fn leave<T: Waiter>(
     c: Ctx,
 )
     ensures list { (known ≡ true → AreApartOn T.home_of T.is_send T.is_left receives.now opens.now list.old) → list.new ≡ map (left_spot T.home_of T.left c) list.old }
-    ensures ended { (known ≡ true → AreApartOn T.home_of T.is_send T.is_left receives.now opens.now list.old) → list_any (is_overlooked T.name_of T.is_left ended.old) (held list.old) ≡ false → list_any (is_overlooked T.name_of T.is_left ended.new) (held list.new) ≡ false }
+    ensures ended { (known ≡ true → AreApartOn T.home_of T.is_send T.is_left receives.now opens.now list.old) → AreLookedAt T.name_of T.is_left ended.old list.old → AreLookedAt T.name_of T.is_left ended.new list.new }
 {
     if !known {
         leave_in(list, c);
@@ -462,9 +462,9 @@ fn next_over<T: Waiter>(
     by_slot: &Numbers,
 ) -> Option<OpName>
     requires { IsIndexed (slot_of T.name_of) (is_known by_slot.now) (held list.now) }
-    ensures ended { list_any (is_overlooked T.name_of T.is_left ended.old) (held list.now) ≡ false → list_any (is_overlooked T.name_of T.is_left ended.new) (held list.now) ≡ false }
+    ensures ended { AreLookedAt T.name_of T.is_left ended.old list.now → AreLookedAt T.name_of T.is_left ended.new list.now }
     ensures over { IfSome result (λ op. IsOver T.name_of T.is_left (held list.now) op) }
-    ensures none { list_any (is_overlooked T.name_of T.is_left ended.old) (held list.now) ≡ false → ended.old.whole ≡ true → IfNone result (list_any T.is_left (held list.now) ≡ false) }
+    ensures none { AreLookedAt T.name_of T.is_left ended.old list.now → ended.old.whole ≡ true → IfNone result (list_any T.is_left (held list.now) ≡ false) }
 {
     while let Some(op) = ended.first() {
         match over_at(list, place_by(list, by_slot, true, op)) {
@@ -524,7 +524,7 @@ fn know_if(all: bool, numbers: &mut Numbers, is_one: bool, c: Ctx, n: u64) -> bo
 // The operation is looked at, if its request has ended.
 fn note_if(ended: &mut Hints<OpName>, is_over: bool, op: OpName)
     ensures it { is_over ≡ true → covers_by ended.new (same_op op) ≡ true }
-    ensures more { (P : Name → Bool) → covers_by ended.old P ≡ true → covers_by ended.new P ≡ true }
+    ensures more { StayCovered ended.old ended.new }
 {
     if is_over {
         ended.add(op);

@@ -1,4 +1,4 @@
-use Rattle.std.proofs.Common.{ap, rules, subst, sym}
+use Rattle.std.proofs.Common.{rules, subst, sym}
 use Rattle.std.specs.Prelude.{find}
 use Rattle.std.proofs.lemmas.Fn.{filter_same}
 use Rattle.proto_reqrep.specs.declared.dues.SentOut.{SentOut}

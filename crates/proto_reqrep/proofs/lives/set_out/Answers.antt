@@ -1,4 +1,4 @@
-use Rattle.std.proofs.Common.{◌∙◌, sym, ap, length, take, slice_set}
+use Rattle.std.proofs.Common.{◌∙◌, sym, ap, slice_set}
 use Rattle.proto_reqrep.specs.Reqs.{is_live_on, sent_at}
 use Rattle.proto_requests.specs.Spots.{held}
 use Rattle.proto_requests.specs.declared.spots.Spot.{Spot}

@@ -1,4 +1,4 @@
-use Rattle.std.proofs.Common.{◌≡◌, ◌∙◌, ap, sym, rules}
+use Rattle.std.proofs.Common.{◌≡◌, ◌∙◌, ap, rules}
 use Rattle.std.specs.Prelude.{◌==◌}
 use Rattle.proto_requests.proofs.TestValues.{same_number}
 use Rattle.proto_reqrep.proofs.Hinted.{ready_kept, ready_unkept}

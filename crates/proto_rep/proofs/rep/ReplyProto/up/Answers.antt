@@ -7,5 +7,5 @@ pub returns-in-Ok-clause-up : goal.returns-in-Ok-clause-up
 returns-in-Ok-clause-up c =
     λ t place name calm l h.
     let was = c.args.self.now in
-    let is : Reply = record { alloc = was.alloc; role = was.role; raw = was.raw; options = was.options; ports = c.push.new.self; kept = was.kept; waiting = c.pass_none.new.self; places = was.places } in
-    up_ties was is t c.args.p place name l h (c.in-Ok.ensures.more (up_below was t c.args.p place name l h)) refl c.pass_none.ensures.same c.pass_none.ensures.passed refl (refl, refl, refl)
+    let is : Reply = record { alloc = was.alloc; role = was.role; raw = was.raw; options = was.options; ports = c.push.new.self; kept = was.kept; waiting = was.waiting; places = was.places } in
+    up_ties was is t c.args.p place name l h (c.in-Ok.ensures.more (up_below was t c.args.p place name l h)) refl refl refl (refl, refl, refl)

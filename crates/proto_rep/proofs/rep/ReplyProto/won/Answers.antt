@@ -41,7 +41,7 @@ returns-in-Some-answer-clause-sent c =
     λ t p s b o l h k.
     let was = c.args.self.now in
     let is : Reply = record { alloc = was.alloc; role = was.role; raw = was.raw; options = was.options; ports = was.ports; kept = was.kept; waiting = c.take.new.self; places = was.places } in (
-      c.outward.ensures ∙ rw c.in-Some-answer.is (goes_out was t c.args.op p s b c.in-Some.w c.in-Some-answer.r h k (sym (c.in-Some.ensures.found h.waits (all_apart was t h) h.holds)) (taken was t c.args.op s c.in-Some.w h k.pending (c.in-Some.ensures.found h.waits (all_apart was t h) h.holds)) c.in-Some-answer.is),
+      c.put_out.ensures.message p b o (rw c.in-Some-answer.is (goes_out was t c.args.op p s b c.in-Some.w c.in-Some-answer.r h k (sym (c.in-Some.ensures.found h.waits (all_apart was t h) h.holds)) (taken was t c.args.op s c.in-Some.w h k.pending (c.in-Some.ensures.found h.waits (all_apart was t h) h.holds)) c.in-Some-answer.is)),
       sent_ties was is t c.args.op p b h (c.take.ensures.rest h.waits (all_apart was t h) h.holds) c.take.ensures.passed refl refl refl (refl, refl, refl),
       (omega (arith, (c.in-Some.ensures.served h.waits h.holds).0), (c.in-Some.ensures.served h.waits h.holds).1),
     )
@@ -73,3 +73,13 @@ returns-in-None-answer-clause-dropped c =
 pub returns-in-None-answer-clause-sent : goal.returns-in-None-answer-clause-sent
 returns-in-None-answer-clause-sent c =
     λ t p s b o l h k. recv_isnt_send c.args.self.now t c.args.op p s b c.in-Some.w k (taken c.args.self.now t c.args.op s c.in-Some.w h k.pending (c.in-Some.ensures.found h.waits (all_apart c.args.self.now t h) h.holds)) c.in-None-answer.is
+
+pub returns-in-None-clause-nothing : goal.returns-in-None-clause-nothing
+returns-in-None-clause-nothing c = λ t s o h k. refl
+
+pub returns-in-Some-answer-clause-nothing : goal.returns-in-Some-answer-clause-nothing
+returns-in-Some-answer-clause-nothing c = λ t s o h k. c.put_out.ensures.nothing o
+
+pub returns-in-None-answer-clause-nothing : goal.returns-in-None-answer-clause-nothing
+returns-in-None-answer-clause-nothing c =
+    λ t s o h k. recv_isnt_answer t c.args.op s c.in-Some.w k (taken c.args.self.now t c.args.op s c.in-Some.w h k.pending (c.in-Some.ensures.found h.waits (all_apart c.args.self.now t h) h.holds)) c.in-None-answer.is

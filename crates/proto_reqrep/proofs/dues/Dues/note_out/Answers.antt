@@ -1,7 +1,5 @@
-use Rattle.std.proofs.Common.{◌≡◌, ◌++◌, ◌∷◌, [], refl, sym, subst, inl, inr}
-use Rattle.std.specs.Prelude.{◌⊎◌}
-use Rattle.proto_reqrep.specs.declared.dues.SentOut.{SentOut}
-use Rattle.proto_reqrep.specs.Dues.{DuesView, AreSeen, AreInTime, is_sent}
+use Rattle.std.proofs.Common.{refl, sym, subst}
+use Rattle.proto_reqrep.specs.Dues.{DuesView, AreSeen, is_sent}
 use Rattle.proto_reqrep.proofs.DueRequests.{seen_sent, same_sent, added_in_time}
 use Rattle.proto_reqrep.proofs.dues.Dues.note_out.Goals as goal
 

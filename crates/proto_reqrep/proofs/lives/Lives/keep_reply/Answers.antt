@@ -1,4 +1,4 @@
-use Rattle.std.proofs.Common.{◌≡◌, ◌∙◌, sym, ap, subst, true, List, arith, length, take, refl}
+use Rattle.std.proofs.Common.{◌≡◌, ◌∙◌, sym, ap, subst, true, List, length, refl}
 use Rattle.std.specs.Prelude.{find}
 use Rattle.std.specs.Vec.{with_items}
 use Rattle.std.specs.List.{position}

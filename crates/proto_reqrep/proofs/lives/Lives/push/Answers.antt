@@ -1,11 +1,9 @@
-use Rattle.std.proofs.Common.{◌≡◌, ◌∙◌, sym, ap, Some, List, arith, length, take}
-use Rattle.std.specs.List.{list_any}
+use Rattle.std.proofs.Common.{◌≡◌, ◌∙◌, ap, Some, arith, length}
 use Rattle.proto_reqrep.specs.Lives.{LivesView}
-use Rattle.proto_requests.specs.Spots.{holds, held}
+use Rattle.proto_requests.specs.Spots.{held}
 use Rattle.proto_requests.specs.declared.spots.Spot.{Spot}
 use Rattle.proto_reqrep.specs.declared.req.Live.{Live}
 use Rattle.std.proofs.Common.{◌++◌, ◌∷◌, []}
-use Rattle.std.proofs.lemmas.List.{take-append-le}
 use Rattle.proto_requests.proofs.Spotted.{held_more, held_few}
 use Rattle.proto_requests.proofs.KnownOperations.{length_more}
 use Rattle.proto_reqrep.proofs.LiveIndexes.{found_more}

@@ -1,7 +1,7 @@
-use Rattle.std.proofs.Common.{◌≡◌, ◌∙◌, sym, ap, subst, true, Some, None, List, arith, length, take}
+use Rattle.std.proofs.Common.{◌≡◌, ◌∙◌, sym, ap, subst, true, Some, None, List, arith, length}
 use Rattle.std.specs.Prelude.{find}
 use Rattle.std.specs.Vec.{with_items}
-use Rattle.std.specs.List.{position, list_any}
+use Rattle.std.specs.List.{position}
 use Rattle.proto_requests.specs.Backlogs.{IsIndexed}
 use Rattle.proto_requests.specs.Numbers.{is_known}
 use Rattle.proto_reqrep.specs.Lives.{LivesView}

@@ -1,4 +1,4 @@
-use Rattle.proto_reqrep.proofs.Reaching.{shut_asked, shut_opened}
+use Rattle.proto_reqrep.proofs.RequestMoments.{shut_asked, shut_opened}
 use Rattle.proto_reqrep.proofs.ReqArrivals.{shut_items, asked_live, opened_live}
 use Rattle.proto_reqrep.specs.Reqs.{is_live_on, live_ctx}
 use Rattle.proto_reqrep.proofs.RequestLives.{distinct_less}

@@ -3,7 +3,7 @@ use Rattle.sp_history.specs.Lists.{first_word}
 use Rattle.proto_reqrep.specs.declared.req.KeptReply.{KeptReply}
 use Rattle.proto_reqrep.proofs.ReqArrivals.{none_kept, raw_frames, short_frame, long_frame, short_asked, reply_asked, asked_live, ctxs_replied, some_word, trimmed_is}
 use Rattle.proto_requests.proofs.TestValues.{not_both}
-use Rattle.proto_reqrep.proofs.Reaching.{opened_as}
+use Rattle.proto_reqrep.proofs.RequestMoments.{opened_as}
 use Rattle.proto_reqrep.specs.Reqs.{late_in, dry_in, waits_for, with_kept}
 use Rattle.sp_history.specs.Past.{ups}
 use Rattle.sp_history.specs.Moments.{past}

@@ -2,7 +2,7 @@ use Rattle.std.proofs.Common.{◌∙◌, arith, ap, map}
 use Rattle.proto_reqrep.specs.Reqs.{is_live_on, is_asked, late_in, dry_in, orphaned}
 use Rattle.proto_reqrep.proofs.ReqStands.{none_taken, is_begun, lost_raw, lost_orphan, lost_live, its_lost}
 use Rattle.proto_reqrep.proofs.ReqArrivals.{asked_live, asked_ops, opened_live}
-use Rattle.proto_reqrep.proofs.Reaching.{opened_less}
+use Rattle.proto_reqrep.proofs.RequestMoments.{opened_less}
 use Rattle.proto_reqrep.proofs.Hinted.{ready_live, ready_fewer, ready_marked, keeps_less}
 use Rattle.proto_reqrep.proofs.WorkLeft.{less_waiting, fewer_live, fewer_due, fewer_ops, fewer_marked, not_true, not_false}
 use Rattle.proto_reqrep.proofs.req.RequestProto.lost.Goals.{else-not-self-via-then-not-self+else-not-w, else-not-self-via-else-not-self}

@@ -1,5 +1,5 @@
 use Rattle.std.proofs.lemmas.Result.{on_ok_weaker}
-use Rattle.proto_reqrep.proofs.Reaching.{opened_more}
+use Rattle.proto_reqrep.proofs.RequestMoments.{opened_more}
 use Rattle.proto_reqrep.proofs.ReqArrivals.{opened_seats}
 use Rattle.sp_history.specs.Past.{ups}
 use Rattle.sp_history.specs.Moments.{past}

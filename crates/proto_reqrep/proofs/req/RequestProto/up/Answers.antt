@@ -1,4 +1,3 @@
-use Rattle.std.proofs.Common.{false}
 use Rattle.proto_requests.proofs.KnownPipes.{up_knows, known_below}
 use Rattle.sp_history.specs.Past.{ups}
 use Rattle.sp_history.specs.Moments.{past}

@@ -1,18 +1,13 @@
-use Rattle.std.proofs.Common.{◌∙◌, sym, ap, subst, Bool}
-use Rattle.std.specs.Prelude.{not, ◌==◌}
-use Rattle.std.specs.List.{list_any}
-use Rattle.proto_reqrep.specs.declared.req.RequestContext.{RequestContext}
-use Rattle.proto_requests.specs.Ordered.{AreOrdered}
-use Rattle.proto_reqrep.specs.Reqs.{seat_ctx}
-use Rattle.proto_requests.proofs.NumberOrder.{ordered_filtered}
-use Rattle.proto_reqrep.proofs.Seated.{wet_less}
+use Rattle.std.proofs.Common.{◌∙◌, sym, ap, subst, map}
+use Rattle.std.specs.Prelude.{filter, not, ◌==◌}
+use Rattle.proto_requests.specs.Backlogs.{is_of}
+use Rattle.proto_reqrep.specs.declared.seats.Seat.{Seat}
+use Rattle.proto_reqrep.specs.Seats.{SeatView, SeatsView, AreSeated, seat_of, seat_in}
+use Rattle.proto_reqrep.proofs.Seated.{less_seated, less_view}
 use Rattle.proto_reqrep.proofs.seats.Seats.close.Goals as goal
 
 pub invariant_of-self : goal.invariant_of-self
-invariant_of-self c =
-    let P : RequestContext → Bool = λ s. not (s.ctx == c.args.c) in
-    let xs = c.self.inside.list.items in
-    record {
-      order = λ o. subst (AreOrdered seat_ctx) (sym c.take_out.ensures) (ordered_filtered seat_ctx P xs (c.self.invariant.order o));
-      wet = λ o. ap (list_any (λ (s : RequestContext). s.is_dry)) c.take_out.ensures ∙ wet_less P xs (c.self.invariant.wet o);
-    }
+invariant_of-self c = let m = c.self.inside in subst (AreSeated m.in_order m.tick) (sym c.take_out.ensures) (less_seated m.in_order (λ (s : Seat). not (is_of seat_of c.args.c s)) m.tick m.list.items c.self.invariant)
+
+pub returns : goal.returns
+returns c = let m = c.self.inside in ap (map (seat_in m.tick)) c.take_out.ensures ∙ less_view m.tick c.args.c m.list.items ∙ ap (λ (v : SeatsView). filter (λ (s : SeatView). not (s.ctx == c.args.c)) v.items) c.self.view_is

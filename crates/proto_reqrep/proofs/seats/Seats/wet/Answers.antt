@@ -1,21 +1,24 @@
-use Rattle.std.proofs.Common.{◌≡◌, ◌∙◌, ap, subst, map}
-use Rattle.std.specs.List.{list_any}
-use Rattle.proto_reqrep.specs.declared.req.RequestContext.{RequestContext}
-use Rattle.proto_reqrep.specs.Seats.{SeatsView}
-use Rattle.proto_reqrep.specs.Reqs.{seat_ctx, wetted}
-use Rattle.proto_requests.proofs.NumberOrder.{ordered_same}
-use Rattle.proto_reqrep.proofs.Seated.{wet_already, none_wet, wet_ctxs}
+use Rattle.std.proofs.Common.{◌∙◌, ap, sym, subst, map}
 use Rattle.proto_requests.proofs.Positions.{any_written}
+use Rattle.proto_reqrep.specs.Seats.{SeatsView, AreSeated, seat_in, undried}
+use Rattle.proto_reqrep.specs.Reqs.{wetted}
+use Rattle.proto_reqrep.proofs.Seated.{next_seated, next_view, anew_seated, anew_view}
 use Rattle.proto_reqrep.proofs.seats.Seats.wet.Goals as goal
 
-pub returns-then-self : goal.returns-then-self
-returns-then-self c = subst (λ (v : SeatsView). v.items ≡ map wetted v.items) c.self.view_is (wet_already c.self.inside.list.items (c.self.invariant.wet c.if-self.true))
-
 pub invariant_of-self : goal.invariant_of-self
-invariant_of-self c =
-    let xs = c.self.inside.list.items in
-    let more = any_written wetted c.self.inside.list c.wet.new.list c.deref_mut.result.now c.deref_mut.ensures.value c.wet.ensures in
-    record { order = λ o. ordered_same seat_ctx xs _ (ap (map seat_ctx) more ∙ wet_ctxs xs) (c.self.invariant.order o); wet = λ o. ap (list_any (λ (s : RequestContext). s.is_dry)) more ∙ none_wet xs }
+invariant_of-self c = let m = c.self.inside in next_seated m.in_order m.tick m.list.items c.self.invariant
+
+pub returns-then-self-lt18446744073709551615 : goal.returns-then-self-lt18446744073709551615
+returns-then-self-lt18446744073709551615 c = next_view c.self.inside.tick c.self.inside.list.items c.self.invariant.ticks ∙ ap (λ (v : SeatsView). map wetted v.items) c.self.view_is
+
+pub invariant_of-self-2 : goal.invariant_of-self-2
+invariant_of-self-2 c =
+    let m = c.self.inside in
+    let new = any_written undried m.list c.restart.new.list c.deref_mut.result.now c.deref_mut.ensures.value c.restart.ensures in
+    subst (AreSeated m.in_order 1) (sym new) (anew_seated m.in_order m.tick m.list.items c.self.invariant)
 
 pub returns : goal.returns
-returns c = any_written wetted c.self.inside.list c.wet.new.list c.deref_mut.result.now c.deref_mut.ensures.value c.wet.ensures ∙ ap (λ (v : SeatsView). map wetted v.items) c.self.view_is
+returns c =
+    let m = c.self.inside in
+    let new = any_written undried m.list c.restart.new.list c.deref_mut.result.now c.deref_mut.ensures.value c.restart.ensures in
+    ap (map (seat_in 1)) new ∙ anew_view m.tick m.list.items ∙ ap (λ (v : SeatsView). map wetted v.items) c.self.view_is
