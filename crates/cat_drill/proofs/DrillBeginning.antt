@@ -19,8 +19,8 @@ use Rattle.proto_pipeline.specs.declared.pull.Pull.{Pull}
 use Rattle.proto_pipeline.specs.Pulls.{Ties, pull_kind}
 use Rattle.proto_pipeline.specs.PullLaws as laws
 use Rattle.cat_play.specs.Drilling.{drill_setting}
-use Rattle.cat_drill.specs.Calling.{IsDrillPass}
-use Rattle.cat_drill.specs.Ending.{IsFedBy, IsCrew}
+use Rattle.drill_rounds.specs.Calling.{IsDrillPass, IsCrew}
+use Rattle.cat_drill.specs.Ending.{IsFedBy}
 use Rattle.cat_drill.proofs.Laws.{attached_named}
 
 length_more : {A : Type 0} (xs : List A) (x : A) → length (xs ++ x ∷ []) ≡ length xs + 1

@@ -36,15 +36,15 @@ use Rattle.cat_play.specs.Drilling.{drill_setting, lines, values, bodies, Drills
 use Rattle.cat_play.specs.Running.{world, RunsDrill, IsCutShort}
 use Rattle.sp_lane.specs.Items.{texts}
 use Rattle.sp_lane.specs.Lanes.{OutView, Joined}
-use Rattle.cat_drill.specs.declared.source.DrillSource.{DrillSource}
-use Rattle.cat_drill.specs.Feeds.{IsSource}
-use Rattle.cat_drill.specs.Calling.{IsDrillPass, Later}
+use Rattle.drill_rounds.specs.declared.source.DrillSource.{DrillSource}
+use Rattle.drill_rounds.specs.Feeds.{IsSource}
+use Rattle.drill_rounds.specs.Calling.{IsDrillPass, Later}
 use Rattle.cat_drill.specs.Ending.{IsFedBy, IsOut, ClosesWith, CameFrom, Prints}
-use Rattle.cat_drill.proofs.DrillCallers.{is_of}
+use Rattle.drill_rounds.proofs.DrillCallers.{is_of}
 use Rattle.cat_drill.proofs.Due.{due_each}
 use Rattle.cat_drill.proofs.Laws.{gives_all, still_named}
-use Rattle.cat_drill.proofs.Values.{length_bodies}
-use Rattle.cat_drill.proofs.Feeding.{same_lane}
+use Rattle.drill_rounds.proofs.Values.{length_bodies}
+use Rattle.drill_rounds.proofs.Feeding.{same_lane}
 
 -- ---- The lane
 

@@ -1,9 +1,4 @@
 mod Laws
-mod Values
-mod Feeding
 mod Due
-mod DrillCallers
 mod EndOfDrill
-mod Sourcing
 mod DrillBeginning
-mod Crossing

@@ -12,15 +12,13 @@ use Rattle.sp_core.specs.Closing.{closed_totals}
 use Rattle.core_parts.specs.Wires.{IsDownWire}
 use Rattle.sp_lane.specs.Items.{texts}
 use Rattle.sp_lane.specs.Lanes.{OutView}
-use Rattle.sp_socket.specs.Passes.{SocketName, PassView, ListView}
-use Rattle.sp_base.specs.declared.OpName.{OpName}
+use Rattle.sp_socket.specs.Passes.{SocketName, ListView}
 use Rattle.sp_base.specs.Views.{NetView, FilesView, PaceView, SinkView}
 use Rattle.sp_spec.specs.Outside.{Rose, grown}
 use Rattle.cat_play.specs.declared.ends.Status.{Status}
 use Rattle.cat_play.specs.declared.ends.Status.TheVariants as status
 use Rattle.cat_play.specs.Drilling.{lines, drill_setting}
 use Rattle.cat_play.specs.Running.{IsCutShort, RunsDrill, world}
-use Rattle.cat_drill.specs.Calling.{IsDrillPass, Calls}
 
 -- in this history the pipe came up over a lane of this name
 pub record IsFedBy (pipe : ℕ) (lane : List ℕ) (seen : List (Turn Entry)) : Type 0 where
@@ -29,13 +27,6 @@ pub record IsFedBy (pipe : ℕ) (lane : List ℕ) (seen : List (Turn Entry)) : T
   pub out : List ℕ
   pub name : name_of (past_of start) pipe ≡ Some (numbers_of (OverLanes out lane))
   pub known : pipe ≤ ups (past_of start)
-
--- all four passes are of the socket, and these operations are open for the first
-pub record IsCrew (s : SocketName) (p q r t : PassView) (ops : List OpName) : Type 0 where
-  pub main : Calls s p ops
-  pub two : IsDrillPass s q
-  pub three : IsDrillPass s r
-  pub four : IsDrillPass s t
 
 -- the list is that of the socket, and its passes are out
 pub record IsOut (s : SocketName) (l : ListView) : Type 0 where

@@ -1,3 +1,1 @@
-pub mod Feeds
-pub mod Calling
 pub mod Ending

@@ -9,12 +9,11 @@ ghost use Rattle.sp_history.specs.Legal.{Legal};
 ghost use Rattle.core_parts.specs.declared.pipes.DownPipe.{DownPipe};
 ghost use Rattle.sp_core.specs.Parts.{HasWires};
 ghost use Rattle.cat_play.specs.Drilling.{values, drill_setting, Drills, GivesAll};
-ghost use Rattle.cat_drill.specs.Feeds.{IsSource};
-ghost use Rattle.cat_drill.specs.Ending.{IsFedBy, IsCrew, IsOut, IsWhole, ClosesWith, CameFrom};
+ghost use Rattle.drill_rounds.specs.Feeds.{IsSource};
+ghost use Rattle.drill_rounds.specs.Calling.{IsCrew};
+ghost use Rattle.cat_drill.specs.Ending.{IsFedBy, IsOut, IsWhole, ClosesWith, CameFrom};
 
-use crate::feed::Feed;
-use crate::source::DrillSource;
-use crate::tasks::Crew;
+use drill_rounds::{Crew, DrillSource, Feed};
 use sp_base::PipeId;
 use sp_lane::{LaneOut, finish};
 use sp_msg::Wire;

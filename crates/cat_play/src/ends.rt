@@ -1,6 +1,6 @@
 //! How a run ends.
 
-/// How a run ended.
+/// How a run of nngcat(1) ended.
 #[derive(Clone, Copy, Debug, PartialEq, Eq)]
 pub enum Status {
     /// The play came to its end: the count is reached, or a receive timed out.

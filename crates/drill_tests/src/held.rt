@@ -6,6 +6,7 @@ ghost use Rattle.core_parts.specs.Wires.{IsUnused};
 ghost use Rattle.sp_socket.specs.Passes.{new_list};
 ghost use Rattle.cat_play.specs.Drilling.{drill_setting};
 
+use crate::checks::{holds, same};
 use crate::race::all_ended;
 use cat_drill::Gate;
 use cat_drill::parts::{Closed, Feed, close_all, collect_all, contend, crew_of, drop_all, lanes};
@@ -237,9 +238,9 @@ fn a_task_passes_its_gate_while_another_serves(rt: HostRuntime) -> Result<(), Fa
         marks: marks.clone()?,
         done: false,
     };
-    assert!(rt; is_round(&rt, feed, &gate, 0)?);
-    assert_eq!(rt; marks.met.load(Ordering::SeqCst), 1);
-    assert!(rt; marks.early.load(Ordering::SeqCst) >= 1);
+    holds(&rt, is_round(&rt, feed, &gate, 0)?);
+    same(&rt, marks.met.load(Ordering::SeqCst), 1);
+    holds(&rt, marks.early.load(Ordering::SeqCst) >= 1);
     Ok(())
 }
 
@@ -251,13 +252,13 @@ fn tasks_stay_at_their_gates_while_others_serve(rt: HostRuntime) -> Result<(), F
         marks: marks.clone()?,
     };
     let (mut source, inner) = lanes(rt.alloc())?;
-    assert_eq!(rt; source.put_next(&rt, rt.alloc(), 2), Some(2));
+    same(&rt, source.put_next(&rt, rt.alloc(), 2), Some(2));
     let feed = HeldFeed {
         feed: inner,
         marks: marks.clone()?,
         done: true,
     };
-    assert!(rt; is_round(&rt, feed, &gate, 2)?);
-    assert_eq!(rt; marks.there.load(Ordering::SeqCst), 2);
+    holds(&rt, is_round(&rt, feed, &gate, 2)?);
+    same(&rt, marks.there.load(Ordering::SeqCst), 2);
     Ok(())
 }

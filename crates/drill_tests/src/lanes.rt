@@ -3,6 +3,7 @@ ghost use Rattle.std.specs.Prelude.{◌≡◌, ◌<◌, ◌+◌, false, true, le
 ghost use Rattle.sp_msg.specs.Wires.{AfterRoom};
 ghost use Rattle.sp_lane.specs.Lanes.{has_end};
 
+use crate::checks::{holds, is_ok, made, same};
 use sp_base::Role;
 use sp_lane::{Inproc, LaneIn, LaneOut, LaneWire, Put, Taken, finish, lane, tell};
 use sp_msg::{Message, Room, Wire, WireFlush, WireIn};
@@ -55,13 +56,13 @@ fn gives<R: Wait>(rt: &R, output: &mut LaneOut, text: &[u8]) -> bool
 fn a_full_lane_takes_again_and_an_empty_one_gives_again(rt: HostRuntime) -> Result<(), Fail> {
     let alloc = rt.alloc();
     let (mut input, mut output) = lane(alloc, 1)?;
-    assert!(rt; matches!(output.take(&rt), Taken::Empty));
-    assert_eq!(rt; put(&rt, alloc, &mut input, b"a")?, PutAnswer::Done);
-    assert_eq!(rt; put(&rt, alloc, &mut input, b"b")?, PutAnswer::Full);
-    assert!(rt; gives(&rt, &mut output, b"a"));
-    assert!(rt; matches!(output.take(&rt), Taken::Empty));
-    assert_eq!(rt; put(&rt, alloc, &mut input, b"b")?, PutAnswer::Done);
-    assert!(rt; gives(&rt, &mut output, b"b"));
+    holds(&rt, matches!(output.take(&rt), Taken::Empty));
+    same(&rt, put(&rt, alloc, &mut input, b"a")?, PutAnswer::Done);
+    same(&rt, put(&rt, alloc, &mut input, b"b")?, PutAnswer::Full);
+    holds(&rt, gives(&rt, &mut output, b"a"));
+    holds(&rt, matches!(output.take(&rt), Taken::Empty));
+    same(&rt, put(&rt, alloc, &mut input, b"b")?, PutAnswer::Done);
+    holds(&rt, gives(&rt, &mut output, b"b"));
     Ok(())
 }
 
@@ -80,8 +81,8 @@ fn fill<R: Wait>(rt: &R, alloc: Global, input: &mut LaneIn, most: u32) -> Result
 #[test]
 fn the_longest_lane_holds_8192(rt: HostRuntime) -> Result<(), Fail> {
     let (mut input, output) = lane(rt.alloc(), 8_192)?;
-    assert_eq!(rt; fill(&rt, rt.alloc(), &mut input, 10_000)?, 8_192);
-    assert_eq!(rt; finish(input, output).left, 8_192);
+    same(&rt, fill(&rt, rt.alloc(), &mut input, 10_000)?, 8_192);
+    same(&rt, finish(input, output).left, 8_192);
     Ok(())
 }
 
@@ -121,12 +122,14 @@ fn takes_what_is_left<R: Wait>(rt: &R, input: &mut LaneIn, output: &mut LaneOut)
 }
 
 #[test]
-fn ends_that_were_told_answer_by_it(rt: HostRuntime) -> Result<(), Fail> {
-    let (mut input, mut output) = lane(rt.alloc(), 1)?;
-    let m = Message::from_body(rt.alloc(), b"a")?;
-    assert!(rt; puts_where_there_is_room(&rt, &mut input, &mut output, m));
-    assert!(rt; takes_what_is_left(&rt, &mut input, &mut output));
-    Ok(())
+fn ends_that_were_told_answer_by_it(rt: HostRuntime) {
+    let (mut input, mut output) = made(&rt, lane(rt.alloc(), 1));
+    let m = made(&rt, Message::from_body(rt.alloc(), b"a"));
+    holds(
+        &rt,
+        puts_where_there_is_room(&rt, &mut input, &mut output, m),
+    );
+    holds(&rt, takes_what_is_left(&rt, &mut input, &mut output));
 }
 
 // A message with a header of 64 bytes and a body of 1 MiB.
@@ -187,14 +190,18 @@ fn a_long_message_comes_through_a_lane_wire(rt: HostRuntime) -> Result<(), Fail>
     let (back, home) = lane(alloc, 4)?;
     let mut near = LaneWire::new(to, home);
     let mut far = LaneWire::new(back, from);
-    assert!(rt; sends(&rt, &mut near, long_message(alloc)?));
-    assert!(rt; near.is_open() && matches!(near.flush(&rt), WireFlush::Empty));
+    holds(&rt, sends(&rt, &mut near, long_message(alloc)?));
+    holds(&rt, near.is_open());
+    holds(&rt, matches!(near.flush(&rt), WireFlush::Empty));
     if !far.is_open() {
         assert!(rt; false);
         return Ok(());
     }
     match far.pull(&rt) {
-        WireIn::Message(m) => assert!(rt; m.header().is_empty() && is_long(m.body())),
+        WireIn::Message(m) => {
+            holds(&rt, m.header().is_empty());
+            holds(&rt, is_long(m.body()))
+        },
         _ => assert!(rt; false),
     }
     Ok(())
@@ -224,7 +231,7 @@ fn carries<R: Wait>(
 fn a_name_carries_both_ways(rt: HostRuntime) -> Result<(), Fail> {
     let alloc = rt.alloc();
     let mut names = Inproc::new(alloc);
-    assert!(rt; names.listen(b"x", Role::Pair0).is_ok());
+    is_ok(&rt, names.listen(b"x", Role::Pair0));
     let Ok(mut dialed) = names.dial(b"x", Role::Pair0) else {
         assert!(rt; false);
         return Ok(());
@@ -233,8 +240,8 @@ fn a_name_carries_both_ways(rt: HostRuntime) -> Result<(), Fail> {
         assert!(rt; false);
         return Ok(());
     };
-    assert!(rt; carries(&rt, alloc, &mut met, &mut dialed, b"there")?);
-    assert!(rt; carries(&rt, alloc, &mut dialed, &mut met, b"back")?);
+    holds(&rt, carries(&rt, alloc, &mut met, &mut dialed, b"there")?);
+    holds(&rt, carries(&rt, alloc, &mut dialed, &mut met, b"back")?);
     Ok(())
 }
 
@@ -266,18 +273,23 @@ fn end_comes<R: Wait>(rt: &R, wire: &mut LaneWire, other: &mut LaneOut) -> bool
 
 // The lane is full as the wire is shut, with a message in hand.
 #[test]
-fn a_lane_wire_is_shut_and_taken_apart(rt: HostRuntime) -> Result<(), Fail> {
+fn a_lane_wire_is_shut_and_taken_apart(rt: HostRuntime) {
     let alloc = rt.alloc();
-    let (out, mut other_out) = lane(alloc, 1)?;
-    let (other_in, inp) = lane(alloc, 1)?;
+    let (out, mut other_out) = made(&rt, lane(alloc, 1));
+    let (other_in, inp) = made(&rt, lane(alloc, 1));
     let mut wire = LaneWire::new(out, inp);
-    assert!(rt; sends(&rt, &mut wire, Message::from_body(alloc, b"a")?));
-    assert!(rt; sends(&rt, &mut wire, Message::from_body(alloc, b"b")?));
-    assert!(rt; wire.is_open());
-    assert!(rt; matches!(room_once(&rt, &mut wire), Room::Full));
-    assert!(rt; end_comes(&rt, &mut wire, &mut other_out));
+    holds(
+        &rt,
+        sends(&rt, &mut wire, made(&rt, Message::from_body(alloc, b"a"))),
+    );
+    holds(
+        &rt,
+        sends(&rt, &mut wire, made(&rt, Message::from_body(alloc, b"b"))),
+    );
+    holds(&rt, wire.is_open());
+    holds(&rt, matches!(room_once(&rt, &mut wire), Room::Full));
+    holds(&rt, end_comes(&rt, &mut wire, &mut other_out));
     let (out, inp) = wire.into_halves();
-    assert_eq!(rt; finish(out, other_out).left, 0);
-    assert_eq!(rt; finish(other_in, inp).left, 0);
-    Ok(())
+    same(&rt, finish(out, other_out).left, 0);
+    same(&rt, finish(other_in, inp).left, 0);
 }

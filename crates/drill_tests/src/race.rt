@@ -5,10 +5,11 @@ ghost use Rattle.sp_msg.specs.Views.{OverLanes};
 ghost use Rattle.core_parts.specs.Wires.{IsUnused};
 ghost use Rattle.sp_socket.specs.Passes.{new_list};
 ghost use Rattle.cat_play.specs.Drilling.{drill_setting};
-ghost use Rattle.cat_drill.specs.Calling.{IsDrillPass, Worked};
-ghost use Rattle.cat_drill.specs.Ending.{IsCrew, IsOut};
-ghost use Rattle.cat_drill.specs.Feeds.{IsSource};
+ghost use Rattle.drill_rounds.specs.Calling.{IsDrillPass, Worked, IsCrew};
+ghost use Rattle.drill_rounds.specs.Feeds.{IsSource};
+ghost use Rattle.cat_drill.specs.Ending.{IsOut};
 
+use crate::checks::{holds, made, same};
 use aio_word::Phase;
 use cat_drill::OpenGate;
 use cat_drill::parts::{
@@ -397,38 +398,37 @@ fn is_right<R: AllocGlobal + Wait + Threads + Sync>(rt: &R, job: DrillJob) -> Re
 
 #[test]
 fn each_task_does_its_part(rt: HostRuntime) -> Result<(), Fail> {
-    assert!(rt; is_right(&rt, DrillJob::Half(Half::InTurn, 2))?);
+    holds(&rt, is_right(&rt, DrillJob::Half(Half::InTurn, 2))?);
     Ok(())
 }
 
 #[test]
 fn each_task_does_its_part_at_once(rt: HostRuntime) -> Result<(), Fail> {
-    assert!(rt; is_right(&rt, DrillJob::Half(Half::AtOnce, 0))?);
+    holds(&rt, is_right(&rt, DrillJob::Half(Half::AtOnce, 0))?);
     Ok(())
 }
 
 #[test]
 fn each_task_does_its_part_while_messages_come(rt: HostRuntime) -> Result<(), Fail> {
-    assert!(rt; is_right(&rt, DrillJob::Half(Half::AtOnce, 64))?);
+    holds(&rt, is_right(&rt, DrillJob::Half(Half::AtOnce, 64))?);
     Ok(())
 }
 
 // 64 messages go in one round, 130 in three.
 #[test]
 fn each_round_begins_and_ends_its_receives(rt: HostRuntime) -> Result<(), Fail> {
-    assert!(rt; is_right(&rt, DrillJob::Rounds(64))?);
-    assert!(rt; is_right(&rt, DrillJob::Rounds(130))?);
-    assert!(rt; is_right(&rt, DrillJob::Half(Half::Untouched, 0))?);
+    holds(&rt, is_right(&rt, DrillJob::Rounds(64))?);
+    holds(&rt, is_right(&rt, DrillJob::Rounds(130))?);
+    holds(&rt, is_right(&rt, DrillJob::Half(Half::Untouched, 0))?);
     Ok(())
 }
 
 // The first 64 messages fill the lane of a drill.
 #[test]
-fn the_lane_of_a_drill_holds_64(rt: HostRuntime) -> Result<(), Fail> {
+fn the_lane_of_a_drill_holds_64(rt: HostRuntime) {
     let alloc = rt.alloc();
-    let (mut source, feed) = lanes(alloc)?;
-    assert_eq!(rt; source.put_next(&rt, alloc, 64), Some(64));
-    assert_eq!(rt; source.put_next(&rt, alloc, 65), Some(0));
+    let (mut source, feed) = made(&rt, lanes(alloc));
+    same(&rt, source.put_next(&rt, alloc, 64), Some(64));
+    same(&rt, source.put_next(&rt, alloc, 65), Some(0));
     drop(feed);
-    Ok(())
 }

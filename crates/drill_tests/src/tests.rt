@@ -1,6 +1,7 @@
 //! What drills print, and that their tasks go through their gates and meet there.
 ghost use Rattle.std.specs.Prelude.{◌≡◌};
 
+use crate::checks::{holds, is_ok, same};
 use cat_drill::{Gate, OpenGate, drill};
 use cat_play::ends::Status;
 use sp_fakes::MemSink;
@@ -29,45 +30,50 @@ fn prints<R: AllocGlobal + Wait + Threads + Sync, G: Gate + Sync>(
 
 #[test]
 fn one_value_drilled(rt: HostRuntime) {
-    assert!(rt;
+    holds(
+        &rt,
         prints(
             &rt,
             &OpenGate,
             1,
-            b"given 1\nsum 1442695040888963407\nopen 0\n"
-        )
+            b"given 1\nsum 1442695040888963407\nopen 0\n",
+        ),
     );
 }
 
 #[test]
 fn two_values_drilled(rt: HostRuntime) {
-    assert!(rt;
+    holds(
+        &rt,
         prints(
             &rt,
             &OpenGate,
             2,
-            b"given 2\nsum 3318706044697439873\nopen 0\n"
-        )
+            b"given 2\nsum 3318706044697439873\nopen 0\n",
+        ),
     );
 }
 
 #[test]
 fn a_thousand_values_drilled_twice(rt: HostRuntime) {
     let text = b"given 1000\nsum 14181103648077852572\nopen 0\n";
-    assert!(rt; prints(&rt, &OpenGate, 1000, text));
-    assert!(rt; prints(&rt, &OpenGate, 1000, text));
+    holds(&rt, prints(&rt, &OpenGate, 1000, text));
+    holds(&rt, prints(&rt, &OpenGate, 1000, text));
 }
 
 // A sink that fails at its first put.
 #[test]
 fn a_sink_that_fails(rt: HostRuntime) {
     let mut fails = Vec::new(rt.alloc());
-    assert!(rt; fails.push(0).is_ok());
+    is_ok(&rt, fails.push(0));
     let mut out = MemSink::new(rt.alloc(), fails);
     let end = drill(&rt, 2, &OpenGate, &mut out);
-    assert!(rt; end.status == Status::OutFault);
-    assert!(rt; end.record_.is_some());
-    assert!(rt; b"given 2\nsum 3318706044697439873\nopen 0\n".starts_with(out.text()));
+    same(&rt, end.status, Status::OutFault);
+    holds(&rt, end.record_.is_some());
+    holds(
+        &rt,
+        b"given 2\nsum 3318706044697439873\nopen 0\n".starts_with(out.text()),
+    );
 }
 
 // One more.
@@ -104,16 +110,17 @@ fn each_task_passes_its_gate_once_a_round(rt: HostRuntime) {
             AtomicU64::new(0),
         ],
     };
-    assert!(rt;
+    holds(
+        &rt,
         prints(
             &rt,
             &counted,
             130,
-            b"given 130\nsum 7217736577016058945\nopen 0\n"
-        )
+            b"given 130\nsum 7217736577016058945\nopen 0\n",
+        ),
     );
     for i in 0..4 {
-        assert_eq!(rt; counted.passed[i].load(Ordering::SeqCst), 3);
+        same(&rt, counted.passed[i].load(Ordering::SeqCst), 3);
     }
 }
 
@@ -156,15 +163,16 @@ fn held_drill(rt: HostRuntime) {
         last: AtomicU64::new(0),
         met: AtomicU64::new(0),
     };
-    assert!(rt;
+    holds(
+        &rt,
         prints(
             &rt,
             &held,
             64,
-            b"given 64\nsum 16369505803417403232\nopen 0\n"
-        )
+            b"given 64\nsum 16369505803417403232\nopen 0\n",
+        ),
     );
-    assert_eq!(rt; held.met.load(Ordering::SeqCst), 2);
+    same(&rt, held.met.load(Ordering::SeqCst), 2);
 }
 
 /// Holds each task until all four are there.
@@ -196,13 +204,14 @@ fn all_four_tasks_meet(rt: HostRuntime) {
         there: AtomicU64::new(0),
         met: AtomicU64::new(0),
     };
-    assert!(rt;
+    holds(
+        &rt,
         prints(
             &rt,
             &assembled,
             64,
-            b"given 64\nsum 16369505803417403232\nopen 0\n"
-        )
+            b"given 64\nsum 16369505803417403232\nopen 0\n",
+        ),
     );
-    assert_eq!(rt; assembled.met.load(Ordering::SeqCst), 4);
+    same(&rt, assembled.met.load(Ordering::SeqCst), 4);
 }

@@ -1,4 +1,4 @@
-use Rattle.cat_drill.specs.Calling.{IsDrillPass, Worked}
+use Rattle.drill_rounds.specs.Calling.{IsDrillPass, Worked}
 use Rattle.drill_tests.proofs.race.all_ended.Given as goal
 
 abbrev pub invariant-loop-place : goal.invariant-loop-place

@@ -1,0 +1,5 @@
+pub mod Values
+pub mod Feeding
+pub mod DrillCallers
+mod Sourcing
+mod Crossing
