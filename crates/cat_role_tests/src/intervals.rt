@@ -1,7 +1,7 @@
 //! What `--interval` does to a run.
+use crate::checks::{comes, holds, made, same};
 use cat_fakes::{ALL, HELLO_81, TURNS, incoming, link_of, over_one, play, unlinked};
 use cat_run::Status;
-use std::test::Fail;
 
 const A: &str = "tcp://127.0.0.1:5555";
 
@@ -13,49 +13,54 @@ const MESSAGE_BYTES: usize = 9;
 
 // Without a count an interval leaves no bound, so the run goes on until the pace ends, here after three turns.
 #[test]
-fn a_push_with_interval_0_sends_again_and_again(rt: HostRuntime) -> Result<(), Fail> {
+fn a_push_with_interval_0_sends_again_and_again(rt: HostRuntime) {
     let alloc = rt.alloc();
     const PUSH: &[&str] = &["--push", "--listen", A, "--data", "x", "--interval", "0"];
     let mut links = Vec::new(alloc);
-    links.push(link_of(alloc, &[HELLO_81], false, ALL)?)?;
-    let mut outside = incoming(alloc, links)?;
+    comes(&rt, alloc, &mut links, &[HELLO_81], false);
+    let mut outside = made(&rt, incoming(alloc, links));
     outside.turns = 3;
-    let came = play(&rt, PUSH, outside)?;
-    assert_eq!(rt; came.status, Status::Over);
-    assert_eq!(rt; came.left, 0);
+    let came = made(&rt, play(&rt, PUSH, outside));
+    same(&rt, came.status, Status::Over);
+    same(&rt, came.left, 0);
     // In a round up to 64 sweeps of up to 64 steps.
-    assert!(rt; came.written.len() > GREETING_BYTES + 1_000 * MESSAGE_BYTES);
-    assert!(rt; came.written.len() <= GREETING_BYTES + 3 * 64 * 64 * MESSAGE_BYTES);
-    assert!(rt;
+    holds(
+        &rt,
+        came.written.len() > GREETING_BYTES + 1_000 * MESSAGE_BYTES,
+    );
+    holds(
+        &rt,
+        came.written.len() <= GREETING_BYTES + 3 * 64 * 64 * MESSAGE_BYTES,
+    );
+    holds(
+        &rt,
         came.written
             .as_slice()
-            .ends_with(b"\x00\x00\x00\x00\x00\x00\x00\x01x")
+            .ends_with(b"\x00\x00\x00\x00\x00\x00\x00\x01x"),
     );
-    let came = unlinked(&rt, PUSH)?;
-    assert_eq!(rt; came.status, Status::Over);
-    assert_eq!(rt; came.left, 0);
-    Ok(())
+    let came = made(&rt, unlinked(&rt, PUSH));
+    same(&rt, came.status, Status::Over);
+    same(&rt, came.left, 0);
 }
 
 // 95 turns of 100 milliseconds: one message at once, and one each two seconds.
 #[test]
-fn a_push_sends_at_its_interval(rt: HostRuntime) -> Result<(), Fail> {
+fn a_push_sends_at_its_interval(rt: HostRuntime) {
     let alloc = rt.alloc();
     const PUSH: &[&str] = &["--push", "--listen", A, "--data", "x", "--interval", "2"];
     let mut links = Vec::new(alloc);
-    links.push(link_of(alloc, &[HELLO_81], false, ALL)?)?;
-    let mut outside = incoming(alloc, links)?;
+    comes(&rt, alloc, &mut links, &[HELLO_81], false);
+    let mut outside = made(&rt, incoming(alloc, links));
     outside.step = 100;
     outside.turns = 95;
-    let came = play(&rt, PUSH, outside)?;
-    assert_eq!(rt; came.status, Status::Over);
-    assert_eq!(rt; came.written.len(), GREETING_BYTES + 5 * MESSAGE_BYTES);
-    Ok(())
+    let came = made(&rt, play(&rt, PUSH, outside));
+    same(&rt, came.status, Status::Over);
+    same(&rt, came.written.len(), GREETING_BYTES + 5 * MESSAGE_BYTES);
 }
 
 // The count ends a run that has an interval.
 #[test]
-fn a_count_ends_a_run_with_an_interval(rt: HostRuntime) -> Result<(), Fail> {
+fn a_count_ends_a_run_with_an_interval(rt: HostRuntime) {
     const PUSH: &[&str] = &[
         "--push",
         "--listen",
@@ -67,9 +72,16 @@ fn a_count_ends_a_run_with_an_interval(rt: HostRuntime) -> Result<(), Fail> {
         "--count",
         "3",
     ];
-    let came = over_one(&rt, PUSH, link_of(rt.alloc(), &[HELLO_81], false, ALL)?)?;
-    assert_eq!(rt; came.status, Status::Done);
-    assert!(rt; came.left > 0 && came.left < TURNS);
-    assert_eq!(rt; came.written.len(), GREETING_BYTES + 3 * MESSAGE_BYTES);
-    Ok(())
+    let came = made(
+        &rt,
+        over_one(
+            &rt,
+            PUSH,
+            made(&rt, link_of(rt.alloc(), &[HELLO_81], false, ALL)),
+        ),
+    );
+    same(&rt, came.status, Status::Done);
+    holds(&rt, came.left > 0);
+    holds(&rt, came.left < TURNS);
+    same(&rt, came.written.len(), GREETING_BYTES + 3 * MESSAGE_BYTES);
 }

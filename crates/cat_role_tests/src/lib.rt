@@ -4,6 +4,8 @@
 #[cfg(test)]
 mod asking;
 #[cfg(test)]
+mod checks;
+#[cfg(test)]
 mod intervals;
 #[cfg(test)]
 mod roles;

@@ -1,12 +1,13 @@
 //! What a round asks where nothing comes: each silent link once, each listener once, and each address once in 100 ticks.
 ghost use Rattle.sp_fakes.specs.Nets.{net_view};
 
-use cat_fakes::{ALL, HELLO_80, link_of, words};
+use crate::checks::{comes, made, same};
+use cat_fakes::{HELLO_80, words};
 use cat_run::{Status, run};
-use sp_base::{Addr, Link, LinkRead, LinkWrite, Linked, Listened, Net, NoMemory};
+use sp_base::{Addr, Link, LinkRead, LinkWrite, Linked, Listened, Net};
 use sp_fakes::{MemFiles, MemNet, MemPace, MemSink, NetLink};
+use std::process::Abort;
 use std::sync::Wait;
-use std::test::Fail;
 use std::thread::Threads;
 
 /// A link in memory that counts its reads.
@@ -102,20 +103,23 @@ struct CountedCalls {
 }
 
 // The calls of a run of so many turns with these words, where three links come that greet and bring nothing.
-fn calls_of<R: AllocGlobal + Wait + Threads + Sync>(
+fn calls_of<R: AllocGlobal + Wait + Threads + Sync + Abort>(
     rt: &R,
     texts: &[&str],
     turns: u64,
-) -> Result<CountedCalls, NoMemory> {
+) -> CountedCalls {
     let alloc = rt.alloc();
     let mut links = Vec::new(alloc);
     for _ in 0..3 {
-        links.push(link_of(alloc, &[HELLO_80], false, ALL)?)?;
+        comes(rt, alloc, &mut links, &[HELLO_80], false);
     }
     let mut lists = Vec::new(alloc);
-    lists.push(links)?;
+    made(rt, lists.push(links));
     let mut net = CountedNet {
-        net: MemNet::new(alloc, lists, Vec::new(alloc), Vec::new(alloc))?,
+        net: made(
+            rt,
+            MemNet::new(alloc, lists, Vec::new(alloc), Vec::new(alloc)),
+        ),
         accepts: 0,
         dials: 0,
         reads: 0,
@@ -123,27 +127,26 @@ fn calls_of<R: AllocGlobal + Wait + Threads + Sync>(
     let mut files = MemFiles::new(alloc, Vec::new(alloc), Vec::new(alloc));
     let mut pace = MemPace::new(turns, 1);
     let mut out = MemSink::new(alloc, Vec::new(alloc));
-    let list = words(alloc, texts)?;
+    let list = made(rt, words(alloc, texts));
     let end = run(rt, &list, &mut net, &mut files, &mut pace, &mut out, 0);
     let is_over = end.status == Status::Over;
-    Ok(CountedCalls {
+    CountedCalls {
         accepts: if is_over { net.accepts } else { 0 },
         dials: if is_over { net.dials } else { 0 },
         reads: if is_over { net.reads } else { 0 },
-    })
+    }
 }
 
 // A hundred rounds more in which nothing comes cost a hundred accepts of each listener and a hundred reads of each link.
 // An address at which nobody answers is dialed at the first tick, and again 100 ticks later.
 #[test]
-fn a_round_in_which_nothing_comes_is_cheap(rt: HostRuntime) -> Result<(), Fail> {
-    let once = calls_of(&rt, PULL, 100)?;
-    let twice = calls_of(&rt, PULL, 200)?;
-    assert_eq!(rt; twice.accepts.saturating_sub(once.accepts), 200);
-    assert_eq!(rt; twice.reads.saturating_sub(once.reads), 300);
-    assert_eq!(rt; twice.dials, 0);
-    assert_eq!(rt; calls_of(&rt, DIALS, 100)?.dials, 1);
-    assert_eq!(rt; calls_of(&rt, DIALS, 101)?.dials, 2);
-    assert_eq!(rt; calls_of(&rt, DIALS, 200)?.dials, 2);
-    Ok(())
+fn a_round_in_which_nothing_comes_is_cheap(rt: HostRuntime) {
+    let once = calls_of(&rt, PULL, 100);
+    let twice = calls_of(&rt, PULL, 200);
+    same(&rt, twice.accepts.saturating_sub(once.accepts), 200);
+    same(&rt, twice.reads.saturating_sub(once.reads), 300);
+    same(&rt, twice.dials, 0);
+    same(&rt, calls_of(&rt, DIALS, 100).dials, 1);
+    same(&rt, calls_of(&rt, DIALS, 101).dials, 2);
+    same(&rt, calls_of(&rt, DIALS, 200).dials, 2);
 }

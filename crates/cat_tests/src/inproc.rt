@@ -1,9 +1,8 @@
 //! Names within the process: one command that listens on them and dials them, alone and beside TCP.
-use cat_fakes::{ALL, HELLO_80, Outside, TURNS, incoming, link_of, play, unlinked};
+use crate::checks::{holds, made, same};
+use crate::refusals::hello;
+use cat_fakes::{TURNS, play, unlinked};
 use cat_run::{Status, exit_code};
-use sp_base::NoMemory;
-use std::alloc::Global;
-use std::test::Fail;
 
 const A: &str = "tcp://127.0.0.1:5555";
 
@@ -13,7 +12,7 @@ const Y: &str = "inproc://y";
 
 // The net isn't asked for a link, and no turn is used.
 #[test]
-fn a_name_that_is_listened_on_twice_is_a_fault(rt: HostRuntime) -> Result<(), Fail> {
+fn a_name_that_is_listened_on_twice_is_a_fault(rt: HostRuntime) {
     let rows: &[&[&str]] = &[
         &["--pull", "--listen", X, "--listen", X, "--count", "1"],
         &["--bus", "--listen", X, "--dial", X, "--listen", X],
@@ -25,19 +24,18 @@ fn a_name_that_is_listened_on_twice_is_a_fault(rt: HostRuntime) -> Result<(), Fa
         ],
     ];
     for texts in rows {
-        let came = unlinked(&rt, texts)?;
-        assert_eq!(rt; came.status, Status::NetFault);
-        assert_eq!(rt; exit_code(came.status), 4);
-        assert!(rt; came.has_record);
-        assert_eq!(rt; came.left, TURNS);
-        assert_eq!(rt; came.opened, 0);
+        let came = made(&rt, unlinked(&rt, texts));
+        same(&rt, came.status, Status::NetFault);
+        same(&rt, exit_code(came.status), 4);
+        holds(&rt, came.has_record);
+        same(&rt, came.left, TURNS);
+        same(&rt, came.opened, 0);
     }
-    Ok(())
 }
 
 // A bus has two pipes to itself over one name, and its message goes out on both.
 #[test]
-fn a_bus_talks_to_itself(rt: HostRuntime) -> Result<(), Fail> {
+fn a_bus_talks_to_itself(rt: HostRuntime) {
     let rows: &[&[&str]] = &[
         &[
             "--bus", "--listen", X, "--dial", X, "--data", "m", "--count", "1",
@@ -71,31 +69,32 @@ fn a_bus_talks_to_itself(rt: HostRuntime) -> Result<(), Fail> {
         ],
     ];
     for texts in rows {
-        let came = unlinked(&rt, texts)?;
-        assert_eq!(rt; came.status, Status::Done);
-        assert_eq!(rt; came.opened, 0);
+        let came = made(&rt, unlinked(&rt, texts));
+        same(&rt, came.status, Status::Done);
+        same(&rt, came.opened, 0);
     }
-    Ok(())
 }
 
 // A pair has one pipe: it refuses the other half of the lane that it dialed, and tells the half that it has of the end. So
 // its pipe goes down before it sends, and its message goes out on the pipe of its next dial, 100 turns after.
 #[test]
-fn a_lane_that_is_left_is_told_its_end(rt: HostRuntime) -> Result<(), Fail> {
-    let came = unlinked(
+fn a_lane_that_is_left_is_told_its_end(rt: HostRuntime) {
+    let came = made(
         &rt,
-        &[
-            "--pair", "--listen", X, "--dial", X, "--data", "m", "--count", "1",
-        ],
-    )?;
-    assert_eq!(rt; came.status, Status::Done);
-    assert!(rt; came.left < TURNS - 100);
-    Ok(())
+        unlinked(
+            &rt,
+            &[
+                "--pair", "--listen", X, "--dial", X, "--data", "m", "--count", "1",
+            ],
+        ),
+    );
+    same(&rt, came.status, Status::Done);
+    holds(&rt, came.left < TURNS - 100);
 }
 
 // Nobody whom a role talks to is there: a name that nobody listens on, or one that the own role listens on.
 #[test]
-fn a_name_without_a_peer_waits(rt: HostRuntime) -> Result<(), Fail> {
+fn a_name_without_a_peer_waits(rt: HostRuntime) {
     let rows: &[&[&str]] = &[
         &["--pull", "--listen", X, "--count", "1"],
         &["--pull", "--dial", X, "--count", "1"],
@@ -110,52 +109,44 @@ fn a_name_without_a_peer_waits(rt: HostRuntime) -> Result<(), Fail> {
         &["--req", "--listen", X, "--dial", X, "--data", "m"],
     ];
     for texts in rows {
-        let came = unlinked(&rt, texts)?;
-        assert_eq!(rt; came.status, Status::Over);
-        assert_eq!(rt; exit_code(came.status), 3);
-        assert_eq!(rt; came.left, 0);
-        assert_eq!(rt; came.opened, 0);
+        let came = made(&rt, unlinked(&rt, texts));
+        same(&rt, came.status, Status::Over);
+        same(&rt, exit_code(came.status), 3);
+        same(&rt, came.left, 0);
+        same(&rt, came.opened, 0);
     }
-    Ok(())
 }
 
 #[test]
-fn a_name_without_a_peer_times_out(rt: HostRuntime) -> Result<(), Fail> {
-    let came = unlinked(&rt, &["--pull", "--dial", X, "--recv-timeout", "0"])?;
-    assert_eq!(rt; came.status, Status::Done);
-    assert!(rt; came.left > 0);
-    let came = unlinked(
+fn a_name_without_a_peer_times_out(rt: HostRuntime) {
+    let came = made(
         &rt,
-        &[
-            "--push",
-            "--listen",
-            X,
-            "--data",
-            "m",
-            "--send-timeout",
-            "0",
-        ],
-    )?;
-    assert_eq!(rt; came.status, Status::SendTimedOut);
-    assert!(rt; came.left > 0);
-    Ok(())
-}
-
-// A link at the first listen that gives `hello`.
-fn hello(alloc: Global) -> Result<Outside, NoMemory> {
-    let mut links = Vec::new(alloc);
-    links.push(link_of(
-        alloc,
-        &[HELLO_80, b"\x00\x00\x00\x00\x00\x00\x00\x05hello"],
-        false,
-        ALL,
-    )?)?;
-    incoming(alloc, links)
+        unlinked(&rt, &["--pull", "--dial", X, "--recv-timeout", "0"]),
+    );
+    same(&rt, came.status, Status::Done);
+    holds(&rt, came.left > 0);
+    let came = made(
+        &rt,
+        unlinked(
+            &rt,
+            &[
+                "--push",
+                "--listen",
+                X,
+                "--data",
+                "m",
+                "--send-timeout",
+                "0",
+            ],
+        ),
+    );
+    same(&rt, came.status, Status::SendTimedOut);
+    holds(&rt, came.left > 0);
 }
 
 // Names stand before, between and behind the address of TCP.
 #[test]
-fn names_stand_beside_tcp(rt: HostRuntime) -> Result<(), Fail> {
+fn names_stand_beside_tcp(rt: HostRuntime) {
     let rows: &[&[&str]] = &[
         &[
             "--pull", "--listen", X, "--listen", A, "--ascii", "--count", "1",
@@ -169,26 +160,27 @@ fn names_stand_beside_tcp(rt: HostRuntime) -> Result<(), Fail> {
         ],
     ];
     for texts in rows {
-        let came = play(&rt, texts, hello(rt.alloc())?)?;
-        assert_eq!(rt; came.status, Status::Done);
-        assert_eq!(rt; came.opened, 1);
-        assert_eq!(rt; came.printed.as_slice(), b"hello\n".as_slice());
+        let came = made(&rt, play(&rt, texts, hello(&rt, rt.alloc())));
+        same(&rt, came.status, Status::Done);
+        same(&rt, came.opened, 1);
+        same(&rt, came.printed.as_slice(), b"hello\n".as_slice());
     }
-    Ok(())
 }
 
 // A listen that fails ends the run, whatever names come before it.
 #[test]
-fn a_failing_listen_behind_a_name_is_a_fault(rt: HostRuntime) -> Result<(), Fail> {
-    let mut outside = hello(rt.alloc())?;
-    outside.net_fails.push(0)?;
-    let came = play(
+fn a_failing_listen_behind_a_name_is_a_fault(rt: HostRuntime) {
+    let mut outside = hello(&rt, rt.alloc());
+    made(&rt, outside.net_fails.push(0));
+    let came = made(
         &rt,
-        &["--pull", "--listen", X, "--dial", Y, "--listen", A],
-        outside,
-    )?;
-    assert_eq!(rt; came.status, Status::NetFault);
-    assert_eq!(rt; came.left, TURNS);
-    assert_eq!(rt; came.opened, 0);
-    Ok(())
+        play(
+            &rt,
+            &["--pull", "--listen", X, "--dial", Y, "--listen", A],
+            outside,
+        ),
+    );
+    same(&rt, came.status, Status::NetFault);
+    same(&rt, came.left, TURNS);
+    same(&rt, came.opened, 0);
 }

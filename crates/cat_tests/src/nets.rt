@@ -1,9 +1,9 @@
 //! A net in memory by itself, and runs whose links are lost, refused or given back.
-use cat_fakes::{ALL, HELLO_80, HELLO_81, PULL, TURNS, link_of, outgoing, play, words};
+use crate::checks::{comes, holds, made, same};
+use cat_fakes::{HELLO_80, HELLO_81, PULL, TURNS, link_of, outgoing, play, words};
 use cat_run::{Status, run};
 use sp_base::{Addr, Host, Link, LinkRead, Linked, Listened, Net};
 use sp_fakes::{MemFiles, MemNet, MemPace, MemSink};
-use std::test::Fail;
 
 // Listens at a port, accepts there, and returns the listener's number and how many bytes came of the link at once.
 fn first_read(net: &mut MemNet, port: u16) -> Option<(u32, usize)> {
@@ -29,25 +29,30 @@ fn first_read(net: &mut MemNet, port: u16) -> Option<(u32, usize)> {
 }
 
 #[test]
-fn each_listener_has_links_of_its_own(rt: HostRuntime) -> Result<(), Fail> {
+fn each_listener_has_links_of_its_own(rt: HostRuntime) {
     let alloc = rt.alloc();
     let mut incoming = Vec::new(alloc);
     for text in [b"a".as_slice(), b"bb".as_slice(), b"ccc".as_slice()] {
         let mut links = Vec::new(alloc);
-        links.push(link_of(alloc, &[text], false, 1_000_000)?)?;
-        incoming.push(links)?;
+        made(
+            &rt,
+            links.push(made(&rt, link_of(alloc, &[text], false, 1_000_000))),
+        );
+        made(&rt, incoming.push(links));
     }
-    let mut net = MemNet::new(alloc, incoming, Vec::new(alloc), Vec::new(alloc))?;
-    assert_eq!(rt; first_read(&mut net, 1), Some((0, 1)));
-    assert_eq!(rt; first_read(&mut net, 2), Some((1, 2)));
-    assert_eq!(rt; first_read(&mut net, 3), Some((2, 3)));
-    assert_eq!(rt; first_read(&mut net, 4), None);
-    Ok(())
+    let mut net = made(
+        &rt,
+        MemNet::new(alloc, incoming, Vec::new(alloc), Vec::new(alloc)),
+    );
+    same(&rt, first_read(&mut net, 1), Some((0, 1)));
+    same(&rt, first_read(&mut net, 2), Some((1, 2)));
+    same(&rt, first_read(&mut net, 3), Some((2, 3)));
+    same(&rt, first_read(&mut net, 4), None);
 }
 
 // The first link brings a message and ends, the second another one. Between them lie a hundred milliseconds.
 #[test]
-fn a_pipe_that_is_lost_is_dialed_again(rt: HostRuntime) -> Result<(), Fail> {
+fn a_pipe_that_is_lost_is_dialed_again(rt: HostRuntime) {
     const DIALS: &[&str] = &[
         "--pull",
         "--dial",
@@ -58,57 +63,57 @@ fn a_pipe_that_is_lost_is_dialed_again(rt: HostRuntime) -> Result<(), Fail> {
     ];
     let alloc = rt.alloc();
     let mut links = Vec::new(alloc);
-    links.push(link_of(
+    comes(
+        &rt,
         alloc,
+        &mut links,
         &[HELLO_80, b"\x00\x00\x00\x00\x00\x00\x00\x01a"],
         true,
-        ALL,
-    )?)?;
-    links.push(link_of(
+    );
+    comes(
+        &rt,
         alloc,
+        &mut links,
         &[HELLO_80, b"\x00\x00\x00\x00\x00\x00\x00\x01b"],
         false,
-        ALL,
-    )?)?;
-    let came = play(&rt, DIALS, outgoing(alloc, links)?)?;
-    assert_eq!(rt; came.status, Status::Done);
-    assert_eq!(rt; came.opened, 2);
-    assert_eq!(rt; came.printed.as_slice(), b"a\nb\n".as_slice());
-    assert_eq!(rt; came.written.as_slice(), HELLO_81);
-    assert_eq!(rt; came.second.as_slice(), HELLO_81);
-    assert!(rt; came.left < TURNS - 100);
-    Ok(())
+    );
+    let came = made(&rt, play(&rt, DIALS, made(&rt, outgoing(alloc, links))));
+    same(&rt, came.status, Status::Done);
+    same(&rt, came.opened, 2);
+    same(&rt, came.printed.as_slice(), b"a\nb\n".as_slice());
+    same(&rt, came.written.as_slice(), HELLO_81);
+    same(&rt, came.second.as_slice(), HELLO_81);
+    holds(&rt, came.left < TURNS - 100);
 }
 
 // A dial that fails is tried again 100 milliseconds after.
 #[test]
-fn a_dial_that_fails_is_tried_again(rt: HostRuntime) -> Result<(), Fail> {
+fn a_dial_that_fails_is_tried_again(rt: HostRuntime) {
     const DIALS: &[&str] = &["--pull", "--dial", "tcp://127.0.0.1:5555", "--count", "1"];
     const HELLO: &[u8] = b"\x00\x00\x00\x00\x00\x00\x00\x05hello";
     let alloc = rt.alloc();
     let mut links = Vec::new(alloc);
-    links.push(link_of(alloc, &[HELLO_80, HELLO], false, ALL)?)?;
-    let mut outside = outgoing(alloc, links)?;
-    outside.net_fails.push(0)?;
-    let came = play(&rt, DIALS, outside)?;
-    assert_eq!(rt; came.status, Status::Done);
-    assert_eq!(rt; came.opened, 1);
-    assert!(rt; came.left < TURNS - 100);
+    comes(&rt, alloc, &mut links, &[HELLO_80, HELLO], false);
+    let mut outside = made(&rt, outgoing(alloc, links));
+    made(&rt, outside.net_fails.push(0));
+    let came = made(&rt, play(&rt, DIALS, outside));
+    same(&rt, came.status, Status::Done);
+    same(&rt, came.opened, 1);
+    holds(&rt, came.left < TURNS - 100);
     // A link on which nobody greets is given back after ten seconds, and the address is dialed again.
     let rows: &[(u64, u32)] = &[(95, 1), (195, 2), (215, 3)];
     for (turns, opened) in rows {
         let mut links = Vec::new(alloc);
         for _ in 0..3 {
-            links.push(link_of(alloc, &[], false, ALL)?)?;
+            comes(&rt, alloc, &mut links, &[], false);
         }
-        let mut outside = outgoing(alloc, links)?;
+        let mut outside = made(&rt, outgoing(alloc, links));
         outside.turns = *turns;
         outside.step = 100;
-        let came = play(&rt, DIALS, outside)?;
-        assert_eq!(rt; came.status, Status::Over);
-        assert_eq!(rt; came.opened, *opened);
+        let came = made(&rt, play(&rt, DIALS, outside));
+        same(&rt, came.status, Status::Over);
+        same(&rt, came.opened, *opened);
     }
-    Ok(())
 }
 
 // Whether the link with this place came back, and was shut.
@@ -121,24 +126,26 @@ fn is_back(net: &MemNet, place: u32) -> bool {
 
 // A run ends with one link up, one in its greetings, and one that has ended: all three come back.
 #[test]
-fn every_link_comes_back(rt: HostRuntime) -> Result<(), Fail> {
+fn every_link_comes_back(rt: HostRuntime) {
     let alloc = rt.alloc();
     let mut links = Vec::new(alloc);
-    links.push(link_of(alloc, &[HELLO_80], false, ALL)?)?;
-    links.push(link_of(alloc, &[b"\x00SP"], false, ALL)?)?;
-    links.push(link_of(alloc, &[HELLO_80], true, ALL)?)?;
+    comes(&rt, alloc, &mut links, &[HELLO_80], false);
+    comes(&rt, alloc, &mut links, &[b"\x00SP"], false);
+    comes(&rt, alloc, &mut links, &[HELLO_80], true);
     let mut incoming = Vec::new(alloc);
-    incoming.push(links)?;
-    let mut net = MemNet::new(alloc, incoming, Vec::new(alloc), Vec::new(alloc))?;
+    made(&rt, incoming.push(links));
+    let mut net = made(
+        &rt,
+        MemNet::new(alloc, incoming, Vec::new(alloc), Vec::new(alloc)),
+    );
     let mut files = MemFiles::new(alloc, Vec::new(alloc), Vec::new(alloc));
     let mut pace = MemPace::new(20, 1);
     let mut out = MemSink::new(alloc, Vec::new(alloc));
-    let list = words(alloc, PULL)?;
+    let list = made(&rt, words(alloc, PULL));
     let end = run(&rt, &list, &mut net, &mut files, &mut pace, &mut out, 0);
-    assert_eq!(rt; end.status, Status::Over);
-    assert_eq!(rt; net.opened(), 3);
+    same(&rt, end.status, Status::Over);
+    same(&rt, net.opened(), 3);
     for place in 0..3 {
-        assert!(rt; is_back(&net, place));
+        holds(&rt, is_back(&net, place));
     }
-    Ok(())
 }

@@ -2,19 +2,20 @@
 //! each status.
 ghost use Rattle.sp_fakes.specs.Nets.{net_view};
 
-use cat_fakes::{ALL, HELLO_80, Outside, PULL, TURNS, incoming, link_of, play, unlinked, words};
+use crate::checks::{comes, holds, made, same};
+use cat_fakes::{HELLO_80, Outside, PULL, TURNS, incoming, play, unlinked, words};
 use cat_run::{Status, complaint, exit_code, run};
-use sp_base::{Addr, Bytes, Host, Link, Linked, Listened, Net, NoMemory};
+use sp_base::{Addr, Bytes, Host, Link, Linked, Listened, Net};
 use sp_fakes::{MemFiles, MemNet, MemPace, MemSink, NetLink};
 use std::alloc::Global;
-use std::test::Fail;
+use std::process::Abort;
 
 const A: &str = "tcp://127.0.0.1:5555";
 
 const B: &str = "tcp://127.0.0.1:5556";
 
 #[test]
-fn words_without_a_plan_are_refused_at_their_place(rt: HostRuntime) -> Result<(), Fail> {
+fn words_without_a_plan_are_refused_at_their_place(rt: HostRuntime) {
     let wrong: &[(&[&str], u32)] = &[
         (&[], 0),
         (&["--help"], 0),
@@ -27,16 +28,15 @@ fn words_without_a_plan_are_refused_at_their_place(rt: HostRuntime) -> Result<()
         (&["--push", "--listen", A, "--data"], 4),
     ];
     for (texts, at) in wrong {
-        let came = unlinked(&rt, texts)?;
-        assert_eq!(rt; came.status, Status::Usage { at: *at });
-        assert!(rt; !came.has_record);
-        assert_eq!(rt; came.left, TURNS);
+        let came = made(&rt, unlinked(&rt, texts));
+        same(&rt, came.status, Status::Usage { at: *at });
+        holds(&rt, !came.has_record);
+        same(&rt, came.left, TURNS);
     }
-    Ok(())
 }
 
 #[test]
-fn a_failing_listen_ends_the_run(rt: HostRuntime) -> Result<(), Fail> {
+fn a_failing_listen_ends_the_run(rt: HostRuntime) {
     let alloc = rt.alloc();
     // The first listen, and the second one of two.
     let rows: &[(&[&str], u64)] = &[
@@ -44,44 +44,43 @@ fn a_failing_listen_ends_the_run(rt: HostRuntime) -> Result<(), Fail> {
         (&["--pull", "--listen", A, "--listen", B, "--count", "1"], 1),
     ];
     for (texts, fails) in rows {
-        let mut outside = hello(alloc)?;
-        outside.net_fails.push(*fails)?;
-        let came = play(&rt, texts, outside)?;
-        assert_eq!(rt; came.status, Status::NetFault);
-        assert_eq!(rt; exit_code(came.status), 4);
-        assert!(rt; came.has_record);
-        assert_eq!(rt; came.left, TURNS);
-        assert_eq!(rt; came.opened, 0);
+        let mut outside = hello(&rt, alloc);
+        made(&rt, outside.net_fails.push(*fails));
+        let came = made(&rt, play(&rt, texts, outside));
+        same(&rt, came.status, Status::NetFault);
+        same(&rt, exit_code(came.status), 4);
+        holds(&rt, came.has_record);
+        same(&rt, came.left, TURNS);
+        same(&rt, came.opened, 0);
     }
-    Ok(())
 }
 
-// A link that gives `hello`.
-fn hello(alloc: Global) -> Result<Outside, NoMemory> {
+/// A link at the first listen that gives `hello`.
+pub(crate) fn hello(rt: &impl Abort, alloc: Global) -> Outside {
     let mut links = Vec::new(alloc);
-    links.push(link_of(
+    comes(
+        rt,
         alloc,
+        &mut links,
         &[HELLO_80, b"\x00\x00\x00\x00\x00\x00\x00\x05hello"],
         false,
-        ALL,
-    )?)?;
-    incoming(alloc, links)
+    );
+    made(rt, incoming(alloc, links))
 }
 
 #[test]
-fn a_failing_output_ends_the_run(rt: HostRuntime) -> Result<(), Fail> {
-    let mut outside = hello(rt.alloc())?;
-    outside.sink_fails.push(0)?;
-    let came = play(&rt, PULL, outside)?;
-    assert_eq!(rt; came.status, Status::OutFault);
-    assert_eq!(rt; exit_code(came.status), 5);
-    Ok(())
+fn a_failing_output_ends_the_run(rt: HostRuntime) {
+    let mut outside = hello(&rt, rt.alloc());
+    made(&rt, outside.sink_fails.push(0));
+    let came = made(&rt, play(&rt, PULL, outside));
+    same(&rt, came.status, Status::OutFault);
+    same(&rt, exit_code(came.status), 5);
 }
 
 // Each message is one put, in its turn: where the second one fails, the first text stands there alone. A message whose
 // text is empty is none.
 #[test]
-fn a_message_is_one_put(rt: HostRuntime) -> Result<(), Fail> {
+fn a_message_is_one_put(rt: HostRuntime) {
     let alloc = rt.alloc();
     const ONE: &[u8] = b"\x00\x00\x00\x00\x00\x00\x00\x02ab";
     const OTHER: &[u8] = b"\x00\x00\x00\x00\x00\x00\x00\x02cd";
@@ -99,37 +98,35 @@ fn a_message_is_one_put(rt: HostRuntime) -> Result<(), Fail> {
     for (format, pieces, fails, status, printed) in rows {
         let texts: &[&str] = &["--pull", "--listen", A, *format, "--count", "2"];
         let mut links = Vec::new(alloc);
-        links.push(link_of(alloc, pieces, false, ALL)?)?;
-        let mut outside = incoming(alloc, links)?;
-        outside.sink_fails.push(*fails)?;
-        let came = play(&rt, texts, outside)?;
-        assert_eq!(rt; came.status, *status);
-        assert_eq!(rt; came.printed.as_slice(), *printed);
+        comes(&rt, alloc, &mut links, pieces, false);
+        let mut outside = made(&rt, incoming(alloc, links));
+        made(&rt, outside.sink_fails.push(*fails));
+        let came = made(&rt, play(&rt, texts, outside));
+        same(&rt, came.status, *status);
+        same(&rt, came.printed.as_slice(), *printed);
     }
-    Ok(())
 }
 
 #[test]
-fn a_pace_of_nothing_is_over(rt: HostRuntime) -> Result<(), Fail> {
-    let mut outside = hello(rt.alloc())?;
+fn a_pace_of_nothing_is_over(rt: HostRuntime) {
+    let mut outside = hello(&rt, rt.alloc());
     outside.turns = 0;
-    let came = play(&rt, PULL, outside)?;
-    assert_eq!(rt; came.status, Status::Over);
-    assert_eq!(rt; exit_code(came.status), 3);
-    assert!(rt; came.has_record);
-    assert_eq!(rt; came.opened, 0);
-    Ok(())
+    let came = made(&rt, play(&rt, PULL, outside));
+    same(&rt, came.status, Status::Over);
+    same(&rt, exit_code(came.status), 3);
+    holds(&rt, came.has_record);
+    same(&rt, came.opened, 0);
 }
 
 // What is said of a status, behind an x.
-fn said(alloc: Global, status: Status) -> Result<Bytes, NoMemory> {
-    let mut line = Bytes::from_slice(alloc, b"x")?;
-    complaint(alloc, status, &mut line)?;
-    Ok(line)
+fn said(rt: &impl Abort, alloc: Global, status: Status) -> Bytes {
+    let mut line = made(rt, Bytes::from_slice(alloc, b"x"));
+    made(rt, complaint(alloc, status, &mut line));
+    line
 }
 
 #[test]
-fn complaints(rt: HostRuntime) -> Result<(), Fail> {
+fn complaints(rt: HostRuntime) {
     let lines: &[(Status, &[u8])] = &[
         (Status::Done, b"x"),
         (Status::Usage { at: 0 }, b"xnngcat: bad word 0\n"),
@@ -142,10 +139,9 @@ fn complaints(rt: HostRuntime) -> Result<(), Fail> {
         (Status::NoMemory, b"xnngcat: out of memory\n"),
     ];
     for (status, line) in lines {
-        let said = said(rt.alloc(), *status)?;
-        assert_eq!(rt; said.as_slice(), *line);
+        let said = said(&rt, rt.alloc(), *status);
+        same(&rt, said.as_slice(), *line);
     }
-    Ok(())
 }
 
 /// A net in memory that remembers where it was asked to listen.
@@ -183,11 +179,14 @@ impl Net for RememberingNet {
 }
 
 #[test]
-fn it_listens_at_the_address_of_the_words(rt: HostRuntime) -> Result<(), Fail> {
+fn it_listens_at_the_address_of_the_words(rt: HostRuntime) {
     let alloc = rt.alloc();
-    let list = words(alloc, PULL)?;
+    let list = made(&rt, words(alloc, PULL));
     let mut net = RememberingNet {
-        net: MemNet::new(alloc, Vec::new(alloc), Vec::new(alloc), Vec::new(alloc))?,
+        net: made(
+            &rt,
+            MemNet::new(alloc, Vec::new(alloc), Vec::new(alloc), Vec::new(alloc)),
+        ),
         host: Host::Any,
         port: 0,
     };
@@ -195,8 +194,7 @@ fn it_listens_at_the_address_of_the_words(rt: HostRuntime) -> Result<(), Fail> {
     let mut pace = MemPace::new(TURNS, 1);
     let mut out = MemSink::new(alloc, Vec::new(alloc));
     let end = run(&rt, &list, &mut net, &mut files, &mut pace, &mut out, 0);
-    assert_eq!(rt; end.status, Status::Over);
-    assert_eq!(rt; net.host, Host::V4(127, 0, 0, 1));
-    assert_eq!(rt; net.port, 5555);
-    Ok(())
+    same(&rt, end.status, Status::Over);
+    same(&rt, net.host, Host::V4(127, 0, 0, 1));
+    same(&rt, net.port, 5555);
 }

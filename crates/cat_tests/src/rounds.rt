@@ -1,12 +1,13 @@
 //! What a round asks of links and listeners, how far it goes, and what the pace is told of it.
 ghost use Rattle.sp_fakes.specs.Paces.{pace_view};
 
+use crate::checks::{comes, holds, made, same, says};
 use cat_fakes::{ALL, HELLO_80, Outside, incoming, link_of, play, words};
 use cat_run::{Status, run};
-use sp_base::{Bytes, NoMemory, Pace, Paced};
+use sp_base::{Pace, Paced};
 use sp_fakes::{LinkStep, MemFiles, MemLink, MemNet, MemPace, MemSink};
 use std::alloc::Global;
-use std::test::Fail;
+use std::process::Abort;
 
 const PULL: &[&str] = &["--pull", "--listen", "tcp://127.0.0.1:5555", "--raw"];
 
@@ -14,12 +15,12 @@ const PULL: &[&str] = &["--pull", "--listen", "tcp://127.0.0.1:5555", "--raw"];
 const X: &[u8] = b"\x00\x00\x00\x00\x00\x00\x00\x01x";
 
 // A link that gives so many messages at once, and then nothing for ever.
-fn talker(alloc: Global, count: u32) -> Result<MemLink, NoMemory> {
-    let mut all = Vec::from_slice(alloc, HELLO_80)?;
+fn talker(rt: &impl Abort, alloc: Global, count: u32) -> MemLink {
+    let mut all = made(rt, Vec::from_slice(alloc, HELLO_80));
     for _ in 0..count {
-        all.extend_from_slice(X)?;
+        made(rt, all.extend_from_slice(X));
     }
-    link_of(alloc, &[all.as_slice()], false, ALL)
+    made(rt, link_of(alloc, &[all.as_slice()], false, ALL))
 }
 
 /// A pace in memory that counts what it was told.
@@ -45,13 +46,16 @@ impl Pace for CountingPace {
 
 // While a round ends with messages that wait, the pace is told that they move; on a link that is silent, that they don't.
 #[test]
-fn the_pace_is_told_whether_messages_move(rt: HostRuntime) -> Result<(), Fail> {
+fn the_pace_is_told_whether_messages_move(rt: HostRuntime) {
     let alloc = rt.alloc();
     let mut links = Vec::new(alloc);
-    links.push(talker(alloc, 500)?)?;
+    made(&rt, links.push(talker(&rt, alloc, 500)));
     let mut lists = Vec::new(alloc);
-    lists.push(links)?;
-    let mut net = MemNet::new(alloc, lists, Vec::new(alloc), Vec::new(alloc))?;
+    made(&rt, lists.push(links));
+    let mut net = made(
+        &rt,
+        MemNet::new(alloc, lists, Vec::new(alloc), Vec::new(alloc)),
+    );
     let mut files = MemFiles::new(alloc, Vec::new(alloc), Vec::new(alloc));
     let mut pace = CountingPace {
         pace: MemPace::new(200, 1),
@@ -59,46 +63,46 @@ fn the_pace_is_told_whether_messages_move(rt: HostRuntime) -> Result<(), Fail> {
         rested: 0,
     };
     let mut out = MemSink::new(alloc, Vec::new(alloc));
-    let list = words(alloc, PULL)?;
+    let list = made(&rt, words(alloc, PULL));
     let end = run(&rt, &list, &mut net, &mut files, &mut pace, &mut out, 0);
-    assert_eq!(rt; end.status, Status::Over);
-    assert_eq!(rt; out.text().len(), 500);
-    assert!(rt; pace.moved > 3 && pace.moved < 20);
-    assert!(rt; pace.rested > 180);
-    Ok(())
+    same(&rt, end.status, Status::Over);
+    same(&rt, out.text().len(), 500);
+    holds(&rt, pace.moved > 3);
+    holds(&rt, pace.moved < 20);
+    holds(&rt, pace.rested > 180);
 }
 
 // These links come, and the pace has so many turns.
-fn within(alloc: Global, links: Vec<MemLink>, turns: u64) -> Result<Outside, NoMemory> {
-    let mut outside = incoming(alloc, links)?;
+fn within(rt: &impl Abort, alloc: Global, links: Vec<MemLink>, turns: u64) -> Outside {
+    let mut outside = made(rt, incoming(alloc, links));
     outside.turns = turns;
-    Ok(outside)
+    outside
 }
 
 // A round ends, however much comes.
 #[test]
-fn a_round_prints_some_messages(rt: HostRuntime) -> Result<(), Fail> {
+fn a_round_prints_some_messages(rt: HostRuntime) {
     let alloc = rt.alloc();
     let mut links = Vec::new(alloc);
-    links.push(talker(alloc, 10_000)?)?;
-    let came = play(&rt, PULL, within(alloc, links, 1)?)?;
-    assert_eq!(rt; came.status, Status::Over);
-    assert!(rt; came.printed.len() >= 64 && came.printed.len() <= 64 * 65);
-    Ok(())
+    made(&rt, links.push(talker(&rt, alloc, 10_000)));
+    let came = made(&rt, play(&rt, PULL, within(&rt, alloc, links, 1)));
+    same(&rt, came.status, Status::Over);
+    holds(&rt, came.printed.len() >= 64);
+    holds(&rt, came.printed.len() <= 64 * 65);
 }
 
 // So many links that give this at once, and then nothing for ever.
-fn all_giving(alloc: Global, count: u32, text: &[u8]) -> Result<Vec<MemLink>, NoMemory> {
+fn all_giving(rt: &impl Abort, alloc: Global, count: u32, text: &[u8]) -> Vec<MemLink> {
     let mut links = Vec::new(alloc);
     for _ in 0..count {
-        links.push(link_of(alloc, &[text], false, ALL)?)?;
+        comes(rt, alloc, &mut links, &[text], false);
     }
-    Ok(links)
+    links
 }
 
 // Each listener is asked until it has no link, or has brought 16 in this turn: 40 links come at one, or 20 at each of two.
 #[test]
-fn each_listener_brings_16_links_a_turn(rt: HostRuntime) -> Result<(), Fail> {
+fn each_listener_brings_16_links_a_turn(rt: HostRuntime) {
     const BOTH: &[&str] = &[
         "--pull",
         "--listen",
@@ -118,29 +122,32 @@ fn each_listener_brings_16_links_a_turn(rt: HostRuntime) -> Result<(), Fail> {
     for (listeners, turns, opened) in rows {
         let is_one = *listeners == 1;
         let each = if is_one { 40 } else { 20 };
-        let mut outside = within(alloc, all_giving(alloc, each, HELLO_80)?, *turns)?;
-        outside.incoming.push(all_giving(alloc, each, HELLO_80)?)?;
-        let came = play(&rt, if is_one { PULL } else { BOTH }, outside)?;
-        assert_eq!(rt; came.status, Status::Over);
-        assert_eq!(rt; came.opened, *opened);
+        let mut outside = within(&rt, alloc, all_giving(&rt, alloc, each, HELLO_80), *turns);
+        made(
+            &rt,
+            outside
+                .incoming
+                .push(all_giving(&rt, alloc, each, HELLO_80)),
+        );
+        let came = made(&rt, play(&rt, if is_one { PULL } else { BOTH }, outside));
+        same(&rt, came.status, Status::Over);
+        same(&rt, came.opened, *opened);
     }
-    Ok(())
 }
 
 // While 256 links are in their greetings nobody is accepted.
 #[test]
-fn nothing_is_accepted_behind_256_greetings(rt: HostRuntime) -> Result<(), Fail> {
+fn nothing_is_accepted_behind_256_greetings(rt: HostRuntime) {
     let alloc = rt.alloc();
-    let links = all_giving(alloc, 300, b"\x00SP")?;
-    let came = play(&rt, PULL, within(alloc, links, 60)?)?;
-    assert_eq!(rt; came.status, Status::Over);
-    assert_eq!(rt; came.opened, 256);
-    Ok(())
+    let links = all_giving(&rt, alloc, 300, b"\x00SP");
+    let came = made(&rt, play(&rt, PULL, within(&rt, alloc, links, 60)));
+    same(&rt, came.status, Status::Over);
+    same(&rt, came.opened, 256);
 }
 
 // A link whose greeting is wrong is in its greetings no more: behind 300 of them one that is right comes up.
 #[test]
-fn wrong_greetings_keep_nobody_out(rt: HostRuntime) -> Result<(), Fail> {
+fn wrong_greetings_keep_nobody_out(rt: HostRuntime) {
     const ONE: &[&str] = &[
         "--pull",
         "--listen",
@@ -150,48 +157,48 @@ fn wrong_greetings_keep_nobody_out(rt: HostRuntime) -> Result<(), Fail> {
         "1",
     ];
     let alloc = rt.alloc();
-    let mut links = all_giving(alloc, 300, b"\x00SQ")?;
-    links.push(talker(alloc, 1)?)?;
-    let came = play(&rt, ONE, within(alloc, links, 60)?)?;
-    assert_eq!(rt; came.status, Status::Done);
-    assert_eq!(rt; came.opened, 301);
-    assert_eq!(rt; came.printed.as_slice(), b"x".as_slice());
-    Ok(())
+    let mut links = all_giving(&rt, alloc, 300, b"\x00SQ");
+    made(&rt, links.push(talker(&rt, alloc, 1)));
+    let came = made(&rt, play(&rt, ONE, within(&rt, alloc, links, 60)));
+    same(&rt, came.status, Status::Done);
+    same(&rt, came.opened, 301);
+    same(&rt, came.printed.as_slice(), b"x".as_slice());
 }
 
 // A link that greets, has nothing so many times, and then gives a message.
-fn late(alloc: Global, idles: u32) -> Result<MemLink, NoMemory> {
+fn late(rt: &impl Abort, alloc: Global, idles: u32) -> MemLink {
     let mut script = Vec::new(alloc);
-    script.push(LinkStep::Bytes(Bytes::from_slice(alloc, HELLO_80)?))?;
+    made(rt, script.push(says(rt, alloc, HELLO_80)));
     for _ in 0..idles {
-        script.push(LinkStep::NotYet)?;
+        made(rt, script.push(LinkStep::NotYet));
     }
-    script.push(LinkStep::Bytes(Bytes::from_slice(alloc, X)?))?;
-    Ok(MemLink::new(alloc, script, ALL, Vec::new(alloc)))
+    made(rt, script.push(says(rt, alloc, X)));
+    MemLink::new(alloc, script, ALL, Vec::new(alloc))
 }
 
 // In 100 turns each of three silent links is read some 100 times.
 #[test]
-fn a_silent_link_is_read_once_a_round(rt: HostRuntime) -> Result<(), Fail> {
+fn a_silent_link_is_read_once_a_round(rt: HostRuntime) {
     let alloc = rt.alloc();
     let rows: &[(u32, usize)] = &[(95, 3), (101, 0)];
     for (idles, printed) in rows {
         let mut links = Vec::new(alloc);
         for _ in 0..3 {
-            links.push(late(alloc, *idles)?)?;
+            made(&rt, links.push(late(&rt, alloc, *idles)));
         }
-        let came = play(&rt, PULL, within(alloc, links, 100)?)?;
-        assert_eq!(rt; came.opened, 3);
-        assert_eq!(rt; came.printed.len(), *printed);
+        let came = made(&rt, play(&rt, PULL, within(&rt, alloc, links, 100)));
+        same(&rt, came.opened, 3);
+        same(&rt, came.printed.len(), *printed);
     }
-    Ok(())
 }
 
 #[test]
-fn a_run_goes_on_for_many_rounds(rt: HostRuntime) -> Result<(), Fail> {
+fn a_run_goes_on_for_many_rounds(rt: HostRuntime) {
     let alloc = rt.alloc();
-    let came = play(&rt, PULL, within(alloc, Vec::new(alloc), 200_000)?)?;
-    assert_eq!(rt; came.status, Status::Over);
-    assert_eq!(rt; came.left, 0);
-    Ok(())
+    let came = made(
+        &rt,
+        play(&rt, PULL, within(&rt, alloc, Vec::new(alloc), 200_000)),
+    );
+    same(&rt, came.status, Status::Over);
+    same(&rt, came.left, 0);
 }

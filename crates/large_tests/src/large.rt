@@ -1,6 +1,7 @@
 //! Bodies of 1 MiB, out and in, of each role.
 ghost use Rattle.std.specs.Prelude.{◌≤◌, ◌<◌, ◌+◌};
 
+use crate::checks::{holds, is_ok, is_true, made};
 use machine_tests::moves::op;
 use proto_bus::Bus;
 use proto_pair::Pair;
@@ -13,7 +14,6 @@ use sp_history::setting::Options;
 use sp_msg::Message;
 use sp_proto::{Act, Offer, Proto, Verdict};
 use std::alloc::Global;
-use std::test::Fail;
 
 const ONE: PipeId = PipeId(1);
 
@@ -111,85 +111,88 @@ fn gets<M: Proto>(m: &mut M, slot: u32, c: Ctx, header: &[u8]) -> bool
 }
 
 #[test]
-fn a_push_and_a_pull(rt: HostRuntime) -> Result<(), Fail> {
+fn a_push_and_a_pull(rt: HostRuntime) {
     let alloc = rt.alloc();
-    let mut push = Push::new(alloc, Options::usual(Role::Push, 0), false)?;
-    push.reserve(2)?;
-    assert!(rt; push.up(ONE).is_ok());
-    assert!(rt; begins(&mut push, alloc, 0));
-    assert!(rt; goes_out(&mut push, 0, b""));
-    let mut pull = Pull::new(alloc, Options::usual(Role::Pull, 0), false)?;
-    pull.reserve(2)?;
-    assert!(rt; pull.up(ONE).is_ok());
-    assert!(rt; comes(&mut pull, alloc, b""));
-    assert!(rt; gets(&mut pull, 0, Ctx(0), b""));
-    Ok(())
+    let mut push = made(&rt, Push::new(alloc, Options::usual(Role::Push, 0), false));
+    made(&rt, push.reserve(2));
+    is_ok(&rt, push.up(ONE));
+    holds(&rt, begins(&mut push, alloc, 0));
+    holds(&rt, goes_out(&mut push, 0, b""));
+    let mut pull = made(&rt, Pull::new(alloc, Options::usual(Role::Pull, 0), false));
+    made(&rt, pull.reserve(2));
+    is_ok(&rt, pull.up(ONE));
+    holds(&rt, comes(&mut pull, alloc, b""));
+    holds(&rt, gets(&mut pull, 0, Ctx(0), b""));
 }
 
 #[test]
-fn a_pair(rt: HostRuntime) -> Result<(), Fail> {
+fn a_pair(rt: HostRuntime) {
     let alloc = rt.alloc();
-    let mut pair = Pair::new(alloc, Options::usual(Role::Pair0, 0), false)?;
-    pair.reserve(2)?;
-    assert!(rt; pair.up(ONE).is_ok());
-    assert!(rt; begins(&mut pair, alloc, 0));
-    assert!(rt; goes_out(&mut pair, 0, b""));
-    assert!(rt; comes(&mut pair, alloc, b""));
-    assert!(rt; gets(&mut pair, 1, Ctx(0), b""));
-    Ok(())
+    let mut pair = made(&rt, Pair::new(alloc, Options::usual(Role::Pair0, 0), false));
+    made(&rt, pair.reserve(2));
+    is_ok(&rt, pair.up(ONE));
+    holds(&rt, begins(&mut pair, alloc, 0));
+    holds(&rt, goes_out(&mut pair, 0, b""));
+    holds(&rt, comes(&mut pair, alloc, b""));
+    holds(&rt, gets(&mut pair, 1, Ctx(0), b""));
 }
 
 #[test]
-fn a_bus(rt: HostRuntime) -> Result<(), Fail> {
+fn a_bus(rt: HostRuntime) {
     let alloc = rt.alloc();
-    let mut bus = Bus::new(alloc, Options::usual(Role::Bus, 0), true)?;
-    bus.reserve(2)?;
-    assert!(rt; bus.up(ONE).is_ok());
-    assert!(rt; bus.up(TWO).is_ok());
-    assert!(rt; begins(&mut bus, alloc, 0));
-    assert!(rt; goes_to_both(&mut bus, 0, b""));
-    assert!(rt; comes(&mut bus, alloc, b""));
-    assert!(rt; gets(&mut bus, 1, Ctx(0), b"\0\0\0\x01"));
-    Ok(())
+    let mut bus = made(&rt, Bus::new(alloc, Options::usual(Role::Bus, 0), true));
+    made(&rt, bus.reserve(2));
+    is_ok(&rt, bus.up(ONE));
+    is_ok(&rt, bus.up(TWO));
+    holds(&rt, begins(&mut bus, alloc, 0));
+    holds(&rt, goes_to_both(&mut bus, 0, b""));
+    holds(&rt, comes(&mut bus, alloc, b""));
+    holds(&rt, gets(&mut bus, 1, Ctx(0), b"\0\0\0\x01"));
 }
 
 #[test]
-fn a_pub(rt: HostRuntime) -> Result<(), Fail> {
+fn a_pub(rt: HostRuntime) {
     let alloc = rt.alloc();
-    let mut publisher = Publish::new(alloc, Options::usual(Role::Pub, 0), false)?;
-    publisher.reserve(1)?;
-    assert!(rt; publisher.up(ONE).is_ok());
-    assert!(rt; publisher.up(TWO).is_ok());
-    assert!(rt; begins(&mut publisher, alloc, 0));
-    assert!(rt; goes_to_both(&mut publisher, 0, b""));
-    Ok(())
+    let mut publisher = made(
+        &rt,
+        Publish::new(alloc, Options::usual(Role::Pub, 0), false),
+    );
+    made(&rt, publisher.reserve(1));
+    is_ok(&rt, publisher.up(ONE));
+    is_ok(&rt, publisher.up(TWO));
+    holds(&rt, begins(&mut publisher, alloc, 0));
+    holds(&rt, goes_to_both(&mut publisher, 0, b""));
 }
 
 #[test]
-fn a_sub(rt: HostRuntime) -> Result<(), Fail> {
+fn a_sub(rt: HostRuntime) {
     let alloc = rt.alloc();
-    let mut sub = Subscribe::new(alloc, Options::usual(Role::Sub, 0), false)?;
-    sub.reserve(4)?;
-    sub.open_ctx(Ctx(1))?;
-    assert!(rt; sub.topic(Ctx(0), b"mm", true)?);
-    assert!(rt; sub.topic(Ctx(1), b"", true)?);
-    assert!(rt; comes(&mut sub, alloc, b""));
-    assert!(rt; gets(&mut sub, 0, Ctx(0), b""));
-    assert!(rt; gets(&mut sub, 1, Ctx(1), b""));
-    Ok(())
+    let mut sub = made(
+        &rt,
+        Subscribe::new(alloc, Options::usual(Role::Sub, 0), false),
+    );
+    made(&rt, sub.reserve(4));
+    made(&rt, sub.open_ctx(Ctx(1)));
+    is_true(&rt, sub.topic(Ctx(0), b"mm", true));
+    is_true(&rt, sub.topic(Ctx(1), b"", true));
+    holds(&rt, comes(&mut sub, alloc, b""));
+    holds(&rt, gets(&mut sub, 0, Ctx(0), b""));
+    holds(&rt, gets(&mut sub, 1, Ctx(1), b""));
 }
 
 #[test]
-fn a_req(rt: HostRuntime) -> Result<(), Fail> {
+fn a_req(rt: HostRuntime) {
     let alloc = rt.alloc();
-    let mut req = Request::new(alloc, Options::usual(Role::Req, 41), false)?;
-    req.reserve(4)?;
-    assert!(rt; req.up(ONE).is_ok());
-    assert!(rt; begins(&mut req, alloc, 0));
-    assert!(rt; goes_out(&mut req, 0, &[128, 0, 0, 41]));
-    assert!(rt; comes(&mut req, alloc, &[128, 0, 0, 41]));
-    assert!(rt; gets(&mut req, 1, Ctx(0), b""));
-    Ok(())
+    let mut req = made(
+        &rt,
+        Request::new(alloc, Options::usual(Role::Req, 41), false),
+    );
+    made(&rt, req.reserve(4));
+    is_ok(&rt, req.up(ONE));
+    holds(&rt, begins(&mut req, alloc, 0));
+    holds(&rt, goes_out(&mut req, 0, &[128, 0, 0, 41]));
+    holds(&rt, comes(&mut req, alloc, &[128, 0, 0, 41]));
+    holds(&rt, gets(&mut req, 1, Ctx(0), b""));
 }
 
 // A request with a backtrace of one hop comes, and is answered.
@@ -206,29 +209,33 @@ fn answers<M: Proto>(m: &mut M, alloc: Global) -> bool
 }
 
 #[test]
-fn a_rep_and_a_respondent(rt: HostRuntime) -> Result<(), Fail> {
+fn a_rep_and_a_respondent(rt: HostRuntime) {
     let alloc = rt.alloc();
-    let mut rep = Reply::new(alloc, Options::usual(Role::Rep, 0), false)?;
-    rep.reserve(4)?;
-    assert!(rt; rep.up(ONE).is_ok());
-    assert!(rt; answers(&mut rep, alloc));
-    let mut respondent = Respond::new(alloc, Options::usual(Role::Respondent, 0), false)?;
-    respondent.reserve(4)?;
-    assert!(rt; respondent.up(ONE).is_ok());
-    assert!(rt; answers(&mut respondent, alloc));
-    Ok(())
+    let mut rep = made(&rt, Reply::new(alloc, Options::usual(Role::Rep, 0), false));
+    made(&rt, rep.reserve(4));
+    is_ok(&rt, rep.up(ONE));
+    holds(&rt, answers(&mut rep, alloc));
+    let mut respondent = made(
+        &rt,
+        Respond::new(alloc, Options::usual(Role::Respondent, 0), false),
+    );
+    made(&rt, respondent.reserve(4));
+    is_ok(&rt, respondent.up(ONE));
+    holds(&rt, answers(&mut respondent, alloc));
 }
 
 #[test]
-fn a_surveyor(rt: HostRuntime) -> Result<(), Fail> {
+fn a_surveyor(rt: HostRuntime) {
     let alloc = rt.alloc();
-    let mut survey = Survey::new(alloc, Options::usual(Role::Surveyor, 41), false)?;
-    survey.reserve(4)?;
-    assert!(rt; survey.up(ONE).is_ok());
-    assert!(rt; survey.up(TWO).is_ok());
-    assert!(rt; begins(&mut survey, alloc, 0));
-    assert!(rt; goes_to_both(&mut survey, 0, &[128, 0, 0, 41]));
-    assert!(rt; comes(&mut survey, alloc, &[128, 0, 0, 41]));
-    assert!(rt; gets(&mut survey, 1, Ctx(0), b""));
-    Ok(())
+    let mut survey = made(
+        &rt,
+        Survey::new(alloc, Options::usual(Role::Surveyor, 41), false),
+    );
+    made(&rt, survey.reserve(4));
+    is_ok(&rt, survey.up(ONE));
+    is_ok(&rt, survey.up(TWO));
+    holds(&rt, begins(&mut survey, alloc, 0));
+    holds(&rt, goes_to_both(&mut survey, 0, &[128, 0, 0, 41]));
+    holds(&rt, comes(&mut survey, alloc, &[128, 0, 0, 41]));
+    holds(&rt, gets(&mut survey, 1, Ctx(0), b""));
 }

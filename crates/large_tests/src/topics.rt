@@ -1,11 +1,11 @@
 //! Many topics: what a sub keeps is what one of its topics is a prefix of, each looked at alone.
+use crate::checks::{holds, is_true, made};
 use machine_tests::moves::{comes, gets};
 use proto_pubsub::Subscribe;
 use sp_base::{Bytes, Ctx, NoMemory, PipeId, Role, next_value};
 use sp_history::setting::Options;
 use sp_proto::{Proto, Verdict};
 use std::alloc::Global;
-use std::test::Fail;
 
 // Up to six letters, `a` and `b`, by the number's bits.
 fn word(alloc: Global, n: u64) -> Result<Bytes, NoMemory> {
@@ -81,9 +81,8 @@ fn runs(alloc: Global, steps: u32) -> Result<bool, NoMemory> {
 }
 
 #[test]
-fn a_frame_is_kept_where_a_topic_is_its_prefix(rt: HostRuntime) -> Result<(), Fail> {
-    assert!(rt; runs(rt.alloc(), 4_000)?);
-    Ok(())
+fn a_frame_is_kept_where_a_topic_is_its_prefix(rt: HostRuntime) {
+    is_true(&rt, runs(rt.alloc(), 4_000));
 }
 
 // The frame comes, and is received.
@@ -109,14 +108,16 @@ fn puts_on(sub: &mut Subscribe, count: u32) -> Result<bool, NoMemory> {
 }
 
 #[test]
-fn ten_thousand_topics_of_one_length(rt: HostRuntime) -> Result<(), Fail> {
+fn ten_thousand_topics_of_one_length(rt: HostRuntime) {
     let alloc = rt.alloc();
-    let mut sub = Subscribe::new(alloc, Options::usual(Role::Sub, 0), false)?;
-    assert!(rt; puts_on(&mut sub, 10_000)?);
-    assert!(rt; is_lost(&mut sub, alloc, &[0, 0, 39, 16, 1]));
-    assert!(rt; is_found(&mut sub, alloc, &[0, 0, 39, 15, 1])?);
+    let mut sub = made(
+        &rt,
+        Subscribe::new(alloc, Options::usual(Role::Sub, 0), false),
+    );
+    is_true(&rt, puts_on(&mut sub, 10_000));
+    holds(&rt, is_lost(&mut sub, alloc, &[0, 0, 39, 16, 1]));
+    is_true(&rt, is_found(&mut sub, alloc, &[0, 0, 39, 15, 1]));
     // A longer body than any topic, and a shorter one.
-    assert!(rt; sub.topic(Ctx(0), b"", true)?);
-    assert!(rt; is_found(&mut sub, alloc, b"")?);
-    Ok(())
+    is_true(&rt, sub.topic(Ctx(0), b"", true));
+    is_true(&rt, is_found(&mut sub, alloc, b""));
 }

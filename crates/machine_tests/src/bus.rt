@@ -6,10 +6,15 @@ use sp_base::{NoMemory, Role};
 use sp_history::setting::Options;
 use sp_proto::{CheckError, Verb};
 use std::alloc::Global;
-use std::test::Fail;
+use std::process::Abort;
 
 fn bus(alloc: Global, raw: bool) -> Result<Bus, NoMemory> {
     Bus::new(alloc, Options::usual(Role::Bus, 0), raw)
+}
+
+// A bus answers each step as it says.
+fn bus_plays(rt: &impl Abort, alloc: Global, raw: bool, steps: &[Call<'_>]) {
+    plays(rt, alloc, bus(alloc, raw), steps);
 }
 
 // A bus that keeps so many messages.
@@ -19,8 +24,13 @@ fn keeping(alloc: Global, queue: u32) -> Result<Bus, NoMemory> {
     Bus::new(alloc, options, false)
 }
 
+// A bus that keeps so many messages answers each step as it says.
+fn keeping_plays(rt: &impl Abort, alloc: Global, queue: u32, steps: &[Call<'_>]) {
+    plays(rt, alloc, keeping(alloc, queue), steps);
+}
+
 #[test]
-fn a_bus_sends_to_all(rt: HostRuntime) -> Result<(), Fail> {
+fn a_bus_sends_to_all(rt: HostRuntime) {
     let steps = [
         Call::Reserve(2),
         Call::Is(Role::Bus, false),
@@ -35,12 +45,11 @@ fn a_bus_sends_to_all(rt: HostRuntime) -> Result<(), Fail> {
         Call::Ends(0),
         Call::Idle,
     ];
-    plays(&rt, rt.alloc(), &mut bus(rt.alloc(), false)?, &steps);
-    Ok(())
+    bus_plays(&rt, rt.alloc(), false, &steps);
 }
 
 #[test]
-fn a_raw_bus_does_not_send_back(rt: HostRuntime) -> Result<(), Fail> {
+fn a_raw_bus_does_not_send_back(rt: HostRuntime) {
     let steps = [
         Call::Reserve(2),
         Call::Up(1),
@@ -54,12 +63,11 @@ fn a_raw_bus_does_not_send_back(rt: HostRuntime) -> Result<(), Fail> {
         Call::HandsBack(1, &[0, 0, 0, 1], b"m"),
         Call::Idle,
     ];
-    plays(&rt, rt.alloc(), &mut bus(rt.alloc(), true)?, &steps);
-    Ok(())
+    bus_plays(&rt, rt.alloc(), true, &steps);
 }
 
 #[test]
-fn a_full_bus_discards_what_comes(rt: HostRuntime) -> Result<(), Fail> {
+fn a_full_bus_discards_what_comes(rt: HostRuntime) {
     let steps = [
         Call::Reserve(2),
         Call::Up(1),
@@ -74,13 +82,11 @@ fn a_full_bus_discards_what_comes(rt: HostRuntime) -> Result<(), Fail> {
         Call::Check(0, Verb::Recv, Ok(())),
         Call::Check(5, Verb::Send, Err(CheckError::NotSupported)),
     ];
-    plays(&rt, rt.alloc(), &mut keeping(rt.alloc(), 1)?, &steps);
-    Ok(())
+    keeping_plays(&rt, rt.alloc(), 1, &steps);
 }
 
 #[test]
-fn a_bus_without_places_keeps_nothing(rt: HostRuntime) -> Result<(), Fail> {
+fn a_bus_without_places_keeps_nothing(rt: HostRuntime) {
     let steps = [Call::Up(1), Call::Frame(1, b"a"), Call::Keeps(0, false)];
-    plays(&rt, rt.alloc(), &mut keeping(rt.alloc(), 0)?, &steps);
-    Ok(())
+    keeping_plays(&rt, rt.alloc(), 0, &steps);
 }

@@ -1,16 +1,16 @@
 //! Copies of a send to all that no pipe took: none is left when the send ends.
 ghost use Rattle.std.specs.Prelude.{◌≤◌, ◌<◌, ◌+◌};
 
-use crate::checks::holds;
+use crate::checks::{holds, made};
 use crate::moves::{op, sends};
 use proto_bus::Bus;
 use proto_pubsub::Publish;
 use proto_survey::Survey;
-use sp_base::{Ctx, OpName, PipeId, Role};
+use sp_base::{Ctx, NoMemory, OpName, PipeId, Role};
 use sp_history::setting::Options;
 use sp_proto::Proto;
 use std::alloc::Global;
-use std::test::Fail;
+use std::process::Abort;
 
 const ONE: PipeId = PipeId(1);
 
@@ -49,17 +49,22 @@ fn leave_no_copies<M: Proto>(m: &mut M, alloc: Global) -> bool
     one && two && won && lost
 }
 
+// The machine that was made leaves none.
+fn leaves_none<M: Proto>(rt: &impl Abort, alloc: Global, machine: Result<M, NoMemory>) {
+    let mut m = made(rt, machine);
+    match m.reserve(2) {
+        Ok(()) => holds(rt, leave_no_copies(&mut m, alloc)),
+        Err(_) => panic!(rt; "no memory for two operations"),
+    }
+}
+
 #[test]
-fn a_send_to_all_leaves_no_copy(rt: HostRuntime) -> Result<(), Fail> {
+fn a_send_to_all_leaves_no_copy(rt: HostRuntime) {
     let alloc = rt.alloc();
-    let mut survey = Survey::new(alloc, Options::usual(Role::Surveyor, 0), false)?;
-    survey.reserve(2)?;
-    holds(&rt, leave_no_copies(&mut survey, alloc));
-    let mut bus = Bus::new(alloc, Options::usual(Role::Bus, 0), false)?;
-    bus.reserve(2)?;
-    holds(&rt, leave_no_copies(&mut bus, alloc));
-    let mut publish = Publish::new(alloc, Options::usual(Role::Pub, 0), false)?;
-    publish.reserve(2)?;
-    holds(&rt, leave_no_copies(&mut publish, alloc));
-    Ok(())
+    let options = Options::usual(Role::Surveyor, 0);
+    leaves_none(&rt, alloc, Survey::new(alloc, options, false));
+    let options = Options::usual(Role::Bus, 0);
+    leaves_none(&rt, alloc, Bus::new(alloc, options, false));
+    let options = Options::usual(Role::Pub, 0);
+    leaves_none(&rt, alloc, Publish::new(alloc, options, false));
 }

@@ -1,14 +1,14 @@
 //! Forty pipes or contexts at once: what is kept, and what goes out again, comes in its order.
-use crate::checks::holds;
+use crate::checks::{holds, made};
 use crate::moves::{comes, is_wire, op, sends, wins};
 use proto_reqrep::{Reply, Request};
 use proto_survey::Survey;
-use sp_base::{Ctx, PipeId, Role};
+use sp_base::{Ctx, NoMemory, PipeId, Role};
 use sp_history::setting::Options;
 use sp_msg::Message;
 use sp_proto::{Act, CheckError, Offer, Proto, Verb, Verdict};
 use std::alloc::Global;
-use std::test::Fail;
+use std::process::Abort;
 
 // The numbers below this, from 1 on, are those of the pipes that come up.
 const PIPES: u8 = 41;
@@ -74,26 +74,38 @@ fn gives_raw_replies<M: Proto>(m: &mut M) -> bool {
     true
 }
 
-#[test]
-fn forty_requests_are_kept_and_come_in_their_order(rt: HostRuntime) -> Result<(), Fail> {
-    let mut rep = Reply::new(rt.alloc(), Options::usual(Role::Rep, 0), false)?;
-    holds(&rt, fills(&mut rep, rt.alloc()));
-    holds(&rt, gives_requests(&mut rep));
-    let mut raw = Reply::new(rt.alloc(), Options::usual(Role::Rep, 0), true)?;
-    holds(&rt, fills(&mut raw, rt.alloc()));
-    holds(&rt, gives_raw_requests(&mut raw));
-    Ok(())
+// A rep is filled, and gives all requests.
+fn keeps_requests(rt: &impl Abort, alloc: Global, raw: bool) {
+    let options = Options::usual(Role::Rep, 0);
+    let mut rep = made(rt, Reply::new(alloc, options, raw));
+    holds(rt, fills(&mut rep, alloc));
+    if raw {
+        holds(rt, gives_raw_requests(&mut rep));
+    } else {
+        holds(rt, gives_requests(&mut rep));
+    }
 }
 
 #[test]
-fn forty_raw_replies_are_kept_and_come_in_their_order(rt: HostRuntime) -> Result<(), Fail> {
-    let mut req = Request::new(rt.alloc(), Options::usual(Role::Req, 0), true)?;
-    holds(&rt, fills(&mut req, rt.alloc()));
-    holds(&rt, gives_raw_replies(&mut req));
-    let mut survey = Survey::new(rt.alloc(), Options::usual(Role::Surveyor, 0), true)?;
-    holds(&rt, fills(&mut survey, rt.alloc()));
-    holds(&rt, gives_raw_replies(&mut survey));
-    Ok(())
+fn forty_requests_are_kept_and_come_in_their_order(rt: HostRuntime) {
+    keeps_requests(&rt, rt.alloc(), false);
+    keeps_requests(&rt, rt.alloc(), true);
+}
+
+// A raw machine that was made is filled, and gives all replies.
+fn keeps_raw_replies<M: Proto>(rt: &impl Abort, alloc: Global, machine: Result<M, NoMemory>) {
+    let mut m = made(rt, machine);
+    holds(rt, fills(&mut m, alloc));
+    holds(rt, gives_raw_replies(&mut m));
+}
+
+#[test]
+fn forty_raw_replies_are_kept_and_come_in_their_order(rt: HostRuntime) {
+    let alloc = rt.alloc();
+    let options = Options::usual(Role::Req, 0);
+    keeps_raw_replies(&rt, alloc, Request::new(alloc, options, true));
+    let options = Options::usual(Role::Surveyor, 0);
+    keeps_raw_replies(&rt, alloc, Survey::new(alloc, options, true));
 }
 
 // The context opens, where it is another than that of the socket.
@@ -153,10 +165,10 @@ fn asks_twice<M: Proto>(m: &mut M, alloc: Global) -> bool {
 }
 
 #[test]
-fn each_of_forty_requests_goes_out_again(rt: HostRuntime) -> Result<(), Fail> {
-    let mut req = Request::new(rt.alloc(), Options::usual(Role::Req, 0), false)?;
+fn each_of_forty_requests_goes_out_again(rt: HostRuntime) {
+    let options = Options::usual(Role::Req, 0);
+    let mut req = made(&rt, Request::new(rt.alloc(), options, false));
     holds(&rt, asks_twice(&mut req, rt.alloc()));
-    Ok(())
 }
 
 // The context asks on pipe 1, and its receive waits.
@@ -199,8 +211,8 @@ fn answers_all<M: Proto>(m: &mut M, alloc: Global) -> bool {
 }
 
 #[test]
-fn each_of_forty_replies_goes_to_its_context(rt: HostRuntime) -> Result<(), Fail> {
-    let mut req = Request::new(rt.alloc(), Options::usual(Role::Req, 0), false)?;
+fn each_of_forty_replies_goes_to_its_context(rt: HostRuntime) {
+    let options = Options::usual(Role::Req, 0);
+    let mut req = made(&rt, Request::new(rt.alloc(), options, false));
     holds(&rt, answers_all(&mut req, rt.alloc()));
-    Ok(())
 }

@@ -6,14 +6,19 @@ use sp_base::{NoMemory, Role};
 use sp_history::setting::Options;
 use sp_proto::{CheckError, Verb};
 use std::alloc::Global;
-use std::test::Fail;
+use std::process::Abort;
 
 fn pair(alloc: Global, raw: bool) -> Result<Pair, NoMemory> {
     Pair::new(alloc, Options::usual(Role::Pair0, 0), raw)
 }
 
+// A pair answers each step as it says.
+fn pair_plays(rt: &impl Abort, alloc: Global, raw: bool, steps: &[Call<'_>]) {
+    plays(rt, alloc, pair(alloc, raw), steps);
+}
+
 #[test]
-fn a_pair_has_one_peer(rt: HostRuntime) -> Result<(), Fail> {
+fn a_pair_has_one_peer(rt: HostRuntime) {
     let steps = [
         Call::Reserve(2),
         Call::Is(Role::Pair0, false),
@@ -34,12 +39,11 @@ fn a_pair_has_one_peer(rt: HostRuntime) -> Result<(), Fail> {
         Call::Idle,
         Call::Keeps(0, false),
     ];
-    plays(&rt, rt.alloc(), &mut pair(rt.alloc(), false)?, &steps);
-    Ok(())
+    pair_plays(&rt, rt.alloc(), false, &steps);
 }
 
 #[test]
-fn sends_wait_for_the_peer_in_order(rt: HostRuntime) -> Result<(), Fail> {
+fn sends_wait_for_the_peer_in_order(rt: HostRuntime) {
     let steps = [
         Call::Reserve(2),
         Call::Send(0, 0, &[5], b"x"),
@@ -54,17 +58,15 @@ fn sends_wait_for_the_peer_in_order(rt: HostRuntime) -> Result<(), Fail> {
         Call::HandsBack(1, &[0, 0, 0, 5], b"y"),
         Call::Idle,
     ];
-    plays(&rt, rt.alloc(), &mut pair(rt.alloc(), true)?, &steps);
-    Ok(())
+    pair_plays(&rt, rt.alloc(), true, &steps);
 }
 
 #[test]
-fn a_pair_has_no_contexts(rt: HostRuntime) -> Result<(), Fail> {
+fn a_pair_has_no_contexts(rt: HostRuntime) {
     let steps = [
         Call::Check(0, Verb::Send, Ok(())),
         Call::Check(0, Verb::Recv, Ok(())),
         Call::Check(5, Verb::Recv, Err(CheckError::NotSupported)),
     ];
-    plays(&rt, rt.alloc(), &mut pair(rt.alloc(), false)?, &steps);
-    Ok(())
+    pair_plays(&rt, rt.alloc(), false, &steps);
 }

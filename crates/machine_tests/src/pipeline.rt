@@ -1,5 +1,5 @@
 //! Push and pull: whose turn it is, and what is kept.
-use crate::checks::{holds, plays};
+use crate::checks::{goes_on, holds, made, plays};
 use crate::steps::Call;
 use proto_pipeline::{Pull, Push};
 use sp_base::{NoMemory, PipeId, Role};
@@ -7,18 +7,28 @@ use sp_history::setting::Options;
 use sp_msg::Message;
 use sp_proto::{CheckError, Proto, Verb, Verdict};
 use std::alloc::Global;
-use std::test::Fail;
+use std::process::Abort;
 
 fn pull(alloc: Global) -> Result<Pull, NoMemory> {
     Pull::new(alloc, Options::usual(Role::Pull, 0), false)
+}
+
+// A pull answers each step as it says.
+fn pull_plays(rt: &impl Abort, alloc: Global, steps: &[Call<'_>]) {
+    plays(rt, alloc, pull(alloc), steps);
 }
 
 fn push(alloc: Global, raw: bool) -> Result<Push, NoMemory> {
     Push::new(alloc, Options::usual(Role::Push, 0), raw)
 }
 
+// A push answers each step as it says.
+fn push_plays(rt: &impl Abort, alloc: Global, raw: bool, steps: &[Call<'_>]) {
+    plays(rt, alloc, push(alloc, raw), steps);
+}
+
 #[test]
-fn a_pull_gives_what_came_first(rt: HostRuntime) -> Result<(), Fail> {
+fn a_pull_gives_what_came_first(rt: HostRuntime) {
     let steps = [
         Call::Reserve(2),
         Call::Up(1),
@@ -36,12 +46,11 @@ fn a_pull_gives_what_came_first(rt: HostRuntime) -> Result<(), Fail> {
         Call::Gets(1, b"", b"x"),
         Call::Idle,
     ];
-    plays(&rt, rt.alloc(), &mut pull(rt.alloc())?, &steps);
-    Ok(())
+    pull_plays(&rt, rt.alloc(), &steps);
 }
 
 #[test]
-fn a_push_sends_the_body_on_a_pipe_with_room(rt: HostRuntime) -> Result<(), Fail> {
+fn a_push_sends_the_body_on_a_pipe_with_room(rt: HostRuntime) {
     let steps = [
         Call::Reserve(2),
         Call::Up(1),
@@ -57,23 +66,24 @@ fn a_push_sends_the_body_on_a_pipe_with_room(rt: HostRuntime) -> Result<(), Fail
         Call::HandsBack(1, &[0, 0, 0, 7], b"y"),
         Call::Idle,
     ];
-    plays(&rt, rt.alloc(), &mut push(rt.alloc(), true)?, &steps);
-    Ok(())
+    push_plays(&rt, rt.alloc(), true, &steps);
 }
 
 // A frame with a header of one word comes on pipe 1.
-fn comes_headed(push: &mut Push, alloc: Global) -> Result<bool, Fail> {
-    let mut m = Message::from_body(alloc, b"x")?;
-    m.header_append_u32(7)?;
-    Ok(push.frame(PipeId(1), m) == Verdict::Fine)
+fn comes_headed(rt: &impl Abort, alloc: Global, push: &mut Push) {
+    let Ok(mut m) = Message::from_body(alloc, b"x") else {
+        panic!(rt; "no memory for a message")
+    };
+    holds(rt, m.header_append_u32(7).is_ok());
+    holds(rt, push.frame(PipeId(1), m) == Verdict::Fine);
 }
 
 #[test]
-fn a_push_takes_its_pipes_in_turn(rt: HostRuntime) -> Result<(), Fail> {
-    let mut push = push(rt.alloc(), false)?;
+fn a_push_takes_its_pipes_in_turn(rt: HostRuntime) {
+    let mut push = made(&rt, push(rt.alloc(), false));
     let before = [Call::Reserve(2), Call::Up(1), Call::Up(2)];
-    plays(&rt, rt.alloc(), &mut push, &before);
-    holds(&rt, comes_headed(&mut push, rt.alloc())?);
+    goes_on(&rt, rt.alloc(), &mut push, &before);
+    comes_headed(&rt, rt.alloc(), &mut push);
     let steps = [
         Call::Send(0, 0, &[7], b"x"),
         Call::Send(1, 0, &[7], b"y"),
@@ -83,12 +93,11 @@ fn a_push_takes_its_pipes_in_turn(rt: HostRuntime) -> Result<(), Fail> {
         Call::Full(2),
         Call::CanSend(1, 1),
     ];
-    plays(&rt, rt.alloc(), &mut push, &steps);
-    Ok(())
+    goes_on(&rt, rt.alloc(), &mut push, &steps);
 }
 
 #[test]
-fn each_does_one_thing(rt: HostRuntime) -> Result<(), Fail> {
+fn each_does_one_thing(rt: HostRuntime) {
     const NO: Result<(), CheckError> = Err(CheckError::NotSupported);
     let of_pull = [
         Call::Is(Role::Pull, false),
@@ -96,13 +105,12 @@ fn each_does_one_thing(rt: HostRuntime) -> Result<(), Fail> {
         Call::Check(0, Verb::Send, NO),
         Call::Check(5, Verb::Recv, NO),
     ];
-    plays(&rt, rt.alloc(), &mut pull(rt.alloc())?, &of_pull);
+    pull_plays(&rt, rt.alloc(), &of_pull);
     let of_push = [
         Call::Is(Role::Push, false),
         Call::Check(0, Verb::Send, Ok(())),
         Call::Check(0, Verb::Recv, NO),
         Call::Check(5, Verb::Send, NO),
     ];
-    plays(&rt, rt.alloc(), &mut push(rt.alloc(), false)?, &of_push);
-    Ok(())
+    push_plays(&rt, rt.alloc(), false, &of_push);
 }

@@ -1,13 +1,12 @@
 //! A rep answers whom it was asked by, and bounds how far a request came. A respondent is a rep in all of this.
-use crate::checks::{holds, plays};
+use crate::checks::plays;
 use crate::steps::Call;
 use proto_reqrep::{Reply, Respond};
 use sp_base::Role;
 use sp_history::setting::Options;
-use sp_proto::{CheckError, Proto, Verb};
+use sp_proto::{CheckError, Verb};
 use std::alloc::Global;
 use std::process::Abort;
-use std::test::Fail;
 
 // Seven hops, a request's id, and `q`.
 const SEVEN_HOPS: [u8; 33] = [
@@ -46,16 +45,39 @@ const EIGHT_WORDS: [u8; 32] = [
 ];
 
 // A rep and a respondent both answer each step as it says.
-fn both(rt: &impl Abort, alloc: Global, raw: bool, steps: &[Call<'_>]) -> Result<(), Fail> {
-    let rep = Options::usual(Role::Rep, 0);
-    plays(rt, alloc, &mut Reply::new(alloc, rep, raw)?, steps);
-    let respondent = Options::usual(Role::Respondent, 0);
-    plays(rt, alloc, &mut Respond::new(alloc, respondent, raw)?, steps);
-    Ok(())
+fn both_play(rt: &impl Abort, alloc: Global, raw: bool, steps: &[Call<'_>]) {
+    let options = Options::usual(Role::Rep, 0);
+    plays(rt, alloc, Reply::new(alloc, options, raw), steps);
+    respondent_plays(rt, alloc, raw, steps);
+}
+
+fn respondent_plays(rt: &impl Abort, alloc: Global, raw: bool, steps: &[Call<'_>]) {
+    let options = Options::usual(Role::Respondent, 0);
+    plays(rt, alloc, Respond::new(alloc, options, raw), steps);
+}
+
+// Both do, where a request may come over one hop.
+fn both_play_near(rt: &impl Abort, alloc: Global, steps: &[Call<'_>]) {
+    let mut options = Options::usual(Role::Rep, 0);
+    options.ttl = 1;
+    plays(rt, alloc, Reply::new(alloc, options, false), steps);
+    let mut options = Options::usual(Role::Respondent, 0);
+    options.ttl = 1;
+    plays(rt, alloc, Respond::new(alloc, options, false), steps);
+}
+
+// Both do, raw, where a request may come over fifteen hops.
+fn both_play_far(rt: &impl Abort, alloc: Global, steps: &[Call<'_>]) {
+    let mut options = Options::usual(Role::Rep, 0);
+    options.ttl = 15;
+    plays(rt, alloc, Reply::new(alloc, options, true), steps);
+    let mut options = Options::usual(Role::Respondent, 0);
+    options.ttl = 15;
+    plays(rt, alloc, Respond::new(alloc, options, true), steps);
 }
 
 #[test]
-fn a_reply_goes_back_by_its_backtrace(rt: HostRuntime) -> Result<(), Fail> {
+fn a_reply_goes_back_by_its_backtrace(rt: HostRuntime) {
     let steps = [
         Call::Reserve(2),
         Call::Up(1),
@@ -74,11 +96,11 @@ fn a_reply_goes_back_by_its_backtrace(rt: HostRuntime) -> Result<(), Fail> {
         Call::Fresh,
         Call::GoesOut(1, 1, &[0, 0, 0, 7, 128, 0, 0, 42], b"a"),
     ];
-    both(&rt, rt.alloc(), false, &steps)
+    both_play(&rt, rt.alloc(), false, &steps);
 }
 
 #[test]
-fn a_frame_that_is_cut_short_is_malformed(rt: HostRuntime) -> Result<(), Fail> {
+fn a_frame_that_is_cut_short_is_malformed(rt: HostRuntime) {
     let steps = [
         Call::Reserve(1),
         Call::Up(1),
@@ -95,11 +117,11 @@ fn a_frame_that_is_cut_short_is_malformed(rt: HostRuntime) -> Result<(), Fail> {
         Call::CanGive(0),
         Call::Gets(0, b"", b"q"),
     ];
-    both(&rt, rt.alloc(), false, &steps)
+    both_play(&rt, rt.alloc(), false, &steps);
 }
 
 #[test]
-fn seven_hops_are_not_too_far_and_eight_are(rt: HostRuntime) -> Result<(), Fail> {
+fn seven_hops_are_not_too_far_and_eight_are(rt: HostRuntime) {
     let steps = [
         Call::Reserve(2),
         Call::Up(1),
@@ -112,11 +134,11 @@ fn seven_hops_are_not_too_far_and_eight_are(rt: HostRuntime) -> Result<(), Fail>
         Call::Frame(1, &EIGHT_HOPS),
         Call::Wants(1, true),
     ];
-    both(&rt, rt.alloc(), false, &steps)
+    both_play(&rt, rt.alloc(), false, &steps);
 }
 
 #[test]
-fn one_hop_is_all_where_the_limit_is_one(rt: HostRuntime) -> Result<(), Fail> {
+fn one_hop_is_all_where_the_limit_is_one(rt: HostRuntime) {
     let steps = [
         Call::Reserve(1),
         Call::Up(1),
@@ -127,27 +149,11 @@ fn one_hop_is_all_where_the_limit_is_one(rt: HostRuntime) -> Result<(), Fail> {
         Call::CanGive(0),
         Call::Gets(0, b"", b""),
     ];
-    let mut options = Options::usual(Role::Rep, 0);
-    options.ttl = 1;
-    plays(
-        &rt,
-        rt.alloc(),
-        &mut Reply::new(rt.alloc(), options, false)?,
-        &steps,
-    );
-    let mut options = Options::usual(Role::Respondent, 0);
-    options.ttl = 1;
-    plays(
-        &rt,
-        rt.alloc(),
-        &mut Respond::new(rt.alloc(), options, false)?,
-        &steps,
-    );
-    Ok(())
+    both_play_near(&rt, rt.alloc(), &steps);
 }
 
 #[test]
-fn requests_of_a_pipe_that_is_down_are_gone(rt: HostRuntime) -> Result<(), Fail> {
+fn requests_of_a_pipe_that_is_down_are_gone(rt: HostRuntime) {
     let steps = [
         Call::Reserve(3),
         Call::Up(1),
@@ -162,11 +168,11 @@ fn requests_of_a_pipe_that_is_down_are_gone(rt: HostRuntime) -> Result<(), Fail>
         Call::Idle,
         Call::Check(0, Verb::Send, Err(CheckError::State)),
     ];
-    both(&rt, rt.alloc(), false, &steps)
+    both_play(&rt, rt.alloc(), false, &steps);
 }
 
 #[test]
-fn a_reply_to_a_pipe_that_is_down_goes_nowhere(rt: HostRuntime) -> Result<(), Fail> {
+fn a_reply_to_a_pipe_that_is_down_goes_nowhere(rt: HostRuntime) {
     let steps = [
         Call::Reserve(2),
         Call::Up(1),
@@ -180,11 +186,11 @@ fn a_reply_to_a_pipe_that_is_down_goes_nowhere(rt: HostRuntime) -> Result<(), Fa
         Call::EndsNowhere(1),
         Call::Idle,
     ];
-    both(&rt, rt.alloc(), false, &steps)
+    both_play(&rt, rt.alloc(), false, &steps);
 }
 
 #[test]
-fn two_contexts_answer_their_own(rt: HostRuntime) -> Result<(), Fail> {
+fn two_contexts_answer_their_own(rt: HostRuntime) {
     let steps = [
         Call::Reserve(4),
         Call::Open(1),
@@ -203,11 +209,11 @@ fn two_contexts_answer_their_own(rt: HostRuntime) -> Result<(), Fail> {
         Call::Send(3, 1, &[], b"A"),
         Call::GoesOut(3, 1, &[128, 0, 0, 1], b"A"),
     ];
-    both(&rt, rt.alloc(), false, &steps)
+    both_play(&rt, rt.alloc(), false, &steps);
 }
 
 #[test]
-fn a_raw_replier_shows_its_pipe_and_the_backtrace(rt: HostRuntime) -> Result<(), Fail> {
+fn a_raw_replier_shows_its_pipe_and_the_backtrace(rt: HostRuntime) {
     let steps = [
         Call::Reserve(3),
         Call::Up(1),
@@ -219,11 +225,11 @@ fn a_raw_replier_shows_its_pipe_and_the_backtrace(rt: HostRuntime) -> Result<(),
         Call::Send(2, 0, &[9, 2_147_483_690], b"q"),
         Call::CanDrop(2),
     ];
-    both(&rt, rt.alloc(), true, &steps)
+    both_play(&rt, rt.alloc(), true, &steps);
 }
 
 #[test]
-fn fifteen_words_make_a_header_of_64_bytes(rt: HostRuntime) -> Result<(), Fail> {
+fn fifteen_words_make_a_header_of_64_bytes(rt: HostRuntime) {
     let steps = [
         Call::Reserve(2),
         Call::Up(1),
@@ -233,27 +239,11 @@ fn fifteen_words_make_a_header_of_64_bytes(rt: HostRuntime) -> Result<(), Fail> 
         Call::PassesOn(0, 1, &LONGEST_HEADER, b"q"),
         Call::GoesOut(1, 1, &FIFTEEN_WORDS[..60], b"q"),
     ];
-    let mut options = Options::usual(Role::Rep, 0);
-    options.ttl = 15;
-    plays(
-        &rt,
-        rt.alloc(),
-        &mut Reply::new(rt.alloc(), options, true)?,
-        &steps,
-    );
-    let mut options = Options::usual(Role::Respondent, 0);
-    options.ttl = 15;
-    plays(
-        &rt,
-        rt.alloc(),
-        &mut Respond::new(rt.alloc(), options, true)?,
-        &steps,
-    );
-    Ok(())
+    both_play_far(&rt, rt.alloc(), &steps);
 }
 
 #[test]
-fn the_ninth_word_is_too_far_for_a_respondent(rt: HostRuntime) -> Result<(), Fail> {
+fn the_ninth_word_is_too_far_for_a_respondent(rt: HostRuntime) {
     let steps = [
         Call::Reserve(2),
         Call::Up(1),
@@ -267,14 +257,11 @@ fn the_ninth_word_is_too_far_for_a_respondent(rt: HostRuntime) -> Result<(), Fai
         Call::Send(1, 0, &[], b"r"),
         Call::GoesOut(1, 1, &[255, 0, 0, 5], b"r"),
     ];
-    let options = Options::usual(Role::Respondent, 0);
-    let mut respondent = Respond::new(rt.alloc(), options, false)?;
-    plays(&rt, rt.alloc(), &mut respondent, &steps);
-    Ok(())
+    respondent_plays(&rt, rt.alloc(), false, &steps);
 }
 
 #[test]
-fn the_ninth_word_is_too_far_for_a_raw_respondent(rt: HostRuntime) -> Result<(), Fail> {
+fn the_ninth_word_is_too_far_for_a_raw_respondent(rt: HostRuntime) {
     let steps = [
         Call::Is(Role::Respondent, true),
         Call::Reserve(1),
@@ -285,19 +272,17 @@ fn the_ninth_word_is_too_far_for_a_raw_respondent(rt: HostRuntime) -> Result<(),
         Call::Receive(0, 0),
         Call::Gets(0, &[0, 0, 0, 2, 128, 0, 0, 42], b"q"),
     ];
-    let options = Options::usual(Role::Respondent, 0);
-    let mut respondent = Respond::new(rt.alloc(), options, true)?;
-    plays(&rt, rt.alloc(), &mut respondent, &steps);
-    Ok(())
+    respondent_plays(&rt, rt.alloc(), true, &steps);
 }
 
 #[test]
-fn a_respondent_stands_for_its_role(rt: HostRuntime) -> Result<(), Fail> {
-    let respondent = proto_survey::Respond::new(
+fn a_respondent_stands_for_its_role(rt: HostRuntime) {
+    let options = Options::usual(Role::Respondent, 0);
+    let respondent = proto_survey::Respond::new(rt.alloc(), options, false);
+    plays(
+        &rt,
         rt.alloc(),
-        Options::usual(Role::Respondent, 0),
-        false,
-    )?;
-    holds(&rt, respondent.role() == Role::Respondent);
-    Ok(())
+        respondent,
+        &[Call::Is(Role::Respondent, false)],
+    );
 }

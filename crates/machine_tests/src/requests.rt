@@ -7,15 +7,20 @@ use sp_history::entry::Cause;
 use sp_history::setting::Options;
 use sp_proto::{CheckError, Verb};
 use std::alloc::Global;
-use std::test::Fail;
+use std::process::Abort;
 
 // A req whose ids begin there.
 fn req(alloc: Global, dice: u32, raw: bool) -> Result<Request, NoMemory> {
     Request::new(alloc, Options::usual(Role::Req, dice), raw)
 }
 
+// A req whose ids begin there answers each step as it says.
+fn req_plays(rt: &impl Abort, alloc: Global, dice: u32, raw: bool, steps: &[Call<'_>]) {
+    plays(rt, alloc, req(alloc, dice, raw), steps);
+}
+
 #[test]
-fn a_reply_is_given_once(rt: HostRuntime) -> Result<(), Fail> {
+fn a_reply_is_given_once(rt: HostRuntime) {
     let steps = [
         Call::Reserve(2),
         Call::Up(1),
@@ -31,12 +36,11 @@ fn a_reply_is_given_once(rt: HostRuntime) -> Result<(), Fail> {
         Call::Frame(1, &[128, 0, 0, 0, 112, 111, 110, 103]),
         Call::Check(0, Verb::Recv, Err(CheckError::State)),
     ];
-    plays(&rt, rt.alloc(), &mut req(rt.alloc(), 0, false)?, &steps);
-    Ok(())
+    req_plays(&rt, rt.alloc(), 0, false, &steps);
 }
 
 #[test]
-fn replies_reach_the_contexts_that_asked(rt: HostRuntime) -> Result<(), Fail> {
+fn replies_reach_the_contexts_that_asked(rt: HostRuntime) {
     let steps = [
         Call::Reserve(4),
         Call::Open(1),
@@ -57,12 +61,11 @@ fn replies_reach_the_contexts_that_asked(rt: HostRuntime) -> Result<(), Fail> {
         Call::Check(0, Verb::Recv, Err(CheckError::State)),
         Call::Malformed(1, &[128, 0, 0]),
     ];
-    plays(&rt, rt.alloc(), &mut req(rt.alloc(), 0, false)?, &steps);
-    Ok(())
+    req_plays(&rt, rt.alloc(), 0, false, &steps);
 }
 
 #[test]
-fn a_new_request_replaces_the_old(rt: HostRuntime) -> Result<(), Fail> {
+fn a_new_request_replaces_the_old(rt: HostRuntime) {
     let steps = [
         Call::Reserve(4),
         Call::Up(1),
@@ -80,12 +83,11 @@ fn a_new_request_replaces_the_old(rt: HostRuntime) -> Result<(), Fail> {
         Call::Frame(1, &[128, 0, 0, 1, 121]),
         Call::Check(0, Verb::Recv, Err(CheckError::State)),
     ];
-    plays(&rt, rt.alloc(), &mut req(rt.alloc(), 0, false)?, &steps);
-    Ok(())
+    req_plays(&rt, rt.alloc(), 0, false, &steps);
 }
 
 #[test]
-fn a_request_that_is_given_up_gets_no_reply(rt: HostRuntime) -> Result<(), Fail> {
+fn a_request_that_is_given_up_gets_no_reply(rt: HostRuntime) {
     let steps = [
         Call::Reserve(4),
         Call::Up(1),
@@ -102,15 +104,11 @@ fn a_request_that_is_given_up_gets_no_reply(rt: HostRuntime) -> Result<(), Fail>
         Call::Keeps(0, false),
         Call::Check(0, Verb::Recv, Err(CheckError::State)),
     ];
-    let mut req = req(rt.alloc(), 4_294_967_295, false)?;
-    plays(&rt, rt.alloc(), &mut req, &steps);
-    Ok(())
+    req_plays(&rt, rt.alloc(), 4_294_967_295, false, &steps);
 }
 
 #[test]
-fn a_second_request_gets_its_own_reply_behind_that_of_a_cancelled_one(
-    rt: HostRuntime,
-) -> Result<(), Fail> {
+fn a_second_request_gets_its_own_reply_behind_that_of_a_cancelled_one(rt: HostRuntime) {
     let steps = [
         Call::Reserve(4),
         Call::Up(1),
@@ -128,12 +126,11 @@ fn a_second_request_gets_its_own_reply_behind_that_of_a_cancelled_one(
         Call::Gets(3, b"", b"B"),
         Call::Check(0, Verb::Recv, Err(CheckError::State)),
     ];
-    plays(&rt, rt.alloc(), &mut req(rt.alloc(), 0, false)?, &steps);
-    Ok(())
+    req_plays(&rt, rt.alloc(), 0, false, &steps);
 }
 
 #[test]
-fn ids_wrap_with_the_top_bit_set(rt: HostRuntime) -> Result<(), Fail> {
+fn ids_wrap_with_the_top_bit_set(rt: HostRuntime) {
     let steps = [
         Call::Reserve(2),
         Call::Up(1),
@@ -142,20 +139,18 @@ fn ids_wrap_with_the_top_bit_set(rt: HostRuntime) -> Result<(), Fail> {
         Call::Send(1, 0, &[], b"b"),
         Call::GoesOut(1, 1, &[128, 0, 0, 0], b"b"),
     ];
-    let mut last = req(rt.alloc(), 4_294_967_295, false)?;
-    plays(&rt, rt.alloc(), &mut last, &steps);
+    req_plays(&rt, rt.alloc(), 4_294_967_295, false, &steps);
     let steps = [
         Call::Reserve(1),
         Call::Up(1),
         Call::Send(0, 0, &[], b"a"),
         Call::GoesOut(0, 1, &[128, 0, 0, 5], b"a"),
     ];
-    plays(&rt, rt.alloc(), &mut req(rt.alloc(), 5, false)?, &steps);
-    Ok(())
+    req_plays(&rt, rt.alloc(), 5, false, &steps);
 }
 
 #[test]
-fn a_request_is_never_due_where_its_time_has_no_end(rt: HostRuntime) -> Result<(), Fail> {
+fn a_request_is_never_due_where_its_time_has_no_end(rt: HostRuntime) {
     let mut options = Options::usual(Role::Req, 0);
     options.resend = 18_446_744_073_709_551_615;
     let steps = [
@@ -170,13 +165,16 @@ fn a_request_is_never_due_where_its_time_has_no_end(rt: HostRuntime) -> Result<(
         Call::Up(2),
         Call::CanResend(0, 2),
     ];
-    let mut req = Request::new(rt.alloc(), options, false)?;
-    plays(&rt, rt.alloc(), &mut req, &steps);
-    Ok(())
+    plays(
+        &rt,
+        rt.alloc(),
+        Request::new(rt.alloc(), options, false),
+        &steps,
+    );
 }
 
 #[test]
-fn a_raw_req_moves_one_word(rt: HostRuntime) -> Result<(), Fail> {
+fn a_raw_req_moves_one_word(rt: HostRuntime) {
     let steps = [
         Call::Reserve(2),
         Call::Up(1),
@@ -190,6 +188,5 @@ fn a_raw_req_moves_one_word(rt: HostRuntime) -> Result<(), Fail> {
         Call::Gets(1, &[128, 0, 0, 42], b"a"),
         Call::Malformed(1, &[128, 0, 0]),
     ];
-    plays(&rt, rt.alloc(), &mut req(rt.alloc(), 0, true)?, &steps);
-    Ok(())
+    req_plays(&rt, rt.alloc(), 0, true, &steps);
 }

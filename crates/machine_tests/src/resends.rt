@@ -1,5 +1,5 @@
 //! Requests go to the pipes in turn, and go out again where their pipe goes down.
-use crate::checks::{holds, plays};
+use crate::checks::{holds, made, plays};
 use crate::moves::sends;
 use crate::steps::Call;
 use proto_reqrep::Request;
@@ -7,10 +7,16 @@ use sp_base::{Ctx, PipeId, Role};
 use sp_history::setting::Options;
 use sp_proto::{Offer, Proto};
 use std::alloc::Global;
-use std::test::Fail;
+use std::process::Abort;
+
+// A req answers each step as it says.
+fn req_plays(rt: &impl Abort, alloc: Global, steps: &[Call<'_>]) {
+    let req = Request::new(alloc, Options::usual(Role::Req, 0), false);
+    plays(rt, alloc, req, steps);
+}
 
 #[test]
-fn a_request_goes_out_again(rt: HostRuntime) -> Result<(), Fail> {
+fn a_request_goes_out_again(rt: HostRuntime) {
     let steps = [
         Call::Reserve(1),
         Call::Up(1),
@@ -30,9 +36,27 @@ fn a_request_goes_out_again(rt: HostRuntime) -> Result<(), Fail> {
         Call::Full(2),
         Call::Idle,
     ];
-    let mut req = Request::new(rt.alloc(), Options::usual(Role::Req, 0), false)?;
-    plays(&rt, rt.alloc(), &mut req, &steps);
-    Ok(())
+    req_plays(&rt, rt.alloc(), &steps);
+}
+
+#[test]
+fn a_send_that_waits_goes_out_before_a_request_that_is_due(rt: HostRuntime) {
+    let steps = [
+        Call::Reserve(2),
+        Call::Open(1),
+        Call::Up(1),
+        Call::Send(0, 0, &[], b"a"),
+        Call::GoesOut(0, 1, &[128, 0, 0, 0], b"a"),
+        Call::Down(1),
+        Call::Send(1, 1, &[], b"b"),
+        Call::Up(2),
+        Call::CanSend(1, 2),
+        Call::GoesOut(1, 2, &[128, 0, 0, 1], b"b"),
+        Call::CanResend(0, 2),
+        Call::Resend(0, 2, &[128, 0, 0, 0], b"a"),
+        Call::Idle,
+    ];
+    req_plays(&rt, rt.alloc(), &steps);
 }
 
 // A send begins, and goes out where it is offered. The pipe on which it does.
@@ -65,17 +89,21 @@ fn take_turns<M: Proto>(m: &mut M, alloc: Global) -> bool {
     goes_out(m, alloc, 0) == Some(2)
 }
 
-#[test]
-fn six_requests_go_to_two_pipes_in_turn(rt: HostRuntime) -> Result<(), Fail> {
-    for raw in [false, true] {
-        let mut req = Request::new(rt.alloc(), Options::usual(Role::Req, 0), raw)?;
-        holds(&rt, take_turns(&mut req, rt.alloc()));
-    }
-    Ok(())
+// The requests of a req do.
+fn req_takes_turns(rt: &impl Abort, alloc: Global, raw: bool) {
+    let options = Options::usual(Role::Req, 0);
+    let mut req = made(rt, Request::new(alloc, options, raw));
+    holds(rt, take_turns(&mut req, alloc));
 }
 
 #[test]
-fn a_pipe_that_hangs_is_not_the_next_again(rt: HostRuntime) -> Result<(), Fail> {
+fn six_requests_go_to_two_pipes_in_turn(rt: HostRuntime) {
+    req_takes_turns(&rt, rt.alloc(), false);
+    req_takes_turns(&rt, rt.alloc(), true);
+}
+
+#[test]
+fn a_pipe_that_hangs_is_not_the_next_again(rt: HostRuntime) {
     let steps = [
         Call::Up(1),
         Call::Up(2),
@@ -98,7 +126,5 @@ fn a_pipe_that_hangs_is_not_the_next_again(rt: HostRuntime) -> Result<(), Fail> 
         Call::Resend(0, 2, &[128, 0, 0, 0], b"a"),
         Call::Idle,
     ];
-    let mut req = Request::new(rt.alloc(), Options::usual(Role::Req, 0), false)?;
-    plays(&rt, rt.alloc(), &mut req, &steps);
-    Ok(())
+    req_plays(&rt, rt.alloc(), &steps);
 }

@@ -77,7 +77,7 @@ pub enum Call<'a> {
     GoesOut(u32, u32, &'a [u8], &'a [u8]),
     /// The send ends, which went to many pipes.
     Ends(u32),
-    /// The send ends, which went nowhere.
+    /// The send ends, which went nowhere, without a message.
     EndsNowhere(u32),
     /// The send is lost, and hands its message back.
     HandsBack(u32, &'a [u8], &'a [u8]),
@@ -119,9 +119,6 @@ fn is_told<M: Proto>(m: &mut M, step: Call<'_>) -> bool {
         Call::Fresh => m.fresh(),
         Call::Clock(now) => m.clock(Tick(now)),
         Call::Shut(c) => m.close_ctx(Ctx(c)),
-        Call::EndsNowhere(slot) => {
-            let _ = m.won(op(slot), None);
-        }
         Call::Close => m.close(),
         _ => return false,
     }
@@ -188,6 +185,7 @@ fn is_right_of_ends<M: Proto>(m: &mut M, step: Call<'_>) -> bool {
             is_message(m.won(op(slot), Some(PipeId(p))), header, body)
         }
         Call::Ends(slot) => m.won(op(slot), None).is_none(),
+        Call::EndsNowhere(slot) => m.won(op(slot), None).is_none(),
         Call::HandsBack(slot, header, body) => is_message(m.lost(op(slot)), header, body),
         Call::Loses(slot) => m.lost(op(slot)).is_none(),
         _ => false,

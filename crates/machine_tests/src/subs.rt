@@ -6,7 +6,7 @@ use sp_base::{NoMemory, Role};
 use sp_history::setting::Options;
 use sp_proto::{CheckError, Verb};
 use std::alloc::Global;
-use std::test::Fail;
+use std::process::Abort;
 
 // A sub with a queue of two messages.
 fn sub(alloc: Global, prefer_new: bool, raw: bool) -> Result<Subscribe, NoMemory> {
@@ -16,8 +16,13 @@ fn sub(alloc: Global, prefer_new: bool, raw: bool) -> Result<Subscribe, NoMemory
     Subscribe::new(alloc, options, raw)
 }
 
+// A sub with a queue of two messages answers each step as it says.
+fn sub_plays(rt: &impl Abort, alloc: Global, prefer_new: bool, raw: bool, steps: &[Call<'_>]) {
+    plays(rt, alloc, sub(alloc, prefer_new, raw), steps);
+}
+
 #[test]
-fn a_subscriber_keeps_what_its_topics_match(rt: HostRuntime) -> Result<(), Fail> {
+fn a_subscriber_keeps_what_its_topics_match(rt: HostRuntime) {
     let steps = [
         Call::Reserve(4),
         Call::Frame(1, b"abc"),
@@ -37,12 +42,11 @@ fn a_subscriber_keeps_what_its_topics_match(rt: HostRuntime) -> Result<(), Fail>
         Call::Keeps(0, false),
         Call::Topic(0, b"zz", false, false),
     ];
-    plays(&rt, rt.alloc(), &mut sub(rt.alloc(), true, false)?, &steps);
-    Ok(())
+    sub_plays(&rt, rt.alloc(), true, false, &steps);
 }
 
 #[test]
-fn a_subscriber_keeps_the_older_where_it_prefers_them(rt: HostRuntime) -> Result<(), Fail> {
+fn a_subscriber_keeps_the_older_where_it_prefers_them(rt: HostRuntime) {
     let steps = [
         Call::Reserve(4),
         Call::Topic(0, b"ab", true, true),
@@ -57,12 +61,11 @@ fn a_subscriber_keeps_the_older_where_it_prefers_them(rt: HostRuntime) -> Result
         Call::Gets(1, b"", b"abd"),
         Call::Keeps(0, false),
     ];
-    plays(&rt, rt.alloc(), &mut sub(rt.alloc(), false, false)?, &steps);
-    Ok(())
+    sub_plays(&rt, rt.alloc(), false, false, &steps);
 }
 
 #[test]
-fn a_topic_that_is_off_takes_what_no_other_matches(rt: HostRuntime) -> Result<(), Fail> {
+fn a_topic_that_is_off_takes_what_no_other_matches(rt: HostRuntime) {
     let steps = [
         Call::Reserve(4),
         Call::Topic(0, b"ab", true, true),
@@ -82,12 +85,11 @@ fn a_topic_that_is_off_takes_what_no_other_matches(rt: HostRuntime) -> Result<()
         Call::CanGive(1),
         Call::Gets(1, b"", b""),
     ];
-    plays(&rt, rt.alloc(), &mut sub(rt.alloc(), true, false)?, &steps);
-    Ok(())
+    sub_plays(&rt, rt.alloc(), true, false, &steps);
 }
 
 #[test]
-fn contexts_keep_apart(rt: HostRuntime) -> Result<(), Fail> {
+fn contexts_keep_apart(rt: HostRuntime) {
     let steps = [
         Call::Reserve(4),
         Call::Open(1),
@@ -105,12 +107,11 @@ fn contexts_keep_apart(rt: HostRuntime) -> Result<(), Fail> {
         Call::Check(1, Verb::Recv, Err(CheckError::NoEntry)),
         Call::Check(0, Verb::Send, Err(CheckError::NotSupported)),
     ];
-    plays(&rt, rt.alloc(), &mut sub(rt.alloc(), false, false)?, &steps);
-    Ok(())
+    sub_plays(&rt, rt.alloc(), false, false, &steps);
 }
 
 #[test]
-fn a_frame_goes_to_each_context_that_asked(rt: HostRuntime) -> Result<(), Fail> {
+fn a_frame_goes_to_each_context_that_asked(rt: HostRuntime) {
     let steps = [
         Call::Reserve(4),
         Call::Open(1),
@@ -130,12 +131,11 @@ fn a_frame_goes_to_each_context_that_asked(rt: HostRuntime) -> Result<(), Fail> 
         Call::Keeps(0, false),
         Call::Keeps(1, false),
     ];
-    plays(&rt, rt.alloc(), &mut sub(rt.alloc(), false, false)?, &steps);
-    Ok(())
+    sub_plays(&rt, rt.alloc(), false, false, &steps);
 }
 
 #[test]
-fn a_raw_one_keeps_every_frame(rt: HostRuntime) -> Result<(), Fail> {
+fn a_raw_one_keeps_every_frame(rt: HostRuntime) {
     let steps = [
         Call::Reserve(4),
         Call::Frame(1, b"a"),
@@ -157,6 +157,5 @@ fn a_raw_one_keeps_every_frame(rt: HostRuntime) -> Result<(), Fail> {
         Call::Keeps(0, false),
         Call::Loses(2),
     ];
-    plays(&rt, rt.alloc(), &mut sub(rt.alloc(), false, true)?, &steps);
-    Ok(())
+    sub_plays(&rt, rt.alloc(), false, true, &steps);
 }

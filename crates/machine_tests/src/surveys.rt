@@ -7,10 +7,15 @@ use sp_history::entry::Cause;
 use sp_history::setting::Options;
 use sp_proto::{CheckError, Verb};
 use std::alloc::Global;
-use std::test::Fail;
+use std::process::Abort;
 
 fn survey(alloc: Global, raw: bool) -> Result<Survey, NoMemory> {
     Survey::new(alloc, Options::usual(Role::Surveyor, 0), raw)
+}
+
+// A surveyor answers each step as it says.
+fn survey_plays(rt: &impl Abort, alloc: Global, raw: bool, steps: &[Call<'_>]) {
+    plays(rt, alloc, survey(alloc, raw), steps);
 }
 
 // A surveyor that keeps one response for a survey.
@@ -20,8 +25,13 @@ fn narrow(alloc: Global) -> Result<Survey, NoMemory> {
     Survey::new(alloc, options, false)
 }
 
+// A surveyor that keeps one response for a survey answers each step as it says.
+fn narrow_plays(rt: &impl Abort, alloc: Global, steps: &[Call<'_>]) {
+    plays(rt, alloc, narrow(alloc), steps);
+}
+
 #[test]
-fn a_survey_gives_its_responses_until_it_is_over(rt: HostRuntime) -> Result<(), Fail> {
+fn a_survey_gives_its_responses_until_it_is_over(rt: HostRuntime) {
     let steps = [
         Call::Reserve(8),
         Call::Is(Role::Surveyor, false),
@@ -58,12 +68,11 @@ fn a_survey_gives_its_responses_until_it_is_over(rt: HostRuntime) -> Result<(), 
         Call::Keeps(0, false),
         Call::Check(0, Verb::Recv, Err(CheckError::State)),
     ];
-    plays(&rt, rt.alloc(), &mut survey(rt.alloc(), false)?, &steps);
-    Ok(())
+    survey_plays(&rt, rt.alloc(), false, &steps);
 }
 
 #[test]
-fn a_newer_survey_replaces_the_older(rt: HostRuntime) -> Result<(), Fail> {
+fn a_newer_survey_replaces_the_older(rt: HostRuntime) {
     let steps = [
         Call::Reserve(8),
         Call::Up(1),
@@ -94,12 +103,11 @@ fn a_newer_survey_replaces_the_older(rt: HostRuntime) -> Result<(), Fail> {
         Call::Keeps(0, false),
         Call::Malformed(1, &[128, 0, 0]),
     ];
-    plays(&rt, rt.alloc(), &mut narrow(rt.alloc())?, &steps);
-    Ok(())
+    narrow_plays(&rt, rt.alloc(), &steps);
 }
 
 #[test]
-fn each_context_has_its_survey(rt: HostRuntime) -> Result<(), Fail> {
+fn each_context_has_its_survey(rt: HostRuntime) {
     let steps = [
         Call::Reserve(8),
         Call::Up(1),
@@ -125,12 +133,11 @@ fn each_context_has_its_survey(rt: HostRuntime) -> Result<(), Fail> {
         Call::Shut(1),
         Call::Check(1, Verb::Recv, Err(CheckError::NoEntry)),
     ];
-    plays(&rt, rt.alloc(), &mut survey(rt.alloc(), false)?, &steps);
-    Ok(())
+    survey_plays(&rt, rt.alloc(), false, &steps);
 }
 
 #[test]
-fn a_response_goes_to_the_first_receive_of_its_context(rt: HostRuntime) -> Result<(), Fail> {
+fn a_response_goes_to_the_first_receive_of_its_context(rt: HostRuntime) {
     let steps = [
         Call::Reserve(8),
         Call::Up(1),
@@ -159,12 +166,11 @@ fn a_response_goes_to_the_first_receive_of_its_context(rt: HostRuntime) -> Resul
         Call::CanGive(2),
         Call::Gets(2, b"", b"c"),
     ];
-    plays(&rt, rt.alloc(), &mut survey(rt.alloc(), false)?, &steps);
-    Ok(())
+    survey_plays(&rt, rt.alloc(), false, &steps);
 }
 
 #[test]
-fn a_survey_has_a_copy_for_each_pipe_that_is_up(rt: HostRuntime) -> Result<(), Fail> {
+fn a_survey_has_a_copy_for_each_pipe_that_is_up(rt: HostRuntime) {
     let steps = [
         Call::Reserve(2),
         Call::Up(1),
@@ -174,12 +180,11 @@ fn a_survey_has_a_copy_for_each_pipe_that_is_up(rt: HostRuntime) -> Result<(), F
         Call::Copy(0, 1, &[128, 0, 0, 0], b"s"),
         Call::NoCopy(0, 2),
     ];
-    plays(&rt, rt.alloc(), &mut survey(rt.alloc(), false)?, &steps);
-    Ok(())
+    survey_plays(&rt, rt.alloc(), false, &steps);
 }
 
 #[test]
-fn a_raw_surveyor_keeps_its_header(rt: HostRuntime) -> Result<(), Fail> {
+fn a_raw_surveyor_keeps_its_header(rt: HostRuntime) {
     let steps = [
         Call::Reserve(2),
         Call::Up(1),
@@ -196,6 +201,5 @@ fn a_raw_surveyor_keeps_its_header(rt: HostRuntime) -> Result<(), Fail> {
         Call::Gets(3, &[128, 0, 0, 42], b"a"),
         Call::Malformed(1, &[128, 0, 0]),
     ];
-    plays(&rt, rt.alloc(), &mut survey(rt.alloc(), true)?, &steps);
-    Ok(())
+    survey_plays(&rt, rt.alloc(), true, &steps);
 }

@@ -3,6 +3,7 @@ ghost use Rattle.std.specs.Prelude.{◌≡◌, ◌≤◌, ◌<◌, true, length,
 ghost use Rattle.std.specs.FinMap as map;
 ghost use Rattle.sp_base.specs.Addresses.{is_dialable};
 
+use crate::checks::{holds, made, same};
 use crate::real::{accepted, done};
 use cat_run::real::{RealFiles, RealOut, RealPace, TcpNet};
 use sp_base::{
@@ -181,18 +182,21 @@ fn listening<N: Net>(net: &mut N, first: u16) -> Option<(u32, u16)>
 }
 
 #[test]
-fn pieces_larger_than_the_sockets_hold_pass_byte_for_byte(rt: HostRuntime) -> Result<(), Fail> {
-    let mut pace = RealPace::new(rt.clone()?, &rt, rt.alloc())?;
-    let mut net = TcpNet::new(rt.clone()?, pace.registry()?, rt.alloc());
-    let bytes = patterned(rt.alloc(), LARGE)?;
-    let mut buffer = buffer_of(rt.alloc(), 100_000)?;
+fn pieces_larger_than_the_sockets_hold_pass_byte_for_byte(rt: HostRuntime) {
+    let mut pace = made(&rt, RealPace::new(made(&rt, rt.clone()), &rt, rt.alloc()));
+    let mut net = TcpNet::new(
+        made(&rt, rt.clone()),
+        made(&rt, pace.registry()),
+        rt.alloc(),
+    );
+    let bytes = made(&rt, patterned(rt.alloc(), LARGE));
+    let mut buffer = made(&rt, buffer_of(rt.alloc(), 100_000));
     let mut carried = None;
     if let Some((at, port)) = listening(&mut net, 28_115) {
         let addr = address(1, port);
         carried = carries_both_ways(&mut net, at, &addr, &mut pace, &bytes, &mut buffer);
     }
-    assert!(rt; carried == Some(true));
-    Ok(())
+    same(&rt, carried, Some(true));
 }
 
 // Reads until a fault, within so many turns.
@@ -264,27 +268,33 @@ fn meets_a_reset<R: std::net::Net, N: Net, P: Pace>(
 }
 
 #[test]
-fn a_peer_that_resets_is_a_fault(rt: HostRuntime) -> Result<(), Fail> {
-    let mut pace = RealPace::new(rt.clone()?, &rt, rt.alloc())?;
-    let mut net = TcpNet::new(rt.clone()?, pace.registry()?, rt.alloc());
+fn a_peer_that_resets_is_a_fault(rt: HostRuntime) {
+    let mut pace = made(&rt, RealPace::new(made(&rt, rt.clone()), &rt, rt.alloc()));
+    let mut net = TcpNet::new(
+        made(&rt, rt.clone()),
+        made(&rt, pace.registry()),
+        rt.alloc(),
+    );
     let mut met = None;
     if let Some((at, port)) = listening(&mut net, 28_155) {
         met = meets_a_reset(&rt, &mut net, at, port, false, &mut pace);
     }
-    assert!(rt; met == Some(true));
-    Ok(())
+    same(&rt, met, Some(true));
 }
 
 #[test]
-fn a_write_to_a_peer_that_resets_is_a_fault(rt: HostRuntime) -> Result<(), Fail> {
-    let mut pace = RealPace::new(rt.clone()?, &rt, rt.alloc())?;
-    let mut net = TcpNet::new(rt.clone()?, pace.registry()?, rt.alloc());
+fn a_write_to_a_peer_that_resets_is_a_fault(rt: HostRuntime) {
+    let mut pace = made(&rt, RealPace::new(made(&rt, rt.clone()), &rt, rt.alloc()));
+    let mut net = TcpNet::new(
+        made(&rt, rt.clone()),
+        made(&rt, pace.registry()),
+        rt.alloc(),
+    );
     let mut met = None;
     if let Some((at, port)) = listening(&mut net, 28_235) {
         met = meets_a_reset(&rt, &mut net, at, port, true, &mut pace);
     }
-    assert!(rt; met == Some(true));
-    Ok(())
+    same(&rt, met, Some(true));
 }
 
 // Whether a dial reaches somebody, asked often.
@@ -314,7 +324,8 @@ fn a_listener_at_one_address_is_not_reached_at_another(rt: HostRuntime) -> Resul
     };
     let own = reaches(&mut net, &address(1, port), &mut pace);
     let other = reaches(&mut net, &address(2, port), &mut pace);
-    assert!(rt; own && !other);
+    holds(&rt, own);
+    holds(&rt, !other);
     Ok(())
 }
 
@@ -329,8 +340,8 @@ fn a_listener_at_every_address_is_reached_at_each(rt: HostRuntime) -> Result<(),
             port,
         };
         if let Listened::At(_) = net.listen(&every) {
-            assert!(rt; reaches(&mut net, &address(1, port), &mut pace));
-            assert!(rt; reaches(&mut net, &address(2, port), &mut pace));
+            holds(&rt, reaches(&mut net, &address(1, port), &mut pace));
+            holds(&rt, reaches(&mut net, &address(2, port), &mut pace));
             return Ok(());
         }
     }
@@ -339,17 +350,19 @@ fn a_listener_at_every_address_is_reached_at_each(rt: HostRuntime) -> Result<(),
 }
 
 #[test]
-fn a_file_gives_all_its_bytes(rt: HostRuntime) -> Result<(), Fail> {
-    let bytes = patterned(rt.alloc(), 200_000)?;
+fn a_file_gives_all_its_bytes(rt: HostRuntime) {
+    let bytes = made(&rt, patterned(rt.alloc(), 200_000));
     let name = "known_bytes_of_the_adapters";
-    fs::write(&rt, name, &bytes)?;
-    let mut files = RealFiles::new(rt.clone()?);
+    made(&rt, fs::write(&rt, name, &bytes));
+    let mut files = RealFiles::new(made(&rt, rt.clone()));
     let whole = files.whole(name);
-    fs::remove_file(&rt, name)?;
-    assert!(rt; matches!(&whole, Whole::Bytes(b) if b.as_slice() == bytes.as_slice()));
+    made(&rt, fs::remove_file(&rt, name));
+    holds(
+        &rt,
+        matches!(&whole, Whole::Bytes(b) if b.as_slice() == bytes.as_slice()),
+    );
     let gone = files.whole(name);
-    assert!(rt; matches!(&gone, Whole::Failed));
-    Ok(())
+    holds(&rt, matches!(&gone, Whole::Failed));
 }
 
 /// An output that takes little at a time, and nothing at each third call; it compares what it takes.
@@ -400,8 +413,8 @@ impl Clock for SlowOutput {
 }
 
 #[test]
-fn a_slow_output_takes_all_that_was_put(rt: HostRuntime) -> Result<(), Fail> {
-    let bytes = patterned(rt.alloc(), 1_000)?;
+fn a_slow_output_takes_all_that_was_put(rt: HostRuntime) {
+    let bytes = made(&rt, patterned(rt.alloc(), 1_000));
     let slow = SlowOutput {
         calls: Cell::new(0),
         came: Cell::new(0),
@@ -409,10 +422,9 @@ fn a_slow_output_takes_all_that_was_put(rt: HostRuntime) -> Result<(), Fail> {
     };
     let mut out = RealOut::new(&slow);
     let put = out.put(&bytes);
-    assert_eq!(rt; put, Sunk::Done);
-    assert!(rt; slow.right.get());
-    assert_eq!(rt; slow.came.get(), 1_000);
-    Ok(())
+    same(&rt, put, Sunk::Done);
+    holds(&rt, slow.right.get());
+    same(&rt, slow.came.get(), 1_000);
 }
 
 /// An output that takes a few bytes once, and then fails so for ever, or takes nothing.
@@ -461,7 +473,7 @@ impl Clock for FailingOutput {
 
 // As of a pipe that was closed, a device that is full, and one that takes nothing.
 #[test]
-fn an_output_that_fails_is_a_fault(rt: HostRuntime) -> Result<(), Fail> {
+fn an_output_that_fails_is_a_fault(rt: HostRuntime) {
     let kinds = [
         Some(ErrorKind::BrokenPipe),
         Some(ErrorKind::StorageFull),
@@ -474,8 +486,7 @@ fn an_output_that_fails_is_a_fault(rt: HostRuntime) -> Result<(), Fail> {
             came: Cell::new(0),
         };
         let mut out = RealOut::new(&failing);
-        assert_eq!(rt; out.put(b"more than seven"), Sunk::Failed);
-        assert_eq!(rt; failing.came.get(), 7);
+        same(&rt, out.put(b"more than seven"), Sunk::Failed);
+        same(&rt, failing.came.get(), 7);
     }
-    Ok(())
 }

@@ -1,12 +1,12 @@
 //! Standard input as the file `-`: one that ends, one that fails.
 
+use crate::checks::{holds, made};
 use cat_run::real::RealFiles;
 use sp_base::{Files, Whole};
 use std::alloc::{Allocator, Global};
 use std::fs::{Metadata, OpenOptions};
 use std::io::{BufRead, Error, ErrorKind, Lines, Read, Result as IoResult};
 use std::rt::Files as SystemFiles;
-use std::test::Fail;
 
 /// Gives so many bytes, one at a read, and then its end or a fault.
 #[derive(Clone, Copy, Debug, Drop)]
@@ -122,52 +122,58 @@ impl<R: SystemFiles + Drop> SystemFiles for MachineFiles<R> {
 }
 
 #[test]
-fn an_empty_input_is_an_empty_file(rt: HostRuntime) -> Result<(), Fail> {
+fn an_empty_input_is_an_empty_file(rt: HostRuntime) {
     let input = CountedInput {
         left: 0,
         fails: false,
     };
     let mut files = RealFiles::new(MachineFiles {
-        rt: rt.clone()?,
+        rt: made(&rt, rt.clone()),
         input,
     });
     let whole = files.whole("-");
-    assert!(rt; matches!(&whole, Whole::Bytes(b) if b.as_slice().is_empty()));
-    Ok(())
+    holds(
+        &rt,
+        matches!(&whole, Whole::Bytes(b) if b.as_slice().is_empty()),
+    );
 }
 
 #[test]
-fn an_input_gives_all_its_bytes(rt: HostRuntime) -> Result<(), Fail> {
+fn an_input_gives_all_its_bytes(rt: HostRuntime) {
     let input = CountedInput {
         left: 20_000,
         fails: false,
     };
     let mut files = RealFiles::new(MachineFiles {
-        rt: rt.clone()?,
+        rt: made(&rt, rt.clone()),
         input,
     });
     let mut wanted = Vec::new(rt.alloc());
     for gone in 0..20_000u32 {
-        wanted.push(((20_000 - gone) % 251) as u8)?;
+        made(&rt, wanted.push(((20_000 - gone) % 251) as u8));
     }
     let whole = files.whole("-");
-    assert!(rt; matches!(&whole, Whole::Bytes(b) if b.as_slice() == wanted.as_slice()));
-    Ok(())
+    holds(
+        &rt,
+        matches!(&whole, Whole::Bytes(b) if b.as_slice() == wanted.as_slice()),
+    );
 }
 
 // Also where bytes came before: a part of an input is no file.
 #[test]
-fn an_input_that_fails_is_a_fault(rt: HostRuntime) -> Result<(), Fail> {
+fn an_input_that_fails_is_a_fault(rt: HostRuntime) {
     for left in [0u32, 1, 20_000] {
         let input = CountedInput { left, fails: true };
         let mut files = RealFiles::new(MachineFiles {
-            rt: rt.clone()?,
+            rt: made(&rt, rt.clone()),
             input,
         });
         let whole = files.whole("-");
-        assert!(rt; matches!(&whole, Whole::Failed));
+        holds(&rt, matches!(&whole, Whole::Failed));
         let other = files.whole("/dev/null");
-        assert!(rt; matches!(&other, Whole::Bytes(b) if b.as_slice().is_empty()));
+        holds(
+            &rt,
+            matches!(&other, Whole::Bytes(b) if b.as_slice().is_empty()),
+        );
     }
-    Ok(())
 }

@@ -4,6 +4,8 @@
 #[cfg(test)]
 mod adapters;
 #[cfg(test)]
+mod checks;
+#[cfg(test)]
 mod input;
 #[cfg(test)]
 mod real;

@@ -1,5 +1,6 @@
 //! Runs over WebSocket on the machine's sockets, byte for byte: the peer writes and hears plain bytes.
 
+use crate::checks::same;
 use cat_run::real::{RealFiles, RealPace, TcpNet};
 use cat_run::{Status, run};
 use sp_base::{Pace, Paced};
@@ -211,9 +212,9 @@ fn a_rep_answers_a_websocket_of_this_machine(rt: HostRuntime) -> Result<(), Fail
     for port in 28_275..28_305 {
         let came = rep_at(&rt, &rt, port)?;
         if came.status != Status::NetFault {
-            assert_eq!(rt; came.status, Status::Done);
-            assert_eq!(rt; came.printed.as_slice(), b"q\n".as_slice());
-            assert_eq!(rt; came.heard.as_slice(), REPLIED);
+            same(&rt, came.status, Status::Done);
+            same(&rt, came.printed.as_slice(), b"q\n".as_slice());
+            same(&rt, came.heard.as_slice(), REPLIED);
             return Ok(());
         }
     }
@@ -245,8 +246,8 @@ fn a_pull_dials_a_websocket_of_this_machine(rt: HostRuntime) -> Result<(), Fail>
         "20",
     ];
     let came = played(&rt, &rt, &words, Door::Waits(listener), says)?;
-    assert_eq!(rt; came.status, Status::Done);
-    assert_eq!(rt; came.printed.as_slice(), b"hello\n".as_slice());
-    assert_eq!(rt; came.heard.as_slice(), asks.as_bytes());
+    same(&rt, came.status, Status::Done);
+    same(&rt, came.printed.as_slice(), b"hello\n".as_slice());
+    same(&rt, came.heard.as_slice(), asks.as_bytes());
     Ok(())
 }

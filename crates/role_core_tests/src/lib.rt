@@ -10,8 +10,6 @@ mod failing;
 #[cfg(test)]
 mod floods;
 #[cfg(test)]
-mod out_wire;
-#[cfg(test)]
 mod pairs;
 #[cfg(test)]
 mod races;

@@ -1,166 +1,116 @@
 //! What a race that is lost, a deadline and a context that is shut do to a request.
-use crate::checks::{
-    PipeStep, due, finished, is_back, is_gone, is_received, is_sent, joins, message, next_put,
-    opened, receives, recv_code, send_code, sends, sent, shut_code, totals,
-};
-use crate::replies::rep;
-use crate::requests::req;
+use crate::replies::rep_plays;
+use crate::requests::req_plays;
 use aio_word::{Phase, Polled, Raced};
-use core_driver::Driver;
-use proto_reqrep::{Reply, Request};
-use sp_base::{Ctx, Tick};
-use sp_fakes::MemWire;
+use core_plays::{Give, Out, Step};
 use sp_history::entry::Cause;
-use sp_proto::Proto;
-use std::alloc::Global;
-use std::process::Abort;
-use std::sync::Wait;
 
 #[test]
 fn a_reply_that_meets_a_cancelled_receive_is_gone_with_its_request(rt: HostRuntime) {
-    let alloc = rt.alloc();
-    let driver: Driver<Request, MemWire> = req(&rt, alloc, false, 0);
-    a_reply_that_meets_a_cancelled_receive_is_gone_with_its_request_with(&rt, alloc, driver);
-}
-
-fn a_reply_that_meets_a_cancelled_receive_is_gone_with_its_request_with<P: Proto, R: Wait + Abort>(
-    rt: &R,
-    alloc: Global,
-    mut driver: Driver<P, MemWire>,
-) {
-    assert_eq!(rt;
-        joins(
-            rt,
-            alloc,
-            &mut driver,
-            0,
-            8,
-            &[PipeStep::Frame(b"\x80\0\0\0a")]
-        ),
-        1
-    );
-    sends(rt, alloc, &mut driver, Ctx(0), &[], b"q");
-    is_sent(rt, driver.collect(rt));
-    let receive = receives(rt, &mut driver, Ctx(0));
-    assert_eq!(rt; driver.cancel(receive), Some(Raced::Won));
-    driver.serve(rt);
-    is_gone(rt, driver.collect(rt), Cause::Cancelled, 1);
-    assert_eq!(rt; recv_code(driver.begin_recv(rt, Ctx(0), None)), 11);
-    assert_eq!(rt; driver.close(rt), totals([2, 1, 1, 1, 1, 0]));
-    finished(rt, alloc, driver);
+    let steps = [
+        Step::Joins(0, 8, &[Give::Frame(b"\x80\0\0\0a")], 1),
+        Step::Send(0, &[], b"q"),
+        Step::Sent,
+        Step::Receive(0),
+        Step::Cancel(1, Raced::Won),
+        Step::Serve,
+        Step::Gone(Cause::Cancelled, 1),
+        Step::NoReceive(0, 11),
+        Step::Close([2, 1, 1, 1, 1, 0]),
+    ];
+    let outs = [Out::Put(1, &[b"\x80\0\0\0q"])];
+    req_plays(&rt, rt.alloc(), false, 0, &steps, &outs);
 }
 
 #[test]
 fn a_request_that_meets_a_cancelled_receive_stays_for_the_next_one(rt: HostRuntime) {
-    let alloc = rt.alloc();
-    let driver: Driver<Reply, MemWire> = rep(&rt, alloc, false);
-    a_request_that_meets_a_cancelled_receive_stays_for_the_next_one_with(&rt, alloc, driver);
+    let steps = [
+        Step::Joins(0, 8, &[Give::Frame(b"\x80\0\0\x01q")], 1),
+        Step::Receive(0),
+        Step::Cancel(0, Raced::Won),
+        Step::Serve,
+        Step::Gone(Cause::Cancelled, 1),
+        // It has stored nothing that a send could answer.
+        Step::NoSend(0, &[7], b"a", 11),
+        Step::Receive(0),
+        Step::Received(b"", b"q"),
+        Step::Close([2, 1, 1, 1, 0, 0]),
+    ];
+    let outs = [Out::Put(1, &[])];
+    rep_plays(&rt, rt.alloc(), false, &steps, &outs);
 }
 
-fn a_request_that_meets_a_cancelled_receive_stays_for_the_next_one_with<P: Proto, R: Wait + Abort>(
-    rt: &R,
-    alloc: Global,
-    mut driver: Driver<P, MemWire>,
-) {
-    assert_eq!(rt;
-        joins(
-            rt,
-            alloc,
-            &mut driver,
-            0,
-            8,
-            &[PipeStep::Frame(b"\x80\0\0\x01q")]
-        ),
-        1
-    );
-    let receive = receives(rt, &mut driver, Ctx(0));
-    assert_eq!(rt; driver.cancel(receive), Some(Raced::Won));
-    driver.serve(rt);
-    is_gone(rt, driver.collect(rt), Cause::Cancelled, 1);
-    // It has stored nothing that a send could answer.
-    let a = message(rt, alloc, &[7], b"a");
-    let refused = driver.begin_send(rt, Ctx(0), a, None);
-    assert_eq!(rt; send_code(rt, refused, b"\0\0\0\x07", b"a"), 11);
-    receives(rt, &mut driver, Ctx(0));
-    is_received(rt, driver.collect(rt), b"", b"q");
-    assert_eq!(rt; driver.close(rt), totals([2, 1, 1, 1, 0, 0]));
-    finished(rt, alloc, driver);
+#[test]
+fn a_begin_finds_the_receive_that_was_cancelled_ended(rt: HostRuntime) {
+    // Of a req it has given its request up, of a rep it has left its place.
+    let req = [
+        Step::Joins(0, 8, &[Give::Pause], 1),
+        Step::Send(0, &[], b"q"),
+        Step::Sent,
+        Step::Receive(0),
+        Step::Cancel(1, Raced::Won),
+        Step::NoReceive(0, 11),
+        Step::Gone(Cause::Cancelled, 1),
+        Step::Close([2, 1, 1, 0, 1, 0]),
+    ];
+    let outs = [Out::Put(1, &[b"\x80\0\0\0q"])];
+    req_plays(&rt, rt.alloc(), false, 0, &req, &outs);
+    let rep = [
+        Step::Joins(0, 8, &[Give::Frame(b"\x80\0\0\x01q")], 1),
+        Step::Receive(0),
+        Step::Cancel(0, Raced::Won),
+        Step::Receive(0),
+        Step::Swap,
+        Step::Gone(Cause::Cancelled, 1),
+        Step::Serve,
+        Step::Received(b"", b"q"),
+        Step::Close([2, 1, 1, 1, 0, 0]),
+    ];
+    rep_plays(&rt, rt.alloc(), false, &rep, &[Out::Put(1, &[])]);
 }
 
 #[test]
 fn a_send_that_times_out_gives_its_request_up(rt: HostRuntime) {
-    let alloc = rt.alloc();
-    let driver: Driver<Request, MemWire> = req(&rt, alloc, false, 0);
-    a_send_that_times_out_gives_its_request_up_with(&rt, alloc, driver);
-}
-
-fn a_send_that_times_out_gives_its_request_up_with<P: Proto, R: Wait + Abort>(
-    rt: &R,
-    alloc: Global,
-    mut driver: Driver<P, MemWire>,
-) {
-    let a = message(rt, alloc, &[7], b"a");
-    let send = sent(rt, driver.begin_send(rt, Ctx(0), a, Some(Tick(5))));
-    let receive = receives(rt, &mut driver, Ctx(0));
-    assert_eq!(rt; due(rt, alloc, &mut driver, Tick(5)), 1);
-    assert_eq!(rt; driver.expire(send), Some(Raced::Won));
-    // The receive waits until the send is collected, and ends in that turn.
-    assert_eq!(rt; driver.poll(receive), Some(Polled::Pending));
-    driver.swap();
-    is_back(
-        rt,
-        driver.collect(rt),
-        Cause::TimedOut,
-        1,
-        b"\0\0\0\x07",
-        b"a",
-    );
     let superseded = Polled::Ended {
         phase: Phase::Superseded,
         by: 0,
     };
-    assert_eq!(rt; driver.poll(receive), Some(superseded));
-    is_gone(rt, driver.collect(rt), Cause::Superseded, 0);
-    // Nothing is left to go out, and nothing to be received.
-    assert_eq!(rt; joins(rt, alloc, &mut driver, 0, 8, &[]), 1);
-    assert_eq!(rt; recv_code(driver.begin_recv(rt, Ctx(0), None)), 11);
-    assert_eq!(rt; driver.close(rt), totals([2, 0, 2, 0, 0, 0]));
-    let mut wires = finished(rt, alloc, driver);
-    next_put(rt, &mut wires, 1, &[]);
+    let steps = [
+        Step::SendBy(0, &[7], b"a", 5),
+        Step::Receive(0),
+        Step::Due(5, 1),
+        Step::Expire(0, Raced::Won),
+        // The receive waits until the send is collected, and ends in that turn.
+        Step::Poll(1, Polled::Pending),
+        Step::Swap,
+        Step::Back(Cause::TimedOut, 1, &[7], b"a"),
+        Step::Poll(1, superseded),
+        Step::Gone(Cause::Superseded, 0),
+        // Nothing is left to go out, and nothing to be received.
+        Step::Joins(0, 8, &[Give::Pause], 1),
+        Step::NoReceive(0, 11),
+        Step::Close([2, 0, 2, 0, 0, 0]),
+    ];
+    req_plays(&rt, rt.alloc(), false, 0, &steps, &[Out::Put(1, &[])]);
 }
 
 #[test]
 fn a_context_that_is_shut_ends_its_request(rt: HostRuntime) {
-    let alloc = rt.alloc();
-    let driver: Driver<Request, MemWire> = req(&rt, alloc, false, 0);
-    a_context_that_is_shut_ends_its_request_with(&rt, alloc, driver);
-}
-
-fn a_context_that_is_shut_ends_its_request_with<P: Proto, R: Wait + Abort>(
-    rt: &R,
-    alloc: Global,
-    mut driver: Driver<P, MemWire>,
-) {
-    assert_eq!(rt; opened(rt, driver.open_ctx(rt)), 1);
-    sends(rt, alloc, &mut driver, Ctx(0), &[], b"o");
-    sends(rt, alloc, &mut driver, Ctx(1), &[7], b"a");
-    receives(rt, &mut driver, Ctx(1));
-    assert_eq!(rt; shut_code(driver.close_ctx(rt, Ctx(1))), 0);
-    is_gone(rt, driver.collect(rt), Cause::Closed, 0);
-    is_back(
-        rt,
-        driver.collect(rt),
-        Cause::Closed,
-        0,
-        b"\0\0\0\x07",
-        b"a",
-    );
-    assert_eq!(rt; recv_code(driver.begin_recv(rt, Ctx(1), None)), 12);
-    assert_eq!(rt; recv_code(driver.begin_recv(rt, Ctx(5), None)), 12);
-    // The request of the other context goes out.
-    assert_eq!(rt; joins(rt, alloc, &mut driver, 0, 8, &[]), 1);
-    is_sent(rt, driver.collect(rt));
-    assert_eq!(rt; driver.close(rt), totals([3, 1, 2, 0, 1, 0]));
-    let mut wires = finished(rt, alloc, driver);
-    next_put(rt, &mut wires, 1, &[b"\x80\0\0\0o"]);
+    let steps = [
+        Step::Opens(1),
+        Step::Send(0, &[], b"o"),
+        Step::Send(1, &[7], b"a"),
+        Step::Receive(1),
+        Step::Shuts(1, 0),
+        Step::Gone(Cause::Closed, 0),
+        Step::Back(Cause::Closed, 0, &[7], b"a"),
+        Step::NoReceive(1, 12),
+        Step::NoReceive(5, 12),
+        // The request of the other context goes out.
+        Step::Joins(0, 8, &[Give::Pause], 1),
+        Step::Sent,
+        Step::Close([3, 1, 2, 0, 1, 0]),
+    ];
+    let outs = [Out::Put(1, &[b"\x80\0\0\0o"])];
+    req_plays(&rt, rt.alloc(), false, 0, &steps, &outs);
 }

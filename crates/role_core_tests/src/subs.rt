@@ -1,29 +1,18 @@
 //! Subs: topics, contexts, and what a full queue discards.
-
-use crate::checks::{
-    PipeStep, finished, is_gone, is_now, joins, made, message, now_code, open_code, opened,
-    receives, recv_code, send_code, shut_code, topic_code, totals,
-};
+use crate::checks::{made, plays};
 use aio_word::Raced;
 use core_driver::Driver;
+use core_plays::{Give, Out, PlayWire, Step};
 use proto_pubsub::Subscribe;
-use sp_base::{Ctx, Role};
-use sp_fakes::MemWire;
+use sp_base::Role;
 use sp_history::entry::Cause;
 use sp_history::setting::Options;
-use sp_msg::Wire;
-use sp_proto::Proto;
 use std::alloc::Global;
 use std::process::Abort;
 use std::sync::Wait;
 
 // A sub that keeps two messages a context.
-fn sub<W: Wire>(
-    rt: &impl Abort,
-    alloc: Global,
-    raw: bool,
-    prefer_new: bool,
-) -> Driver<Subscribe, W> {
+fn sub(rt: &impl Abort, alloc: Global, raw: bool, prefer_new: bool) -> Driver<Subscribe, PlayWire> {
     let mut options = Options::usual(Role::Sub, 0);
     options.queue = 2;
     options.prefer_new = prefer_new;
@@ -33,223 +22,148 @@ fn sub<W: Wire>(
     }
 }
 
-#[test]
-fn a_subscriber_keeps_what_its_topics_match(rt: HostRuntime) {
-    let alloc = rt.alloc();
-    let driver: Driver<Subscribe, MemWire> = sub(&rt, alloc, false, true);
-    a_subscriber_keeps_what_its_topics_match_with(&rt, alloc, driver);
-}
-
-fn a_subscriber_keeps_what_its_topics_match_with<P: Proto, R: Wait + Abort>(
+// A core over a sub answers each step as it says, and ends with these wires.
+fn sub_plays<R: Wait + Abort>(
     rt: &R,
     alloc: Global,
-    mut driver: Driver<P, MemWire>,
+    raw: bool,
+    prefer_new: bool,
+    steps: &[Step<'_>],
+    outs: &[Out<'_>],
 ) {
-    assert_eq!(rt;
-        joins(
-            rt,
-            alloc,
-            &mut driver,
-            0,
-            0,
-            &[
-                PipeStep::Frame(b"abc"),
-                PipeStep::Pause,
-                PipeStep::Frame(b"abc"),
-                PipeStep::Frame(b"a"),
-                PipeStep::Frame(b"abd"),
-                PipeStep::Frame(b"abe"),
-            ]
-        ),
-        1
-    );
-    driver.serve(rt);
-    assert_eq!(rt; now_code(driver.try_recv(rt, Ctx(0))), 8);
-    assert_eq!(rt; topic_code(driver.subscribe(rt, Ctx(0), b"ab")), 0);
-    // A topic that is there stays once, and what came before isn't kept.
-    assert_eq!(rt; topic_code(driver.subscribe(rt, Ctx(0), b"ab")), 0);
-    assert_eq!(rt; now_code(driver.try_recv(rt, Ctx(0))), 8);
-    driver.serve(rt);
-    is_now(rt, driver.try_recv(rt, Ctx(0)), b"", b"abd");
-    is_now(rt, driver.try_recv(rt, Ctx(0)), b"", b"abe");
-    assert_eq!(rt; now_code(driver.try_recv(rt, Ctx(0))), 8);
-    assert_eq!(rt; topic_code(driver.unsubscribe(rt, Ctx(0), b"ab")), 0);
-    assert_eq!(rt; topic_code(driver.unsubscribe(rt, Ctx(0), b"ab")), 12);
-    assert_eq!(rt; driver.close(rt), totals([2, 2, 0, 5, 0, 0]));
-    finished(rt, alloc, driver);
+    plays(rt, alloc, sub(rt, alloc, raw, prefer_new), steps, outs);
+}
+
+// Nothing was put on the one pipe.
+const NOTHING: [Out<'static>; 1] = [Out::Put(1, &[])];
+
+#[test]
+fn a_subscriber_keeps_what_its_topics_match(rt: HostRuntime) {
+    let gives = [
+        Give::Frame(b"abc"),
+        Give::Pause,
+        Give::Frame(b"abc"),
+        Give::Frame(b"a"),
+        Give::Frame(b"abd"),
+        Give::Frame(b"abe"),
+    ];
+    let steps = [
+        Step::Joins(0, 0, &gives, 1),
+        Step::Serve,
+        Step::NotNow(0, 8),
+        Step::Subscribes(0, b"ab", 0),
+        // A topic that is there stays once, and what came before isn't kept.
+        Step::Subscribes(0, b"ab", 0),
+        Step::NotNow(0, 8),
+        Step::Serve,
+        Step::Now(0, b"", b"abd"),
+        Step::Now(0, b"", b"abe"),
+        Step::NotNow(0, 8),
+        Step::Unsubscribes(0, b"ab", 0),
+        Step::Unsubscribes(0, b"ab", 12),
+        Step::Close([2, 2, 0, 5, 0, 0]),
+    ];
+    sub_plays(&rt, rt.alloc(), false, true, &steps, &NOTHING);
 }
 
 #[test]
 fn a_subscriber_that_prefers_the_older_discards_the_new_one(rt: HostRuntime) {
-    let alloc = rt.alloc();
-    let driver: Driver<Subscribe, MemWire> = sub(&rt, alloc, false, false);
-    a_subscriber_that_prefers_the_older_discards_the_new_one_with(&rt, alloc, driver);
-}
-
-fn a_subscriber_that_prefers_the_older_discards_the_new_one_with<P: Proto, R: Wait + Abort>(
-    rt: &R,
-    alloc: Global,
-    mut driver: Driver<P, MemWire>,
-) {
-    assert_eq!(rt;
-        joins(
-            rt,
-            alloc,
-            &mut driver,
-            0,
-            0,
-            &[
-                PipeStep::Frame(b"abc"),
-                PipeStep::Frame(b"abd"),
-                PipeStep::Frame(b"abe"),
-            ]
-        ),
-        1
-    );
-    assert_eq!(rt; topic_code(driver.subscribe(rt, Ctx(0), b"")), 0);
-    driver.serve(rt);
-    is_now(rt, driver.try_recv(rt, Ctx(0)), b"", b"abc");
-    is_now(rt, driver.try_recv(rt, Ctx(0)), b"", b"abd");
-    assert_eq!(rt; now_code(driver.try_recv(rt, Ctx(0))), 8);
-    assert_eq!(rt; driver.close(rt), totals([2, 2, 0, 3, 0, 0]));
-    finished(rt, alloc, driver);
+    let gives = [
+        Give::Frame(b"abc"),
+        Give::Frame(b"abd"),
+        Give::Frame(b"abe"),
+    ];
+    let steps = [
+        Step::Joins(0, 0, &gives, 1),
+        Step::Subscribes(0, b"", 0),
+        Step::Serve,
+        Step::Now(0, b"", b"abc"),
+        Step::Now(0, b"", b"abd"),
+        Step::NotNow(0, 8),
+        Step::Close([2, 2, 0, 3, 0, 0]),
+    ];
+    sub_plays(&rt, rt.alloc(), false, false, &steps, &NOTHING);
 }
 
 #[test]
 fn contexts_keep_apart(rt: HostRuntime) {
-    let alloc = rt.alloc();
-    let driver: Driver<Subscribe, MemWire> = sub(&rt, alloc, false, true);
-    contexts_keep_apart_with(&rt, alloc, driver);
-}
-
-fn contexts_keep_apart_with<P: Proto, R: Wait + Abort>(
-    rt: &R,
-    alloc: Global,
-    mut driver: Driver<P, MemWire>,
-) {
-    assert_eq!(rt; opened(rt, driver.open_ctx(rt)), 1);
-    assert_eq!(rt; opened(rt, driver.open_ctx(rt)), 2);
-    assert_eq!(rt; topic_code(driver.subscribe(rt, Ctx(0), b"a")), 0);
-    assert_eq!(rt; topic_code(driver.subscribe(rt, Ctx(1), b"ab")), 0);
-    assert_eq!(rt; topic_code(driver.subscribe(rt, Ctx(2), b"a")), 0);
-    assert_eq!(rt;
-        joins(
-            rt,
-            alloc,
-            &mut driver,
-            0,
-            0,
-            &[PipeStep::Frame(b"abc"), PipeStep::Frame(b"ax")]
-        ),
-        1
-    );
-    driver.serve(rt);
-    assert_eq!(rt; topic_code(driver.unsubscribe(rt, Ctx(2), b"a")), 0);
-    assert_eq!(rt; now_code(driver.try_recv(rt, Ctx(2))), 8);
-    is_now(rt, driver.try_recv(rt, Ctx(1)), b"", b"abc");
-    assert_eq!(rt; now_code(driver.try_recv(rt, Ctx(1))), 8);
-    is_now(rt, driver.try_recv(rt, Ctx(0)), b"", b"abc");
-    is_now(rt, driver.try_recv(rt, Ctx(0)), b"", b"ax");
-    assert_eq!(rt; now_code(driver.try_recv(rt, Ctx(0))), 8);
-    assert_eq!(rt; driver.close(rt), totals([3, 3, 0, 2, 0, 0]));
-    finished(rt, alloc, driver);
+    let steps = [
+        Step::Opens(1),
+        Step::Opens(2),
+        Step::Subscribes(0, b"a", 0),
+        Step::Subscribes(1, b"ab", 0),
+        Step::Subscribes(2, b"a", 0),
+        Step::Joins(0, 0, &[Give::Frame(b"abc"), Give::Frame(b"ax")], 1),
+        Step::Serve,
+        Step::Unsubscribes(2, b"a", 0),
+        Step::NotNow(2, 8),
+        Step::Now(1, b"", b"abc"),
+        Step::NotNow(1, 8),
+        Step::Now(0, b"", b"abc"),
+        Step::Now(0, b"", b"ax"),
+        Step::NotNow(0, 8),
+        Step::Close([3, 3, 0, 2, 0, 0]),
+    ];
+    sub_plays(&rt, rt.alloc(), false, true, &steps, &NOTHING);
 }
 
 #[test]
 fn a_context_that_is_shut_ends_its_receives(rt: HostRuntime) {
-    let alloc = rt.alloc();
-    let driver: Driver<Subscribe, MemWire> = sub(&rt, alloc, false, true);
-    a_context_that_is_shut_ends_its_receives_with(&rt, alloc, driver);
+    let steps = [
+        Step::Opens(1),
+        Step::Receive(0),
+        Step::Receive(1),
+        Step::Receive(1),
+        Step::CancelByOther(1, Raced::Won),
+        Step::Shuts(1, 0),
+        Step::Gone(Cause::Closed, 0),
+        Step::Gone(Cause::Cancelled, 2),
+        // The receive of the other context waits on.
+        Step::NotYet,
+        Step::Shuts(1, 12),
+        Step::Opens(2),
+        Step::Close([3, 0, 3, 0, 0, 0]),
+        Step::Gone(Cause::Closed, 0),
+    ];
+    sub_plays(&rt, rt.alloc(), false, true, &steps, &[]);
 }
 
-fn a_context_that_is_shut_ends_its_receives_with<P: Proto, R: Wait + Abort>(
-    rt: &R,
-    alloc: Global,
-    mut driver: Driver<P, MemWire>,
-) {
-    assert_eq!(rt; opened(rt, driver.open_ctx(rt)), 1);
-    receives(rt, &mut driver, Ctx(0));
-    let cancelled = receives(rt, &mut driver, Ctx(1));
-    receives(rt, &mut driver, Ctx(1));
-    assert_eq!(rt; driver.cancel_by_other(cancelled), Some(Raced::Won));
-    assert_eq!(rt; shut_code(driver.close_ctx(rt, Ctx(1))), 0);
-    is_gone(rt, driver.collect(rt), Cause::Closed, 0);
-    is_gone(rt, driver.collect(rt), Cause::Cancelled, 2);
-    // The receive of the other context waits on.
-    assert!(rt; driver.collect(rt).is_none());
-    assert_eq!(rt; shut_code(driver.close_ctx(rt, Ctx(1))), 12);
-    assert_eq!(rt; opened(rt, driver.open_ctx(rt)), 2);
-    assert_eq!(rt; driver.close(rt), totals([3, 0, 3, 0, 0, 0]));
-    is_gone(rt, driver.collect(rt), Cause::Closed, 0);
-    finished(rt, alloc, driver);
-}
+// The longest topic, and one that is longer.
+const LONGEST: [u8; 1_024] = [0; 1_024];
+
+const TOO_LONG: [u8; 1_025] = [0; 1_025];
 
 #[test]
 fn a_subscriber_refuses_what_it_does_not_do(rt: HostRuntime) {
-    let alloc = rt.alloc();
-    let driver: Driver<Subscribe, MemWire> = sub(&rt, alloc, false, true);
-    a_subscriber_refuses_what_it_does_not_do_with(&rt, alloc, driver);
-}
-
-fn a_subscriber_refuses_what_it_does_not_do_with<P: Proto, R: Wait + Abort>(
-    rt: &R,
-    alloc: Global,
-    mut driver: Driver<P, MemWire>,
-) {
-    let longest = [0u8; 1_025];
-    assert_eq!(rt;
-        topic_code(driver.subscribe(rt, Ctx(0), &longest[..1_024])),
-        0
-    );
-    assert_eq!(rt; topic_code(driver.subscribe(rt, Ctx(0), &longest)), 17);
-    assert_eq!(rt; topic_code(driver.unsubscribe(rt, Ctx(0), &longest)), 12);
-    assert_eq!(rt; topic_code(driver.subscribe(rt, Ctx(7), b"a")), 12);
-    assert_eq!(rt; topic_code(driver.unsubscribe(rt, Ctx(7), b"a")), 12);
-    assert_eq!(rt; shut_code(driver.close_ctx(rt, Ctx(0))), 12);
-    assert_eq!(rt; now_code(driver.try_recv(rt, Ctx(5))), 12);
-    assert_eq!(rt; recv_code(driver.begin_recv(rt, Ctx(5), None)), 12);
-    let m = message(rt, alloc, &[7], b"m");
-    let refused = driver.begin_send(rt, Ctx(0), m, None);
-    assert_eq!(rt; send_code(rt, refused, b"\0\0\0\x07", b"m"), 9);
-    assert_eq!(rt; driver.close(rt), totals([0, 0, 0, 0, 0, 0]));
-    finished(rt, alloc, driver);
+    let steps = [
+        Step::Subscribes(0, &LONGEST, 0),
+        Step::Subscribes(0, &TOO_LONG, 17),
+        Step::Unsubscribes(0, &TOO_LONG, 12),
+        Step::Subscribes(7, b"a", 12),
+        Step::Unsubscribes(7, b"a", 12),
+        Step::Shuts(0, 12),
+        Step::NotNow(5, 12),
+        Step::NoReceive(5, 12),
+        Step::NoSend(0, &[7], b"m", 9),
+        Step::Close([0, 0, 0, 0, 0, 0]),
+    ];
+    sub_plays(&rt, rt.alloc(), false, true, &steps, &[]);
 }
 
 #[test]
 fn a_raw_subscriber_keeps_every_frame(rt: HostRuntime) {
-    let alloc = rt.alloc();
-    let driver: Driver<Subscribe, MemWire> = sub(&rt, alloc, true, true);
-    a_raw_subscriber_keeps_every_frame_with(&rt, alloc, driver);
-}
-
-fn a_raw_subscriber_keeps_every_frame_with<P: Proto, R: Wait + Abort>(
-    rt: &R,
-    alloc: Global,
-    mut driver: Driver<P, MemWire>,
-) {
-    assert_eq!(rt;
-        joins(
-            rt,
-            alloc,
-            &mut driver,
-            0,
-            0,
-            &[
-                PipeStep::Frame(b"a"),
-                PipeStep::Frame(b"b"),
-                PipeStep::Frame(b"")
-            ]
-        ),
-        1
-    );
-    driver.serve(rt);
-    is_now(rt, driver.try_recv(rt, Ctx(0)), b"", b"b");
-    is_now(rt, driver.try_recv(rt, Ctx(0)), b"", b"");
-    assert_eq!(rt; now_code(driver.try_recv(rt, Ctx(0))), 8);
-    assert_eq!(rt; open_code(driver.open_ctx(rt)), 9);
-    assert_eq!(rt; topic_code(driver.subscribe(rt, Ctx(0), b"a")), 9);
-    assert_eq!(rt; topic_code(driver.unsubscribe(rt, Ctx(0), b"a")), 9);
-    assert_eq!(rt; now_code(driver.try_recv(rt, Ctx(1))), 9);
-    assert_eq!(rt; driver.close(rt), totals([2, 2, 0, 3, 0, 0]));
-    finished(rt, alloc, driver);
+    let gives = [Give::Frame(b"a"), Give::Frame(b"b"), Give::Frame(b"")];
+    let steps = [
+        Step::Joins(0, 0, &gives, 1),
+        Step::Serve,
+        Step::Now(0, b"", b"b"),
+        Step::Now(0, b"", b""),
+        Step::NotNow(0, 8),
+        Step::NoContext(9),
+        Step::Subscribes(0, b"a", 9),
+        Step::Unsubscribes(0, b"a", 9),
+        Step::NotNow(1, 9),
+        Step::Close([2, 2, 0, 3, 0, 0]),
+    ];
+    sub_plays(&rt, rt.alloc(), true, true, &steps, &NOTHING);
 }

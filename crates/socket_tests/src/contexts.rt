@@ -2,6 +2,7 @@
 ghost use Rattle.std.specs.Prelude.{◌≡◌};
 ghost use Rattle.core_parts.specs.Wires.{IsUnused};
 
+use crate::checks::{holds, same};
 use crate::two::ask_two;
 use sp_base::Bytes;
 use sp_fakes::{MemWire, WireStep};
@@ -33,14 +34,18 @@ fn asked_twice(rt: &impl Abort, alloc: Global) -> MemWire
 // The receive got this body, and no header.
 fn is_received(rt: &impl Abort, outcome: Outcome, body: &[u8]) {
     match outcome {
-        Outcome::Received(m) => assert!(rt; m.header().is_empty() && m.body() == body),
+        Outcome::Received(m) => {
+            holds(rt, m.header().is_empty());
+            same(rt, m.body(), body)
+        },
         _ => panic!(rt; "nothing was received"),
     }
 }
 
 // The message has this header and this body.
 fn is_message(rt: &impl Abort, m: &Message, header: &[u8], body: &[u8]) {
-    assert!(rt; m.header() == header && m.body() == body);
+    same(rt, m.header(), header);
+    same(rt, m.body(), body);
 }
 
 #[test]

@@ -3,6 +3,7 @@
 ghost use Rattle.std.specs.Prelude.{◌≡◌};
 
 use crate::callers::{finish, give_back, next, opened};
+use crate::checks::{holds, is_ok, same};
 use crate::marks::{ThreadMarks, shared, unmarked};
 use crate::parts::{add, begun, giving_x, is_gone, is_received, pull, totals, wire};
 use crate::threads::do_all;
@@ -84,7 +85,7 @@ fn a_cancel_is_answered_within_a_held_turn(rt: HostRuntime) {
         marks: shared(&rt, &marks),
         done: false,
     };
-    assert!(rt; main.attach(&rt, &socket, wire).is_ok());
+    is_ok(&rt, main.attach(&rt, &socket, wire));
     let a = begun(&rt, main.begin_recv(&rt, &socket, Ctx(0), None));
     let tasks = [
         Task::new(Job::Serve(1)),
@@ -92,16 +93,20 @@ fn a_cancel_is_answered_within_a_held_turn(rt: HostRuntime) {
         Task::new(Job::TickWhenHeld(Tick(1), shared(&rt, &marks))),
     ];
     do_all(&rt, alloc, &socket, &mut list, &tasks);
-    assert_eq!(rt; tasks[1].ended(), 1);
-    assert_eq!(rt; tasks[2].ended(), 1);
-    assert!(rt; marks.was_held());
+    same(&rt, tasks[1].ended(), 1);
+    same(&rt, tasks[2].ended(), 1);
+    holds(&rt, marks.was_held());
     begun(&rt, main.begin_recv(&rt, &socket, Ctx(0), None));
-    assert!(rt; main.serve(&rt, &socket).moved);
-    assert!(rt; is_received(main.collect(&rt, &socket), b"x"));
-    assert!(rt; is_gone(main.collect(&rt, &socket), Cause::Cancelled, 2));
-    assert_eq!(rt;
+    holds(&rt, main.serve(&rt, &socket).moved);
+    holds(&rt, is_received(main.collect(&rt, &socket), b"x"));
+    holds(
+        &rt,
+        is_gone(main.collect(&rt, &socket), Cause::Cancelled, 2),
+    );
+    same(
+        &rt,
         give_back(&rt, &socket, &mut list, main),
-        totals(2, 1, 1, 1)
+        totals(2, 1, 1, 1),
     );
     finish(&rt, alloc, socket, list);
 }
@@ -116,12 +121,12 @@ fn a_socket_shuts_no_wire(rt: HostRuntime) {
     let mut ends = Vec::new(alloc);
     add(&rt, &mut ends, WireStep::End);
     let ending = unheld(&rt, wire(alloc, ends), &marks);
-    assert!(rt; main.attach(&rt, &socket, ending).is_ok());
+    is_ok(&rt, main.attach(&rt, &socket, ending));
     let silent = unheld(&rt, wire(alloc, Vec::new(alloc)), &marks);
-    assert!(rt; main.attach(&rt, &socket, silent).is_ok());
+    is_ok(&rt, main.attach(&rt, &socket, silent));
     main.serve(&rt, &socket);
-    assert!(rt; main.take_ended(&rt, &socket).is_some());
+    holds(&rt, main.take_ended(&rt, &socket).is_some());
     give_back(&rt, &socket, &mut list, main);
-    assert_eq!(rt; finish(&rt, alloc, socket, list).len(), 1);
-    assert!(rt; !marks.was_shut());
+    same(&rt, finish(&rt, alloc, socket, list).len(), 1);
+    holds(&rt, !marks.was_shut());
 }

@@ -3,6 +3,7 @@ ghost use Rattle.std.specs.Prelude.{◌≡◌, ◌≤◌, []};
 ghost use Rattle.core_parts.specs.Wires.{IsUnused};
 
 use crate::callers::{finish, give_back, next, opened};
+use crate::checks::{holds, is_ok, same};
 use crate::parts::{begun, is_received, pull, push, x};
 use sp_base::Ctx;
 use sp_lane::{LaneIn, LaneOut, LaneWire, Put, PutEnd, Taken, lane};
@@ -60,16 +61,16 @@ fn a_lane_gives_its_frames_in_order(rt: HostRuntime) {
     put(&rt, alloc, &mut input, b"a");
     put(&rt, alloc, &mut input, b"b");
     put_end(&rt, &mut input);
-    assert!(rt; first.attach(&rt, &socket, over(silent, output)).is_ok());
+    is_ok(&rt, first.attach(&rt, &socket, over(silent, output)));
     begun(&rt, first.begin_recv(&rt, &socket, Ctx(0), None));
     first.serve(&rt, &socket);
-    assert!(rt; is_received(first.collect(&rt, &socket), b"a"));
+    holds(&rt, is_received(first.collect(&rt, &socket), b"a"));
     begun(&rt, first.begin_recv(&rt, &socket, Ctx(0), None));
     first.serve(&rt, &socket);
-    assert!(rt; is_received(first.collect(&rt, &socket), b"b"));
+    holds(&rt, is_received(first.collect(&rt, &socket), b"b"));
     first.serve(&rt, &socket);
     match first.take_ended(&rt, &socket) {
-        Some(gone) => assert!(rt; gone.why == Why::Ended),
+        Some(gone) => same(&rt, gone.why, Why::Ended),
         None => panic!(rt; "the pipe has not ended"),
     }
     give_back(&rt, &socket, &mut list, first);
@@ -84,15 +85,15 @@ fn a_waiting_send_finds_room(rt: HostRuntime) {
     let mut first = next(&rt, alloc, &socket, &mut list);
     let (input, mut output) = lane_of(&rt, alloc, 1);
     let (_, silent) = lane_of(&rt, alloc, 1);
-    assert!(rt; first.attach(&rt, &socket, over(input, silent)).is_ok());
-    assert!(rt; first.begin_send(&rt, &socket, x(&rt, alloc)).is_ok());
-    assert!(rt; first.begin_send(&rt, &socket, x(&rt, alloc)).is_ok());
+    is_ok(&rt, first.attach(&rt, &socket, over(input, silent)));
+    is_ok(&rt, first.begin_send(&rt, &socket, x(&rt, alloc)));
+    is_ok(&rt, first.begin_send(&rt, &socket, x(&rt, alloc)));
     let Ok(last) = first.begin_send(&rt, &socket, x(&rt, alloc)) else {
         panic!(rt; "no send began")
     };
-    assert_eq!(rt; first.poll(&socket, last), Polled::Pending);
-    assert!(rt; matches!(output.take(&rt), Taken::Message(_)));
-    assert!(rt; matches!(first.wait(&rt, &socket), Outcome::Sent));
+    same(&rt, first.poll(&socket, last), Polled::Pending);
+    holds(&rt, matches!(output.take(&rt), Taken::Message(_)));
+    holds(&rt, matches!(first.wait(&rt, &socket), Outcome::Sent));
     give_back(&rt, &socket, &mut list, first);
     finish(&rt, alloc, socket, list);
 }
@@ -161,14 +162,14 @@ fn a_send_waits_for_room(rt: HostRuntime) {
         other: output,
         fulls: 0,
     };
-    assert!(rt; first.attach(&rt, &socket, wire).is_ok());
-    assert!(rt; first.begin_send(&rt, &socket, x(&rt, alloc)).is_ok());
-    assert!(rt; first.begin_send(&rt, &socket, x(&rt, alloc)).is_ok());
+    is_ok(&rt, first.attach(&rt, &socket, wire));
+    is_ok(&rt, first.begin_send(&rt, &socket, x(&rt, alloc)));
+    is_ok(&rt, first.begin_send(&rt, &socket, x(&rt, alloc)));
     let Ok(last) = first.begin_send(&rt, &socket, x(&rt, alloc)) else {
         panic!(rt; "no send began")
     };
-    assert_eq!(rt; first.poll(&socket, last), Polled::Pending);
-    assert!(rt; matches!(first.wait(&rt, &socket), Outcome::Sent));
-    assert_eq!(rt; give_back(&rt, &socket, &mut list, first).fulls, 3);
+    same(&rt, first.poll(&socket, last), Polled::Pending);
+    holds(&rt, matches!(first.wait(&rt, &socket), Outcome::Sent));
+    same(&rt, give_back(&rt, &socket, &mut list, first).fulls, 3);
     finish(&rt, alloc, socket, list);
 }

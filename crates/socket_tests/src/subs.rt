@@ -4,6 +4,7 @@ ghost use Rattle.sp_proto.specs.Kinds.{Kind, Starts};
 ghost use Rattle.proto_pubsub.specs.Subs.{Ties as SubTies};
 
 use crate::callers::{finish, give_back, next, opened};
+use crate::checks::{holds, is_ok, same};
 use crate::parts::{begun, giving_x, is_received};
 use proto_pubsub::Subscribe;
 use sp_base::{Ctx, Role};
@@ -26,26 +27,28 @@ fn a_sub_has_contexts_and_topics(rt: HostRuntime) {
     let alloc = rt.alloc();
     let (socket, mut list) = opened(&rt, alloc, sub(&rt, alloc), 2, 1);
     let mut first = next(&rt, alloc, &socket, &mut list);
-    assert!(rt; matches!(first.open_ctx(&rt, &socket), Ok(Ctx(1))));
-    assert!(rt; first.subscribe(&rt, &socket, b"x").is_ok());
-    assert!(rt; first.attach(&rt, &socket, giving_x(&rt, alloc, 0)).is_ok());
+    holds(&rt, matches!(first.open_ctx(&rt, &socket), Ok(Ctx(1))));
+    is_ok(&rt, first.subscribe(&rt, &socket, b"x"));
+    is_ok(&rt, first.attach(&rt, &socket, giving_x(&rt, alloc, 0)));
     begun(&rt, first.begin_recv(&rt, &socket, Ctx(0), None));
-    assert!(rt; first.serve(&rt, &socket).moved);
-    assert!(rt; is_received(first.collect(&rt, &socket), b"x"));
-    assert!(rt; first.unsubscribe(&rt, &socket, b"x").is_ok());
-    assert!(rt;
+    holds(&rt, first.serve(&rt, &socket).moved);
+    holds(&rt, is_received(first.collect(&rt, &socket), b"x"));
+    is_ok(&rt, first.unsubscribe(&rt, &socket, b"x"));
+    holds(
+        &rt,
         matches!(
             first.unsubscribe(&rt, &socket, b"x"),
             Err(TopicError::NoEntry)
-        )
+        ),
     );
-    assert!(rt; first.close_ctx(&rt, &socket, Ctx(1)).is_ok());
-    assert!(rt;
+    is_ok(&rt, first.close_ctx(&rt, &socket, Ctx(1)));
+    holds(
+        &rt,
         matches!(
             first.close_ctx(&rt, &socket, Ctx(1)),
             Err(CtxError::NoEntry)
-        )
+        ),
     );
     give_back(&rt, &socket, &mut list, first);
-    assert_eq!(rt; finish(&rt, alloc, socket, list).len(), 1);
+    same(&rt, finish(&rt, alloc, socket, list).len(), 1);
 }

@@ -1,5 +1,6 @@
 //! What sockets answer to the callers of one thread.
 use crate::callers::{finish, give_back, next, opened};
+use crate::checks::{holds, is_none, is_ok, same};
 use crate::one::receive_one;
 use crate::parts::{
     begin_many, begun, code, counting, giving_x, is_gone, is_received, pull, push, totals, x,
@@ -22,20 +23,24 @@ fn a_cancelled_receive_leaves_the_frame_for_the_next(rt: HostRuntime) {
     let (socket, mut list) = opened(&rt, alloc, pull(&rt, alloc), 4, 2);
     let mut second = next(&rt, alloc, &socket, &mut list);
     let mut first = next(&rt, alloc, &socket, &mut list);
-    assert!(rt; first.attach(&rt, &socket, giving_x(&rt, alloc, 0)).is_ok());
+    is_ok(&rt, first.attach(&rt, &socket, giving_x(&rt, alloc, 0)));
     let a = begun(&rt, first.begin_recv(&rt, &socket, Ctx(0), None));
-    assert_eq!(rt; second.cancel(&socket, a), Raced::Won);
+    same(&rt, second.cancel(&socket, a), Raced::Won);
     let b = begun(&rt, first.begin_recv(&rt, &socket, Ctx(0), None));
-    assert_eq!(rt; second.poll(&socket, b), Polled::Pending);
-    assert!(rt; second.serve(&rt, &socket).moved);
-    assert!(rt; is_received(first.collect(&rt, &socket), b"x"));
-    assert!(rt; is_gone(first.collect(&rt, &socket), Cause::Cancelled, 2));
-    give_back(&rt, &socket, &mut list, second);
-    assert_eq!(rt;
-        give_back(&rt, &socket, &mut list, first),
-        totals(2, 1, 1, 1)
+    same(&rt, second.poll(&socket, b), Polled::Pending);
+    holds(&rt, second.serve(&rt, &socket).moved);
+    holds(&rt, is_received(first.collect(&rt, &socket), b"x"));
+    holds(
+        &rt,
+        is_gone(first.collect(&rt, &socket), Cause::Cancelled, 2),
     );
-    assert_eq!(rt; finish(&rt, alloc, socket, list).len(), 1);
+    give_back(&rt, &socket, &mut list, second);
+    same(
+        &rt,
+        give_back(&rt, &socket, &mut list, first),
+        totals(2, 1, 1, 1),
+    );
+    same(&rt, finish(&rt, alloc, socket, list).len(), 1);
 }
 
 #[test]
@@ -44,18 +49,18 @@ fn a_cancel_after_the_frame_is_too_late(rt: HostRuntime) {
     let (socket, mut list) = opened(&rt, alloc, pull(&rt, alloc), 4, 2);
     let mut second = next(&rt, alloc, &socket, &mut list);
     let mut first = next(&rt, alloc, &socket, &mut list);
-    assert!(rt; first.attach(&rt, &socket, giving_x(&rt, alloc, 0)).is_ok());
+    is_ok(&rt, first.attach(&rt, &socket, giving_x(&rt, alloc, 0)));
     let a = begun(&rt, first.begin_recv(&rt, &socket, Ctx(0), None));
-    assert!(rt; second.serve(&rt, &socket).moved);
+    holds(&rt, second.serve(&rt, &socket).moved);
     let won = Raced::Ended {
         phase: Phase::Won,
         by: 0,
     };
-    assert_eq!(rt; second.cancel(&socket, a), won);
-    assert!(rt; is_received(first.collect(&rt, &socket), b"x"));
+    same(&rt, second.cancel(&socket, a), won);
+    holds(&rt, is_received(first.collect(&rt, &socket), b"x"));
     give_back(&rt, &socket, &mut list, first);
     give_back(&rt, &socket, &mut list, second);
-    assert_eq!(rt; finish(&rt, alloc, socket, list).len(), 1);
+    same(&rt, finish(&rt, alloc, socket, list).len(), 1);
 }
 
 #[test]
@@ -65,28 +70,34 @@ fn a_receive_times_out_at_its_deadline(rt: HostRuntime) {
     let mut second = next(&rt, alloc, &socket, &mut list);
     let mut first = next(&rt, alloc, &socket, &mut list);
     let a = begun(&rt, first.begin_recv(&rt, &socket, Ctx(0), Some(Tick(100))));
-    assert_eq!(rt; first.poll(&socket, a), Polled::Pending);
-    assert_eq!(rt;
+    same(&rt, first.poll(&socket, a), Polled::Pending);
+    same(
+        &rt,
         second.tick(&rt, &socket, Tick(99)),
-        Ticked { won: 0, lost: 0 }
+        Ticked { won: 0, lost: 0 },
     );
-    assert!(rt; first.collect(&rt, &socket).is_none());
-    assert_eq!(rt;
+    is_none(&rt, first.collect(&rt, &socket));
+    same(
+        &rt,
         second.tick(&rt, &socket, Tick(100)),
-        Ticked { won: 1, lost: 0 }
+        Ticked { won: 1, lost: 0 },
     );
     let expired = Raced::Ended {
         phase: Phase::Expired,
         by: 2,
     };
-    assert_eq!(rt; first.cancel(&socket, a), expired);
-    assert!(rt; is_gone(first.collect(&rt, &socket), Cause::TimedOut, 2));
-    give_back(&rt, &socket, &mut list, first);
-    assert_eq!(rt;
-        give_back(&rt, &socket, &mut list, second),
-        totals(1, 0, 1, 0)
+    same(&rt, first.cancel(&socket, a), expired);
+    holds(
+        &rt,
+        is_gone(first.collect(&rt, &socket), Cause::TimedOut, 2),
     );
-    assert_eq!(rt; finish(&rt, alloc, socket, list).len(), 0);
+    give_back(&rt, &socket, &mut list, first);
+    same(
+        &rt,
+        give_back(&rt, &socket, &mut list, second),
+        totals(1, 0, 1, 0),
+    );
+    same(&rt, finish(&rt, alloc, socket, list).len(), 0);
 }
 
 // A name that is due after it was cancelled is a loss of the caller that ticks.
@@ -97,13 +108,20 @@ fn a_tick_loses_what_was_cancelled(rt: HostRuntime) {
     let mut first = next(&rt, alloc, &socket, &mut list);
     let a = begun(&rt, first.begin_recv(&rt, &socket, Ctx(0), Some(Tick(7))));
     begun(&rt, first.begin_recv(&rt, &socket, Ctx(0), Some(Tick(7))));
-    assert_eq!(rt; first.cancel(&socket, a), Raced::Won);
-    assert_eq!(rt;
+    same(&rt, first.cancel(&socket, a), Raced::Won);
+    same(
+        &rt,
         first.tick(&rt, &socket, Tick(7)),
-        Ticked { won: 1, lost: 1 }
+        Ticked { won: 1, lost: 1 },
     );
-    assert!(rt; is_gone(first.collect(&rt, &socket), Cause::TimedOut, 1));
-    assert!(rt; is_gone(first.collect(&rt, &socket), Cause::Cancelled, 1));
+    holds(
+        &rt,
+        is_gone(first.collect(&rt, &socket), Cause::TimedOut, 1),
+    );
+    holds(
+        &rt,
+        is_gone(first.collect(&rt, &socket), Cause::Cancelled, 1),
+    );
     give_back(&rt, &socket, &mut list, first);
     finish(&rt, alloc, socket, list);
 }
@@ -122,22 +140,23 @@ fn close_ends_what_is_pending_once(rt: HostRuntime) {
     let (socket, mut list) = opened(&rt, alloc, pull(&rt, alloc), 4, 2);
     let mut second = next(&rt, alloc, &socket, &mut list);
     let mut first = next(&rt, alloc, &socket, &mut list);
-    assert!(rt; first.attach(&rt, &socket, counting(&rt, alloc, 0)).is_ok());
+    is_ok(&rt, first.attach(&rt, &socket, counting(&rt, alloc, 0)));
     begin_many(&rt, alloc, &socket, &mut first, 3);
-    assert_eq!(rt; second.close(&rt, &socket), totals(3, 0, 3, 0));
-    assert_eq!(rt; code(first.begin_recv(&rt, &socket, Ctx(0), None)), 7);
-    assert!(rt; is_gone(first.collect(&rt, &socket), Cause::Closed, 0));
-    assert!(rt; is_gone(first.collect(&rt, &socket), Cause::Closed, 0));
-    assert!(rt; is_gone(first.collect(&rt, &socket), Cause::Closed, 0));
-    assert_eq!(rt;
+    same(&rt, second.close(&rt, &socket), totals(3, 0, 3, 0));
+    same(&rt, code(first.begin_recv(&rt, &socket, Ctx(0), None)), 7);
+    holds(&rt, is_gone(first.collect(&rt, &socket), Cause::Closed, 0));
+    holds(&rt, is_gone(first.collect(&rt, &socket), Cause::Closed, 0));
+    holds(&rt, is_gone(first.collect(&rt, &socket), Cause::Closed, 0));
+    same(
+        &rt,
         attach_code(second.attach(&rt, &socket, counting(&rt, alloc, 0))),
-        7
+        7,
     );
-    assert_eq!(rt; first.close(&rt, &socket), totals(3, 0, 3, 0));
-    assert!(rt; second.take_ended(&rt, &socket).is_some());
+    same(&rt, first.close(&rt, &socket), totals(3, 0, 3, 0));
+    holds(&rt, second.take_ended(&rt, &socket).is_some());
     give_back(&rt, &socket, &mut list, first);
     give_back(&rt, &socket, &mut list, second);
-    assert_eq!(rt; finish(&rt, alloc, socket, list).len(), 0);
+    same(&rt, finish(&rt, alloc, socket, list).len(), 0);
 }
 
 #[test]
@@ -146,13 +165,16 @@ fn a_slot_is_busy_until_it_is_collected(rt: HostRuntime) {
     let (socket, mut list) = opened::<Pull, MemWire>(&rt, alloc, pull(&rt, alloc), 1, 1);
     let mut first = next(&rt, alloc, &socket, &mut list);
     let a = begun(&rt, first.begin_recv(&rt, &socket, Ctx(0), None));
-    assert_eq!(rt; code(first.begin_recv(&rt, &socket, Ctx(0), None)), 4);
-    assert_eq!(rt; first.cancel(&socket, a), Raced::Won);
-    assert!(rt; is_gone(first.collect(&rt, &socket), Cause::Cancelled, 1));
+    same(&rt, code(first.begin_recv(&rt, &socket, Ctx(0), None)), 4);
+    same(&rt, first.cancel(&socket, a), Raced::Won);
+    holds(
+        &rt,
+        is_gone(first.collect(&rt, &socket), Cause::Cancelled, 1),
+    );
     let b = begun(&rt, first.begin_recv(&rt, &socket, Ctx(0), None));
-    assert_eq!(rt; first.cancel(&socket, a), Raced::Stale);
-    assert_eq!(rt; first.poll(&socket, a), Polled::Stale);
-    assert_eq!(rt; first.poll(&socket, b), Polled::Pending);
+    same(&rt, first.cancel(&socket, a), Raced::Stale);
+    same(&rt, first.poll(&socket, a), Polled::Stale);
+    same(&rt, first.poll(&socket, b), Polled::Pending);
     give_back(&rt, &socket, &mut list, first);
     finish(&rt, alloc, socket, list);
 }
@@ -162,7 +184,7 @@ fn send_code(rt: &impl Abort, answer: Result<OpName, (BeginError, Message)>) -> 
     match answer {
         Ok(_) => 0,
         Err((e, m)) => {
-            assert!(rt; m.body() == b"x".as_slice());
+            same(rt, m.body(), b"x".as_slice());
             SpError::from(e).code()
         }
     }
@@ -173,23 +195,25 @@ fn a_push_refuses_receives_and_hands_messages_back(rt: HostRuntime) {
     let alloc = rt.alloc();
     let (socket, mut list) = opened::<Push, MemWire>(&rt, alloc, push(&rt, alloc), 2, 1);
     let mut first = next(&rt, alloc, &socket, &mut list);
-    assert_eq!(rt; code(first.begin_recv(&rt, &socket, Ctx(0), None)), 9);
-    assert_eq!(rt;
+    same(&rt, code(first.begin_recv(&rt, &socket, Ctx(0), None)), 9);
+    same(
+        &rt,
         send_code(&rt, first.begin_send(&rt, &socket, x(&rt, alloc))),
-        0
+        0,
     );
     first.close(&rt, &socket);
     match first.collect(&rt, &socket) {
         Some(Outcome::Gone { cause, by, back }) => {
-            assert_eq!(rt; cause, Cause::Closed);
-            assert_eq!(rt; by, 0);
-            assert!(rt; back.is_some());
+            same(&rt, cause, Cause::Closed);
+            same(&rt, by, 0);
+            holds(&rt, back.is_some());
         }
         _ => panic!(rt; "the send is not gone"),
     }
-    assert_eq!(rt;
+    same(
+        &rt,
         send_code(&rt, first.begin_send(&rt, &socket, x(&rt, alloc))),
-        7
+        7,
     );
     give_back(&rt, &socket, &mut list, first);
     finish(&rt, alloc, socket, list);
@@ -200,29 +224,36 @@ fn a_pull_refuses_sends_contexts_and_topics(rt: HostRuntime) {
     let alloc = rt.alloc();
     let (socket, mut list) = opened::<Pull, MemWire>(&rt, alloc, pull(&rt, alloc), 2, 1);
     let mut first = next(&rt, alloc, &socket, &mut list);
-    assert_eq!(rt;
+    same(
+        &rt,
         send_code(&rt, first.begin_send(&rt, &socket, x(&rt, alloc))),
-        9
+        9,
     );
-    assert_eq!(rt; code(first.begin_recv(&rt, &socket, Ctx(5), None)), 9);
-    assert!(rt; matches!(first.open_ctx(&rt, &socket), Err(CtxError::NotSupported)));
-    assert!(rt;
+    same(&rt, code(first.begin_recv(&rt, &socket, Ctx(5), None)), 9);
+    holds(
+        &rt,
+        matches!(first.open_ctx(&rt, &socket), Err(CtxError::NotSupported)),
+    );
+    holds(
+        &rt,
         matches!(
             first.close_ctx(&rt, &socket, Ctx(0)),
             Err(CtxError::NoEntry)
-        )
+        ),
     );
-    assert!(rt;
+    holds(
+        &rt,
         matches!(
             first.subscribe(&rt, &socket, b"x"),
             Err(TopicError::NotSupported)
-        )
+        ),
     );
-    assert!(rt;
+    holds(
+        &rt,
         matches!(
             first.unsubscribe(&rt, &socket, b"x"),
             Err(TopicError::NotSupported)
-        )
+        ),
     );
     give_back(&rt, &socket, &mut list, first);
     finish(&rt, alloc, socket, list);
@@ -234,16 +265,20 @@ fn what_is_kept_is_received_at_once(rt: HostRuntime) {
     let (socket, mut list) = opened(&rt, alloc, pull(&rt, alloc), 1, 1);
     let mut first = next(&rt, alloc, &socket, &mut list);
     first.misses(&rt, &socket, Miss::Late);
-    assert!(rt; first.attach(&rt, &socket, giving_x(&rt, alloc, 0)).is_ok());
-    assert!(rt; matches!(first.try_recv(&rt, &socket), Err(NowError::Again)));
+    is_ok(&rt, first.attach(&rt, &socket, giving_x(&rt, alloc, 0)));
+    holds(
+        &rt,
+        matches!(first.try_recv(&rt, &socket), Err(NowError::Again)),
+    );
     first.serve(&rt, &socket);
     match first.try_recv(&rt, &socket) {
-        Ok(m) => assert!(rt; m.body() == b"x".as_slice()),
+        Ok(m) => same(&rt, m.body(), b"x".as_slice()),
         Err(_) => panic!(rt; "nothing was received"),
     }
-    assert_eq!(rt;
+    same(
+        &rt,
         give_back(&rt, &socket, &mut list, first),
-        totals(1, 1, 0, 1)
+        totals(1, 1, 0, 1),
     );
     finish(&rt, alloc, socket, list);
 }
@@ -254,13 +289,16 @@ fn waiting_collects_what_has_ended(rt: HostRuntime) {
     let (socket, mut list) = opened(&rt, alloc, pull(&rt, alloc), 2, 2);
     let mut second = next(&rt, alloc, &socket, &mut list);
     let mut first = next(&rt, alloc, &socket, &mut list);
-    assert!(rt; first.attach(&rt, &socket, giving_x(&rt, alloc, 0)).is_ok());
+    is_ok(&rt, first.attach(&rt, &socket, giving_x(&rt, alloc, 0)));
     begun(&rt, first.begin_recv(&rt, &socket, Ctx(0), None));
     first.serve(&rt, &socket);
-    assert!(rt; is_received(Some(first.wait(&rt, &socket)), b"x"));
+    holds(&rt, is_received(Some(first.wait(&rt, &socket)), b"x"));
     let b = begun(&rt, first.begin_recv(&rt, &socket, Ctx(0), None));
-    assert_eq!(rt; second.cancel(&socket, b), Raced::Won);
-    assert!(rt; is_gone(Some(first.wait(&rt, &socket)), Cause::Cancelled, 2));
+    same(&rt, second.cancel(&socket, b), Raced::Won);
+    holds(
+        &rt,
+        is_gone(Some(first.wait(&rt, &socket)), Cause::Cancelled, 2),
+    );
     give_back(&rt, &socket, &mut list, first);
     give_back(&rt, &socket, &mut list, second);
     finish(&rt, alloc, socket, list);
@@ -278,17 +316,18 @@ fn opens(rt: &impl Abort, alloc: Global, slots: u32, callers: u32) -> u32 {
 fn slots_and_callers_have_bounds(rt: HostRuntime) {
     let alloc = rt.alloc();
     for (slots, callers) in [(0, 1), (1, 0), (4_097, 1), (1, 65)] {
-        assert_eq!(rt; opens(&rt, alloc, slots, callers), 3);
+        same(&rt, opens(&rt, alloc, slots, callers), 3);
     }
     let (socket, mut list) = opened::<Pull, MemWire>(&rt, alloc, pull(&rt, alloc), 4_096, 64);
     let last = next(&rt, alloc, &socket, &mut list);
-    assert_eq!(rt; last.pass.number(), 64);
-    assert!(rt; !list.is_full());
-    assert_eq!(rt;
+    same(&rt, last.pass.number(), 64);
+    holds(&rt, !list.is_full());
+    same(
+        &rt,
         give_back(&rt, &socket, &mut list, last),
-        totals(0, 0, 0, 0)
+        totals(0, 0, 0, 0),
     );
-    assert!(rt; list.is_full());
+    holds(&rt, list.is_full());
     finish(&rt, alloc, socket, list);
 }
 
@@ -296,11 +335,11 @@ fn slots_and_callers_have_bounds(rt: HostRuntime) {
 fn one_message_is_received(rt: HostRuntime) {
     let alloc = rt.alloc();
     let (outcome, mut wires) = receive_one(&rt, alloc, giving_x(&rt, alloc, 0));
-    assert!(rt; is_received(Some(outcome), b"x"));
+    holds(&rt, is_received(Some(outcome), b"x"));
     let Some((p, _wire)) = wires.pop() else {
         panic!(rt; "no wire is left")
     };
-    assert_eq!(rt; p.0, 1);
+    same(&rt, p.0, 1);
     match wires.pop() {
         None => wires.destroy_empty(),
         Some(_) => panic!(rt; "two wires are left"),

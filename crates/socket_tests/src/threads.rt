@@ -4,6 +4,7 @@ ghost use Rattle.aio_word.specs.Views.{Each};
 ghost use Rattle.socket_tests.specs.Calls.{Calls, IsListOf};
 
 use crate::callers::{Caller, finish, give_back, next, opened};
+use crate::checks::{holds, is_ok, same};
 use crate::marks::{shared, unmarked};
 use crate::parts::{begin_many, counting, giving_x, pull, totals};
 use crate::workers::{Job, Task, all_work};
@@ -129,20 +130,21 @@ fn two_threads_begin_serve_collect_and_close(rt: HostRuntime) {
     let alloc = rt.alloc();
     let (socket, mut list) = opened(&rt, alloc, pull(&rt, alloc), 4, 3);
     let mut main = next(&rt, alloc, &socket, &mut list);
-    assert!(rt; main.attach(&rt, &socket, counting(&rt, alloc, 32)).is_ok());
+    is_ok(&rt, main.attach(&rt, &socket, counting(&rt, alloc, 32)));
     let tasks = [Task::new(Job::Receive(16)), Task::new(Job::Receive(16))];
     do_all(&rt, alloc, &socket, &mut list, &tasks);
-    assert_eq!(rt; tasks[0].ended(), 16);
-    assert_eq!(rt; tasks[1].ended(), 16);
+    same(&rt, tasks[0].ended(), 16);
+    same(&rt, tasks[1].ended(), 16);
     let closes = [Task::new(Job::Close), Task::new(Job::Close)];
     do_all(&rt, alloc, &socket, &mut list, &closes);
-    assert_eq!(rt; closes[0].ended(), 0);
-    assert_eq!(rt; closes[1].ended(), 0);
-    assert_eq!(rt;
+    same(&rt, closes[0].ended(), 0);
+    same(&rt, closes[1].ended(), 0);
+    same(
+        &rt,
         give_back(&rt, &socket, &mut list, main),
-        totals(32, 32, 0, 32)
+        totals(32, 32, 0, 32),
     );
-    assert_eq!(rt; finish(&rt, alloc, socket, list).len(), 1);
+    same(&rt, finish(&rt, alloc, socket, list).len(), 1);
 }
 
 // Receives on two pipes, by four callers that race for the lock.
@@ -151,8 +153,8 @@ fn four_threads_race_for_the_lock(rt: HostRuntime) {
     let alloc = rt.alloc();
     let (socket, mut list) = opened(&rt, alloc, pull(&rt, alloc), 8, 5);
     let mut main = next(&rt, alloc, &socket, &mut list);
-    assert!(rt; main.attach(&rt, &socket, counting(&rt, alloc, 100)).is_ok());
-    assert!(rt; main.attach(&rt, &socket, counting(&rt, alloc, 100)).is_ok());
+    is_ok(&rt, main.attach(&rt, &socket, counting(&rt, alloc, 100)));
+    is_ok(&rt, main.attach(&rt, &socket, counting(&rt, alloc, 100)));
     let tasks = [
         Task::new(Job::Receive(50)),
         Task::new(Job::Receive(50)),
@@ -160,11 +162,12 @@ fn four_threads_race_for_the_lock(rt: HostRuntime) {
         Task::new(Job::Receive(50)),
     ];
     do_all(&rt, alloc, &socket, &mut list, &tasks);
-    assert_eq!(rt;
+    same(
+        &rt,
         give_back(&rt, &socket, &mut list, main),
-        totals(200, 200, 0, 200)
+        totals(200, 200, 0, 200),
     );
-    assert_eq!(rt; finish(&rt, alloc, socket, list).len(), 2);
+    same(&rt, finish(&rt, alloc, socket, list).len(), 2);
 }
 
 // Two callers close at the same time. Each receive ends once, and both answer the same totals.
@@ -173,16 +176,17 @@ fn two_threads_close_and_answer_the_same(rt: HostRuntime) {
     let alloc = rt.alloc();
     let (socket, mut list) = opened(&rt, alloc, pull(&rt, alloc), 4, 3);
     let mut main = next(&rt, alloc, &socket, &mut list);
-    assert!(rt; main.attach(&rt, &socket, counting(&rt, alloc, 0)).is_ok());
+    is_ok(&rt, main.attach(&rt, &socket, counting(&rt, alloc, 0)));
     begin_many(&rt, alloc, &socket, &mut main, 4);
     let tasks = [Task::new(Job::Close), Task::new(Job::Close)];
     do_all(&rt, alloc, &socket, &mut list, &tasks);
-    assert_eq!(rt; tasks[0].ended(), 4);
-    assert_eq!(rt; tasks[1].ended(), 4);
-    assert_eq!(rt; received_of(&rt, &socket, &mut main, 4), 0);
-    assert_eq!(rt;
+    same(&rt, tasks[0].ended(), 4);
+    same(&rt, tasks[1].ended(), 4);
+    same(&rt, received_of(&rt, &socket, &mut main, 4), 0);
+    same(
+        &rt,
         give_back(&rt, &socket, &mut list, main),
-        totals(4, 0, 4, 0)
+        totals(4, 0, 4, 0),
     );
     finish(&rt, alloc, socket, list);
 }
@@ -196,16 +200,17 @@ fn waiting_receives_what_another_thread_serves(rt: HostRuntime) {
     let marks = unmarked(&rt, alloc);
     let (socket, mut list) = opened(&rt, alloc, pull(&rt, alloc), 1, 3);
     let mut main = next(&rt, alloc, &socket, &mut list);
-    assert!(rt; main.attach(&rt, &socket, giving_x(&rt, alloc, 0)).is_ok());
+    is_ok(&rt, main.attach(&rt, &socket, giving_x(&rt, alloc, 0)));
     let tasks = [
         Task::new(Job::ServeWhenBegun(shared(&rt, &marks))),
         Task::new(Job::Wait(shared(&rt, &marks))),
     ];
     do_all(&rt, alloc, &socket, &mut list, &tasks);
-    assert_eq!(rt; tasks[1].ended(), 1);
-    assert_eq!(rt;
+    same(&rt, tasks[1].ended(), 1);
+    same(
+        &rt,
         give_back(&rt, &socket, &mut list, main),
-        totals(1, 1, 0, 1)
+        totals(1, 1, 0, 1),
     );
     finish(&rt, alloc, socket, list);
 }
@@ -222,11 +227,12 @@ fn waiting_ends_where_another_thread_cancels(rt: HostRuntime) {
         Task::new(Job::Wait(shared(&rt, &marks))),
     ];
     do_all(&rt, alloc, &socket, &mut list, &tasks);
-    assert_eq!(rt; tasks[0].ended(), 1);
-    assert_eq!(rt; tasks[1].ended(), 0);
-    assert_eq!(rt;
+    same(&rt, tasks[0].ended(), 1);
+    same(&rt, tasks[1].ended(), 0);
+    same(
+        &rt,
         give_back(&rt, &socket, &mut list, main),
-        totals(1, 0, 1, 0)
+        totals(1, 0, 1, 0),
     );
     finish(&rt, alloc, socket, list);
 }
@@ -272,7 +278,7 @@ fn many_receives_are_raced(rt: HostRuntime) {
     let (socket, mut list) = opened(&rt, alloc, pull(&rt, alloc), 64, 5);
     let mut main = next(&rt, alloc, &socket, &mut list);
     let names = begin_many(&rt, alloc, &socket, &mut main, 64);
-    assert!(rt; main.attach(&rt, &socket, counting(&rt, alloc, 48)).is_ok());
+    is_ok(&rt, main.attach(&rt, &socket, counting(&rt, alloc, 48)));
     let half = second_half(&rt, alloc, &names);
     let tasks = [
         Task::new(Job::Serve(16)),
@@ -286,12 +292,12 @@ fn many_receives_are_raced(rt: HostRuntime) {
         .ended()
         .saturating_add(tasks[2].ended())
         .saturating_add(tasks[3].ended());
-    assert_eq!(rt; received.saturating_add(ended), 64);
+    same(&rt, received.saturating_add(ended), 64);
     let t = give_back(&rt, &socket, &mut list, main);
-    assert_eq!(rt; t.begun, 64);
-    assert_eq!(rt; t.won, received);
-    assert_eq!(rt; t.gone, 64u64.saturating_sub(received));
-    assert!(rt; t.won <= t.frames);
+    same(&rt, t.begun, 64);
+    same(&rt, t.won, received);
+    same(&rt, t.gone, 64u64.saturating_sub(received));
+    holds(&rt, t.won <= t.frames);
     finish(&rt, alloc, socket, list);
 }
 
@@ -318,17 +324,18 @@ fn guessed_names_lose_no_message(rt: HostRuntime) {
     let alloc = rt.alloc();
     let (socket, mut list) = opened(&rt, alloc, pull(&rt, alloc), 1, 3);
     let mut main = next(&rt, alloc, &socket, &mut list);
-    assert!(rt; main.attach(&rt, &socket, counting(&rt, alloc, 200)).is_ok());
+    is_ok(&rt, main.attach(&rt, &socket, counting(&rt, alloc, 200)));
     let tasks = [
         Task::new(Job::ReceiveNow(201)),
         Task::new(Job::Cancel(guesses(&rt, alloc, 50, 256))),
     ];
     do_all(&rt, alloc, &socket, &mut list, &tasks);
-    assert_eq!(rt; tasks[0].ended(), 200);
+    same(&rt, tasks[0].ended(), 200);
     let cancelled = tasks[1].ended();
-    assert_eq!(rt;
+    same(
+        &rt,
         give_back(&rt, &socket, &mut list, main),
-        totals(200u64.saturating_add(cancelled), 200, cancelled, 200)
+        totals(200u64.saturating_add(cancelled), 200, cancelled, 200),
     );
     finish(&rt, alloc, socket, list);
 }

@@ -1,0 +1,37 @@
+//! What a test asks: it stops where an answer is another one. Calls cost less to prove than the macros written out.
+ghost use Rattle.std.specs.Prelude.{◌≡◌, Ok, true};
+
+use std::fmt::Debug;
+use std::process::Abort;
+
+/// What was made.
+pub fn made<T, E: Debug + Drop>(rt: &impl Abort, answer: Result<T, E>) -> T
+    ensures { answer ≡ Ok result }
+{
+    match answer {
+        Ok(it) => it,
+        Err(e) => panic!(rt; "{e:?}"),
+    }
+}
+
+/// Both are the same.
+pub fn same<T: PartialEq + Debug + Drop>(rt: &impl Abort, left: T, right: T) {
+    assert_eq!(rt; left, right);
+}
+
+/// It holds.
+pub fn holds(rt: &impl Abort, it: bool)
+    ensures { it ≡ true }
+{
+    assert!(rt; it);
+}
+
+/// It succeeded.
+pub fn is_ok<T: Drop, E: Drop>(rt: &impl Abort, answer: Result<T, E>) {
+    assert!(rt; answer.is_ok());
+}
+
+/// Nothing is there.
+pub fn is_none<T: Drop>(rt: &impl Abort, answer: Option<T>) {
+    assert!(rt; answer.is_none());
+}
