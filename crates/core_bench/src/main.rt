@@ -11,7 +11,6 @@ mod surveys;
 
 use core_driver::Driver;
 use proto_pipeline::{Pull, Push};
-use requests::{each_context_asks, each_pipe_asks, trips, waiting_contexts};
 use sp_base::{Bytes, Ctx, NoMemory, Role};
 use sp_fakes::{MemWire, WireStep};
 use sp_history::setting::Options;
@@ -21,10 +20,12 @@ use std::alloc::Global;
 use std::io::{self, Eprint};
 use std::sync::Wait;
 use std::time::{Clock, Instant};
-use surveys::{surveyed_wires, surveying_contexts};
 
 /// How often a call that changes little is made.
 const ROUNDS: u32 = 16;
+
+/// More messages than a wire is given.
+const MUCH: u64 = 1_000_000;
 
 // The moment, or none where the clock can't say.
 fn now<R: Clock>(rt: &R) -> Option<Instant> {
@@ -107,15 +108,16 @@ fn numbered(alloc: Global, id: u32) -> Result<WireStep, NoMemory> {
     Ok(WireStep::Bytes(Bytes::from_slice(alloc, &[a | 128, b, c, d, 120])?))
 }
 
-// One pipe more that gives the frame with this id, if there is memory for its wire.
+// One pipe more that gives the frame with this id and takes so many messages, if there is memory for its wire.
 fn attach_numbered<P: Proto, R: Wait>(
     alloc: Global,
     rt: &R,
     driver: &mut Driver<P, MemWire>,
     place: u32,
     id: u32,
+    room: u64,
 ) {
-    match numbered_wire(alloc, id, 1, false) {
+    match numbered_wire(alloc, id, 1, false, room) {
         Ok(w) => {
             let _ = driver.attach(rt, w, place);
         }
@@ -123,16 +125,29 @@ fn attach_numbered<P: Proto, R: Wait>(
     }
 }
 
-// One pipe more that gives so many frames with ids from 0, if there is memory for its wire. With pauses it gives one in
-// a serve.
+// So many pipes more: each gives the frame with its number as id, and takes so many messages.
+fn attach_all_numbered<P: Proto, R: AllocGlobal + Wait>(
+    rt: &R,
+    driver: &mut Driver<P, MemWire>,
+    pipes: u32,
+    room: u64,
+) {
+    for place in 0..pipes {
+        attach_numbered(rt.alloc(), rt, driver, place, place, room);
+    }
+}
+
+// One pipe more that gives so many frames with ids from the first one, if there is memory for its wire. With pauses it
+// gives one in a serve.
 fn attach_series<P: Proto, R: Wait>(
     alloc: Global,
     rt: &R,
     driver: &mut Driver<P, MemWire>,
+    first: u32,
     count: u32,
     pauses: bool,
 ) {
-    match numbered_wire(alloc, 0, count, pauses) {
+    match numbered_wire(alloc, first, count, pauses, MUCH) {
         Ok(w) => {
             let _ = driver.attach(rt, w, 0);
         }
@@ -140,8 +155,14 @@ fn attach_series<P: Proto, R: Wait>(
     }
 }
 
-// A wire that gives so many frames with ids from the first one, and takes all.
-fn numbered_wire(alloc: Global, first: u32, count: u32, pauses: bool) -> Result<MemWire, NoMemory>
+// A wire that gives so many frames with ids from the first one, and takes so many messages.
+fn numbered_wire(
+    alloc: Global,
+    first: u32,
+    count: u32,
+    pauses: bool,
+    room: u64,
+) -> Result<MemWire, NoMemory>
     ensures { IfOk result (λ w. IsUnused w.wire) }
 {
     let mut script = Vec::new(alloc);
@@ -151,7 +172,7 @@ fn numbered_wire(alloc: Global, first: u32, count: u32, pauses: bool) -> Result<
             script.push(WireStep::NotYet)?;
         }
     }
-    Ok(MemWire::new(alloc, script, 1_000_000, Vec::new(alloc)))
+    Ok(MemWire::new(alloc, script, room, Vec::new(alloc)))
 }
 
 // Opens so many contexts.
@@ -199,10 +220,13 @@ fn wire(alloc: Global, frames: u32, room: u64) -> Result<MemWire, NoMemory>
 }
 
 // A push whose pipes are all full: a send asks each of them.
-fn full_pipes<R: AllocGlobal + Clock + Eprint + Wait>(rt: &R, n: u32) -> Result<(), NoMemory>
+fn full_pipes<P: Proto, R: AllocGlobal + Clock + Eprint + Wait>(
+    rt: &R,
+    n: u32,
+    mut push: Driver<P, MemWire>,
+)
     requires { (0 < n) × (n ≤ 4096) }
 {
-    let mut push = push_over(rt.alloc(), rt, ROUNDS, n, 0)?;
     let start = now(rt);
     for _ in 0..ROUNDS {
         send(rt, &mut push, Ctx(0));
@@ -218,7 +242,6 @@ fn full_pipes<R: AllocGlobal + Clock + Eprint + Wait>(rt: &R, n: u32) -> Result<
     push.close(rt);
     report(rt, "close of a push, a pipe", n, since(rt, start), n);
     end(rt, push);
-    Ok(())
 }
 
 // Begins a receive.
@@ -242,10 +265,13 @@ fn send<P: Proto, R: AllocGlobal + Wait>(rt: &R, driver: &mut Driver<P, MemWire>
 }
 
 // A push whose pipes have room: each send goes to the next one.
-fn free_pipes<R: AllocGlobal + Clock + Eprint + Wait>(rt: &R, n: u32) -> Result<(), NoMemory>
+fn free_pipes<P: Proto, R: AllocGlobal + Clock + Eprint + Wait>(
+    rt: &R,
+    n: u32,
+    mut push: Driver<P, MemWire>,
+)
     requires { (0 < n) × (n ≤ 4096) }
 {
-    let mut push = push_over(rt.alloc(), rt, ROUNDS, n, 1_000)?;
     let start = now(rt);
     for _ in 0..4_096 {
         send(rt, &mut push, Ctx(0));
@@ -259,18 +285,17 @@ fn free_pipes<R: AllocGlobal + Clock + Eprint + Wait>(rt: &R, n: u32) -> Result<
         4_096,
     );
     end(rt, push);
-    Ok(())
 }
 
 // n receives that wait, and a message for each.
-fn receives<R: AllocGlobal + Clock + Eprint + Wait>(
+fn receives<P: Proto, R: AllocGlobal + Clock + Eprint + Wait>(
     rt: &R,
     n: u32,
     from_first: bool,
-) -> Result<(), NoMemory>
+    mut pull: Driver<P, MemWire>,
+)
     requires { (0 < n) × (n ≤ 4096) }
 {
-    let mut pull = pull_over(rt.alloc(), rt, n, n, 1)?;
     let start = now(rt);
     for _ in 0..n {
         begin_recv(rt, &mut pull, Ctx(0));
@@ -311,14 +336,16 @@ fn receives<R: AllocGlobal + Clock + Eprint + Wait>(
         n,
     );
     end(rt, pull);
-    Ok(())
 }
 
 // Pipes of which a message is kept each.
-fn kept<R: AllocGlobal + Clock + Eprint + Wait>(rt: &R, n: u32) -> Result<(), NoMemory>
+fn kept<P: Proto, R: AllocGlobal + Clock + Eprint + Wait>(
+    rt: &R,
+    n: u32,
+    mut pull: Driver<P, MemWire>,
+)
     requires { (0 < n) × (n ≤ 4096) }
 {
-    let mut pull = pull_over(rt.alloc(), rt, n, n, 2)?;
     let start = now(rt);
     pull.serve(rt);
     report(
@@ -352,14 +379,16 @@ fn kept<R: AllocGlobal + Clock + Eprint + Wait>(rt: &R, n: u32) -> Result<(), No
         n,
     );
     end(rt, pull);
-    Ok(())
 }
 
 // Pipes that give nothing, and the close.
-fn idle<R: AllocGlobal + Clock + Eprint + Wait>(rt: &R, n: u32) -> Result<(), NoMemory>
+fn idle<P: Proto, R: AllocGlobal + Clock + Eprint + Wait>(
+    rt: &R,
+    n: u32,
+    mut pull: Driver<P, MemWire>,
+)
     requires { (0 < n) × (n ≤ 4096) }
 {
-    let mut pull = pull_over(rt.alloc(), rt, n, n, 0)?;
     let start = now(rt);
     for _ in 0..ROUNDS {
         pull.serve(rt);
@@ -383,32 +412,36 @@ fn idle<R: AllocGlobal + Clock + Eprint + Wait>(rt: &R, n: u32) -> Result<(), No
     }
     report(rt, "take_ended, a pipe", n, since(rt, start), n);
     end(rt, pull);
+}
+
+// The rows of push and pull.
+fn pipeline<R: AllocGlobal + Clock + Eprint + Wait>(rt: &R, n: u32) -> Result<(), NoMemory>
+    requires { (0 < n) × (n ≤ 4096) }
+{
+    let alloc = rt.alloc();
+    full_pipes(rt, n, push_over(alloc, rt, ROUNDS, n, 0)?);
+    free_pipes(rt, n, push_over(alloc, rt, ROUNDS, n, 1_000)?);
+    receives(rt, n, true, pull_over(alloc, rt, n, n, 1)?);
+    receives(rt, n, false, pull_over(alloc, rt, n, n, 1)?);
+    kept(rt, n, pull_over(alloc, rt, n, n, 2)?);
+    idle(rt, n, pull_over(alloc, rt, n, n, 0)?);
     Ok(())
 }
 
 fn all<R: AllocGlobal + Clock + Eprint + Wait>(rt: &R, n: u32) -> Result<(), NoMemory>
     requires { (0 < n) × (n ≤ 4096) }
 {
-    full_pipes(rt, n)?;
-    free_pipes(rt, n)?;
-    receives(rt, n, true)?;
-    receives(rt, n, false)?;
-    kept(rt, n)?;
-    idle(rt, n)?;
-    trips(rt, n)?;
-    each_context_asks(rt, n)?;
-    each_pipe_asks(rt, n)?;
-    waiting_contexts(rt, n)
+    pipeline(rt, n)?;
+    requests::measure(rt, n)
 }
 
+// A queue that doubles its room has just enough at a power of 2: one size is none.
 fn every_size<R: AllocGlobal + Clock + Eprint + Wait>(rt: &R) -> Result<(), NoMemory> {
     all(rt, 256)?;
     all(rt, 1_024)?;
+    all(rt, 3_000)?;
     all(rt, 4_096)?;
-    surveyed_wires(rt, 100)?;
-    surveyed_wires(rt, 1_000)?;
-    surveying_contexts(rt, 16)?;
-    surveying_contexts(rt, 256)
+    surveys::measure(rt)
 }
 
 fn main(rt: HostRuntime) -> io::Result<()> {

@@ -2,14 +2,15 @@
 ghost use Rattle.std.specs.Prelude.{◌<◌, ◌≤◌};
 
 use crate::{
-    attach, attach_numbered, attach_series, begin_recv, collect_all, end, now, open_all,
-    receive_all, report, send, send_all, since,
+    MUCH, attach, attach_all_numbered, attach_numbered, attach_series, begin_recv, collect_all,
+    end, now, open_all, receive_all, report, send, send_all, since,
 };
 use core_driver::Driver;
 use proto_reqrep::{Reply, Request};
 use sp_base::{Ctx, NoMemory, Role};
 use sp_fakes::MemWire;
 use sp_history::setting::Options;
+use sp_proto::Proto;
 use std::alloc::Global;
 use std::io::Eprint;
 use std::sync::Wait;
@@ -42,9 +43,9 @@ struct Times {
 }
 
 // One trip of the req, whose reply comes in the serve.
-fn trip<R: AllocGlobal + Clock + Wait>(
+fn trip<P: Proto, R: AllocGlobal + Clock + Wait>(
     rt: &R,
-    req: &mut Driver<Request, MemWire>,
+    req: &mut Driver<P, MemWire>,
     times: &mut Times,
 ) {
     let start = now(rt);
@@ -60,12 +61,15 @@ fn trip<R: AllocGlobal + Clock + Wait>(
     times.trips = times.trips.saturating_add(since(rt, start));
 }
 
-/// Trips of one context of a req over n pipes, the first of which gives the replies. The serves are timed alone.
-pub fn trips<R: AllocGlobal + Clock + Eprint + Wait>(rt: &R, n: u32) -> Result<(), NoMemory>
+// Trips of one context of a req over n pipes, the first of which gives the replies. The serves are timed alone.
+fn trips<P: Proto, R: AllocGlobal + Clock + Eprint + Wait>(
+    rt: &R,
+    n: u32,
+    mut req: Driver<P, MemWire>,
+)
     requires { (0 < n) × (n ≤ 4096) }
 {
-    let mut req = new_req(rt.alloc(), n)?;
-    attach_series(rt.alloc(), rt, &mut req, TRIPS, true);
+    attach_series(rt.alloc(), rt, &mut req, 0, TRIPS, true);
     for place in 1..n {
         attach(rt.alloc(), rt, &mut req, place, 0, 1_000);
     }
@@ -91,21 +95,91 @@ pub fn trips<R: AllocGlobal + Clock + Eprint + Wait>(rt: &R, n: u32) -> Result<(
         TRIPS * n,
     );
     end(rt, req);
-    Ok(())
 }
 
-/// A request of each of n contexts over n pipes, each of which gives a reply.
-pub fn each_context_asks<R: AllocGlobal + Clock + Eprint + Wait>(
+// Sends a request of the context, and waits for its reply.
+fn ask<P: Proto, R: AllocGlobal + Wait>(rt: &R, req: &mut Driver<P, MemWire>, c: Ctx) {
+    send(rt, req, c);
+    let _ = req.collect(rt);
+    begin_recv(rt, req, c);
+}
+
+// So many contexts, from 1 on, wait for replies that don't come. The pipe gives those to later requests.
+fn wait_for_replies<P: Proto, R: AllocGlobal + Wait>(
+    rt: &R,
+    req: &mut Driver<P, MemWire>,
+    contexts: u32,
+) {
+    open_all(rt, req, contexts);
+    attach_series(rt.alloc(), rt, req, contexts, TRIPS, true);
+    for i in 0..contexts {
+        ask(rt, req, Ctx(i.saturating_add(1)));
+    }
+}
+
+// Trips of one context of a req while n - 2 others wait for replies that don't come.
+fn trips_among_waiting<P: Proto, R: AllocGlobal + Clock + Eprint + Wait>(
     rt: &R,
     n: u32,
-) -> Result<(), NoMemory>
+    mut req: Driver<P, MemWire>,
+)
     requires { (0 < n) × (n ≤ 4096) }
 {
-    let mut req = new_req(rt.alloc(), n)?;
-    open_all(rt, &mut req, n - 1);
-    for place in 0..n {
-        attach_numbered(rt.alloc(), rt, &mut req, place, place);
+    wait_for_replies(rt, &mut req, n.saturating_sub(2));
+    let start = now(rt);
+    for _ in 0..TRIPS {
+        ask(rt, &mut req, Ctx(0));
+        req.serve(rt);
+        let _ = req.collect(rt);
     }
+    report(
+        rt,
+        "a trip of a req while n contexts wait",
+        n,
+        since(rt, start),
+        TRIPS,
+    );
+    end(rt, req);
+}
+
+// Each of n - 2 contexts of a req that wait for replies asks anew, and its receive ends.
+fn asked_anew<P: Proto, R: AllocGlobal + Clock + Eprint + Wait>(
+    rt: &R,
+    n: u32,
+    mut req: Driver<P, MemWire>,
+)
+    requires { (0 < n) × (n ≤ 4096) }
+{
+    let contexts = n.saturating_sub(2);
+    wait_for_replies(rt, &mut req, contexts);
+    let start = now(rt);
+    for i in 0..contexts {
+        let c = Ctx(i.saturating_add(1));
+        send(rt, &mut req, c);
+        let _ = req.collect_first(rt);
+        let _ = req.collect(rt);
+        begin_recv(rt, &mut req, c);
+    }
+    report(
+        rt,
+        "a request in place of one whose receive waits",
+        n,
+        since(rt, start),
+        contexts,
+    );
+    end(rt, req);
+}
+
+// A request of each of n contexts over n pipes, each of which gives a reply.
+fn each_context_asks<P: Proto, R: AllocGlobal + Clock + Eprint + Wait>(
+    rt: &R,
+    n: u32,
+    mut req: Driver<P, MemWire>,
+)
+    requires { (0 < n) × (n ≤ 4096) }
+{
+    open_all(rt, &mut req, n - 1);
+    attach_all_numbered(rt, &mut req, n, MUCH);
     let start = now(rt);
     send_all(rt, &mut req, n);
     report(
@@ -137,20 +211,17 @@ pub fn each_context_asks<R: AllocGlobal + Clock + Eprint + Wait>(
     collect_all(rt, &mut req, n);
     report(rt, "n collects of replies", n, since(rt, start), n);
     end(rt, req);
-    Ok(())
 }
 
-/// A rep that keeps a request of each of n pipes, takes each and replies.
-pub fn each_pipe_asks<R: AllocGlobal + Clock + Eprint + Wait>(
+// A rep that keeps a request of each of n pipes, takes each and replies.
+fn each_pipe_asks<P: Proto, R: AllocGlobal + Clock + Eprint + Wait>(
     rt: &R,
     n: u32,
-) -> Result<(), NoMemory>
+    mut rep: Driver<P, MemWire>,
+)
     requires { (0 < n) × (n ≤ 4096) }
 {
-    let mut rep = new_rep(rt.alloc(), n)?;
-    for place in 0..n {
-        attach_numbered(rt.alloc(), rt, &mut rep, place, place);
-    }
+    attach_all_numbered(rt, &mut rep, n, MUCH);
     let start = now(rt);
     rep.serve(rt);
     report(
@@ -172,28 +243,42 @@ pub fn each_pipe_asks<R: AllocGlobal + Clock + Eprint + Wait>(
         n,
     );
     end(rt, rep);
-    Ok(())
 }
 
 // Receives what is kept, and replies.
-fn reply<R: AllocGlobal + Wait>(rt: &R, rep: &mut Driver<Reply, MemWire>, c: Ctx) {
+fn reply<P: Proto, R: AllocGlobal + Wait>(rt: &R, rep: &mut Driver<P, MemWire>, c: Ctx) {
     begin_recv(rt, rep, c);
     let _ = rep.collect_first(rt);
     send(rt, rep, c);
     let _ = rep.collect_first(rt);
 }
 
-/// A rep of which n contexts wait for requests. One pipe gives requests, one in a serve; the context that has waited
-/// longest replies, and waits again.
-pub fn waiting_contexts<R: AllocGlobal + Clock + Eprint + Wait>(
+// A request comes to each of so many contexts, one in a serve: the one that has waited longest. It replies, and waits
+// again.
+fn answer_all<P: Proto, R: AllocGlobal + Wait>(
+    rt: &R,
+    rep: &mut Driver<P, MemWire>,
+    contexts: u32,
+) {
+    for c in 0..contexts {
+        rep.serve(rt);
+        let _ = rep.collect_first(rt);
+        send(rt, rep, Ctx(c));
+        let _ = rep.collect(rt);
+        begin_recv(rt, rep, Ctx(c));
+    }
+}
+
+// A rep of which n contexts wait for requests.
+fn waiting_contexts<P: Proto, R: AllocGlobal + Clock + Eprint + Wait>(
     rt: &R,
     n: u32,
-) -> Result<(), NoMemory>
+    mut rep: Driver<P, MemWire>,
+)
     requires { (0 < n) × (n ≤ 4096) }
 {
-    let mut rep = new_rep(rt.alloc(), n)?;
     open_all(rt, &mut rep, n - 1);
-    attach_series(rt.alloc(), rt, &mut rep, n, true);
+    attach_series(rt.alloc(), rt, &mut rep, 0, n, true);
     let start = now(rt);
     receive_all(rt, &mut rep, n);
     report(
@@ -204,13 +289,7 @@ pub fn waiting_contexts<R: AllocGlobal + Clock + Eprint + Wait>(
         n,
     );
     let start = now(rt);
-    for c in 0..n {
-        rep.serve(rt);
-        let _ = rep.collect_first(rt);
-        send(rt, &mut rep, Ctx(c));
-        let _ = rep.collect(rt);
-        begin_recv(rt, &mut rep, Ctx(c));
-    }
+    answer_all(rt, &mut rep, n);
     report(
         rt,
         "a request and its reply while n contexts wait",
@@ -219,5 +298,84 @@ pub fn waiting_contexts<R: AllocGlobal + Clock + Eprint + Wait>(
         n,
     );
     end(rt, rep);
+}
+
+// A rep of which n - 1 contexts wait for requests. The reply of one more waits for room at its pipe.
+fn waiting_beside_a_reply<P: Proto, R: AllocGlobal + Clock + Eprint + Wait>(
+    rt: &R,
+    n: u32,
+    mut rep: Driver<P, MemWire>,
+)
+    requires { (0 < n) × (n ≤ 4096) }
+{
+    let last = n - 1;
+    open_all(rt, &mut rep, last);
+    attach_numbered(rt.alloc(), rt, &mut rep, 1, 0, 0);
+    rep.serve(rt);
+    begin_recv(rt, &mut rep, Ctx(last));
+    let _ = rep.collect_first(rt);
+    attach_series(rt.alloc(), rt, &mut rep, 0, n, true);
+    receive_all(rt, &mut rep, last);
+    send(rt, &mut rep, Ctx(last));
+    let start = now(rt);
+    answer_all(rt, &mut rep, last);
+    report(
+        rt,
+        "a request and its reply while n contexts wait, and a reply at a full pipe",
+        n,
+        since(rt, start),
+        last,
+    );
+    end(rt, rep);
+}
+
+// A rep of n contexts, each of which replies to a pipe that is full.
+fn replies_at_full_pipes<P: Proto, R: AllocGlobal + Clock + Eprint + Wait>(
+    rt: &R,
+    n: u32,
+    mut rep: Driver<P, MemWire>,
+)
+    requires { (0 < n) × (n ≤ 4096) }
+{
+    open_all(rt, &mut rep, n - 1);
+    attach_all_numbered(rt, &mut rep, n, 0);
+    rep.serve(rt);
+    receive_all(rt, &mut rep, n);
+    collect_all(rt, &mut rep, n);
+    send_all(rt, &mut rep, n - 1);
+    let start = now(rt);
+    send(rt, &mut rep, Ctx(n - 1));
+    report(
+        rt,
+        "begin_send of a rep while n replies wait at full pipes, a pipe",
+        n,
+        since(rt, start),
+        n,
+    );
+    let start = now(rt);
+    rep.serve(rt);
+    report(
+        rt,
+        "serve while n replies wait at full pipes, a pipe",
+        n,
+        since(rt, start),
+        n,
+    );
+    end(rt, rep);
+}
+
+/// Each row at this size.
+pub fn measure<R: AllocGlobal + Clock + Eprint + Wait>(rt: &R, n: u32) -> Result<(), NoMemory>
+    requires { (0 < n) × (n ≤ 4096) }
+{
+    let alloc = rt.alloc();
+    trips(rt, n, new_req(alloc, n)?);
+    trips_among_waiting(rt, n, new_req(alloc, n)?);
+    asked_anew(rt, n, new_req(alloc, n)?);
+    each_context_asks(rt, n, new_req(alloc, n)?);
+    each_pipe_asks(rt, n, new_rep(alloc, n)?);
+    waiting_contexts(rt, n, new_rep(alloc, n)?);
+    waiting_beside_a_reply(rt, n, new_rep(alloc, n)?);
+    replies_at_full_pipes(rt, n, new_rep(alloc, n)?);
     Ok(())
 }

@@ -2,7 +2,7 @@
 ghost use Rattle.std.specs.Prelude.{◌<◌, ◌≤◌};
 
 use crate::{
-    attach_numbered, attach_series, begin_recv, collect_all, end, now, open_all, receive_all,
+    MUCH, attach_numbered, attach_series, begin_recv, collect_all, end, now, open_all, receive_all,
     report, send, send_all, since,
 };
 use core_driver::Driver;
@@ -10,6 +10,7 @@ use proto_survey::Survey;
 use sp_base::{Ctx, NoMemory, Role};
 use sp_fakes::MemWire;
 use sp_history::setting::Options;
+use sp_proto::Proto;
 use std::alloc::Global;
 use std::io::Eprint;
 use std::sync::Wait;
@@ -25,16 +26,16 @@ fn new_survey(alloc: Global, slots: u32) -> Result<Driver<Survey, MemWire>, NoMe
     Driver::new(alloc, machine, slots)
 }
 
-/// One survey over n wires, each of which gives a response.
-pub fn surveyed_wires<R: AllocGlobal + Clock + Eprint + Wait>(
+// One survey over n wires, each of which gives a response.
+fn surveyed_wires<P: Proto, R: AllocGlobal + Clock + Eprint + Wait>(
     rt: &R,
     n: u32,
-) -> Result<(), NoMemory>
+    mut survey: Driver<P, MemWire>,
+)
     requires { (0 < n) × (n ≤ 4096) }
 {
-    let mut survey = new_survey(rt.alloc(), n)?;
     for place in 0..n {
-        attach_numbered(rt.alloc(), rt, &mut survey, place, 0);
+        attach_numbered(rt.alloc(), rt, &mut survey, place, 0, MUCH);
     }
     let start = now(rt);
     send(rt, &mut survey, Ctx(0));
@@ -62,19 +63,18 @@ pub fn surveyed_wires<R: AllocGlobal + Clock + Eprint + Wait>(
         n,
     );
     end(rt, survey);
-    Ok(())
 }
 
-/// A survey of each of n contexts over one wire, which gives the responses.
-pub fn surveying_contexts<R: AllocGlobal + Clock + Eprint + Wait>(
+// A survey of each of n contexts over one wire, which gives the responses.
+fn surveying_contexts<P: Proto, R: AllocGlobal + Clock + Eprint + Wait>(
     rt: &R,
     n: u32,
-) -> Result<(), NoMemory>
+    mut survey: Driver<P, MemWire>,
+)
     requires { (0 < n) × (n ≤ 4096) }
 {
-    let mut survey = new_survey(rt.alloc(), n)?;
     open_all(rt, &mut survey, n - 1);
-    attach_series(rt.alloc(), rt, &mut survey, n, false);
+    attach_series(rt.alloc(), rt, &mut survey, 0, n, false);
     let start = now(rt);
     send_all(rt, &mut survey, n);
     report(rt, "a survey, a context", n, since(rt, start), n);
@@ -103,5 +103,13 @@ pub fn surveying_contexts<R: AllocGlobal + Clock + Eprint + Wait>(
     collect_all(rt, &mut survey, n);
     report(rt, "n collects of responses", n, since(rt, start), n);
     end(rt, survey);
+}
+
+/// Each count of wires, and of contexts.
+pub fn measure<R: AllocGlobal + Clock + Eprint + Wait>(rt: &R) -> Result<(), NoMemory> {
+    surveyed_wires(rt, 100, new_survey(rt.alloc(), 100)?);
+    surveyed_wires(rt, 1_000, new_survey(rt.alloc(), 1_000)?);
+    surveying_contexts(rt, 16, new_survey(rt.alloc(), 16)?);
+    surveying_contexts(rt, 256, new_survey(rt.alloc(), 256)?);
     Ok(())
 }

@@ -12,14 +12,28 @@ use std::time::Clock;
 /// How many frames come.
 const FRAMES: u32 = 1_000;
 
+/// A body that begins with none of the topics of five bytes.
+const STRANGER: &[u8] = b"tzzzz and more";
+
 /// How many times a machine is asked what can be done.
 const OFFERS: u32 = 1_000;
 
 /// How many sends begin.
 const SENDS: u32 = 16;
 
+// A sub; the queue of each context has this room.
+fn new_sub(alloc: Global, queue: u32) -> Result<Subscribe, NoMemory> {
+    let mut options = Options::usual(Role::Sub, 0);
+    options.queue = queue;
+    Subscribe::new(alloc, options, false)
+}
+
+fn new_pub(alloc: Global) -> Result<Publish, NoMemory> {
+    Publish::new(alloc, Options::usual(Role::Pub, 0), false)
+}
+
 // The context has so many topics, of five bytes each.
-fn put_on(sub: &mut Subscribe, c: Ctx, topics: u32) -> Result<(), NoMemory> {
+fn put_on<M: Proto>(sub: &mut M, c: Ctx, topics: u32) -> Result<(), NoMemory> {
     for i in 0..topics {
         let [a, b, c_, d] = i.to_be_bytes();
         let _ = sub.topic(c, &[116, a, b, c_, d], true)?;
@@ -28,7 +42,7 @@ fn put_on(sub: &mut Subscribe, c: Ctx, topics: u32) -> Result<(), NoMemory> {
 }
 
 // The same topics are taken off, the last one first.
-fn take_off(sub: &mut Subscribe, c: Ctx, topics: u32) -> Result<(), NoMemory> {
+fn take_off<M: Proto>(sub: &mut M, c: Ctx, topics: u32) -> Result<(), NoMemory> {
     for i in 0..topics {
         let [a, b, c_, d] = (topics - 1 - i).to_be_bytes();
         let _ = sub.topic(c, &[116, a, b, c_, d], false)?;
@@ -36,40 +50,75 @@ fn take_off(sub: &mut Subscribe, c: Ctx, topics: u32) -> Result<(), NoMemory> {
     Ok(())
 }
 
-// So many frames that no topic matches.
-fn strangers(sub: &mut Subscribe, alloc: Global, frames: u32) -> Result<(), NoMemory> {
-    for _ in 0..frames {
-        come(sub, alloc, PipeId(1), b"tzzzz and more")?;
+// Frames with this body come, which no topic matches.
+fn strangers<M: Proto>(sub: &mut M, alloc: Global, body: &[u8]) -> Result<(), NoMemory> {
+    for _ in 0..FRAMES {
+        come(sub, alloc, PipeId(1), body)?;
     }
     Ok(())
 }
 
 // One context with so many topics.
-fn with_topics<R: AllocGlobal + Clock + Eprint>(rt: &R, topics: u32) -> Result<(), NoMemory> {
-    let mut sub = Subscribe::new(rt.alloc(), Options::usual(Role::Sub, 0), false)?;
+fn with_topics<M: Proto, R: AllocGlobal + Clock + Eprint>(
+    rt: &R,
+    sub: &mut M,
+    topics: u32,
+) -> Result<(), NoMemory> {
     let start = now(rt);
-    put_on(&mut sub, Ctx(0), topics)?;
+    put_on(sub, Ctx(0), topics)?;
     row(rt, "a topic is put on", topics, start, topics);
     let start = now(rt);
-    strangers(&mut sub, rt.alloc(), FRAMES)?;
+    strangers(sub, rt.alloc(), STRANGER)?;
     row(rt, "a frame at a sub, by topics", topics, start, FRAMES);
     let start = now(rt);
-    take_off(&mut sub, Ctx(0), topics)?;
+    take_off(sub, Ctx(0), topics)?;
     row(rt, "a topic is taken off", topics, start, topics);
     Ok(())
 }
 
+// So many times the letter t.
+fn letters(alloc: Global, count: u32) -> Result<Vec<u8>, NoMemory> {
+    let mut text = Vec::new(alloc);
+    text.resize(count as usize, 116)?;
+    Ok(text)
+}
+
+// One context with a topic of each length from 1 to this one. They begin as the frames do, and end otherwise.
+fn with_lengths<M: Proto, R: AllocGlobal + Clock + Eprint>(
+    rt: &R,
+    sub: &mut M,
+    lengths: u32,
+) -> Result<(), NoMemory> {
+    for i in 0..lengths {
+        let mut topic = letters(rt.alloc(), i)?;
+        topic.push(97)?;
+        let _ = sub.topic(Ctx(0), &topic, true)?;
+    }
+    let body = letters(rt.alloc(), lengths)?;
+    let start = now(rt);
+    strangers(sub, rt.alloc(), &body)?;
+    row(
+        rt,
+        "a frame at a sub, by lengths of topics",
+        lengths,
+        start,
+        FRAMES,
+    );
+    Ok(())
+}
+
 // So many contexts with a topic each, and the first.
-fn with_contexts<R: AllocGlobal + Clock + Eprint>(rt: &R, contexts: u32) -> Result<(), NoMemory> {
-    let mut options = Options::usual(Role::Sub, 0);
-    options.queue = 1;
-    let mut sub = Subscribe::new(rt.alloc(), options, false)?;
-    opens(&mut sub, contexts)?;
+fn with_contexts<M: Proto, R: AllocGlobal + Clock + Eprint>(
+    rt: &R,
+    sub: &mut M,
+    contexts: u32,
+) -> Result<(), NoMemory> {
+    opens(sub, contexts)?;
     for i in 0..contexts {
-        put_on(&mut sub, Ctx(i), 1)?;
+        put_on(sub, Ctx(i), 1)?;
     }
     let start = now(rt);
-    strangers(&mut sub, rt.alloc(), FRAMES)?;
+    strangers(sub, rt.alloc(), STRANGER)?;
     row(
         rt,
         "a frame at a sub, a context",
@@ -81,47 +130,75 @@ fn with_contexts<R: AllocGlobal + Clock + Eprint>(rt: &R, contexts: u32) -> Resu
 }
 
 // A receive begins on each of so many contexts, and then nothing can be done.
-fn with_receives<R: AllocGlobal + Clock + Eprint>(rt: &R, contexts: u32) -> Result<(), NoMemory> {
-    let mut options = Options::usual(Role::Sub, 0);
-    options.queue = 1;
-    let mut sub = Subscribe::new(rt.alloc(), options, false)?;
-    opens(&mut sub, contexts)?;
+fn with_receives<M: Proto, R: AllocGlobal + Clock + Eprint>(
+    rt: &R,
+    sub: &mut M,
+    contexts: u32,
+) -> Result<(), NoMemory> {
+    opens(sub, contexts)?;
     let start = now(rt);
     for i in 0..contexts {
-        receive(&mut sub, i, Ctx(i + 1))?;
-        take_offer(&mut sub, 0);
+        receive(sub, i, Ctx(i + 1))?;
+        take_offer(sub, 0);
     }
     row(rt, "a receive begins at a sub", contexts, start, contexts);
     let start = now(rt);
     for _ in 0..OFFERS {
-        take_offer(&mut sub, 0);
+        take_offer(sub, 0);
     }
     row(rt, "an idle offer of a sub", contexts, start, OFFERS);
     Ok(())
 }
 
-/// Each count of topics, of contexts and of receives.
-pub fn frames<R: AllocGlobal + Clock + Eprint>(rt: &R) -> Result<(), NoMemory> {
-    with_topics(rt, 1)?;
-    with_topics(rt, 100)?;
-    with_topics(rt, 10_000)?;
-    with_contexts(rt, 1)?;
-    with_contexts(rt, 1_000)?;
-    with_receives(rt, 1)?;
-    with_receives(rt, 100)?;
-    with_receives(rt, 1_000)?;
-    with_receives(rt, 4_000)?;
+fn each_count_of_topics<R: AllocGlobal + Clock + Eprint>(rt: &R) -> Result<(), NoMemory> {
+    let usual = Options::usual(Role::Sub, 0).queue;
+    for topics in [1, 100, 10_000] {
+        with_topics(rt, &mut new_sub(rt.alloc(), usual)?, topics)?;
+    }
     Ok(())
 }
 
+fn each_count_of_lengths<R: AllocGlobal + Clock + Eprint>(rt: &R) -> Result<(), NoMemory> {
+    let usual = Options::usual(Role::Sub, 0).queue;
+    for lengths in [1, 32, 1_024] {
+        with_lengths(rt, &mut new_sub(rt.alloc(), usual)?, lengths)?;
+    }
+    Ok(())
+}
+
+fn each_count_of_contexts<R: AllocGlobal + Clock + Eprint>(rt: &R) -> Result<(), NoMemory> {
+    for contexts in [1, 1_000] {
+        with_contexts(rt, &mut new_sub(rt.alloc(), 1)?, contexts)?;
+    }
+    Ok(())
+}
+
+fn each_count_of_receives<R: AllocGlobal + Clock + Eprint>(rt: &R) -> Result<(), NoMemory> {
+    for contexts in [1, 100, 1_000, 4_000] {
+        with_receives(rt, &mut new_sub(rt.alloc(), 1)?, contexts)?;
+    }
+    Ok(())
+}
+
+/// Each count of topics, of their lengths, of contexts and of receives.
+pub fn frames<R: AllocGlobal + Clock + Eprint>(rt: &R) -> Result<(), NoMemory> {
+    each_count_of_topics(rt)?;
+    each_count_of_lengths(rt)?;
+    each_count_of_contexts(rt)?;
+    each_count_of_receives(rt)
+}
+
 // Sends of a pub to so many pipes.
-fn to_pipes<R: AllocGlobal + Clock + Eprint>(rt: &R, pipes: u32) -> Result<(), NoMemory> {
-    let mut publisher = Publish::new(rt.alloc(), Options::usual(Role::Pub, 0), false)?;
-    ups(&mut publisher, pipes)?;
+fn to_pipes<M: Proto, R: AllocGlobal + Clock + Eprint>(
+    rt: &R,
+    publisher: &mut M,
+    pipes: u32,
+) -> Result<(), NoMemory> {
+    ups(publisher, pipes)?;
     let start = now(rt);
     for i in 0..SENDS {
-        send(&mut publisher, rt.alloc(), i, Ctx(0), b"x")?;
-        take_offer(&mut publisher, pipes);
+        send(publisher, rt.alloc(), i, Ctx(0), b"x")?;
+        take_offer(publisher, pipes);
     }
     row(
         rt,
@@ -135,8 +212,8 @@ fn to_pipes<R: AllocGlobal + Clock + Eprint>(rt: &R, pipes: u32) -> Result<(), N
 
 /// Each count of pipes.
 pub fn sends<R: AllocGlobal + Clock + Eprint>(rt: &R) -> Result<(), NoMemory> {
-    to_pipes(rt, 256)?;
-    to_pipes(rt, 1_024)?;
-    to_pipes(rt, 4_096)?;
+    for pipes in [256, 1_024, 4_096] {
+        to_pipes(rt, &mut new_pub(rt.alloc())?, pipes)?;
+    }
     Ok(())
 }
