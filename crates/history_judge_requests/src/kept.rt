@@ -417,6 +417,7 @@ fn given_from(alloc: Global, z: Setting, past: &Past, c: Ctx) -> Result<Option<O
                 given_from(alloc, z, before, c)
             }
         }
+        Past::After(Entry::Close(_), _) => Ok(None),
         Past::After(_, before) => given_from(alloc, z, before, c),
     }
 }
