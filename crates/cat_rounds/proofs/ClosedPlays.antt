@@ -23,7 +23,7 @@ use Rattle.cat_play.specs.Steps.{AddsNone, moves_play, moves_ends, until_close}
 use Rattle.cat_play.proofs.Stepping.{goes_on, none_first, none_rest, open_after, open_onto, open_is}
 use Rattle.cat_play.proofs.Staying.{counted_stays, texts_stay}
 use Rattle.cat_play.proofs.OneEntryTurns.{until_silent}
-use Rattle.cat_play.proofs.Closing.{closing_turn, goes_on_closed}
+use Rattle.cat_play.proofs.CloseTurns.{closing_turn, goes_on_closed}
 use Rattle.cat_player.specs.PlayerSteps.{begins_or_ticks}
 use Rattle.cat_player.proofs.Silent.{append_nil, closed_stays, keeps_all}
 use Rattle.cat_player.proofs.PlaysStay.{timed_stays}

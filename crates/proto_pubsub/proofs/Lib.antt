@@ -1,6 +1,6 @@
 pub mod Indexed
 pub mod Knowing
-pub mod Looking
+pub mod SearchedReceives
 pub mod ContextsByNumber
 pub mod Published
 pub mod SubContexts

@@ -47,7 +47,7 @@ use Rattle.proto_pubsub.specs.Subs.{Ties, NeedsCopy, seat_at, view_of, begun_of,
 use Rattle.proto_pubsub.proofs.Knowing.{IsRising, allowed, allowed_before, apart, rising, only_zero, AreHome, homes, home_of, pool_home, kept_home, nothing}
 use Rattle.proto_pubsub.proofs.SubContexts.{found_at, not_found, long_with, found_seat, any_seat, changed, each, map_same, shut, stands, is_at, stopped}
 use Rattle.proto_pubsub.proofs.ContextsByNumber.{numbers, ordered_is}
-use Rattle.proto_pubsub.proofs.Looking.{before_first, before_end, more_before, still_before, given_kept, switched_kept, emptied_kept, opened_kept, shut_kept, looks_on, looks_anew}
+use Rattle.proto_pubsub.proofs.SearchedReceives.{before_first, before_end, more_before, still_before, given_kept, switched_kept, emptied_kept, opened_kept, shut_kept, looks_on, looks_anew}
 use Rattle.proto_pubsub.proofs.ReceivesLeft.{find_begun, find_own, without_all, first_of_its}
 
 pub is_sub : (m : Subscribe) (t : Moment) → Ties m t → t.z.role ≡ role.Sub

@@ -2,7 +2,7 @@ pub mod Orphaned
 pub mod RequestLives
 pub mod Seated
 pub mod Outgoing
-pub mod Owning
+pub mod OwnedRequests
 pub mod Requested
 pub mod LiveIndexes
 pub mod WorkLeft

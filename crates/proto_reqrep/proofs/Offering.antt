@@ -43,7 +43,7 @@ use Rattle.proto_reqrep.specs.Reqs.{gets, answers, IsReply, IsGift, is_receiving
 use Rattle.proto_reqrep.proofs.DueRequests.{none_at}
 use Rattle.proto_reqrep.proofs.RequestLives.{found_ctx}
 use Rattle.proto_reqrep.proofs.Orphaned.{orphan_found, all_finished}
-use Rattle.proto_reqrep.proofs.Owning.{owned_at}
+use Rattle.proto_reqrep.proofs.OwnedRequests.{owned_at}
 use Rattle.proto_reqrep.proofs.ReqStands.{is_req_role, is_raw, flag, live_is, kept_is}
 use Rattle.proto_reqrep.proofs.ReqArrivals.{given_is}
 use Rattle.proto_reqrep.proofs.ReqWins.{due_is}

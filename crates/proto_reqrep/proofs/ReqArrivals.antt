@@ -54,7 +54,7 @@ use Rattle.proto_requests.specs.Ports.{Knows}
 use Rattle.proto_reqrep.specs.Seats.{SeatView}
 use Rattle.proto_reqrep.proofs.RequestLives.{ctx_less, gone_on}
 use Rattle.proto_reqrep.proofs.ReqStands.{is_req_role, is_raw, asks, asks_nothing, req_is, raw_same, live_is, kept_is, kept_raw}
-use Rattle.proto_reqrep.proofs.Owning.{all_marked}
+use Rattle.proto_reqrep.proofs.OwnedRequests.{all_marked}
 use Rattle.proto_reqrep.proofs.WorkLeft.{length_same}
 use Rattle.proto_reqrep.proofs.RequestsDue.{begun_seen}
 use Rattle.proto_reqrep.proofs.Hinted.{asked_ready}

@@ -38,7 +38,7 @@ use Rattle.sp_proto.specs.Kinds.{act_of}
 use Rattle.proto_reqrep.specs.Reqs.{Ties, Asked, begun_of, is_asked, is_sending, orphaned, without_first, without_live, is_live_on, request_of, item_of, items_of, reply_in, message_in}
 use Rattle.proto_reqrep.proofs.Orphaned.{flag_of}
 use Rattle.proto_reqrep.proofs.RequestLives.{find_request, sound_at}
-use Rattle.proto_reqrep.proofs.Owning.{owned_taken, only_receive, none_beside}
+use Rattle.proto_reqrep.proofs.OwnedRequests.{owned_taken, only_receive, none_beside}
 use Rattle.proto_reqrep.proofs.Requested.{taken, taken_own, no_such, ended, ended_alone}
 
 pub is_req_role : (m : Machine) (t : Moment) → Ties m t → t.z.role ≡ role.Req

@@ -39,7 +39,7 @@ use Rattle.proto_reqrep.specs.declared.req.Asking.{Asking}
 use Rattle.sp_proto.specs.Kinds.{act_of}
 use Rattle.proto_reqrep.specs.Reqs.{Ties, Asked, begun_of, is_asked, is_sending, is_sending_on, without_first, without_live, live_ctx, is_live_on, request_of, sent_at, HaveLive, IsOf, Opened, dry_at, dried, wetted, seat_ctx}
 use Rattle.proto_requests.specs.FirstFound.{with_found}
-use Rattle.proto_reqrep.proofs.Owning.{owned_at, only_send}
+use Rattle.proto_reqrep.proofs.OwnedRequests.{owned_at, only_send}
 use Rattle.proto_reqrep.proofs.Requested.{taken, ended_alone, gone_out}
 use Rattle.sp_history.specs.declared.parts.LastOut.{LastOut}
 use Rattle.proto_reqrep.specs.Seats.{SeatView}

@@ -28,7 +28,7 @@ use Rattle.proto_requests.proofs.NamesApart.{apart_without, apart_more}
 use Rattle.proto_reqrep.proofs.Orphaned.{any_either, all_both, all_kept, left_more, none_more, caused, without_map, left_less}
 use Rattle.proto_reqrep.proofs.RequestLives.{live_less, distinct_less, distinct_more, sound_less, sound_more, find_last}
 use Rattle.proto_reqrep.proofs.Outgoing.{out_is, out_alone, ids_out, ctxs_out, sound_out, ids_kept, ctxs_kept, sound_kept, frame_is}
-use Rattle.proto_reqrep.proofs.Owning.{owned_more, owned_taken, owned_marked, owned_longer, owned_less, owned_out, owned_kept, single_more, single_taken, single_marked}
+use Rattle.proto_reqrep.proofs.OwnedRequests.{owned_more, owned_taken, owned_marked, owned_longer, owned_less, owned_out, owned_kept, single_more, single_taken, single_marked}
 
 marked_begun : (c : ℕ) (ws : List Asking) → map begun_of (map (orphaned c) ws) ≡ map begun_of ws
 marked_begun c [] = refl

@@ -2,8 +2,8 @@ pub mod SurveyLives
 pub mod OrphanedOperations
 pub mod SurveySends
 pub mod Asks
-pub mod Moving
+pub mod SurveyorMoments
 pub mod SurveyorArrivals
-pub mod Going
+pub mod SurveyorEnds
 pub mod Writing
 pub mod Receiving

@@ -12,7 +12,7 @@ use Rattle.proto_survey.specs.Lives.{SurveyView, survey_ctx, is_live_on, is_kept
 use Rattle.proto_survey.specs.Askings.{is_sending, receives_on}
 use Rattle.proto_survey.specs.Surveys.{gets, is_given, is_fed, IsNext}
 use Rattle.proto_survey.proofs.SurveyLives.{equal_of, same_number, turned}
-use Rattle.proto_survey.proofs.Going.{parts}
+use Rattle.proto_survey.proofs.SurveyorEnds.{parts}
 
 passes : {A : Type 0} (P : A → Bool) (xs : List A) (x : A) → find P xs ≡ Some x → P x ≡ true
 passes P [] x h = absurd cc

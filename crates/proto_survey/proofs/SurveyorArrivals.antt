@@ -55,7 +55,7 @@ use Rattle.proto_survey.specs.Surveys.{Ties, Asked, Asks, IsFlood, AreSame, Keep
 use Rattle.proto_survey.proofs.SurveyLives.{same_number, turned, without_is, gone_on, alone, keys_kept, map_of, ids_of, long_of}
 use Rattle.proto_survey.proofs.OrphanedOperations.{fresh_how, fresh_left, left_like, not_orphan}
 use Rattle.proto_survey.proofs.Asks.{left, relive, begun, born}
-use Rattle.proto_survey.proofs.Moving.{is_survey, is_raw, is_options, raw_asked, same_kept}
+use Rattle.proto_survey.proofs.SurveyorMoments.{is_survey, is_raw, is_options, raw_asked, same_kept}
 use Rattle.proto_survey.proofs.SurveySends.{surveys, no_req, it_floods, same_requests, frame_bytes}
 
 left_of : (a b : Bool) → (not a && b) ≡ true → a ≡ false

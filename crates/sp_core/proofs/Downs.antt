@@ -18,7 +18,7 @@ use Rattle.core_parts.specs.Wires.{ShowsWhy}
 use Rattle.core_parts.specs.PartSteps.{MovesDown}
 use Rattle.sp_core.specs.Owning.{Owns}
 use Rattle.sp_core.specs.Closing.{ClosesAt}
-use Rattle.sp_core.specs.Flooding.{Spreads}
+use Rattle.sp_core.specs.FloodedPipes.{Spreads}
 use Rattle.sp_core.specs.NoteSteps.{NotesDown}
 use Rattle.sp_core.proofs.Closings.{go_down_lawful, goes_down_one}
 use Rattle.sp_core.proofs.Flooded as flooded

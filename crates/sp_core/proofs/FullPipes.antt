@@ -11,7 +11,7 @@ use Rattle.sp_core.specs.declared.owner.Core.{Core}
 use Rattle.core_parts.specs.declared.pipes.Pipes.{Pipes}
 use Rattle.core_parts.specs.Pipes.{PipesStand}
 use Rattle.sp_core.specs.Owning.{Owns}
-use Rattle.sp_core.specs.Flooding.{Spreads}
+use Rattle.sp_core.specs.FloodedPipes.{Spreads}
 use Rattle.sp_core.specs.NoteSteps.{NotesFull}
 use Rattle.sp_core.proofs.Flooded as flooded
 use Rattle.sp_core.proofs.MomentSteps.{full_lawful, found_full}

@@ -32,7 +32,7 @@ use Rattle.sp_history.specs.Requests.{requests, live_on}
 use Rattle.sp_history.specs.Legal.{is_recv, is_recv_on, is_at, is_state, state_for, Allowed}
 use Rattle.sp_history.specs.Settled.{receive_settled}
 use Rattle.sp_history.specs.Moments.{Moment, Lawful, past, also, turn_of}
-use Rattle.sp_history.proofs.Turning.{stands_in}
+use Rattle.sp_history.proofs.LegalTurns.{stands_in}
 use Rattle.sp_history.proofs.OnceHolds.{same_op-refl, same_op-slot, same_op-eq}
 use Rattle.sp_proto.specs.Kinds.{text_of}
 use Rattle.sp_proto.specs.Machines.{CanGive, IsIdle}

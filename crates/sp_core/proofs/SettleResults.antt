@@ -3,7 +3,7 @@ use Rattle.std.proofs.Common.{◌≡◌, ℕ, Bool, true, false, []}
 use Rattle.sp_msg.specs.Views.{WireView}
 use Rattle.sp_history.specs.Moments.{Moment}
 use Rattle.sp_core.specs.declared.owner.Core.{Core}
-use Rattle.sp_core.specs.Keeping.{KeepsReads}
+use Rattle.sp_core.specs.KeptWords.{KeepsReads}
 use Rattle.sp_core.specs.Owning.{Owns}
 use Rattle.sp_core.specs.Standing.{IsSettled}
 use Rattle.sp_core.specs.OneStep.{GoesOn, SettlesOnce}

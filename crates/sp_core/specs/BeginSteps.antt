@@ -1,6 +1,6 @@
 -- What the steps of a begin lead to, within a turn.
 use Rattle.sp_base.specs.declared.OpName.{OpName}
-use Rattle.sp_core.specs.Keeping.{KeepsReads, KeepsWords}
+use Rattle.sp_core.specs.KeptWords.{KeepsReads, KeepsWords}
 use Rattle.core_parts.specs.OpWordsStand.{IsNext}
 use Rattle.sp_core.specs.Looking.{HasLooked, reads_of}
 use Rattle.sp_core.specs.Moving.{AreSettling}

@@ -1,6 +1,6 @@
 -- What the steps of a close lead to, within its turn.
 use Rattle.sp_base.specs.declared.OpName.{OpName}
-use Rattle.sp_core.specs.Keeping.{KeepsWords}
+use Rattle.sp_core.specs.KeptWords.{KeepsWords}
 use Rattle.sp_core.specs.Closing.{AreEndsOf, AreDownsOf, ClosesAt, GoesDownAs, after}
 use Rattle.core_parts.specs.Ends.{IsCloseEnd}
 use Rattle.core_parts.specs.Pipes.{IsPipeAt}

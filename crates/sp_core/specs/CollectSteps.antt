@@ -1,6 +1,6 @@
 -- What ticking, collecting and the immediate receive lead to, within a turn.
 use Rattle.sp_base.specs.declared.OpName.{OpName}
-use Rattle.sp_core.specs.Keeping.{AddsReads, KeepsReads, KeepsWords}
+use Rattle.sp_core.specs.KeptWords.{AddsReads, KeepsReads, KeepsWords}
 use Rattle.sp_core.specs.Collecting.{IsOpenBefore, TickedTo}
 use Rattle.core_parts.specs.OperationsStand.{IsOutcomeOf}
 use Rattle.sp_core.specs.Immediate.{NowTo, RefusedNow, TriedTo}

@@ -1,5 +1,5 @@
 -- What the calls of contexts lead to, within a turn.
-use Rattle.sp_core.specs.Keeping.{KeepsWords}
+use Rattle.sp_core.specs.KeptWords.{KeepsWords}
 use Rattle.sp_core.specs.Closing.{ClosesAt, after}
 use Rattle.sp_core.specs.Contexts.{AreCtxEnds, IsShutting, MayOpen, MayShut, MaySwitch, RefusedOpen, RefusedShut, RefusedTopic, ShutOne, SwitchedTo}
 use Rattle.sp_core.specs.Owning.{Owns}

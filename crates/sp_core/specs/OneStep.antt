@@ -4,7 +4,7 @@ use Rattle.sp_msg.specs.Views.{WireView}
 use Rattle.sp_history.specs.Moments.{Moment}
 use Rattle.sp_core.specs.declared.owner.Core.{Core}
 use Rattle.sp_core.specs.Cores.{words_of}
-use Rattle.sp_core.specs.Keeping.{KeepsReads}
+use Rattle.sp_core.specs.KeptWords.{KeepsReads}
 use Rattle.sp_core.specs.Looking.{reads_of}
 use Rattle.core_parts.specs.Reads.{Grows}
 use Rattle.sp_core.specs.Moving.{Later}

@@ -1,7 +1,7 @@
 -- What giving and sending lead to, within a turn.
 use Rattle.sp_base.specs.declared.OpName.{OpName}
-use Rattle.sp_core.specs.Keeping.{KeepsReads}
-use Rattle.sp_core.specs.Flooding.{AnsweredAt, SpreadTo, Spreads}
+use Rattle.sp_core.specs.KeptWords.{KeepsReads}
+use Rattle.sp_core.specs.FloodedPipes.{AnsweredAt, SpreadTo, Spreads}
 use Rattle.sp_core.specs.Cores.{words_of}
 use Rattle.sp_core.specs.Immediate.{IsGiven}
 use Rattle.sp_core.specs.Looking.{reads_of}

@@ -1,5 +1,5 @@
 -- What bringing a pipe up and serving the pipes lead to, within a turn.
-use Rattle.sp_core.specs.Keeping.{KeepsWords}
+use Rattle.sp_core.specs.KeptWords.{KeepsWords}
 use Rattle.sp_core.specs.Attaching.{MayAttach, RefusedAttach}
 use Rattle.core_parts.specs.Pipes.{PipesStand, IsPipeAt}
 use Rattle.sp_core.specs.Owning.{Owns}

@@ -1,4 +1,4 @@
 pub mod Alone
-pub mod Expiring
+pub mod ExpiredByTicks
 pub mod Cancelled
 pub mod SocketLife

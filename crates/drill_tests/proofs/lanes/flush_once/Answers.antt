@@ -1,5 +1,5 @@
 use Rattle.std.proofs.Common.{◌∙◌}
-use Rattle.drill_tests.proofs.Naming.{flushed_name, still_drains}
+use Rattle.drill_tests.proofs.NamedLanes.{flushed_name, still_drains}
 use Rattle.drill_tests.proofs.lanes.flush_once.Goals as goal
 
 pub returns-clause-drains : goal.returns-clause-drains

@@ -1,4 +1,4 @@
-use Rattle.drill_tests.proofs.Naming.{roomed_name}
+use Rattle.drill_tests.proofs.NamedLanes.{roomed_name}
 use Rattle.drill_tests.proofs.lanes.room_once.Goals as goal
 
 pub returns-clause-out : goal.returns-clause-out

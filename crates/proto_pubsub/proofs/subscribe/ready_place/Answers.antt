@@ -1,6 +1,6 @@
 use Rattle.std.proofs.Common.{◌≡◌, ◌∙◌, ap, sym, arith, ℕ, Some}
 use Rattle.proto_pubsub.specs.Subs.{is_ready}
-use Rattle.proto_pubsub.proofs.Looking.{one_more, at_first, nowhere}
+use Rattle.proto_pubsub.proofs.SearchedReceives.{one_more, at_first, nowhere}
 use Rattle.proto_pubsub.proofs.subscribe.ready_place.Goals as goal
 
 pub returns-then-keeps_for-clause-place : goal.returns-then-keeps_for-clause-place

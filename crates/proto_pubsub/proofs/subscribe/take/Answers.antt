@@ -3,7 +3,7 @@ use Rattle.std.proofs.lemmas.List.Quantifiers.{position-Some}
 use Rattle.proto_pubsub.specs.declared.subscribe.WaitingReceive.{WaitingReceive}
 use Rattle.proto_pubsub.specs.Subs.{is_for}
 use Rattle.proto_pubsub.proofs.SubContexts.{found_at, not_found}
-use Rattle.proto_pubsub.proofs.Looking.{less_before}
+use Rattle.proto_pubsub.proofs.SearchedReceives.{less_before}
 use Rattle.proto_pubsub.proofs.ReceivesLeft.{without_none, without_at}
 use Rattle.proto_pubsub.proofs.subscribe.take.Goals as goal
 

@@ -1,6 +1,6 @@
 use Rattle.std.proofs.Common.{refl, ◌∙◌}
 use Rattle.proto_survey.proofs.SurveyorArrivals.{recv_ties, raw_send_ties, send_ties}
-use Rattle.proto_survey.proofs.Moving.{same_live}
+use Rattle.proto_survey.proofs.SurveyorMoments.{same_live}
 use Rattle.proto_survey.proofs.survey.SurveyProto.begin.Goals as goal
 
 pub returns-in-Recv-clause-begun : goal.returns-in-Recv-clause-begun

@@ -1,7 +1,7 @@
 use Rattle.std.proofs.Common.{◌≡◌, true, false, rules, subst, sym, ◌∙◌}
 use Rattle.std.specs.Prelude.{not, ◌||◌, ◌==◌}
 use Rattle.proto_requests.proofs.TestValues.{zero_is, cooked_is}
-use Rattle.proto_survey.proofs.Going.{does_is, open_is, state_is}
+use Rattle.proto_survey.proofs.SurveyorEnds.{does_is, open_is, state_is}
 use Rattle.proto_survey.proofs.survey.SurveyProto.check.Goals.{else-self-via-then-self+else-c-ne0, else-self-via-else-self}
 use Rattle.proto_survey.proofs.survey.SurveyProto.check.Goals as goal
 

@@ -5,7 +5,7 @@ use Rattle.proto_requests.proofs.Positions.{any_written}
 use Rattle.proto_survey.specs.declared.waiting.SurveyEnd.TheVariants as ends
 use Rattle.proto_survey.specs.Lives.{SurveyView, is_over, over_on}
 use Rattle.proto_survey.specs.Askings.{left_by}
-use Rattle.proto_survey.proofs.Moving.{ticked_ties, quiet_ties}
+use Rattle.proto_survey.proofs.SurveyorMoments.{ticked_ties, quiet_ties}
 use Rattle.proto_survey.proofs.survey.SurveyProto.clock.Goals as goal
 
 pub returns-then-not-has_over-clause-ticked : goal.returns-then-not-has_over-clause-ticked

@@ -1,5 +1,5 @@
 use Rattle.std.proofs.Common.{rules, refl, ◌≡◌, []}
-use Rattle.proto_survey.proofs.Moving.{closed_ties}
+use Rattle.proto_survey.proofs.SurveyorMoments.{closed_ties}
 use Rattle.proto_survey.proofs.survey.SurveyProto.close.Goals as goal
 
 pub returns-clause-closed : goal.returns-clause-closed

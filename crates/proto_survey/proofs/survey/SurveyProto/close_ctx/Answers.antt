@@ -1,7 +1,7 @@
 use Rattle.std.proofs.Common.{rules, refl, ◌≡◌, filter, ℕ}
 use Rattle.std.specs.Prelude.{not, ◌==◌}
 use Rattle.std.proofs.lemmas.Fn.{filter_same}
-use Rattle.proto_survey.proofs.Moving.{shut_ties}
+use Rattle.proto_survey.proofs.SurveyorMoments.{shut_ties}
 use Rattle.proto_survey.proofs.survey.SurveyProto.close_ctx.Goals as goal
 
 pub returns-clause-shut : goal.returns-clause-shut

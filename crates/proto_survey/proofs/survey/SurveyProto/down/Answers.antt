@@ -1,6 +1,6 @@
 use Rattle.std.proofs.Common.{ℕ, ap}
 use Rattle.proto_survey.specs.declared.survey.Survey.{Survey}
-use Rattle.proto_survey.proofs.Moving.{down_ties}
+use Rattle.proto_survey.proofs.SurveyorMoments.{down_ties}
 use Rattle.proto_survey.proofs.survey.SurveyProto.down.Goals as goal
 
 pub returns-clause-down : goal.returns-clause-down

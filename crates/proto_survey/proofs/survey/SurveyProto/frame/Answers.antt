@@ -5,7 +5,7 @@ use Rattle.sp_history.specs.Lists.{first_word}
 use Rattle.proto_survey.specs.Lives.{SurveyView, has_number, with_reply, awaits}
 use Rattle.proto_survey.specs.Surveys.{KeepsReply}
 use Rattle.proto_survey.proofs.Writing.{found_written, same_written}
-use Rattle.proto_survey.proofs.Moving.{same_live}
+use Rattle.proto_survey.proofs.SurveyorMoments.{same_live}
 use Rattle.proto_survey.proofs.SurveyorArrivals.{short_frame, long_frame, some_word, malformed_ties, unkept_ties, raw_frame_all, reply_ties, trimmed_is}
 use Rattle.proto_survey.proofs.survey.SurveyProto.frame.Goals as goal
 

@@ -1,4 +1,4 @@
-use Rattle.proto_survey.proofs.Moving.{fresh_ties}
+use Rattle.proto_survey.proofs.SurveyorMoments.{fresh_ties}
 use Rattle.proto_survey.proofs.survey.SurveyProto.fresh.Goals as goal
 
 pub returns-clause-fresh : goal.returns-clause-fresh

@@ -1,4 +1,4 @@
-use Rattle.proto_survey.proofs.Moving.{full_ties}
+use Rattle.proto_survey.proofs.SurveyorMoments.{full_ties}
 use Rattle.proto_survey.proofs.survey.SurveyProto.full.Goals as goal
 
 pub returns-clause-full : goal.returns-clause-full

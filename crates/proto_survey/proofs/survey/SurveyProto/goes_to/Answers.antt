@@ -1,4 +1,4 @@
-use Rattle.proto_survey.proofs.Going.{goes}
+use Rattle.proto_survey.proofs.SurveyorEnds.{goes}
 use Rattle.proto_survey.proofs.survey.SurveyProto.goes_to.Goals as goal
 
 pub returns : goal.returns

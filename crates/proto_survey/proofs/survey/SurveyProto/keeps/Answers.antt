@@ -1,5 +1,5 @@
 use Rattle.std.proofs.Common.{◌∙◌}
-use Rattle.proto_survey.proofs.Going.{given_is}
+use Rattle.proto_survey.proofs.SurveyorEnds.{given_is}
 use Rattle.proto_survey.proofs.survey.SurveyProto.keeps.Goals as goal
 
 pub returns : goal.returns

@@ -1,5 +1,5 @@
 use Rattle.std.proofs.Common.{◌∙◌, sym, arith, refl}
-use Rattle.proto_survey.proofs.Going.{none_taken, is_begun, its_lost, recv_is, send_is, none_in, lost_send, lost_receive}
+use Rattle.proto_survey.proofs.SurveyorEnds.{none_taken, is_begun, its_lost, recv_is, send_is, none_in, lost_send, lost_receive}
 use Rattle.proto_survey.proofs.survey.SurveyProto.lost.Goals as goal
 
 pub returns-in-None-clause-lost : goal.returns-in-None-clause-lost

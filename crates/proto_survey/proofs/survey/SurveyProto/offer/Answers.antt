@@ -6,7 +6,7 @@ use Rattle.proto_requests.proofs.Positions.{found_at, not_found}
 use Rattle.proto_survey.specs.declared.waiting.SurveyOperation.{SurveyOperation}
 use Rattle.proto_survey.specs.Askings.{is_sending}
 use Rattle.proto_survey.specs.Surveys.{IsNext}
-use Rattle.proto_survey.proofs.Going.{lone, can_flood, enough, can_finish, can_give, is_among, idle, lone_ended}
+use Rattle.proto_survey.proofs.SurveyorEnds.{lone, can_flood, enough, can_finish, can_give, is_among, idle, lone_ended}
 use Rattle.proto_survey.proofs.survey.SurveyProto.offer.Goals as goal
 
 pub returns-in-Some-clause-offered : goal.returns-in-Some-clause-offered

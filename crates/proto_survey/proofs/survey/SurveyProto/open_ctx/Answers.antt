@@ -1,5 +1,5 @@
 use Rattle.std.proofs.Common.{rules, refl, ◌≡◌, ◌++◌, ◌∷◌, []}
-use Rattle.proto_survey.proofs.Moving.{opened_ties}
+use Rattle.proto_survey.proofs.SurveyorMoments.{opened_ties}
 use Rattle.proto_survey.proofs.survey.SurveyProto.open_ctx.Goals as goal
 
 pub returns-clause-opened : goal.returns-clause-opened

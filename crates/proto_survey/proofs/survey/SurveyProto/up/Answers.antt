@@ -1,6 +1,6 @@
 use Rattle.std.proofs.Common.{ℕ, ap}
 use Rattle.proto_survey.specs.declared.survey.Survey.{Survey}
-use Rattle.proto_survey.proofs.Moving.{up_ties}
+use Rattle.proto_survey.proofs.SurveyorMoments.{up_ties}
 use Rattle.proto_survey.proofs.survey.SurveyProto.up.Goals as goal
 
 pub returns-clause-up : goal.returns-clause-up

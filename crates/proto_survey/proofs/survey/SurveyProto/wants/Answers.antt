@@ -1,7 +1,7 @@
 use Rattle.std.proofs.Common.{ap}
 use Rattle.std.specs.Prelude.{not}
 use Rattle.proto_requests.proofs.TestValues.{not_both}
-use Rattle.proto_survey.proofs.Going.{wants_all}
+use Rattle.proto_survey.proofs.SurveyorEnds.{wants_all}
 use Rattle.proto_survey.proofs.survey.SurveyProto.wants.Goals as goal
 
 pub returns-else-not-self : goal.returns-else-not-self

@@ -1,5 +1,5 @@
 use Rattle.sp_single.proofs.Alone.{keeps, took, stays_open}
-use Rattle.sp_single.proofs.Expiring.{all_expired}
+use Rattle.sp_single.proofs.ExpiredByTicks.{all_expired}
 use Rattle.sp_single.proofs.single.Single.tick.Goals as goal
 
 pub invariant_of-self : goal.invariant_of-self

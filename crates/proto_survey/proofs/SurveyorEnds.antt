@@ -58,7 +58,7 @@ use Rattle.proto_survey.specs.Surveys.{Ties, Asked, IsFlood, out_text, item_of, 
 use Rattle.proto_survey.proofs.SurveyLives.{equal_of, same_number, alone, keys_kept, map_of, find_of, any_of}
 use Rattle.proto_survey.proofs.OrphanedOperations.{find_begun, begun_found, find_own, not_orphan, all_finished}
 use Rattle.proto_survey.proofs.Asks.{taken, relive}
-use Rattle.proto_survey.proofs.Moving.{is_survey, is_raw, raw_asked, itself_mapped}
+use Rattle.proto_survey.proofs.SurveyorMoments.{is_survey, is_raw, raw_asked, itself_mapped}
 use Rattle.proto_survey.proofs.SurveySends.{surveys, surveys_nothing, no_req, it_floods, out_bytes, bytes_changed, wire_taken, other_orphan}
 
 -- ---- The operation of a name
