@@ -172,6 +172,22 @@ fn requests_of_a_pipe_that_is_down_are_gone(rt: HostRuntime) {
 }
 
 #[test]
+fn a_close_drops_the_request_that_is_to_be_answered(rt: HostRuntime) {
+    let steps = [
+        Call::Reserve(2),
+        Call::Up(1),
+        Call::Frame(1, &[128, 0, 0, 1, 97]),
+        Call::Receive(0, 0),
+        Call::CanGive(0),
+        Call::Gets(0, b"", b"a"),
+        Call::Check(0, Verb::Send, Ok(())),
+        Call::Close,
+        Call::Check(0, Verb::Send, Err(CheckError::State)),
+    ];
+    both_play(&rt, rt.alloc(), false, &steps);
+}
+
+#[test]
 fn a_reply_to_a_pipe_that_is_down_goes_nowhere(rt: HostRuntime) {
     let steps = [
         Call::Reserve(2),
