@@ -35,6 +35,10 @@ net_view n = record {
   idles = n.idle_count;
 }
 
+-- the link itself
+abbrev pub link_of : NetLink → MemLink
+link_of l = l.link
+
 -- links that wait, as they were made
 abbrev pub Queue : Type 0
 Queue = List LinkScript

@@ -8,7 +8,7 @@ ghost use Rattle.sp_base.specs.Steps.{AfterRead, AfterWrite, AfterShut, AfterLis
 ghost use Rattle.sp_fakes.specs.Calls.{next_fails, one_call};
 ghost use Rattle.sp_fakes.specs.Scripts.{ReadBy, WrittenBy, faults_read, faults_written};
 ghost use Rattle.sp_fakes.specs.MemLinks.{link_view, link_script, as_made, written_on, unread_at};
-ghost use Rattle.sp_fakes.specs.Nets.{net_view, net_script, fresh_net, queue_of, queues_of, queues_to, all_as_made, lists_as_made, dials_as_made, Queue, RefusedAs, GoesAt, GoesTo, IsPast, IsPlaceOf, ListenBy, AcceptBy, DialBy, IsFirst, IsHandedOn, IsLinked, HasNone, HasNoListener, faults_listened, faults_linked};
+ghost use Rattle.sp_fakes.specs.Nets.{link_of, net_view, net_script, fresh_net, queue_of, queues_of, queues_to, all_as_made, lists_as_made, dials_as_made, Queue, RefusedAs, GoesAt, GoesTo, IsPast, IsPlaceOf, ListenBy, AcceptBy, DialBy, IsFirst, IsHandedOn, IsLinked, HasNone, HasNoListener, faults_listened, faults_linked};
 
 use crate::is_listed;
 use crate::link::MemLink;
@@ -54,29 +54,29 @@ impl Link for NetLink {
     }
 
     fn read(&mut self, buf: &mut [u8]) -> LinkRead
-        requires is_open { (link_view self.old.link).is_open ≡ true }
+        requires is_open { (link_view (link_of self.old)).is_open ≡ true }
         requires room { 0 < length buf.old }
-        ensures after { AfterRead result buf.new (link_view self.old.link) (link_view self.new.link) }
-        ensures by { ReadBy (length (written_on self.old.link)) result buf.new (link_script self.old.link) (link_script self.new.link) }
-        ensures faults { (link_view self.new.link).faults ≡ faults_read result (link_view self.old.link).faults }
+        ensures after { AfterRead result buf.new (link_view (link_of self.old)) (link_view (link_of self.new)) }
+        ensures by { ReadBy (length (written_on (link_of self.old))) result buf.new (link_script (link_of self.old)) (link_script (link_of self.new)) }
+        ensures faults { (link_view (link_of self.new)).faults ≡ faults_read result (link_view (link_of self.old)).faults }
     {
         self.link.read(buf)
     }
 
     fn write(&mut self, buf: &[u8]) -> LinkWrite
-        requires is_open { (link_view self.old.link).is_open ≡ true }
+        requires is_open { (link_view (link_of self.old)).is_open ≡ true }
         requires some { 0 < length buf.now }
-        ensures after { AfterWrite result buf.now (link_view self.old.link) (link_view self.new.link) }
-        ensures by { WrittenBy result (next_fails (link_script self.old.link).writes) (link_script self.old.link).most (length buf.now) }
-        ensures script { link_script self.new.link ≡ record (link_script self.old.link) { writes = one_call (link_script self.old.link).writes } }
-        ensures faults { (link_view self.new.link).faults ≡ faults_written result (link_view self.old.link).faults }
+        ensures after { AfterWrite result buf.now (link_view (link_of self.old)) (link_view (link_of self.new)) }
+        ensures by { WrittenBy result (next_fails (link_script (link_of self.old)).writes) (link_script (link_of self.old)).most (length buf.now) }
+        ensures script { link_script (link_of self.new) ≡ record (link_script (link_of self.old)) { writes = one_call (link_script (link_of self.old)).writes } }
+        ensures faults { (link_view (link_of self.new)).faults ≡ faults_written result (link_view (link_of self.old)).faults }
     {
         self.link.write(buf)
     }
 
     fn shut(&mut self)
-        ensures after { AfterShut (link_view self.old.link) (link_view self.new.link) }
-        ensures script { link_script self.new.link ≡ link_script self.old.link }
+        ensures after { AfterShut (link_view (link_of self.old)) (link_view (link_of self.new)) }
+        ensures script { link_script (link_of self.new) ≡ link_script (link_of self.old) }
     {
         self.link.shut()
     }
@@ -283,7 +283,7 @@ impl Net for MemNet {
 
     fn accept(&mut self, at: u32) -> Linked<NetLink>
         requires { IsSome (map.get (net_view self.old).listens at) }
-        ensures after { AfterAccept (λ l. link_view l.link) result at (net_view self.old) (net_view self.new) }
+        ensures after { AfterAccept (λ l. link_view (link_of l)) result at (net_view self.old) (net_view self.new) }
         ensures by { AcceptBy result at (net_view self.old).opened (net_script self.old) (net_script self.new) }
         ensures faults { (net_view self.new).faults ≡ faults_linked result (net_view self.old).faults }
     {
@@ -297,7 +297,7 @@ impl Net for MemNet {
 
     fn dial(&mut self, addr: &Addr) -> Linked<NetLink>
         requires { is_dialable addr.now ≡ true }
-        ensures after { AfterDial (λ l. link_view l.link) result addr.now (net_view self.old) (net_view self.new) }
+        ensures after { AfterDial (λ l. link_view (link_of l)) result addr.now (net_view self.old) (net_view self.new) }
         ensures by { DialBy result addr.now (net_view self.old).opened (net_script self.old) (net_script self.new) }
         ensures faults { (net_view self.new).faults ≡ faults_linked result (net_view self.old).faults }
     {
@@ -309,8 +309,8 @@ impl Net for MemNet {
     }
 
     fn give_back(&mut self, link: NetLink)
-        requires { (link_view link.link).place < (net_view self.old).opened }
-        ensures after { AfterGiveBack (link_view link.link) (net_view self.old) (net_view self.new) }
+        requires { (link_view (link_of link)).place < (net_view self.old).opened }
+        ensures after { AfterGiveBack (link_view (link_of link)) (net_view self.old) (net_view self.new) }
         ensures script { net_script self.new ≡ net_script self.old }
     {
         let NetLink { link, mut node } = link;
