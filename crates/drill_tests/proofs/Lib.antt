@@ -1,3 +1,3 @@
 mod Telling
-mod Naming
+mod NamedLanes
 mod Racing
