@@ -31,7 +31,7 @@ module _ {A : Type 0} (pipe : A → ℕ) where
   any_has [] q = refl
   any_has (x ∷ xs) q = ap (λ b. (pipe x == q) || b) (any_has xs q)
 
-  distinct_more : (xs : List A) (x : A) → AreDistinct (map pipe xs) → list_any (is_of pipe (pipe x)) xs ≡ false → AreDistinct (map pipe (xs ++ x ∷ []))
+  pub distinct_more : (xs : List A) (x : A) → AreDistinct (map pipe xs) → list_any (is_of pipe (pipe x)) xs ≡ false → AreDistinct (map pipe (xs ++ x ∷ []))
   distinct_more [] x h none = (refl, tt)
   distinct_more (y ∷ xs) x h none =
       let apart = both_false (pipe y == pipe x) (list_any (is_of pipe (pipe x)) xs) none in
@@ -45,18 +45,6 @@ module _ {A : Type 0} (pipe : A → ℕ) where
   pub kept_more : (old new : ℕ → Bool) (xs ys : List A) (x : A) → IsIndexed pipe old xs → old (pipe x) ≡ false → ((q : ℕ) → new q ≡ cond (pipe x == q) true (old q)) → ys ≡ xs ++ x ∷ [] → IsIndexed pipe new ys
   kept_more old new xs ys x h none u e =
       rw e (λ q. u q ∙ ap (λ b. cond (pipe x == q) true b) (h.0 q) ∙ or_last (pipe x == q) (list_any (is_of pipe q) xs) ∙ sym (list_any-append (is_of pipe q) xs (x ∷ [])), distinct_more xs x h.1 (sym (h.0 (pipe x)) ∙ none))
-
-  -- the oldest is taken
-  pub kept_fewer : (old new : ℕ → Bool) (xs ys : List A) (x : A) → IsIndexed pipe old xs → xs ≡ x ∷ ys → ((q : ℕ) → new q ≡ cond (pipe x == q) false (old q)) → IsIndexed pipe new ys
-  kept_fewer old new xs ys x h e u = go xs e h
-    where
-      left : (q : ℕ) (b : Bool) → (pipe x == q) ≡ b → has (map pipe ys) (pipe x) ≡ false → cond b false (b || list_any (is_of pipe q) ys) ≡ list_any (is_of pipe q) ys
-      left q true k none = sym (sym (any_has ys q) ∙ ap (has (map pipe ys)) (sym (equal_of (pipe x) q k)) ∙ none)
-      left q false k none = refl
-
-      go : (zs : List A) → zs ≡ x ∷ ys → IsIndexed pipe old zs → IsIndexed pipe new ys
-      go zs f i = let j : IsIndexed pipe old (x ∷ ys) = subst (IsIndexed pipe old) f i in
-          (λ q. u q ∙ ap (λ b. cond (pipe x == q) false b) (j.0 q) ∙ left q (pipe x == q) refl j.1.0, j.1.1)
 
   any_left : (p q : ℕ) (xs : List A) → list_any (is_of pipe q) (filter (λ x. not (is_of pipe p x)) xs) ≡ cond (p == q) false (list_any (is_of pipe q) xs)
   any_left p q [] = none (p == q)
@@ -78,7 +66,7 @@ module _ {A : Type 0} (pipe : A → ℕ) where
       go false e true f false g k = ap (λ b. b || list_any (is_of pipe q) rest) f
       go false e false f c g k = ap (λ b. b || list_any (is_of pipe q) rest) f ∙ k
 
-  distinct_left : (p : ℕ) (xs : List A) → AreDistinct (map pipe xs) → AreDistinct (map pipe (filter (λ x. not (is_of pipe p x)) xs))
+  pub distinct_left : (p : ℕ) (xs : List A) → AreDistinct (map pipe xs) → AreDistinct (map pipe (filter (λ x. not (is_of pipe p x)) xs))
   distinct_left p [] h = tt
   distinct_left p (x ∷ xs) h = go (pipe x == p) (distinct_left p xs h.1)
     where

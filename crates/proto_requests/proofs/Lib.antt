@@ -2,6 +2,7 @@ pub mod TestValues
 pub mod NumbersIn
 pub mod FirstPlaces
 pub mod Backlogged
+pub mod KeptInOrder
 pub mod Positions
 pub mod PortsInOrder
 pub mod Piping

@@ -1,5 +1,5 @@
 //! Numbers that are known by others.
-ghost use Rattle.std.specs.Prelude.{◌≡◌, ◌==◌, ℕ, [], Some, None, if◌then◌else◌, OnOk};
+ghost use Rattle.std.specs.Prelude.{◌≡◌, ◌==◌, ℕ, [], Some, None, if◌then◌else◌, OnOk, OnErr};
 ghost use Rattle.proto_requests.specs.Numbers.{number_at, is_known};
 
 use sp_base::NoMemory;
@@ -58,7 +58,8 @@ impl Numbers {
     /// The number is known by this one. std's map promises that a remove takes none of the room that was reserved, but not
     /// that it gives any back: where a put finds none, the number stays unknown until close, and all is searched.
     pub fn put(&mut self, k: u32, n: u64) -> Result<(), NoMemory>
-        ensures { OnOk result ((q : ℕ) → number_at self.new q ≡ (if k == q then Some n else number_at self.old q)) }
+        ensures known { OnOk result ((q : ℕ) → number_at self.new q ≡ (if k == q then Some n else number_at self.old q)) }
+        ensures same { OnErr result (self.new ≡ self.old) }
     {
         match self.known.insert(k, n) {
             Ok(_) => Ok(()),

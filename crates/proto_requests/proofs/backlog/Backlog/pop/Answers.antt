@@ -1,8 +1,11 @@
-use Rattle.proto_requests.specs.Backlogs.{is_in}
-use Rattle.proto_requests.proofs.Backlogged.{kept_fewer}
+use Rattle.std.proofs.Common.{◌≡◌, ◌∙◌, ap, subst, sym, List, ◌∷◌, ℕ}
+use Rattle.proto_requests.specs.Numbers.{number_at}
+use Rattle.proto_requests.specs.Backlogs.{AreNumbered}
+use Rattle.proto_requests.proofs.KeptInOrder.{numbered_fewer}
 use Rattle.proto_requests.proofs.backlog.Backlog.pop.Goals as goal
 
 pub invariant_of-self-in-Some : goal.invariant_of-self-in-Some
 invariant_of-self-in-Some g c =
-    kept_fewer g.T.FromPipe.pipe_of (is_in c.self.inside.pipes) (is_in c.remove.new.self) c.self.inside.queue.items c.pop_front.new.self.items c.in-Some.item c.self.invariant
-    c.in-Some.ensures.items (rw (← c.pipe.ensures) c.remove.ensures)
+    let pipe = g.T.FromPipe.pipe_of in
+    numbered_fewer pipe (number_at c.self.inside.numbers) (number_at c.remove-in-Some.new.self) c.self.inside.next c.in-Some.field-0-0 c.in-Some.item c.pop_first.new.self.entries
+    (subst (AreNumbered pipe (number_at c.self.inside.numbers) c.self.inside.next) c.in-Some.ensures.removal c.self.invariant) (rw (← c.pipe.ensures, ← c.remove.view_is) c.remove-in-Some.ensures)
