@@ -1,10 +1,7 @@
 -- What becomes of the pipes that a machine knows.
-use Rattle.std.proofs.Common.{◌≡◌, refl, ap, sym, ◌∙◌, subst, List, [], ◌∷◌, ◌++◌, ℕ, ◌+◌, Bool, true, false, cond, arith, Some, None, length, map, ◌<◌, ◌≤◌}
+use Rattle.std.proofs.Common.{◌≡◌, refl, ap, sym, ◌∙◌, subst, List, [], ◌∷◌, ◌++◌, ℕ, ◌+◌, Bool, true, false, cond, arith, Some, None, map, ◌<◌, ◌≤◌}
 use Rattle.std.specs.Prelude.{find, filter, not, nat_lt, ◌&&◌, ◌||◌, ◌==◌}
 use Rattle.std.specs.List.{list_all}
-use Rattle.std.specs.Prelude.{Vec}
-use Rattle.std.specs.Vec.{with_items}
-use Rattle.std.proofs.lemmas.List.{with_items_is, length-map}
 use Rattle.std.proofs.lemmas.Bool.Decides.{nat_tests}
 use Rattle.sp_history.specs.Lists.{has, without}
 use Rattle.proto_requests.specs.Ports.{PortView, port_of, marked, cleared, is_pipe, is_below, free_count, way_at, where_is}
@@ -254,10 +251,3 @@ all_full full (u ∷ us) q h = go (q == u) refl (all_full full us q h)
     go : (a : Bool) → (q == u) ≡ a → list_all full (filter (is_number (Some q)) us) ≡ true → list_all full (cond a (u ∷ filter (is_number (Some q)) us) (filter (is_number (Some q)) us)) ≡ true
     go true e h' = let is : full u ≡ true = subst (λ n. full n ≡ true) (equal_of q u e) h in rw is h'
     go false e h' = h'
-
--- ---- Each is written
-
-pub each_written : {A Z : Type 0} (f : A → A) (v : Vec A Z) (xs ys : List A) → ys ≡ v.items → xs ≡ map f ys → (with_items v xs).items ≡ map f v.items
-each_written f v xs ys e h =
-    let long : length xs ≡ length ys = ap length h ∙ length-map ys f in
-    with_items_is v xs (long ∙ ap length e ∙ sym v.ok.0) ∙ h ∙ ap (map f) e

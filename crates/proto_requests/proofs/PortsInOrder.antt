@@ -1,30 +1,19 @@
--- The pipes stand in the order of their numbers, so one is found by halving; and those that are full are skipped.
-use Rattle.std.proofs.Common.{◌≡◌, refl, ap, sym, ◌∙◌, subst, List, [], ◌∷◌, ◌++◌, ℕ, zero, suc, ◌+◌, ◌-◌, ◌<◌, ◌≤◌, Bool, true, false, cond, arith, Option, Some, None, length, map, take, drop, slice_index_or}
+-- The pipes are found by their numbers, in whose order they stand; and those that are full are skipped.
+use Rattle.std.proofs.Common.{◌≡◌, refl, ap, sym, ◌∙◌, subst, List, [], ◌∷◌, ◌++◌, ℕ, zero, suc, ◌+◌, ◌^◌, ◌<◌, ◌≤◌, Bool, true, false, cond, arith, Option, Some, None, map, nat_cmp, is_eq, is_lt, is_le, Ordering, Less, Equal, Greater}
 use Rattle.std.specs.Prelude.{find, filter, not, nat_lt, nat_le, slice_get, is_some, ◌==◌, ◌&&◌, ◌||◌}
-use Rattle.std.specs.List.{position, position_or_len, list_all, list_any}
-use Rattle.std.specs.List.Sorted.{IsPartitionedBy}
+use Rattle.std.specs.List.{AllByRecursion, list_all, list_any}
+use Rattle.std.specs.List.Sorted.{IsStrictlySortedBy}
+use Rattle.std.specs.Map.{keys_of, lookup, remove_entry, set_value}
+use Rattle.std.specs.BTreeMap.{insert_entry, is_at}
 use Rattle.std.specs.Option.{option_map}
+use Rattle.std.specs.Ordering.{match_ordering}
 use Rattle.std.proofs.lemmas.Bool.Decides.{nat_tests}
-use Rattle.proto_requests.specs.declared.ports.Held.{Held}
-use Rattle.proto_requests.specs.Ports.{PortView, port_in, marked, cleared, is_pipe, is_held, is_under, is_below, is_free, is_free_behind, is_free_from, unmarked, marked_in, number, begin_at, reached, AreAbove, IsRising, AreUpTo, AreFull, AreKnown}
-use Rattle.proto_requests.specs.FirstFound.{with_found, without_found}
+use Rattle.std.proofs.lemmas.Map.Keys.{sorted_head, sorted_tail}
+use Rattle.proto_requests.specs.Ports.{PortView, port_in, marked, cleared, is_pipe, is_under, is_below, is_open, is_free, is_free_behind, is_free_from, unmarked, number, begin_at, reached, AreNumbers, AreUpTo, AreFull, AreKnown}
 use Rattle.proto_requests.proofs.TestValues.{equal_of, same_number, turned}
-
-pub number_is : (m n : ℕ) → m ≡ n → (m == n) ≡ true
-number_is m n h = grind (arith, nat_tests)
-
-pub number_isnt : (m n : ℕ) → (m ≡ n → ⊥) → (m == n) ≡ false
-number_isnt m n h = go (m == n) refl
-  where
-    go : (b : Bool) → (m == n) ≡ b → b ≡ false
-    go true e = absurd (h (equal_of m n e))
-    go false e = refl
 
 other : (m n : ℕ) → m < n → (m == n) ≡ false
 other m n h = grind (arith, nat_tests)
-
-above : (m n : ℕ) → m < n → (n == m) ≡ false
-above m n h = grind (arith, nat_tests)
 
 under : (m n : ℕ) → nat_lt m n ≡ true → m < n
 under m n h = grind (arith, nat_tests)
@@ -32,96 +21,7 @@ under m n h = grind (arith, nat_tests)
 not_under : (m n : ℕ) → nat_lt m n ≡ false → n ≤ m
 not_under m n h = grind (arith, nat_tests)
 
--- ---- Halving
-
-above_at : (p : ℕ) (xs : List Held) (k : ℕ) (d : Held) → AreAbove p xs → k < length xs → p < (slice_index_or xs k d).pipe
-above_at p [] k d h l = absurd (omega arith)
-above_at p (x ∷ xs) zero d h l = h.0
-above_at p (x ∷ xs) (suc k) d h l = above_at p xs k d h.1 (omega (arith, l))
-
--- what `partition_point` asks
-pub parted : (P : Held → Bool) → ((x y : Held) → x.pipe < y.pipe → P y ≡ true → P x ≡ true) → (xs : List Held) → IsRising xs → IsPartitionedBy P xs
-parted P b [] h i j d l m k = absurd (omega arith)
-parted P b (x ∷ xs) h zero zero d l m k = k
-parted P b (x ∷ xs) h zero (suc j) d l m k = b x (slice_index_or xs j d) (above_at x.pipe xs j d h.0 (omega (arith, m))) k
-parted P b (x ∷ xs) h (suc i) zero d l m k = absurd (omega arith)
-parted P b (x ∷ xs) h (suc i) (suc j) d l m k = parted P b xs h.1 i j d (omega (arith, l)) (omega (arith, m)) k
-
-pub below_first : (p : ℕ) (x y : Held) → x.pipe < y.pipe → is_under p y ≡ true → is_under p x ≡ true
-below_first p x y l h = numbers x.pipe y.pipe l h
-  where
-    numbers : (m n : ℕ) → m < n → nat_lt n p ≡ true → nat_lt m p ≡ true
-    numbers m n l h = grind (arith, nat_tests)
-
--- what stands from the place on fails the test
-pub dropped : (P : Held → Bool) (xs : List Held) (i : ℕ) → i ≤ length xs → ((k : ℕ) (d : Held) → k < i → P (slice_index_or xs k d) ≡ true) → ((k : ℕ) (d : Held) → i ≤ k → k < length xs → P (slice_index_or xs k d) ≡ false)
-    → drop i xs ≡ filter (λ d. not (P d)) xs
-dropped P [] zero l f b = refl
-dropped P [] (suc i) l f b = absurd (omega arith)
-dropped P (x ∷ xs) zero l f b =
-    let first : P x ≡ false = b 0 x (omega arith) (omega arith) in
-    rw first (ap (λ (rest : List Held). x ∷ rest) (dropped P xs 0 (omega arith) (λ k d z. absurd (omega arith)) (λ k d z m. b (suc k) d (omega arith) (omega (arith, m)))))
-dropped P (x ∷ xs) (suc i) l f b =
-    let first : P x ≡ true = f 0 x (omega arith) in
-    rw first (dropped P xs i (omega (arith, l)) (λ k d m. f (suc k) d (omega (arith, m))) (λ k d z m. b (suc k) d (omega (arith, z)) (omega (arith, m))))
-
-pub at_dropped : (xs : List Held) (n i : ℕ) (d : Held) → slice_index_or (drop n xs) i d ≡ slice_index_or xs (n + i) d
-at_dropped [] zero i d = refl
-at_dropped [] (suc n) i d = refl
-at_dropped (x ∷ xs) zero i d = let same : i ≡ 0 + i = omega arith in ap (λ (k : ℕ). slice_index_or (x ∷ xs) k d) same
-at_dropped (x ∷ xs) (suc n) i d = let same : suc (n + i) ≡ suc n + i = omega arith in at_dropped xs n i d ∙ ap (λ (k : ℕ). slice_index_or (x ∷ xs) k d) same
-
-take_none : (n : ℕ) → take {A = Held} n [] ≡ []
-take_none zero = refl
-take_none (suc n) = refl
-
-take_whole : (xs : List Held) → take (length xs) xs ≡ xs
-take_whole [] = refl
-take_whole (x ∷ xs) = ap (λ (rest : List Held). x ∷ rest) (take_whole xs)
-
-pub whole_rest : (n : ℕ) (xs : List Held) → take (length xs - n) (drop n xs) ≡ drop n xs
-whole_rest zero xs = let same : length xs - 0 ≡ length xs = omega arith in ap (λ (k : ℕ). take k xs) same ∙ take_whole xs
-whole_rest (suc n) [] = take_none (0 - suc n)
-whole_rest (suc n) (x ∷ xs) = let same : suc (length xs) - suc n ≡ length xs - n = omega arith in ap (λ (k : ℕ). take k (drop n xs)) same ∙ whole_rest n xs
-
-pub find_filter : (Q R : Held → Bool) (xs : List Held) → find Q (filter R xs) ≡ find (λ x. R x && Q x) xs
-find_filter Q R [] = refl
-find_filter Q R (x ∷ xs) = go (R x) (Q x) refl (find_filter Q R xs)
-  where
-    go : (a b : Bool) → Q x ≡ b → find Q (filter R xs) ≡ find (λ y. R y && Q y) xs → find Q (cond a (x ∷ filter R xs) (filter R xs)) ≡ cond (a && b) (Some x) (find (λ y. R y && Q y) xs)
-    go true true e h = rw e refl
-    go true false e h = rw e h
-    go false b e h = h
-
--- ---- Where one stands
-
-pub found_place : (xs : List Held) (p i : ℕ) (d : Held) → ((k : ℕ) (e : Held) → k < i → is_under p (slice_index_or xs k e) ≡ true) → i < length xs → (slice_index_or xs i d).pipe ≡ p → position_or_len (is_held p) xs ≡ i
-found_place [] p i d b l e = absurd (omega arith)
-found_place (x ∷ xs) p zero d b l e = let same : (x.pipe == p) ≡ true = ap (λ (n : ℕ). n == p) e ∙ same_number p in rw same refl
-found_place (x ∷ xs) p (suc i) d b l e =
-    let no : (x.pipe == p) ≡ false = other x.pipe p (under x.pipe p (b 0 x (omega arith))) in
-    let rest = found_place xs p i d (λ k f m. b (suc k) f (omega (arith, m))) (omega (arith, l)) e in
-    rw no (omega (arith, rest))
-
-none_above : (xs : List Held) (p q : ℕ) → p ≤ q → AreAbove q xs → position_or_len (is_held p) xs ≡ length xs
-none_above [] p q l h = refl
-none_above (x ∷ xs) p q l h =
-    let no : (x.pipe == p) ≡ false = above p x.pipe (omega (arith, l, h.0)) in
-    let rest = none_above xs p q l h.1 in
-    rw no (omega (arith, rest))
-
--- those before are below it, and the one at the place and those behind are above it
-pub no_place : (xs : List Held) (p i : ℕ) (d : Held) → IsRising xs → ((k : ℕ) (e : Held) → k < i → k < length xs → is_under p (slice_index_or xs k e) ≡ true) → (i < length xs → p < (slice_index_or xs i d).pipe) → position_or_len (is_held p) xs ≡ length xs
-no_place [] p i d h b a = refl
-no_place (x ∷ xs) p zero d h b a =
-    let high : p < x.pipe = a (omega arith) in
-    let no : (x.pipe == p) ≡ false = above p x.pipe high in
-    let rest = none_above xs p x.pipe (omega (arith, high)) h.0 in
-    rw no (omega (arith, rest))
-no_place (x ∷ xs) p (suc i) d h b a =
-    let no : (x.pipe == p) ≡ false = other x.pipe p (under x.pipe p (b 0 x (omega arith) (omega arith))) in
-    let rest = no_place xs p i d h.1 (λ k e m n. b (suc k) e (omega (arith, m)) (omega (arith, n))) (λ l. a (omega (arith, l))) in
-    rw no (omega (arith, rest))
+-- ---- A place, where there is one
 
 at_place : (n m : ℕ) → n < m → cond (nat_lt n m) (Some n) None ≡ Some n
 at_place n m l = go (nat_lt n m) refl
@@ -149,287 +49,361 @@ at_none n m l = go (nat_lt n m) refl
         no : nat_lt n m ≡ true → ⊥
         no e = grind (arith, nat_tests, l)
 
-pub some_placed : (P : Held → Bool) (xs : List Held) → is_some (position P xs) ≡ nat_lt (position_or_len P xs) (length xs)
-some_placed P xs = go (nat_lt (position_or_len P xs) (length xs))
+-- ---- The order of numbers
+
+-- the number that is looked for is this one
+same_key : (p n : ℕ) → is_eq (nat_cmp p n) ≡ (n == p)
+same_key p n = go (nat_lt p n) refl (p == n) refl (n == p) refl
   where
-    go : (b : Bool) → is_some (cond {A = Option ℕ} b (Some (position_or_len P xs)) None) ≡ b
+    less : nat_lt p n ≡ true → (n == p) ≡ true → ⊥
+    less e f = grind (arith, nat_tests)
+
+    one : (p == n) ≡ true → (n == p) ≡ false → ⊥
+    one e f = grind (arith, nat_tests)
+
+    two : (p == n) ≡ false → (n == p) ≡ true → ⊥
+    two e f = grind (arith, nat_tests)
+
+    go : (a : Bool) → nat_lt p n ≡ a → (b : Bool) → (p == n) ≡ b → (c : Bool) → (n == p) ≡ c → is_eq (cond a Less (cond b Equal Greater)) ≡ c
+    go true e b f true g = absurd (less e g)
+    go true e b f false g = refl
+    go false e true f true g = refl
+    go false e true f false g = absurd (one f g)
+    go false e false f true g = absurd (two f g)
+    go false e false f false g = refl
+
+-- the number is in the range that begins here
+in_range : (from n : ℕ) → is_le (nat_cmp from n) ≡ not (nat_lt n from)
+in_range from n = go (nat_lt from n) refl (from == n) refl (nat_lt n from) refl
+  where
+    less : nat_lt from n ≡ true → nat_lt n from ≡ true → ⊥
+    less e f = grind (arith, nat_tests)
+
+    one : (from == n) ≡ true → nat_lt n from ≡ true → ⊥
+    one e f = grind (arith, nat_tests)
+
+    two : nat_lt from n ≡ false → (from == n) ≡ false → nat_lt n from ≡ false → ⊥
+    two e f g = grind (arith, nat_tests)
+
+    go : (a : Bool) → nat_lt from n ≡ a → (b : Bool) → (from == n) ≡ b → (c : Bool) → nat_lt n from ≡ c → is_le (cond a Less (cond b Equal Greater)) ≡ not c
+    go true e b f true g = absurd (less e g)
+    go true e b f false g = refl
+    go false e true f true g = absurd (one f g)
+    go false e true f false g = refl
+    go false e false f true g = refl
+    go false e false f false g = absurd (two e f g)
+
+less_is : (m n : ℕ) → nat_cmp m n ≡ Less → m < n
+less_is m n h = go (nat_lt m n) refl (m == n) h
+  where
+    go : (a : Bool) → nat_lt m n ≡ a → (b : Bool) → cond a Less (cond b Equal Greater) ≡ Less → m < n
+    go true e b h = under m n e
+    go false e true h = absurd cc
+    go false e false h = absurd cc
+
+greater_is : (m n : ℕ) → nat_lt m n ≡ true → nat_cmp n m ≡ Greater
+greater_is m n h = go (nat_lt n m) refl (n == m) refl
+  where
+    less : nat_lt n m ≡ true → ⊥
+    less e = grind (arith, nat_tests)
+
+    one : (n == m) ≡ true → ⊥
+    one e = grind (arith, nat_tests)
+
+    go : (a : Bool) → nat_lt n m ≡ a → (b : Bool) → (n == m) ≡ b → cond a Less (cond b Equal Greater) ≡ Greater
+    go true e b f = absurd (less e)
+    go false e true f = absurd (one f)
+    go false e false f = refl
+
+-- ---- Where one stands
+
+module _ (turn p : ℕ) where
+  -- it is up where it is found
+  pub any_found : (xs : List (ℕ × ℕ)) → list_any (is_pipe p) (map (port_in turn) xs) ≡ is_some (lookup (is_at (nat_cmp p)) xs)
+  any_found [] = refl
+  any_found (x ∷ xs) = rw (same_key p x.0) (go (x.0 == p) (any_found xs))
+    where
+      go : (b : Bool) → list_any (is_pipe p) (map (port_in turn) xs) ≡ is_some (lookup (is_at (nat_cmp p)) xs) → (b || list_any (is_pipe p) (map (port_in turn) xs)) ≡ is_some (cond b (Some x.1) (lookup (is_at (nat_cmp p)) xs))
+      go true h = refl
+      go false h = h
+
+  pub find_port : (xs : List (ℕ × ℕ)) → find (is_pipe p) (map (port_in turn) xs) ≡ option_map (λ (n : ℕ). port_in turn (p, n)) (lookup (is_at (nat_cmp p)) xs)
+  find_port [] = refl
+  find_port (x ∷ xs) = rw (same_key p x.0) (go (x.0 == p) refl (find_port xs))
+    where
+      go : (b : Bool) → (x.0 == p) ≡ b → find (is_pipe p) (map (port_in turn) xs) ≡ option_map (λ (n : ℕ). port_in turn (p, n)) (lookup (is_at (nat_cmp p)) xs)
+          → cond b (Some (port_in turn x)) (find (is_pipe p) (map (port_in turn) xs)) ≡ option_map (λ (n : ℕ). port_in turn (p, n)) (cond b (Some x.1) (lookup (is_at (nat_cmp p)) xs))
+      go true e h = ap (λ (n : ℕ). Some (port_in turn (n, x.1))) (equal_of x.0 p e)
+      go false e h = h
+
+  -- ---- A new one
+
+  pub under_ports : (xs : List (ℕ × ℕ)) → list_all (is_below p) (map (port_in turn) xs) ≡ list_all (is_under p) xs
+  under_ports [] = refl
+  under_ports (x ∷ xs) = ap (λ (b : Bool). nat_lt x.0 p && b) (under_ports xs)
+
+all_under : (p last : ℕ) (xs : List (ℕ × ℕ)) → AllByRecursion (λ q. is_lt (nat_cmp last q) ≡ false) (keys_of xs) → nat_lt last p ≡ true → list_all (is_under p) xs ≡ true
+all_under p last [] h l = refl
+all_under p last (x ∷ xs) h l = rw (low x.0 h.0) (all_under p last xs h.1 l)
+  where
+    low : (n : ℕ) → is_lt (nat_cmp last n) ≡ false → nat_lt n p ≡ true
+    low n e = go (nat_lt last n) refl (last == n) (nat_lt n p) refl e
+      where
+        no : nat_lt last n ≡ false → nat_lt n p ≡ false → ⊥
+        no f g = grind (arith, nat_tests, l)
+
+        go : (a : Bool) → nat_lt last n ≡ a → (b : Bool) → (c : Bool) → nat_lt n p ≡ c → is_lt (cond a Less (cond b Equal Greater)) ≡ false → c ≡ true
+        go true f b c g k = absurd cc
+        go false f b true g k = refl
+        go false f b false g k = absurd (no f g)
+
+not_all_under : (p i : ℕ) (z : ℕ × ℕ) (xs : List (ℕ × ℕ)) → slice_get xs i ≡ Some z → nat_lt z.0 p ≡ false → list_all (is_under p) xs ≡ false
+not_all_under p i z [] e l = absurd cc
+not_all_under p zero z (x ∷ xs) e l = let is : x ≡ z = cc in let no : nat_lt x.0 p ≡ false = subst (λ (y : ℕ × ℕ). nat_lt y.0 p ≡ false) (sym is) l in rw no refl
+not_all_under p (suc i) z (x ∷ xs) e l = ap (λ (b : Bool). nat_lt x.0 p && b) (not_all_under p i z xs e l) ∙ go (nat_lt x.0 p)
+  where
+    go : (b : Bool) → (b && false) ≡ false
     go true = refl
     go false = refl
-
--- it is up where it stands
-pub any_placed : (turn p : ℕ) (xs : List Held) → list_any (is_pipe p) (map (port_in turn) xs) ≡ nat_lt (position_or_len (is_held p) xs) (length xs)
-any_placed turn p [] = refl
-any_placed turn p (x ∷ xs) = go (x.pipe == p) (any_placed turn p xs)
-  where
-    first : (n : ℕ) → true ≡ nat_lt 0 (suc n)
-    first n = grind (arith, nat_tests)
-
-    more : (m n : ℕ) → nat_lt m n ≡ nat_lt (1 + m) (suc n)
-    more m n = grind (arith, nat_tests)
-
-    go : (b : Bool) → list_any (is_pipe p) (map (port_in turn) xs) ≡ nat_lt (position_or_len (is_held p) xs) (length xs) → (b || list_any (is_pipe p) (map (port_in turn) xs)) ≡ nat_lt (cond (not b) (1 + position_or_len (is_held p) xs) 0) (suc (length xs))
-    go true h = first (length xs)
-    go false h = h ∙ more _ _
-
-pub find_port : (turn p : ℕ) (xs : List Held) → find (is_pipe p) (map (port_in turn) xs) ≡ option_map (port_in turn) (find (is_held p) xs)
-find_port turn p [] = refl
-find_port turn p (x ∷ xs) = go (x.pipe == p) (find_port turn p xs)
-  where
-    go : (b : Bool) → find (is_pipe p) (map (port_in turn) xs) ≡ option_map (port_in turn) (find (is_held p) xs) → cond b (Some (port_in turn x)) (find (is_pipe p) (map (port_in turn) xs)) ≡ option_map (port_in turn) (cond b (Some x) (find (is_held p) xs))
-    go true h = refl
-    go false h = h
-
--- ---- A new one
-
-last_above : (xs : List Held) (q k : ℕ) (z : Held) → AreAbove q xs → slice_get xs k ≡ Some z → q < z.pipe
-last_above [] q k z h e = absurd cc
-last_above (x ∷ xs) q zero z h e = let is : x ≡ z = cc in subst (λ (y : Held). q < y.pipe) is h.0
-last_above (x ∷ xs) q (suc k) z h e = last_above xs q k z h.1 e
-
-pub some_length : (xs : List Held) (z : Held) → slice_get xs (length xs - 1) ≡ Some z → length xs ≡ suc (length xs - 1)
-some_length [] z e = absurd cc
-some_length (x ∷ xs) z e = omega arith
 
 -- all are below the number, where the last one is
-pub under_last : (p : ℕ) (xs : List Held) (n : ℕ) (z : Held) → IsRising xs → length xs ≡ suc n → slice_get xs n ≡ Some z → nat_lt z.pipe p ≡ list_all (is_under p) xs
-under_last p [] n z h l e = absurd cc
-under_last p (x ∷ []) zero z h l e = let is : x ≡ z = cc in subst (λ (y : Held). nat_lt y.pipe p ≡ (nat_lt x.pipe p && true)) is (go (nat_lt x.pipe p))
+pub under_last : (p i : ℕ) (z : ℕ × ℕ) (xs : List (ℕ × ℕ)) → slice_get xs i ≡ Some z → AllByRecursion (λ q. is_lt (nat_cmp z.0 q) ≡ false) (keys_of xs) → nat_lt z.0 p ≡ list_all (is_under p) xs
+under_last p i z xs e h = go (nat_lt z.0 p) refl
   where
-    go : (b : Bool) → b ≡ (b && true)
-    go true = refl
-    go false = refl
-under_last p (x ∷ []) (suc n) z h l e = absurd (omega (arith, l))
-under_last p (x ∷ y ∷ xs) zero z h l e = absurd (omega (arith, l))
-under_last p (x ∷ y ∷ xs) (suc n) z h l e =
-    let low : x.pipe < z.pipe = last_above (y ∷ xs) x.pipe n z h.0 e in
-    go (nat_lt z.pipe p) refl (nat_lt x.pipe p) refl low (under_last p (y ∷ xs) n z h.1 (omega (arith, l)) e)
-  where
-    clash : nat_lt z.pipe p ≡ true → nat_lt x.pipe p ≡ false → x.pipe < z.pipe → ⊥
-    clash e f l = grind (arith, nat_tests)
+    go : (b : Bool) → nat_lt z.0 p ≡ b → b ≡ list_all (is_under p) xs
+    go true l = sym (all_under p z.0 xs h l)
+    go false l = sym (not_all_under p i z xs e l)
 
-    go : (b : Bool) → nat_lt z.pipe p ≡ b → (a : Bool) → nat_lt x.pipe p ≡ a → x.pipe < z.pipe → b ≡ list_all (is_under p) (y ∷ xs) → b ≡ (a && list_all (is_under p) (y ∷ xs))
-    go true e true f low h = h
-    go true e false f low h = absurd (clash e f low)
-    go false e true f low h = h
-    go false e false f low h = refl
+both_of : (a b : Bool) → (a && b) ≡ true → (a ≡ true) × (b ≡ true)
+both_of true b e = (refl, e)
+both_of false b e = absurd cc
 
-pub under_ports : (turn p : ℕ) (xs : List Held) → list_all (is_below p) (map (port_in turn) xs) ≡ list_all (is_under p) xs
-under_ports turn p [] = refl
-under_ports turn p (x ∷ xs) = ap (λ (b : Bool). nat_lt x.pipe p && b) (under_ports turn p xs)
+-- one above all others stands behind them
+pub put_last : (p : ℕ) (xs : List (ℕ × ℕ)) → list_all (is_under p) xs ≡ true → insert_entry nat_cmp xs p 0 ≡ xs ++ (p, 0) ∷ []
+put_last p [] h = refl
+put_last p (x ∷ xs) h =
+    let both = both_of (nat_lt x.0 p) _ h in
+    ap (λ (o : Ordering). match_ordering o ((p, 0) ∷ x ∷ xs) ((x.0, 0) ∷ xs) (x ∷ insert_entry nat_cmp xs p 0)) (greater_is x.0 p both.0) ∙ ap (λ (rest : List (ℕ × ℕ)). x ∷ rest) (put_last p xs both.1)
 
-above_more : (xs : List Held) (q : ℕ) (y : Held) → q < y.pipe → AreAbove q xs → AreAbove q (xs ++ y ∷ [])
-above_more [] q y l h = (l, tt)
-above_more (x ∷ xs) q y l h = (h.0, above_more xs q y l h.1)
+numbers_more : (xs : List (ℕ × ℕ)) (y : ℕ × ℕ) → y.0 < 2 ^ 32 → AreNumbers xs → AreNumbers (xs ++ y ∷ [])
+numbers_more [] y l h = (l, tt)
+numbers_more (x ∷ xs) y l h = (h.0, numbers_more xs y l h.1)
 
-rising_more : (xs : List Held) (y : Held) → IsRising xs → list_all (is_under y.pipe) xs ≡ true → IsRising (xs ++ y ∷ [])
-rising_more [] y h k = (tt, tt)
-rising_more (x ∷ xs) y h k = let both = parts (nat_lt x.pipe y.pipe) _ k in (above_more xs x.pipe y (under x.pipe y.pipe both.0) h.0, rising_more xs y h.1 both.1)
-  where
-    parts : (a b : Bool) → (a && b) ≡ true → (a ≡ true) × (b ≡ true)
-    parts true b e = (refl, e)
-    parts false b e = absurd cc
-
-turns_more : (turn : ℕ) (xs : List Held) (y : Held) → y.full_in ≤ turn → AreUpTo turn xs → AreUpTo turn (xs ++ y ∷ [])
+turns_more : (turn : ℕ) (xs : List (ℕ × ℕ)) (y : ℕ × ℕ) → y.1 ≤ turn → AreUpTo turn xs → AreUpTo turn (xs ++ y ∷ [])
 turns_more turn [] y l h = (l, tt)
 turns_more turn (x ∷ xs) y l h = (h.0, turns_more turn xs y l h.1)
 
 -- no number is below 0
-nothing_full : (turn from : ℕ) (xs : List Held) → AreFull turn from 0 xs
+nothing_full : (turn from : ℕ) (xs : List (ℕ × ℕ)) → AreFull turn from 0 xs
 nothing_full turn from [] = tt
 nothing_full turn from (x ∷ xs) = (λ l m. absurd (omega (arith, m)), nothing_full turn from xs)
 
-pub more_known : (turn : ℕ) (known to : ℕ) (low p : ℕ) (xs : List Held) → AreKnown turn known to low xs → list_all (is_under p) xs ≡ true → AreKnown turn 0 0 0 (xs ++ record { pipe = p; full_in = 0 } ∷ [])
-more_known turn known to low p xs h k =
-    record {
-      rising = rising_more xs (record { pipe = p; full_in = 0 }) h.rising k;
-      turns = turns_more turn xs (record { pipe = p; full_in = 0 }) (omega arith) h.turns;
-      begun = h.begun;
-      behind = nothing_full turn 0 _;
-      front = nothing_full turn 0 _;
-    }
+pub more_known : (turn : ℕ) (known to : ℕ) (low p : ℕ) (xs : List (ℕ × ℕ)) → AreKnown turn known to low xs → p < 2 ^ 32 → AreKnown turn 0 0 0 (xs ++ (p, 0) ∷ [])
+more_known turn known to low p xs h l =
+    record { numbers = numbers_more xs (p, 0) l h.numbers; turns = turns_more turn xs (p, 0) (omega arith) h.turns; begun = h.begun; behind = nothing_full turn 0 _; front = nothing_full turn 0 _ }
 
-pub more_view : (turn p : ℕ) (xs : List Held) → 1 ≤ turn → map (port_in turn) (xs ++ record { pipe = p; full_in = 0 } ∷ []) ≡ map (port_in turn) xs ++ record { pipe = p; is_full = false } ∷ []
+pub more_view : (turn p : ℕ) (xs : List (ℕ × ℕ)) → 1 ≤ turn → map (port_in turn) (xs ++ (p, 0) ∷ []) ≡ map (port_in turn) xs ++ record { pipe = p; is_full = false } ∷ []
 more_view turn p [] l = ap (λ (b : Bool). (let x : PortView = record { pipe = p; is_full = b } in x) ∷ []) (other 0 turn (omega (arith, l)))
 more_view turn p (x ∷ xs) l = ap (λ (rest : List PortView). port_in turn x ∷ rest) (more_view turn p xs l)
 
 -- ---- One is found full
 
-above_unmarked : (turn p q : ℕ) (xs : List Held) → p ≤ q → AreAbove q xs → map (marked p) (map (port_in turn) xs) ≡ map (port_in turn) xs
-above_unmarked turn p q [] l h = refl
-above_unmarked turn p q (x ∷ xs) l h =
-    let no : (p == x.pipe) ≡ false = other p x.pipe (omega (arith, l, h.0)) in
-    rw no (ap (λ (rest : List PortView). port_in turn x ∷ rest) (above_unmarked turn p q xs l h.1))
+above_unmarked : (turn p : ℕ) (xs : List (ℕ × ℕ)) → AllByRecursion (λ n. nat_cmp p n ≡ Less) (keys_of xs) → map (marked p) (map (port_in turn) xs) ≡ map (port_in turn) xs
+above_unmarked turn p [] h = refl
+above_unmarked turn p (x ∷ xs) h =
+    let no : (p == x.0) ≡ false = other p x.0 (less_is p x.0 h.0) in
+    rw no (ap (λ (rest : List PortView). port_in turn x ∷ rest) (above_unmarked turn p xs h.1))
 
-pub none_marked : (turn p : ℕ) (xs : List Held) → find (is_held p) xs ≡ None → map (marked p) (map (port_in turn) xs) ≡ map (port_in turn) xs
-none_marked turn p [] h = refl
-none_marked turn p (x ∷ xs) h = go (x.pipe == p) refl h (none_marked turn p xs)
-  where
-    go : (b : Bool) → (x.pipe == p) ≡ b → cond b (Some x) (find (is_held p) xs) ≡ None → (find (is_held p) xs ≡ None → map (marked p) (map (port_in turn) xs) ≡ map (port_in turn) xs) → map (marked p) (map (port_in turn) (x ∷ xs)) ≡ map (port_in turn) (x ∷ xs)
-    go true e h again = absurd cc
-    go false e h again = let no : (p == x.pipe) ≡ false = turned x.pipe p false e in rw no (ap (λ (rest : List PortView). port_in turn x ∷ rest) (again h))
-
-pub one_marked : (turn p : ℕ) (xs : List Held) → IsRising xs → map (port_in turn) (with_found (is_held p) (marked_in turn) xs) ≡ map (marked p) (map (port_in turn) xs)
-one_marked turn p [] h = refl
-one_marked turn p (x ∷ xs) h = go (x.pipe == p) refl (one_marked turn p xs h.1)
-  where
-    go : (b : Bool) → (x.pipe == p) ≡ b → map (port_in turn) (with_found (is_held p) (marked_in turn) xs) ≡ map (marked p) (map (port_in turn) xs)
-        → map (port_in turn) (cond b (marked_in turn x ∷ xs) (x ∷ with_found (is_held p) (marked_in turn) xs)) ≡ map (marked p) (map (port_in turn) (x ∷ xs))
-    go true e again =
-        let yes : (p == x.pipe) ≡ true = turned x.pipe p true e in
-        let full : (turn == turn) ≡ true = same_number turn in
-        let low : p ≤ x.pipe = let is : x.pipe ≡ p = equal_of x.pipe p e in omega (arith, is) in
-        rw (yes, full) (ap (λ (rest : List PortView). record { pipe = x.pipe; is_full = true } ∷ rest) (sym (above_unmarked turn p x.pipe xs low h.0)))
-    go false e again = let no : (p == x.pipe) ≡ false = turned x.pipe p false e in rw no (ap (λ (rest : List PortView). port_in turn x ∷ rest) again)
-
-module _ (P : Held → Bool) (turn : ℕ) where
-  above_marked : (q : ℕ) (xs : List Held) → AreAbove q xs → AreAbove q (with_found P (marked_in turn) xs)
-  above_marked q [] h = h
-  above_marked q (x ∷ xs) h = go (P x) (above_marked q xs h.1)
+module _ (turn p : ℕ) where
+  pub none_marked : (xs : List (ℕ × ℕ)) → lookup (is_at (nat_cmp p)) xs ≡ None → map (marked p) (map (port_in turn) xs) ≡ map (port_in turn) xs
+  none_marked [] h = refl
+  none_marked (x ∷ xs) h = go (x.0 == p) refl (sym (ap (λ (b : Bool). cond b (Some x.1) (lookup (is_at (nat_cmp p)) xs)) (same_key p x.0)) ∙ h) (none_marked xs)
     where
-      go : (b : Bool) → AreAbove q (with_found P (marked_in turn) xs) → AreAbove q (cond b (marked_in turn x ∷ xs) (x ∷ with_found P (marked_in turn) xs))
+      go : (b : Bool) → (x.0 == p) ≡ b → cond b (Some x.1) (lookup (is_at (nat_cmp p)) xs) ≡ None → (lookup (is_at (nat_cmp p)) xs ≡ None → map (marked p) (map (port_in turn) xs) ≡ map (port_in turn) xs) → map (marked p) (map (port_in turn) (x ∷ xs)) ≡ map (port_in turn) (x ∷ xs)
+      go true e h again = absurd cc
+      go false e h again = let no : (p == x.0) ≡ false = turned x.0 p false e in rw no (ap (λ (rest : List PortView). port_in turn x ∷ rest) (again h))
+
+  pub one_marked : (xs : List (ℕ × ℕ)) → IsStrictlySortedBy nat_cmp (keys_of xs) → map (port_in turn) (set_value (is_at (nat_cmp p)) xs turn) ≡ map (marked p) (map (port_in turn) xs)
+  one_marked [] h = refl
+  one_marked (x ∷ xs) h = rw (same_key p x.0) (go (x.0 == p) refl (one_marked xs (sorted_tail nat_cmp x.0 (keys_of xs) h)))
+    where
+      go : (b : Bool) → (x.0 == p) ≡ b → map (port_in turn) (set_value (is_at (nat_cmp p)) xs turn) ≡ map (marked p) (map (port_in turn) xs)
+          → map (port_in turn) (cond b ((x.0, turn) ∷ xs) (x ∷ set_value (is_at (nat_cmp p)) xs turn)) ≡ map (marked p) (map (port_in turn) (x ∷ xs))
+      go true e again =
+          let yes : (p == x.0) ≡ true = turned x.0 p true e in
+          let full : (turn == turn) ≡ true = same_number turn in
+          let above : AllByRecursion (λ n. nat_cmp p n ≡ Less) (keys_of xs) = subst (λ (k : ℕ). AllByRecursion (λ n. nat_cmp k n ≡ Less) (keys_of xs)) (equal_of x.0 p e) (sorted_head nat_cmp x.0 (keys_of xs) h) in
+          rw (yes, full) (ap (λ (rest : List PortView). record { pipe = x.0; is_full = true } ∷ rest) (sym (above_unmarked turn p xs above)))
+      go false e again = let no : (p == x.0) ≡ false = turned x.0 p false e in rw no (ap (λ (rest : List PortView). port_in turn x ∷ rest) again)
+
+module _ (P : ℕ → Bool) (turn : ℕ) where
+  numbers_marked : (xs : List (ℕ × ℕ)) → AreNumbers xs → AreNumbers (set_value P xs turn)
+  numbers_marked [] h = h
+  numbers_marked (x ∷ xs) h = go (P x.0) (numbers_marked xs h.1)
+    where
+      go : (b : Bool) → AreNumbers (set_value P xs turn) → AreNumbers (cond b ((x.0, turn) ∷ xs) (x ∷ set_value P xs turn))
       go true k = (h.0, h.1)
       go false k = (h.0, k)
 
-  rising_marked : (xs : List Held) → IsRising xs → IsRising (with_found P (marked_in turn) xs)
-  rising_marked [] h = h
-  rising_marked (x ∷ xs) h = go (P x) (rising_marked xs h.1)
-    where
-      go : (b : Bool) → IsRising (with_found P (marked_in turn) xs) → IsRising (cond b (marked_in turn x ∷ xs) (x ∷ with_found P (marked_in turn) xs))
-      go true k = (h.0, h.1)
-      go false k = (above_marked x.pipe xs h.0, k)
-
-  turns_marked : (xs : List Held) → AreUpTo turn xs → AreUpTo turn (with_found P (marked_in turn) xs)
+  turns_marked : (xs : List (ℕ × ℕ)) → AreUpTo turn xs → AreUpTo turn (set_value P xs turn)
   turns_marked [] h = h
-  turns_marked (x ∷ xs) h = go (P x) (turns_marked xs h.1)
+  turns_marked (x ∷ xs) h = go (P x.0) (turns_marked xs h.1)
     where
-      go : (b : Bool) → AreUpTo turn (with_found P (marked_in turn) xs) → AreUpTo turn (cond b (marked_in turn x ∷ xs) (x ∷ with_found P (marked_in turn) xs))
+      go : (b : Bool) → AreUpTo turn (set_value P xs turn) → AreUpTo turn (cond b ((x.0, turn) ∷ xs) (x ∷ set_value P xs turn))
       go true k = (omega arith, h.1)
       go false k = (h.0, k)
 
-  full_marked : (from to : ℕ) (xs : List Held) → AreFull turn from to xs → AreFull turn from to (with_found P (marked_in turn) xs)
+  full_marked : (from to : ℕ) (xs : List (ℕ × ℕ)) → AreFull turn from to xs → AreFull turn from to (set_value P xs turn)
   full_marked from to [] h = h
-  full_marked from to (x ∷ xs) h = go (P x) (full_marked from to xs h.1)
+  full_marked from to (x ∷ xs) h = go (P x.0) (full_marked from to xs h.1)
     where
-      go : (b : Bool) → AreFull turn from to (with_found P (marked_in turn) xs) → AreFull turn from to (cond b (marked_in turn x ∷ xs) (x ∷ with_found P (marked_in turn) xs))
+      go : (b : Bool) → AreFull turn from to (set_value P xs turn) → AreFull turn from to (cond b ((x.0, turn) ∷ xs) (x ∷ set_value P xs turn))
       go true k = (λ l m. same_number turn, h.1)
       go false k = (h.0, k)
 
-  pub marked_known : (known to : ℕ) (low : ℕ) (xs : List Held) → AreKnown turn known to low xs → AreKnown turn known to low (with_found P (marked_in turn) xs)
+  pub marked_known : (known to : ℕ) (low : ℕ) (xs : List (ℕ × ℕ)) → AreKnown turn known to low xs → AreKnown turn known to low (set_value P xs turn)
   marked_known known to low xs h =
-      record { rising = rising_marked xs h.rising; turns = turns_marked xs h.turns; begun = h.begun; behind = full_marked known to xs h.behind; front = full_marked 0 low xs h.front }
+      record { numbers = numbers_marked xs h.numbers; turns = turns_marked xs h.turns; begun = h.begun; behind = full_marked known to xs h.behind; front = full_marked 0 low xs h.front }
 
 -- ---- One goes down
 
-module _ (P : Held → Bool) (turn : ℕ) where
-  above_less : (q : ℕ) (xs : List Held) → AreAbove q xs → AreAbove q (without_found P xs)
-  above_less q [] h = h
-  above_less q (x ∷ xs) h = go (P x) (above_less q xs h.1)
+module _ (P : ℕ → Bool) (turn : ℕ) where
+  numbers_less : (xs : List (ℕ × ℕ)) → AreNumbers xs → AreNumbers (remove_entry P xs)
+  numbers_less [] h = h
+  numbers_less (x ∷ xs) h = go (P x.0) (numbers_less xs h.1)
     where
-      go : (b : Bool) → AreAbove q (without_found P xs) → AreAbove q (cond b xs (x ∷ without_found P xs))
+      go : (b : Bool) → AreNumbers (remove_entry P xs) → AreNumbers (cond b xs (x ∷ remove_entry P xs))
       go true k = h.1
       go false k = (h.0, k)
 
-  rising_less : (xs : List Held) → IsRising xs → IsRising (without_found P xs)
-  rising_less [] h = h
-  rising_less (x ∷ xs) h = go (P x) (rising_less xs h.1)
-    where
-      go : (b : Bool) → IsRising (without_found P xs) → IsRising (cond b xs (x ∷ without_found P xs))
-      go true k = h.1
-      go false k = (above_less x.pipe xs h.0, k)
-
-  turns_less : (xs : List Held) → AreUpTo turn xs → AreUpTo turn (without_found P xs)
+  turns_less : (xs : List (ℕ × ℕ)) → AreUpTo turn xs → AreUpTo turn (remove_entry P xs)
   turns_less [] h = h
-  turns_less (x ∷ xs) h = go (P x) (turns_less xs h.1)
+  turns_less (x ∷ xs) h = go (P x.0) (turns_less xs h.1)
     where
-      go : (b : Bool) → AreUpTo turn (without_found P xs) → AreUpTo turn (cond b xs (x ∷ without_found P xs))
+      go : (b : Bool) → AreUpTo turn (remove_entry P xs) → AreUpTo turn (cond b xs (x ∷ remove_entry P xs))
       go true k = h.1
       go false k = (h.0, k)
 
-  full_less : (from to : ℕ) (xs : List Held) → AreFull turn from to xs → AreFull turn from to (without_found P xs)
+  full_less : (from to : ℕ) (xs : List (ℕ × ℕ)) → AreFull turn from to xs → AreFull turn from to (remove_entry P xs)
   full_less from to [] h = h
-  full_less from to (x ∷ xs) h = go (P x) (full_less from to xs h.1)
+  full_less from to (x ∷ xs) h = go (P x.0) (full_less from to xs h.1)
     where
-      go : (b : Bool) → AreFull turn from to (without_found P xs) → AreFull turn from to (cond b xs (x ∷ without_found P xs))
+      go : (b : Bool) → AreFull turn from to (remove_entry P xs) → AreFull turn from to (cond b xs (x ∷ remove_entry P xs))
       go true k = h.1
       go false k = (h.0, k)
 
-  pub less_known : (known to : ℕ) (low : ℕ) (xs : List Held) → AreKnown turn known to low xs → AreKnown turn known to low (without_found P xs)
+  pub less_known : (known to : ℕ) (low : ℕ) (xs : List (ℕ × ℕ)) → AreKnown turn known to low xs → AreKnown turn known to low (remove_entry P xs)
   less_known known to low xs h =
-      record { rising = rising_less xs h.rising; turns = turns_less xs h.turns; begun = h.begun; behind = full_less known to xs h.behind; front = full_less 0 low xs h.front }
+      record { numbers = numbers_less xs h.numbers; turns = turns_less xs h.turns; begun = h.begun; behind = full_less known to xs h.behind; front = full_less 0 low xs h.front }
 
-none_of : (turn p q : ℕ) (xs : List Held) → p ≤ q → AreAbove q xs → filter (λ (x : PortView). not (x.pipe == p)) (map (port_in turn) xs) ≡ map (port_in turn) xs
-none_of turn p q [] l h = refl
-none_of turn p q (x ∷ xs) l h =
-    let no : (x.pipe == p) ≡ false = above p x.pipe (omega (arith, l, h.0)) in
-    rw no (ap (λ (rest : List PortView). port_in turn x ∷ rest) (none_of turn p q xs l h.1))
+module _ (turn p : ℕ) where
+  none_of : (xs : List (ℕ × ℕ)) → lookup (is_at (nat_cmp p)) xs ≡ None → filter (λ (x : PortView). not (x.pipe == p)) (map (port_in turn) xs) ≡ map (port_in turn) xs
+  none_of [] h = refl
+  none_of (x ∷ xs) h = go (x.0 == p) (sym (ap (λ (b : Bool). cond b (Some x.1) (lookup (is_at (nat_cmp p)) xs)) (same_key p x.0)) ∙ h) (none_of xs)
+    where
+      go : (b : Bool) → cond b (Some x.1) (lookup (is_at (nat_cmp p)) xs) ≡ None → (lookup (is_at (nat_cmp p)) xs ≡ None → filter (λ (y : PortView). not (y.pipe == p)) (map (port_in turn) xs) ≡ map (port_in turn) xs)
+          → cond (not b) (port_in turn x ∷ filter (λ (y : PortView). not (y.pipe == p)) (map (port_in turn) xs)) (filter (λ (y : PortView). not (y.pipe == p)) (map (port_in turn) xs)) ≡ port_in turn x ∷ map (port_in turn) xs
+      go true h again = absurd cc
+      go false h again = ap (λ (rest : List PortView). port_in turn x ∷ rest) (again h)
 
-pub one_less : (turn p : ℕ) (xs : List Held) → IsRising xs → map (port_in turn) (without_found (is_held p) xs) ≡ filter (λ (x : PortView). not (x.pipe == p)) (map (port_in turn) xs)
-one_less turn p [] h = refl
-one_less turn p (x ∷ xs) h = go (x.pipe == p) refl (one_less turn p xs h.1)
-  where
-    go : (b : Bool) → (x.pipe == p) ≡ b → map (port_in turn) (without_found (is_held p) xs) ≡ filter (λ (y : PortView). not (y.pipe == p)) (map (port_in turn) xs)
-        → map (port_in turn) (cond b xs (x ∷ without_found (is_held p) xs)) ≡ cond (not b) (port_in turn x ∷ filter (λ (y : PortView). not (y.pipe == p)) (map (port_in turn) xs)) (filter (λ (y : PortView). not (y.pipe == p)) (map (port_in turn) xs))
-    go true e again = let low : p ≤ x.pipe = let is : x.pipe ≡ p = equal_of x.pipe p e in omega (arith, is) in sym (none_of turn p x.pipe xs low h.0)
-    go false e again = ap (λ (rest : List PortView). port_in turn x ∷ rest) again
+  -- none of this number is left
+  pub one_less : (xs : List (ℕ × ℕ)) → lookup (is_at (nat_cmp p)) (remove_entry (is_at (nat_cmp p)) xs) ≡ None → map (port_in turn) (remove_entry (is_at (nat_cmp p)) xs) ≡ filter (λ (x : PortView). not (x.pipe == p)) (map (port_in turn) xs)
+  one_less [] h = refl
+  one_less (x ∷ xs) h = rw (same_key p x.0) (go (x.0 == p) refl (sym (ap (λ (b : Bool). lookup (is_at (nat_cmp p)) (cond b xs (x ∷ remove_entry (is_at (nat_cmp p)) xs))) (same_key p x.0)) ∙ h) (one_less xs))
+    where
+      go : (b : Bool) → (x.0 == p) ≡ b → lookup (is_at (nat_cmp p)) (cond b xs (x ∷ remove_entry (is_at (nat_cmp p)) xs)) ≡ None
+          → (lookup (is_at (nat_cmp p)) (remove_entry (is_at (nat_cmp p)) xs) ≡ None → map (port_in turn) (remove_entry (is_at (nat_cmp p)) xs) ≡ filter (λ (y : PortView). not (y.pipe == p)) (map (port_in turn) xs))
+          → map (port_in turn) (cond b xs (x ∷ remove_entry (is_at (nat_cmp p)) xs)) ≡ cond (not b) (port_in turn x ∷ filter (λ (y : PortView). not (y.pipe == p)) (map (port_in turn) xs)) (filter (λ (y : PortView). not (y.pipe == p)) (map (port_in turn) xs))
+      go true e h again = sym (none_of xs h)
+      go false e h again =
+          let no : is_eq (nat_cmp p x.0) ≡ false = same_key p x.0 ∙ e in
+          let rest : lookup (is_at (nat_cmp p)) (remove_entry (is_at (nat_cmp p)) xs) ≡ None = sym (ap (λ (b : Bool). cond b (Some x.1) (lookup (is_at (nat_cmp p)) (remove_entry (is_at (nat_cmp p)) xs))) no) ∙ h in
+          ap (λ (rest : List PortView). port_in turn x ∷ rest) (again rest)
 
 -- ---- A new turn
 
-turns_on : (turn : ℕ) (xs : List Held) → AreUpTo turn xs → AreUpTo (turn + 1) xs
+turns_on : (turn : ℕ) (xs : List (ℕ × ℕ)) → AreUpTo turn xs → AreUpTo (turn + 1) xs
 turns_on turn [] h = h
 turns_on turn (x ∷ xs) h = (omega (arith, h.0), turns_on turn xs h.1)
 
-pub next_known : (turn : ℕ) (known to : ℕ) (low : ℕ) (xs : List Held) → AreKnown turn known to low xs → AreKnown (turn + 1) 0 0 0 xs
-next_known turn known to low xs h = record { rising = h.rising; turns = turns_on turn xs h.turns; begun = omega (arith, h.begun); behind = nothing_full (turn + 1) 0 xs; front = nothing_full (turn + 1) 0 xs }
+pub next_known : (turn : ℕ) (known to : ℕ) (low : ℕ) (xs : List (ℕ × ℕ)) → AreKnown turn known to low xs → AreKnown (turn + 1) 0 0 0 xs
+next_known turn known to low xs h = record { numbers = h.numbers; turns = turns_on turn xs h.turns; begun = omega (arith, h.begun); behind = nothing_full (turn + 1) 0 xs; front = nothing_full (turn + 1) 0 xs }
 
-pub next_view : (turn : ℕ) (xs : List Held) → AreUpTo turn xs → map (port_in (turn + 1)) xs ≡ map cleared (map (port_in turn) xs)
+pub next_view : (turn : ℕ) (xs : List (ℕ × ℕ)) → AreUpTo turn xs → map (port_in (turn + 1)) xs ≡ map cleared (map (port_in turn) xs)
 next_view turn [] h = refl
 next_view turn (x ∷ xs) h =
-    let later : (x.full_in == turn + 1) ≡ false = other x.full_in (turn + 1) (omega (arith, h.0)) in
-    rw later (ap (λ (rest : List PortView). record { pipe = x.pipe; is_full = false } ∷ rest) (next_view turn xs h.1))
+    let later : (x.1 == turn + 1) ≡ false = other x.1 (turn + 1) (omega (arith, h.0)) in
+    rw later (ap (λ (rest : List PortView). record { pipe = x.0; is_full = false } ∷ rest) (next_view turn xs h.1))
 
-above_anew : (q : ℕ) (xs : List Held) → AreAbove q xs → AreAbove q (map unmarked xs)
-above_anew q [] h = h
-above_anew q (x ∷ xs) h = (h.0, above_anew q xs h.1)
+numbers_anew : (xs : List (ℕ × ℕ)) → AreNumbers xs → AreNumbers (map unmarked xs)
+numbers_anew [] h = h
+numbers_anew (x ∷ xs) h = (h.0, numbers_anew xs h.1)
 
-rising_anew : (xs : List Held) → IsRising xs → IsRising (map unmarked xs)
-rising_anew [] h = h
-rising_anew (x ∷ xs) h = (above_anew x.pipe xs h.0, rising_anew xs h.1)
-
-turns_anew : (xs : List Held) → AreUpTo 1 (map unmarked xs)
+turns_anew : (xs : List (ℕ × ℕ)) → AreUpTo 1 (map unmarked xs)
 turns_anew [] = tt
 turns_anew (x ∷ xs) = (omega arith, turns_anew xs)
 
-pub anew_known : (turn : ℕ) (known to : ℕ) (low : ℕ) (xs : List Held) → AreKnown turn known to low xs → AreKnown 1 0 0 0 (map unmarked xs)
-anew_known turn known to low xs h = record { rising = rising_anew xs h.rising; turns = turns_anew xs; begun = omega arith; behind = nothing_full 1 0 _; front = nothing_full 1 0 _ }
+pub anew_known : (turn : ℕ) (known to : ℕ) (low : ℕ) (xs : List (ℕ × ℕ)) → AreKnown turn known to low xs → AreKnown 1 0 0 0 (map unmarked xs)
+anew_known turn known to low xs h = record { numbers = numbers_anew xs h.numbers; turns = turns_anew xs; begun = omega arith; behind = nothing_full 1 0 _; front = nothing_full 1 0 _ }
 
-pub anew_view : (turn : ℕ) (xs : List Held) → map (port_in 1) (map unmarked xs) ≡ map cleared (map (port_in turn) xs)
+pub anew_view : (turn : ℕ) (xs : List (ℕ × ℕ)) → map (port_in 1) (map unmarked xs) ≡ map cleared (map (port_in turn) xs)
 anew_view turn [] = refl
-anew_view turn (x ∷ xs) = ap (λ (rest : List PortView). record { pipe = x.pipe; is_full = false } ∷ rest) (anew_view turn xs)
+anew_view turn (x ∷ xs) = ap (λ (rest : List PortView). record { pipe = x.0; is_full = false } ∷ rest) (anew_view turn xs)
 
 -- ---- The next that is not full
 
-no_span : (turn from : ℕ) (xs : List Held) → AreFull turn from from xs
+-- the range that begins at the number has all from there on
+pub in_rest : (turn from : ℕ) (xs : List (ℕ × ℕ)) → find (is_open turn) (filter (λ (x : ℕ × ℕ). is_le (nat_cmp from x.0) && not false) xs) ≡ find (is_free_from turn from) xs
+in_rest turn from [] = refl
+in_rest turn from (x ∷ xs) = rw (in_range from x.0) (go (nat_lt x.0 from) (x.1 == turn) refl (in_rest turn from xs))
+  where
+    go : (a b : Bool) → (x.1 == turn) ≡ b → find (is_open turn) (filter (λ (y : ℕ × ℕ). is_le (nat_cmp from y.0) && not false) xs) ≡ find (is_free_from turn from) xs
+        → find (is_open turn) (cond (not a && true) (x ∷ filter (λ (y : ℕ × ℕ). is_le (nat_cmp from y.0) && not false) xs) (filter (λ (y : ℕ × ℕ). is_le (nat_cmp from y.0) && not false) xs)) ≡ cond (not a && not b) (Some x) (find (is_free_from turn from) xs)
+    go true b e h = h
+    go false true e h = rw e h
+    go false false e h = rw e refl
+
+-- a full one is passed over
+pub one_passed : (turn : ℕ) (x : ℕ × ℕ) (xs rest : List (ℕ × ℕ)) (found : Option (ℕ × ℕ)) → xs ≡ x ∷ rest → (x.1 == turn) ≡ true → find (is_open turn) xs ≡ found → find (is_open turn) rest ≡ found
+one_passed turn x xs rest found e full h = sym (ap (λ (b : Bool). cond (not b) (Some x) (find (is_open turn) rest)) full) ∙ sym (ap (find (is_open turn)) e) ∙ h
+
+pub one_open : (turn : ℕ) (x : ℕ × ℕ) (xs rest : List (ℕ × ℕ)) (found : Option (ℕ × ℕ)) → xs ≡ x ∷ rest → (x.1 == turn) ≡ false → find (is_open turn) xs ≡ found → found ≡ Some x
+one_open turn x xs rest found e full h = sym h ∙ ap (find (is_open turn)) e ∙ ap (λ (b : Bool). cond (not b) (Some x) (find (is_open turn) rest)) full
+
+no_span : (turn from : ℕ) (xs : List (ℕ × ℕ)) → AreFull turn from from xs
 no_span turn from [] = tt
 no_span turn from (x ∷ xs) = (λ l m. absurd (omega (arith, l, m)), no_span turn from xs)
 
--- those that are full are passed over
-pub passed : (turn from to : ℕ) (xs : List Held) → from ≤ to → AreFull turn from to xs → find (is_free_from turn from) xs ≡ find (is_free_from turn to) xs
-passed turn from to [] l h = refl
-passed turn from to (x ∷ xs) l h = go (nat_lt x.pipe from) refl (nat_lt x.pipe to) refl (x.full_in == turn) refl (passed turn from to xs l h.1)
+-- no number is above those of pipes
+pub none_past : (turn from : ℕ) (xs : List (ℕ × ℕ)) → AreNumbers xs → 2 ^ 32 ≤ from → find (is_free_from turn from) xs ≡ None
+none_past turn from [] h l = refl
+none_past turn from (x ∷ xs) h l = let low : nat_lt x.0 from ≡ true = lower x.0 h.0 in rw low (none_past turn from xs h.1 l)
   where
-    clash : nat_lt x.pipe from ≡ true → nat_lt x.pipe to ≡ false → ⊥
+    lower : (n : ℕ) → n < 2 ^ 32 → nat_lt n from ≡ true
+    lower n k = let less : n < from = omega (arith, k, l) in grind (arith, nat_tests, less)
+
+pub full_past : (turn from : ℕ) (xs : List (ℕ × ℕ)) → 2 ^ 32 ≤ from → AreFull turn from (2 ^ 32) xs
+full_past turn from [] l = tt
+full_past turn from (x ∷ xs) l = (λ k m. absurd (omega (arith, k, l, m)), full_past turn from xs l)
+
+-- those that are full are passed over
+pub passed : (turn from to : ℕ) (xs : List (ℕ × ℕ)) → from ≤ to → AreFull turn from to xs → find (is_free_from turn from) xs ≡ find (is_free_from turn to) xs
+passed turn from to [] l h = refl
+passed turn from to (x ∷ xs) l h = go (nat_lt x.0 from) refl (nat_lt x.0 to) refl (x.1 == turn) refl (passed turn from to xs l h.1)
+  where
+    clash : nat_lt x.0 from ≡ true → nat_lt x.0 to ≡ false → ⊥
     clash e f = grind (arith, nat_tests, l)
 
-    go : (a : Bool) → nat_lt x.pipe from ≡ a → (b : Bool) → nat_lt x.pipe to ≡ b → (f : Bool) → (x.full_in == turn) ≡ f → find (is_free_from turn from) xs ≡ find (is_free_from turn to) xs
+    go : (a : Bool) → nat_lt x.0 from ≡ a → (b : Bool) → nat_lt x.0 to ≡ b → (f : Bool) → (x.1 == turn) ≡ f → find (is_free_from turn from) xs ≡ find (is_free_from turn to) xs
         → cond (not a && not f) (Some x) (find (is_free_from turn from) xs) ≡ cond (not b && not f) (Some x) (find (is_free_from turn to) xs)
     go true e true k f m again = again
     go true e false k f m again = absurd (clash e k)
     go false e true k true m again = again
-    go false e true k false m again = let yes : (x.full_in == turn) ≡ true = h.0 (not_under x.pipe from e) (under x.pipe to k) in absurd cc
-    go false e false k f m again = ap (λ (o : Option Held). cond (not f) (Some x) o) again
+    go false e true k false m again = let yes : (x.1 == turn) ≡ true = h.0 (not_under x.0 from e) (under x.0 to k) in absurd cc
+    go false e false k f m again = ap (λ (o : Option (ℕ × ℕ)). cond (not f) (Some x) o) again
 
 -- from the number of the one before on, or from the one up to which all are full
-pub begins : (turn from known to : ℕ) (xs : List Held) → AreFull turn known to xs → AreFull turn from (begin_at known to from) xs × (find (is_free_from turn from) xs ≡ find (is_free_from turn (begin_at known to from)) xs)
+pub begins : (turn from known to : ℕ) (xs : List (ℕ × ℕ)) → AreFull turn known to xs → AreFull turn from (begin_at known to from) xs × (find (is_free_from turn from) xs ≡ find (is_free_from turn (begin_at known to from)) xs)
 begins turn from known to xs h = go (known == from) refl (nat_le from to) refl
   where
     least : nat_le from to ≡ true → from ≤ to
@@ -442,24 +416,33 @@ begins turn from known to xs h = go (known == from) refl (nat_le from to) refl
     go true e false k = (no_span turn from xs, refl)
     go false e b k = (no_span turn from xs, refl)
 
-above_full : (turn from p : ℕ) (xs : List Held) → AreAbove p xs → AreFull turn from p xs
+above_full : (turn from p : ℕ) (xs : List (ℕ × ℕ)) → AllByRecursion (λ n. nat_cmp p n ≡ Less) (keys_of xs) → AreFull turn from p xs
 above_full turn from p [] h = tt
-above_full turn from p (x ∷ xs) h = (λ l m. let high : p < x.pipe = h.0 in absurd (omega (arith, high, m)), above_full turn from p xs h.1)
+above_full turn from p (x ∷ xs) h = (λ l m. let high : p < x.0 = less_is p x.0 h.0 in absurd (omega (arith, high, m)), above_full turn from p xs h.1)
 
 -- up to the one that was found all are full
-pub filled : (turn from begin : ℕ) (xs : List Held) → IsRising xs → AreFull turn from begin xs → AreFull turn from (reached (option_map number (find (is_free_from turn begin) xs))) xs
-filled turn from begin [] h f = tt
-filled turn from begin (x ∷ xs) h f = go (nat_lt x.pipe begin) refl (x.full_in == turn) refl (filled turn from begin xs h.1 f.1)
+pub filled : (turn from : ℕ) (xs : List (ℕ × ℕ)) → IsStrictlySortedBy nat_cmp (keys_of xs) → AreFull turn from (reached (option_map number (find (is_free_from turn from) xs))) xs
+filled turn from [] h = tt
+filled turn from (x ∷ xs) h = go (nat_lt x.0 from) refl (x.1 == turn) refl (filled turn from xs (sorted_tail nat_cmp x.0 (keys_of xs) h))
   where
-    go : (a : Bool) → nat_lt x.pipe begin ≡ a → (b : Bool) → (x.full_in == turn) ≡ b → AreFull turn from (reached (option_map number (find (is_free_from turn begin) xs))) xs
-        → AreFull turn from (reached (option_map number (cond (not a && not b) (Some x) (find (is_free_from turn begin) xs)))) (x ∷ xs)
-    go true e b k rest = (λ l m. f.0 l (under x.pipe begin e), rest)
+    go : (a : Bool) → nat_lt x.0 from ≡ a → (b : Bool) → (x.1 == turn) ≡ b → AreFull turn from (reached (option_map number (find (is_free_from turn from) xs))) xs
+        → AreFull turn from (reached (option_map number (cond (not a && not b) (Some x) (find (is_free_from turn from) xs)))) (x ∷ xs)
+    go true e b k rest = (λ l m. let low : x.0 < from = under x.0 from e in absurd (omega (arith, low, l)), rest)
     go false e true k rest = (λ l m. k, rest)
-    go false e false k rest = (λ l m. absurd (omega (arith, m)), above_full turn from x.pipe xs h.0)
+    go false e false k rest = (λ l m. absurd (omega (arith, m)), above_full turn from x.0 xs (sorted_head nat_cmp x.0 (keys_of xs) h))
 
-pub free_ports : (turn : ℕ) (xs : List Held) → find is_free (map (port_in turn) xs) ≡ option_map (port_in turn) (find (is_free_from turn 0) xs)
+-- one span behind the other
+pub joined : (turn from mid to : ℕ) (xs : List (ℕ × ℕ)) → AreFull turn from mid xs → AreFull turn mid to xs → AreFull turn from to xs
+joined turn from mid to [] h k = tt
+joined turn from mid to (x ∷ xs) h k = (λ l m. go (nat_lt x.0 mid) refl l m, joined turn from mid to xs h.1 k.1)
+  where
+    go : (b : Bool) → nat_lt x.0 mid ≡ b → from ≤ x.0 → x.0 < to → (x.1 == turn) ≡ true
+    go true e l m = h.0 l (under x.0 mid e)
+    go false e l m = k.0 (not_under x.0 mid e) m
+
+pub free_ports : (turn : ℕ) (xs : List (ℕ × ℕ)) → find is_free (map (port_in turn) xs) ≡ option_map (port_in turn) (find (is_free_from turn 0) xs)
 free_ports turn [] = refl
-free_ports turn (x ∷ xs) = go (x.full_in == turn) (nat_lt x.pipe 0) (nothing x.pipe) (free_ports turn xs)
+free_ports turn (x ∷ xs) = go (x.1 == turn) (nat_lt x.0 0) (nothing x.0) (free_ports turn xs)
   where
     nothing : (n : ℕ) → nat_lt n 0 ≡ false
     nothing n = grind (arith, nat_tests)
@@ -471,9 +454,9 @@ free_ports turn (x ∷ xs) = go (x.full_in == turn) (nat_lt x.pipe 0) (nothing x
     go false true e h = absurd cc
     go false false e h = refl
 
-pub ports_behind : (turn last : ℕ) (xs : List Held) → find (is_free_behind last) (map (port_in turn) xs) ≡ option_map (port_in turn) (find (is_free_from turn (last + 1)) xs)
+pub ports_behind : (turn last : ℕ) (xs : List (ℕ × ℕ)) → find (is_free_behind last) (map (port_in turn) xs) ≡ option_map (port_in turn) (find (is_free_from turn (last + 1)) xs)
 ports_behind turn last [] = refl
-ports_behind turn last (x ∷ xs) = go (x.full_in == turn) (nat_lt last x.pipe) (nat_lt x.pipe (last + 1)) (one_of last x.pipe) (ports_behind turn last xs)
+ports_behind turn last (x ∷ xs) = go (x.1 == turn) (nat_lt last x.0) (nat_lt x.0 (last + 1)) (one_of last x.0) (ports_behind turn last xs)
   where
     one_of : (m n : ℕ) → nat_lt m n ≡ not (nat_lt n (m + 1))
     one_of m n = grind (arith, nat_tests)
@@ -487,6 +470,6 @@ ports_behind turn last (x ∷ xs) = go (x.full_in == turn) (nat_lt last x.pipe) 
     go false true false e h = refl
     go false false false e h = absurd cc
 
-pub numbers_of : (turn : ℕ) (o : Option Held) → option_map (λ (x : PortView). x.pipe) (option_map (port_in turn) o) ≡ option_map number o
+pub numbers_of : (turn : ℕ) (o : Option (ℕ × ℕ)) → option_map (λ (x : PortView). x.pipe) (option_map (port_in turn) o) ≡ option_map number o
 numbers_of turn None = refl
 numbers_of turn (Some x) = refl

@@ -1,7 +1,6 @@
 -- The pipes that a machine knows as up, and which of them it found full.
 use Rattle.std.specs.Prelude.{◌≡◌, ◌<◌, ◌≤◌, ℕ, ◌+◌, ◌^◌, ◌==◌, ◌&&◌, ◌||◌, nat_lt, nat_le, Bool, true, false, not, ⊤, if◌then◌else◌, List, [], ◌∷◌, map, find, Option, Some, None}
 use Rattle.sp_history.specs.Lists.{has}
-use Rattle.proto_requests.specs.declared.ports.Held.{Held}
 use Rattle.proto_requests.specs.declared.ports.Destination.{Destination}
 use Rattle.proto_requests.specs.declared.ports.Destination.TheVariants as ways
 
@@ -66,41 +65,34 @@ pub record Knows (ps : List PortView) (us : List ℕ) (last : ℕ) (full : ℕ �
   pub known : (q : ℕ) → has us q ≡ true → q ≤ last
   pub unmet : (q : ℕ) → last < q → full q ≡ false
 
--- ---- As they are held
+-- ---- As they are held: the number of each, and the turn in which it was last found full
 
-abbrev pub number : Held → ℕ
-number x = x.pipe
+abbrev pub number : ℕ × ℕ → ℕ
+number x = x.0
 
-abbrev pub is_full_in : ℕ → Held → Bool
-is_full_in turn x = x.full_in == turn
+abbrev pub is_full_in : ℕ → ℕ × ℕ → Bool
+is_full_in turn x = x.1 == turn
 
 -- as it is in this turn
-abbrev pub port_in : ℕ → Held → PortView
-port_in turn x = record { pipe = x.pipe; is_full = is_full_in turn x }
-
-abbrev pub is_held : ℕ → Held → Bool
-is_held p x = x.pipe == p
+abbrev pub port_in : ℕ → ℕ × ℕ → PortView
+port_in turn x = record { pipe = x.0; is_full = is_full_in turn x }
 
 -- its number is below this one
-abbrev pub is_under : ℕ → Held → Bool
-is_under p x = nat_lt x.pipe p
+abbrev pub is_under : ℕ → ℕ × ℕ → Bool
+is_under p x = nat_lt x.0 p
 
 abbrev pub is_below : ℕ → PortView → Bool
 is_below p x = nat_lt x.pipe p
 
-abbrev pub is_open : ℕ → Held → Bool
+abbrev pub is_open : ℕ → ℕ × ℕ → Bool
 is_open turn x = not (is_full_in turn x)
 
 -- it is not full, and its number is not below this one
-abbrev pub is_free_from : ℕ → ℕ → Held → Bool
-is_free_from turn from x = not (nat_lt x.pipe from) && is_open turn x
+abbrev pub is_free_from : ℕ → ℕ → ℕ × ℕ → Bool
+is_free_from turn from x = not (nat_lt x.0 from) && is_open turn x
 
-abbrev pub unmarked : Held → Held
-unmarked x = record { pipe = x.pipe; full_in = 0 }
-
--- found full in this turn
-abbrev pub marked_in : ℕ → Held → Held
-marked_in turn x = record { pipe = x.pipe; full_in = turn }
+abbrev pub unmarked : ℕ × ℕ → ℕ × ℕ
+unmarked x = (x.0, 0)
 
 -- all from the known number up to the other are full
 abbrev pub begin_at : ℕ → ℕ → ℕ → ℕ
@@ -110,29 +102,24 @@ abbrev pub reached : Option ℕ → ℕ
 reached None = 2 ^ 32
 reached (Some p) = p
 
--- each number is above this one
-abbrev pub AreAbove : ℕ → List Held → Type 0
-AreAbove p [] = ⊤
-AreAbove p (x ∷ xs) = (p < x.pipe) × AreAbove p xs
-
--- each number is below those after it
-abbrev pub IsRising : List Held → Type 0
-IsRising [] = ⊤
-IsRising (x ∷ xs) = AreAbove x.pipe xs × IsRising xs
+-- each number is one of a pipe
+abbrev pub AreNumbers : List (ℕ × ℕ) → Type 0
+AreNumbers [] = ⊤
+AreNumbers (x ∷ xs) = (x.0 < 2 ^ 32) × AreNumbers xs
 
 -- none was found full in a later turn
-abbrev pub AreUpTo : ℕ → List Held → Type 0
+abbrev pub AreUpTo : ℕ → List (ℕ × ℕ) → Type 0
 AreUpTo turn [] = ⊤
-AreUpTo turn (x ∷ xs) = (x.full_in ≤ turn) × AreUpTo turn xs
+AreUpTo turn (x ∷ xs) = (x.1 ≤ turn) × AreUpTo turn xs
 
 -- each with a number from the one up to the other is full
-abbrev pub AreFull : ℕ → ℕ → ℕ → List Held → Type 0
+abbrev pub AreFull : ℕ → ℕ → ℕ → List (ℕ × ℕ) → Type 0
 AreFull turn from to [] = ⊤
-AreFull turn from to (x ∷ xs) = (from ≤ x.pipe → x.pipe < to → is_full_in turn x ≡ true) × AreFull turn from to xs
+AreFull turn from to (x ∷ xs) = (from ≤ x.0 → x.0 < to → is_full_in turn x ≡ true) × AreFull turn from to xs
 
 -- what a machine knows of them between two calls
-pub record AreKnown (turn : ℕ) (known : ℕ) (to : ℕ) (low : ℕ) (xs : List Held) : Type 0 where
-  pub rising : IsRising xs
+pub record AreKnown (turn : ℕ) (known : ℕ) (to : ℕ) (low : ℕ) (xs : List (ℕ × ℕ)) : Type 0 where
+  pub numbers : AreNumbers xs
   pub turns : AreUpTo turn xs
   pub begun : 1 ≤ turn
   pub behind : AreFull turn known to xs

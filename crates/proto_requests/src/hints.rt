@@ -3,9 +3,6 @@
 //! Entries, in the order in which they came, among them each one that is worth a look, and others as well. Where there
 //! was no room for one, all are.
 ghost use Rattle.std.specs.Prelude.{◌≡◌, ◌⊎◌, ◌++◌, ◌∷◌, Bool, true, false, [], drop, length};
-ghost use Rattle.std.specs.List.{slice_get};
-ghost use Rattle.std.specs.Fn.{CalledAt};
-ghost use Rattle.std.specs.List.Retain.{IsFiltered};
 ghost use Rattle.sp_history.specs.Lists.{head_of};
 ghost use Rattle.proto_requests.specs.Hints.{covers_by, StayCovered};
 
@@ -63,13 +60,6 @@ impl<T: Copy> Hints<T> {
         self.queue.front().copied()
     }
 
-    /// The one at this place.
-    pub fn at(&self, i: usize) -> Option<T>
-        ensures { result ≡ slice_get self.now.items i }
-    {
-        self.queue.get(i).copied()
-    }
-
     /// The oldest is not looked at any more.
     pub fn drop_first(&mut self)
         ensures { self.new ≡ record { whole = self.old.whole; items = drop 1 self.old.items } }
@@ -112,15 +102,6 @@ impl<T: Copy> Hints<T> {
             self.give_up();
         }
         other.clear();
-    }
-
-    /// Only those that pass the test are looked at any more.
-    pub fn retain<F: FnMut(&T) -> bool>(&mut self, keep: F)
-        requires { F.IsAlwaysCallable keep }
-        ensures filtered { IsFiltered (CalledAt F.FnMut) keep self.old.items self.new.items }
-        ensures whole { self.new.whole ≡ self.old.whole }
-    {
-        self.queue.retain(keep);
     }
 
     /// None is worth a look.

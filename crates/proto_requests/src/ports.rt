@@ -1,35 +1,28 @@
 //! The pipes that are up, and which of them were found full in this turn.
 //!
-//! They stand in the order of their numbers, so one is found by halving. Each has the number of the turn in which it was
-//! last found full, so that a new turn writes nothing to them. Those that are skipped because they are full are known
-//! by their numbers, so that they are not looked at again in this turn.
+//! They are held in the order of their numbers, in a map: to look one up, to add one or to take one out costs the
+//! logarithm of how many they are. Each has the number of the turn in which it was last found full, so that a new turn
+//! writes nothing to them. Those that are skipped because they are full are known by their numbers, so that they are
+//! not looked at again in this turn.
 ghost use Rattle.std.specs.Prelude.{◌≡◌, ◌++◌, ◌∷◌, [], OnOk, OnErr, not, map, filter, find};
-ghost use Rattle.std.specs.List.{position, list_any, list_all};
+ghost use Rattle.std.specs.List.{list_any, list_all};
 ghost use Rattle.std.specs.Option.{option_map};
 ghost use Rattle.std.specs.Prelude.{true, false, ◌==◌};
-ghost use Rattle.proto_requests.specs.Ports.{PortView, marked, cleared, is_pipe, is_free, is_free_behind, is_below, next_port, where_is, is_held, is_under, is_open, is_free_from, unmarked, number, begin_at, reached, IsRising};
+ghost use Rattle.proto_requests.specs.Ports.{PortView, marked, cleared, is_pipe, is_free, is_free_behind, is_below, next_port, where_is, is_under, is_free_from, unmarked, number, begin_at, reached, AreNumbers, AreFull};
 
 use sp_base::{NoMemory, PipeId};
 use std::alloc::Global;
+use std::collections::BTreeMap;
 use std::marker::Model;
 
 /// All numbers of pipes are below this.
 const END: u64 = 4_294_967_296;
 
-// A pipe that is up.
-#[derive(Clone, Copy)]
-struct Held {
-    /// Its number.
-    pipe: u32,
-    /// The turn in which it was last found full, or 0.
-    full_in: u64,
-}
-
 /// The pipes that are up.
 #[derive(Drop)]
 pub struct Ports {
-    /// In the order of their numbers.
-    held: Vec<Held>,
+    /// By its number, the turn in which each was last found full, or 0.
+    held: BTreeMap<u32, u64>,
     /// The number of this turn, from 1 on.
     turn: u64,
     /// Those with a number from this one up to `to` were found full in this turn.
@@ -45,9 +38,9 @@ impl Model for Ports {
 
     ghost Value = { PortsView };
 
-    ghost view = { λ m. record { items = map (port_in m.turn) m.held.items } };
+    ghost view = { λ m. record { items = map (port_in m.turn) m.held.entries } };
 
-    ghost invariant = { λ m. AreKnown m.turn m.from m.to m.front m.held.items };
+    ghost invariant = { λ m. AreKnown m.turn m.from m.to m.front m.held.entries };
 }
 
 /// Where a message may go.
@@ -61,55 +54,48 @@ pub enum Destination {
     To(PipeId),
 }
 
-// Where the pipe stands.
-fn place_of(held: &[Held], p: PipeId) -> Option<usize>
-    ensures { IsRising held.now → result ≡ position (is_held p) held.now }
-{
-    let i = held.partition_point(|x| x.pipe < p.0);
-    if i >= held.len() {
-        return None;
-    }
-    if held[i].pipe != p.0 {
-        return None;
-    }
-    Some(i)
-}
-
-// Where the first stands that is not full.
-fn free_place(held: &[Held], turn: u64) -> Option<usize>
-    ensures { result ≡ position (is_open turn) held.now }
-{
-    held.iter().position(|x| x.full_in != turn)
-}
-
 // The first from this number on that is not full.
-fn first_free(held: &[Held], turn: u64, from: u64) -> Option<u32>
-    ensures { IsRising held.now → result ≡ option_map number (find (is_free_from turn from) held.now) }
+fn first_free(held: &BTreeMap<u32, u64>, turn: u64, from: u64) -> Option<u32>
+    ensures port { AreNumbers held.now.entries → result ≡ option_map number (find (is_free_from turn from) held.now.entries) }
+    ensures full { AreNumbers held.now.entries → AreFull turn from (reached result) held.now.entries }
 {
-    let start = held.partition_point(|x| u64::from(x.pipe) < from);
-    match free_place(&held[start..], turn) {
-        None => None,
-        Some(i) => Some(held[start + i].pipe),
+    match u32::try_from(from) {
+        Ok(start) => first_open(held, turn, start),
+        Err(_) => None,
     }
+}
+
+// The same, from the number of a pipe on.
+fn first_open(held: &BTreeMap<u32, u64>, turn: u64, start: u32) -> Option<u32>
+    ensures port { result ≡ option_map number (find (is_free_from turn start) held.now.entries) }
+    ensures full { AreFull turn start (reached result) held.now.entries }
+{
+    for (p, full_in) in held.range(start..) {
+        if *full_in != turn {
+            return Some(*p);
+        }
+    }
+    None
 }
 
 // Each number is below this one.
-fn are_under(held: &[Held], p: PipeId) -> bool
-    ensures { IsRising held.now → result ≡ list_all (is_under p) held.now }
+fn are_under(held: &BTreeMap<u32, u64>, p: PipeId) -> bool
+    ensures { result ≡ list_all (is_under p) held.now.entries }
 {
-    match held.last() {
+    match held.last_key_value() {
         None => true,
-        Some(x) => x.pipe < p.0,
+        Some((last, _)) => *last < p.0,
     }
 }
 
 // Found full in no turn.
-fn restart(held: &mut [Held])
-    ensures { held.new ≡ map unmarked held.old }
+fn restart(held: &mut BTreeMap<u32, u64>)
+    ensures { held.new.entries ≡ map unmarked held.old.entries }
 {
-    for port in held.iter_mut() {
-        port.full_in = 0;
-    }
+    held.retain(|_, full_in| {
+        *full_in = 0;
+        true
+    });
 }
 
 // The number to begin at, in place of this one.
@@ -139,7 +125,7 @@ impl Ports {
         ensures { result ≡ record { items = [] } }
     {
         Ports {
-            held: Vec::new(alloc),
+            held: BTreeMap::new(alloc),
             turn: 1,
             from: 0,
             to: 0,
@@ -155,11 +141,7 @@ impl Ports {
         if !are_under(&self.held, p) {
             return Ok(());
         }
-        let more = Held {
-            pipe: p.0,
-            full_in: 0,
-        };
-        if self.held.push(more).is_err() {
+        if self.held.insert(p.0, 0).is_err() {
             return Err(NoMemory);
         }
         self.from = 0;
@@ -172,9 +154,9 @@ impl Ports {
     pub fn mark(&mut self, p: PipeId)
         ensures { self.new.items ≡ map (marked p) self.old.items }
     {
-        match place_of(&self.held, p) {
+        match self.held.get_mut(&p.0) {
             None => {}
-            Some(i) => self.held[i].full_in = self.turn,
+            Some(full_in) => *full_in = self.turn,
         }
     }
 
@@ -197,19 +179,14 @@ impl Ports {
     pub fn forget(&mut self, p: PipeId)
         ensures { self.new.items ≡ filter (λ (x : PortView). not (x.pipe == p)) self.old.items }
     {
-        match place_of(&self.held, p) {
-            None => {}
-            Some(i) => {
-                let _ = self.held.remove(i);
-            }
-        }
+        let _ = self.held.remove(&p.0);
     }
 
     /// The pipe is up.
     pub fn is_up(&self, p: PipeId) -> bool
         ensures { result ≡ list_any (is_pipe p) self.now.items }
     {
-        place_of(&self.held, p).is_some()
+        self.held.contains_key(&p.0)
     }
 
     /// Whether what goes to this pipe alone can go.
@@ -218,10 +195,10 @@ impl Ports {
     {
         match to {
             None => Destination::Nowhere,
-            Some(p) => match place_of(&self.held, p) {
+            Some(p) => match self.held.get(&p.0) {
                 None => Destination::Nowhere,
-                Some(i) => {
-                    if self.held[i].full_in == self.turn {
+                Some(full_in) => {
+                    if *full_in == self.turn {
                         Destination::Full
                     } else {
                         Destination::To(p)
