@@ -39,7 +39,7 @@ can_leave raw xs w = isnt_full (way_of raw xs w.answer)
 
 abbrev pub way_offer : OpName → Destination → Offer
 way_offer op (ways.To p) = offers.Send op p
-way_offer op ways.Full = offers.Drop op
+way_offer op ways.Full = offers.Idle
 way_offer op ways.Nowhere = offers.Drop op
 
 abbrev pub reply_offer : Bool → List PortView → Option WaitingReply → Offer

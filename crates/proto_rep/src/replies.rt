@@ -156,7 +156,7 @@ fn offer_of(raw: bool, ports: &Ports, w: &WaitingReply) -> Offer
 {
     match way_of(raw, ports, &w.answer) {
         Destination::To(pipe) => Offer::Send { op: w.op, pipe },
-        Destination::Full => Offer::Drop { op: w.op },
+        Destination::Full => Offer::Idle,
         Destination::Nowhere => Offer::Drop { op: w.op },
     }
 }
