@@ -1,8 +1,7 @@
 -- Live requests that are looked at when they are due: what keeps it so.
-use Rattle.std.proofs.Common.{◌≡◌, refl, ap, sym, ◌∙◌, List, [], ◌∷◌, ◌++◌, ℕ, ◌+◌, zero, suc, subst, ◌<◌, ◌≤◌, Bool, true, false, cond, arith, Option, Some, None, map, length, take, drop, filter, inl, inr}
-use Rattle.std.specs.Prelude.{◌⊎◌, find, not, is_some, nat_le, nat_lt, ◌&&◌, ◌||◌, ◌==◌}
-use Rattle.std.specs.List.{list_any, slice_get}
-use Rattle.std.specs.Option.{option_map}
+use Rattle.std.proofs.Common.{◌≡◌, refl, ap, sym, ◌∙◌, List, [], ◌∷◌, ◌++◌, ℕ, ◌+◌, ◌≤◌, subst, Bool, true, false, cond, arith, Option, Some, None, map, drop, filter, inl, inr}
+use Rattle.std.specs.Prelude.{◌⊎◌, find, IfNone, IfSome, not, is_some, nat_le, ◌&&◌, ◌||◌, ◌==◌}
+use Rattle.std.specs.List.{list_any}
 use Rattle.std.proofs.lemmas.Bool.Decides.{nat_tests}
 use Rattle.sp_history.specs.declared.parts.LastOut.{LastOut}
 use Rattle.sp_history.specs.Lists.{has, head_of}
@@ -11,8 +10,9 @@ use Rattle.proto_requests.specs.FirstFound.{with_found, without_found}
 use Rattle.proto_requests.specs.Hints.{HintsView, covers, covers_by}
 use Rattle.proto_reqrep.specs.declared.req.Live.{Live}
 use Rattle.proto_reqrep.specs.declared.req.KeptReply.{KeptReply}
-use Rattle.proto_reqrep.specs.declared.dues.SentOut.{SentOut}
-use Rattle.proto_reqrep.specs.Dues.{DuesView, AreSeen, AreInTime, StayLate, awaited, is_at, is_sent, is_seen, is_unseen, is_unseen_out}
+use Rattle.proto_reqrep.specs.declared.outs.SentOut.{SentOut}
+use Rattle.proto_reqrep.specs.Outs.{AreSince, IsOneLess, NoneOn, is_sent}
+use Rattle.proto_reqrep.specs.Dues.{DuesView, AreSeen, StayLate, awaited, is_at, is_seen, is_unseen, is_unseen_out}
 use Rattle.proto_reqrep.specs.Reqs.{is_live_on, live_ctx, sent_at}
 use Rattle.proto_requests.proofs.FirstPlaces.{none_as}
 use Rattle.proto_requests.proofs.KnownOperations.{any_less, any_more}
@@ -133,9 +133,6 @@ none_with P R Q f (x ∷ xs) c k h = let b = both_false (P x) (list_any P xs) h 
     go : (b : Bool) → Q x ≡ b → list_any P xs ≡ false → (R x || list_any R xs) ≡ false → list_any R (with_found Q f xs) ≡ false → list_any R (cond b (f x ∷ xs) (x ∷ with_found Q f xs)) ≡ false
     go true e g n again = ap (λ b. b || list_any R xs) (c x e) ∙ none_as P R xs k g
     go false e g n again = ap (λ b. b || list_any R (with_found Q f xs)) (both_false (R x) (list_any R xs) n).0 ∙ again
-
-pub same_sent : (c : ℕ) (o : LastOut) → is_sent c o (record { ctx = c; pipe = o.pipe; when = o.when }) ≡ true
-same_sent c o = both _ _ (same_number c) (both _ _ (same_number o.pipe) (same_number o.when))
 
 -- one goes out
 pub seen_sent : (v w : DuesView) (late : LastOut → Bool) (dry : ℕ → Bool) (last c : ℕ) (o : LastOut) (xs : List Live) → late o ≡ false → nat_le o.pipe last ≡ true → covers_by w.outs (is_sent c o) ≡ true
@@ -290,66 +287,6 @@ seen_cleared v late dry last due xs n k h = (go xs n h.0, h.1)
         let b = both_false (is_unseen v late dry last x) (list_any (is_unseen v late dry last) xs) h in
         ap (λ u. u || list_any (is_unseen w late dry last) xs) (one x x.reply refl x.last_out refl a.0 b.0) ∙ go xs a.1 b.1
 
--- ---- Outs in time
-
-pub in_time_later : (last next : ℕ) (es : List SentOut) → last ≤ next → AreInTime last es → AreInTime next es
-in_time_later last next [] l h = tt
-in_time_later last next (e ∷ es) l h = let k = h.0 in (omega (arith, k, l), h.1, in_time_later last next es l h.2)
-
-pub in_time_dropped : (last : ℕ) (es : List SentOut) → AreInTime last es → AreInTime last (drop 1 es)
-in_time_dropped last [] h = tt
-in_time_dropped last (e ∷ es) h = h.2
-
-pub in_time_more : (last : ℕ) (es : List SentOut) (e : SentOut) → e.when ≡ last → AreInTime last es → AreInTime last (es ++ e ∷ [])
-in_time_more last [] e s h = (omega (arith, s), refl, tt)
-in_time_more last (f ∷ es) e s h = let k = h.0 in (k, any_more (λ (g : SentOut). nat_lt g.when f.when) es (es ++ e ∷ []) e refl h.1 (not_before k), in_time_more last es e s h.2)
-  where
-    not_before : f.when ≤ last → nat_lt e.when f.when ≡ false
-    not_before k = grind (arith, nat_tests)
-
-pub in_time_some : (keep : SentOut → Bool) (last : ℕ) (es : List SentOut) → AreInTime last es → AreInTime last (filter keep es)
-in_time_some keep last [] h = tt
-in_time_some keep last (e ∷ es) h = go (keep e) (in_time_some keep last es h.2)
-  where
-    none_kept : (P : SentOut → Bool) (xs : List SentOut) → list_any P xs ≡ false → list_any P (filter keep xs) ≡ false
-    none_kept P [] n = refl
-    none_kept P (x ∷ xs) n = let b = both_false (P x) (list_any P xs) n in step (keep x) b.0 (none_kept P xs b.1)
-      where
-        step : (b : Bool) → P x ≡ false → list_any P (filter keep xs) ≡ false → list_any P (cond b (x ∷ filter keep xs) (filter keep xs)) ≡ false
-        step true q m = ap (λ u. u || list_any P (filter keep xs)) q ∙ m
-        step false q m = m
-
-    go : (b : Bool) → AreInTime last (filter keep es) → AreInTime last (cond b (e ∷ filter keep es) (filter keep es))
-    go true k = (h.0, none_kept (λ (f : SentOut). nat_lt f.when e.when) es h.1, k)
-    go false k = k
-
--- none behind one whose time has not come has come
-pub none_late : (resend now last c : ℕ) (o : LastOut) (e : SentOut) (es : List SentOut) → AreInTime last (e ∷ es) → nat_le (e.when + resend) now ≡ false → nat_le (o.when + resend) now ≡ true → list_any (is_sent c o) (e ∷ es) ≡ false
-none_late resend now last c o e es h n m = ap (λ b. b || list_any (is_sent c o) es) (early e (at_most e refl)) ∙ none_as (λ (f : SentOut). nat_lt f.when e.when) (is_sent c o) es (λ f k. before f (same_when f k)) h.1
-  where
-    same_when : (f : SentOut) → is_sent c o f ≡ true → f.when ≡ o.when
-    same_when f k = equal_of f.when o.when (second_of (f.pipe == o.pipe) _ (second_of (f.ctx == c) _ k))
-
-    before : (f : SentOut) → f.when ≡ o.when → nat_lt f.when e.when ≡ true
-    before f k = grind (arith, nat_tests)
-
-    at_most : (f : SentOut) → f ≡ e → f.when ≡ o.when → ⊥
-    at_most f q k = let z : e.when ≡ o.when = sym (ap (λ (g : SentOut). g.when) q) ∙ k in never z
-      where
-        never : e.when ≡ o.when → ⊥
-        never z = grind (arith, nat_tests)
-
-    early : (f : SentOut) → (f.when ≡ o.when → ⊥) → is_sent c o f ≡ false
-    early f k = go (is_sent c o f) refl
-      where
-        go : (b : Bool) → is_sent c o f ≡ b → b ≡ false
-        go false q = refl
-        go true q = absurd (k (same_when f q))
-
-none_late_head : (resend now last c : ℕ) (o : LastOut) (e : SentOut) (es : List SentOut) → Some e ≡ head_of es → AreInTime last es → nat_le (e.when + resend) now ≡ false → nat_le (o.when + resend) now ≡ true → list_any (is_sent c o) es ≡ false
-none_late_head resend now last c o e [] q h n m = refl
-none_late_head resend now last c o e (f ∷ es) q h n m = none_late resend now last c o f es h (ap (λ (g : SentOut). nat_le (g.when + resend) now) (sym (some_inj e f q)) ∙ n) m
-
 -- ---- What is among the Outs
 
 known_or : {A : Type 0} (h : HintsView A) (P : A → Bool) → covers_by h P ≡ true → (h.whole ≡ false) ⊎ (list_any P h.items ≡ true)
@@ -416,15 +353,44 @@ module _ (h g : HintsView SentOut) (e : SentOut) (f : Some e ≡ head_of h.items
       go true q = inr (d q)
       go false q = inl (dropped_first (is_sent c o) q k)
 
-  pub in_time_first : (last : ℕ) → AreInTime last h.items → AreInTime last g.items
-  in_time_first last t = subst (λ (v : HintsView SentOut). AreInTime last v.items) (sym s) (in_time_dropped last h.items t)
-
--- none is left whose time has come
-pub none_come : {A : Type 0} (resend now last c : ℕ) (o : LastOut) (e : SentOut) (h : HintsView SentOut) → Some e ≡ head_of h.items → h.whole ≡ true → AreInTime last h.items → nat_le (e.when + resend) now ≡ false → nat_le (o.when + resend) now ≡ true → covers_by h (is_sent c o) ≡ true → A
-none_come resend now last c o e h f w t n m k = let bad : true ≡ false = sym k ∙ ap (λ b. not b || list_any (is_sent c o) h.items) w ∙ none_late_head resend now last c o e h.items f t n m in absurd cc
+-- none is left whose time has come, where that of the first has not
+pub none_come : {A : Type 0} (resend now c t : ℕ) (o : LastOut) (h : HintsView SentOut) → AreSince t h.items → h.whole ≡ true → nat_le (t + resend) now ≡ false → nat_le (o.when + resend) now ≡ true → covers_by h (is_sent c o) ≡ true → A
+none_come resend now c t o h f w n m k = let later : t ≤ o.when = f c o (sym (ap (λ b. not b || list_any (is_sent c o) h.items) w) ∙ k) in absurd (never later)
+  where
+    never : t ≤ o.when → ⊥
+    never l = grind (arith, nat_tests)
 
 pub none_there : {A : Type 0} (c : ℕ) (o : LastOut) (h : HintsView SentOut) → h.items ≡ [] → h.whole ≡ true → covers_by h (is_sent c o) ≡ true → A
 none_there c o h f w k = let bad : true ≡ false = sym k ∙ ap (λ b. not b || list_any (is_sent c o) h.items) w ∙ ap (list_any (is_sent c o)) f in absurd cc
+
+module _ (h g : HintsView SentOut) (p e : ℕ) (s : g.whole ≡ h.whole) (l : IsOneLess p e h.items g.items) (c : ℕ) (o : LastOut) where
+  still : (b : Bool) → is_sent c o l.gone ≡ b → b ≡ false → list_any (is_sent c o) h.items ≡ true → list_any (is_sent c o) g.items ≡ true
+  still true q n k = absurd cc
+  still false q n k = l.others c o ∙ ap (λ b. cond b false (list_any (is_sent c o) h.items)) q ∙ k
+
+  -- one on the pipe is gone, and the other is on another pipe
+  pub off_kept : (o.pipe == p) ≡ false → covers_by h (is_sent c o) ≡ true → covers_by g (is_sent c o) ≡ true
+  off_kept n k = ap (λ b. not b || list_any (is_sent c o) g.items) s ∙ go h.whole k
+    where
+      other : (b : Bool) → is_sent c o l.gone ≡ b → b ≡ false
+      other false q = refl
+      other true q = let bad : true ≡ false = sym (same_number p) ∙ ap (λ m. m == p) (sym l.on ∙ sent_pipe c o l.gone q) ∙ n in absurd cc
+
+      go : (b : Bool) → (not b || list_any (is_sent c o) h.items) ≡ true → (not b || list_any (is_sent c o) g.items) ≡ true
+      go false k = refl
+      go true k = still (is_sent c o l.gone) refl (other (is_sent c o l.gone) refl) k
+
+  -- it is the one that is gone, or is still there
+  pub gone_or : list_any (is_sent c o) h.items ≡ true → (list_any (is_sent c o) g.items ≡ true) ⊎ (e ≡ c)
+  gone_or k = go (is_sent c o l.gone) refl
+    where
+      go : (b : Bool) → is_sent c o l.gone ≡ b → (list_any (is_sent c o) g.items ≡ true) ⊎ (e ≡ c)
+      go true q = inr (sym l.of ∙ sent_ctx c o l.gone q)
+      go false q = inl (still false q refl k)
+
+-- none on the pipe is left
+pub none_on : {A : Type 0} (p c : ℕ) (o : LastOut) (es : List SentOut) → NoneOn p es → (o.pipe == p) ≡ true → list_any (is_sent c o) es ≡ true → A
+none_on p c o es n e k = let bad : true ≡ false = sym k ∙ n c o (equal_of o.pipe p e) in absurd cc
 
 -- all are looked at, or it is among them
 pub looked_or : (h : HintsView SentOut) (P : SentOut → Bool) (B : Type 0) → (h.whole ≡ false → B) → (list_any P h.items ≡ true → B) → covers_by h P ≡ true → B
@@ -434,33 +400,15 @@ looked_or h P B a b k = go (known_or h P k)
     go (inl e) = a e
     go (inr e) = b e
 
--- ---- A place more
+-- ---- What a call returned
 
-pub any_taken : {A : Type 0} (P : A → Bool) (n : ℕ) (xs : List A) → list_any P (take (n + 1) xs) ≡ true → (list_any P (take n xs) ≡ true) ⊎ ((x : A) × (slice_get xs n ≡ Some x) × (P x ≡ true))
-any_taken P zero [] h = absurd cc
-any_taken P (suc n) [] h = let bad : false ≡ true = ap (λ k. list_any P (take k [])) (next n) ∙ h in absurd cc
-  where
-    next : (n : ℕ) → suc (suc n) ≡ suc n + 1
-    next n = omega arith
-any_taken P zero (x ∷ xs) h = inr (x, refl, first (P x) h)
-  where
-    first : (b : Bool) → (b || false) ≡ true → b ≡ true
-    first true h = refl
-    first false h = h
-any_taken P (suc n) (x ∷ xs) h = go (P x) (ap (λ k. list_any P (take k (x ∷ xs))) (next n) ∙ h) (any_taken P n xs)
-  where
-    next : (n : ℕ) → suc (n + 1) ≡ suc n + 1
-    next n = omega arith
+pub one_in : {A : Type 0} (P : A → Type 0) (r : Option A) (x : A) → r ≡ Some x → IfSome r P → P x
+one_in P (Some y) x e h = subst P (some_inj y x e) h
+one_in P None x e h = absurd cc
 
-    go : (b : Bool) → (b || list_any P (take (n + 1) xs)) ≡ true → (list_any P (take (n + 1) xs) ≡ true → (list_any P (take n xs) ≡ true) ⊎ ((y : _) × (slice_get xs n ≡ Some y) × (P y ≡ true))) → ((b || list_any P (take n xs)) ≡ true) ⊎ ((y : _) × (slice_get xs n ≡ Some y) × (P y ≡ true))
-    go true h again = inl refl
-    go false h again = again h
-
-pub take_all : {A : Type 0} (n : ℕ) (xs : List A) → length xs ≤ n → take n xs ≡ xs
-take_all zero [] l = refl
-take_all (suc n) [] l = refl
-take_all zero (x ∷ xs) l = absurd (omega (arith, l))
-take_all (suc n) (x ∷ xs) l = ap (λ (rest : List _). x ∷ rest) (take_all n xs (omega (arith, l)))
+pub none_in : {A : Type 0} (P : Type 0) (r : Option A) → r ≡ None → IfNone r P → P
+none_in P None e h = h
+none_in P (Some y) e h = absurd cc
 
 -- ---- Cases
 
@@ -493,10 +441,6 @@ seen_dry v g late dry now last c xs s d it more h = seen_all v (record { due = v
     at : (q : ℕ) (o : LastOut) (b : Bool) → cond b (dry q || covers v.due q) (covers_by v.outs (is_sent q o)) ≡ true → cond b (now q || covers v.due q) (covers_by v.outs (is_sent q o)) ≡ true
     at q o true k = looked q (dry q) refl k
     at q o false k = k
-
-pub added_in_time : (last : ℕ) (es fs : List SentOut) (e : SentOut) → e.when ≡ last → (fs ≡ es ++ e ∷ []) ⊎ (fs ≡ []) → AreInTime last es → AreInTime last fs
-added_in_time last es fs e s (inl f) h = rw f (in_time_more last es e s h)
-added_in_time last es fs e s (inr f) h = rw f tt
 
 pub on_pipe : (o : LastOut) (p : ℕ) (late : LastOut → Bool) → (late o ≡ true) ⊎ (o.pipe ≡ p) → (late o ≡ true) ⊎ ((o.pipe == p) ≡ true)
 on_pipe o p late (inl e) = inl e

@@ -6,6 +6,7 @@ pub mod OwnedRequests
 pub mod Requested
 pub mod LiveIndexes
 pub mod WorkLeft
+pub mod KeyedOuts
 pub mod DueRequests
 pub mod RequestsDue
 pub mod Hinted

@@ -15,7 +15,8 @@ use Rattle.proto_reqrep.specs.declared.req.Request.{Request as Machine}
 use Rattle.proto_reqrep.specs.declared.req.Live.{Live}
 use Rattle.proto_reqrep.specs.declared.req.KeptReply.{KeptReply}
 use Rattle.proto_reqrep.specs.Seats.{SeatView}
-use Rattle.proto_reqrep.specs.Dues.{DuesView, AreSeen, StaySeen, StayLate, awaited, is_sent, is_seen}
+use Rattle.proto_reqrep.specs.Dues.{DuesView, AreSeen, StaySeen, StayLate, awaited, is_seen}
+use Rattle.proto_reqrep.specs.Outs.{is_sent}
 use Rattle.proto_reqrep.specs.Reqs.{Ties, Asks, IsSeen, IsDueOn, NotesOut, is_live_on, live_ctx, without_live, sent_at, is_late, is_late_in, due_in, late_in, dry_in, is_due_out, dry_at, dried, wetted}
 use Rattle.proto_requests.proofs.TestValues.{both_false, equal_of, same_number, some_inj}
 use Rattle.proto_reqrep.proofs.RequestLives.{found_ctx, gone_on}

@@ -1,20 +1,17 @@
 -- Which live requests are looked at when they are due.
-use Rattle.std.specs.Prelude.{◌≡◌, ◌≤◌, ◌⊎◌, ◌+◌, ℕ, ◌==◌, ◌&&◌, ◌||◌, nat_le, nat_lt, Bool, true, false, not, ⊤, if◌then◌else◌, List, [], ◌∷◌, Option, Some, None, is_some}
+use Rattle.std.specs.Prelude.{◌≡◌, ◌⊎◌, ◌+◌, ℕ, ◌==◌, ◌&&◌, ◌||◌, nat_le, Bool, true, false, not, if◌then◌else◌, List, Option, Some, None, is_some}
 use Rattle.std.specs.List.{list_any}
 use Rattle.sp_history.specs.declared.parts.LastOut.{LastOut}
 use Rattle.proto_requests.specs.Hints.{HintsView, covers, covers_by}
 use Rattle.proto_reqrep.specs.declared.req.Live.{Live}
-use Rattle.proto_reqrep.specs.declared.dues.SentOut.{SentOut}
+use Rattle.proto_reqrep.specs.declared.outs.SentOut.{SentOut}
+use Rattle.proto_reqrep.specs.Outs.{is_sent}
 
 -- the contexts of requests that may be due, those of requests that were due when there was no memory, and what went out
 pub record DuesView : Type 0 where
   pub due : HintsView ℕ
   pub dry : HintsView ℕ
   pub outs : HintsView SentOut
-
--- it went out so for the context
-abbrev pub is_sent : ℕ → LastOut → SentOut → Bool
-is_sent c o e = (e.ctx == c) && ((e.pipe == o.pipe) && (e.when == o.when))
 
 -- its pipe came up, and the context is looked at: if it is late, before the next request goes out again, or after the
 -- tick where it is dry; else when it is late
@@ -63,15 +60,6 @@ IsLater late later T = StayLate late later × ((o : LastOut) → later o ≡ tru
 abbrev pub NotesDry : DuesView → DuesView → ℕ → Type 0
 NotesDry old new c = (late : LastOut → Bool) (dry now : ℕ → Bool) (last : ℕ) (xs : List Live) → ((q : ℕ) → (q == c) ≡ false → now q ≡ dry q) → (dry c ≡ true → now c ≡ true) → AreSeen old late dry last xs → AreSeen new late now last xs
 
--- what is not past is still among them
-abbrev pub KeepRecent : (LastOut → Bool) → HintsView SentOut → HintsView SentOut → Type 0
-KeepRecent past old new = (c : ℕ) (o : LastOut) → past o ≡ false → covers_by old (is_sent c o) ≡ true → covers_by new (is_sent c o) ≡ true
-
--- none is later than one behind it, nor than this tick
-abbrev pub AreInTime : ℕ → List SentOut → Type 0
-AreInTime last [] = ⊤
-AreInTime last (e ∷ es) = (e.when ≤ last) × (list_any (λ (f : SentOut). nat_lt f.when e.when) es ≡ false) × AreInTime last es
-
--- that stays so
-abbrev pub StayInTime : List SentOut → List SentOut → Type 0
-StayInTime old new = (last : ℕ) → AreInTime last old → AreInTime last new
+-- of what is so, each that is among these is looked at
+abbrev pub LookAtAll : (LastOut → Bool) → List SentOut → HintsView ℕ → Type 0
+LookAtAll so es due = (c : ℕ) (o : LastOut) → so o ≡ true → list_any (is_sent c o) es ≡ true → covers due c ≡ true

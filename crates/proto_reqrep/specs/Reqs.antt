@@ -27,8 +27,9 @@ use Rattle.sp_proto.specs.declared.Verb.TheVariants as verbs
 use Rattle.sp_proto.specs.declared.Verdict.{Verdict}
 use Rattle.sp_proto.specs.declared.Verdict.TheVariants as verdict
 use Rattle.proto_requests.specs.Ports.{PortView, Knows, is_pipe, free_count, next_number as next_pipe}
-use Rattle.proto_reqrep.specs.Dues.{DuesView, AreSeen, AreInTime, StaySeen, IsLater, awaited, is_sent}
-use Rattle.proto_reqrep.specs.declared.dues.SentOut.{SentOut}
+use Rattle.proto_reqrep.specs.Dues.{DuesView, AreSeen, StaySeen, IsLater, awaited, is_at}
+use Rattle.proto_reqrep.specs.Outs.{is_sent}
+use Rattle.proto_reqrep.specs.declared.outs.SentOut.{SentOut}
 use Rattle.proto_requests.specs.Hints.{HintsView, covers, covers_by}
 use Rattle.std.specs.Option.{option_map}
 use Rattle.proto_reqrep.specs.declared.req.Request.{Request as Machine}
@@ -229,13 +230,17 @@ IsDueOn m c = (x : Live) × (find (is_live_on c) m.live.items ≡ Some x) × (du
 abbrev pub IsSeen : Machine → ℕ → Type 0
 IsSeen m last = AreSeen m.dues (late_in m) (dry_in m) last m.live.items
 
+-- its request waits for a reply since it went out so
+abbrev pub is_awaited : List Live → SentOut → Bool
+is_awaited xs e = is_at e (out_of xs e.ctx)
+
 -- what waits for a reply since it went out so is still among them
 abbrev pub KeepAwaited : List Live → HintsView SentOut → HintsView SentOut → Type 0
 KeepAwaited xs old new = (c : ℕ) (o : LastOut) → out_of xs c ≡ Some o → covers_by old (is_sent c o) ≡ true → covers_by new (is_sent c o) ≡ true
 
 -- of what is past and was among the Outs, each that waits for a reply is looked at
 abbrev pub LookAtPast : (LastOut → Bool) → List Live → HintsView SentOut → HintsView ℕ → Type 0
-LookAtPast past xs outs due = (last c : ℕ) (o : LastOut) → AreInTime last outs.items → outs.whole ≡ true → past o ≡ true → out_of xs c ≡ Some o → covers_by outs (is_sent c o) ≡ true → covers due c ≡ true
+LookAtPast past xs outs due = (c : ℕ) (o : LastOut) → outs.whole ≡ true → past o ≡ true → out_of xs c ≡ Some o → covers_by outs (is_sent c o) ≡ true → covers due c ≡ true
 
 -- where more is late, by this, and other contexts are dry, each request that waits for a reply is still looked at when it
 -- is due

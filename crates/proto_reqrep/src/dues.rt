@@ -1,32 +1,24 @@
 //! Which live requests are looked at because they may be due.
 //!
-//! What went out stands in a queue, in the order of its time, so that a tick looks only at its front. Once its time has
-//! come, or its pipe is down, its context is looked at before the next request goes out again. A context for which a copy
-//! found no memory is looked at again after the next tick. What is left of requests that ended is dropped where it comes
-//! to more than the live ones.
-ghost use Rattle.std.specs.Prelude.{◌≡◌, ◌+◌, ℕ, List, [], Some, true, false, nat_le, drop};
-ghost use Rattle.std.specs.List.{list_any, slice_get};
-ghost use Rattle.sp_history.specs.declared.parts.LastOut.{LastOut as LastOutType};
+//! What went out is found in the order of its time and by its pipe (`outs`), so a tick and a pipe that goes down take out
+//! only what they look at. Once its time has come, or its pipe is down, its context is looked at before the next request
+//! goes out again. A context for which a copy found no memory is looked at again after the next tick. What is left of
+//! requests that ended is dropped by a pass over all that went out, once these are more than twice the live requests; after
+//! it they are no more than those.
+ghost use Rattle.std.specs.Prelude.{◌≡◌, ◌==◌, ◌+◌, ℕ, List, [], true, false, nat_le, drop};
 ghost use Rattle.sp_history.specs.Lists.{head_of};
-ghost use Rattle.proto_requests.specs.Hints.{covers, StayAmong, StayCovered};
+ghost use Rattle.proto_requests.specs.Hints.{covers, StayAmong};
 ghost use Rattle.proto_reqrep.specs.declared.req.Live.{Live as LiveType};
-ghost use Rattle.proto_reqrep.specs.declared.dues.SentOut.{SentOut as SentOutType};
-ghost use Rattle.proto_reqrep.specs.Dues.{AreInTime, StayInTime, StaySeen, KeepRecent, NotesDry, is_at, is_past, is_sent};
-ghost use Rattle.proto_reqrep.specs.Reqs.{OnePerContext, KeepAwaited, LookAtPast, NotesOut, SeeLater, out_of};
+ghost use Rattle.proto_reqrep.specs.Outs.{KeepOthers};
+ghost use Rattle.proto_reqrep.specs.Dues.{LookAtAll, StaySeen, NotesDry, is_past};
+ghost use Rattle.proto_reqrep.specs.Reqs.{OnePerContext, KeepAwaited, LookAtPast, NotesOut, SeeLater, is_awaited};
 
 use crate::lives::Lives;
+use crate::outs::{Outs, SentOut, is_awaited};
 use proto_requests::hints::Hints;
 use sp_base::{Ctx, NoMemory, PipeId, Tick};
 use std::alloc::Global;
 use std::marker::Model;
-
-/// On which pipe the request of a context went out, and when.
-#[derive(Clone, Copy)]
-pub struct SentOut {
-    pub ctx: Ctx,
-    pub pipe: PipeId,
-    pub when: Tick,
-}
 
 /// What may be due.
 #[derive(Drop)]
@@ -35,20 +27,16 @@ pub struct Dues {
     due: Hints<u32>,
     /// Those of requests that were due when there was no memory for a copy.
     dry: Hints<u32>,
-    /// What went out, in the order of its time.
-    outs: Hints<SentOut>,
-    /// Nothing of it went out after this.
-    last: Tick,
+    /// What went out.
+    outs: Outs,
 }
 
 impl Model for Dues {
-    ghost use Rattle.proto_reqrep.specs.Dues.{DuesView, AreInTime};
+    ghost use Rattle.proto_reqrep.specs.Dues.{DuesView};
 
     ghost Value = { DuesView };
 
     ghost view = { λ m. record { due = m.due; dry = m.dry; outs = m.outs } };
-
-    ghost invariant = { λ m. AreInTime m.last m.outs.items };
 }
 
 /// So long ago is it, or longer.
@@ -58,35 +46,14 @@ pub fn is_past(when: Tick, now: Tick, resend: u64) -> bool
     when.0 <= now.0 && now.0 - when.0 >= resend
 }
 
-// The request waits for a reply since it went out so.
-fn is_awaited(live: &Lives, e: &SentOut) -> bool
-    ensures { result ≡ is_at e.now (out_of live.now.items e.now.ctx) }
-{
-    match live.out_of(e.ctx) {
-        None => false,
-        Some(out) => e.pipe.0 == out.pipe.0 && e.when.0 == out.when.0,
-    }
-}
-
 // ---- What went out
 
-// Nothing went out after this, or it is forgotten.
-fn put_in_time(outs: &mut Hints<SentOut>, last: Tick, when: Tick)
-    ensures time { AreInTime last outs.old.items → AreInTime when outs.new.items }
-    ensures more { StayCovered outs.old outs.new }
-{
-    if when.0 < last.0 {
-        outs.give_up();
-    }
-}
-
 // What waits for no reply is dropped, if it is more than so many.
-fn shorten(outs: &mut Hints<SentOut>, live: &Lives, many: usize)
-    ensures kept { KeepAwaited live.now.items outs.old outs.new }
-    ensures time { StayInTime outs.old.items outs.new.items }
+fn shorten(outs: &mut Outs, live: &Lives, many: usize)
+    ensures { KeepAwaited live.now.items outs.old outs.new }
 {
     if outs.len() / 2 > many {
-        outs.retain(|e| is_awaited(live, e));
+        outs.keep_awaited(live);
     }
 }
 
@@ -113,7 +80,7 @@ fn look_at_all(due: &mut Hints<u32>, known: bool)
 
 // The context is looked at, if its request waits for a reply since it went out so.
 fn look_if_awaited(due: &mut Hints<u32>, live: &Lives, e: &SentOut)
-    ensures it { is_at e.now (out_of live.now.items e.now.ctx) ≡ true → covers due.new e.now.ctx ≡ true }
+    ensures it { is_awaited live.now.items e.now ≡ true → covers due.new e.now.ctx ≡ true }
     ensures more { StayAmong due.old due.new }
 {
     if is_awaited(live, e) {
@@ -121,29 +88,12 @@ fn look_if_awaited(due: &mut Hints<u32>, live: &Lives, e: &SentOut)
     }
 }
 
-// The context is looked at, if it went out on the pipe.
-fn look_if_on(due: &mut Hints<u32>, e: &SentOut, p: PipeId)
-    ensures it { e.now.pipe ≡ p → covers due.new e.now.ctx ≡ true }
-    ensures more { StayAmong due.old due.new }
-{
-    if e.pipe.0 == p.0 {
-        due.add(e.ctx.0);
-    }
-}
-
 // Those whose time has come are looked at.
-fn look_at_late(
-    outs: &mut Hints<SentOut>,
-    due: &mut Hints<u32>,
-    live: &Lives,
-    now: Tick,
-    resend: u64,
-)
+fn look_at_late(outs: &mut Outs, due: &mut Hints<u32>, live: &Lives, now: Tick, resend: u64)
     ensures whole { outs.new.whole ≡ outs.old.whole }
-    ensures kept { KeepRecent (is_past resend now) outs.old outs.new }
+    ensures kept { KeepOthers (is_past resend now) outs.old outs.new }
     ensures late { LookAtPast (is_past resend now) live.now.items outs.old due.new }
     ensures more { StayAmong due.old due.new }
-    ensures time { StayInTime outs.old.items outs.new.items }
 {
     while let Some(e) = outs.first() {
         if !is_past(e.when, now, resend) {
@@ -154,41 +104,30 @@ fn look_at_late(
     }
 }
 
-// The context of this place is looked at, if it went out on the pipe.
-fn look_at_place(outs: &Hints<SentOut>, due: &mut Hints<u32>, i: usize, p: PipeId)
-    ensures it { (e : SentOutType) → slice_get outs.now.items i ≡ Some e → e.pipe ≡ p → covers due.new e.ctx ≡ true }
-    ensures more { StayAmong due.old due.new }
-{
-    match outs.at(i) {
-        None => {}
-        Some(e) => look_if_on(due, &e, p),
-    }
-}
-
 // Those that went out on the pipe are looked at.
-fn look_at_down(outs: &Hints<SentOut>, due: &mut Hints<u32>, p: PipeId)
-    ensures down { (c : ℕ) (o : LastOutType) → o.pipe ≡ p → list_any (is_sent c o) outs.now.items ≡ true → covers due.new c ≡ true }
+fn look_at_down(outs: &mut Outs, due: &mut Hints<u32>, p: PipeId)
+    ensures whole { outs.new.whole ≡ outs.old.whole }
+    ensures kept { KeepOthers (λ o. o.pipe == p) outs.old outs.new }
+    ensures down { LookAtAll (λ o. o.pipe == p) outs.old.items due.new }
     ensures more { StayAmong due.old due.new }
 {
-    for i in 0..outs.len() {
-        look_at_place(outs, due, i, p);
+    while let Some(c) = outs.pop_on(p) {
+        due.add(c.0);
     }
 }
 
-// Takes the room for so many more of each, and to look at all that went out.
+// Takes the room to look at so many more, and at all that went out.
 fn make_room(
     due: &mut Hints<u32>,
     dry: &mut Hints<u32>,
-    outs: &mut Hints<SentOut>,
+    outs: &Outs,
     more: usize,
 ) -> Result<(), NoMemory>
     ensures due { due.new ≡ due.old }
     ensures dry { dry.new ≡ dry.old }
-    ensures outs { outs.new ≡ outs.old }
 {
     due.reserve(more.saturating_add(outs.len()))?;
-    dry.reserve(more)?;
-    outs.reserve(more)
+    dry.reserve(more)
 }
 
 impl Dues {
@@ -197,8 +136,7 @@ impl Dues {
         Dues {
             due: Hints::new(alloc),
             dry: Hints::new(alloc),
-            outs: Hints::new(alloc),
-            last: Tick(0),
+            outs: Outs::new(alloc),
         }
     }
 
@@ -210,7 +148,7 @@ impl Dues {
         limit(&mut self.due, many);
         limit(&mut self.dry, many);
         let more = many.saturating_add(2);
-        make_room(&mut self.due, &mut self.dry, &mut self.outs, more)
+        make_room(&mut self.due, &mut self.dry, &self.outs, more)
     }
 
     /// Drops what is left of requests that ended, where it comes to more than the live ones. Takes no memory.
@@ -220,12 +158,10 @@ impl Dues {
         shorten(&mut self.outs, live, live.len());
     }
 
-    /// The request of the context goes out, at no earlier tick than any before.
+    /// The request of the context goes out. Where there is no memory to note it, all live requests are looked at later.
     pub fn note_out(&mut self, c: Ctx, pipe: PipeId, when: Tick)
         ensures { (xs : List LiveType) → NotesOut self.old self.new xs c (record { pipe = pipe; when = when }) }
     {
-        put_in_time(&mut self.outs, self.last, when);
-        self.last = when;
         self.outs.add(SentOut { ctx: c, pipe, when });
     }
 
@@ -250,8 +186,7 @@ impl Dues {
         ensures { (xs : List LiveType) → SeeLater self.old self.new (λ o. o.pipe ≡ p) (λ dry. dry) xs }
     {
         look_at_all(&mut self.due, self.outs.is_whole());
-        look_at_down(&self.outs, &mut self.due, p);
-        self.outs.retain(|e| e.pipe.0 != p.0);
+        look_at_down(&mut self.outs, &mut self.due, p);
     }
 
     /// All that may be due are looked at by their contexts.

@@ -6,9 +6,10 @@
 //! waits for it then is to be finished. Raw, the first word of a message is its header.
 //!
 //! `lives` has the live requests, found by context and by id, and what goes out again for each. `dues` has which of them
-//! are looked at because they may be due, `seats` the open contexts; pipes, replies that are kept raw and operations that
-//! wait are parts of `proto_requests`. `req` puts them together, and is what a core calls; `offers` finds what can be done.
-//! To read: `Ties` in `specs/Reqs`, then `Dues` and the calls of the trait in `req`.
+//! are looked at because they may be due, with `outs`, what went out; `seats` has the open contexts; pipes, replies that
+//! are kept raw and operations that wait are parts of `proto_requests`. `req` puts them together, and is what a core
+//! calls; `offers` finds what can be done. To read: `Ties` in `specs/Reqs`, then `Dues` and the calls of the trait in
+//! `req`.
 //!
 //! `Reply` is a rep, or a respondent, as `proto_rep` has it.
 #![tactic(auto)]
@@ -16,6 +17,7 @@
 mod dues;
 mod lives;
 mod offers;
+mod outs;
 mod req;
 mod seats;
 

@@ -1,26 +1,32 @@
-use Rattle.std.proofs.Common.{◌∙◌, ap, sym, arith}
-use Rattle.std.specs.List.{list_any}
+use Rattle.std.proofs.Common.{◌≡◌, ◌∙◌, ap, sym, refl, ℕ, true, inl, inr, arith, rules}
+use Rattle.std.specs.Prelude.{◌==◌}
 use Rattle.proto_requests.specs.Hints.{covers}
-use Rattle.proto_reqrep.specs.Dues.{is_sent}
-use Rattle.proto_reqrep.proofs.DueRequests.{any_taken, take_all, sent_ctx, sent_pipe, case_of}
+use Rattle.proto_requests.proofs.TestValues.{same_number}
+use Rattle.proto_reqrep.specs.Outs.{IsOneLess, NoneOn}
+use Rattle.proto_reqrep.proofs.DueRequests.{off_kept, gone_or, none_on, one_in, none_in, case_of}
 use Rattle.proto_reqrep.proofs.dues.look_at_down.Goals as goal
 
-pub loop-i-init : goal.loop-i-init
-loop-i-init c = record { down = λ x o e k. absurd cc; more = λ q k. k }
+pub loop-c-init : goal.loop-c-init
+loop-c-init c = record { whole = refl; kept = λ x o n k. k; down = λ x o m k. inl k; more = λ q k. k }
 
-pub loop-i-preserved : goal.loop-i-preserved
-loop-i-preserved c =
+pub loop-c-smaller : goal.loop-c-smaller
+loop-c-smaller c = let e = (one_in (λ (n : ℕ). IsOneLess c.args.p n c.loop-c.outs.items c.pop_on.new.self.items) c.pop_on.result c.in-Some.c c.in-Some.is c.pop_on.ensures.one).fewer in omega (arith, e)
+
+pub loop-c-preserved : goal.loop-c-preserved
+loop-c-preserved c =
+    let at = c.loop-c.invariant in
+    let one = one_in (λ (n : ℕ). IsOneLess c.args.p n c.loop-c.outs.items c.pop_on.new.self.items) c.pop_on.result c.in-Some.c c.in-Some.is c.pop_on.ensures.one in
+    let is : c.c.inside.0 ≡ c.in-Some.c = search rules in
+    let it = c.add.ensures.more (λ n. n == c.in-Some.c) (ap (λ n. n == c.in-Some.c) is ∙ same_number c.in-Some.c) in
+    let more = λ (q : ℕ) (k : covers c.loop-c.due q ≡ true). c.add.ensures.same (λ n. n == q) k in
     record {
-      down = λ x o e k.
-          case_of (λ n. c.look_at_place.ensures.more x (c.loop-i.invariant.down x o e n)) (λ y. ap (covers c.look_at_place.new.due) (sym (sent_ctx x o y.0 y.2)) ∙ c.look_at_place.ensures.it y.0 y.1 (sent_pipe x o y.0 y.2 ∙ e)) (any_taken (is_sent x o) c.loop-i.i c.args.outs.now.items k);
-      more = λ q k. c.look_at_place.ensures.more q (c.loop-i.invariant.more q k);
+      whole = c.pop_on.ensures.whole ∙ at.whole;
+      kept = λ x o n k. off_kept c.loop-c.outs c.pop_on.new.self c.args.p c.in-Some.c c.pop_on.ensures.whole one x o n (at.kept x o n k);
+      down = λ x o m k.
+          case_of (λ h. case_of (λ g. inl g) (λ e. inr (ap (covers c.add.new.self) (sym e) ∙ it)) (gone_or c.loop-c.outs c.pop_on.new.self c.args.p c.in-Some.c c.pop_on.ensures.whole one x o h)) (λ d. inr (more x d)) (at.down x o m k);
+      more = λ q k. more q (at.more q k);
     }
 
 pub returns-clause-down : goal.returns-clause-down
-returns-clause-down c = λ x o e k.
-    let l = c.loop-i-test.false in
-    let n = c.len-i-end.ensures in
-    c.loop-i.invariant.down x o e (ap (list_any (is_sent x o)) (take_all c.loop-i.i c.args.outs.now.items (omega (arith, l, n))) ∙ k)
-
-pub returns-clause-more : goal.returns-clause-more
-returns-clause-more c = c.loop-i.invariant.more
+returns-clause-down c = λ x o m k.
+    case_of (λ h. none_on c.args.p x o c.loop-c.outs.items (none_in (NoneOn c.args.p c.loop-c.outs.items) c.pop_on.result c.in_default.is c.pop_on.ensures.none) m h) (λ d. d) (c.loop-c.invariant.down x o m k)

@@ -1,16 +1,13 @@
-use Rattle.std.proofs.Common.{◌∙◌, ap, sym, subst, ℕ}
+use Rattle.std.proofs.Common.{◌∙◌, ap, ℕ}
 use Rattle.proto_requests.specs.Hints.{HintsView, covers, covers_by}
-use Rattle.proto_reqrep.specs.declared.dues.SentOut.{SentOut}
-use Rattle.proto_reqrep.specs.Dues.{DuesView, AreInTime, is_sent}
+use Rattle.proto_reqrep.specs.Outs.{is_sent}
+use Rattle.proto_reqrep.specs.Dues.{DuesView}
 use Rattle.proto_reqrep.proofs.DueRequests.{seen_reserved}
 use Rattle.proto_reqrep.proofs.dues.Dues.reserve.Goals as goal
 
-pub invariant_of-self : goal.invariant_of-self
-invariant_of-self c = subst (λ (v : HintsView SentOut). AreInTime c.self.inside.last v.items) (sym c.make_room.ensures.outs) c.self.invariant
-
 pub returns : goal.returns
 returns c = λ a late dry last h.
-    seen_reserved c.args.self.now c.make_room.new.due c.make_room.new.dry c.make_room.new.outs c.args.live.now.items late dry last a
+    seen_reserved c.args.self.now c.make_room.new.due c.make_room.new.dry c.self.inside.outs c.args.live.now.items late dry last a
     (λ q k. ap (λ (v : HintsView ℕ). covers v q) c.make_room.ensures.due ∙ c.limit.ensures q (ap (λ (v : DuesView). covers v.due q) c.self.view_is ∙ k))
     (λ q k. ap (λ (v : HintsView ℕ). covers v q) c.make_room.ensures.dry ∙ c.limit-2.ensures q (ap (λ (v : DuesView). covers v.dry q) c.self.view_is ∙ k))
-    (λ x o z k. ap (λ (v : HintsView SentOut). covers_by v (is_sent x o)) c.make_room.ensures.outs ∙ ap (λ (v : DuesView). covers_by v.outs (is_sent x o)) c.self.view_is ∙ k) h
+    (λ x o z k. ap (λ (v : DuesView). covers_by v.outs (is_sent x o)) c.self.view_is ∙ k) h
