@@ -15,7 +15,7 @@ use Rattle.sp_history.specs.Moments.{Moment, past}
 use Rattle.sp_proto.specs.Kinds.{verb_of}
 use Rattle.sp_proto.specs.declared.Verb.{Verb}
 use Rattle.proto_rep.specs.declared.rep.Reply.{Reply}
-use Rattle.proto_rep.specs.declared.rep.ReplyContext.{ReplyContext}
+use Rattle.proto_rep.specs.Places.{ReplyContext}
 use Rattle.proto_rep.specs.declared.replies.Answer.{Answer}
 use Rattle.proto_rep.specs.declared.operations.ReplyOperation.{ReplyOperation}
 use Rattle.proto_rep.specs.Reps.{Ties, ctx_of, is_home, state_at, role_of}

@@ -1,89 +1,119 @@
 -- What becomes of the places of contexts.
-use Rattle.std.proofs.Common.{◌≡◌, refl, ap, sym, ◌∙◌, subst, List, [], ◌∷◌, ◌++◌, ℕ, zero, suc, Bool, true, false, cond, arith, Option, Some, None, length, map, slice_index_or, slice_set, ◌<◌}
-use Rattle.std.specs.Vec.{with_items}
-use Rattle.std.proofs.lemmas.List.{with_items_is, length-map}
-use Rattle.std.specs.Prelude.{Vec, is_some, find, filter, not, ◌||◌, ◌==◌}
+use Rattle.std.proofs.Common.{◌≡◌, refl, ap, sym, ◌∙◌, subst, List, [], ◌∷◌, ◌++◌, ℕ, Bool, true, false, cond, arith, Option, Some, None, map}
+use Rattle.std.specs.Prelude.{is_some, find, filter, not, ◌||◌, ◌==◌}
 use Rattle.std.specs.Option.{option_map}
-use Rattle.std.specs.List.{position}
+use Rattle.std.specs.Ordering.{nat_cmp}
+use Rattle.std.specs.Map.{keys_of, lookup, set_value}
+use Rattle.std.specs.BTreeMap.{is_at}
 use Rattle.std.proofs.lemmas.Bool.Decides.{nat_tests}
-use Rattle.std.proofs.lemmas.List.Quantifiers.{position-Some}
 use Rattle.sp_history.specs.Lists.{has, without}
-use Rattle.proto_rep.specs.declared.rep.ReplyContext.{ReplyContext}
+use Rattle.proto_rep.specs.Places.{ReplyContext, PlacesView, place_of}
 use Rattle.proto_rep.specs.declared.rep.Source.{Source}
+use Rattle.sp_history.specs.declared.parts.Origin.{Origin}
 use Rattle.proto_rep.specs.Reps.{ctx_of, is_home, origin_of, origin_in, origin_at}
-use Rattle.proto_requests.proofs.Positions.{found_at, not_found}
+use Rattle.proto_requests.proofs.NumberedEntries.{at_is, with_all}
 use Rattle.proto_requests.proofs.TestValues.{equal_of}
 
--- the place with another request
-abbrev pub with_stored : ReplyContext → Option Source → ReplyContext
-with_stored x v = record { ctx = x.ctx; stored = v }
+-- ---- As they are held
 
-ctxs_at : (xs : List ReplyContext) (i : ℕ) (d : ReplyContext) (v : Option Source) → i < length xs → map ctx_of (slice_set xs i (with_stored (slice_index_or xs i d) v)) ≡ map ctx_of xs
-ctxs_at [] i d v h = absurd (omega arith)
-ctxs_at (x ∷ xs) zero d v h = refl
-ctxs_at (x ∷ xs) (suc i) d v h = ap (λ rest. x.ctx ∷ rest) (ctxs_at xs i d v (omega (arith, h)))
+-- what a query finds
+abbrev pub found_in : Option (Option Source) → Option Origin
+found_in None = None
+found_in (Some v) = option_map origin_of v
 
-origins_at : (c : ℕ) (xs : List ReplyContext) (i : ℕ) (d : ReplyContext) (v : Option Source) → i < length xs → is_home c (slice_index_or xs i d) ≡ true → ((k : ℕ) → k < i → is_home c (slice_index_or xs k d) ≡ false) → (e : ℕ)
-    → origin_at e (slice_set xs i (with_stored (slice_index_or xs i d) v)) ≡ cond (c == e) (option_map origin_of v) (origin_at e xs)
-origins_at c [] i d v h t b e = absurd (omega arith)
-origins_at c (x ∷ xs) zero d v h t b e =
-    let is : x.ctx ≡ c = equal_of x.ctx c t in
-    go (x.ctx == e) ∙ ap (λ n. cond (n == e) (option_map origin_of v) (origin_at e (x ∷ xs))) is
+pub stored_some : (o : Option Source) → is_some (option_map origin_of o) ≡ is_some o
+stored_some None = refl
+stored_some (Some x) = refl
+
+origin_seen : (c : ℕ) (es : List (ℕ × Option Source)) → origin_at c (map place_of es) ≡ found_in (lookup (is_at (nat_cmp c)) es)
+origin_seen c [] = refl
+origin_seen c (e ∷ es) = go (e.0 == c) (is_at (nat_cmp c) e.0) (at_is c e.0) (origin_seen c es)
   where
-    go : (a : Bool) → origin_in (cond a (Some (with_stored x v)) (find (is_home e) xs)) ≡ cond a (option_map origin_of v) (origin_in (cond a (Some x) (find (is_home e) xs)))
-    go true = refl
-    go false = refl
-origins_at c (x ∷ xs) (suc i) d v h t b e =
-    go (x.ctx == e) refl (origins_at c xs i d v (omega (arith, h)) t (λ k l. b (suc k) (omega (arith, l))) e)
+    go : (a b : Bool) → b ≡ a → origin_at c (map place_of es) ≡ found_in (lookup (is_at (nat_cmp c)) es) → origin_in (cond a (Some (place_of e)) (find (is_home c) (map place_of es))) ≡ found_in (cond b (Some e.1) (lookup (is_at (nat_cmp c)) es))
+    go true true h k = refl
+    go true false h k = absurd cc
+    go false true h k = absurd cc
+    go false false h k = k
+
+-- the numbers are those of the entries
+numbers_seen : (es : List (ℕ × Option Source)) → map ctx_of (map place_of es) ≡ keys_of es
+numbers_seen [] = refl
+numbers_seen (e ∷ es) = ap (λ (rest : List ℕ). e.0 ∷ rest) (numbers_seen es)
+
+same_numbers : (es fs : List (ℕ × Option Source)) → keys_of fs ≡ keys_of es → map ctx_of (map place_of fs) ≡ map ctx_of (map place_of es)
+same_numbers es fs h = numbers_seen fs ∙ h ∙ sym (numbers_seen es)
+
+-- ---- Another request at a place
+
+set_origin : (c : ℕ) (v : Option Source) (es : List (ℕ × Option Source)) (d : ℕ) → is_some (lookup (is_at (nat_cmp c)) es) ≡ true → origin_at d (map place_of (set_value (is_at (nat_cmp c)) es v)) ≡ cond (c == d) (option_map origin_of v) (origin_at d (map place_of es))
+set_origin c v [] d h = absurd cc
+set_origin c v (e ∷ es) d h = go (is_at (nat_cmp c) e.0) (at_is c e.0) (e.0 == d) refl h (set_origin c v es d)
   where
-    apart : (m n k : ℕ) → (m == k) ≡ true → (m == n) ≡ false → (n == k) ≡ false
-    apart m n k f g = grind (arith, nat_tests)
+    alike : (k : ℕ) → (k == c) ≡ true → (b : Bool) → (k == d) ≡ b → (c == d) ≡ b
+    alike k f b g = ap (λ (n : ℕ). n == d) (sym (equal_of k c f)) ∙ g
 
-    go : (a : Bool) → (x.ctx == e) ≡ a → origin_at e (slice_set xs i (with_stored (slice_index_or xs i d) v)) ≡ cond (c == e) (option_map origin_of v) (origin_at e xs)
-        → origin_in (cond a (Some x) (find (is_home e) (slice_set xs i (with_stored (slice_index_or xs i d) v)))) ≡ cond (c == e) (option_map origin_of v) (origin_in (cond a (Some x) (find (is_home e) xs)))
-    go true f again = rw (apart x.ctx c e f (b 0 (omega arith))) refl
-    go false f again = again
+    apart : (k : ℕ) → (k == c) ≡ false → (k == d) ≡ true → (c == d) ≡ false
+    apart k f g = grind (arith, nat_tests)
 
-pub set_ctxs : (c : ℕ) (xs : List ReplyContext) (i : ℕ) (d : ReplyContext) (v : Option Source) → position (is_home c) xs ≡ Some i → map ctx_of (slice_set xs i (with_stored (slice_index_or xs i d) v)) ≡ map ctx_of xs
-set_ctxs c xs i d v h = ctxs_at xs i d v (position-Some (is_home c) xs i d h).0
+    go : (a : Bool) → a ≡ (e.0 == c) → (b : Bool) → (e.0 == d) ≡ b → is_some (cond a (Some e.1) (lookup (is_at (nat_cmp c)) es)) ≡ true
+        → (is_some (lookup (is_at (nat_cmp c)) es) ≡ true → origin_at d (map place_of (set_value (is_at (nat_cmp c)) es v)) ≡ cond (c == d) (option_map origin_of v) (origin_at d (map place_of es)))
+        → origin_at d (map place_of (cond a ((e.0, v) ∷ es) (e ∷ set_value (is_at (nat_cmp c)) es v))) ≡ cond (c == d) (option_map origin_of v) (origin_at d (map place_of (e ∷ es)))
+    go true f true g h again = rw (alike e.0 (sym f) true g, g) refl
+    go true f false g h again = rw (alike e.0 (sym f) false g, g) refl
+    go false f true g h again = rw (apart e.0 (sym f) g, g) refl
+    go false f false g h again = rw g (again h)
 
-pub set_origins : (c : ℕ) (xs : List ReplyContext) (i : ℕ) (d : ReplyContext) (v : Option Source) → position (is_home c) xs ≡ Some i → (e : ℕ) → origin_at e (slice_set xs i (with_stored (slice_index_or xs i d) v)) ≡ cond (c == e) (option_map origin_of v) (origin_at e xs)
-set_origins c xs i d v h e = let at = position-Some (is_home c) xs i d h in origins_at c xs i d v at.0 at.1 at.2 e
-
-pub origin_found : (c : ℕ) (xs : List ReplyContext) (i : ℕ) (d : ReplyContext) → position (is_home c) xs ≡ Some i → origin_at c xs ≡ option_map origin_of (slice_index_or xs i d).stored
-origin_found c xs i d h = ap origin_in (found_at (is_home c) xs i d h)
-
-pub origin_none : (c : ℕ) (xs : List ReplyContext) → position (is_home c) xs ≡ None → origin_at c xs ≡ None
-origin_none c xs h = ap origin_in (not_found (is_home c) xs h)
-
-pub none_stays : (c : ℕ) (xs : List ReplyContext) → position (is_home c) xs ≡ None → (e : ℕ) → origin_at e xs ≡ cond (c == e) None (origin_at e xs)
-none_stays c xs h e = go (c == e) refl
+-- a context that is open has a place
+found_home : (c : ℕ) (es : List (ℕ × Option Source)) → has (map ctx_of (map place_of es)) c ≡ is_some (lookup (is_at (nat_cmp c)) es)
+found_home c [] = refl
+found_home c (e ∷ es) = go (e.0 == c) (is_at (nat_cmp c) e.0) (at_is c e.0) (found_home c es)
   where
-    go : (b : Bool) → (c == e) ≡ b → origin_at e xs ≡ cond b None (origin_at e xs)
-    go true f = subst (λ n. origin_at n xs ≡ None) (equal_of c e f) (origin_none c xs h)
+    go : (a b : Bool) → b ≡ a → has (map ctx_of (map place_of es)) c ≡ is_some (lookup (is_at (nat_cmp c)) es) → (a || has (map ctx_of (map place_of es)) c) ≡ is_some (cond b (Some e.1) (lookup (is_at (nat_cmp c)) es))
+    go true true h k = refl
+    go true false h k = absurd cc
+    go false true h k = absurd cc
+    go false false h k = k
+
+-- nothing is stored with a context that isn't open
+none_stays : (c : ℕ) (es : List (ℕ × Option Source)) → lookup (is_at (nat_cmp c)) es ≡ None → (d : ℕ) → origin_at d (map place_of es) ≡ cond (c == d) None (origin_at d (map place_of es))
+none_stays c es h d = go (c == d) refl
+  where
+    go : (b : Bool) → (c == d) ≡ b → origin_at d (map place_of es) ≡ cond b None (origin_at d (map place_of es))
+    go true f = subst (λ n. origin_at n (map place_of es) ≡ None) (equal_of c d f) (origin_seen c es ∙ ap found_in h)
     go false f = refl
 
-has_find : (c : ℕ) (xs : List ReplyContext) → find (is_home c) xs ≡ None → has (map ctx_of xs) c ≡ false
-has_find c [] h = refl
-has_find c (x ∷ xs) h = go (x.ctx == c) h (has_find c xs)
-  where
-    go : (b : Bool) → cond b (Some x) (find (is_home c) xs) ≡ None → (find (is_home c) xs ≡ None → has (map ctx_of xs) c ≡ false) → (b || has (map ctx_of xs) c) ≡ false
-    go true h again = absurd cc
-    go false h again = again h
+-- ---- The places as they are seen, where n is the context's number
 
-pub isnt_home : (c : ℕ) (xs : List ReplyContext) → position (is_home c) xs ≡ None → has (map ctx_of xs) c ≡ false
-isnt_home c xs h = has_find c xs (not_found (is_home c) xs h)
+abbrev pub seen : List (ℕ × Option Source) → PlacesView
+seen es = record { items = map place_of es }
 
-pub is_home_at : (c : ℕ) (xs : List ReplyContext) (i : ℕ) (d : ReplyContext) → position (is_home c) xs ≡ Some i → has (map ctx_of xs) c ≡ true
-is_home_at c xs i d h = go xs (slice_index_or xs i d) (found_at (is_home c) xs i d h)
+pub ctxs_written : (v : PlacesView) (es fs : List (ℕ × Option Source)) → seen es ≡ v → keys_of fs ≡ keys_of es → map ctx_of (map place_of fs) ≡ map ctx_of v.items
+ctxs_written v es fs e h = same_numbers es fs h ∙ ap (λ (u : PlacesView). map ctx_of u.items) e
+
+module _ (n c : ℕ) (v : PlacesView) (es : List (ℕ × Option Source)) (same : n ≡ c) (e : seen es ≡ v) where
+  pub origin_is : (o : Option (Option Source)) → lookup (is_at (nat_cmp n)) es ≡ o → origin_at c v.items ≡ found_in o
+  origin_is o h = sym (ap (λ (u : PlacesView). origin_at n u.items) e ∙ ap (λ (m : ℕ). origin_at m v.items) same) ∙ origin_seen n es ∙ ap found_in h
+
+  pub isnt_open : lookup (is_at (nat_cmp n)) es ≡ None → has (map ctx_of v.items) c ≡ false
+  isnt_open h = sym (ap (λ (u : PlacesView). has (map ctx_of u.items) n) e ∙ ap (has (map ctx_of v.items)) same) ∙ found_home n es ∙ ap is_some h
+
+  pub origins_written : (w u : Option Source) (fs : List (ℕ × Option Source)) → lookup (is_at (nat_cmp n)) es ≡ Some u → fs ≡ set_value (is_at (nat_cmp n)) es w → (d : ℕ) → origin_at d (map place_of fs) ≡ cond (c == d) (option_map origin_of w) (origin_at d v.items)
+  origins_written w u fs h f d =
+      ap (λ (gs : List (ℕ × Option Source)). origin_at d (map place_of gs)) f ∙ set_origin n w es d (ap is_some h)
+      ∙ ap (λ (x : PlacesView). cond (n == d) (option_map origin_of w) (origin_at d x.items)) e ∙ ap (λ (m : ℕ). cond (m == d) (option_map origin_of w) (origin_at d v.items)) same
+
+  pub origins_stay : lookup (is_at (nat_cmp n)) es ≡ None → (d : ℕ) → origin_at d (map place_of es) ≡ cond (c == d) None (origin_at d v.items)
+  origins_stay h d = none_stays n es h d ∙ ap (λ (x : PlacesView). cond (n == d) None (origin_at d x.items)) e ∙ ap (λ (m : ℕ). cond (m == d) None (origin_at d v.items)) same
+
+-- ---- Nothing is stored
+
+pub forgotten : (es : List (ℕ × Option Source)) (d : ℕ) → origin_at d (map place_of (with_all None es)) ≡ None
+forgotten [] d = refl
+forgotten (e ∷ es) d = go (e.0 == d) (forgotten es d)
   where
-    go : (ys : List ReplyContext) (y : ReplyContext) → find (is_home c) ys ≡ Some y → has (map ctx_of ys) c ≡ true
-    go [] y h = absurd cc
-    go (x ∷ ys) y h = step (x.ctx == c) h (go ys y)
-      where
-        step : (b : Bool) → cond b (Some x) (find (is_home c) ys) ≡ Some y → (find (is_home c) ys ≡ Some y → has (map ctx_of ys) c ≡ true) → (b || has (map ctx_of ys) c) ≡ true
-        step true h again = refl
-        step false h again = again h
+    go : (b : Bool) → origin_at d (map place_of (with_all None es)) ≡ None → origin_in (cond b (Some (place_of (e.0, None))) (find (is_home d) (map place_of (with_all None es)))) ≡ None
+    go true k = refl
+    go false k = k
 
 -- ---- Opened and shut
 
@@ -136,12 +166,3 @@ module _ (c : ℕ) where
       go false f true g true i h = absurd (last x.ctx c e f g i)
       go false f true g false i h = rw g refl
       go false f false g k i h = rw g h
-
--- the places are those that were written
-pub places_written : {Z : Type 0} (v : Vec ReplyContext Z) (xs ys : List ReplyContext) → ys ≡ v.items → map ctx_of xs ≡ map ctx_of ys → (with_items v xs).items ≡ xs
-places_written v xs ys e h =
-    with_items_is v xs (sym (length-map xs ctx_of) ∙ ap length h ∙ length-map ys ctx_of ∙ ap length e ∙ sym v.ok.0)
-
-pub stored_some : (o : Option Source) → is_some (option_map origin_of o) ≡ is_some o
-stored_some None = refl
-stored_some (Some x) = refl

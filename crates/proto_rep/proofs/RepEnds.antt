@@ -33,7 +33,7 @@ use Rattle.sp_proto.specs.Machines.{CanGive, CanSend, CanDrop, message_of}
 use Rattle.proto_rep.specs.declared.rep.Reply.{Reply}
 use Rattle.proto_rep.specs.declared.rep.KeptRequest.{KeptRequest}
 use Rattle.proto_rep.specs.declared.rep.Source.{Source}
-use Rattle.proto_rep.specs.declared.rep.ReplyContext.{ReplyContext}
+use Rattle.proto_rep.specs.Places.{ReplyContext}
 use Rattle.proto_rep.specs.declared.replies.Answer.{Answer}
 use Rattle.proto_rep.specs.declared.operations.ReplyOperation.{ReplyOperation}
 use Rattle.proto_rep.specs.Reps.{Ties, Stands, item_of, origin_of, origin_at, ctx_of, out_text, words_of, Routed, AreHome, Given, role_of}

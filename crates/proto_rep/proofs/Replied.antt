@@ -8,9 +8,10 @@ use Rattle.std.proofs.lemmas.List.{map-append}
 use Rattle.sp_base.specs.declared.OpName.{OpName}
 use Rattle.sp_history.specs.declared.setting.Setting.{Setting}
 use Rattle.sp_history.specs.declared.entry.Entry.{Entry}
-use Rattle.sp_history.specs.declared.entry.Entry.TheVariants.{Begin, Up, Down, Full, Ctx}
+use Rattle.sp_history.specs.declared.entry.Entry.TheVariants.{Begin, Up, Down, Full, Ctx, Close}
 use Rattle.sp_history.specs.declared.entry.ContextChange.TheVariants.{Open, Shut}
 use Rattle.sp_history.specs.declared.entry.RecordedAct.{RecordedAct}
+use Rattle.sp_history.specs.declared.entry.Totals.{Totals}
 use Rattle.sp_history.specs.declared.entry.Why.{Why}
 use Rattle.sp_history.specs.declared.entry.WireNumbers.{WireNumbers}
 use Rattle.sp_history.specs.declared.parts.Begun.{Begun}
@@ -28,14 +29,16 @@ use Rattle.sp_proto.specs.Kinds.{Kind}
 use Rattle.proto_rep.specs.declared.rep.Reply.{Reply}
 use Rattle.proto_rep.specs.declared.rep.KeptRequest.{KeptRequest}
 use Rattle.proto_rep.specs.declared.rep.Source.{Source}
-use Rattle.proto_rep.specs.declared.rep.ReplyContext.{ReplyContext}
+use Rattle.proto_rep.specs.Places.{ReplyContext}
 use Rattle.proto_rep.specs.declared.replies.Answer.{Answer}
 use Rattle.proto_rep.specs.declared.operations.ReplyOperation.{ReplyOperation}
 use Rattle.proto_requests.specs.Ports.{PortView, marked, cleared, is_below}
+use Rattle.proto_requests.specs.Ordered.{is_before}
 use Rattle.proto_rep.specs.Reps.{Ties, item_of, origin_of, origin_at, ctx_of, Routed, AreHome, role_of}
 use Rattle.proto_rep.specs.Operations.{Holds, begun_of, act_of}
 use Rattle.proto_rep.specs.Replies.{AreStuck, StayPassed}
 use Rattle.proto_requests.proofs.NamesApart.{apart_more}
+use Rattle.proto_requests.proofs.OpenContexts.{seen_before}
 use Rattle.proto_requests.proofs.KnownPipes.{up_knows, known_below, fresh_knows, full_knows, down_knows}
 use Rattle.proto_rep.proofs.Homes.{opens_none, shut_ctxs, shut_origins}
 use Rattle.proto_rep.specs.declared.rep.ReplyRole.{ReplyRole}
@@ -198,6 +201,9 @@ homes_opened : (cs ds : List ℕ) (ss : List Begun) → AreHome cs ss → AreHom
 homes_opened cs ds [] h = h
 homes_opened cs ds (s ∷ ss) h = (has_first cs ds s.ctx h.0, homes_opened cs ds ss h.1)
 
+pub opened_before : (m : Reply) (t : Moment) (c : ℕ) → Lawful (also t (Ctx c Open)) → Ties m t → list_all (is_before ctx_of c) m.places.items ≡ true
+opened_before m t c l h = seen_before ctx_of m.places.items t c l h.contexts
+
 pub opened_ties : (m n : Reply) (t : Moment) (c : ℕ) → Ties m t → n.places.items ≡ m.places.items ++ record { ctx = c; stored = None } ∷ [] → n.ports ≡ m.ports → n.kept ≡ m.kept → n.waiting ≡ m.waiting → (n.raw ≡ m.raw) × (n.options ≡ m.options) × (n.role ≡ m.role) → Ties n (also t (Ctx c Open))
 opened_ties m n t c h e p f w same =
     record {
@@ -299,6 +305,31 @@ begun_ties m n t w a source deadline l h i j u v x e y p f same =
       stored = λ d. v d ∙ ap (λ (o : Option Origin). cond (w.ctx == d) None o) (h.stored d) ∙ swapped (has_stored t.z) (w.ctx == d) _;
       routed = routed_more (λ o. route t.z (past t) o) (stored t.z (past t) w.ctx) w.op h.waits w refl (rw h.pending free) h.routed (λ r q. ap (option_map origin_of) (j r q) ∙ u ∙ h.stored w.ctx);
       stuck = stay_stuck m n p same.0 y h.stuck;
+    }
+
+-- ---- Closed
+
+nothing : (b : Bool) → cond {A = Option Origin} b None None ≡ None
+nothing true = refl
+nothing false = refl
+
+pub closed_ties : (m n : Reply) (t : Moment) (totals : Totals) → Ties m t → n.kept.items ≡ [] → map ctx_of n.places.items ≡ map ctx_of m.places.items → ((d : ℕ) → origin_at d n.places.items ≡ None) → n.ports ≡ m.ports → n.waiting ≡ m.waiting → (n.raw ≡ m.raw) × (n.options ≡ m.options) × (n.role ≡ m.role)
+    → Ties n (also t (Close totals))
+closed_ties m n t totals h f x v p w same =
+    record {
+      kind = rw (same.0, same.1, same.2) h.kind;
+      most = rw same.1 h.most;
+      pipes = rw p h.pipes;
+      items = ap (map item_of) f;
+      waits = h.waits;
+      holds = rw w h.holds;
+      pending = h.pending;
+      apart = h.apart;
+      contexts = x ∙ h.contexts;
+      homes = h.homes;
+      stored = λ d. v d ∙ sym (nothing (has_stored t.z));
+      routed = h.routed;
+      stuck = rw (same.0, p, w) h.stuck;
     }
 
 -- ---- What a rep never does

@@ -1,12 +1,16 @@
 -- The places of open contexts.
-use Rattle.std.specs.Prelude.{◌≡◌, Bool, true, List}
-use Rattle.proto_requests.specs.Ordered.{AreOrdered}
-use Rattle.proto_rep.specs.declared.rep.ReplyContext.{ReplyContext}
+use Rattle.std.specs.Prelude.{ℕ, List, Option}
+use Rattle.proto_rep.specs.declared.rep.Source.{Source}
 
--- in the order in which they were opened
+-- an open context, and the request that its next send answers
+pub record ReplyContext : Type 0 where
+  pub ctx : ℕ
+  pub stored : Option Source
+
+-- in the order of their contexts' numbers
 pub record PlacesView : Type 0 where
   pub items : List ReplyContext
 
--- they stand in the order of their contexts, if it is said
-abbrev pub AreInOrder : Bool → List ReplyContext → Type 0
-AreInOrder in_order xs = in_order ≡ true → AreOrdered (λ (x : ReplyContext). x.ctx) xs
+-- an entry of the map
+abbrev pub place_of : ℕ × Option Source → ReplyContext
+place_of e = record { ctx = e.0; stored = e.1 }

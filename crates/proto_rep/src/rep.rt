@@ -51,13 +51,6 @@ pub struct Source {
     pub words: BacktraceWords,
 }
 
-/// An open context, and the request that its next send answers.
-#[derive(Drop)]
-pub struct ReplyContext {
-    pub ctx: Ctx,
-    pub stored: Option<Source>,
-}
-
 /// Which of the two it is.
 #[derive(Clone, Copy, PartialEq, Eq, Debug)]
 enum ReplyRole {
@@ -408,5 +401,6 @@ impl Proto for Reply {
 
     fn close(&mut self) {
         self.kept.clear();
+        self.places.forget_all();
     }
 }

@@ -1,7 +1,7 @@
 -- What a req stands for when requests begin and go out, frames come, and contexts open and shut.
 use Rattle.std.proofs.Common.{◌≡◌, ◌≢◌, refl, ap, sym, ◌∙◌, subst, List, [], ◌∷◌, ◌++◌, ℕ, ◌+◌, ◌<◌, Bool, true, false, cond, arith, Option, Some, None, map}
 use Rattle.std.specs.Prelude.{find, filter, not, is_some, ◌&&◌, ◌||◌, ◌==◌}
-use Rattle.std.specs.List.{list_any}
+use Rattle.std.specs.List.{list_any, list_all}
 use Rattle.std.specs.Option.{option_map}
 use Rattle.std.proofs.lemmas.Bool.Decides.{nat_tests}
 use Rattle.std.proofs.lemmas.List.{map-append}
@@ -9,7 +9,6 @@ use Rattle.sp_base.specs.declared.OpName.{OpName}
 use Rattle.sp_base.specs.declared.role.Role.{Role}
 use Rattle.sp_base.specs.declared.role.Role.TheVariants as role
 use Rattle.sp_msg.specs.Views.{MessageView, wire_text}
-use Rattle.sp_history.specs.declared.setting.Setting.{Setting}
 use Rattle.sp_history.specs.declared.entry.Entry.{Entry}
 use Rattle.sp_history.specs.declared.entry.Entry.TheVariants.{End, Out, Ctx}
 use Rattle.sp_history.specs.declared.entry.ContextChange.TheVariants.{Open, Shut}
@@ -27,10 +26,8 @@ use Rattle.sp_history.specs.Requests.{requests, no_requests, asked, is_orphan, e
 use Rattle.sp_history.specs.Sends.{is_lost}
 use Rattle.sp_history.specs.Sends.{bytes_of_act, bytes_for}
 use Rattle.sp_history.specs.Settled.{is_dry}
-use Rattle.sp_history.specs.Legal.{AreAllowed}
-use Rattle.sp_history.specs.Moments.{Moment, Lawful, Back, past, also}
+use Rattle.sp_history.specs.Moments.{Moment, Lawful, past, also}
 use Rattle.sp_history.proofs.Requesting.{end_makes, out_makes, shut_makes}
-use Rattle.sp_history.proofs.Backing.{legal_allowed}
 use Rattle.sp_proto.specs.Kinds.{text_of}
 use Rattle.sp_proto.specs.Machines.{CanSend, CanAgain}
 use Rattle.proto_reqrep.specs.declared.req.Request.{Request as Machine}
@@ -40,6 +37,8 @@ use Rattle.sp_proto.specs.Kinds.{act_of}
 use Rattle.proto_reqrep.specs.Reqs.{Ties, Asked, begun_of, is_asked, is_sending, is_sending_on, without_first, without_live, live_ctx, is_live_on, request_of, sent_at, HaveLive, IsOf, Opened, dry_at, dried, wetted, seat_ctx}
 use Rattle.proto_requests.specs.FirstFound.{with_found}
 use Rattle.proto_reqrep.proofs.OwnedRequests.{owned_at, only_send}
+use Rattle.proto_requests.specs.Ordered.{is_before}
+use Rattle.proto_requests.proofs.OpenContexts.{lawful_before, seen_before}
 use Rattle.proto_reqrep.proofs.Requested.{taken, ended_alone, gone_out}
 use Rattle.sp_history.specs.declared.parts.LastOut.{LastOut}
 use Rattle.proto_reqrep.specs.Seats.{SeatView}
@@ -261,15 +260,8 @@ wetted_opened xs ss cs dry h = record { homes = h.homes; contexts = same ss ∙ 
 
 -- ---- Contexts are opened and shut
 
-all_allowed : (z : Setting) (k : ℕ) (before turn : List Entry) → AreAllowed z before → Back z k before turn → AreAllowed z (turn ++ before)
-all_allowed z k before [] h b = h
-all_allowed z k before (e ∷ turn) h b = ((k, b.0), all_allowed z k before turn h b.1)
-
-pub allowed : (t : Moment) → Lawful t → AreAllowed t.z (past t)
-allowed t l = all_allowed t.z t.caller t.before t.turn (subst (λ (q : List Entry). AreAllowed t.z q) (sym l.before) (legal_allowed t.z l.history l.legal)) l.turn
-
-pub lawful_before : (t : Moment) (e : Entry) → Lawful (also t e) → AreAllowed t.z (past t)
-lawful_before t e l = (allowed (also t e) l).1
+pub opened_before : (m : Machine) (t : Moment) (c : ℕ) → Lawful (also t (Ctx c Open)) → Ties m t → list_all (is_before seat_ctx c) m.seats.items ≡ true
+opened_before m t c l h = seen_before seat_ctx m.seats.items t c l h.4.contexts
 
 pub opened_more : (m : Machine) (t : Moment) (c : ℕ) → Lawful (also t (Ctx c Open)) → Ties m t → Opened m.live.items (m.seats.items ++ record { ctx = c; is_dry = false } ∷ []) (ctxs (past t) ++ c ∷ []) (λ d. is_dry (past t) d)
 opened_more m t c l h =

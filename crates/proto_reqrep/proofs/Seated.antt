@@ -1,26 +1,23 @@
 -- Which seats are dry.
-use Rattle.std.proofs.Common.{◌≡◌, refl, ap, sym, ◌∙◌, List, [], ◌∷◌, ◌++◌, ℕ, ◌+◌, ◌<◌, ◌≤◌, Bool, true, false, cond, arith, Option, Some, None, map, length}
-use Rattle.std.specs.Prelude.{find, filter, not, ◌&&◌, ◌||◌, ◌==◌}
-use Rattle.std.specs.List.{list_any}
-use Rattle.std.specs.Prelude.{Vec}
-use Rattle.std.specs.Vec.{with_items}
-use Rattle.std.proofs.lemmas.List.{with_items_is}
+use Rattle.std.proofs.Common.{◌≡◌, refl, ap, sym, ◌∙◌, List, [], ◌∷◌, ◌++◌, ℕ, ◌+◌, ◌<◌, ◌≤◌, Bool, true, false, cond, arith, Option, Some, None, map}
+use Rattle.std.specs.Prelude.{◌&&◌, ◌||◌, ◌==◌}
+use Rattle.std.specs.declared.cmp.Ordering.{Ordering}
+use Rattle.std.specs.declared.cmp.Ordering.TheVariants.{Less, Equal, Greater}
+use Rattle.std.specs.Ordering.{nat_cmp, match_ordering}
+use Rattle.std.specs.List.{AllByRecursion}
+use Rattle.std.specs.List.Sorted.{IsStrictlySortedBy}
+use Rattle.std.specs.Map.{keys_of, lookup, remove_entry, set_value}
+use Rattle.std.specs.BTreeMap.{is_at, insert_entry}
 use Rattle.std.proofs.lemmas.Bool.Decides.{nat_tests}
-use Rattle.proto_requests.specs.Backlogs.{is_of}
-use Rattle.proto_requests.specs.FirstFound.{with_found}
-use Rattle.proto_requests.specs.Ordered.{AreOver, AreOrdered}
-use Rattle.proto_requests.proofs.NumberOrder.{ordered_same, ordered_filtered}
-use Rattle.proto_requests.proofs.TestValues.{equal_of, same_number, some_inj, or_true}
-use Rattle.proto_reqrep.specs.declared.seats.Seat.{Seat}
-use Rattle.proto_reqrep.specs.Seats.{SeatView, seat_of, seat_in, is_dry_on, dry_now, dry_if, undried, AreUpTo, AreSeated}
+use Rattle.std.proofs.lemmas.Map.Keys.{sorted_head, sorted_tail}
+use Rattle.proto_requests.proofs.NumberedEntries.{at_is, behind, with_all}
+use Rattle.proto_requests.proofs.TestValues.{equal_of, same_number, or_true}
+use Rattle.proto_reqrep.specs.Seats.{SeatView, SeatsView, seat_in, AreUpTo, AreSeated}
 use Rattle.proto_reqrep.specs.Reqs.{dry_at, dried, wetted}
 
 or_false : (b : Bool) → (b || false) ≡ b
 or_false true = refl
 or_false false = refl
-
-above : (m n : ℕ) → m < n → (n == m) ≡ false
-above m n h = grind (arith, nat_tests)
 
 below : (m n : ℕ) → m < n → (m == n) ≡ false
 below m n h = grind (arith, nat_tests)
@@ -31,178 +28,136 @@ seat c b = record { ctx = c; is_dry = b }
 pair : {A : Type 0} {x y : A} {xs ys : List A} → x ≡ y → xs ≡ ys → x ∷ xs ≡ y ∷ ys
 pair {A} {x} {y} {xs} {ys} p q = ap (λ v. v ∷ xs) p ∙ ap (λ vs. y ∷ vs) q
 
+-- it is another one's, where that of the context stands before it
+others_isnt : (c n k : ℕ) → n ≡ c → nat_cmp n k ≡ Less → (k == c) ≡ false
+others_isnt c n k e h = ap (λ (m : ℕ). k == m) (sym e) ∙ behind n k h
+
 -- ---- Whether one is dry
 
-pub dry_seen : (tick c : ℕ) (xs : List Seat) → dry_at c (map (seat_in tick) xs) ≡ list_any (is_dry_on tick c) xs
-dry_seen tick c [] = refl
-dry_seen tick c (x ∷ xs) = ap (λ b. ((x.ctx == c) && (x.dry_in == tick)) || b) (dry_seen tick c xs)
+-- what a query finds
+abbrev pub dry_found : ℕ → Option ℕ → Bool
+dry_found tick None = false
+dry_found tick (Some n) = n == tick
 
-none_over : (tick c q : ℕ) (xs : List Seat) → c ≤ q → AreOver seat_of q xs → list_any (is_dry_on tick c) xs ≡ false
-none_over tick c q [] l h = refl
-none_over tick c q (x ∷ xs) l h = ap (λ a. (a && (x.dry_in == tick)) || list_any (is_dry_on tick c) xs) (above c x.ctx (omega (arith, l, h.0))) ∙ none_over tick c q xs l h.1
+none_dry : (tick c n : ℕ) (es : List (ℕ × ℕ)) → n ≡ c → AllByRecursion (λ k. nat_cmp n k ≡ Less) (keys_of es) → dry_at c (map (seat_in tick) es) ≡ false
+none_dry tick c n [] h o = refl
+none_dry tick c n (e ∷ es) h o = ap (λ a. (a && (e.1 == tick)) || dry_at c (map (seat_in tick) es)) (others_isnt c n e.0 h o.0) ∙ none_dry tick c n es h o.1
 
 -- the only one of the context decides
-pub found_dry : (tick c : ℕ) (y : Seat) (xs : List Seat) → AreOrdered seat_of xs → find (is_of seat_of c) xs ≡ Some y → (y.dry_in == tick) ≡ list_any (is_dry_on tick c) xs
-found_dry tick c y [] o f = absurd cc
-found_dry tick c y (x ∷ xs) o f = go (x.ctx == c) refl f (found_dry tick c y xs o.1)
+pub dry_seen : (tick c : ℕ) (es : List (ℕ × ℕ)) → IsStrictlySortedBy nat_cmp (keys_of es) → dry_found tick (lookup (is_at (nat_cmp c)) es) ≡ dry_at c (map (seat_in tick) es)
+dry_seen tick c [] o = refl
+dry_seen tick c (e ∷ es) o = go (is_at (nat_cmp c) e.0) (e.0 == c) (at_is c e.0) refl (dry_seen tick c es (sorted_tail nat_cmp e.0 (keys_of es) o))
   where
-    go : (b : Bool) → (x.ctx == c) ≡ b → cond b (Some x) (find (is_of seat_of c) xs) ≡ Some y → (find (is_of seat_of c) xs ≡ Some y → (y.dry_in == tick) ≡ list_any (is_dry_on tick c) xs) → (y.dry_in == tick) ≡ ((b && (x.dry_in == tick)) || list_any (is_dry_on tick c) xs)
-    go true e f again =
-        let is : x.ctx ≡ c = equal_of x.ctx c e in
-        let rest : list_any (is_dry_on tick c) xs ≡ false = none_over tick c x.ctx xs (omega (arith, is)) o.0 in
-        ap (λ (s : Seat). s.dry_in == tick) (sym (some_inj x y f)) ∙ sym (ap (λ b. (x.dry_in == tick) || b) rest ∙ or_false (x.dry_in == tick))
-    go false e f again = again f
-
-pub missing_dry : (tick c : ℕ) (xs : List Seat) → find (is_of seat_of c) xs ≡ None → false ≡ list_any (is_dry_on tick c) xs
-missing_dry tick c [] h = refl
-missing_dry tick c (x ∷ xs) h = go (x.ctx == c) h (missing_dry tick c xs)
-  where
-    go : (b : Bool) → cond b (Some x) (find (is_of seat_of c) xs) ≡ None → (find (is_of seat_of c) xs ≡ None → false ≡ list_any (is_dry_on tick c) xs) → false ≡ ((b && (x.dry_in == tick)) || list_any (is_dry_on tick c) xs)
-    go true h again = absurd cc
-    go false h again = again h
-
--- it is open
-pub seat_seen : (tick c : ℕ) (xs : List Seat) → list_any (is_of seat_of c) xs ≡ list_any (λ (s : SeatView). s.ctx == c) (map (seat_in tick) xs)
-seat_seen tick c [] = refl
-seat_seen tick c (x ∷ xs) = ap (λ b. (x.ctx == c) || b) (seat_seen tick c xs)
+    go : (a b : Bool) → a ≡ b → (e.0 == c) ≡ b → dry_found tick (lookup (is_at (nat_cmp c)) es) ≡ dry_at c (map (seat_in tick) es) → dry_found tick (cond a (Some e.1) (lookup (is_at (nat_cmp c)) es)) ≡ ((b && (e.1 == tick)) || dry_at c (map (seat_in tick) es))
+    go true true h q k =
+        let rest = none_dry tick c e.0 es (equal_of e.0 c q) (sorted_head nat_cmp e.0 (keys_of es) o) in
+        sym (ap (λ b. (e.1 == tick) || b) rest ∙ or_false (e.1 == tick))
+    go true false h q k = absurd cc
+    go false true h q k = absurd cc
+    go false false h q k = k
 
 -- ---- One is dry
 
-now_dried : (tick c : ℕ) (x : Seat) → (x.ctx == c) ≡ true → seat_in tick (dry_now tick x) ≡ dried c (seat_in tick x)
-now_dried tick c x e = ap (seat x.ctx) (same_number tick ∙ sym (ap (λ b. (x.dry_in == tick) || b) e ∙ or_true (x.dry_in == tick)))
+now_dried : (tick c : ℕ) (e : ℕ × ℕ) → (e.0 == c) ≡ true → seat_in tick (e.0, tick) ≡ dried c (seat_in tick e)
+now_dried tick c e h = ap (seat e.0) (same_number tick ∙ sym (ap (λ b. (e.1 == tick) || b) h ∙ or_true (e.1 == tick)))
 
-same_dried : (tick c : ℕ) (x : Seat) → (x.ctx == c) ≡ false → seat_in tick x ≡ dried c (seat_in tick x)
-same_dried tick c x e = ap (seat x.ctx) (sym (ap (λ b. (x.dry_in == tick) || b) e ∙ or_false (x.dry_in == tick)))
+same_dried : (tick c : ℕ) (e : ℕ × ℕ) → (e.0 == c) ≡ false → seat_in tick e ≡ dried c (seat_in tick e)
+same_dried tick c e h = ap (seat e.0) (sym (ap (λ b. (e.1 == tick) || b) h ∙ or_false (e.1 == tick)))
 
-over_dried : (tick c q : ℕ) (xs : List Seat) → c ≤ q → AreOver seat_of q xs → map (seat_in tick) xs ≡ map (dried c) (map (seat_in tick) xs)
-over_dried tick c q [] l h = refl
-over_dried tick c q (x ∷ xs) l h = pair (same_dried tick c x (above c x.ctx (omega (arith, l, h.0)))) (over_dried tick c q xs l h.1)
+others_dried : (tick c n : ℕ) (es : List (ℕ × ℕ)) → n ≡ c → AllByRecursion (λ k. nat_cmp n k ≡ Less) (keys_of es) → map (seat_in tick) es ≡ map (dried c) (map (seat_in tick) es)
+others_dried tick c n [] h o = refl
+others_dried tick c n (e ∷ es) h o = pair (same_dried tick c e (others_isnt c n e.0 h o.0)) (others_dried tick c n es h o.1)
 
-pub one_dried : (tick c : ℕ) (xs : List Seat) → AreOrdered seat_of xs → map (seat_in tick) (with_found (is_of seat_of c) (dry_now tick) xs) ≡ map (dried c) (map (seat_in tick) xs)
-one_dried tick c [] h = refl
-one_dried tick c (x ∷ xs) h = go (x.ctx == c) refl (one_dried tick c xs h.1)
+pub one_dried : (tick c : ℕ) (es : List (ℕ × ℕ)) → IsStrictlySortedBy nat_cmp (keys_of es) → map (seat_in tick) (set_value (is_at (nat_cmp c)) es tick) ≡ map (dried c) (map (seat_in tick) es)
+one_dried tick c [] o = refl
+one_dried tick c (e ∷ es) o = go (is_at (nat_cmp c) e.0) (at_is c e.0) (one_dried tick c es (sorted_tail nat_cmp e.0 (keys_of es) o))
   where
-    go : (b : Bool) → (x.ctx == c) ≡ b → map (seat_in tick) (with_found (is_of seat_of c) (dry_now tick) xs) ≡ map (dried c) (map (seat_in tick) xs)
-        → map (seat_in tick) (cond b (dry_now tick x ∷ xs) (x ∷ with_found (is_of seat_of c) (dry_now tick) xs)) ≡ dried c (seat_in tick x) ∷ map (dried c) (map (seat_in tick) xs)
-    go true e again =
-        let is : x.ctx ≡ c = equal_of x.ctx c e in
-        pair (now_dried tick c x e) (over_dried tick c x.ctx xs (omega (arith, is)) h.0)
-    go false e again = pair (same_dried tick c x e) again
+    go : (a : Bool) → a ≡ (e.0 == c) → map (seat_in tick) (set_value (is_at (nat_cmp c)) es tick) ≡ map (dried c) (map (seat_in tick) es)
+        → map (seat_in tick) (cond a ((e.0, tick) ∷ es) (e ∷ set_value (is_at (nat_cmp c)) es tick)) ≡ dried c (seat_in tick e) ∷ map (dried c) (map (seat_in tick) es)
+    go true h again = pair (now_dried tick c e (sym h)) (others_dried tick c e.0 es (equal_of e.0 c (sym h)) (sorted_head nat_cmp e.0 (keys_of es) o))
+    go false h again = pair (same_dried tick c e (sym h)) again
 
-pub all_dried : (tick c : ℕ) (xs : List Seat) → map (seat_in tick) (map (dry_if tick c) xs) ≡ map (dried c) (map (seat_in tick) xs)
-all_dried tick c [] = refl
-all_dried tick c (x ∷ xs) = pair (go (x.ctx == c) refl) (all_dried tick c xs)
+-- a context that isn't open has no seat
+pub none_dried : (tick c : ℕ) (es : List (ℕ × ℕ)) → lookup (is_at (nat_cmp c)) es ≡ None → map (seat_in tick) es ≡ map (dried c) (map (seat_in tick) es)
+none_dried tick c [] h = refl
+none_dried tick c (e ∷ es) h = go (is_at (nat_cmp c) e.0) (at_is c e.0) h (none_dried tick c es)
   where
-    go : (b : Bool) → (x.ctx == c) ≡ b → seat_in tick (cond b (dry_now tick x) x) ≡ dried c (seat_in tick x)
-    go true e = now_dried tick c x e
-    go false e = same_dried tick c x e
+    go : (a : Bool) → a ≡ (e.0 == c) → cond a (Some e.1) (lookup (is_at (nat_cmp c)) es) ≡ None → (lookup (is_at (nat_cmp c)) es ≡ None → map (seat_in tick) es ≡ map (dried c) (map (seat_in tick) es)) → map (seat_in tick) (e ∷ es) ≡ map (dried c) (map (seat_in tick) (e ∷ es))
+    go true f h again = absurd cc
+    go false f h again = pair (same_dried tick c e (sym f)) (again h)
 
-ctxs_found : (P : Seat → Bool) (tick : ℕ) (xs : List Seat) → map seat_of (with_found P (dry_now tick) xs) ≡ map seat_of xs
-ctxs_found P tick [] = refl
-ctxs_found P tick (x ∷ xs) = go (P x) (ctxs_found P tick xs)
+ticks_set : (P : ℕ → Bool) (tick : ℕ) (es : List (ℕ × ℕ)) → AreUpTo tick es → AreUpTo tick (set_value P es tick)
+ticks_set P tick [] h = h
+ticks_set P tick (e ∷ es) h = go (P e.0) (ticks_set P tick es h.1)
   where
-    go : (b : Bool) → map seat_of (with_found P (dry_now tick) xs) ≡ map seat_of xs → map seat_of (cond b (dry_now tick x ∷ xs) (x ∷ with_found P (dry_now tick) xs)) ≡ x.ctx ∷ map seat_of xs
-    go true k = refl
-    go false k = ap (λ (rest : List ℕ). x.ctx ∷ rest) k
-
-ticks_found : (P : Seat → Bool) (tick : ℕ) (xs : List Seat) → AreUpTo tick xs → AreUpTo tick (with_found P (dry_now tick) xs)
-ticks_found P tick [] h = h
-ticks_found P tick (x ∷ xs) h = go (P x) (ticks_found P tick xs h.1)
-  where
-    go : (b : Bool) → AreUpTo tick (with_found P (dry_now tick) xs) → AreUpTo tick (cond b (dry_now tick x ∷ xs) (x ∷ with_found P (dry_now tick) xs))
+    go : (b : Bool) → AreUpTo tick (set_value P es tick) → AreUpTo tick (cond b ((e.0, tick) ∷ es) (e ∷ set_value P es tick))
     go true k = (omega arith, h.1)
     go false k = (h.0, k)
 
-ticks_all : (tick c : ℕ) (xs : List Seat) → AreUpTo tick xs → AreUpTo tick (map (dry_if tick c) xs)
-ticks_all tick c [] h = h
-ticks_all tick c (x ∷ xs) h = (go (x.ctx == c), ticks_all tick c xs h.1)
-  where
-    go : (b : Bool) → (cond b (dry_now tick x) x).dry_in ≤ tick
-    go true = omega arith
-    go false = h.0
-
-pub one_seated : (o : Bool) (P : Seat → Bool) (tick : ℕ) (xs : List Seat) → AreSeated o tick xs → AreSeated o tick (with_found P (dry_now tick) xs)
-one_seated o P tick xs h = record { order = λ k. ordered_same seat_of xs _ (ctxs_found P tick xs) (h.order k); ticks = ticks_found P tick xs h.ticks; begun = h.begun }
-
-ctxs_all : (tick c : ℕ) (xs : List Seat) → map seat_of (map (dry_if tick c) xs) ≡ map seat_of xs
-ctxs_all tick c [] = refl
-ctxs_all tick c (x ∷ xs) = pair (go (x.ctx == c)) (ctxs_all tick c xs)
-  where
-    go : (b : Bool) → (cond b (dry_now tick x) x).ctx ≡ x.ctx
-    go true = refl
-    go false = refl
-
-pub all_seated : (o : Bool) (tick c : ℕ) (xs : List Seat) → AreSeated o tick xs → AreSeated o tick (map (dry_if tick c) xs)
-all_seated o tick c xs h = record { order = λ k. ordered_same seat_of xs _ (ctxs_all tick c xs) (h.order k); ticks = ticks_all tick c xs h.ticks; begun = h.begun }
-
-long_found : (P : Seat → Bool) (tick : ℕ) (xs : List Seat) → length (with_found P (dry_now tick) xs) ≡ length xs
-long_found P tick [] = refl
-long_found P tick (x ∷ xs) = go (P x) (long_found P tick xs)
-  where
-    go : (b : Bool) → length (with_found P (dry_now tick) xs) ≡ length xs → length (cond b (dry_now tick x ∷ xs) (x ∷ with_found P (dry_now tick) xs)) ≡ length (x ∷ xs)
-    go true k = refl
-    go false k = omega (arith, k)
-
-pub any_placed : {Z : Type 0} (v : Vec Seat Z) (xs ys : List Seat) → ys ≡ v.items → (P : Seat → Bool) (tick : ℕ) → xs ≡ with_found P (dry_now tick) ys → (with_items v xs).items ≡ with_found P (dry_now tick) v.items
-any_placed v xs ys e P tick h =
-    let long : length xs ≡ length ys = ap length h ∙ long_found P tick ys in
-    with_items_is v xs (long ∙ ap length e ∙ sym v.ok.0) ∙ h ∙ ap (with_found P (dry_now tick)) e
+pub one_seated : (P : ℕ → Bool) (tick : ℕ) (es : List (ℕ × ℕ)) → AreSeated tick es → AreSeated tick (set_value P es tick)
+one_seated P tick es h = record { ticks = ticks_set P tick es h.ticks; begun = h.begun }
 
 -- ---- A tick
 
-ticks_on : (tick : ℕ) (xs : List Seat) → AreUpTo tick xs → AreUpTo (tick + 1) xs
+ticks_on : (tick : ℕ) (es : List (ℕ × ℕ)) → AreUpTo tick es → AreUpTo (tick + 1) es
 ticks_on tick [] h = h
-ticks_on tick (x ∷ xs) h = (omega (arith, h.0), ticks_on tick xs h.1)
+ticks_on tick (e ∷ es) h = (omega (arith, h.0), ticks_on tick es h.1)
 
-pub next_seated : (o : Bool) (tick : ℕ) (xs : List Seat) → AreSeated o tick xs → AreSeated o (tick + 1) xs
-next_seated o tick xs h = record { order = h.order; ticks = ticks_on tick xs h.ticks; begun = omega (arith, h.begun) }
+pub next_seated : (tick : ℕ) (es : List (ℕ × ℕ)) → AreSeated tick es → AreSeated (tick + 1) es
+next_seated tick es h = record { ticks = ticks_on tick es h.ticks; begun = omega (arith, h.begun) }
 
-pub next_view : (tick : ℕ) (xs : List Seat) → AreUpTo tick xs → map (seat_in (tick + 1)) xs ≡ map wetted (map (seat_in tick) xs)
+pub next_view : (tick : ℕ) (es : List (ℕ × ℕ)) → AreUpTo tick es → map (seat_in (tick + 1)) es ≡ map wetted (map (seat_in tick) es)
 next_view tick [] h = refl
-next_view tick (x ∷ xs) h = pair (ap (seat x.ctx) (below x.dry_in (tick + 1) (omega (arith, h.0)))) (next_view tick xs h.1)
+next_view tick (e ∷ es) h = pair (ap (seat e.0) (below e.1 (tick + 1) (omega (arith, h.0)))) (next_view tick es h.1)
 
-ticks_anew : (xs : List Seat) → AreUpTo 1 (map undried xs)
+ticks_anew : (es : List (ℕ × ℕ)) → AreUpTo 1 (with_all 0 es)
 ticks_anew [] = tt
-ticks_anew (x ∷ xs) = (omega arith, ticks_anew xs)
+ticks_anew (e ∷ es) = (omega arith, ticks_anew es)
 
-ctxs_anew : (xs : List Seat) → map seat_of (map undried xs) ≡ map seat_of xs
-ctxs_anew [] = refl
-ctxs_anew (x ∷ xs) = ap (λ (rest : List ℕ). x.ctx ∷ rest) (ctxs_anew xs)
+pub anew_seated : (es : List (ℕ × ℕ)) → AreSeated 1 (with_all 0 es)
+anew_seated es = record { ticks = ticks_anew es; begun = omega arith }
 
-pub anew_seated : (o : Bool) (tick : ℕ) (xs : List Seat) → AreSeated o tick xs → AreSeated o 1 (map undried xs)
-anew_seated o tick xs h = record { order = λ k. ordered_same seat_of xs _ (ctxs_anew xs) (h.order k); ticks = ticks_anew xs; begun = omega arith }
-
-pub anew_view : (tick : ℕ) (xs : List Seat) → map (seat_in 1) (map undried xs) ≡ map wetted (map (seat_in tick) xs)
+pub anew_view : (tick : ℕ) (es : List (ℕ × ℕ)) → map (seat_in 1) (with_all 0 es) ≡ map wetted (map (seat_in tick) es)
 anew_view tick [] = refl
-anew_view tick (x ∷ xs) = ap (λ (rest : List SeatView). seat x.ctx false ∷ rest) (anew_view tick xs)
+anew_view tick (e ∷ es) = ap (λ (rest : List SeatView). seat e.0 false ∷ rest) (anew_view tick es)
 
 -- ---- One more, and one less
 
-pub more_view : (tick c : ℕ) (xs : List Seat) → 1 ≤ tick → map (seat_in tick) (xs ++ record { ctx = c; dry_in = 0 } ∷ []) ≡ map (seat_in tick) xs ++ record { ctx = c; is_dry = false } ∷ []
+pub more_view : (tick c : ℕ) (es : List (ℕ × ℕ)) → 1 ≤ tick → map (seat_in tick) (es ++ (c, 0) ∷ []) ≡ map (seat_in tick) es ++ record { ctx = c; is_dry = false } ∷ []
 more_view tick c [] l = ap (λ (b : Bool). seat c b ∷ []) (below 0 tick (omega (arith, l)))
-more_view tick c (x ∷ xs) l = ap (λ (rest : List SeatView). seat_in tick x ∷ rest) (more_view tick c xs l)
+more_view tick c (e ∷ es) l = ap (λ (rest : List SeatView). seat_in tick e ∷ rest) (more_view tick c es l)
 
-pub ticks_more : (tick c : ℕ) (xs : List Seat) → AreUpTo tick xs → AreUpTo tick (xs ++ record { ctx = c; dry_in = 0 } ∷ [])
+ticks_more : (tick c : ℕ) (es : List (ℕ × ℕ)) → AreUpTo tick es → AreUpTo tick (insert_entry nat_cmp es c 0)
 ticks_more tick c [] h = (omega arith, tt)
-ticks_more tick c (x ∷ xs) h = (h.0, ticks_more tick c xs h.1)
+ticks_more tick c (e ∷ es) h = go (nat_cmp c e.0) (ticks_more tick c es h.1)
+  where
+    go : (o : Ordering) → AreUpTo tick (insert_entry nat_cmp es c 0) → AreUpTo tick (match_ordering o ((c, 0) ∷ e ∷ es) ((e.0, 0) ∷ es) (e ∷ insert_entry nat_cmp es c 0))
+    go Less k = (omega arith, h.0, h.1)
+    go Equal k = (omega arith, h.1)
+    go Greater k = (h.0, k)
 
-ticks_less : (P : Seat → Bool) (tick : ℕ) (xs : List Seat) → AreUpTo tick xs → AreUpTo tick (filter P xs)
+pub more_seated : (tick c : ℕ) (es : List (ℕ × ℕ)) → AreSeated tick es → AreSeated tick (insert_entry nat_cmp es c 0)
+more_seated tick c es h = record { ticks = ticks_more tick c es h.ticks; begun = h.begun }
+
+ticks_less : (P : ℕ → Bool) (tick : ℕ) (es : List (ℕ × ℕ)) → AreUpTo tick es → AreUpTo tick (remove_entry P es)
 ticks_less P tick [] h = h
-ticks_less P tick (x ∷ xs) h = go (P x) (ticks_less P tick xs h.1)
+ticks_less P tick (e ∷ es) h = go (P e.0) (ticks_less P tick es h.1)
   where
-    go : (b : Bool) → AreUpTo tick (filter P xs) → AreUpTo tick (cond b (x ∷ filter P xs) (filter P xs))
-    go true k = (h.0, k)
-    go false k = k
+    go : (b : Bool) → AreUpTo tick (remove_entry P es) → AreUpTo tick (cond b es (e ∷ remove_entry P es))
+    go true k = h.1
+    go false k = (h.0, k)
 
-pub less_seated : (o : Bool) (P : Seat → Bool) (tick : ℕ) (xs : List Seat) → AreSeated o tick xs → AreSeated o tick (filter P xs)
-less_seated o P tick xs h = record { order = λ k. ordered_filtered seat_of P xs (h.order k); ticks = ticks_less P tick xs h.ticks; begun = h.begun }
+pub less_seated : (P : ℕ → Bool) (tick : ℕ) (es : List (ℕ × ℕ)) → AreSeated tick es → AreSeated tick (remove_entry P es)
+less_seated P tick es h = record { ticks = ticks_less P tick es h.ticks; begun = h.begun }
 
-pub less_view : (tick c : ℕ) (xs : List Seat) → map (seat_in tick) (filter (λ (s : Seat). not (is_of seat_of c s)) xs) ≡ filter (λ (s : SeatView). not (s.ctx == c)) (map (seat_in tick) xs)
-less_view tick c [] = refl
-less_view tick c (x ∷ xs) = go (not (x.ctx == c)) (less_view tick c xs)
-  where
-    go : (b : Bool) → map (seat_in tick) (filter (λ (s : Seat). not (is_of seat_of c s)) xs) ≡ filter (λ (s : SeatView). not (s.ctx == c)) (map (seat_in tick) xs)
-        → map (seat_in tick) (cond b (x ∷ filter (λ (s : Seat). not (is_of seat_of c s)) xs) (filter (λ (s : Seat). not (is_of seat_of c s)) xs))
-        ≡ cond b (seat_in tick x ∷ filter (λ (s : SeatView). not (s.ctx == c)) (map (seat_in tick) xs)) (filter (λ (s : SeatView). not (s.ctx == c)) (map (seat_in tick) xs))
-    go true k = ap (λ (rest : List SeatView). seat_in tick x ∷ rest) k
-    go false k = k
+-- ---- The seats as they are seen, where n is the context's number
+
+abbrev pub seen : ℕ → List (ℕ × ℕ) → SeatsView
+seen tick es = record { items = map (seat_in tick) es }
+
+module _ (n c tick : ℕ) (v : SeatsView) (es : List (ℕ × ℕ)) (same : n ≡ c) (e : seen tick es ≡ v) where
+  pub dry_is : IsStrictlySortedBy nat_cmp (keys_of es) → (o : Option ℕ) → lookup (is_at (nat_cmp n)) es ≡ o → dry_found tick o ≡ dry_at c v.items
+  dry_is o r h = ap (dry_found tick) (sym h) ∙ dry_seen tick n es o ∙ ap (λ (u : SeatsView). dry_at n u.items) e ∙ ap (λ (m : ℕ). dry_at m v.items) same
+
+  pub dried_view : (fs : List (ℕ × ℕ)) → map (seat_in tick) fs ≡ map (dried n) (map (seat_in tick) es) → map (seat_in tick) fs ≡ map (dried c) v.items
+  dried_view fs h = h ∙ ap (λ (u : SeatsView). map (dried n) u.items) e ∙ ap (λ (m : ℕ). map (dried m) v.items) same

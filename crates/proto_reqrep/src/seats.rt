@@ -1,44 +1,23 @@
 //! The seats of open contexts.
 //!
-//! They stand in the order in which the contexts were opened, which is mostly that of their numbers, so that one is found
-//! by halving. Each has the number of the tick in which a copy for it found no memory, so that a new tick writes nothing
-//! to them.
-ghost use Rattle.std.specs.Prelude.{◌≡◌, ◌++◌, ◌∷◌, ◌==◌, ℕ, [], None, Some, true, false, not, IfOk, OnOk, OnErr, filter, map};
-ghost use Rattle.std.specs.List.{list_any, position};
-ghost use Rattle.proto_requests.specs.Backlogs.{is_of};
-ghost use Rattle.proto_requests.specs.FirstFound.{with_found};
-ghost use Rattle.proto_requests.specs.Ordered.{AreOrdered};
-ghost use Rattle.proto_reqrep.specs.Seats.{SeatView, seat_of, is_dry_on, dry_now, dry_if, undried};
-ghost use Rattle.proto_reqrep.specs.Reqs.{dry_at, dried, wetted};
+//! They are found by the contexts' numbers, so that one that is shut moves none of the others. Each has the number of the
+//! tick in which a copy for it found no memory, so that a new tick writes nothing to them.
+ghost use Rattle.std.specs.Prelude.{◌≡◌, ◌++◌, ◌∷◌, ◌==◌, [], true, false, not, IfOk, OnOk, OnErr, filter, map};
+ghost use Rattle.std.specs.List.{list_any, list_all};
+ghost use Rattle.proto_requests.specs.Ordered.{is_before};
+ghost use Rattle.proto_reqrep.specs.Seats.{SeatView};
+ghost use Rattle.proto_reqrep.specs.Reqs.{seat_ctx, dry_at, dried, wetted};
 
-use proto_requests::contexts::{OnCtx, goes_on, place_in, take_out};
 use sp_base::{Ctx, NoMemory};
 use std::alloc::Global;
+use std::collections::BTreeMap;
 use std::marker::Model;
-
-/// The seat of an open context.
-#[derive(Clone, Copy)]
-struct Seat {
-    ctx: Ctx,
-    /// The tick in which a copy of a request of it last found no memory, or 0.
-    dry_in: u64,
-}
-
-impl OnCtx for Seat {
-    ghost ctx_of = { λ s. s.ctx };
-
-    fn ctx(&self) -> Ctx {
-        self.ctx
-    }
-}
 
 /// The seats of open contexts.
 #[derive(Drop)]
 pub struct Seats {
-    /// In the order in which they were opened.
-    list: Vec<Seat>,
-    /// That is the order of their numbers.
-    in_order: bool,
+    /// The tick in which a copy of a request of each context last found no memory, or 0, by the contexts' numbers.
+    dry_in: BTreeMap<u32, u64>,
     /// The number of this tick, from 1 on.
     tick: u64,
 }
@@ -49,81 +28,9 @@ impl Model for Seats {
 
     ghost Value = { SeatsView };
 
-    ghost view = { λ m. record { items = map (seat_in m.tick) m.list.items } };
+    ghost view = { λ m. record { items = map (seat_in m.tick) m.dry_in.entries } };
 
-    ghost invariant = { λ m. AreSeated m.in_order m.tick m.list.items };
-}
-
-// ---- Whether one is dry
-
-// One of the context is dry in this tick. They are searched through.
-fn any_dry(list: &[Seat], tick: u64, c: Ctx) -> bool
-    ensures { result ≡ list_any (is_dry_on tick c) list.now }
-{
-    list.iter().any(|s| s.ctx.0 == c.0 && s.dry_in == tick)
-}
-
-// The same, where the only one of the context stands here.
-fn dry_here(list: &[Seat], place: Option<usize>, tick: u64) -> bool
-    ensures { (c : ℕ) → place ≡ position (is_of seat_of c) list.now → AreOrdered seat_of list.now → result ≡ list_any (is_dry_on tick c) list.now }
-{
-    match place {
-        None => false,
-        Some(i) => {
-            if i >= list.len() {
-                return false;
-            }
-            list[i].dry_in == tick
-        }
-    }
-}
-
-// ---- One is dry
-
-// Dry in this tick, if it is that of the context.
-fn dry_if(seat: Seat, tick: u64, c: Ctx) -> Seat
-    ensures { result ≡ dry_if tick c seat }
-{
-    if seat.ctx.0 == c.0 {
-        Seat {
-            ctx: seat.ctx,
-            dry_in: tick,
-        }
-    } else {
-        seat
-    }
-}
-
-// A copy for the context finds no memory in this tick. They are searched through.
-fn dry_all(list: &mut [Seat], tick: u64, c: Ctx)
-    ensures { list.new ≡ map (dry_if tick c) list.old }
-{
-    for seat in list.iter_mut() {
-        *seat = dry_if(*seat, tick, c);
-    }
-}
-
-// The same, where the only one of the context stands here.
-fn dry_place(list: &mut [Seat], place: Option<usize>, tick: u64)
-    ensures { (c : ℕ) → place ≡ position (is_of seat_of c) list.old → list.new ≡ with_found (is_of seat_of c) (dry_now tick) list.old }
-{
-    match place {
-        None => {}
-        Some(i) => {
-            if i < list.len() {
-                list[i].dry_in = tick;
-            }
-        }
-    }
-}
-
-// Dry in no tick.
-fn restart(list: &mut [Seat])
-    ensures { list.new ≡ map undried list.old }
-{
-    for seat in list.iter_mut() {
-        seat.dry_in = 0;
-    }
+    ghost invariant = { λ m. AreSeated m.tick m.dry_in.entries };
 }
 
 impl Seats {
@@ -131,16 +38,9 @@ impl Seats {
     pub fn new(alloc: Global) -> Result<Seats, NoMemory>
         ensures { IfOk result (λ v. v.items ≡ record { ctx = 0; is_dry = false } ∷ []) }
     {
-        let mut list = Vec::new(alloc);
-        match list.push(Seat {
-            ctx: Ctx(0),
-            dry_in: 0,
-        }) {
-            Ok(()) => Ok(Seats {
-                list,
-                in_order: true,
-                tick: 1,
-            }),
+        let mut dry_in = BTreeMap::new(alloc);
+        match dry_in.insert(0, 0) {
+            Ok(_) => Ok(Seats { dry_in, tick: 1 }),
             Err(_) => Err(NoMemory),
         }
     }
@@ -149,33 +49,30 @@ impl Seats {
     pub fn has(&self, c: Ctx) -> bool
         ensures { result ≡ list_any (λ (s : SeatView). s.ctx == c) self.now.items }
     {
-        place_in(&self.list, self.in_order, c).is_some()
+        self.dry_in.contains_key(&c.0)
     }
 
     /// A copy for the context found no memory.
     pub fn is_dry(&self, c: Ctx) -> bool
         ensures { result ≡ dry_at c self.now.items }
     {
-        if !self.in_order {
-            return any_dry(&self.list, self.tick, c);
+        // Gives the proof that the keys are in order.
+        let _len = self.dry_in.len();
+        match self.dry_in.get(&c.0) {
+            None => false,
+            Some(dry_in) => *dry_in == self.tick,
         }
-        dry_here(
-            &self.list,
-            place_in(&self.list, self.in_order, c),
-            self.tick,
-        )
     }
 
     /// A copy for the context finds no memory.
     pub fn dry(&mut self, c: Ctx)
         ensures { self.new.items ≡ map (dried c) self.old.items }
     {
-        if !self.in_order {
-            dry_all(&mut self.list, self.tick, c);
-            return;
+        let tick = self.tick;
+        match self.dry_in.get_mut(&c.0) {
+            None => {}
+            Some(dry_in) => *dry_in = tick,
         }
-        let place = place_in(&self.list, self.in_order, c);
-        dry_place(&mut self.list, place, self.tick);
     }
 
     /// Each may be tried again.
@@ -186,21 +83,34 @@ impl Seats {
             self.tick += 1;
             return;
         }
-        restart(&mut self.list);
+        self.dry_in.retain(|_, dry_in| {
+            *dry_in = 0;
+            true
+        });
         self.tick = 1;
     }
 
-    /// The context is open from now on. Where there is no memory, all is as before.
+    // The number of the context is above those of all that are open.
+    fn is_above_all(&self, c: Ctx) -> bool
+        ensures { list_all (is_before seat_ctx c) self.now.items ≡ true → result ≡ true }
+    {
+        match self.dry_in.last_key_value() {
+            None => true,
+            Some((last, _)) => *last < c.0,
+        }
+    }
+
+    /// The context is open from now on. Its number is above all others; one that isn't is that of no new context. Where
+    /// there is no memory, all is as before.
     pub fn open(&mut self, c: Ctx) -> Result<(), NoMemory>
-        ensures more { OnOk result (self.new.items ≡ self.old.items ++ record { ctx = c; is_dry = false } ∷ []) }
+        ensures more { OnOk result (list_all (is_before seat_ctx c) self.old.items ≡ true → self.new.items ≡ self.old.items ++ record { ctx = c; is_dry = false } ∷ []) }
         ensures same { OnErr result (self.new.items ≡ self.old.items) }
     {
-        let goes_on = goes_on(&self.list, self.in_order, c);
-        match self.list.push(Seat { ctx: c, dry_in: 0 }) {
-            Ok(()) => {
-                self.in_order = goes_on;
-                Ok(())
-            }
+        if !self.is_above_all(c) {
+            return Ok(());
+        }
+        match self.dry_in.insert(c.0, 0) {
+            Ok(_) => Ok(()),
             Err(_) => Err(NoMemory),
         }
     }
@@ -209,6 +119,8 @@ impl Seats {
     pub fn close(&mut self, c: Ctx)
         ensures { self.new.items ≡ filter (λ (s : SeatView). not (s.ctx == c)) self.old.items }
     {
-        take_out(&mut self.list, self.in_order, c);
+        // Gives the proof that the keys are in order.
+        let _len = self.dry_in.len();
+        let _ = self.dry_in.remove(&c.0);
     }
 }

@@ -8,7 +8,8 @@ pub mod PortsInOrder
 pub mod Piping
 pub mod KnownPipes
 pub mod NamesApart
-pub mod NumberOrder
+pub mod NumberedEntries
+pub mod OpenContexts
 pub mod NumberIndexes
 pub mod Trailing
 pub mod Spotted

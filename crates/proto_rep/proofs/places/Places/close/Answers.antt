@@ -1,10 +1,12 @@
-use Rattle.std.proofs.Common.{sym, subst}
-use Rattle.std.specs.Prelude.{not}
-use Rattle.proto_rep.specs.declared.rep.ReplyContext.{ReplyContext}
-use Rattle.proto_requests.specs.Ordered.{AreOrdered}
+use Rattle.std.proofs.Common.{◌∙◌, ap, refl, map, ℕ}
+use Rattle.std.specs.Prelude.{filter, not}
+use Rattle.proto_rep.specs.Places.{ReplyContext, PlacesView, place_of}
 use Rattle.proto_rep.specs.Reps.{is_home, ctx_of}
-use Rattle.proto_requests.proofs.NumberOrder.{ordered_filtered}
+use Rattle.proto_requests.proofs.NumberedEntries.{less_seen}
 use Rattle.proto_rep.proofs.places.Places.close.Goals as goal
 
-pub invariant_of-self : goal.invariant_of-self
-invariant_of-self c = λ o. subst (AreOrdered ctx_of) (sym c.take_out.ensures) (ordered_filtered ctx_of (λ (x : ReplyContext). not (is_home c.args.c x)) c.self.inside.list.items (c.self.invariant o))
+pub returns : goal.returns
+returns c =
+    let n = c.c.inside.0 in
+    ap (map place_of) c.remove.ensures.entries ∙ less_seen ctx_of place_of (λ e. refl) n c.self.inside.stored.entries c.len-len.ensures.ordered ∙ ap (λ (v : PlacesView). filter (λ (x : ReplyContext). not (is_home n x)) v.items) c.self.view_is
+    ∙ ap (λ (m : ℕ). filter (λ (x : ReplyContext). not (is_home m x)) c.args.self.now.items) c.c.view_is

@@ -1,4 +1,4 @@
-use Rattle.std.proofs.Common.{refl, arith, ◌∙◌, sym, ap, subst, ◌≡◌}
+use Rattle.std.proofs.Common.{refl, arith, sym, ap, subst, ◌≡◌}
 use Rattle.proto_requests.specs.Ports.{free_count}
 use Rattle.proto_rep.specs.Operations.{count, room}
 use Rattle.proto_rep.specs.Reps.{Gives}

@@ -1,4 +1,4 @@
-use Rattle.std.proofs.Common.{◌≡◌, ◌∙◌, sym, ap, subst, true, Some, None, List, arith, length, take, map, ◌+◌, cond, false}
+use Rattle.std.proofs.Common.{◌≡◌, ◌∙◌, sym, ap, subst, true, Some, None, List, arith, length, take, ◌+◌, cond, false}
 use Rattle.std.specs.Prelude.{find, ◌==◌}
 use Rattle.std.specs.Vec.{with_items}
 use Rattle.std.specs.List.{position, list_any}

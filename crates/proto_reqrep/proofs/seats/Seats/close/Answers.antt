@@ -1,13 +1,19 @@
-use Rattle.std.proofs.Common.{◌∙◌, sym, ap, subst, map}
+use Rattle.std.proofs.Common.{◌∙◌, ap, sym, refl, map, subst, ℕ}
 use Rattle.std.specs.Prelude.{filter, not, ◌==◌}
-use Rattle.proto_requests.specs.Backlogs.{is_of}
-use Rattle.proto_reqrep.specs.declared.seats.Seat.{Seat}
-use Rattle.proto_reqrep.specs.Seats.{SeatView, SeatsView, AreSeated, seat_of, seat_in}
-use Rattle.proto_reqrep.proofs.Seated.{less_seated, less_view}
+use Rattle.std.specs.Ordering.{nat_cmp}
+use Rattle.std.specs.BTreeMap.{is_at}
+use Rattle.proto_requests.proofs.NumberedEntries.{less_seen}
+use Rattle.proto_reqrep.specs.Seats.{SeatView, SeatsView, AreSeated, seat_in}
+use Rattle.proto_reqrep.specs.Reqs.{seat_ctx}
+use Rattle.proto_reqrep.proofs.Seated.{less_seated}
 use Rattle.proto_reqrep.proofs.seats.Seats.close.Goals as goal
 
 pub invariant_of-self : goal.invariant_of-self
-invariant_of-self c = let m = c.self.inside in subst (AreSeated m.in_order m.tick) (sym c.take_out.ensures) (less_seated m.in_order (λ (s : Seat). not (is_of seat_of c.args.c s)) m.tick m.list.items c.self.invariant)
+invariant_of-self c = let m = c.self.inside in subst (AreSeated m.tick) (sym c.remove.ensures.entries) (less_seated (is_at (nat_cmp c.c.inside.0)) m.tick m.dry_in.entries c.self.invariant)
 
 pub returns : goal.returns
-returns c = let m = c.self.inside in ap (map (seat_in m.tick)) c.take_out.ensures ∙ less_view m.tick c.args.c m.list.items ∙ ap (λ (v : SeatsView). filter (λ (s : SeatView). not (s.ctx == c.args.c)) v.items) c.self.view_is
+returns c =
+    let n = c.c.inside.0 in
+    let m = c.self.inside in
+    ap (map (seat_in m.tick)) c.remove.ensures.entries ∙ less_seen seat_ctx (seat_in m.tick) (λ e. refl) n m.dry_in.entries c.len-len.ensures.ordered ∙ ap (λ (v : SeatsView). filter (λ (s : SeatView). not (s.ctx == n)) v.items) c.self.view_is
+    ∙ ap (λ (k : ℕ). filter (λ (s : SeatView). not (s.ctx == k)) c.args.self.now.items) c.c.view_is

@@ -1,37 +1,27 @@
-use Rattle.std.proofs.Common.{◌∙◌, ap, sym, subst, map}
-use Rattle.std.specs.List.{position}
-use Rattle.proto_requests.specs.Backlogs.{is_of}
-use Rattle.proto_requests.specs.Ordered.{AreOrdered}
-use Rattle.proto_requests.proofs.Positions.{any_written}
-use Rattle.proto_reqrep.specs.Seats.{SeatsView, AreSeated, seat_of, seat_in, dry_if}
-use Rattle.proto_reqrep.specs.Reqs.{dried}
-use Rattle.proto_reqrep.proofs.Seated.{one_dried, all_dried, any_placed, one_seated, all_seated}
+use Rattle.std.proofs.Common.{◌∙◌, ap, sym, subst, refl, Some, None}
+use Rattle.std.specs.Option.{option_copied_mut}
+use Rattle.std.specs.Ordering.{nat_cmp}
+use Rattle.std.specs.BTreeMap.{is_at}
+use Rattle.proto_reqrep.specs.Seats.{AreSeated}
+use Rattle.proto_reqrep.proofs.Seated.{one_dried, none_dried, dried_view, one_seated}
+use Rattle.proto_reqrep.proofs.seats.Seats.dry.Goals.{in-None, in-Some}
 use Rattle.proto_reqrep.proofs.seats.Seats.dry.Goals as goal
 
 pub invariant_of-self : goal.invariant_of-self
 invariant_of-self c =
     let m = c.self.inside in
-    let new = any_written (dry_if m.tick c.args.c) m.list c.dry_all.new.list c.deref_mut.result.now c.deref_mut.ensures.value c.dry_all.ensures in
-    subst (AreSeated m.in_order m.tick) (sym new) (all_seated m.in_order m.tick c.args.c m.list.items c.self.invariant)
-
-pub returns-then-not-self : goal.returns-then-not-self
-returns-then-not-self c =
-    let m = c.self.inside in
-    let new = any_written (dry_if m.tick c.args.c) m.list c.dry_all.new.list c.deref_mut.result.now c.deref_mut.ensures.value c.dry_all.ensures in
-    ap (map (seat_in m.tick)) new ∙ all_dried m.tick c.args.c m.list.items ∙ ap (λ (v : SeatsView). map (dried c.args.c) v.items) c.self.view_is
-
-pub invariant_of-self-2 : goal.invariant_of-self-2
-invariant_of-self-2 c =
-    let m = c.self.inside in
-    let e = c.deref.ensures.value in
-    let at = c.place_in-place.ensures (λ o. subst (AreOrdered seat_of) (sym e) (c.self.invariant.order o)) ∙ ap (position (is_of seat_of c.args.c)) (e ∙ sym c.deref_mut-2.ensures.value) in
-    let new = any_placed m.list c.dry_place.new.list c.deref_mut-2.result.now c.deref_mut-2.ensures.value (is_of seat_of c.args.c) m.tick (c.dry_place.ensures c.args.c at) in
-    subst (AreSeated m.in_order m.tick) (sym new) (one_seated m.in_order (is_of seat_of c.args.c) m.tick m.list.items c.self.invariant)
+    elim c.match-get_mut.branch [
+      in-None w ↦ rw w.self-inside-is (rw c.get_mut.follows.holds-at-none c.self.invariant)
+    | in-Some w ↦ rw w.self-inside-is (subst (AreSeated m.tick) (sym (c.get_mut.follows.holds m.tick).0) (one_seated (is_at (nat_cmp c.c.inside.0)) m.tick m.dry_in.entries c.self.invariant))
+    ]
 
 pub returns : goal.returns
 returns c =
+    let n = c.c.inside.0 in
     let m = c.self.inside in
-    let e = c.deref.ensures.value in
-    let at = c.place_in-place.ensures (λ o. subst (AreOrdered seat_of) (sym e) (c.self.invariant.order o)) ∙ ap (position (is_of seat_of c.args.c)) (e ∙ sym c.deref_mut-2.ensures.value) in
-    let new = any_placed m.list c.dry_place.new.list c.deref_mut-2.result.now c.deref_mut-2.ensures.value (is_of seat_of c.args.c) m.tick (c.dry_place.ensures c.args.c at) in
-    ap (map (seat_in m.tick)) new ∙ one_dried m.tick c.args.c m.list.items (c.self.invariant.order c.if-not-self.false) ∙ ap (λ (v : SeatsView). map (dried c.args.c) v.items) c.self.view_is
+    let es = m.dry_in.entries in
+    let view = dried_view n c.args.c m.tick c.args.self.now es c.c.view_is c.self.view_is in
+    elim c.match-get_mut.branch [
+      in-None w ↦ rw w.self-inside-is (rw c.get_mut.follows.holds-at-none (view es (none_dried m.tick n es (sym c.get_mut.ensures.value ∙ ap option_copied_mut w.in-None.is))))
+    | in-Some w ↦ rw w.self-inside-is (rw (c.get_mut.follows.holds m.tick).0 (view _ (one_dried m.tick n es c.get_mut.ensures.ordered)))
+    ]
