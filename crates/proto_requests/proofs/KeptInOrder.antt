@@ -4,7 +4,6 @@ use Rattle.std.specs.Prelude.{not, nat_lt, is_some, ◌&&◌, ◌||◌, ◌==◌
 use Rattle.std.specs.declared.cmp.Ordering.{Ordering}
 use Rattle.std.specs.declared.cmp.Ordering.TheVariants.{Less, Equal, Greater}
 use Rattle.std.specs.Ordering.{nat_cmp, match_ordering}
-use Rattle.std.specs.Cmp.{unsigned_tied}
 use Rattle.std.specs.List.{list_any, list_all, AllByRecursion}
 use Rattle.std.specs.List.Sorted.{IsStrictlySortedBy}
 use Rattle.std.specs.Map.{keys_of, values_of, remove_entry}
@@ -14,18 +13,12 @@ use Rattle.std.proofs.lemmas.Map.Keys.{sorted_head, sorted_tail}
 use Rattle.sp_history.specs.Lists.{has}
 use Rattle.sp_history.specs.Once.{AreDistinct}
 use Rattle.proto_requests.specs.Backlogs.{is_of, number_of, AreNumbered}
+use Rattle.proto_requests.proofs.NumberedEntries.{at_is, ahead, both_true}
 use Rattle.proto_requests.proofs.Backlogged.{any_has, distinct_more, distinct_left, kept_all}
-use Rattle.proto_requests.proofs.TestValues.{both_false, equal_of, turned}
-
--- a query for a number finds this one
-at_is : (n k : ℕ) → is_at (nat_cmp n) k ≡ (k == n)
-at_is n k = unsigned_tied n k ∙ sym (turned n k (n == k) refl)
+use Rattle.proto_requests.proofs.TestValues.{equal_of}
 
 above : (k n : ℕ) → nat_cmp k n ≡ Less → (k == n) ≡ false
 above k n h = grind (arith, nat_tests)
-
-ahead : (n k : ℕ) → nat_lt k n ≡ true → nat_cmp n k ≡ Greater
-ahead n k h = grind (arith, nat_tests)
 
 further : (k n : ℕ) → nat_lt k n ≡ true → nat_lt k (n + 1) ≡ true
 further k n h = grind (arith, nat_tests)
@@ -36,10 +29,6 @@ next_is n = grind (arith, nat_tests)
 pub none_is : (o : Option ℕ) → is_some o ≡ false → o ≡ None
 none_is None k = refl
 none_is (Some n) k = absurd cc
-
-both_true : (a b : Bool) → (a && b) ≡ true → (a ≡ true) × (b ≡ true)
-both_true true b h = (refl, h)
-both_true false b h = absurd cc
 
 module _ {A : Type 0} (pipe : A → ℕ) where
   -- what is kept of the pipe, as a test of an entry

@@ -23,7 +23,7 @@ at_is c k = unsigned_tied c k ∙ sym (turned c k (c == k) refl)
 pub behind : (m n : ℕ) → nat_cmp m n ≡ Less → (n == m) ≡ false
 behind m n h = grind (arith, nat_tests)
 
-ahead : (c k : ℕ) → nat_lt k c ≡ true → nat_cmp c k ≡ Greater
+pub ahead : (c k : ℕ) → nat_lt k c ≡ true → nat_cmp c k ≡ Greater
 ahead c k h = grind (arith, nat_tests)
 
 pub both_true : (a b : Bool) → (a && b) ≡ true → (a ≡ true) × (b ≡ true)

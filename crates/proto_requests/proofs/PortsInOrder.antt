@@ -36,9 +36,6 @@ at_place n m l = go (nat_lt n m) refl
 pub at_place_is : (n m i : ℕ) → n ≡ i → i < m → cond (nat_lt n m) (Some n) None ≡ Some i
 at_place_is n m i e l = at_place n m (omega (arith, e, l)) ∙ ap (λ (k : ℕ). Some k) e
 
-pub at_or_above : (m p : ℕ) → nat_lt m p ≡ false → (m == p) ≡ false → p < m
-at_or_above m p e f = grind (arith, nat_tests)
-
 pub at_none : (n m : ℕ) → n ≡ m → cond {A = Option ℕ} (nat_lt n m) (Some n) None ≡ None
 at_none n m l = go (nat_lt n m) refl
   where
