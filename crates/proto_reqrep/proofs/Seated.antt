@@ -132,7 +132,7 @@ ticks_more tick c [] h = (omega arith, tt)
 ticks_more tick c (e ∷ es) h = go (nat_cmp c e.0) (ticks_more tick c es h.1)
   where
     go : (o : Ordering) → AreUpTo tick (insert_entry nat_cmp es c 0) → AreUpTo tick (match_ordering o ((c, 0) ∷ e ∷ es) ((e.0, 0) ∷ es) (e ∷ insert_entry nat_cmp es c 0))
-    go Less k = (omega arith, h.0, h.1)
+    go Less k = (omega arith, h)
     go Equal k = (omega arith, h.1)
     go Greater k = (h.0, k)
 
