@@ -1,17 +1,16 @@
-//! Requests and replies through the core.
+//! Requests of a req through the core.
 ghost use Rattle.std.specs.Prelude.{◌<◌, ◌≤◌};
 
-use crate::{
-    MUCH, attach, attach_all_numbered, attach_numbered, attach_series, begin_recv, collect_all,
-    end, now, open_all, receive_all, report, send, send_all, since,
+use crate::calls::{
+    begin_recv, begin_sends, close_all, collect_all, end, open_all, receive_all, send, send_all,
 };
+use crate::makers::{Made, Scripted, driver_of};
+use crate::timing::{now, report, since};
+use crate::wires::{MUCH, attach_all, attach_all_numbered, attach_ending, attach_series};
 use core_driver::Driver;
-use proto_reqrep::{Reply, Request};
-use sp_base::{Ctx, NoMemory, Role};
-use sp_fakes::MemWire;
-use sp_history::setting::Options;
+use sp_base::{Ctx, NoMemory, Tick};
+use sp_msg::Wire;
 use sp_proto::Proto;
-use std::alloc::Global;
 use std::io::Eprint;
 use std::sync::Wait;
 use std::time::Clock;
@@ -19,21 +18,11 @@ use std::time::Clock;
 /// How many trips of one context are made.
 const TRIPS: u32 = 256;
 
-// A req of so many slots.
-fn new_req(alloc: Global, slots: u32) -> Result<Driver<Request, MemWire>, NoMemory>
-    requires { (0 < slots) × (slots ≤ 4096) }
-{
-    let machine = Request::new(alloc, Options::usual(Role::Req, 0), false)?;
-    Driver::new(alloc, machine, slots)
-}
+/// How many requests begin that find all pipes full.
+const WAITING: u32 = 16;
 
-// A rep of so many slots.
-fn new_rep(alloc: Global, slots: u32) -> Result<Driver<Reply, MemWire>, NoMemory>
-    requires { (0 < slots) × (slots ≤ 4096) }
-{
-    let machine = Reply::new(alloc, Options::usual(Role::Rep, 0), false)?;
-    Driver::new(alloc, machine, slots)
-}
+/// How often each request is replaced.
+const ROUNDS: u32 = 3;
 
 // The times of many calls.
 #[derive(Clone, Copy)]
@@ -43,9 +32,9 @@ struct Times {
 }
 
 // One trip of the req, whose reply comes in the serve.
-fn trip<P: Proto, R: AllocGlobal + Clock + Wait>(
+fn trip<P: Proto, W: Wire, R: AllocGlobal + Clock + Wait>(
     rt: &R,
-    req: &mut Driver<P, MemWire>,
+    req: &mut Driver<P, W>,
     times: &mut Times,
 ) {
     let start = now(rt);
@@ -61,25 +50,32 @@ fn trip<P: Proto, R: AllocGlobal + Clock + Wait>(
     times.trips = times.trips.saturating_add(since(rt, start));
 }
 
-// Trips of one context of a req over n pipes, the first of which gives the replies. The serves are timed alone.
-fn trips<P: Proto, R: AllocGlobal + Clock + Eprint + Wait>(
+// The trips of one context.
+fn trip_often<P: Proto, W: Wire, R: AllocGlobal + Clock + Wait>(
     rt: &R,
-    n: u32,
-    mut req: Driver<P, MemWire>,
-)
-    requires { (0 < n) × (n ≤ 4096) }
-{
-    attach_series(rt.alloc(), rt, &mut req, 0, TRIPS, true);
-    for place in 1..n {
-        attach(rt.alloc(), rt, &mut req, place, 0, 1_000);
-    }
+    req: &mut Driver<P, W>,
+) -> Times {
     let mut times = Times {
         trips: 0,
         serves: 0,
     };
     for _ in 0..TRIPS {
-        trip(rt, &mut req, &mut times);
+        trip(rt, req, &mut times);
     }
+    times
+}
+
+// Trips of one context of a req over n pipes, the first of which gives the replies. The serves are timed alone.
+fn trips<P: Proto, W: Scripted, R: AllocGlobal + Clock + Eprint + Wait>(
+    rt: &R,
+    n: u32,
+    mut req: Driver<P, W>,
+)
+    requires { (0 < n) × (n ≤ 4096) }
+{
+    attach_series(rt, &mut req, 0, TRIPS, true);
+    attach_all(rt, &mut req, n - 1, 0, 1_000);
+    let times = trip_often(rt, &mut req);
     report(
         rt,
         "a trip of a req without its serve",
@@ -98,40 +94,54 @@ fn trips<P: Proto, R: AllocGlobal + Clock + Eprint + Wait>(
 }
 
 // Sends a request of the context, and waits for its reply.
-fn ask<P: Proto, R: AllocGlobal + Wait>(rt: &R, req: &mut Driver<P, MemWire>, c: Ctx) {
+fn ask<P: Proto, W: Wire, R: AllocGlobal + Wait>(rt: &R, req: &mut Driver<P, W>, c: Ctx) {
     send(rt, req, c);
     let _ = req.collect(rt);
     begin_recv(rt, req, c);
 }
 
-// So many contexts, from 1 on, wait for replies that don't come. The pipe gives those to later requests.
-fn wait_for_replies<P: Proto, R: AllocGlobal + Wait>(
+// Sends a request of each of so many contexts, from 1 on, and waits for their replies.
+fn ask_all<P: Proto, W: Wire, R: AllocGlobal + Wait>(
     rt: &R,
-    req: &mut Driver<P, MemWire>,
+    req: &mut Driver<P, W>,
     contexts: u32,
 ) {
-    open_all(rt, req, contexts);
-    attach_series(rt.alloc(), rt, req, contexts, TRIPS, true);
     for i in 0..contexts {
         ask(rt, req, Ctx(i.saturating_add(1)));
     }
 }
 
+// So many contexts, from 1 on, wait for replies that don't come. The pipe gives those to later requests.
+fn wait_for_replies<P: Proto, W: Scripted, R: AllocGlobal + Wait>(
+    rt: &R,
+    req: &mut Driver<P, W>,
+    contexts: u32,
+) {
+    open_all(rt, req, contexts);
+    attach_series(rt, req, contexts, TRIPS, true);
+    ask_all(rt, req, contexts);
+}
+
+// The trips of one context, each with its serve.
+fn ask_often<P: Proto, W: Wire, R: AllocGlobal + Wait>(rt: &R, req: &mut Driver<P, W>) {
+    for _ in 0..TRIPS {
+        ask(rt, req, Ctx(0));
+        req.serve(rt);
+        let _ = req.collect(rt);
+    }
+}
+
 // Trips of one context of a req while n - 2 others wait for replies that don't come.
-fn trips_among_waiting<P: Proto, R: AllocGlobal + Clock + Eprint + Wait>(
+fn trips_among_waiting<P: Proto, W: Scripted, R: AllocGlobal + Clock + Eprint + Wait>(
     rt: &R,
     n: u32,
-    mut req: Driver<P, MemWire>,
+    mut req: Driver<P, W>,
 )
     requires { (0 < n) × (n ≤ 4096) }
 {
     wait_for_replies(rt, &mut req, n.saturating_sub(2));
     let start = now(rt);
-    for _ in 0..TRIPS {
-        ask(rt, &mut req, Ctx(0));
-        req.serve(rt);
-        let _ = req.collect(rt);
-    }
+    ask_often(rt, &mut req);
     report(
         rt,
         "a trip of a req while n contexts wait",
@@ -142,24 +152,33 @@ fn trips_among_waiting<P: Proto, R: AllocGlobal + Clock + Eprint + Wait>(
     end(rt, req);
 }
 
+// Each of so many contexts, from 1 on, asks anew. Its receive ends, and it waits again.
+fn ask_all_anew<P: Proto, W: Wire, R: AllocGlobal + Wait>(
+    rt: &R,
+    req: &mut Driver<P, W>,
+    contexts: u32,
+) {
+    for i in 0..contexts {
+        let c = Ctx(i.saturating_add(1));
+        send(rt, req, c);
+        let _ = req.collect_first(rt);
+        let _ = req.collect(rt);
+        begin_recv(rt, req, c);
+    }
+}
+
 // Each of n - 2 contexts of a req that wait for replies asks anew, and its receive ends.
-fn asked_anew<P: Proto, R: AllocGlobal + Clock + Eprint + Wait>(
+fn asked_anew<P: Proto, W: Scripted, R: AllocGlobal + Clock + Eprint + Wait>(
     rt: &R,
     n: u32,
-    mut req: Driver<P, MemWire>,
+    mut req: Driver<P, W>,
 )
     requires { (0 < n) × (n ≤ 4096) }
 {
     let contexts = n.saturating_sub(2);
     wait_for_replies(rt, &mut req, contexts);
     let start = now(rt);
-    for i in 0..contexts {
-        let c = Ctx(i.saturating_add(1));
-        send(rt, &mut req, c);
-        let _ = req.collect_first(rt);
-        let _ = req.collect(rt);
-        begin_recv(rt, &mut req, c);
-    }
+    ask_all_anew(rt, &mut req, contexts);
     report(
         rt,
         "a request in place of one whose receive waits",
@@ -171,10 +190,10 @@ fn asked_anew<P: Proto, R: AllocGlobal + Clock + Eprint + Wait>(
 }
 
 // A request of each of n contexts over n pipes, each of which gives a reply.
-fn each_context_asks<P: Proto, R: AllocGlobal + Clock + Eprint + Wait>(
+fn each_context_asks<P: Proto, W: Scripted, R: AllocGlobal + Clock + Eprint + Wait>(
     rt: &R,
     n: u32,
-    mut req: Driver<P, MemWire>,
+    mut req: Driver<P, W>,
 )
     requires { (0 < n) × (n ≤ 4096) }
 {
@@ -198,6 +217,15 @@ fn each_context_asks<P: Proto, R: AllocGlobal + Clock + Eprint + Wait>(
         since(rt, start),
         n,
     );
+    replies(rt, n, req);
+}
+
+// The replies to n requests come, and are collected.
+fn replies<P: Proto, W: Wire + Drop, R: AllocGlobal + Clock + Eprint + Wait>(
+    rt: &R,
+    n: u32,
+    mut req: Driver<P, W>,
+) {
     let start = now(rt);
     req.serve(rt);
     report(
@@ -213,169 +241,149 @@ fn each_context_asks<P: Proto, R: AllocGlobal + Clock + Eprint + Wait>(
     end(rt, req);
 }
 
-// A rep that keeps a request of each of n pipes, takes each and replies.
-fn each_pipe_asks<P: Proto, R: AllocGlobal + Clock + Eprint + Wait>(
+// Requests of n contexts are out, each on a pipe of its own. The pipes of the second half go down in one serve, and what
+// was out on them goes out again on the others.
+fn pipes_go_down<P: Proto, W: Scripted, R: AllocGlobal + Clock + Eprint + Wait>(
     rt: &R,
     n: u32,
-    mut rep: Driver<P, MemWire>,
+    mut req: Driver<P, W>,
 )
     requires { (0 < n) × (n ≤ 4096) }
 {
-    attach_all_numbered(rt, &mut rep, n, MUCH);
+    let half = n / 2;
+    open_all(rt, &mut req, n - 1);
+    attach_all(rt, &mut req, n - half, 0, MUCH);
+    attach_ending(rt, &mut req, half, 0);
+    send_all(rt, &mut req, n);
     let start = now(rt);
-    rep.serve(rt);
+    req.serve(rt);
     report(
         rt,
-        "serve of a rep that keeps a request of each, a pipe",
+        "a pipe of a req goes down, whose request goes out again",
         n,
         since(rt, start),
-        n,
+        half,
     );
-    let start = now(rt);
-    for _ in 0..n {
-        reply(rt, &mut rep, Ctx(0));
-    }
-    report(
-        rt,
-        "a request that is kept, and its reply",
-        n,
-        since(rt, start),
-        n,
-    );
-    end(rt, rep);
+    end(rt, req);
 }
 
-// Receives what is kept, and replies.
-fn reply<P: Proto, R: AllocGlobal + Wait>(rt: &R, rep: &mut Driver<P, MemWire>, c: Ctx) {
-    begin_recv(rt, rep, c);
-    let _ = rep.collect_first(rt);
-    send(rt, rep, c);
-    let _ = rep.collect_first(rt);
-}
-
-// A request comes to each of so many contexts, one in a serve: the one that has waited longest. It replies, and waits
-// again.
-fn answer_all<P: Proto, R: AllocGlobal + Wait>(
+// Requests of n contexts are out on one pipe, and go out again at a tick.
+fn resends<P: Proto, W: Scripted, R: AllocGlobal + Clock + Eprint + Wait>(
     rt: &R,
-    rep: &mut Driver<P, MemWire>,
+    n: u32,
+    mut req: Driver<P, W>,
+)
+    requires { (0 < n) × (n ≤ 4096) }
+{
+    open_all(rt, &mut req, n - 1);
+    attach_all(rt, &mut req, 1, 0, MUCH);
+    send_all(rt, &mut req, n);
+    let start = now(rt);
+    let _ = req.tick(rt, rt.alloc(), Tick(1_000_000));
+    report(
+        rt,
+        "a request goes out again at a tick, by live requests",
+        n,
+        since(rt, start),
+        n,
+    );
+    end(rt, req);
+}
+
+// The contexts of a req, each of which has a live request, are shut.
+fn shuts<P: Proto, W: Scripted, R: AllocGlobal + Clock + Eprint + Wait>(
+    rt: &R,
+    n: u32,
+    mut req: Driver<P, W>,
+)
+    requires { (0 < n) × (n ≤ 4096) }
+{
+    open_all(rt, &mut req, n - 1);
+    attach_all(rt, &mut req, 1, 0, MUCH);
+    send_all(rt, &mut req, n);
+    let start = now(rt);
+    close_all(rt, &mut req, n - 1);
+    report(
+        rt,
+        "a context of a req is shut, by contexts",
+        n,
+        since(rt, start),
+        n - 1,
+    );
+    end(rt, req);
+}
+
+// Each of so many contexts sends a request in place of its last one, one after the other, again and again.
+fn replace_all<P: Proto, W: Wire, R: AllocGlobal + Wait>(
+    rt: &R,
+    req: &mut Driver<P, W>,
     contexts: u32,
 ) {
-    for c in 0..contexts {
-        rep.serve(rt);
-        let _ = rep.collect_first(rt);
-        send(rt, rep, Ctx(c));
-        let _ = rep.collect(rt);
-        begin_recv(rt, rep, Ctx(c));
+    for _ in 0..ROUNDS {
+        send_all(rt, req, contexts);
     }
 }
 
-// A rep of which n contexts wait for requests.
-fn waiting_contexts<P: Proto, R: AllocGlobal + Clock + Eprint + Wait>(
+// The requests of n contexts are replaced in turn, over one pipe and at one tick.
+fn replaced<P: Proto, W: Scripted, R: AllocGlobal + Clock + Eprint + Wait>(
     rt: &R,
     n: u32,
-    mut rep: Driver<P, MemWire>,
+    mut req: Driver<P, W>,
 )
     requires { (0 < n) × (n ≤ 4096) }
 {
-    open_all(rt, &mut rep, n - 1);
-    attach_series(rt.alloc(), rt, &mut rep, 0, n, true);
+    open_all(rt, &mut req, n - 1);
+    attach_all(rt, &mut req, 1, 0, MUCH);
+    send_all(rt, &mut req, n);
     let start = now(rt);
-    receive_all(rt, &mut rep, n);
+    replace_all(rt, &mut req, n);
     report(
         rt,
-        "n begins of receives on n contexts of a rep, a receive",
+        "a request is replaced, by live requests",
         n,
         since(rt, start),
-        n,
+        ROUNDS * n,
     );
-    let start = now(rt);
-    answer_all(rt, &mut rep, n);
-    report(
-        rt,
-        "a request and its reply while n contexts wait",
-        n,
-        since(rt, start),
-        n,
-    );
-    end(rt, rep);
+    end(rt, req);
 }
 
-// A rep of which n - 1 contexts wait for requests. The reply of one more waits for room at its pipe.
-fn waiting_beside_a_reply<P: Proto, R: AllocGlobal + Clock + Eprint + Wait>(
+// Requests that wait while n pipes are full. This one grows with the pipes: each turn that ends asks each pipe for room,
+// since what is left then is only what can't go out.
+fn full_pipes<P: Proto, W: Scripted, R: AllocGlobal + Clock + Eprint + Wait>(
     rt: &R,
     n: u32,
-    mut rep: Driver<P, MemWire>,
-)
-    requires { (0 < n) × (n ≤ 4096) }
-{
-    let last = n - 1;
-    open_all(rt, &mut rep, last);
-    attach_numbered(rt.alloc(), rt, &mut rep, 1, 0, 0);
-    rep.serve(rt);
-    begin_recv(rt, &mut rep, Ctx(last));
-    let _ = rep.collect_first(rt);
-    attach_series(rt.alloc(), rt, &mut rep, 0, n, true);
-    receive_all(rt, &mut rep, last);
-    send(rt, &mut rep, Ctx(last));
+    mut req: Driver<P, W>,
+) {
+    open_all(rt, &mut req, WAITING - 1);
+    attach_all(rt, &mut req, n, 0, 0);
     let start = now(rt);
-    answer_all(rt, &mut rep, last);
+    begin_sends(rt, &mut req, WAITING);
     report(
         rt,
-        "a request and its reply while n contexts wait, and a reply at a full pipe",
+        "begin_send of a req while all pipes are full, a call",
         n,
         since(rt, start),
-        last,
+        WAITING,
     );
-    end(rt, rep);
+    end(rt, req);
 }
 
-// A rep of n contexts, each of which replies to a pipe that is full.
-fn replies_at_full_pipes<P: Proto, R: AllocGlobal + Clock + Eprint + Wait>(
+/// Each row of a req at this size.
+pub fn measure<P: Made, W: Scripted, R: AllocGlobal + Clock + Eprint + Wait>(
     rt: &R,
     n: u32,
-    mut rep: Driver<P, MemWire>,
-)
-    requires { (0 < n) × (n ≤ 4096) }
-{
-    open_all(rt, &mut rep, n - 1);
-    attach_all_numbered(rt, &mut rep, n, 0);
-    rep.serve(rt);
-    receive_all(rt, &mut rep, n);
-    collect_all(rt, &mut rep, n);
-    send_all(rt, &mut rep, n - 1);
-    let start = now(rt);
-    send(rt, &mut rep, Ctx(n - 1));
-    report(
-        rt,
-        "begin_send of a rep while n replies wait at full pipes, a pipe",
-        n,
-        since(rt, start),
-        n,
-    );
-    let start = now(rt);
-    rep.serve(rt);
-    report(
-        rt,
-        "serve while n replies wait at full pipes, a pipe",
-        n,
-        since(rt, start),
-        n,
-    );
-    end(rt, rep);
-}
-
-/// Each row at this size.
-pub fn measure<R: AllocGlobal + Clock + Eprint + Wait>(rt: &R, n: u32) -> Result<(), NoMemory>
+) -> Result<(), NoMemory>
     requires { (0 < n) × (n ≤ 4096) }
 {
     let alloc = rt.alloc();
-    trips(rt, n, new_req(alloc, n)?);
-    trips_among_waiting(rt, n, new_req(alloc, n)?);
-    asked_anew(rt, n, new_req(alloc, n)?);
-    each_context_asks(rt, n, new_req(alloc, n)?);
-    each_pipe_asks(rt, n, new_rep(alloc, n)?);
-    waiting_contexts(rt, n, new_rep(alloc, n)?);
-    waiting_beside_a_reply(rt, n, new_rep(alloc, n)?);
-    replies_at_full_pipes(rt, n, new_rep(alloc, n)?);
+    trips(rt, n, driver_of::<P, W>(alloc, n)?);
+    trips_among_waiting(rt, n, driver_of::<P, W>(alloc, n)?);
+    asked_anew(rt, n, driver_of::<P, W>(alloc, n)?);
+    each_context_asks(rt, n, driver_of::<P, W>(alloc, n)?);
+    pipes_go_down(rt, n, driver_of::<P, W>(alloc, n)?);
+    resends(rt, n, driver_of::<P, W>(alloc, n)?);
+    shuts(rt, n, driver_of::<P, W>(alloc, n)?);
+    replaced(rt, n, driver_of::<P, W>(alloc, n)?);
+    full_pipes(rt, n, driver_of::<P, W>(alloc, n)?);
     Ok(())
 }

@@ -1,42 +1,37 @@
 //! Surveys through the core.
 ghost use Rattle.std.specs.Prelude.{◌<◌, ◌≤◌};
 
-use crate::{
-    MUCH, attach_numbered, attach_series, begin_recv, collect_all, end, now, open_all, receive_all,
-    report, send, send_all, since,
+use crate::calls::{
+    collect_all, end, open_all, receive_all, receive_kept, send, send_all, serve_many,
 };
+use crate::makers::{Made, Scripted, driver_of};
+use crate::timing::{now, report, since};
+use crate::wires::{MUCH, attach_numbered, attach_series};
 use core_driver::Driver;
-use proto_survey::Survey;
-use sp_base::{Ctx, NoMemory, Role};
-use sp_fakes::MemWire;
-use sp_history::setting::Options;
+use sp_base::{Ctx, NoMemory};
 use sp_proto::Proto;
-use std::alloc::Global;
 use std::io::Eprint;
 use std::sync::Wait;
 use std::time::Clock;
 
-// A surveyor of so many slots, which keeps 8,192 responses.
-fn new_survey(alloc: Global, slots: u32) -> Result<Driver<Survey, MemWire>, NoMemory>
-    requires { (0 < slots) × (slots ≤ 4096) }
-{
-    let mut options = Options::usual(Role::Surveyor, 0);
-    options.queue = 8_192;
-    let machine = Survey::new(alloc, options, false)?;
-    Driver::new(alloc, machine, slots)
+// So many pipes more, each of which gives a response to the first survey.
+fn attach_respondents<P: Proto, W: Scripted, R: AllocGlobal + Wait>(
+    rt: &R,
+    survey: &mut Driver<P, W>,
+    pipes: u32,
+) {
+    for _ in 0..pipes {
+        attach_numbered(rt, survey, 0, MUCH);
+    }
 }
 
 // One survey over n wires, each of which gives a response.
-fn surveyed_wires<P: Proto, R: AllocGlobal + Clock + Eprint + Wait>(
+fn surveyed_wires<P: Proto, W: Scripted, R: AllocGlobal + Clock + Eprint + Wait>(
     rt: &R,
     n: u32,
-    mut survey: Driver<P, MemWire>,
-)
-    requires { (0 < n) × (n ≤ 4096) }
-{
-    for place in 0..n {
-        attach_numbered(rt.alloc(), rt, &mut survey, place, 0, MUCH);
-    }
+    mut survey: Driver<P, W>,
+) {
+    attach_respondents(rt, &mut survey, n);
     let start = now(rt);
     send(rt, &mut survey, Ctx(0));
     let _ = survey.collect_first(rt);
@@ -51,10 +46,7 @@ fn surveyed_wires<P: Proto, R: AllocGlobal + Clock + Eprint + Wait>(
         n,
     );
     let start = now(rt);
-    for _ in 0..n {
-        begin_recv(rt, &mut survey, Ctx(0));
-        let _ = survey.collect_first(rt);
-    }
+    receive_kept(rt, &mut survey, n);
     report(
         rt,
         "begin_recv of a response and collect",
@@ -66,15 +58,15 @@ fn surveyed_wires<P: Proto, R: AllocGlobal + Clock + Eprint + Wait>(
 }
 
 // A survey of each of n contexts over one wire, which gives the responses.
-fn surveying_contexts<P: Proto, R: AllocGlobal + Clock + Eprint + Wait>(
+fn surveying_contexts<P: Proto, W: Scripted, R: AllocGlobal + Clock + Eprint + Wait>(
     rt: &R,
     n: u32,
-    mut survey: Driver<P, MemWire>,
+    mut survey: Driver<P, W>,
 )
     requires { (0 < n) × (n ≤ 4096) }
 {
     open_all(rt, &mut survey, n - 1);
-    attach_series(rt.alloc(), rt, &mut survey, 0, n, false);
+    attach_series(rt, &mut survey, 0, n, false);
     let start = now(rt);
     send_all(rt, &mut survey, n);
     report(rt, "a survey, a context", n, since(rt, start), n);
@@ -87,11 +79,20 @@ fn surveying_contexts<P: Proto, R: AllocGlobal + Clock + Eprint + Wait>(
         since(rt, start),
         n,
     );
+    responses(rt, n, survey);
+}
+
+// The responses to n surveys come, and are collected.
+fn responses<P: Proto, W: Scripted, R: AllocGlobal + Clock + Eprint + Wait>(
+    rt: &R,
+    n: u32,
+    mut survey: Driver<P, W>,
+)
+    requires { n ≤ 4096 }
+{
     let start = now(rt);
     // A serve takes 64 messages of a pipe.
-    for _ in 0..n / 64 + 1 {
-        survey.serve(rt);
-    }
+    serve_many(rt, &mut survey, n / 64 + 1);
     report(
         rt,
         "serves that end n receives, a response",
@@ -105,11 +106,14 @@ fn surveying_contexts<P: Proto, R: AllocGlobal + Clock + Eprint + Wait>(
     end(rt, survey);
 }
 
-/// Each count of wires, and of contexts.
-pub fn measure<R: AllocGlobal + Clock + Eprint + Wait>(rt: &R) -> Result<(), NoMemory> {
-    surveyed_wires(rt, 100, new_survey(rt.alloc(), 100)?);
-    surveyed_wires(rt, 1_000, new_survey(rt.alloc(), 1_000)?);
-    surveying_contexts(rt, 16, new_survey(rt.alloc(), 16)?);
-    surveying_contexts(rt, 256, new_survey(rt.alloc(), 256)?);
+/// Each count of wires, and of contexts, of a surveyor.
+pub fn measure<P: Made, W: Scripted, R: AllocGlobal + Clock + Eprint + Wait>(
+    rt: &R,
+) -> Result<(), NoMemory> {
+    let alloc = rt.alloc();
+    surveyed_wires(rt, 100, driver_of::<P, W>(alloc, 100)?);
+    surveyed_wires(rt, 1_000, driver_of::<P, W>(alloc, 1_000)?);
+    surveying_contexts(rt, 16, driver_of::<P, W>(alloc, 16)?);
+    surveying_contexts(rt, 256, driver_of::<P, W>(alloc, 256)?);
     Ok(())
 }

@@ -1,5 +1,5 @@
 //! Requests and replies.
-use crate::moves::{come, opens, receive, send, take_offer, ups};
+use crate::moves::{Made, come, opens, receive, send, take_offer, ups};
 use crate::timing::{now, row};
 use proto_reqrep::{Reply, Request};
 use sp_base::{Ctx, NoMemory, PipeId, Role, Tick};
@@ -15,18 +15,33 @@ const TRIPS: u32 = 1_000;
 /// How many pipes go down, and how many contexts are shut.
 const TIMES: u32 = 100;
 
-fn new_req(alloc: Global) -> Result<Request, NoMemory> {
-    Request::new(alloc, Options::usual(Role::Req, 0), false)
+impl Made for Request {
+    fn made(alloc: Global) -> Result<Request, NoMemory> {
+        Request::new(alloc, Options::usual(Role::Req, 0), false)
+    }
 }
 
-fn new_rep(alloc: Global) -> Result<Reply, NoMemory> {
-    Reply::new(alloc, Options::usual(Role::Rep, 0), false)
+impl Made for Reply {
+    fn made(alloc: Global) -> Result<Reply, NoMemory> {
+        Reply::new(alloc, Options::usual(Role::Rep, 0), false)
+    }
 }
 
 // The frame that answers the request with this id.
 fn reply_to(id: u32) -> [u8; 5] {
     let [a, b, c, d] = id.to_be_bytes();
     [a | 128, b, c, d, 114]
+}
+
+// One trip of a req over so many pipes.
+fn trip<M: Proto>(req: &mut M, alloc: Global, id: u32, pipes: u32) -> Result<(), NoMemory> {
+    req.fresh();
+    send(req, alloc, 0, Ctx(0), b"q")?;
+    take_offer(req, pipes);
+    receive(req, 1, Ctx(0))?;
+    come(req, alloc, PipeId(1), &reply_to(id))?;
+    take_offer(req, pipes);
+    Ok(())
 }
 
 // Trips of one context of a req over so many pipes.
@@ -38,14 +53,34 @@ fn trips<M: Proto, R: AllocGlobal + Clock + Eprint>(
     ups(req, pipes)?;
     let start = now(rt);
     for i in 0..TRIPS {
-        req.fresh();
-        send(req, rt.alloc(), 0, Ctx(0), b"q")?;
-        take_offer(req, pipes);
-        receive(req, 1, Ctx(0))?;
-        come(req, rt.alloc(), PipeId(1), &reply_to(i))?;
-        take_offer(req, pipes);
+        trip(req, rt.alloc(), i, pipes)?;
     }
     row(rt, "a trip of a req, by pipes", pipes, start, TRIPS);
+    Ok(())
+}
+
+// A request of each of so many contexts goes out over one of so many pipes.
+fn ask_all<M: Proto>(
+    req: &mut M,
+    alloc: Global,
+    contexts: u32,
+    pipes: u32,
+) -> Result<(), NoMemory> {
+    for i in 0..contexts {
+        send(req, alloc, i, Ctx(i), b"q")?;
+        take_offer(req, pipes);
+    }
+    Ok(())
+}
+
+// A receive of each of so many contexts, and the reply to it, the last one first.
+fn answer_all<M: Proto>(req: &mut M, alloc: Global, contexts: u32) -> Result<(), NoMemory> {
+    for i in 0..contexts {
+        let c = contexts - 1 - i;
+        receive(req, c, Ctx(c))?;
+        come(req, alloc, PipeId(1), &reply_to(c))?;
+        take_offer(req, 1);
+    }
     Ok(())
 }
 
@@ -58,17 +93,29 @@ fn contexts<M: Proto, R: AllocGlobal + Clock + Eprint>(
     opens(req, count)?;
     ups(req, 1)?;
     let start = now(rt);
-    for i in 0..count {
-        send(req, rt.alloc(), i, Ctx(i), b"q")?;
-        take_offer(req, 1);
-    }
-    for i in 0..count {
-        let c = count - 1 - i;
-        receive(req, c, Ctx(c))?;
-        come(req, rt.alloc(), PipeId(1), &reply_to(c))?;
-        take_offer(req, 1);
-    }
+    ask_all(req, rt.alloc(), count, 1)?;
+    answer_all(req, rt.alloc(), count)?;
     row(rt, "a trip of a req, by live requests", count, start, count);
+    Ok(())
+}
+
+// A request comes on each of so many pipes.
+fn come_all<M: Proto>(rep: &mut M, alloc: Global, pipes: u32) -> Result<(), NoMemory> {
+    for i in 0..pipes {
+        come(rep, alloc, PipeId(i + 1), &reply_to(i))?;
+    }
+    Ok(())
+}
+
+// So many requests are received, and each is replied to.
+fn reply_all<M: Proto>(rep: &mut M, alloc: Global, pipes: u32) -> Result<(), NoMemory> {
+    for _ in 0..pipes {
+        rep.fresh();
+        receive(rep, 0, Ctx(0))?;
+        take_offer(rep, pipes);
+        send(rep, alloc, 1, Ctx(0), b"r")?;
+        take_offer(rep, pipes);
+    }
     Ok(())
 }
 
@@ -80,18 +127,21 @@ fn answers<M: Proto, R: AllocGlobal + Clock + Eprint>(
 ) -> Result<(), NoMemory> {
     ups(rep, pipes)?;
     let start = now(rt);
-    for i in 0..pipes {
-        come(rep, rt.alloc(), PipeId(i + 1), &reply_to(i))?;
-    }
-    for _ in 0..pipes {
-        rep.fresh();
-        receive(rep, 0, Ctx(0))?;
-        take_offer(rep, pipes);
-        send(rep, rt.alloc(), 1, Ctx(0), b"r")?;
-        take_offer(rep, pipes);
-    }
+    come_all(rep, rt.alloc(), pipes)?;
+    reply_all(rep, rt.alloc(), pipes)?;
     row(rt, "a trip of a rep, by pipes", pipes, start, pipes);
     Ok(())
+}
+
+// Of how many of so many pipes frames are wanted.
+fn wanted<M: Proto>(rep: &M, pipes: u32) -> u32 {
+    let mut wanted: u32 = 0;
+    for i in 0..pipes {
+        if rep.wants(PipeId(i + 1)) {
+            wanted = wanted.saturating_add(1);
+        }
+    }
+    wanted
 }
 
 // Each of so many pipes of a rep, which keeps a request of each, is asked whether frames of it are wanted.
@@ -101,16 +151,9 @@ fn asks<M: Proto, R: AllocGlobal + Clock + Eprint>(
     pipes: u32,
 ) -> Result<(), NoMemory> {
     ups(rep, pipes)?;
-    for i in 0..pipes {
-        come(rep, rt.alloc(), PipeId(i + 1), &reply_to(i))?;
-    }
+    come_all(rep, rt.alloc(), pipes)?;
     let start = now(rt);
-    let mut wanted: u32 = 0;
-    for i in 0..pipes {
-        if rep.wants(PipeId(i + 1)) {
-            wanted = wanted.saturating_add(1);
-        }
-    }
+    let wanted = wanted(rep, pipes);
     row(
         rt,
         "a pipe of a rep is asked, by what is kept",
@@ -118,6 +161,23 @@ fn asks<M: Proto, R: AllocGlobal + Clock + Eprint>(
         start,
         pipes.saturating_sub(wanted),
     );
+    Ok(())
+}
+
+// A receive of each of so many contexts begins.
+fn receive_all<M: Proto>(req: &mut M, contexts: u32) -> Result<(), NoMemory> {
+    for i in 0..contexts {
+        receive(req, i, Ctx(i))?;
+    }
+    Ok(())
+}
+
+// A reply to each of so many requests comes, to the last one first.
+fn end_all<M: Proto>(req: &mut M, alloc: Global, contexts: u32) -> Result<(), NoMemory> {
+    for i in 0..contexts {
+        come(req, alloc, PipeId(1), &reply_to(contexts - 1 - i))?;
+        take_offer(req, 1);
+    }
     Ok(())
 }
 
@@ -129,18 +189,10 @@ fn waits<M: Proto, R: AllocGlobal + Clock + Eprint>(
 ) -> Result<(), NoMemory> {
     opens(req, count)?;
     ups(req, 1)?;
-    for i in 0..count {
-        send(req, rt.alloc(), i, Ctx(i), b"q")?;
-        take_offer(req, 1);
-    }
-    for i in 0..count {
-        receive(req, i, Ctx(i))?;
-    }
+    ask_all(req, rt.alloc(), count, 1)?;
+    receive_all(req, count)?;
     let start = now(rt);
-    for i in 0..count {
-        come(req, rt.alloc(), PipeId(1), &reply_to(count - 1 - i))?;
-        take_offer(req, 1);
-    }
+    end_all(req, rt.alloc(), count)?;
     row(
         rt,
         "a reply at a req, by receives that wait",
@@ -149,6 +201,15 @@ fn waits<M: Proto, R: AllocGlobal + Clock + Eprint>(
         count,
     );
     Ok(())
+}
+
+// Pipes go down one after the other, from this number on, and what was out on each goes out again.
+fn down_some<M: Proto>(req: &mut M, first: u32, pipes: u32) {
+    for i in 0..TIMES {
+        req.fresh();
+        req.down(PipeId(first.saturating_add(i)));
+        take_offer(req, pipes);
+    }
 }
 
 // Requests of so many contexts are out, each on a pipe of its own. Pipes of the second half go down one after the other,
@@ -160,16 +221,9 @@ fn downs<M: Proto, R: AllocGlobal + Clock + Eprint>(
 ) -> Result<(), NoMemory> {
     opens(req, count)?;
     ups(req, count)?;
-    for i in 0..count {
-        send(req, rt.alloc(), i, Ctx(i), b"q")?;
-        take_offer(req, count);
-    }
+    ask_all(req, rt.alloc(), count, count)?;
     let start = now(rt);
-    for i in 0..TIMES {
-        req.fresh();
-        req.down(PipeId((count / 2).saturating_add(i)));
-        take_offer(req, count);
-    }
+    down_some(req, count / 2, count);
     row(
         rt,
         "a pipe of a req goes down, by live requests",
@@ -180,6 +234,13 @@ fn downs<M: Proto, R: AllocGlobal + Clock + Eprint>(
     Ok(())
 }
 
+// So many offers are taken, over one pipe.
+fn take_offers<M: Proto>(req: &mut M, count: u32) {
+    for _ in 0..count {
+        take_offer(req, 1);
+    }
+}
+
 // Requests of so many contexts are out, and go out again when their time has come.
 fn resends<M: Proto, R: AllocGlobal + Clock + Eprint>(
     rt: &R,
@@ -188,15 +249,10 @@ fn resends<M: Proto, R: AllocGlobal + Clock + Eprint>(
 ) -> Result<(), NoMemory> {
     opens(req, count)?;
     ups(req, 1)?;
-    for i in 0..count {
-        send(req, rt.alloc(), i, Ctx(i), b"q")?;
-        take_offer(req, 1);
-    }
+    ask_all(req, rt.alloc(), count, 1)?;
     let start = now(rt);
     req.clock(Tick(1_000_000));
-    for _ in 0..count {
-        take_offer(req, 1);
-    }
+    take_offers(req, count);
     row(
         rt,
         "a request goes out again, by live requests",
@@ -224,34 +280,37 @@ fn shuts<M: Proto, R: AllocGlobal + Clock + Eprint>(
 }
 
 // All nine over so many.
-fn each<R: AllocGlobal + Clock + Eprint>(rt: &R, size: u32) -> Result<(), NoMemory> {
+fn each<Q: Made, P: Made, R: AllocGlobal + Clock + Eprint>(
+    rt: &R,
+    size: u32,
+) -> Result<(), NoMemory> {
     let alloc = rt.alloc();
-    trips(rt, &mut new_req(alloc)?, size)?;
-    contexts(rt, &mut new_req(alloc)?, size)?;
-    waits(rt, &mut new_req(alloc)?, size)?;
-    answers(rt, &mut new_rep(alloc)?, size)?;
-    asks(rt, &mut new_rep(alloc)?, size)?;
-    downs(rt, &mut new_req(alloc)?, size)?;
-    resends(rt, &mut new_req(alloc)?, size)?;
+    trips(rt, &mut Q::made(alloc)?, size)?;
+    contexts(rt, &mut Q::made(alloc)?, size)?;
+    waits(rt, &mut Q::made(alloc)?, size)?;
+    answers(rt, &mut P::made(alloc)?, size)?;
+    asks(rt, &mut P::made(alloc)?, size)?;
+    downs(rt, &mut Q::made(alloc)?, size)?;
+    resends(rt, &mut Q::made(alloc)?, size)?;
     shuts(
         rt,
-        &mut new_req(alloc)?,
+        &mut Q::made(alloc)?,
         "a context of a req is shut, by contexts",
         size,
     )?;
     shuts(
         rt,
-        &mut new_rep(alloc)?,
+        &mut P::made(alloc)?,
         "a context of a rep is shut, by contexts",
         size,
     )?;
     Ok(())
 }
 
-/// Each count of pipes, and of contexts.
-pub fn requests<R: AllocGlobal + Clock + Eprint>(rt: &R) -> Result<(), NoMemory> {
-    each(rt, 256)?;
-    each(rt, 1_024)?;
-    each(rt, 4_096)?;
+/// Each count of pipes, and of contexts, of a req and of a rep.
+pub fn requests<Q: Made, P: Made, R: AllocGlobal + Clock + Eprint>(rt: &R) -> Result<(), NoMemory> {
+    each::<Q, P, R>(rt, 256)?;
+    each::<Q, P, R>(rt, 1_024)?;
+    each::<Q, P, R>(rt, 4_096)?;
     Ok(())
 }

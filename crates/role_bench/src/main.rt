@@ -8,15 +8,18 @@ mod spread;
 mod surveyed;
 mod timing;
 
+use proto_pubsub::{Publish, Subscribe};
+use proto_reqrep::{Reply, Request};
+use proto_survey::Survey;
 use sp_base::NoMemory;
 use std::io::{self, Eprint};
 use std::time::Clock;
 
 fn all<R: AllocGlobal + Clock + Eprint>(rt: &R) -> Result<(), NoMemory> {
-    spread::frames(rt)?;
-    spread::sends(rt)?;
-    asked::requests(rt)?;
-    surveyed::surveys(rt)
+    spread::frames::<Subscribe, R>(rt)?;
+    spread::sends::<Publish, R>(rt)?;
+    asked::requests::<Request, Reply, R>(rt)?;
+    surveyed::surveys::<Survey, R>(rt)
 }
 
 fn main(rt: HostRuntime) -> io::Result<()> {

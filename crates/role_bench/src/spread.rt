@@ -1,5 +1,5 @@
 //! Frames at a sub, and sends of a pub.
-use crate::moves::{come, opens, receive, send, take_offer, ups};
+use crate::moves::{Made, come, opens, receive, send, take_offer, ups};
 use crate::timing::{now, row};
 use proto_pubsub::{Publish, Subscribe};
 use sp_base::{Ctx, NoMemory, PipeId, Role};
@@ -21,15 +21,24 @@ const OFFERS: u32 = 1_000;
 /// How many sends begin.
 const SENDS: u32 = 16;
 
-// A sub; the queue of each context has this room.
-fn new_sub(alloc: Global, queue: u32) -> Result<Subscribe, NoMemory> {
-    let mut options = Options::usual(Role::Sub, 0);
-    options.queue = queue;
-    Subscribe::new(alloc, options, false)
+/// A machine that can be made with queues of any room.
+pub trait Queued: Proto {
+    /// One of which the queue of each context has this room.
+    fn with_queue(alloc: Global, queue: u32) -> Result<Self, NoMemory>;
 }
 
-fn new_pub(alloc: Global) -> Result<Publish, NoMemory> {
-    Publish::new(alloc, Options::usual(Role::Pub, 0), false)
+impl Queued for Subscribe {
+    fn with_queue(alloc: Global, queue: u32) -> Result<Subscribe, NoMemory> {
+        let mut options = Options::usual(Role::Sub, 0);
+        options.queue = queue;
+        Subscribe::new(alloc, options, false)
+    }
+}
+
+impl Made for Publish {
+    fn made(alloc: Global) -> Result<Publish, NoMemory> {
+        Publish::new(alloc, Options::usual(Role::Pub, 0), false)
+    }
 }
 
 // The context has so many topics, of five bytes each.
@@ -83,17 +92,23 @@ fn letters(alloc: Global, count: u32) -> Result<Vec<u8>, NoMemory> {
     Ok(text)
 }
 
+// The first context has a topic of each length from 1 to this one: letters t, and an a.
+fn put_lengths_on<M: Proto>(sub: &mut M, alloc: Global, lengths: u32) -> Result<(), NoMemory> {
+    for i in 0..lengths {
+        let mut topic = letters(alloc, i)?;
+        topic.push(97)?;
+        let _ = sub.topic(Ctx(0), &topic, true)?;
+    }
+    Ok(())
+}
+
 // One context with a topic of each length from 1 to this one. They begin as the frames do, and end otherwise.
 fn with_lengths<M: Proto, R: AllocGlobal + Clock + Eprint>(
     rt: &R,
     sub: &mut M,
     lengths: u32,
 ) -> Result<(), NoMemory> {
-    for i in 0..lengths {
-        let mut topic = letters(rt.alloc(), i)?;
-        topic.push(97)?;
-        let _ = sub.topic(Ctx(0), &topic, true)?;
-    }
+    put_lengths_on(sub, rt.alloc(), lengths)?;
     let body = letters(rt.alloc(), lengths)?;
     let start = now(rt);
     strangers(sub, rt.alloc(), &body)?;
@@ -107,6 +122,14 @@ fn with_lengths<M: Proto, R: AllocGlobal + Clock + Eprint>(
     Ok(())
 }
 
+// Each of so many contexts has a topic.
+fn put_one_on_each<M: Proto>(sub: &mut M, contexts: u32) -> Result<(), NoMemory> {
+    for i in 0..contexts {
+        put_on(sub, Ctx(i), 1)?;
+    }
+    Ok(())
+}
+
 // So many contexts with a topic each, and the first.
 fn with_contexts<M: Proto, R: AllocGlobal + Clock + Eprint>(
     rt: &R,
@@ -114,9 +137,7 @@ fn with_contexts<M: Proto, R: AllocGlobal + Clock + Eprint>(
     contexts: u32,
 ) -> Result<(), NoMemory> {
     opens(sub, contexts)?;
-    for i in 0..contexts {
-        put_on(sub, Ctx(i), 1)?;
-    }
+    put_one_on_each(sub, contexts)?;
     let start = now(rt);
     strangers(sub, rt.alloc(), STRANGER)?;
     row(
@@ -129,6 +150,22 @@ fn with_contexts<M: Proto, R: AllocGlobal + Clock + Eprint>(
     Ok(())
 }
 
+// A receive begins on each of so many contexts, from number 1.
+fn receive_all<M: Proto>(sub: &mut M, contexts: u32) -> Result<(), NoMemory> {
+    for i in 0..contexts {
+        receive(sub, i, Ctx(i + 1))?;
+        take_offer(sub, 0);
+    }
+    Ok(())
+}
+
+// A machine of no pipe is asked again and again what can be done.
+fn take_offers<M: Proto>(sub: &mut M) {
+    for _ in 0..OFFERS {
+        take_offer(sub, 0);
+    }
+}
+
 // A receive begins on each of so many contexts, and then nothing can be done.
 fn with_receives<M: Proto, R: AllocGlobal + Clock + Eprint>(
     rt: &R,
@@ -137,55 +174,58 @@ fn with_receives<M: Proto, R: AllocGlobal + Clock + Eprint>(
 ) -> Result<(), NoMemory> {
     opens(sub, contexts)?;
     let start = now(rt);
-    for i in 0..contexts {
-        receive(sub, i, Ctx(i + 1))?;
-        take_offer(sub, 0);
-    }
+    receive_all(sub, contexts)?;
     row(rt, "a receive begins at a sub", contexts, start, contexts);
     let start = now(rt);
-    for _ in 0..OFFERS {
-        take_offer(sub, 0);
-    }
+    take_offers(sub);
     row(rt, "an idle offer of a sub", contexts, start, OFFERS);
     Ok(())
 }
 
-fn each_count_of_topics<R: AllocGlobal + Clock + Eprint>(rt: &R) -> Result<(), NoMemory> {
+fn each_count_of_topics<M: Queued, R: AllocGlobal + Clock + Eprint>(
+    rt: &R,
+) -> Result<(), NoMemory> {
     let usual = Options::usual(Role::Sub, 0).queue;
     for topics in [1, 100, 10_000] {
-        with_topics(rt, &mut new_sub(rt.alloc(), usual)?, topics)?;
+        with_topics(rt, &mut M::with_queue(rt.alloc(), usual)?, topics)?;
     }
     Ok(())
 }
 
-fn each_count_of_lengths<R: AllocGlobal + Clock + Eprint>(rt: &R) -> Result<(), NoMemory> {
+fn each_count_of_lengths<M: Queued, R: AllocGlobal + Clock + Eprint>(
+    rt: &R,
+) -> Result<(), NoMemory> {
     let usual = Options::usual(Role::Sub, 0).queue;
     for lengths in [1, 32, 1_024] {
-        with_lengths(rt, &mut new_sub(rt.alloc(), usual)?, lengths)?;
+        with_lengths(rt, &mut M::with_queue(rt.alloc(), usual)?, lengths)?;
     }
     Ok(())
 }
 
-fn each_count_of_contexts<R: AllocGlobal + Clock + Eprint>(rt: &R) -> Result<(), NoMemory> {
+fn each_count_of_contexts<M: Queued, R: AllocGlobal + Clock + Eprint>(
+    rt: &R,
+) -> Result<(), NoMemory> {
     for contexts in [1, 1_000] {
-        with_contexts(rt, &mut new_sub(rt.alloc(), 1)?, contexts)?;
+        with_contexts(rt, &mut M::with_queue(rt.alloc(), 1)?, contexts)?;
     }
     Ok(())
 }
 
-fn each_count_of_receives<R: AllocGlobal + Clock + Eprint>(rt: &R) -> Result<(), NoMemory> {
+fn each_count_of_receives<M: Queued, R: AllocGlobal + Clock + Eprint>(
+    rt: &R,
+) -> Result<(), NoMemory> {
     for contexts in [1, 100, 1_000, 4_000] {
-        with_receives(rt, &mut new_sub(rt.alloc(), 1)?, contexts)?;
+        with_receives(rt, &mut M::with_queue(rt.alloc(), 1)?, contexts)?;
     }
     Ok(())
 }
 
-/// Each count of topics, of their lengths, of contexts and of receives.
-pub fn frames<R: AllocGlobal + Clock + Eprint>(rt: &R) -> Result<(), NoMemory> {
-    each_count_of_topics(rt)?;
-    each_count_of_lengths(rt)?;
-    each_count_of_contexts(rt)?;
-    each_count_of_receives(rt)
+/// Each count of topics, of their lengths, of contexts and of receives, of a sub.
+pub fn frames<M: Queued, R: AllocGlobal + Clock + Eprint>(rt: &R) -> Result<(), NoMemory> {
+    each_count_of_topics::<M, R>(rt)?;
+    each_count_of_lengths::<M, R>(rt)?;
+    each_count_of_contexts::<M, R>(rt)?;
+    each_count_of_receives::<M, R>(rt)
 }
 
 // Sends of a pub to so many pipes.
@@ -210,10 +250,10 @@ fn to_pipes<M: Proto, R: AllocGlobal + Clock + Eprint>(
     Ok(())
 }
 
-/// Each count of pipes.
-pub fn sends<R: AllocGlobal + Clock + Eprint>(rt: &R) -> Result<(), NoMemory> {
+/// Each count of pipes of a pub.
+pub fn sends<M: Made, R: AllocGlobal + Clock + Eprint>(rt: &R) -> Result<(), NoMemory> {
     for pipes in [256, 1_024, 4_096] {
-        to_pipes(rt, &mut new_pub(rt.alloc())?, pipes)?;
+        to_pipes(rt, &mut M::made(rt.alloc())?, pipes)?;
     }
     Ok(())
 }

@@ -1,10 +1,12 @@
 //! What a user of the library writes to receive one message.
 ghost use Rattle.std.specs.Prelude.{◌≡◌};
+ghost use Rattle.sp_proto.specs.Kinds.{Kind, Starts};
 ghost use Rattle.core_parts.specs.Wires.{IsUnused};
 
 use proto_pipeline::Pull;
 use sp_base::{Ctx, Role};
 use sp_msg::Wire;
+use sp_proto::Proto;
 use sp_socket::{Config, Finished, Options, Outcome, WireList, open};
 use std::alloc::Global;
 use std::process::Abort;
@@ -22,6 +24,19 @@ pub fn receive_one<W: Wire + Drop, R: Wait + Abort>(
     let Ok(machine) = Pull::new(alloc, Options::usual(Role::Pull, 0), false) else {
         panic!(rt; "no memory for a pull")
     };
+    receive_over(rt, alloc, machine, wire)
+}
+
+// The same on a socket of any machine that receives.
+fn receive_over<P: Proto, W: Wire + Drop, R: Wait + Abort>(
+    rt: &R,
+    alloc: Global,
+    machine: P,
+    wire: W,
+) -> (Outcome, WireList<W>)
+    requires starts { (k : Kind) × Starts P.ties machine k }
+    requires unused { IsUnused (W.shown wire) }
+{
     let Ok((socket, mut passes)) = open(
         alloc,
         machine,

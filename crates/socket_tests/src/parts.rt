@@ -10,7 +10,8 @@ use crate::callers::Caller;
 use proto_pipeline::{Pull, Push};
 use sp_base::{Bytes, Ctx, OpName, Role, SpError, Tick};
 use sp_fakes::{MemWire, WireStep};
-use sp_msg::Message;
+use sp_msg::{Message, Wire};
+use sp_proto::Proto;
 use sp_socket::{BeginError, Cause, Options, Outcome, Socket, Totals};
 use std::alloc::Global;
 use std::process::Abort;
@@ -136,11 +137,11 @@ pub fn is_gone(outcome: Option<Outcome>, as_: Cause, by_: u32) -> bool {
 }
 
 /// Begins so many receives; the first half of them are due at 1.
-pub fn begin_many<R: Wait + Abort>(
+pub fn begin_many<P: Proto, W: Wire, R: Wait + Abort>(
     rt: &R,
     alloc: Global,
-    socket: &Socket<Pull, MemWire>,
-    caller: &mut Caller<Pull, MemWire>,
+    socket: &Socket<P, W>,
+    caller: &mut Caller<P, W>,
     times: u32,
 ) -> Vec<OpName>
     requires { Calls socket.now caller.old.pass caller.old.ops.items }

@@ -1,6 +1,8 @@
 //! What sockets answer to callers in several threads.
 ghost use Rattle.std.specs.Prelude.{◌≡◌, ◌++◌, ◌∷◌, [], false};
 ghost use Rattle.aio_word.specs.Views.{Each};
+ghost use Rattle.sp_proto.specs.Kinds.{Kind, Starts};
+ghost use Rattle.core_parts.specs.Wires.{IsUnused};
 ghost use Rattle.socket_tests.specs.Calls.{Calls, IsListOf};
 
 use crate::callers::{Caller, finish, give_back, next, opened};
@@ -125,125 +127,191 @@ pub fn do_all<P: Proto + Send, W: Wire + Send, R: Wait + Abort + Threads + Sync>
     take_back(rt, socket, list, passes)
 }
 
+fn receive_and_close<P: Proto + Send, W: Wire + Send + Drop>(
+    rt: &(impl Wait + Abort + Threads + Sync),
+    alloc: Global,
+    proto: P,
+    w: W,
+)
+    requires starts { (k : Kind) × Starts P.ties proto k }
+    requires unused { IsUnused (W.shown w) }
+{
+    let (socket, mut list) = opened(rt, alloc, proto, 4, 3);
+    let mut main = next(rt, alloc, &socket, &mut list);
+    is_ok(rt, main.attach(rt, &socket, w));
+    let tasks = [Task::new(Job::Receive(16)), Task::new(Job::Receive(16))];
+    do_all(rt, alloc, &socket, &mut list, &tasks);
+    same(rt, tasks[0].ended(), 16);
+    same(rt, tasks[1].ended(), 16);
+    let closes = [Task::new(Job::Close), Task::new(Job::Close)];
+    do_all(rt, alloc, &socket, &mut list, &closes);
+    same(rt, closes[0].ended(), 0);
+    same(rt, closes[1].ended(), 0);
+    same(
+        rt,
+        give_back(rt, &socket, &mut list, main),
+        totals(32, 32, 0, 32),
+    );
+    same(rt, finish(rt, alloc, socket, list).len(), 1);
+}
+
 #[test]
 fn two_threads_begin_serve_collect_and_close(rt: HostRuntime) {
     let alloc = rt.alloc();
-    let (socket, mut list) = opened(&rt, alloc, pull(&rt, alloc), 4, 3);
-    let mut main = next(&rt, alloc, &socket, &mut list);
-    is_ok(&rt, main.attach(&rt, &socket, counting(&rt, alloc, 32)));
-    let tasks = [Task::new(Job::Receive(16)), Task::new(Job::Receive(16))];
-    do_all(&rt, alloc, &socket, &mut list, &tasks);
-    same(&rt, tasks[0].ended(), 16);
-    same(&rt, tasks[1].ended(), 16);
-    let closes = [Task::new(Job::Close), Task::new(Job::Close)];
-    do_all(&rt, alloc, &socket, &mut list, &closes);
-    same(&rt, closes[0].ended(), 0);
-    same(&rt, closes[1].ended(), 0);
-    same(
-        &rt,
-        give_back(&rt, &socket, &mut list, main),
-        totals(32, 32, 0, 32),
-    );
-    same(&rt, finish(&rt, alloc, socket, list).len(), 1);
+    receive_and_close(&rt, alloc, pull(&rt, alloc), counting(&rt, alloc, 32));
 }
 
 // Receives on two pipes, by four callers that race for the lock.
-#[test]
-fn four_threads_race_for_the_lock(rt: HostRuntime) {
-    let alloc = rt.alloc();
-    let (socket, mut list) = opened(&rt, alloc, pull(&rt, alloc), 8, 5);
-    let mut main = next(&rt, alloc, &socket, &mut list);
-    is_ok(&rt, main.attach(&rt, &socket, counting(&rt, alloc, 100)));
-    is_ok(&rt, main.attach(&rt, &socket, counting(&rt, alloc, 100)));
+fn receive_by_four<P: Proto + Send, W: Wire + Send + Drop>(
+    rt: &(impl Wait + Abort + Threads + Sync),
+    alloc: Global,
+    proto: P,
+    w: W,
+    other: W,
+)
+    requires starts { (k : Kind) × Starts P.ties proto k }
+    requires unused { IsUnused (W.shown w) }
+    requires unused_other { IsUnused (W.shown other) }
+{
+    let (socket, mut list) = opened(rt, alloc, proto, 8, 5);
+    let mut main = next(rt, alloc, &socket, &mut list);
+    is_ok(rt, main.attach(rt, &socket, w));
+    is_ok(rt, main.attach(rt, &socket, other));
     let tasks = [
         Task::new(Job::Receive(50)),
         Task::new(Job::Receive(50)),
         Task::new(Job::Receive(50)),
         Task::new(Job::Receive(50)),
     ];
-    do_all(&rt, alloc, &socket, &mut list, &tasks);
+    do_all(rt, alloc, &socket, &mut list, &tasks);
     same(
-        &rt,
-        give_back(&rt, &socket, &mut list, main),
+        rt,
+        give_back(rt, &socket, &mut list, main),
         totals(200, 200, 0, 200),
     );
-    same(&rt, finish(&rt, alloc, socket, list).len(), 2);
+    same(rt, finish(rt, alloc, socket, list).len(), 2);
+}
+
+#[test]
+fn four_threads_race_for_the_lock(rt: HostRuntime) {
+    let alloc = rt.alloc();
+    receive_by_four(
+        &rt,
+        alloc,
+        pull(&rt, alloc),
+        counting(&rt, alloc, 100),
+        counting(&rt, alloc, 100),
+    );
 }
 
 // Two callers close at the same time. Each receive ends once, and both answer the same totals.
+fn close_by_two<P: Proto + Send, W: Wire + Send + Drop>(
+    rt: &(impl Wait + Abort + Threads + Sync),
+    alloc: Global,
+    proto: P,
+    w: W,
+)
+    requires starts { (k : Kind) × Starts P.ties proto k }
+    requires unused { IsUnused (W.shown w) }
+{
+    let (socket, mut list) = opened(rt, alloc, proto, 4, 3);
+    let mut main = next(rt, alloc, &socket, &mut list);
+    is_ok(rt, main.attach(rt, &socket, w));
+    begin_many(rt, alloc, &socket, &mut main, 4);
+    let tasks = [Task::new(Job::Close), Task::new(Job::Close)];
+    do_all(rt, alloc, &socket, &mut list, &tasks);
+    same(rt, tasks[0].ended(), 4);
+    same(rt, tasks[1].ended(), 4);
+    same(rt, received_of(rt, &socket, &mut main, 4), 0);
+    same(
+        rt,
+        give_back(rt, &socket, &mut list, main),
+        totals(4, 0, 4, 0),
+    );
+    finish(rt, alloc, socket, list);
+}
+
 #[test]
 fn two_threads_close_and_answer_the_same(rt: HostRuntime) {
     let alloc = rt.alloc();
-    let (socket, mut list) = opened(&rt, alloc, pull(&rt, alloc), 4, 3);
-    let mut main = next(&rt, alloc, &socket, &mut list);
-    is_ok(&rt, main.attach(&rt, &socket, counting(&rt, alloc, 0)));
-    begin_many(&rt, alloc, &socket, &mut main, 4);
-    let tasks = [Task::new(Job::Close), Task::new(Job::Close)];
-    do_all(&rt, alloc, &socket, &mut list, &tasks);
-    same(&rt, tasks[0].ended(), 4);
-    same(&rt, tasks[1].ended(), 4);
-    same(&rt, received_of(&rt, &socket, &mut main, 4), 0);
-    same(
-        &rt,
-        give_back(&rt, &socket, &mut list, main),
-        totals(4, 0, 4, 0),
-    );
-    finish(&rt, alloc, socket, list);
+    close_by_two(&rt, alloc, pull(&rt, alloc), counting(&rt, alloc, 0));
 }
 
 // ---- Waiting
 
 // One waits for a receive, and another serves. The message comes.
+fn wait_and_serve<P: Proto + Send, W: Wire + Send + Drop>(
+    rt: &(impl Wait + Abort + Threads + Sync),
+    alloc: Global,
+    proto: P,
+    w: W,
+)
+    requires starts { (k : Kind) × Starts P.ties proto k }
+    requires unused { IsUnused (W.shown w) }
+{
+    let marks = unmarked(rt, alloc);
+    let (socket, mut list) = opened(rt, alloc, proto, 1, 3);
+    let mut main = next(rt, alloc, &socket, &mut list);
+    is_ok(rt, main.attach(rt, &socket, w));
+    let tasks = [
+        Task::new(Job::ServeWhenBegun(shared(rt, &marks))),
+        Task::new(Job::Wait(shared(rt, &marks))),
+    ];
+    do_all(rt, alloc, &socket, &mut list, &tasks);
+    same(rt, tasks[1].ended(), 1);
+    same(
+        rt,
+        give_back(rt, &socket, &mut list, main),
+        totals(1, 1, 0, 1),
+    );
+    finish(rt, alloc, socket, list);
+}
+
 #[test]
 fn waiting_receives_what_another_thread_serves(rt: HostRuntime) {
     let alloc = rt.alloc();
-    let marks = unmarked(&rt, alloc);
-    let (socket, mut list) = opened(&rt, alloc, pull(&rt, alloc), 1, 3);
-    let mut main = next(&rt, alloc, &socket, &mut list);
-    is_ok(&rt, main.attach(&rt, &socket, giving_x(&rt, alloc, 0)));
-    let tasks = [
-        Task::new(Job::ServeWhenBegun(shared(&rt, &marks))),
-        Task::new(Job::Wait(shared(&rt, &marks))),
-    ];
-    do_all(&rt, alloc, &socket, &mut list, &tasks);
-    same(&rt, tasks[1].ended(), 1);
-    same(
-        &rt,
-        give_back(&rt, &socket, &mut list, main),
-        totals(1, 1, 0, 1),
-    );
-    finish(&rt, alloc, socket, list);
+    wait_and_serve(&rt, alloc, pull(&rt, alloc), giving_x(&rt, alloc, 0));
 }
 
 // One waits for a receive, and another cancels it.
+fn wait_and_cancel<P: Proto + Send, W: Wire + Send + Drop>(
+    rt: &(impl Wait + Abort + Threads + Sync),
+    alloc: Global,
+    proto: P,
+)
+    requires starts { (k : Kind) × Starts P.ties proto k }
+{
+    let marks = unmarked(rt, alloc);
+    let (socket, mut list) = opened::<P, W>(rt, alloc, proto, 1, 3);
+    let main = next(rt, alloc, &socket, &mut list);
+    let tasks = [
+        Task::new(Job::CancelWhenBegun(shared(rt, &marks))),
+        Task::new(Job::Wait(shared(rt, &marks))),
+    ];
+    do_all(rt, alloc, &socket, &mut list, &tasks);
+    same(rt, tasks[0].ended(), 1);
+    same(rt, tasks[1].ended(), 0);
+    same(
+        rt,
+        give_back(rt, &socket, &mut list, main),
+        totals(1, 0, 1, 0),
+    );
+    finish(rt, alloc, socket, list);
+}
+
 #[test]
 fn waiting_ends_where_another_thread_cancels(rt: HostRuntime) {
     let alloc = rt.alloc();
-    let marks = unmarked(&rt, alloc);
-    let (socket, mut list) = opened::<Pull, MemWire>(&rt, alloc, pull(&rt, alloc), 1, 3);
-    let main = next(&rt, alloc, &socket, &mut list);
-    let tasks = [
-        Task::new(Job::CancelWhenBegun(shared(&rt, &marks))),
-        Task::new(Job::Wait(shared(&rt, &marks))),
-    ];
-    do_all(&rt, alloc, &socket, &mut list, &tasks);
-    same(&rt, tasks[0].ended(), 1);
-    same(&rt, tasks[1].ended(), 0);
-    same(
-        &rt,
-        give_back(&rt, &socket, &mut list, main),
-        totals(1, 0, 1, 0),
-    );
-    finish(&rt, alloc, socket, list);
+    wait_and_cancel::<Pull, MemWire>(&rt, alloc, pull(&rt, alloc));
 }
 
 // ---- A race
 
 // How many of the kept receives got a message; each of the others has ended before.
-fn received_of<R: Wait + Abort>(
+fn received_of<P: Proto, W: Wire, R: Wait + Abort>(
     rt: &R,
-    socket: &Socket<Pull, MemWire>,
-    caller: &mut Caller<Pull, MemWire>,
+    socket: &Socket<P, W>,
+    caller: &mut Caller<P, W>,
     times: u32,
 ) -> u64
     requires { Calls socket.now caller.old.pass caller.old.ops.items }
@@ -272,33 +340,45 @@ fn second_half(rt: &impl Abort, alloc: Global, names: &[OpName]) -> Vec<OpName> 
 }
 
 // One caller serves, two cancel, and one lets what is due expire. Each receive ends once, by one of them.
-#[test]
-fn many_receives_are_raced(rt: HostRuntime) {
-    let alloc = rt.alloc();
-    let (socket, mut list) = opened(&rt, alloc, pull(&rt, alloc), 64, 5);
-    let mut main = next(&rt, alloc, &socket, &mut list);
-    let names = begin_many(&rt, alloc, &socket, &mut main, 64);
-    is_ok(&rt, main.attach(&rt, &socket, counting(&rt, alloc, 48)));
-    let half = second_half(&rt, alloc, &names);
+fn race<P: Proto + Send, W: Wire + Send + Drop>(
+    rt: &(impl Wait + Abort + Threads + Sync),
+    alloc: Global,
+    proto: P,
+    w: W,
+)
+    requires starts { (k : Kind) × Starts P.ties proto k }
+    requires unused { IsUnused (W.shown w) }
+{
+    let (socket, mut list) = opened(rt, alloc, proto, 64, 5);
+    let mut main = next(rt, alloc, &socket, &mut list);
+    let names = begin_many(rt, alloc, &socket, &mut main, 64);
+    is_ok(rt, main.attach(rt, &socket, w));
+    let half = second_half(rt, alloc, &names);
     let tasks = [
         Task::new(Job::Serve(16)),
         Task::new(Job::Cancel(names)),
         Task::new(Job::Cancel(half)),
         Task::new(Job::Tick(Tick(1))),
     ];
-    do_all(&rt, alloc, &socket, &mut list, &tasks);
-    let received = received_of(&rt, &socket, &mut main, 64);
+    do_all(rt, alloc, &socket, &mut list, &tasks);
+    let received = received_of(rt, &socket, &mut main, 64);
     let ended = tasks[1]
         .ended()
         .saturating_add(tasks[2].ended())
         .saturating_add(tasks[3].ended());
-    same(&rt, received.saturating_add(ended), 64);
-    let t = give_back(&rt, &socket, &mut list, main);
-    same(&rt, t.begun, 64);
-    same(&rt, t.won, received);
-    same(&rt, t.gone, 64u64.saturating_sub(received));
-    holds(&rt, t.won <= t.frames);
-    finish(&rt, alloc, socket, list);
+    same(rt, received.saturating_add(ended), 64);
+    let t = give_back(rt, &socket, &mut list, main);
+    same(rt, t.begun, 64);
+    same(rt, t.won, received);
+    same(rt, t.gone, 64u64.saturating_sub(received));
+    holds(rt, t.won <= t.frames);
+    finish(rt, alloc, socket, list);
+}
+
+#[test]
+fn many_receives_are_raced(rt: HostRuntime) {
+    let alloc = rt.alloc();
+    race(&rt, alloc, pull(&rt, alloc), counting(&rt, alloc, 48));
 }
 
 // So many rounds of guesses at slot 0, each from generation 1 to this one.
@@ -319,23 +399,35 @@ fn guesses(rt: &impl Abort, alloc: Global, rounds: u32, generations: u64) -> Vec
 }
 
 // One caller receives at once, again and again, and another cancels what it guesses. Each message is received, in order.
+fn guess_and_receive<P: Proto + Send, W: Wire + Send + Drop>(
+    rt: &(impl Wait + Abort + Threads + Sync),
+    alloc: Global,
+    proto: P,
+    w: W,
+)
+    requires starts { (k : Kind) × Starts P.ties proto k }
+    requires unused { IsUnused (W.shown w) }
+{
+    let (socket, mut list) = opened(rt, alloc, proto, 1, 3);
+    let mut main = next(rt, alloc, &socket, &mut list);
+    is_ok(rt, main.attach(rt, &socket, w));
+    let tasks = [
+        Task::new(Job::ReceiveNow(201)),
+        Task::new(Job::Cancel(guesses(rt, alloc, 50, 256))),
+    ];
+    do_all(rt, alloc, &socket, &mut list, &tasks);
+    same(rt, tasks[0].ended(), 200);
+    let cancelled = tasks[1].ended();
+    same(
+        rt,
+        give_back(rt, &socket, &mut list, main),
+        totals(200u64.saturating_add(cancelled), 200, cancelled, 200),
+    );
+    finish(rt, alloc, socket, list);
+}
+
 #[test]
 fn guessed_names_lose_no_message(rt: HostRuntime) {
     let alloc = rt.alloc();
-    let (socket, mut list) = opened(&rt, alloc, pull(&rt, alloc), 1, 3);
-    let mut main = next(&rt, alloc, &socket, &mut list);
-    is_ok(&rt, main.attach(&rt, &socket, counting(&rt, alloc, 200)));
-    let tasks = [
-        Task::new(Job::ReceiveNow(201)),
-        Task::new(Job::Cancel(guesses(&rt, alloc, 50, 256))),
-    ];
-    do_all(&rt, alloc, &socket, &mut list, &tasks);
-    same(&rt, tasks[0].ended(), 200);
-    let cancelled = tasks[1].ended();
-    same(
-        &rt,
-        give_back(&rt, &socket, &mut list, main),
-        totals(200u64.saturating_add(cancelled), 200, cancelled, 200),
-    );
-    finish(&rt, alloc, socket, list);
+    guess_and_receive(&rt, alloc, pull(&rt, alloc), counting(&rt, alloc, 200));
 }

@@ -1,22 +1,24 @@
 //! What a user of the library writes to have two requests under way at once.
 ghost use Rattle.std.specs.Prelude.{◌≡◌};
+ghost use Rattle.sp_proto.specs.Kinds.{Kind, Starts};
 ghost use Rattle.core_parts.specs.Wires.{IsUnused};
 ghost use Rattle.sp_socket.specs.Passes.{IsOf};
 
 use proto_reqrep::Request;
 use sp_base::{Ctx, Role};
 use sp_msg::{Message, Wire};
+use sp_proto::Proto;
 use sp_socket::{Config, Finished, Options, Outcome, Pass, Socket, WireList, open};
 use std::alloc::Global;
 use std::process::Abort;
 use std::sync::Wait;
 
 // Sends the body as a request of the context.
-fn ask<W: Wire, R: Wait + Abort>(
+fn ask<P: Proto, W: Wire, R: Wait + Abort>(
     rt: &R,
     alloc: Global,
-    socket: &Socket<Request, W>,
-    pass: &mut Pass<Request, W>,
+    socket: &Socket<P, W>,
+    pass: &mut Pass<P, W>,
     c: Ctx,
     body: &[u8],
 )
@@ -33,10 +35,10 @@ fn ask<W: Wire, R: Wait + Abort>(
 }
 
 // Receives the reply to the context's request.
-fn reply<W: Wire, R: Wait + Abort>(
+fn reply<P: Proto, W: Wire, R: Wait + Abort>(
     rt: &R,
-    socket: &Socket<Request, W>,
-    pass: &mut Pass<Request, W>,
+    socket: &Socket<P, W>,
+    pass: &mut Pass<P, W>,
     c: Ctx,
 ) -> Outcome
     requires { IsOf socket.now pass.old }
@@ -49,11 +51,11 @@ fn reply<W: Wire, R: Wait + Abort>(
 }
 
 // Two requests are under way before the first reply is read. Returns the replies in the order of the requests.
-fn ask_both<W: Wire, R: Wait + Abort>(
+fn ask_both<P: Proto, W: Wire, R: Wait + Abort>(
     rt: &R,
     alloc: Global,
-    socket: &Socket<Request, W>,
-    pass: &mut Pass<Request, W>,
+    socket: &Socket<P, W>,
+    pass: &mut Pass<P, W>,
 ) -> (Outcome, Outcome)
     requires { IsOf socket.now pass.old }
     ensures { IsOf socket.now pass.new }
@@ -81,6 +83,19 @@ pub fn ask_two<W: Wire + Drop, R: Wait + Abort>(
     let Ok(machine) = Request::new(alloc, Options::usual(Role::Req, 0), false) else {
         panic!(rt; "no memory for a req")
     };
+    ask_over(rt, alloc, machine, wire)
+}
+
+// The same on a socket of any machine.
+fn ask_over<P: Proto, W: Wire + Drop, R: Wait + Abort>(
+    rt: &R,
+    alloc: Global,
+    machine: P,
+    wire: W,
+) -> ((Outcome, Outcome), WireList<W>)
+    requires starts { (k : Kind) × Starts P.ties machine k }
+    requires unused { IsUnused (W.shown wire) }
+{
     let Ok((socket, mut passes)) = open(
         alloc,
         machine,

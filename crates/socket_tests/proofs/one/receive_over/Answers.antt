@@ -2,28 +2,27 @@ use Rattle.std.proofs.Common.{◌≡◌, sym, subst}
 use Rattle.aio_word.specs.Views.{Stands}
 use Rattle.sp_history.specs.declared.setting.Setting.{Setting}
 use Rattle.sp_proto.specs.Kinds.{setting_of}
-use Rattle.proto_pipeline.specs.Pulls.{pull_kind}
 use Rattle.sp_socket.specs.Passes.{PassView}
 use Rattle.sp_socket.proofs.Waits.{still_of, same_twice}
 use Rattle.socket_tests.proofs.SocketCallers.{list_made, list_less, list_whole, whole_again, stands_last}
-use Rattle.socket_tests.proofs.one.receive_one.Goals as goal
+use Rattle.socket_tests.proofs.one.receive_over.Goals as goal
 
 pub attach-requires-clause-own : goal.attach-requires-clause-own
 attach-requires-clause-own g c =
-    let s = c.in-Ok-open.socket in
-    let l = c.in-Ok-open.passes in
-    let o = c.in-Ok-open.ensures.ok in
+    let s = c.in-Ok.socket in
+    let l = c.in-Ok.passes in
+    let o = c.in-Ok.ensures.ok in
     let e = c.in-Some.ensures in
-    let z : Setting = setting_of (pull_kind c.in-Ok.machine.raw c.in-Ok.machine.options) 1 1 in
+    let z : Setting = setting_of (g.P.Proto.kind c.args.machine) 1 1 in
     (list_less s l c.pop.new.self c.in-Some.pass e.last e.same.0 e.same.1 (list_made s l z o.1 (sym o.2) (sym o.3))).1
 
 pub serve-requires : goal.serve-requires
 serve-requires g c =
-    let s = c.in-Ok-open.socket in
-    let l = c.in-Ok-open.passes in
-    let o = c.in-Ok-open.ensures.ok in
+    let s = c.in-Ok.socket in
+    let l = c.in-Ok.passes in
+    let o = c.in-Ok.ensures.ok in
     let e = c.in-Some.ensures in
-    let z : Setting = setting_of (pull_kind c.in-Ok.machine.raw c.in-Ok.machine.options) 1 1 in
+    let z : Setting = setting_of (g.P.Proto.kind c.args.machine) 1 1 in
     let own = (list_less s l c.pop.new.self c.in-Some.pass e.last e.same.0 e.same.1 (list_made s l z o.1 (sym o.2) (sym o.3))).1 in
     let p = c.in-Some.pass in
     let a = c.attach.new.pass in
@@ -32,11 +31,11 @@ serve-requires g c =
 
 pub wait-outcome-requires-clause-own : goal.wait-outcome-requires-clause-own
 wait-outcome-requires-clause-own g c =
-    let s = c.in-Ok-open.socket in
-    let l = c.in-Ok-open.passes in
-    let o = c.in-Ok-open.ensures.ok in
+    let s = c.in-Ok.socket in
+    let l = c.in-Ok.passes in
+    let o = c.in-Ok.ensures.ok in
     let e = c.in-Some.ensures in
-    let z : Setting = setting_of (pull_kind c.in-Ok.machine.raw c.in-Ok.machine.options) 1 1 in
+    let z : Setting = setting_of (g.P.Proto.kind c.args.machine) 1 1 in
     let own = (list_less s l c.pop.new.self c.in-Some.pass e.last e.same.0 e.same.1 (list_made s l z o.1 (sym o.2) (sym o.3))).1 in
     let p = c.in-Some.pass in
     let a = c.attach.new.pass in
@@ -46,11 +45,11 @@ wait-outcome-requires-clause-own g c =
 
 pub close-requires : goal.close-requires
 close-requires g c =
-    let s = c.in-Ok-open.socket in
-    let l = c.in-Ok-open.passes in
-    let o = c.in-Ok-open.ensures.ok in
+    let s = c.in-Ok.socket in
+    let l = c.in-Ok.passes in
+    let o = c.in-Ok.ensures.ok in
     let e = c.in-Some.ensures in
-    let z : Setting = setting_of (pull_kind c.in-Ok.machine.raw c.in-Ok.machine.options) 1 1 in
+    let z : Setting = setting_of (g.P.Proto.kind c.args.machine) 1 1 in
     let own = (list_less s l c.pop.new.self c.in-Some.pass e.last e.same.0 e.same.1 (list_made s l z o.1 (sym o.2) (sym o.3))).1 in
     let p = c.in-Some.pass in
     let a = c.attach.new.pass in
@@ -60,20 +59,20 @@ close-requires g c =
 
 pub finish-wires-requires-clause-all : goal.finish-wires-requires-clause-all
 finish-wires-requires-clause-all g c =
-    let s = c.in-Ok-open.socket in
-    let l = c.in-Ok-open.passes in
-    let o = c.in-Ok-open.ensures.ok in
+    let s = c.in-Ok.socket in
+    let l = c.in-Ok.passes in
+    let o = c.in-Ok.ensures.ok in
     let e = c.in-Some.ensures in
-    let z : Setting = setting_of (pull_kind c.in-Ok.machine.raw c.in-Ok.machine.options) 1 1 in
+    let z : Setting = setting_of (g.P.Proto.kind c.args.machine) 1 1 in
     whole_again l c.pop.new.self c.give.new.self c.in-Some.pass c.close.new.pass (list_whole s l z o.1) e.last e.same.0 c.give.ensures.pass c.give.ensures.same.0
 
 pub finish-wires-requires-clause-closed : goal.finish-wires-requires-clause-closed
 finish-wires-requires-clause-closed g c =
-    let s = c.in-Ok-open.socket in
-    let l = c.in-Ok-open.passes in
-    let o = c.in-Ok-open.ensures.ok in
+    let s = c.in-Ok.socket in
+    let l = c.in-Ok.passes in
+    let o = c.in-Ok.ensures.ok in
     let e = c.in-Some.ensures in
-    let z : Setting = setting_of (pull_kind c.in-Ok.machine.raw c.in-Ok.machine.options) 1 1 in
+    let z : Setting = setting_of (g.P.Proto.kind c.args.machine) 1 1 in
     let own = (list_less s l c.pop.new.self c.in-Some.pass e.last e.same.0 e.same.1 (list_made s l z o.1 (sym o.2) (sym o.3))).1 in
     let p = c.in-Some.pass in
     let a = c.attach.new.pass in

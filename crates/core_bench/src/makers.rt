@@ -1,0 +1,75 @@
+//! Machines, wires and cores that can be made. Rows are over any of them: written-out types are dear to prove about.
+ghost use Rattle.std.specs.Prelude.{◌<◌, ◌≤◌, IfOk};
+ghost use Rattle.sp_proto.specs.Kinds.{Kind, Starts};
+ghost use Rattle.core_parts.specs.Wires.{IsUnused};
+
+use core_driver::Driver;
+use proto_pipeline::{Pull, Push};
+use proto_reqrep::{Reply, Request};
+use proto_survey::Survey;
+use sp_base::{NoMemory, Role};
+use sp_fakes::{MemWire, WireStep};
+use sp_history::setting::Options;
+use sp_msg::Wire;
+use sp_proto::Proto;
+use std::alloc::Global;
+
+/// A machine that can be made.
+pub trait Made: Proto {
+    /// One to which nothing has happened.
+    fn made(alloc: Global) -> Result<Self, NoMemory>
+        ensures { IfOk result (λ m. (k : Kind) × Starts Self.ties m k) };
+}
+
+impl Made for Push {
+    fn made(alloc: Global) -> Result<Push, NoMemory> {
+        Push::new(alloc, Options::usual(Role::Push, 0), false)
+    }
+}
+
+impl Made for Pull {
+    fn made(alloc: Global) -> Result<Pull, NoMemory> {
+        Pull::new(alloc, Options::usual(Role::Pull, 0), false)
+    }
+}
+
+impl Made for Request {
+    fn made(alloc: Global) -> Result<Request, NoMemory> {
+        Request::new(alloc, Options::usual(Role::Req, 0), false)
+    }
+}
+
+impl Made for Reply {
+    fn made(alloc: Global) -> Result<Reply, NoMemory> {
+        Reply::new(alloc, Options::usual(Role::Rep, 0), false)
+    }
+}
+
+// It keeps 8,192 responses.
+impl Made for Survey {
+    fn made(alloc: Global) -> Result<Survey, NoMemory> {
+        let mut options = Options::usual(Role::Surveyor, 0);
+        options.queue = 8_192;
+        Survey::new(alloc, options, false)
+    }
+}
+
+/// A wire that can be made of a script.
+pub trait Scripted: Wire + Drop {
+    /// One that gives what the script has, and takes so many messages.
+    fn scripted(alloc: Global, script: Vec<WireStep>, room: u64) -> Self
+        ensures { IsUnused (Self.shown result) };
+}
+
+impl Scripted for MemWire {
+    fn scripted(alloc: Global, script: Vec<WireStep>, room: u64) -> MemWire {
+        MemWire::new(alloc, script, room, Vec::new(alloc))
+    }
+}
+
+/// A core of so many slots, with no pipe.
+pub fn driver_of<P: Made, W: Wire>(alloc: Global, slots: u32) -> Result<Driver<P, W>, NoMemory>
+    requires { (0 < slots) × (slots ≤ 4096) }
+{
+    Driver::new(alloc, P::made(alloc)?, slots)
+}

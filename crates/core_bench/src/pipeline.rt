@@ -1,0 +1,212 @@
+//! Sends of a push, and receives of a pull.
+ghost use Rattle.std.specs.Prelude.{◌<◌, ◌≤◌};
+
+use crate::calls::{
+    begin_many, collect_all, collect_last, end, receive_kept, receive_many, send_many, serve_many,
+    take_all_ended,
+};
+use crate::makers::{Made, Scripted, driver_of};
+use crate::timing::{now, report, since};
+use crate::wires::attach_all;
+use core_driver::Driver;
+use sp_base::NoMemory;
+use sp_msg::Wire;
+use sp_proto::Proto;
+use std::io::Eprint;
+use std::sync::Wait;
+use std::time::Clock;
+
+/// How often a call that changes little is made.
+const ROUNDS: u32 = 16;
+
+/// How many sends go to pipes that have room.
+const SENDS: u32 = 4_096;
+
+// A push whose pipes are all full: a send asks each of them.
+fn full_pipes<P: Proto, W: Scripted, R: AllocGlobal + Clock + Eprint + Wait>(
+    rt: &R,
+    n: u32,
+    mut push: Driver<P, W>,
+)
+    requires { (0 < n) × (n ≤ 4096) }
+{
+    attach_all(rt, &mut push, n, 0, 0);
+    let start = now(rt);
+    begin_many(rt, &mut push, ROUNDS);
+    report(
+        rt,
+        "begin_send over full pipes, a pipe",
+        n,
+        since(rt, start),
+        ROUNDS * n,
+    );
+    let start = now(rt);
+    push.close(rt);
+    report(rt, "close of a push, a pipe", n, since(rt, start), n);
+    end(rt, push);
+}
+
+// A push whose pipes have room: each send goes to the next one.
+fn free_pipes<P: Proto, W: Scripted, R: AllocGlobal + Clock + Eprint + Wait>(
+    rt: &R,
+    n: u32,
+    mut push: Driver<P, W>,
+) {
+    attach_all(rt, &mut push, n, 0, 1_000);
+    let start = now(rt);
+    send_many(rt, &mut push, SENDS);
+    report(
+        rt,
+        "begin_send over free pipes and collect",
+        n,
+        since(rt, start),
+        SENDS,
+    );
+    end(rt, push);
+}
+
+// n receives that wait, and a message for each.
+fn receives<P: Proto, W: Scripted, R: AllocGlobal + Clock + Eprint + Wait>(
+    rt: &R,
+    n: u32,
+    pull: &mut Driver<P, W>,
+) {
+    attach_all(rt, pull, n, 1, 0);
+    let start = now(rt);
+    receive_many(rt, pull, n);
+    report(
+        rt,
+        "n begins of receives, a receive",
+        n,
+        since(rt, start),
+        n,
+    );
+    let start = now(rt);
+    pull.serve(rt);
+    report(
+        rt,
+        "serve that ends n receives, a pipe",
+        n,
+        since(rt, start),
+        n,
+    );
+}
+
+// The same, collected from the first.
+fn receives_from_first<P: Proto, W: Scripted, R: AllocGlobal + Clock + Eprint + Wait>(
+    rt: &R,
+    n: u32,
+    mut pull: Driver<P, W>,
+) {
+    receives(rt, n, &mut pull);
+    let start = now(rt);
+    collect_all(rt, &mut pull, n);
+    report(rt, "n collects from the first", n, since(rt, start), n);
+    end(rt, pull);
+}
+
+// The same, collected from the last.
+fn receives_from_last<P: Proto, W: Scripted, R: AllocGlobal + Clock + Eprint + Wait>(
+    rt: &R,
+    n: u32,
+    mut pull: Driver<P, W>,
+) {
+    receives(rt, n, &mut pull);
+    let start = now(rt);
+    collect_last(rt, &mut pull, n);
+    report(rt, "n collects from the last", n, since(rt, start), n);
+    end(rt, pull);
+}
+
+// Pipes of which a message is kept each.
+fn kept<P: Proto, W: Scripted, R: AllocGlobal + Clock + Eprint + Wait>(
+    rt: &R,
+    n: u32,
+    mut pull: Driver<P, W>,
+)
+    requires { (0 < n) × (n ≤ 4096) }
+{
+    attach_all(rt, &mut pull, n, 2, 0);
+    let start = now(rt);
+    pull.serve(rt);
+    report(
+        rt,
+        "serve that keeps a message of each, a pipe",
+        n,
+        since(rt, start),
+        n,
+    );
+    let start = now(rt);
+    serve_many(rt, &mut pull, ROUNDS);
+    report(
+        rt,
+        "serve over pipes that keep a message, a pipe",
+        n,
+        since(rt, start),
+        ROUNDS * n,
+    );
+    let start = now(rt);
+    receive_kept(rt, &mut pull, n);
+    report(
+        rt,
+        "begin_recv of what is kept and collect",
+        n,
+        since(rt, start),
+        n,
+    );
+    end(rt, pull);
+}
+
+// Pipes that give nothing.
+fn idle<P: Proto, W: Scripted, R: AllocGlobal + Clock + Eprint + Wait>(
+    rt: &R,
+    n: u32,
+    mut pull: Driver<P, W>,
+)
+    requires { (0 < n) × (n ≤ 4096) }
+{
+    attach_all(rt, &mut pull, n, 0, 0);
+    let start = now(rt);
+    serve_many(rt, &mut pull, ROUNDS);
+    report(
+        rt,
+        "serve over idle pipes, a pipe",
+        n,
+        since(rt, start),
+        ROUNDS * n,
+    );
+    receive_many(rt, &mut pull, n);
+    closes(rt, n, pull);
+}
+
+// The close of a pull whose receives wait.
+fn closes<P: Proto, W: Wire + Drop, R: AllocGlobal + Clock + Eprint + Wait>(
+    rt: &R,
+    n: u32,
+    mut pull: Driver<P, W>,
+) {
+    let start = now(rt);
+    pull.close(rt);
+    report(rt, "close with n receives, a pipe", n, since(rt, start), n);
+    let start = now(rt);
+    take_all_ended(rt, &mut pull, n);
+    report(rt, "take_ended, a pipe", n, since(rt, start), n);
+    end(rt, pull);
+}
+
+/// Each row of a push and of a pull at this size.
+pub fn measure<S: Made, P: Made, W: Scripted, R: AllocGlobal + Clock + Eprint + Wait>(
+    rt: &R,
+    n: u32,
+) -> Result<(), NoMemory>
+    requires { (0 < n) × (n ≤ 4096) }
+{
+    let alloc = rt.alloc();
+    full_pipes(rt, n, driver_of::<S, W>(alloc, ROUNDS)?);
+    free_pipes(rt, n, driver_of::<S, W>(alloc, ROUNDS)?);
+    receives_from_first(rt, n, driver_of::<P, W>(alloc, n)?);
+    receives_from_last(rt, n, driver_of::<P, W>(alloc, n)?);
+    kept(rt, n, driver_of::<P, W>(alloc, n)?);
+    idle(rt, n, driver_of::<P, W>(alloc, n)?);
+    Ok(())
+}

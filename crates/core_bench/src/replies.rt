@@ -1,0 +1,242 @@
+//! Replies of a rep through the core.
+ghost use Rattle.std.specs.Prelude.{◌<◌, ◌≤◌};
+
+use crate::calls::{
+    begin_recv, close_all, collect_all, end, open_all, receive_all, send, send_all,
+};
+use crate::makers::{Made, Scripted, driver_of};
+use crate::timing::{now, report, since};
+use crate::wires::{MUCH, attach_all_numbered, attach_ending, attach_numbered, attach_series};
+use core_driver::Driver;
+use sp_base::{Ctx, NoMemory};
+use sp_msg::Wire;
+use sp_proto::Proto;
+use std::io::Eprint;
+use std::sync::Wait;
+use std::time::Clock;
+
+// A rep that keeps a request of each of n pipes, takes each and replies.
+fn each_pipe_asks<P: Proto, W: Scripted, R: AllocGlobal + Clock + Eprint + Wait>(
+    rt: &R,
+    n: u32,
+    mut rep: Driver<P, W>,
+)
+    requires { (0 < n) × (n ≤ 4096) }
+{
+    attach_all_numbered(rt, &mut rep, n, MUCH);
+    let start = now(rt);
+    rep.serve(rt);
+    report(
+        rt,
+        "serve of a rep that keeps a request of each, a pipe",
+        n,
+        since(rt, start),
+        n,
+    );
+    let start = now(rt);
+    reply_often(rt, &mut rep, n);
+    report(
+        rt,
+        "a request that is kept, and its reply",
+        n,
+        since(rt, start),
+        n,
+    );
+    end(rt, rep);
+}
+
+// Receives what is kept, and replies.
+fn reply<P: Proto, W: Wire, R: AllocGlobal + Wait>(rt: &R, rep: &mut Driver<P, W>, c: Ctx) {
+    begin_recv(rt, rep, c);
+    let _ = rep.collect_first(rt);
+    send(rt, rep, c);
+    let _ = rep.collect_first(rt);
+}
+
+// So many requests that are kept are received, and each is replied to.
+fn reply_often<P: Proto, W: Wire, R: AllocGlobal + Wait>(
+    rt: &R,
+    rep: &mut Driver<P, W>,
+    count: u32,
+) {
+    for _ in 0..count {
+        reply(rt, rep, Ctx(0));
+    }
+}
+
+// A request comes to each of so many contexts, one in a serve: the one that has waited longest. It replies, and waits
+// again.
+fn answer_all<P: Proto, W: Wire, R: AllocGlobal + Wait>(
+    rt: &R,
+    rep: &mut Driver<P, W>,
+    contexts: u32,
+) {
+    for c in 0..contexts {
+        rep.serve(rt);
+        let _ = rep.collect_first(rt);
+        send(rt, rep, Ctx(c));
+        let _ = rep.collect(rt);
+        begin_recv(rt, rep, Ctx(c));
+    }
+}
+
+// A rep of which n contexts wait for requests.
+fn waiting_contexts<P: Proto, W: Scripted, R: AllocGlobal + Clock + Eprint + Wait>(
+    rt: &R,
+    n: u32,
+    mut rep: Driver<P, W>,
+)
+    requires { (0 < n) × (n ≤ 4096) }
+{
+    open_all(rt, &mut rep, n - 1);
+    attach_series(rt, &mut rep, 0, n, true);
+    let start = now(rt);
+    receive_all(rt, &mut rep, n);
+    report(
+        rt,
+        "n begins of receives on n contexts of a rep, a receive",
+        n,
+        since(rt, start),
+        n,
+    );
+    let start = now(rt);
+    answer_all(rt, &mut rep, n);
+    report(
+        rt,
+        "a request and its reply while n contexts wait",
+        n,
+        since(rt, start),
+        n,
+    );
+    end(rt, rep);
+}
+
+// A rep of which n - 1 contexts wait for requests. The reply of one more waits for room at its pipe.
+fn waiting_beside_a_reply<P: Proto, W: Scripted, R: AllocGlobal + Clock + Eprint + Wait>(
+    rt: &R,
+    n: u32,
+    mut rep: Driver<P, W>,
+)
+    requires { (0 < n) × (n ≤ 4096) }
+{
+    let last = n - 1;
+    open_all(rt, &mut rep, last);
+    attach_numbered(rt, &mut rep, 0, 0);
+    rep.serve(rt);
+    begin_recv(rt, &mut rep, Ctx(last));
+    let _ = rep.collect_first(rt);
+    attach_series(rt, &mut rep, 0, n, true);
+    receive_all(rt, &mut rep, last);
+    send(rt, &mut rep, Ctx(last));
+    let start = now(rt);
+    answer_all(rt, &mut rep, last);
+    report(
+        rt,
+        "a request and its reply while n contexts wait, and a reply at a full pipe",
+        n,
+        since(rt, start),
+        last,
+    );
+    end(rt, rep);
+}
+
+// A rep of n contexts, each of which replies to a pipe that is full.
+fn replies_at_full_pipes<P: Proto, W: Scripted, R: AllocGlobal + Clock + Eprint + Wait>(
+    rt: &R,
+    n: u32,
+    mut rep: Driver<P, W>,
+)
+    requires { (0 < n) × (n ≤ 4096) }
+{
+    open_all(rt, &mut rep, n - 1);
+    attach_all_numbered(rt, &mut rep, n, 0);
+    rep.serve(rt);
+    receive_all(rt, &mut rep, n);
+    collect_all(rt, &mut rep, n);
+    send_all(rt, &mut rep, n - 1);
+    let start = now(rt);
+    send(rt, &mut rep, Ctx(n - 1));
+    report(
+        rt,
+        "begin_send of a rep while n replies wait at full pipes, a pipe",
+        n,
+        since(rt, start),
+        n,
+    );
+    let start = now(rt);
+    rep.serve(rt);
+    report(
+        rt,
+        "serve while n replies wait at full pipes, a pipe",
+        n,
+        since(rt, start),
+        n,
+    );
+    end(rt, rep);
+}
+
+// The contexts of a rep, each of which has received a request, are shut.
+fn shuts<P: Proto, W: Scripted, R: AllocGlobal + Clock + Eprint + Wait>(
+    rt: &R,
+    n: u32,
+    mut rep: Driver<P, W>,
+)
+    requires { (0 < n) × (n ≤ 4096) }
+{
+    open_all(rt, &mut rep, n - 1);
+    attach_all_numbered(rt, &mut rep, n, MUCH);
+    rep.serve(rt);
+    receive_all(rt, &mut rep, n);
+    collect_all(rt, &mut rep, n);
+    let start = now(rt);
+    close_all(rt, &mut rep, n - 1);
+    report(
+        rt,
+        "a context of a rep is shut, by contexts",
+        n,
+        since(rt, start),
+        n - 1,
+    );
+    end(rt, rep);
+}
+
+// A rep that keeps a request of each pipe of the first half. Those of the second half go down in one serve.
+fn pipes_go_down<P: Proto, W: Scripted, R: AllocGlobal + Clock + Eprint + Wait>(
+    rt: &R,
+    n: u32,
+    mut rep: Driver<P, W>,
+)
+    requires { (0 < n) × (n ≤ 4096) }
+{
+    let half = n / 2;
+    attach_all_numbered(rt, &mut rep, n - half, MUCH);
+    attach_ending(rt, &mut rep, half, 1);
+    rep.serve(rt);
+    let start = now(rt);
+    rep.serve(rt);
+    report(
+        rt,
+        "a pipe of a rep goes down while requests of others are kept",
+        n,
+        since(rt, start),
+        half,
+    );
+    end(rt, rep);
+}
+
+/// Each row of a rep at this size.
+pub fn measure<P: Made, W: Scripted, R: AllocGlobal + Clock + Eprint + Wait>(
+    rt: &R,
+    n: u32,
+) -> Result<(), NoMemory>
+    requires { (0 < n) × (n ≤ 4096) }
+{
+    let alloc = rt.alloc();
+    each_pipe_asks(rt, n, driver_of::<P, W>(alloc, n)?);
+    waiting_contexts(rt, n, driver_of::<P, W>(alloc, n)?);
+    waiting_beside_a_reply(rt, n, driver_of::<P, W>(alloc, n)?);
+    replies_at_full_pipes(rt, n, driver_of::<P, W>(alloc, n)?);
+    shuts(rt, n, driver_of::<P, W>(alloc, n)?);
+    pipes_go_down(rt, n, driver_of::<P, W>(alloc, n)?);
+    Ok(())
+}
