@@ -23,25 +23,29 @@ pub trait Made: Proto {
 
 impl Made for Push {
     fn made(alloc: Global) -> Result<Push, NoMemory> {
-        Push::new(alloc, Options::usual(Role::Push, 0), false)
+        let machine = Push::new(alloc, Options::usual(Role::Push, 0), false)?;
+        Ok(machine)
     }
 }
 
 impl Made for Pull {
     fn made(alloc: Global) -> Result<Pull, NoMemory> {
-        Pull::new(alloc, Options::usual(Role::Pull, 0), false)
+        let machine = Pull::new(alloc, Options::usual(Role::Pull, 0), false)?;
+        Ok(machine)
     }
 }
 
 impl Made for Request {
     fn made(alloc: Global) -> Result<Request, NoMemory> {
-        Request::new(alloc, Options::usual(Role::Req, 0), false)
+        let machine = Request::new(alloc, Options::usual(Role::Req, 0), false)?;
+        Ok(machine)
     }
 }
 
 impl Made for Reply {
     fn made(alloc: Global) -> Result<Reply, NoMemory> {
-        Reply::new(alloc, Options::usual(Role::Rep, 0), false)
+        let machine = Reply::new(alloc, Options::usual(Role::Rep, 0), false)?;
+        Ok(machine)
     }
 }
 
@@ -50,7 +54,8 @@ impl Made for Survey {
     fn made(alloc: Global) -> Result<Survey, NoMemory> {
         let mut options = Options::usual(Role::Surveyor, 0);
         options.queue = 8_192;
-        Survey::new(alloc, options, false)
+        let machine = Survey::new(alloc, options, false)?;
+        Ok(machine)
     }
 }
 
