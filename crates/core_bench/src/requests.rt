@@ -21,6 +21,9 @@ const TRIPS: u32 = 256;
 /// How many requests begin that find all pipes full.
 const WAITING: u32 = 16;
 
+/// How many ticks come at which nothing is due.
+const TICKS: u32 = 256;
+
 /// How often each request is replaced.
 const ROUNDS: u32 = 3;
 
@@ -267,6 +270,25 @@ fn pipes_go_down<P: Proto, W: Scripted, R: AllocGlobal + Clock + Eprint + Wait>(
     end(rt, req);
 }
 
+// Ticks at which none of n requests is due.
+fn idle_ticks<P: Proto, W: Wire, R: AllocGlobal + Clock + Eprint + Wait>(
+    rt: &R,
+    n: u32,
+    req: &mut Driver<P, W>,
+) {
+    let start = now(rt);
+    for i in 0..TICKS {
+        let _ = req.tick(rt, rt.alloc(), Tick(u64::from(i)));
+    }
+    report(
+        rt,
+        "a tick at which nothing is due, by live requests",
+        n,
+        since(rt, start),
+        TICKS,
+    );
+}
+
 // Requests of n contexts are out on one pipe, and go out again at a tick.
 fn resends<P: Proto, W: Scripted, R: AllocGlobal + Clock + Eprint + Wait>(
     rt: &R,
@@ -278,6 +300,7 @@ fn resends<P: Proto, W: Scripted, R: AllocGlobal + Clock + Eprint + Wait>(
     open_all(rt, &mut req, n - 1);
     attach_all(rt, &mut req, 1, 0, MUCH);
     send_all(rt, &mut req, n);
+    idle_ticks(rt, n, &mut req);
     let start = now(rt);
     let _ = req.tick(rt, rt.alloc(), Tick(1_000_000));
     report(
@@ -298,7 +321,15 @@ fn shuts<P: Proto, W: Scripted, R: AllocGlobal + Clock + Eprint + Wait>(
 )
     requires { (0 < n) × (n ≤ 4096) }
 {
+    let start = now(rt);
     open_all(rt, &mut req, n - 1);
+    report(
+        rt,
+        "a context of a req is opened, by contexts",
+        n,
+        since(rt, start),
+        n - 1,
+    );
     attach_all(rt, &mut req, 1, 0, MUCH);
     send_all(rt, &mut req, n);
     let start = now(rt);
@@ -313,18 +344,20 @@ fn shuts<P: Proto, W: Scripted, R: AllocGlobal + Clock + Eprint + Wait>(
     end(rt, req);
 }
 
-// Each of so many contexts sends a request in place of its last one, one after the other, again and again.
+// Each of so many contexts sends a request in place of its last one, one after the other, again and again, with a tick
+// between. So what went out for those that were replaced is left behind.
 fn replace_all<P: Proto, W: Wire, R: AllocGlobal + Wait>(
     rt: &R,
     req: &mut Driver<P, W>,
     contexts: u32,
 ) {
-    for _ in 0..ROUNDS {
+    for i in 0..ROUNDS {
+        let _ = req.tick(rt, rt.alloc(), Tick(u64::from(i + 1)));
         send_all(rt, req, contexts);
     }
 }
 
-// The requests of n contexts are replaced in turn, over one pipe and at one tick.
+// The requests of n contexts are replaced in turn, over one pipe.
 fn replaced<P: Proto, W: Scripted, R: AllocGlobal + Clock + Eprint + Wait>(
     rt: &R,
     n: u32,
