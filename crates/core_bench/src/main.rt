@@ -1,6 +1,6 @@
-//! What a call of the core costs at 256, 1,024 and 4,096 pipes and slots, over wires in memory that take no time of
-//! their own: nanoseconds for each pipe or operation that it touches, on standard error. What is printed is the same at
-//! any speed.
+//! What a call of the core costs at 256, 1,024, 3,000 and 4,096 pipes and slots (of a surveyor at 16 to 1,000), over
+//! wires in memory that take no time of their own: nanoseconds for each pipe or operation that it touches, on standard
+//! error. What is printed is the same at any speed.
 #![tactic(auto)]
 
 ghost use Rattle.std.specs.Prelude.{◌<◌, ◌≤◌};

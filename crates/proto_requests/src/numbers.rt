@@ -55,8 +55,8 @@ impl Numbers {
         }
     }
 
-    /// The number is known by this one. std's map promises that a remove takes none of the room that was reserved, but not
-    /// that it gives any back: where a put finds none, the number stays unknown until close, and all is searched.
+    /// The number is known by this one. std's map promises that a remove takes none of the room that was reserved, but
+    /// not that it gives any back: so a put may find none, and then all is as before.
     pub fn put(&mut self, k: u32, n: u64) -> Result<(), NoMemory>
         ensures known { OnOk result ((q : ℕ) → number_at self.new q ≡ (if k == q then Some n else number_at self.old q)) }
         ensures same { OnErr result (self.new ≡ self.old) }

@@ -1,5 +1,5 @@
-//! What the machines of pub, sub, req, rep and surveyor take for a call, as topics, contexts and pipes grow: nanoseconds
-//! for each unit of work, on standard error. What is printed is the same at any speed.
+//! What the machines of pub, sub, req, rep and surveyor take for a call, as topics, contexts, pipes, live requests and
+//! what is kept grow: nanoseconds for each unit of work, on standard error. What is printed is the same at any speed.
 #![tactic(auto)]
 
 mod asked;
