@@ -16,6 +16,7 @@ pub mod NewPipes
 pub mod Outcomes
 pub mod Readings
 pub mod PipesInOrder
+pub mod Packing
 pub mod FreedSlots
 pub mod FinishedOperations
 pub mod Pulling

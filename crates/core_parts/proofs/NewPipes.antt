@@ -1,5 +1,5 @@
 -- A pipe comes up.
-use Rattle.std.proofs.Common.{◌≡◌, refl, ap, sym, ◌∙◌, subst, List, [], ◌∷◌, ◌++◌, ℕ, ◌+◌, ◌<◌, true, false, arith, length, get_or, length-append}
+use Rattle.std.proofs.Common.{◌≡◌, refl, ap, sym, ◌∙◌, subst, List, [], ◌∷◌, ◌++◌, ℕ, ◌+◌, ◌<◌, true, false, arith, length, get_or, length-append, Some}
 use Rattle.std.specs.Prelude.{◌==◌, IfSome}
 use Rattle.std.specs.List.{All}
 use Rattle.std.proofs.lemmas.List.Elements.{All-push}
@@ -14,11 +14,12 @@ use Rattle.sp_history.specs.Lists.{has}
 use Rattle.sp_history.specs.Past.{ups, frames, outs, fulls, quiets, stalls, up_to_most}
 use Rattle.sp_history.specs.Legal.{Allowed}
 use Rattle.sp_history.specs.Moments.{Moment, past, also, Lawful}
-use Rattle.core_parts.specs.declared.pipes.Pipe.{Pipe}
+use Rattle.core_parts.specs.declared.pipes.Place.{Place}
 use Rattle.core_parts.specs.declared.pipes.DownPipe.{DownPipe}
 use Rattle.core_parts.specs.declared.pipes.Pipes.{Pipes}
 use Rattle.core_parts.specs.Wires.{IsUpWire, IsDownWire, IsUnused, numbers_of}
-use Rattle.core_parts.specs.Pipes.{ids, down_ids, PipesStand, HasRoom}
+use Rattle.core_parts.specs.Pipes.{UpPipe, ids, down_ids, numbers, held, up_pipes, IsRising, PipesStand, HasRoom}
+use Rattle.core_parts.proofs.PipesInOrder.{held_more, rising_push}
 use Rattle.core_parts.proofs.Lawfuls.{by_steps}
 use Rattle.core_parts.proofs.ChangedWires.{same_number, differ, has_at, shows_still, Numbered, numbered, numbered_next, down_low}
 
@@ -70,9 +71,9 @@ other_down z before p place name q why w n h = record {
 }
 
 module _ {W : Type 0} (shown : W → WireView) where
-  ups_stay : (xs : List (Pipe W)) (before : List Entry) (p place : ℕ) (name : WireNumbers) → has (ids xs) p ≡ false → All (λ (x : Pipe W). IsUpWire before x.id (shown x.wire)) xs → All (λ (x : Pipe W). IsUpWire (Up p place name ∷ before) x.id (shown x.wire)) xs
+  ups_stay : (xs : List (UpPipe W)) (before : List Entry) (p place : ℕ) (name : WireNumbers) → has (ids xs) p ≡ false → All (λ (x : UpPipe W). IsUpWire before x.id (shown x.wire)) xs → All (λ (x : UpPipe W). IsUpWire (Up p place name ∷ before) x.id (shown x.wire)) xs
   ups_stay xs before p place name h all = λ k d m.
-      let there : get_or (ids xs) k 0 ≡ (get_or xs k d).id = get_or-map (λ (x : Pipe W). x.id) xs k d 0 m in
+      let there : get_or (ids xs) k 0 ≡ (get_or xs k d).id = get_or-map (λ (x : UpPipe W). x.id) xs k d 0 m in
       let in' : has (ids xs) (get_or (ids xs) k 0) ≡ true = has_at (ids xs) k (simp length-map m) in
       let n : (p == (get_or xs k d).id) ≡ false = rw (← there) (differ (ids xs) p (get_or (ids xs) k 0) h in') in
       other_up before p place name (get_or xs k d).id (shown (get_or xs k d).wire) n (all k d m)
@@ -84,21 +85,27 @@ module _ {W : Type 0} (shown : W → WireView) where
       let n : (p == (get_or ds k d).id) ≡ false = rw (← there) (differ (down_ids ds) p (get_or (down_ids ds) k 0) h in') in
       other_down z before p place name (get_or ds k d).id (get_or ds k d).why (shown (get_or ds k d).wire) n (all k d m)
 
-  pub came_up : (l m : Pipes W) (t : Moment) (p place : ℕ) (w : W) → Lawful t → PipesStand shown l t → HasRoom l → p ≡ ups (past t) + 1 → IsUnused (shown w) → m.up.items ≡ l.up.items ++ record { id = p; wire = w } ∷ [] → m.down ≡ l.down → PipesStand shown m (also t (Up p place (record { numbers = numbers_of (shown w).name })))
-  came_up l m t p place w lawful h room is unused us ds =
+  pub came_up : (l m : Pipes W) (t : Moment) (p place : ℕ) (w : W) → Lawful t → PipesStand shown l t → HasRoom l → p ≡ ups (past t) + 1 → IsUnused (shown w) → m.places.items ≡ l.places.items ++ record { id = p; wire = Some w } ∷ [] → m.down ≡ l.down → m.count ≡ l.count + 1 → PipesStand shown m (also t (Up p place (record { numbers = numbers_of (shown w).name })))
+  came_up l m t p place w lawful h room is unused places ds cs =
       let name : WireNumbers = record { numbers = numbers_of (shown w).name } in
-      let x : Pipe W = record { id = p; wire = w } in
+      let x : UpPipe W = record { id = p; wire = w } in
       let above : ups (past t) < p = omega (arith, is) in
       let fresh = (numbered t lawful).1 p above in
-      let not_up : has (ids l.up.items) p ≡ false = rw h.up_is fresh.0 in
+      let not_up : has (ids (up_pipes l)) p ≡ false = rw h.up_is fresh.0 in
       let not_down : has (down_ids l.down.items) p ≡ false = rw h.down_is fresh.1 in
-      let stay = ups_stay l.up.items (past t) p place name not_up h.up_wires in
+      let stay = ups_stay (up_pipes l) (past t) p place name not_up h.up_wires in
       let new : IsUpWire (Up p place name ∷ past t) p (shown w) = itself_up (past t) p place (shown w) (untouched t lawful p above) unused in
+      let us : up_pipes m ≡ up_pipes l ++ x ∷ [] = ap held places ∙ held_more l.places.items p w in
+      let longer : length (up_pipes m) ≡ length (up_pipes l) + 1 = ap length us ∙ length-append (up_pipes l) (x ∷ []) in
+      let ns : numbers m.places.items ≡ numbers l.places.items ++ p ∷ [] = ap numbers places ∙ map-append (λ (z : Place W). z.id) l.places.items _ in
+      let before : IsRising (numbers l.places.items ++ p ∷ []) = subst (λ (q : ℕ). IsRising (numbers l.places.items ++ q ∷ [])) (sym is) h.in_order in
       record {
-        up_is = ap ids us ∙ map-append (λ (z : Pipe W). z.id) l.up.items _ ∙ ap (λ xs. xs ++ p ∷ []) h.up_is;
-        up_wires = rw us (All-push (λ (z : Pipe W). IsUpWire (Up p place name ∷ past t) z.id (shown z.wire)) l.up.items x stay new);
+        up_is = ap ids us ∙ map-append (λ (z : UpPipe W). z.id) (up_pipes l) _ ∙ ap (λ xs. xs ++ p ∷ []) h.up_is;
+        up_wires = rw us (All-push (λ (z : UpPipe W). IsUpWire (Up p place name ∷ past t) z.id (shown z.wire)) (up_pipes l) x stay new);
         down_is = rw ds h.down_is;
         down_wires = rw ds (downs_stay t.z l.down.items (past t) p place name not_down h.down_wires);
-        down_room = let few = room.down in rw ds (omega (arith, few, ap length us, length-append l.up.items (x ∷ [])));
-        few = let few = room.few in rw ds (omega (arith, few, ap length us, length-append l.up.items (x ∷ [])));
+        in_order = rw ns (rising_push (numbers l.places.items) p (ups (Up p place name ∷ past t) + 1) before (omega (arith, is)));
+        count_is = cs ∙ ap (λ n. n + 1) h.count_is ∙ sym longer;
+        down_room = let few = room.down in rw ds (omega (arith, few, longer, h.count_is));
+        few = let few = room.few in rw ds (omega (arith, few, longer, h.count_is));
       }

@@ -1,5 +1,5 @@
 -- The pipes after a pull.
-use Rattle.std.proofs.Common.{◌≡◌, ◌≢◌, refl, ap, sym, ◌∙◌, subst, List, ◌∷◌, ℕ, ◌≤◌, arith, inr, get_or, set, length-set, inl}
+use Rattle.std.proofs.Common.{◌≡◌, ◌≢◌, ap, sym, ◌∙◌, subst, List, ◌∷◌, ℕ, ◌≤◌, arith, inr, inl}
 use Rattle.sp_msg.specs.Views.{WireView, MessageView}
 use Rattle.sp_msg.specs.Marks.{one_more}
 use Rattle.sp_msg.specs.Wires.{AfterPull, with_text}
@@ -11,14 +11,8 @@ use Rattle.sp_history.specs.declared.entry.Why.TheVariants as whys
 use Rattle.sp_history.specs.declared.setting.Setting.{Setting}
 use Rattle.sp_history.specs.Past.{frames, quiets}
 use Rattle.sp_history.specs.Wires.{Agrees}
-use Rattle.sp_history.specs.Moments.{Moment, past, also, Lawful}
-use Rattle.core_parts.specs.declared.pipes.Pipe.{Pipe}
-use Rattle.core_parts.specs.declared.pipes.Pipes.{Pipes}
 use Rattle.core_parts.specs.Wires.{state_of, IsUpWire}
-use Rattle.core_parts.specs.Pipes.{ids, PipesStand, IsPipeAt, PulledTo}
-use Rattle.core_parts.specs.declared.pipes.Pulled.TheVariants as pulled
 use Rattle.core_parts.proofs.ChangedWires.{same_number, most_more, told, GoesDown}
-use Rattle.core_parts.proofs.PipeSteps.{is_it, wire_at, carried_on, ids_same}
 
 -- ---- The wire
 
@@ -46,11 +40,11 @@ quiet_agrees before p w v h e =
       stalls_is = h.stalls_is;
     })
 
-came : (before : List Entry) (p : ℕ) (m : MessageView) (w v : WireView) → IsUpWire before p w → AfterPull (ins.Message m) w v → IsUpWire (Frame p m.body ∷ before) p v
+pub came : (before : List Entry) (p : ℕ) (m : MessageView) (w v : WireView) → IsUpWire before p w → AfterPull (ins.Message m) w v → IsUpWire (Frame p m.body ∷ before) p v
 came before p m w v h a =
     record { agrees = frame_agrees before p m.body (state_of w) (state_of v) h.agrees (ap state_of a.1); is_open = ap (λ (x : WireView). x.is_open) a.1 ∙ h.is_open }
 
-quieted : (before : List Entry) (p : ℕ) (w v : WireView) → IsUpWire before p w → AfterPull ins.NotYet w v → IsUpWire (Quiet p ∷ before) p v
+pub quieted : (before : List Entry) (p : ℕ) (w v : WireView) → IsUpWire before p w → AfterPull ins.NotYet w v → IsUpWire (Quiet p ∷ before) p v
 quieted before p w v h a =
     record { agrees = quiet_agrees before p (state_of w) (state_of v) h.agrees (ap state_of a); is_open = ap (λ (x : WireView). x.is_open) a ∙ h.is_open }
 
@@ -81,22 +75,3 @@ refused z before p w v a = (λ h. (as_before before p w v (ap state_of a) h, let
 
 pub without_memory : (z : Setting) (before : List Entry) (p : ℕ) (w v : WireView) → AfterPull ins.NoMemory w v → GoesDownSo z before p whys.NoMemory w v
 without_memory z before p w v a = (λ h. (as_before before p w v (ap state_of a) h, inl (ap (λ (x : WireView). x.is_open) a)), λ q. cc)
-
--- ---- The pipes
-
-module _ {W : Type 0} (shown : W → WireView) where
-  pub frame_carries : (l m : Pipes W) (t : Moment) (i p : ℕ) (x : Pipe W) (w : W) (text : MessageView) → Lawful t → PipesStand shown l t → IsPipeAt l i p → x ≡ get_or l.up.items i x → AfterPull (ins.Message text) (shown x.wire) (shown w)
-      → m.up.items ≡ set l.up.items i (record { id = x.id; wire = w }) → m.down ≡ l.down → PulledTo shown (pulled.Frame text) i p t m
-  frame_carries l m t i p x w text lawful h there at after us ds = (
-    after.0,
-    subst (λ (q : ℕ). PipesStand shown m (also t (Frame q text.body))) (is_it l i p x there at) (carried_on shown l m t (Frame x.id text.body) i x (record { id = x.id; wire = w }) lawful h there.inside at refl refl refl refl (came (past t) x.id text (shown x.wire) (shown w) (wire_at shown l t i x h there.inside at) after) us ds),
-    record {
-      inside = rw (us, length-set l.up.items i (record { id = x.id; wire = w })) there.inside;
-      is = ap (λ (xs : List ℕ). get_or xs i 0) (ap ids us ∙ ids_same shown l.up.items i x (record { id = x.id; wire = w }) there.inside at refl) ∙ there.is;
-    },
-  )
-
-  pub quiet_carries : (l m : Pipes W) (t : Moment) (i p : ℕ) (x : Pipe W) (w : W) → Lawful t → PipesStand shown l t → IsPipeAt l i p → x ≡ get_or l.up.items i x → AfterPull ins.NotYet (shown x.wire) (shown w)
-      → m.up.items ≡ set l.up.items i (record { id = x.id; wire = w }) → m.down ≡ l.down → PipesStand shown m (also t (Quiet p))
-  quiet_carries l m t i p x w lawful h there at after us ds =
-      subst (λ (q : ℕ). PipesStand shown m (also t (Quiet q))) (is_it l i p x there at) (carried_on shown l m t (Quiet x.id) i x (record { id = x.id; wire = w }) lawful h there.inside at refl refl refl refl (quieted (past t) x.id (shown x.wire) (shown w) (wire_at shown l t i x h there.inside at) after) us ds)

@@ -10,7 +10,7 @@ use Rattle.core_parts.specs.declared.op_words.OpWords.{OpWords}
 use Rattle.core_parts.specs.declared.op_words.Decision.{Decision}
 use Rattle.core_parts.specs.declared.op_words.Decision.TheVariants as decision
 use Rattle.core_parts.specs.declared.pipes.Pipes.{Pipes}
-use Rattle.core_parts.specs.declared.pipes.Pipe.{Pipe as PipeType}
+use Rattle.core_parts.specs.declared.pipes.Place.{Place as PlaceType}
 use Rattle.core_parts.specs.declared.outcome.Outcome.{Outcome}
 use Rattle.core_parts.specs.declared.operations.Operations.{Operations}
 use Rattle.core_parts.specs.declared.tally.Tally.{Tally}
@@ -30,7 +30,8 @@ use Rattle.sp_history.specs.declared.parts.Begun.{Begun}
 use Rattle.sp_history.specs.declared.parts.OperationEnd.{OperationEnd}
 use Rattle.sp_pending.specs.Pendings.{others_than}
 use Rattle.sp_msg.specs.Views.{MessageView, WireView, wire_text}
-use Rattle.std.specs.Prelude.{Bool, List, MatchOption, Option, Some, [], false, length, slice_index_or, true, ℕ, ◌++◌, ◌+◌, ◌<◌, ◌≤◌, ◌^◌, ◌∷◌, ◌≡◌, ◌≢◌}
+use Rattle.std.specs.VecDeque.{deque_capacity}
+use Rattle.std.specs.Prelude.{Bool, List, MatchOption, None, Option, Some, [], false, length, set, slice_index_or, true, ℕ, ◌++◌, ◌+◌, ◌<◌, ◌≤◌, ◌^◌, ◌∷◌, ◌≡◌, ◌≢◌}
 use Rattle.sp_history.specs.declared.entry.Entry.TheVariants as entries
 use Rattle.sp_history.specs.declared.entry.ContextChange.TheVariants as gate
 
@@ -135,15 +136,37 @@ abbrev pub PutsOut : {W : Type 0} → (W → WireView) → ℕ → MessageView �
 PutsOut shown i m old new =
     (t : Moment) (p : ℕ) (b : List ℕ) → Lawful t → PipesStand shown old t → IsPipeAt old i p → wire_text m ≡ b → PipesStand shown new (also t (Out p b))
 
--- the pipe at this place is the last of those that are down
-abbrev pub MovesDown : {W : Type 0} → ℕ → Why → Pipes W → Pipes W → Type 0
-MovesDown {W = W} i why old new =
-    (x : PipeType W) → x ≡ slice_index_or old.up.items i x → new.down.items ≡ old.down.items ++ record { id = x.id; why = why; wire = x.wire } ∷ []
+-- the pipe at this place has left it empty, and is the last of those that are down
+pub record EmptiesPlace {W : Type 0} (i : ℕ) (why : Why) (old new : Pipes W) : Type 0 where
+  pub places : (x : PlaceType W) → x ≡ slice_index_or old.places.items i x → new.places.items ≡ set old.places.items i (record { id = x.id; wire = None })
+  pub down : (x : PlaceType W) (w : W) → x ≡ slice_index_or old.places.items i x → x.wire ≡ Some w → new.down.items ≡ old.down.items ++ record { id = x.id; why = why; wire = w } ∷ []
+  pub count : new.count + 1 ≡ old.count
+  pub room : deque_capacity new.down ≡ deque_capacity old.down
 
--- where the pipe stands among those that are up, or that it does not
+-- the place of the pipe, or that it is not up
 abbrev pub FindsPipe : {W : Type 0} → (W → WireView) → Option ℕ → ℕ → Pipes W → Type 0
 FindsPipe shown r p x =
     MatchOption r ((t : Moment) → Lawful t → PipesStand shown x t → has (up (past t)) p ≡ false) (λ i. IsPipeAt x i p)
+
+-- it is the first of these numbers, which rise, above the other one
+pub record IsFirstAbove (p q : ℕ) (us : List ℕ) : Type 0 where
+  pub above : p < q
+  pub there : has us q ≡ true
+  pub first : (r : ℕ) → has us r ≡ true → p < r → q ≤ r
+
+-- no number of these is above the one
+abbrev pub NoneAbove : ℕ → List ℕ → Type 0
+NoneAbove p us = (q : ℕ) → has us q ≡ true → q ≤ p
+
+-- the place and the number of the first pipe that is up above this number, or that there is none
+abbrev pub FindsAbove : {W : Type 0} → (W → WireView) → Option (ℕ × ℕ) → ℕ → Pipes W → Type 0
+FindsAbove shown r p x =
+    (t : Moment) → Lawful t → PipesStand shown x t → MatchOption r (NoneAbove p (up (past t))) (λ f. IsPipeAt x f.0 f.1 × IsFirstAbove p f.1 (up (past t)))
+
+-- no place in front of this one has a number above
+abbrev pub ArePassed : {W : Type 0} → (W → WireView) → ℕ → ℕ → Pipes W → Type 0
+ArePassed {W = W} shown i p l =
+    (t : Moment) → PipesStand shown l t → (j : ℕ) (x : PlaceType W) → j < i → x ≡ slice_index_or l.places.items j x → x.id ≤ p
 
 -- ---- Counts
 

@@ -1,12 +1,16 @@
 //! The pipes with their wires: those that are up, and those that are down until their wires are taken.
-ghost use Rattle.std.specs.Prelude.{◌≡◌, ◌==◌, ◌<◌, ◌+◌, [], length, remove, OnOk};
+//!
+//! A pipe that comes up gets a place behind all others. One that goes down leaves its place empty, so that no other pipe
+//! moves. Empty places are taken out once they are more than those with a pipe, when a wire is taken. So over all pipes
+//! that go down, each costs a fixed number of moves and the search of its place.
+ghost use Rattle.std.specs.Prelude.{◌≡◌, ◌==◌, ◌<◌, ◌≤◌, ◌+◌, ◌++◌, ◌∷◌, ℕ, [], true, false, length, is_some, OnOk};
 ghost use Rattle.std.specs.VecDeque.{deque_capacity};
 ghost use Rattle.sp_history.specs.declared.entry.Entry.TheVariants.{Down};
 ghost use Rattle.sp_history.specs.declared.entry.Why.TheVariants as whys;
 ghost use Rattle.sp_history.specs.Past.{up};
 ghost use Rattle.sp_history.specs.Moments.{Moment, Lawful, past, also};
-ghost use Rattle.core_parts.specs.Pipes.{PipesStand, is_below, IsReadyAt, AskedAs, FlushedTo, LeftBy, TakenAs, HasRoom, PulledTo};
-ghost use Rattle.core_parts.specs.PartSteps.{AddsPipe, PutsOut, MovesDown, FindsPipe, WherePipe};
+ghost use Rattle.core_parts.specs.Pipes.{PipesStand, IsPipeAt, HasPlace, is_below, up_pipes, numbers, IsRising, IsReadyAt, AskedAs, FlushedTo, TakenAs, HasRoom, PulledTo};
+ghost use Rattle.core_parts.specs.PartSteps.{AddsPipe, PutsOut, EmptiesPlace, FindsPipe, FindsAbove, ArePassed, WherePipe};
 
 use sp_base::{NoMemory, PipeId};
 use sp_history::entry::Why;
@@ -15,13 +19,13 @@ use std::alloc::Global;
 use std::collections::VecDeque;
 use std::sync::Wait;
 
-/// A pipe that is up.
+/// The place of a pipe.
 #[derive(Drop)]
-pub struct Pipe<W> {
+pub struct Place<W> {
     /// Its number.
     pub id: PipeId,
-    /// What its messages go over.
-    pub wire: W,
+    /// What its messages go over while it is up.
+    pub wire: Option<W>,
 }
 
 /// A pipe that is down and whose wire was not taken.
@@ -38,8 +42,10 @@ pub struct DownPipe<W> {
 /// The pipes of a socket.
 #[derive(Drop)]
 pub struct Pipes<W> {
-    /// In the order in which they came up, which is that of their numbers. A close takes them from the front.
-    pub up: VecDeque<Pipe<W>>,
+    /// In the order in which pipes came up, which is that of their numbers.
+    pub places: VecDeque<Place<W>>,
+    /// How many pipes are up.
+    pub count: usize,
     /// In the order in which they went down, with room for all that are up. The first is taken first.
     pub down: VecDeque<DownPipe<W>>,
 }
@@ -77,12 +83,23 @@ pub enum Pulled {
     Down(Why),
 }
 
-impl<W> Pipe<W> {
-    // Whether it is this pipe.
-    fn is_number(&self, p: PipeId) -> bool
-        ensures { result ≡ (self.now.id == p) }
+impl<W> Place<W> {
+    // Whether the pipe of this number is up, with its wire here.
+    fn is_up_as(&self, p: PipeId) -> bool
+        ensures number { result ≡ true → self.now.id ≡ p }
+        ensures wire { result ≡ true → is_some self.now.wire ≡ true }
+        ensures other { result ≡ false → is_some self.now.wire ≡ true → (self.now.id == p) ≡ false }
     {
-        self.id.0 == p.0
+        self.id.0 == p.0 && self.wire.is_some()
+    }
+
+    // Whether a pipe with a number above this one is up, with its wire here.
+    fn is_up_above(&self, p: PipeId) -> bool
+        ensures wire { result ≡ true → is_some self.now.wire ≡ true }
+        ensures above { result ≡ true → p < self.now.id }
+        ensures other { result ≡ false → is_some self.now.wire ≡ true → self.now.id ≤ p }
+    {
+        p.0 < self.id.0 && self.wire.is_some()
     }
 
     // Whether its number is below this one's.
@@ -99,47 +116,79 @@ impl<W: Wire> Pipes<W> {
         ensures { (t : Moment) → past t ≡ [] → PipesStand W.shown result t }
     {
         Pipes {
-            up: VecDeque::new(alloc),
+            places: VecDeque::new(alloc),
+            count: 0,
             down: VecDeque::new(alloc),
         }
     }
 
-    /// Where the pipe stands among those that are up.
+    /// The place of the pipe, where it is up.
     pub fn place_of(&self, p: PipeId) -> Option<usize>
         ensures { FindsPipe W.shown result p self.now }
     {
-        let i = self.up.partition_point(|x| x.is_before(p));
-        if i >= self.up.len() {
+        let i = self.places.partition_point(|x| x.is_before(p));
+        if i >= self.places.len() {
             return None;
         }
-        if !self.up[i].is_number(p) {
+        if !self.places[i].is_up_as(p) {
             return None;
         }
         Some(i)
     }
 
-    /// The pipe goes down.
+    /// The first pipe that is up with a number above this one: its place and its number. The search begins behind
+    /// `from`, where that is the place of this number or of one below, and else at the front.
+    pub fn next_above(&self, p: PipeId, from: usize) -> Option<(usize, PipeId)>
+        ensures { FindsAbove W.shown result p self.now }
+    {
+        let mut i = self.first_behind(p, from);
+        while i < self.places.len() {
+            let x = &self.places[i];
+            if x.is_up_above(p) {
+                return Some((i, x.id));
+            }
+            i += 1;
+        }
+        None
+    }
+
+    // Where a search for numbers above this one may begin.
+    fn first_behind(&self, p: PipeId, from: usize) -> usize
+        ensures { ArePassed W.shown result p self.now }
+    {
+        if from < self.places.len() && self.places[from].id.0 <= p.0 {
+            from + 1
+        } else {
+            0
+        }
+    }
+
+    /// The pipe at this place goes down.
     pub fn take_down(&mut self, i: usize, why: Why) -> Asked
-        requires inside { i < length self.old.up.items }
+        requires there { HasPlace self.old i }
         requires room { length self.old.down.items < deque_capacity self.old.down }
         ensures answer { result ≡ Asked.Down why }
-        ensures up { self.new.up.items ≡ remove self.old.up.items i }
-        ensures down { MovesDown i why self.old self.new }
-        ensures room { deque_capacity self.new.down ≡ deque_capacity self.old.down }
+        ensures empties { EmptiesPlace i why self.old self.new }
     {
-        let Some(Pipe { id, wire }) = self.up.remove(i) else {
+        let place = &mut self.places[i];
+        let id = place.id;
+        let Some(wire) = place.wire.take() else {
             unreachable!()
         };
+        self.count -= 1;
         self.down.push_back_reserved(DownPipe { id, why, wire });
         Asked::Down(why)
     }
 
     /// Asks the pipe at this place for room. It goes down where its wire can't say.
     pub fn ask<R: Wait>(&mut self, rt: &R, i: usize) -> Asked
-        requires { (t : Moment) × Lawful t × PipesStand W.shown self.old t × (i < length self.old.up.items) }
+        requires { (t : Moment) × (p : ℕ) × Lawful t × PipesStand W.shown self.old t × IsPipeAt self.old i p }
         ensures { WherePipe W.shown self.old i (λ t p. AskedAs W.shown result i p t self.new) }
     {
-        match self.up[i].wire.room(rt) {
+        let Some(wire) = &mut self.places[i].wire else {
+            unreachable!()
+        };
+        match wire.room(rt) {
             Room::Yes => Asked::Yes,
             Room::Full => Asked::Full,
             Room::Failed => self.take_down(i, Why::Failed),
@@ -150,19 +199,24 @@ impl<W: Wire> Pipes<W> {
 
     /// Puts the message on the pipe at this place, which has room.
     pub fn put<R: Wait>(&mut self, rt: &R, i: usize, m: Message)
-        requires { (t : Moment) × PipesStand W.shown self.old t × (i < length self.old.up.items) × IsReadyAt W.shown self.old i }
+        requires { (t : Moment) × (p : ℕ) × PipesStand W.shown self.old t × IsPipeAt self.old i p × IsReadyAt W.shown self.old i }
         ensures { PutsOut W.shown i m self.old self.new }
     {
-        self.up[i].wire.put(rt, m);
+        let Some(wire) = &mut self.places[i].wire else {
+            unreachable!()
+        };
+        wire.put(rt, m);
     }
 
     /// Writes what the pipe at this place can of what waits. It goes down where its wire can't.
     pub fn flush<R: Wait>(&mut self, rt: &R, i: usize) -> Flushed
-        requires { (t : Moment) × Lawful t × PipesStand W.shown self.old t × (i < length self.old.up.items) }
-        ensures flushed { WherePipe W.shown self.old i (λ t p. FlushedTo W.shown result p t self.new) }
-        ensures left { LeftBy result self.old self.new i }
+        requires { (t : Moment) × (p : ℕ) × Lawful t × PipesStand W.shown self.old t × IsPipeAt self.old i p }
+        ensures { WherePipe W.shown self.old i (λ t p. FlushedTo W.shown result i p t self.new) }
     {
-        match self.up[i].wire.flush(rt) {
+        let Some(wire) = &mut self.places[i].wire else {
+            unreachable!()
+        };
+        match wire.flush(rt) {
             WireFlush::Empty => Flushed::Clear,
             WireFlush::NotYet => Flushed::Stall,
             WireFlush::Failed => {
@@ -182,19 +236,21 @@ impl<W: Wire> Pipes<W> {
 
     /// The pipe at this place goes down for the close.
     pub fn close_pipe(&mut self, i: usize)
-        requires { (t : Moment) × PipesStand W.shown self.old t × (i < length self.old.up.items) }
-        ensures gone { WherePipe W.shown self.old i (λ t p. PipesStand W.shown self.new (also t (Down p whys.Closed))) }
-        ensures fewer { length self.new.up.items < length self.old.up.items }
+        requires { (t : Moment) × (p : ℕ) × PipesStand W.shown self.old t × IsPipeAt self.old i p }
+        ensures { WherePipe W.shown self.old i (λ t p. PipesStand W.shown self.new (also t (Down p whys.Closed))) }
     {
         self.take_down(i, Why::Closed);
     }
 
     /// Pulls from the pipe at this place. It goes down where its wire has ended or can't say.
     pub fn pull<R: Wait>(&mut self, rt: &R, i: usize) -> Pulled
-        requires { (t : Moment) × Lawful t × PipesStand W.shown self.old t × (i < length self.old.up.items) }
+        requires { (t : Moment) × (p : ℕ) × Lawful t × PipesStand W.shown self.old t × IsPipeAt self.old i p }
         ensures { WherePipe W.shown self.old i (λ t p. PulledTo W.shown result i p t self.new) }
     {
-        let why = match self.up[i].wire.pull(rt) {
+        let Some(wire) = &mut self.places[i].wire else {
+            unreachable!()
+        };
+        let why = match wire.pull(rt) {
             WireIn::Message(m) => return Pulled::Frame(m),
             WireIn::NotYet => return Pulled::Quiet,
             WireIn::Ended => Why::Ended,
@@ -218,18 +274,45 @@ impl<W: Wire> Pipes<W> {
         let Some(first) = self.down.pop_front() else {
             unreachable!()
         };
+        self.pack();
         Some(first)
+    }
+
+    // Takes the empty places out, where more than half are empty.
+    fn pack(&mut self)
+        ensures up { up_pipes self.new ≡ up_pipes self.old }
+        ensures in_order { (q : ℕ) → IsRising (numbers self.old.places.items ++ q ∷ []) → IsRising (numbers self.new.places.items ++ q ∷ []) }
+        ensures count { self.new.count ≡ self.old.count }
+        ensures down { self.new.down ≡ self.old.down }
+    {
+        if self.places.len() / 2 <= self.count {
+            return;
+        }
+        let mut left = self.places.len();
+        while left > 0 {
+            left -= 1;
+            let Some(Place { id, wire }) = self.places.pop_front() else {
+                unreachable!()
+            };
+            if let Some(wire) = wire {
+                self.places.push_back_reserved(Place {
+                    id,
+                    wire: Some(wire),
+                });
+            }
+        }
     }
 
     /// Takes the room for one pipe more.
     pub fn make_room(&mut self) -> Result<(), NoMemory>
         ensures carries { (t : Moment) → PipesStand W.shown self.old t → PipesStand W.shown self.new t }
-        ensures up { self.new.up.items ≡ self.old.up.items }
+        ensures places { self.new.places.items ≡ self.old.places.items }
+        ensures count { self.new.count ≡ self.old.count }
         ensures down { self.new.down.items ≡ self.old.down.items }
-        ensures room { length self.old.up.items + length self.old.down.items < 4096 → OnOk result (HasRoom self.new) }
+        ensures room { self.old.count + length self.old.down.items < 4096 → OnOk result (HasRoom self.new) }
     {
-        self.up.reserve(1)?;
-        self.down.reserve(self.up.len() + 1)?;
+        self.places.reserve(1)?;
+        self.down.reserve(self.count.saturating_add(1))?;
         Ok(())
     }
 
@@ -238,6 +321,10 @@ impl<W: Wire> Pipes<W> {
         requires { HasRoom self.old }
         ensures { AddsPipe W.shown id wire self.old self.new }
     {
-        self.up.push_back_reserved(Pipe { id, wire });
+        self.places.push_back_reserved(Place {
+            id,
+            wire: Some(wire),
+        });
+        self.count += 1;
     }
 }

@@ -1,8 +1,9 @@
 //! The pipes of a closed socket, with the wires that were not taken.
 ghost use Rattle.std.specs.Prelude.{◌≡◌, ◌∷◌, ◌++◌, [], IfSome, IfNone};
 ghost use Rattle.sp_history.specs.declared.entry.Why.{Why as WhyType};
+ghost use Rattle.core_parts.specs.Pipes.{held, up_pipes};
 
-use crate::pipes::{DownPipe, Pipes};
+use crate::pipes::{DownPipe, Pipes, Place};
 use sp_base::PipeId;
 use std::collections::VecDeque;
 use std::marker::Model;
@@ -43,14 +44,31 @@ impl<W> WireList<W> {
     }
 }
 
+// Ends the places, which are empty.
+fn end_places<W>(mut places: VecDeque<Place<W>>)
+    requires { held places.items ≡ [] }
+{
+    while let Some(Place { id: _, wire }) = places.pop_front() {
+        match wire {
+            None => {}
+            Some(_wire) => unreachable!(),
+        }
+    }
+    places.destroy_empty();
+}
+
 impl<W> Pipes<W> {
     /// The pipes that are down, where none is up.
     pub fn into_down(self) -> WireList<W>
-        requires { self.up.items ≡ [] }
+        requires { up_pipes self ≡ [] }
         ensures { result ≡ self.down.items }
     {
-        let Pipes { up, down } = self;
-        up.destroy_empty();
+        let Pipes {
+            places,
+            count: _,
+            down,
+        } = self;
+        end_places(places);
         WireList { down }
     }
 }

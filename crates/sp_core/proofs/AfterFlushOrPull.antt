@@ -1,7 +1,7 @@
 -- The core goes on after a flush or a pull.
-use Rattle.std.proofs.Common.{◌≡◌, refl, ap, sym, ◌∙◌, subst, List, [], ◌∷◌, ◌++◌, ℕ, zero, suc, ◌<◌, ◌≤◌, Bool, true, false, arith, inl, inr, length, get_or}
+use Rattle.std.proofs.Common.{◌≡◌, refl, ap, sym, ◌∙◌, subst, List, [], ◌∷◌, ℕ, ◌<◌, ◌≤◌, Bool, true, false, arith, inl, inr, length, set, Some}
 use Rattle.std.specs.VecDeque.{deque_capacity}
-use Rattle.std.specs.Prelude.{◌&&◌, ◌==◌, remove}
+use Rattle.std.specs.Prelude.{◌&&◌, ◌==◌, Option}
 use Rattle.std.proofs.lemmas.Bool.{or_right}
 use Rattle.sp_msg.specs.Views.{WireView}
 use Rattle.sp_history.specs.declared.entry.Entry.{Entry}
@@ -17,17 +17,18 @@ use Rattle.sp_history.specs.Past.{up, ctxs, is_closed}
 use Rattle.sp_history.specs.Legal.{Calm, Allowed, condemned}
 use Rattle.sp_history.specs.Moments.{Moment, past, also, Lawful}
 use Rattle.sp_core.specs.declared.owner.Core.{Core}
-use Rattle.core_parts.specs.declared.pipes.Pipe.{Pipe}
+use Rattle.core_parts.specs.declared.pipes.Place.{Place}
 use Rattle.core_parts.specs.declared.pipes.Pipes.{Pipes}
 use Rattle.core_parts.specs.OpWordsStand.{OpWordsStand}
 use Rattle.core_parts.specs.OperationsStand.{OperationsStand, done_count}
 use Rattle.core_parts.specs.Tallies.{Tallies}
 use Rattle.core_parts.specs.Wires.{ShowsWhy, has_unkept}
-use Rattle.core_parts.specs.Pipes.{ids, PipesStand, IsPipeAt}
+use Rattle.core_parts.specs.Pipes.{UpPipe, up_pipes, PipesStand, IsPipeAt, HasPlace}
+use Rattle.core_parts.specs.PartSteps.{EmptiesPlace}
 use Rattle.sp_core.specs.Owning.{Owns}
-use Rattle.std.proofs.lemmas.List.{length-map}
-use Rattle.core_parts.proofs.ChangedWires.{same_number, has_at}
-use Rattle.core_parts.proofs.PipeSteps.{is_it, wire_at, fell}
+use Rattle.std.proofs.lemmas.List.{length-map, set-get_or}
+use Rattle.core_parts.proofs.ChangedWires.{same_number}
+use Rattle.core_parts.proofs.PipeSteps.{up_at, placed, emptied}
 use Rattle.core_parts.proofs.Lawfuls.{one_more}
 use Rattle.sp_core.proofs.MomentSteps.{goes, up_open}
 use Rattle.core_parts.proofs.Tallying.{same_tally}
@@ -84,20 +85,24 @@ no_claim : (a : Bool) → (a && false) ≡ false
 no_claim true = refl
 no_claim false = refl
 
-element : {A : Type 0} (xs : List A) (i : ℕ) → i < length xs → (x : A) × (x ≡ get_or xs i x)
-element [] i h = absurd (omega (arith, h))
-element (x ∷ xs) zero h = (x, refl)
-element (x ∷ xs) (suc i) h = element xs i (omega (arith, h))
+some_has : (xs : List ℕ) (p : ℕ) → has xs p ≡ true → 0 < length xs
+some_has [] p h = absurd cc
+some_has (x ∷ xs) p h = omega arith
 
 -- ---- The pipes
 
 module _ {W : Type 0} (shown : W → WireView) where
+  pub count_length : (l : Pipes W) (t : Moment) → PipesStand shown l t → l.count ≡ length (up (past t))
+  count_length l t h = let n = ap length h.up_is in let k = length-map (up_pipes l) (λ (x : UpPipe W). x.id) in let c = h.count_is in omega (arith, n, k, c)
+
   pub pipes_dry : (l : Pipes W) (t : Moment) (c : ℕ) → PipesStand shown l t → PipesStand shown l (also t (Dry c))
   pipes_dry l t c h = record {
     up_is = h.up_is;
     up_wires = λ i d m. let q = h.up_wires i d m in record { agrees = q.agrees; is_open = q.is_open };
     down_is = h.down_is;
     down_wires = λ i d m. let q = h.down_wires i d m in record { agrees = q.agrees; why_is = q.why_is; shows = why_dry t.z c (past t) _ _ _ q.shows };
+    in_order = h.in_order;
+    count_is = h.count_is;
     down_room = h.down_room;
     few = h.few;
   }
@@ -116,6 +121,8 @@ module _ {W : Type 0} (shown : W → WireView) where
     up_wires = λ i d m. let q = h.up_wires i d m in record { agrees = q.agrees; is_open = q.is_open };
     down_is = h.down_is;
     down_wires = λ i d m. let q = h.down_wires i d m in record { agrees = q.agrees; why_is = q.why_is; shows = why_unkept t.z p (past t) _ _ _ q.shows };
+    in_order = h.in_order;
+    count_is = h.count_is;
     down_room = h.down_room;
     few = h.few;
   }
@@ -129,27 +136,26 @@ module _ {W : Type 0} (shown : W → WireView) where
       why_unkept z r before p whys.NoMemory w (inl h) = inl h
       why_unkept z r before p whys.NoMemory w (inr h) = inr (or_right (r == p) (has_unkept before p) h)
 
-  pub up_at : (l : Pipes W) (t : Moment) (i p : ℕ) → PipesStand shown l t → IsPipeAt l i p → has (up (past t)) p ≡ true
-  up_at l t i p h there =
-      let here : has (ids l.up.items) p ≡ true = subst (λ (q : ℕ). has (ids l.up.items) q ≡ true) there.is (has_at (ids l.up.items) i (simp length-map there.inside)) in
-      subst (λ (xs : List ℕ). has xs p ≡ true) h.up_is here
+  -- a pipe is among those that are counted
+  pub place_counted : (l : Pipes W) (t : Moment) (i p : ℕ) → PipesStand shown l t → IsPipeAt l i p → HasPlace l i
+  place_counted l t i p h there = record {
+    inside = there.inside;
+    is_up = λ x at. (there.is x at).1;
+    counted = let n = count_length l t h in let some = some_has (up (past t)) p (up_at shown l t i p h there) in omega (arith, n, some);
+  }
 
-  pub placed_at : (l : Pipes W) (t : Moment) (i p : ℕ) → PipesStand shown l t → i < length (up (past t)) → get_or (up (past t)) i 0 ≡ p → IsPipeAt l i p
-  placed_at l t i p h inside is =
-      record { inside = let n = ap length h.up_is in let k = length-map l.up.items (λ (x : Pipe W). x.id) in omega (arith, inside, n, k); is = ap (λ (xs : List ℕ). get_or xs i 0) h.up_is ∙ is }
+  -- one more may go down
+  pub room_down : (l : Pipes W) (t : Moment) (i p : ℕ) → PipesStand shown l t → IsPipeAt l i p → length l.down.items < deque_capacity l.down
+  room_down l t i p h there = let some = (place_counted l t i p h there).counted in omega (arith, h.down_room, h.count_is, some)
 
-  pub place_at : (l : Pipes W) (t : Moment) (i p : ℕ) → PipesStand shown l t → IsPipeAt l i p → (i < length (up (past t))) × (get_or (up (past t)) i 0 ≡ p)
-  place_at l t i p h there =
-      (let n = ap length h.up_is in let k = length-map l.up.items (λ (x : Pipe W). x.id) in let inside = there.inside in omega (arith, inside, n, k), sym (ap (λ (xs : List ℕ). get_or xs i 0) h.up_is) ∙ there.is)
-
-  -- the pipe goes down for what its wire need not show
-  pub goes_down_on : (l m : Pipes W) (t : Moment) (i p : ℕ) (why : Why) → Lawful t → PipesStand shown l t → IsPipeAt l i p → ((w : WireView) → ShowsWhy t.z (past t) p why w) → m.up.items ≡ remove l.up.items i
-      → ((x : Pipe W) → x ≡ get_or l.up.items i x → m.down.items ≡ l.down.items ++ record { id = x.id; why = why; wire = x.wire } ∷ []) → deque_capacity m.down ≡ deque_capacity l.down → PipesStand shown m (also t (Down p why))
-  goes_down_on l m t i p why lawful h there shows us ds room =
-      let e = element l.up.items i there.inside in
-      let it : e.0.id ≡ p = is_it l i p e.0 there e.1 in
-      let shown_so : ShowsWhy t.z (past t) e.0.id why (shown e.0.wire) = subst (λ (q : ℕ). ShowsWhy t.z (past t) q why (shown e.0.wire)) (sym it) (shows (shown e.0.wire)) in
-      subst (λ (q : ℕ). PipesStand shown m (also t (Down q why))) it (fell shown l m t i e.0 e.0.wire why lawful h there.inside e.1 ((wire_at shown l t i e.0 h there.inside e.1).agrees, shown_so) us (ds e.0 e.1) room)
+  -- the pipe goes down for what its wire need not show, and the pipes stay so
+  pub goes_down_on : (l m n : Pipes W) (t : Moment) (i p : ℕ) (found why : Why) → found ≡ why → Lawful t → PipesStand shown l t → IsPipeAt l i p → ((w : WireView) → ShowsWhy t.z (past t) p why w) → EmptiesPlace i found l m → n ≡ m → PipesStand shown n (also t (Down p why))
+  goes_down_on l m n t i p found why e lawful h there shows empties same =
+      let x = placed l i p there in
+      let w = x.1 in
+      let out = subst (λ (y : Why). EmptiesPlace i y l m) e empties in
+      let alike : l.places.items ≡ set l.places.items i (record { id = x.0.id; wire = Some w }) = sym (ap (set l.places.items i) (ap (λ (o : Option W). let y : Place W = record { id = x.0.id; wire = o } in y) (sym x.4) ∙ x.2) ∙ set-get_or l.places.items i x.0) in
+      subst (λ (q : Pipes W). PipesStand shown q (also t (Down p why))) (sym same) (emptied shown l l m t i p x.0 w w why lawful h there x.2 x.4 (λ u. (u.agrees, shows (shown w))) alike refl refl out)
 
 pub shows_malformed : (z : Setting) (p : ℕ) (b : List ℕ) (before : List Entry) (w : WireView) → malformed z before p b ≡ true → ShowsWhy z (Frame p b ∷ before) p whys.Malformed w
 shows_malformed z p b before w m = inl (rw (same_number p) m)
@@ -220,13 +226,3 @@ module _ {P W : Type 0} (ties : P → Moment → Type 0) (room : P → ℕ) (sho
       let l = unkept_lawful t p b (frame_lawful t p b g.lawful g.calm h w) h m in
       built c d t (also (also (also t (Frame p b)) (Unkept p)) (Down p whys.NoMemory)) g (memory_lawful t p b l g.calm h m) (record { condemned_gone = ap (λ xs. without xs p) (condemned_not t.z p b (past t) g.calm.condemned_gone m); outs_claimed = no_claim (floods t.z.role); unkept_gone = refl; all_shut = g.calm.all_shut; closed_all = g.calm.closed_all })
       pr ro (rw de g.op_words) g.operations sh li ta (g.closed ∙ sym cl)
-
-module _ {W : Type 0} (shown : W → WireView) where
-  -- a pipe stays at its place while the same are up
-  pub place_stays : (l m : Pipes W) (t u : Moment) (i p : ℕ) → PipesStand shown l t → IsPipeAt l i p → up (past u) ≡ up (past t) → PipesStand shown m u → IsPipeAt m i p
-  place_stays l m t u i p h there same k =
-      let a = place_at shown l t i p h there in
-      placed_at shown m u i p k (let n = ap length same in let b = a.0 in omega (arith, n, b)) (ap (λ (xs : List ℕ). get_or xs i 0) same ∙ a.1)
-
-  pub pipes_length : (l : Pipes W) (t : Moment) → PipesStand shown l t → length l.up.items ≡ length (up (past t))
-  pipes_length l t h = let n = ap length h.up_is in let k = length-map l.up.items (λ (x : Pipe W). x.id) in omega (arith, n, k)

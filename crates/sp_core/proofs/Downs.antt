@@ -1,7 +1,5 @@
--- The core goes on from a moment to that at which a pipe, which has left those that are up, is down.
+-- The core goes on from a moment to that at which a pipe, which has left its place, is down.
 use Rattle.std.proofs.Common.{◌≡◌, ◌≢◌, sym, subst, List, [], ℕ, true}
-use Rattle.std.specs.Prelude.{remove}
-use Rattle.std.specs.VecDeque.{deque_capacity}
 use Rattle.sp_base.specs.declared.OpName.{OpName}
 use Rattle.sp_msg.specs.Views.{WireView}
 use Rattle.sp_history.specs.declared.entry.Entry.TheVariants.{Down}
@@ -10,27 +8,17 @@ use Rattle.sp_history.specs.declared.entry.Why.TheVariants as whys
 use Rattle.sp_history.specs.declared.parts.Begun.{Begun}
 use Rattle.sp_history.specs.Lists.{has}
 use Rattle.sp_history.specs.Past.{up}
-use Rattle.sp_history.specs.Moments.{Moment, Lawful, past, also}
+use Rattle.sp_history.specs.Moments.{Moment, past, also}
 use Rattle.sp_core.specs.declared.owner.Core.{Core}
 use Rattle.core_parts.specs.declared.pipes.Pipes.{Pipes}
-use Rattle.core_parts.specs.Pipes.{PipesStand, IsPipeAt}
-use Rattle.core_parts.specs.Wires.{ShowsWhy}
-use Rattle.core_parts.specs.PartSteps.{MovesDown}
+use Rattle.core_parts.specs.Pipes.{PipesStand}
 use Rattle.sp_core.specs.Owning.{Owns}
 use Rattle.sp_core.specs.Closing.{ClosesAt}
 use Rattle.sp_core.specs.FloodedPipes.{Spreads}
 use Rattle.sp_core.specs.NoteSteps.{NotesDown}
 use Rattle.sp_core.proofs.Closings.{go_down_lawful, goes_down_one}
 use Rattle.sp_core.proofs.Flooded as flooded
-use Rattle.sp_core.proofs.AfterFlushOrPull.{goes_down_on}
 use Rattle.sp_core.proofs.MomentSteps.{down_lawful, went_down}
-
--- the pipe goes down for this, which its wire need not show, and the pipes stay so
-pub goes_down_for : {W : Type 0} (shown : W → WireView) (l m n : Pipes W) (t : Moment) (i p : ℕ) (found why : Why) → found ≡ why → Lawful t → PipesStand shown l t → IsPipeAt l i p → ((w : WireView) → ShowsWhy t.z (past t) p why w) → m.up.items ≡ remove l.up.items i → MovesDown i found l m → deque_capacity m.down ≡ deque_capacity l.down → n ≡ m
-    → PipesStand shown n (also t (Down p why))
-goes_down_for {W = W} shown l m n t i p found why e lawful h there shows us ds room same =
-    let moves = subst (λ (y : Why). MovesDown i y l m) e ds in
-    subst (λ (x : Pipes W). PipesStand shown x (also t (Down p why))) (sym same) (goes_down_on shown l m t i p why lawful h there shows us moves room)
 
 module _ {P W : Type 0} (ties : P → Moment → Type 0) (room left : P → ℕ) (copies : P → OpName → ℕ) (shown : W → WireView) (c d : Core P W) (l : Pipes W) (t : Moment) (p : ℕ) (why : Why) where
   -- while nothing is owed

@@ -139,6 +139,8 @@ module _ {W : Type 0} (shown : W → WireView) where
         up_wires = λ i d m. let q = h.up_wires i d m in record { agrees = q.agrees; is_open = q.is_open };
         down_is = h.down_is;
         down_wires = λ i d m. let q = h.down_wires i d m in record { agrees = q.agrees; why_is = q.why_is; shows = why_same t.z op ending (past t) _ _ _ q.shows };
+        in_order = h.in_order;
+        count_is = h.count_is;
         down_room = h.down_room;
         few = h.few;
       }
@@ -150,6 +152,8 @@ module _ {W : Type 0} (shown : W → WireView) where
         up_wires = λ i d m. let q = h.up_wires i d m in record { agrees = q.agrees; is_open = q.is_open };
         down_is = h.down_is;
         down_wires = λ i d m. let q = h.down_wires i d m in record { agrees = q.agrees; why_is = q.why_is; shows = why_begun t.z op k c act deadline (past t) _ _ _ q.shows };
+        in_order = h.in_order;
+        count_is = h.count_is;
         down_room = h.down_room;
         few = h.few;
       }

@@ -6,7 +6,7 @@ use Rattle.core_parts.specs.Ends.{IsCloseEnd}
 use Rattle.core_parts.specs.Pipes.{IsPipeAt}
 use Rattle.sp_core.specs.Owning.{Owns}
 use Rattle.sp_core.specs.declared.owner.Core.{Core}
-use Rattle.sp_history.specs.Lists.{head_of, without}
+use Rattle.sp_history.specs.Lists.{without}
 use Rattle.sp_history.specs.Moments.{Moment, also, past}
 use Rattle.sp_history.specs.Past.{pend, pending, totals, up}
 use Rattle.sp_history.specs.declared.entry.Cause.{Cause as CauseType}
@@ -38,15 +38,19 @@ abbrev pub TakesAllDown : {P W : Type 0} → (P → Moment → Type 0) → (P �
 TakesAllDown ties room shown old new =
     KeepsWords old new ((t : Moment) → ClosesAt ties room shown old t → (es : List Entry) × AreDownsOf (up (past t)) es × ClosesAt ties room shown new (after t es) × (up (past (after t es)) ≡ []) × (pend (past (after t es)) ≡ pend (past t)))
 
--- the first pipe was flushed and has gone down
-abbrev pub TakesFirstDown : {P W : Type 0} → (P → Moment → Type 0) → (P → ℕ) → (W → WireView) → Core P W → Core P W → Type 0
-TakesFirstDown ties room shown old new =
-    KeepsWords old new ((t : Moment) → ClosesAt ties room shown old t → (p : ℕ) × (es : List Entry) × (head_of (up (past t)) ≡ Some p) × GoesDownAs p es × ClosesAt ties room shown new (after t es) × (up (past (after t es)) ≡ without (up (past t)) p) × (pend (past (after t es)) ≡ pend (past t)))
+-- the pipe at this place may go down for the close
+abbrev pub MayTakeDown : {P W : Type 0} → (P → Moment → Type 0) → (P → ℕ) → (W → WireView) → ℕ → ℕ → Core P W → Type 0
+MayTakeDown ties room shown i p old = (t : Moment) × ClosesAt ties room shown old t × IsPipeAt old.pipes i p
 
--- the first pipe has gone down for the close
-abbrev pub TakesDown : {P W : Type 0} → (P → Moment → Type 0) → (P → ℕ) → (W → WireView) → ℕ → Core P W → Core P W → Type 0
-TakesDown ties room shown p old new =
-    KeepsWords old new ((t : Moment) → ClosesAt ties room shown old t → IsPipeAt old.pipes 0 p → ClosesAt ties room shown new (also t (Down p whys.Closed)))
+-- the pipe at this place was flushed and has gone down
+abbrev pub TakesOneDown : {P W : Type 0} → (P → Moment → Type 0) → (P → ℕ) → (W → WireView) → ℕ → ℕ → Core P W → Core P W → Type 0
+TakesOneDown ties room shown i p old new =
+    KeepsWords old new ((t : Moment) → ClosesAt ties room shown old t → IsPipeAt old.pipes i p → (es : List Entry) × GoesDownAs p es × ClosesAt ties room shown new (after t es) × (up (past (after t es)) ≡ without (up (past t)) p) × (pend (past (after t es)) ≡ pend (past t)))
+
+-- the pipe at this place has gone down for the close
+abbrev pub TakesDown : {P W : Type 0} → (P → Moment → Type 0) → (P → ℕ) → (W → WireView) → ℕ → ℕ → Core P W → Core P W → Type 0
+TakesDown ties room shown i p old new =
+    KeepsWords old new ((t : Moment) → ClosesAt ties room shown old t → IsPipeAt old.pipes i p → ClosesAt ties room shown new (also t (Down p whys.Closed)))
 
 -- nothing is pending and no pipe is up
 abbrev pub MayShutSocket : {P W : Type 0} → (P → Moment → Type 0) → (P → ℕ) → (W → WireView) → Core P W → Type 0

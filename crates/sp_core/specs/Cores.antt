@@ -5,7 +5,7 @@ use Rattle.aio_word.specs.declared.rule.WordsView.{WordsView}
 use Rattle.sp_pending.specs.declared.pending.PendingOperation.{PendingOperation}
 use Rattle.sp_proto.specs.Kinds.{Kind}
 use Rattle.core_parts.specs.declared.operations.Operations.{Operations}
-use Rattle.core_parts.specs.declared.pipes.Pipe.{Pipe}
+use Rattle.core_parts.specs.Pipes.{UpPipe, up_pipes}
 use Rattle.core_parts.specs.declared.pipes.Pipes.{Pipes}
 use Rattle.sp_core.specs.declared.owner.Core.{Core}
 
@@ -38,8 +38,8 @@ abbrev pub pipes_of : {P W : Type 0} → Core P W → Pipes W
 pipes_of c = c.pipes
 
 -- those of them that are up
-abbrev pub up_of : {P W : Type 0} → Core P W → List (Pipe W)
-up_of c = c.pipes.up.items
+abbrev pub up_of : {P W : Type 0} → Core P W → List (UpPipe W)
+up_of c = up_pipes c.pipes
 
 -- how many contexts were opened
 abbrev pub opened_of : {P W : Type 0} → Core P W → ℕ

@@ -3,21 +3,23 @@ use Rattle.sp_core.specs.KeptWords.{KeepsWords}
 use Rattle.sp_core.specs.Attaching.{MayAttach, RefusedAttach}
 use Rattle.core_parts.specs.Pipes.{PipesStand, IsPipeAt}
 use Rattle.sp_core.specs.Owning.{Owns}
-use Rattle.sp_core.specs.Serving.{FlushTold, GotTo, IsFresh, IsReady, IsUnpulled, PulledAll, SweptTo, VisitedTo}
+use Rattle.sp_core.specs.Serving.{FlushTold, GotTo, IsFresh, IsReady, IsUnpulled, PulledAll, SweptAll, VisitedTo}
 use Rattle.core_parts.specs.Wires.{numbers_of}
 use Rattle.core_parts.specs.declared.pipes.Flushed.{Flushed}
+use Rattle.core_parts.specs.declared.pipes.Flushed.TheVariants as flushed
 use Rattle.core_parts.specs.declared.pipes.Pipes.{Pipes as PipesType}
 use Rattle.sp_core.specs.declared.owner.Core.{Core}
 use Rattle.sp_core.specs.declared.attach.AttachError.{AttachError}
 use Rattle.sp_core.specs.declared.serve.Got.{Got}
+use Rattle.sp_core.specs.declared.serve.Got.TheVariants as got
 use Rattle.sp_core.specs.declared.serve.Visit.{Visit}
 use Rattle.sp_history.specs.Kept.{wanted}
 use Rattle.sp_history.specs.Moments.{Moment, also, past}
-use Rattle.sp_history.specs.Past.{up, ups}
+use Rattle.sp_history.specs.Past.{ups}
 use Rattle.sp_history.specs.declared.entry.Entry.TheVariants.{Frame, Up}
 use Rattle.sp_msg.specs.Views.{MessageView, WireView}
 use Rattle.sp_proto.specs.Machines.{NoFlood}
-use Rattle.std.specs.Prelude.{Bool, MatchOption, MatchResult, None, Option, Result, [], length, true, ℕ, ◌+◌, ◌-◌, ◌<◌, ◌^◌, ◌≡◌}
+use Rattle.std.specs.Prelude.{⊤, Bool, MatchOption, MatchResult, None, Option, Result, [], length, true, ℕ, ◌+◌, ◌-◌, ◌<◌, ◌^◌, ◌≡◌}
 
 -- the wire has become a pipe, or why not
 abbrev pub BringsUp : {P W : Type 0} → (P → Moment → Type 0) → (P → ℕ) → (W → WireView) → Result ℕ (AttachError × W) → W → Core P W → Core P W → Type 0
@@ -32,12 +34,22 @@ TellsMayAttach ties room shown r x =
 -- there are numbers left for a pipe that may come up
 abbrev pub LeavesNumbers : {P W : Type 0} → Option AttachError → Core P W → Type 0
 LeavesNumbers r x =
-    r ≡ None → (length x.pipes.up.items + length x.pipes.down.items < 4096) × (x.tally.ups < 2 ^ 31 - 1)
+    r ≡ None → (x.pipes.count + length x.pipes.down.items < 4096) × (x.tally.ups < 2 ^ 31 - 1)
+
+-- the pipe has its place still, unless it went down
+abbrev pub StaysFlushed : {W : Type 0} → Flushed → ℕ → ℕ → PipesType W → Type 0
+StaysFlushed (flushed.Down why) i p l = ⊤
+StaysFlushed _ i p l = IsPipeAt l i p
+
+-- the same, where more may be pulled
+abbrev pub StaysPulled : {W : Type 0} → Got → ℕ → ℕ → PipesType W → Type 0
+StaysPulled got.More i p l = IsPipeAt l i p
+StaysPulled _ i p l = ⊤
 
 -- the pipe at this place was flushed
 abbrev pub FlushesPipe : {P W : Type 0} → (P → Moment → Type 0) → (P → ℕ) → (W → WireView) → Flushed → ℕ → ℕ → Core P W → Core P W → Type 0
 FlushesPipe ties room shown r i p old new =
-    KeepsWords old new ((t : Moment) → Owns ties room shown [] old t → IsPipeAt old.pipes i p → (u : Moment) × FlushTold r p t u × Owns ties room shown [] new u)
+    KeepsWords old new ((t : Moment) → Owns ties room shown [] old t → IsPipeAt old.pipes i p → (u : Moment) × FlushTold r p t u × Owns ties room shown [] new u × StaysFlushed r i p new.pipes)
 
 -- this frame of the pipe at this place was pulled, and is not recorded
 abbrev pub MayTakeFrame : {P W : Type 0} → (P → Moment → Type 0) → (P → ℕ) → (W → WireView) → ℕ → ℕ → MessageView → Core P W → Type 0
@@ -47,7 +59,7 @@ MayTakeFrame {W = W} ties room shown i p m old =
 -- the frame is recorded and what came of it
 abbrev pub TakesFrame : {P W : Type 0} → (P → Moment → Type 0) → (P → ℕ) → (W → WireView) → Got → ℕ → ℕ → MessageView → Core P W → Core P W → Type 0
 TakesFrame {W = W} ties room shown r i p m old new =
-    KeepsWords old new ((l : PipesType W) (t : Moment) → Owns ties room shown [] (record old { pipes = l }) t → PipesStand shown old.pipes (also t (Frame p m.body)) → IsPipeAt old.pipes i p → wanted t.z (past t) p ≡ true → (u : Moment) × GotTo r p t u × Owns ties room shown [] new u)
+    KeepsWords old new ((l : PipesType W) (t : Moment) → Owns ties room shown [] (record old { pipes = l }) t → PipesStand shown old.pipes (also t (Frame p m.body)) → IsPipeAt old.pipes i p → wanted t.z (past t) p ≡ true → (u : Moment) × GotTo r p t u × Owns ties room shown [] new u × StaysPulled r i p new.pipes)
 
 -- frames of the pipe at this place are wanted
 abbrev pub MayPull : {P W : Type 0} → (P → Moment → Type 0) → (P → ℕ) → (W → WireView) → ℕ → ℕ → Core P W → Type 0
@@ -57,7 +69,7 @@ MayPull ties room shown i p old =
 -- the pipe at this place was pulled from once
 abbrev pub PullsOnce : {P W : Type 0} → (P → Moment → Type 0) → (P → ℕ) → (W → WireView) → Got → ℕ → ℕ → Core P W → Core P W → Type 0
 PullsOnce ties room shown r i p old new =
-    KeepsWords old new ((t : Moment) → Owns ties room shown [] old t → IsPipeAt old.pipes i p → wanted t.z (past t) p ≡ true → (u : Moment) × GotTo r p t u × Owns ties room shown [] new u)
+    KeepsWords old new ((t : Moment) → Owns ties room shown [] old t → IsPipeAt old.pipes i p → wanted t.z (past t) p ≡ true → (u : Moment) × GotTo r p t u × Owns ties room shown [] new u × StaysPulled r i p new.pipes)
 
 -- the pipe at this place was not pulled from in this turn
 abbrev pub MayPullAll : {P W : Type 0} → (P → Moment → Type 0) → (P → ℕ) → (W → WireView) → ℕ → ℕ → Core P W → Type 0
@@ -70,16 +82,16 @@ PullsPipe ties room shown r i p old new =
     KeepsWords old new ((t : Moment) → Owns ties room shown [] old t → IsPipeAt old.pipes i p → IsUnpulled t p → IsReady t p → (u : Moment) × PulledAll r p t u × Owns ties room shown [] new u)
 
 -- nothing of this turn concerns the pipe at this place
-abbrev pub MayServe : {P W : Type 0} → (P → Moment → Type 0) → (P → ℕ) → (W → WireView) → ℕ → Core P W → Type 0
-MayServe ties room shown i old =
-    (t : Moment) × (p : ℕ) × Owns ties room shown [] old t × IsPipeAt old.pipes i p × IsFresh t p
+abbrev pub MayServe : {P W : Type 0} → (P → Moment → Type 0) → (P → ℕ) → (W → WireView) → ℕ → ℕ → Core P W → Type 0
+MayServe ties room shown i p old =
+    (t : Moment) × Owns ties room shown [] old t × IsPipeAt old.pipes i p × IsFresh t p
 
 -- the pipe at this place was flushed and served
-abbrev pub ServesPipe : {P W : Type 0} → (P → Moment → Type 0) → (P → ℕ) → (W → WireView) → Visit → ℕ → Core P W → Core P W → Type 0
-ServesPipe ties room shown r i old new =
-    KeepsWords old new ((t : Moment) (p : ℕ) → Owns ties room shown [] old t → IsPipeAt old.pipes i p → IsFresh t p → (u : Moment) × VisitedTo r p t u × Owns ties room shown [] new u)
+abbrev pub ServesPipe : {P W : Type 0} → (P → Moment → Type 0) → (P → ℕ) → (W → WireView) → Visit → ℕ → ℕ → Core P W → Core P W → Type 0
+ServesPipe ties room shown r i p old new =
+    KeepsWords old new ((t : Moment) → Owns ties room shown [] old t → IsPipeAt old.pipes i p → IsFresh t p → (u : Moment) × VisitedTo r p t u × Owns ties room shown [] new u)
 
 -- every pipe was flushed and served
 abbrev pub ServesAll : {P W : Type 0} → (P → Moment → Type 0) → (P → ℕ) → (W → WireView) → ℕ → Core P W → Core P W → Type 0
 ServesAll ties room shown r old new =
-    KeepsWords old new ((t : Moment) → Owns ties room shown [] old t → t.turn ≡ [] → (u : Moment) × SweptTo (length (up (past u))) r t u × Owns ties room shown [] new u)
+    KeepsWords old new ((t : Moment) → Owns ties room shown [] old t → t.turn ≡ [] → (u : Moment) × SweptAll r t u × Owns ties room shown [] new u)

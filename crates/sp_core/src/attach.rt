@@ -166,7 +166,7 @@ impl<P: Proto, W: Wire> Core<P, W> {
         if self.has_its_one() {
             return Some(AttachError::Refused);
         }
-        if self.pipes.up.len() + self.pipes.down.len() >= MOST_PIPES {
+        if self.pipes.count + self.pipes.down.len() >= MOST_PIPES {
             return Some(AttachError::Many);
         }
         if self.tally.ups >= LAST_NUMBER {
@@ -181,7 +181,7 @@ impl<P: Proto, W: Wire> Core<P, W> {
         ensures none { result ≡ false → (t : Moment) → Owns P.ties P.room W.shown [] self.now t → IsTrue (is_pair t.z.role) → up (past t) ≡ [] }
     {
         match self.proto.role() {
-            Role::Pair0 => !self.pipes.up.is_empty(),
+            Role::Pair0 => self.pipes.count > 0,
             _ => false,
         }
     }

@@ -1,7 +1,12 @@
-use Rattle.core_parts.proofs.PipeSteps.{some_at, close_pipe}
+use Rattle.core_parts.proofs.PipeSteps.{room_below, has_place, close_pipe}
 use Rattle.core_parts.proofs.pipes.Pipes.close_pipe.Goals as goal
 
-pub returns-clause-gone : goal.returns-clause-gone
-returns-clause-gone g c = λ t p lawful h there.
-    let x = some_at c.args.self.now.up.items c.args.i c.requires.2 in
-    close_pipe g.W.Wire.shown c.args.self.now c.take_down.new.self t c.args.i p x.0 lawful h there x.1 c.take_down.ensures.up (c.take_down.ensures.down x.0 x.1) c.take_down.ensures.room
+pub take_down-requires-clause-there : goal.take_down-requires-clause-there
+take_down-requires-clause-there g c = let r = c.requires in has_place g.W.Wire.shown c.args.self.now r.0 c.args.i r.1 r.2 r.3
+
+pub take_down-requires-clause-room : goal.take_down-requires-clause-room
+take_down-requires-clause-room g c = let r = c.requires in room_below g.W.Wire.shown c.args.self.now r.0 c.args.i r.1 r.2 r.3
+
+pub returns : goal.returns
+returns g c = λ t p lawful h there.
+    close_pipe g.W.Wire.shown c.args.self.now c.take_down.new.self t c.args.i p lawful h there c.take_down.ensures.empties

@@ -2,45 +2,57 @@ use Rattle.std.proofs.Common.{refl, subst}
 use Rattle.sp_msg.specs.Wires.{AfterFlush}
 use Rattle.sp_msg.specs.declared.wire.WireFlush.{WireFlush}
 use Rattle.sp_history.specs.declared.entry.Why.TheVariants as whys
+use Rattle.sp_history.specs.declared.entry.Entry.TheVariants.{Clear, Stall}
 use Rattle.sp_history.specs.Moments.{past}
-use Rattle.core_parts.specs.declared.pipes.Asked.TheVariants as asked
 use Rattle.core_parts.proofs.ChangedWires.{failed, refused, without_memory}
-use Rattle.core_parts.proofs.PipeSteps.{ids_same, wire_at, go_down_carries}
-use Rattle.core_parts.proofs.Flushing.{open_flushes, as_failed, as_refused, as_without_memory, stall_carries, clear_carries}
+use Rattle.core_parts.proofs.PipeSteps.{wire_at, room_below, keeps_place, moved, emptied}
+use Rattle.core_parts.proofs.Flushing.{open_flushes, stalled, cleared, as_failed, as_refused, as_without_memory}
 use Rattle.core_parts.proofs.pipes.Pipes.flush.Goals as goal
 
 pub flush-requires : goal.flush-requires
 flush-requires g c =
     let r = c.requires in
-    open_flushes (g.W.Wire.shown c.index_mut.result.now.wire) (wire_at g.W.Wire.shown c.args.self.now r.0 c.args.i c.index_mut.result.now r.2 r.3 c.index_mut.ensures.value).is_open
+    open_flushes (g.W.Wire.shown c.in-Some.wire) (wire_at g.W.Wire.shown c.args.self.now r.0 c.args.i c.index_mut.result.now c.in-Some.wire r.3 r.4.inside c.index_mut.ensures.value c.in-Some.is).is_open
 
-pub returns-in-Empty-clause-flushed : goal.returns-in-Empty-clause-flushed
-returns-in-Empty-clause-flushed g c = λ t p lawful h there.
-    let after = subst (λ (r : WireFlush). AfterFlush r (g.W.Wire.shown c.index_mut.result.now.wire) (g.W.Wire.shown c.flush.new.self)) c.in-Empty.is c.flush.ensures in
-    clear_carries g.W.Wire.shown c.args.self.now _ t c.args.i p c.index_mut.result.now c.flush.new.self lawful h there c.index_mut.ensures.value after refl refl
+pub take_down-requires-clause-there : goal.take_down-requires-clause-there
+take_down-requires-clause-there g c = let r = c.requires in keeps_place g.W.Wire.shown c.args.self.now _ r.0 c.args.i r.1 c.index_mut.result.now.id c.flush.new.self r.3 r.4 refl refl
 
-pub returns-in-NotYet-clause-flushed : goal.returns-in-NotYet-clause-flushed
-returns-in-NotYet-clause-flushed g c = λ t p lawful h there.
-    let after = subst (λ (r : WireFlush). AfterFlush r (g.W.Wire.shown c.index_mut.result.now.wire) (g.W.Wire.shown c.flush.new.self)) c.in-NotYet.is c.flush.ensures in
-    stall_carries g.W.Wire.shown c.args.self.now _ t c.args.i p c.index_mut.result.now c.flush.new.self lawful h there c.index_mut.ensures.value after refl refl
+pub take_down-requires-clause-room : goal.take_down-requires-clause-room
+take_down-requires-clause-room g c = let r = c.requires in room_below g.W.Wire.shown c.args.self.now r.0 c.args.i r.1 r.3 r.4
 
-pub returns-in-Failed-clause-flushed : goal.returns-in-Failed-clause-flushed
-returns-in-Failed-clause-flushed g c = λ t p lawful h there.
-    let after = subst (λ (r : WireFlush). AfterFlush r (g.W.Wire.shown c.index_mut.result.now.wire) (g.W.Wire.shown c.flush.new.self)) c.in-Failed.is c.flush.ensures in
-    go_down_carries g.W.Wire.shown c.args.self.now c.take_down.new.self t c.args.i p c.index_mut.result.now c.flush.new.self whys.Failed (asked.Down whys.Failed) lawful h there c.index_mut.ensures.value (λ was. failed t.z (past t) c.index_mut.result.now.id _ _ was (as_failed _ _ after)) refl c.take_down.ensures.up c.take_down.ensures.down c.take_down.ensures.room (λ q. cc)
+pub take_down-requires-in-Refused-clause-there : goal.take_down-requires-in-Refused-clause-there
+take_down-requires-in-Refused-clause-there g c = let r = c.requires in keeps_place g.W.Wire.shown c.args.self.now _ r.0 c.args.i r.1 c.index_mut.result.now.id c.flush.new.self r.3 r.4 refl refl
 
-pub returns-in-Refused-clause-flushed : goal.returns-in-Refused-clause-flushed
-returns-in-Refused-clause-flushed g c = λ t p lawful h there.
-    let after = subst (λ (r : WireFlush). AfterFlush r (g.W.Wire.shown c.index_mut.result.now.wire) (g.W.Wire.shown c.flush.new.self)) c.in-Refused.is c.flush.ensures in
-    go_down_carries g.W.Wire.shown c.args.self.now c.take_down-in-Refused.new.self t c.args.i p c.index_mut.result.now c.flush.new.self whys.Refusal (asked.Down whys.Refusal) lawful h there c.index_mut.ensures.value (λ was. refused t.z (past t) c.index_mut.result.now.id _ _ was (as_refused _ _ after)) refl c.take_down-in-Refused.ensures.up c.take_down-in-Refused.ensures.down c.take_down-in-Refused.ensures.room (λ q. cc)
+pub take_down-requires-in-Refused-clause-room : goal.take_down-requires-in-Refused-clause-room
+take_down-requires-in-Refused-clause-room g c = let r = c.requires in room_below g.W.Wire.shown c.args.self.now r.0 c.args.i r.1 r.3 r.4
 
-pub returns-in-NoMemory-clause-flushed : goal.returns-in-NoMemory-clause-flushed
-returns-in-NoMemory-clause-flushed g c = λ t p lawful h there.
-    let after = subst (λ (r : WireFlush). AfterFlush r (g.W.Wire.shown c.index_mut.result.now.wire) (g.W.Wire.shown c.flush.new.self)) c.in-NoMemory.is c.flush.ensures in
-    go_down_carries g.W.Wire.shown c.args.self.now c.take_down-in-NoMemory.new.self t c.args.i p c.index_mut.result.now c.flush.new.self whys.NoMemory (asked.Down whys.NoMemory) lawful h there c.index_mut.ensures.value (λ was. without_memory t.z (past t) c.index_mut.result.now.id _ _ was (as_without_memory _ _ after)) refl c.take_down-in-NoMemory.ensures.up c.take_down-in-NoMemory.ensures.down c.take_down-in-NoMemory.ensures.room (λ q. cc)
+pub take_down-requires-in-NoMemory-clause-there : goal.take_down-requires-in-NoMemory-clause-there
+take_down-requires-in-NoMemory-clause-there g c = let r = c.requires in keeps_place g.W.Wire.shown c.args.self.now _ r.0 c.args.i r.1 c.index_mut.result.now.id c.flush.new.self r.3 r.4 refl refl
 
-pub returns-in-Empty-clause-left : goal.returns-in-Empty-clause-left
-returns-in-Empty-clause-left g c = ids_same g.W.Wire.shown c.args.self.now.up.items c.args.i c.index_mut.result.now (record { id = c.index_mut.result.now.id; wire = c.flush.new.self }) c.requires.3 c.index_mut.ensures.value refl
+pub take_down-requires-in-NoMemory-clause-room : goal.take_down-requires-in-NoMemory-clause-room
+take_down-requires-in-NoMemory-clause-room g c = let r = c.requires in room_below g.W.Wire.shown c.args.self.now r.0 c.args.i r.1 r.3 r.4
 
-pub returns-in-NotYet-clause-left : goal.returns-in-NotYet-clause-left
-returns-in-NotYet-clause-left g c = ids_same g.W.Wire.shown c.args.self.now.up.items c.args.i c.index_mut.result.now (record { id = c.index_mut.result.now.id; wire = c.flush.new.self }) c.requires.3 c.index_mut.ensures.value refl
+pub returns-in-Empty : goal.returns-in-Empty
+returns-in-Empty g c = λ t p lawful h there.
+    let after = subst (λ (r : WireFlush). AfterFlush r (g.W.Wire.shown c.in-Some.wire) (g.W.Wire.shown c.flush.new.self)) c.in-Empty.is c.flush.ensures in
+    moved g.W.Wire.shown c.args.self.now _ t (Clear p) c.args.i p c.index_mut.result.now c.in-Some.wire c.flush.new.self lawful h there c.index_mut.ensures.value c.in-Some.is refl refl refl refl (λ was. cleared (past t) p _ _ was after) refl refl refl
+
+pub returns-in-NotYet : goal.returns-in-NotYet
+returns-in-NotYet g c = λ t p lawful h there.
+    let after = subst (λ (r : WireFlush). AfterFlush r (g.W.Wire.shown c.in-Some.wire) (g.W.Wire.shown c.flush.new.self)) c.in-NotYet.is c.flush.ensures in
+    moved g.W.Wire.shown c.args.self.now _ t (Stall p) c.args.i p c.index_mut.result.now c.in-Some.wire c.flush.new.self lawful h there c.index_mut.ensures.value c.in-Some.is refl refl refl refl (λ was. stalled (past t) p _ _ was after) refl refl refl
+
+pub returns-in-Failed : goal.returns-in-Failed
+returns-in-Failed g c = λ t p lawful h there.
+    let after = subst (λ (r : WireFlush). AfterFlush r (g.W.Wire.shown c.in-Some.wire) (g.W.Wire.shown c.flush.new.self)) c.in-Failed.is c.flush.ensures in
+    (λ q. cc, emptied g.W.Wire.shown c.args.self.now _ c.take_down.new.self t c.args.i p c.index_mut.result.now c.in-Some.wire c.flush.new.self whys.Failed lawful h there c.index_mut.ensures.value c.in-Some.is (λ was. failed t.z (past t) p _ _ was.agrees (as_failed _ _ after)) refl refl refl c.take_down.ensures.empties)
+
+pub returns-in-Refused : goal.returns-in-Refused
+returns-in-Refused g c = λ t p lawful h there.
+    let after = subst (λ (r : WireFlush). AfterFlush r (g.W.Wire.shown c.in-Some.wire) (g.W.Wire.shown c.flush.new.self)) c.in-Refused.is c.flush.ensures in
+    (λ q. cc, emptied g.W.Wire.shown c.args.self.now _ c.take_down-in-Refused.new.self t c.args.i p c.index_mut.result.now c.in-Some.wire c.flush.new.self whys.Refusal lawful h there c.index_mut.ensures.value c.in-Some.is (λ was. refused t.z (past t) p _ _ was.agrees (as_refused _ _ after)) refl refl refl c.take_down-in-Refused.ensures.empties)
+
+pub returns-in-NoMemory : goal.returns-in-NoMemory
+returns-in-NoMemory g c = λ t p lawful h there.
+    let after = subst (λ (r : WireFlush). AfterFlush r (g.W.Wire.shown c.in-Some.wire) (g.W.Wire.shown c.flush.new.self)) c.in-NoMemory.is c.flush.ensures in
+    (λ q. cc, emptied g.W.Wire.shown c.args.self.now _ c.take_down-in-NoMemory.new.self t c.args.i p c.index_mut.result.now c.in-Some.wire c.flush.new.self whys.NoMemory lawful h there c.index_mut.ensures.value c.in-Some.is (λ was. without_memory t.z (past t) p _ _ was.agrees (as_without_memory _ _ after)) refl refl refl c.take_down-in-NoMemory.ensures.empties)
