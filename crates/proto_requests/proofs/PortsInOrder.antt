@@ -1,6 +1,6 @@
 -- The pipes are found by their numbers, in whose order they stand; and those that are full are skipped.
-use Rattle.std.proofs.Common.{◌≡◌, refl, ap, sym, ◌∙◌, subst, List, [], ◌∷◌, ◌++◌, ℕ, zero, suc, ◌+◌, ◌^◌, ◌<◌, ◌≤◌, Bool, true, false, cond, arith, Option, Some, None, map, nat_cmp, is_eq, is_lt, is_le, Ordering, Less, Equal, Greater}
-use Rattle.std.specs.Prelude.{find, filter, not, nat_lt, nat_le, slice_get, is_some, ◌==◌, ◌&&◌, ◌||◌}
+use Rattle.std.proofs.Common.{◌≡◌, refl, ap, sym, ◌∙◌, subst, List, [], ◌∷◌, ◌++◌, ℕ, zero, suc, ◌+◌, ◌^◌, ◌<◌, ◌≤◌, Bool, true, false, cond, arith, Option, Some, None, Result, Ok, Err, map, nat_cmp, is_eq, is_lt, is_le, Ordering, Less, Equal, Greater}
+use Rattle.std.specs.Prelude.{OnOk, OnErr, find, filter, not, nat_lt, nat_le, slice_get, is_some, ◌==◌, ◌&&◌, ◌||◌}
 use Rattle.std.specs.List.{AllByRecursion, list_all, list_any}
 use Rattle.std.specs.List.Sorted.{IsStrictlySortedBy}
 use Rattle.std.specs.Map.{keys_of, lookup, remove_entry, set_value}
@@ -9,8 +9,8 @@ use Rattle.std.specs.Option.{option_map}
 use Rattle.std.specs.Ordering.{match_ordering}
 use Rattle.std.proofs.lemmas.Bool.Decides.{nat_tests}
 use Rattle.std.proofs.lemmas.Map.Keys.{sorted_head, sorted_tail}
-use Rattle.proto_requests.specs.Ports.{PortView, port_in, marked, cleared, is_pipe, is_under, is_below, is_open, is_free, is_free_behind, is_free_from, unmarked, number, begin_at, reached, AreNumbers, AreUpTo, AreFull, AreKnown}
-use Rattle.proto_requests.proofs.TestValues.{equal_of, same_number, turned}
+use Rattle.proto_requests.specs.Ports.{PortView, port_in, marked, cleared, is_pipe, is_under, is_below, is_open, is_free_at, is_free_from, unmarked, number, begin_at, reached, AreNumbers, AreUpTo, AreFull, AllPassed, AreKnown}
+use Rattle.proto_requests.proofs.TestValues.{equal_of, same_number, some_inj, turned}
 
 other : (m n : ℕ) → m < n → (m == n) ≡ false
 other m n h = grind (arith, nat_tests)
@@ -190,14 +190,8 @@ turns_more : (turn : ℕ) (xs : List (ℕ × ℕ)) (y : ℕ × ℕ) → y.1 ≤ 
 turns_more turn [] y l h = (l, tt)
 turns_more turn (x ∷ xs) y l h = (h.0, turns_more turn xs y l h.1)
 
--- no number is below 0
-nothing_full : (turn from : ℕ) (xs : List (ℕ × ℕ)) → AreFull turn from 0 xs
-nothing_full turn from [] = tt
-nothing_full turn from (x ∷ xs) = (λ l m. absurd (omega (arith, m)), nothing_full turn from xs)
-
-pub more_known : (turn : ℕ) (known to : ℕ) (low p : ℕ) (xs : List (ℕ × ℕ)) → AreKnown turn known to low xs → p < 2 ^ 32 → AreKnown turn 0 0 0 (xs ++ (p, 0) ∷ [])
-more_known turn known to low p xs h l =
-    record { numbers = numbers_more xs (p, 0) l h.numbers; turns = turns_more turn xs (p, 0) (omega arith) h.turns; begun = h.begun; behind = nothing_full turn 0 _; front = nothing_full turn 0 _ }
+pub more_known : (turn p : ℕ) (es xs : List (ℕ × ℕ)) → AreKnown turn es xs → p < 2 ^ 32 → AreKnown turn [] (xs ++ (p, 0) ∷ [])
+more_known turn p es xs h l = record { numbers = numbers_more xs (p, 0) l h.numbers; turns = turns_more turn xs (p, 0) (omega arith) h.turns; begun = h.begun; passed = tt }
 
 pub more_view : (turn p : ℕ) (xs : List (ℕ × ℕ)) → 1 ≤ turn → map (port_in turn) (xs ++ (p, 0) ∷ []) ≡ map (port_in turn) xs ++ record { pipe = p; is_full = false } ∷ []
 more_view turn p [] l = ap (λ (b : Bool). (let x : PortView = record { pipe = p; is_full = b } in x) ∷ []) (other 0 turn (omega (arith, l)))
@@ -258,9 +252,12 @@ module _ (P : ℕ → Bool) (turn : ℕ) where
       go true k = (λ l m. same_number turn, h.1)
       go false k = (h.0, k)
 
-  pub marked_known : (known to : ℕ) (low : ℕ) (xs : List (ℕ × ℕ)) → AreKnown turn known to low xs → AreKnown turn known to low (set_value P xs turn)
-  marked_known known to low xs h =
-      record { numbers = numbers_marked xs h.numbers; turns = turns_marked xs h.turns; begun = h.begun; behind = full_marked known to xs h.behind; front = full_marked 0 low xs h.front }
+  passed_marked : (es xs : List (ℕ × ℕ)) → AllPassed turn es xs → AllPassed turn es (set_value P xs turn)
+  passed_marked [] xs h = tt
+  passed_marked (e ∷ es) xs h = (full_marked e.0 e.1 xs h.0, passed_marked es xs h.1)
+
+  pub marked_known : (es xs : List (ℕ × ℕ)) → AreKnown turn es xs → AreKnown turn es (set_value P xs turn)
+  marked_known es xs h = record { numbers = numbers_marked xs h.numbers; turns = turns_marked xs h.turns; begun = h.begun; passed = passed_marked es xs h.passed }
 
 -- ---- One goes down
 
@@ -289,9 +286,12 @@ module _ (P : ℕ → Bool) (turn : ℕ) where
       go true k = h.1
       go false k = (h.0, k)
 
-  pub less_known : (known to : ℕ) (low : ℕ) (xs : List (ℕ × ℕ)) → AreKnown turn known to low xs → AreKnown turn known to low (remove_entry P xs)
-  less_known known to low xs h =
-      record { numbers = numbers_less xs h.numbers; turns = turns_less xs h.turns; begun = h.begun; behind = full_less known to xs h.behind; front = full_less 0 low xs h.front }
+  passed_less : (es xs : List (ℕ × ℕ)) → AllPassed turn es xs → AllPassed turn es (remove_entry P xs)
+  passed_less [] xs h = tt
+  passed_less (e ∷ es) xs h = (full_less e.0 e.1 xs h.0, passed_less es xs h.1)
+
+  pub less_known : (es xs : List (ℕ × ℕ)) → AreKnown turn es xs → AreKnown turn es (remove_entry P xs)
+  less_known es xs h = record { numbers = numbers_less xs h.numbers; turns = turns_less xs h.turns; begun = h.begun; passed = passed_less es xs h.passed }
 
 module _ (turn p : ℕ) where
   none_of : (xs : List (ℕ × ℕ)) → lookup (is_at (nat_cmp p)) xs ≡ None → filter (λ (x : PortView). not (x.pipe == p)) (map (port_in turn) xs) ≡ map (port_in turn) xs
@@ -323,8 +323,8 @@ turns_on : (turn : ℕ) (xs : List (ℕ × ℕ)) → AreUpTo turn xs → AreUpTo
 turns_on turn [] h = h
 turns_on turn (x ∷ xs) h = (omega (arith, h.0), turns_on turn xs h.1)
 
-pub next_known : (turn : ℕ) (known to : ℕ) (low : ℕ) (xs : List (ℕ × ℕ)) → AreKnown turn known to low xs → AreKnown (turn + 1) 0 0 0 xs
-next_known turn known to low xs h = record { numbers = h.numbers; turns = turns_on turn xs h.turns; begun = omega (arith, h.begun); behind = nothing_full (turn + 1) 0 xs; front = nothing_full (turn + 1) 0 xs }
+pub next_known : (turn : ℕ) (es xs : List (ℕ × ℕ)) → AreKnown turn es xs → AreKnown (turn + 1) [] xs
+next_known turn es xs h = record { numbers = h.numbers; turns = turns_on turn xs h.turns; begun = omega (arith, h.begun); passed = tt }
 
 pub next_view : (turn : ℕ) (xs : List (ℕ × ℕ)) → AreUpTo turn xs → map (port_in (turn + 1)) xs ≡ map cleared (map (port_in turn) xs)
 next_view turn [] h = refl
@@ -340,8 +340,8 @@ turns_anew : (xs : List (ℕ × ℕ)) → AreUpTo 1 (map unmarked xs)
 turns_anew [] = tt
 turns_anew (x ∷ xs) = (omega arith, turns_anew xs)
 
-pub anew_known : (turn : ℕ) (known to : ℕ) (low : ℕ) (xs : List (ℕ × ℕ)) → AreKnown turn known to low xs → AreKnown 1 0 0 0 (map unmarked xs)
-anew_known turn known to low xs h = record { numbers = numbers_anew xs h.numbers; turns = turns_anew xs; begun = omega arith; behind = nothing_full 1 0 _; front = nothing_full 1 0 _ }
+pub anew_known : (turn : ℕ) (es xs : List (ℕ × ℕ)) → AreKnown turn es xs → AreKnown 1 [] (map unmarked xs)
+anew_known turn es xs h = record { numbers = numbers_anew xs h.numbers; turns = turns_anew xs; begun = omega arith; passed = tt }
 
 pub anew_view : (turn : ℕ) (xs : List (ℕ × ℕ)) → map (port_in 1) (map unmarked xs) ≡ map cleared (map (port_in turn) xs)
 anew_view turn [] = refl
@@ -384,7 +384,7 @@ full_past turn from [] l = tt
 full_past turn from (x ∷ xs) l = (λ k m. absurd (omega (arith, k, l, m)), full_past turn from xs l)
 
 -- those that are full are passed over
-pub passed : (turn from to : ℕ) (xs : List (ℕ × ℕ)) → from ≤ to → AreFull turn from to xs → find (is_free_from turn from) xs ≡ find (is_free_from turn to) xs
+passed : (turn from to : ℕ) (xs : List (ℕ × ℕ)) → from ≤ to → AreFull turn from to xs → find (is_free_from turn from) xs ≡ find (is_free_from turn to) xs
 passed turn from to [] l h = refl
 passed turn from to (x ∷ xs) l h = go (nat_lt x.0 from) refl (nat_lt x.0 to) refl (x.1 == turn) refl (passed turn from to xs l h.1)
   where
@@ -399,19 +399,53 @@ passed turn from to (x ∷ xs) l h = go (nat_lt x.0 from) refl (nat_lt x.0 to) r
     go false e true k false m again = let yes : (x.1 == turn) ≡ true = h.0 (not_under x.0 from e) (under x.0 to k) in absurd cc
     go false e false k f m again = ap (λ (o : Option (ℕ × ℕ)). cond (not f) (Some x) o) again
 
--- from the number of the one before on, or from the one up to which all are full
-pub begins : (turn from known to : ℕ) (xs : List (ℕ × ℕ)) → AreFull turn known to xs → AreFull turn from (begin_at known to from) xs × (find (is_free_from turn from) xs ≡ find (is_free_from turn (begin_at known to from)) xs)
-begins turn from known to xs h = go (known == from) refl (nat_le from to) refl
+equal_is : (m n : ℕ) → nat_cmp m n ≡ Equal → m ≡ n
+equal_is m n h = go (nat_lt m n) (m == n) refl h
   where
-    least : nat_le from to ≡ true → from ≤ to
-    least e = grind (arith, nat_tests)
+    go : (a b : Bool) → (m == n) ≡ b → cond a Less (cond b Equal Greater) ≡ Equal → m ≡ n
+    go true b e h = absurd cc
+    go false true e h = equal_of m n e
+    go false false e h = absurd cc
 
-    go : (a : Bool) → (known == from) ≡ a → (b : Bool) → nat_le from to ≡ b → AreFull turn from (cond (a && b) to from) xs × (find (is_free_from turn from) xs ≡ find (is_free_from turn (cond (a && b) to from)) xs)
-    go true e true k =
-        let full : AreFull turn from to xs = subst (λ n. AreFull turn n to xs) (equal_of known from e) h in
-        (full, passed turn from to xs (least k) full)
-    go true e false k = (no_span turn from xs, refl)
-    go false e b k = (no_span turn from xs, refl)
+-- a stretch that is looked up is one that was passed over
+found_passed : (turn from to : ℕ) (es xs : List (ℕ × ℕ)) → AllPassed turn es xs → lookup (is_at (nat_cmp from)) es ≡ Some to → AreFull turn from to xs
+found_passed turn from to [] xs h f = absurd cc
+found_passed turn from to (e ∷ es) xs h f = go (e.0 == from) refl (sym (ap (λ (b : Bool). cond b (Some e.1) (lookup (is_at (nat_cmp from)) es)) (same_key from e.0)) ∙ f) (found_passed turn from to es xs h.1)
+  where
+    go : (b : Bool) → (e.0 == from) ≡ b → cond b (Some e.1) (lookup (is_at (nat_cmp from)) es) ≡ Some to → (lookup (is_at (nat_cmp from)) es ≡ Some to → AreFull turn from to xs) → AreFull turn from to xs
+    go true k f again = subst (λ n. AreFull turn n to xs) (equal_of e.0 from k) (subst (λ n. AreFull turn e.0 n xs) (some_inj e.1 to f) h.0)
+    go false k f again = again f
+
+-- from the number on, or from the one up to which all from there are full
+pub begins : (turn from : ℕ) (es xs : List (ℕ × ℕ)) → AllPassed turn es xs
+    → AreFull turn from (begin_at (lookup (is_at (nat_cmp from)) es) from) xs × (find (is_free_from turn from) xs ≡ find (is_free_from turn (begin_at (lookup (is_at (nat_cmp from)) es) from)) xs)
+begins turn from es xs h = go (lookup (is_at (nat_cmp from)) es) refl
+  where
+    least : (to : ℕ) → nat_le from to ≡ true → from ≤ to
+    least to e = grind (arith, nat_tests)
+
+    here : (to : ℕ) (b : Bool) → nat_le from to ≡ b → AreFull turn from to xs → AreFull turn from (cond b to from) xs × (find (is_free_from turn from) xs ≡ find (is_free_from turn (cond b to from)) xs)
+    here to true k full = (full, passed turn from to xs (least to k) full)
+    here to false k full = (no_span turn from xs, refl)
+
+    go : (o : Option ℕ) → lookup (is_at (nat_cmp from)) es ≡ o → AreFull turn from (begin_at o from) xs × (find (is_free_from turn from) xs ≡ find (is_free_from turn (begin_at o from)) xs)
+    go None e = (no_span turn from xs, refl)
+    go (Some to) e = here to (nat_le from to) refl (found_passed turn from to es xs h e)
+
+-- one more stretch is remembered
+passed_more : (turn from to : ℕ) (es xs : List (ℕ × ℕ)) → AreFull turn from to xs → AllPassed turn es xs → AllPassed turn (insert_entry nat_cmp es from to) xs
+passed_more turn from to [] xs f h = (f, tt)
+passed_more turn from to (e ∷ es) xs f h = go (nat_cmp from e.0) refl (passed_more turn from to es xs f h.1)
+  where
+    go : (o : Ordering) → nat_cmp from e.0 ≡ o → AllPassed turn (insert_entry nat_cmp es from to) xs → AllPassed turn (match_ordering o ((from, to) ∷ e ∷ es) ((e.0, to) ∷ es) (e ∷ insert_entry nat_cmp es from to)) xs
+    go Less k again = (f, h)
+    go Equal k again = (subst (λ n. AreFull turn n to xs) (equal_is from e.0 k) f, h.1)
+    go Greater k again = (h.0, again)
+
+-- or it is not, with no memory
+pub passed_after : {A B : Type 0} (r : Result A B) (turn from to : ℕ) (es new xs : List (ℕ × ℕ)) → OnOk r (new ≡ insert_entry nat_cmp es from to) → OnErr r (new ≡ es) → AreFull turn from to xs → AllPassed turn es xs → AllPassed turn new xs
+passed_after (Ok x) turn from to es new xs put same f h = subst (λ rest. AllPassed turn rest xs) (sym put) (passed_more turn from to es xs f h)
+passed_after (Err x) turn from to es new xs put same f h = subst (λ rest. AllPassed turn rest xs) (sym same) h
 
 above_full : (turn from p : ℕ) (xs : List (ℕ × ℕ)) → AllByRecursion (λ n. nat_cmp p n ≡ Less) (keys_of xs) → AreFull turn from p xs
 above_full turn from p [] h = tt
@@ -437,35 +471,14 @@ joined turn from mid to (x ∷ xs) h k = (λ l m. go (nat_lt x.0 mid) refl l m, 
     go true e l m = h.0 l (under x.0 mid e)
     go false e l m = k.0 (not_under x.0 mid e) m
 
-pub free_ports : (turn : ℕ) (xs : List (ℕ × ℕ)) → find is_free (map (port_in turn) xs) ≡ option_map (port_in turn) (find (is_free_from turn 0) xs)
-free_ports turn [] = refl
-free_ports turn (x ∷ xs) = go (x.1 == turn) (nat_lt x.0 0) (nothing x.0) (free_ports turn xs)
+pub ports_from : (turn from : ℕ) (xs : List (ℕ × ℕ)) → find (is_free_at from) (map (port_in turn) xs) ≡ option_map (port_in turn) (find (is_free_from turn from) xs)
+ports_from turn from [] = refl
+ports_from turn from (x ∷ xs) = go (not (nat_lt x.0 from) && not (x.1 == turn)) (ports_from turn from xs)
   where
-    nothing : (n : ℕ) → nat_lt n 0 ≡ false
-    nothing n = grind (arith, nat_tests)
-
-    go : (b a : Bool) → a ≡ false → find is_free (map (port_in turn) xs) ≡ option_map (port_in turn) (find (is_free_from turn 0) xs)
-        → cond (not b) (Some (port_in turn x)) (find is_free (map (port_in turn) xs)) ≡ option_map (port_in turn) (cond (not a && not b) (Some x) (find (is_free_from turn 0) xs))
-    go true true e h = h
-    go true false e h = h
-    go false true e h = absurd cc
-    go false false e h = refl
-
-pub ports_behind : (turn last : ℕ) (xs : List (ℕ × ℕ)) → find (is_free_behind last) (map (port_in turn) xs) ≡ option_map (port_in turn) (find (is_free_from turn (last + 1)) xs)
-ports_behind turn last [] = refl
-ports_behind turn last (x ∷ xs) = go (x.1 == turn) (nat_lt last x.0) (nat_lt x.0 (last + 1)) (one_of last x.0) (ports_behind turn last xs)
-  where
-    one_of : (m n : ℕ) → nat_lt m n ≡ not (nat_lt n (m + 1))
-    one_of m n = grind (arith, nat_tests)
-
-    go : (b c a : Bool) → c ≡ not a → find (is_free_behind last) (map (port_in turn) xs) ≡ option_map (port_in turn) (find (is_free_from turn (last + 1)) xs)
-        → cond (not b && c) (Some (port_in turn x)) (find (is_free_behind last) (map (port_in turn) xs)) ≡ option_map (port_in turn) (cond (not a && not b) (Some x) (find (is_free_from turn (last + 1)) xs))
-    go true c true e h = h
-    go true c false e h = h
-    go false true true e h = absurd cc
-    go false false true e h = h
-    go false true false e h = refl
-    go false false false e h = absurd cc
+    go : (b : Bool) → find (is_free_at from) (map (port_in turn) xs) ≡ option_map (port_in turn) (find (is_free_from turn from) xs)
+        → cond b (Some (port_in turn x)) (find (is_free_at from) (map (port_in turn) xs)) ≡ option_map (port_in turn) (cond b (Some x) (find (is_free_from turn from) xs))
+    go true h = refl
+    go false h = h
 
 pub numbers_of : (turn : ℕ) (o : Option (ℕ × ℕ)) → option_map (λ (x : PortView). x.pipe) (option_map (port_in turn) o) ≡ option_map number o
 numbers_of turn None = refl

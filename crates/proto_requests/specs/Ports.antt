@@ -42,6 +42,9 @@ next_number free last us = or_else (find (λ q. free q && nat_lt last q) us) (fi
 abbrev pub is_free_behind : ℕ → PortView → Bool
 is_free_behind last x = is_free x && nat_lt last x.pipe
 
+abbrev pub is_free_at : ℕ → PortView → Bool
+is_free_at from x = not (nat_lt x.pipe from) && is_free x
+
 abbrev pub next_port : ℕ → List PortView → Option PortView
 next_port last xs = or_else (find (is_free_behind last) xs) (find is_free xs)
 
@@ -94,9 +97,10 @@ is_free_from turn from x = not (nat_lt x.0 from) && is_open turn x
 abbrev pub unmarked : ℕ × ℕ → ℕ × ℕ
 unmarked x = (x.0, 0)
 
--- all from the known number up to the other are full
-abbrev pub begin_at : ℕ → ℕ → ℕ → ℕ
-begin_at known to from = if (known == from) && nat_le from to then to else from
+-- where all from the number up to another are known as full, that one
+abbrev pub begin_at : Option ℕ → ℕ → ℕ
+begin_at None from = from
+begin_at (Some to) from = if nat_le from to then to else from
 
 abbrev pub reached : Option ℕ → ℕ
 reached None = 2 ^ 32
@@ -117,10 +121,14 @@ abbrev pub AreFull : ℕ → ℕ → ℕ → List (ℕ × ℕ) → Type 0
 AreFull turn from to [] = ⊤
 AreFull turn from to (x ∷ xs) = (from ≤ x.0 → x.0 < to → is_full_in turn x ≡ true) × AreFull turn from to xs
 
+-- each stretch that was passed over: from its number on, up to the other, all are full
+abbrev pub AllPassed : ℕ → List (ℕ × ℕ) → List (ℕ × ℕ) → Type 0
+AllPassed turn [] xs = ⊤
+AllPassed turn (e ∷ es) xs = AreFull turn e.0 e.1 xs × AllPassed turn es xs
+
 -- what a machine knows of them between two calls
-pub record AreKnown (turn : ℕ) (known : ℕ) (to : ℕ) (low : ℕ) (xs : List (ℕ × ℕ)) : Type 0 where
+pub record AreKnown (turn : ℕ) (es : List (ℕ × ℕ)) (xs : List (ℕ × ℕ)) : Type 0 where
   pub numbers : AreNumbers xs
   pub turns : AreUpTo turn xs
   pub begun : 1 ≤ turn
-  pub behind : AreFull turn known to xs
-  pub front : AreFull turn 0 low xs
+  pub passed : AllPassed turn es xs

@@ -2,13 +2,16 @@
 //!
 //! They are held in the order of their numbers, in a map: to look one up, to add one or to take one out costs the
 //! logarithm of how many they are. Each has the number of the turn in which it was last found full, so that a new turn
-//! writes nothing to them. Those that are skipped because they are full are known by their numbers, so that they are
-//! not looked at again in this turn.
+//! writes nothing to them. Every stretch of full ones that was passed over is remembered, by the number from which it was
+//! looked at, until the turn ends or one more comes up: no search from there looks at them again.
 ghost use Rattle.std.specs.Prelude.{◌≡◌, ◌++◌, ◌∷◌, [], OnOk, OnErr, not, map, filter, find};
 ghost use Rattle.std.specs.List.{list_any, list_all};
 ghost use Rattle.std.specs.Option.{option_map};
-ghost use Rattle.std.specs.Prelude.{true, false, ◌==◌};
-ghost use Rattle.proto_requests.specs.Ports.{PortView, marked, cleared, is_pipe, is_free, is_free_behind, is_below, next_port, where_is, is_under, is_free_from, unmarked, number, begin_at, reached, AreNumbers, AreFull};
+ghost use Rattle.std.specs.Prelude.{true, false, ◌==◌, ℕ, List};
+ghost use Rattle.std.specs.Ordering.{nat_cmp};
+ghost use Rattle.std.specs.Map.{lookup};
+ghost use Rattle.std.specs.BTreeMap.{is_at};
+ghost use Rattle.proto_requests.specs.Ports.{PortView, marked, cleared, is_pipe, is_free, is_free_behind, is_free_at, is_below, next_port, where_is, is_under, is_free_from, unmarked, number, begin_at, reached, AreNumbers, AreFull, AllPassed};
 
 use sp_base::{NoMemory, PipeId};
 use std::alloc::Global;
@@ -25,11 +28,8 @@ pub struct Ports {
     held: BTreeMap<u32, u64>,
     /// The number of this turn, from 1 on.
     turn: u64,
-    /// Those with a number from this one up to `to` were found full in this turn.
-    from: u64,
-    to: u64,
-    /// Those with a number below this one, too.
-    front: u64,
+    /// From a number on, up to which number all were found full in this turn.
+    passed: BTreeMap<u64, u64>,
 }
 
 impl Model for Ports {
@@ -40,7 +40,7 @@ impl Model for Ports {
 
     ghost view = { λ m. record { items = map (port_in m.turn) m.held.entries } };
 
-    ghost invariant = { λ m. AreKnown m.turn m.from m.to m.front m.held.entries };
+    ghost invariant = { λ m. AreKnown m.turn m.passed.entries m.held.entries };
 }
 
 /// Where a message may go.
@@ -99,13 +99,12 @@ fn restart(held: &mut BTreeMap<u32, u64>)
 }
 
 // The number to begin at, in place of this one.
-fn begin_at(known: u64, to: u64, from: u64) -> u64
-    ensures { result ≡ begin_at known to from }
+fn begin_at(passed: &BTreeMap<u64, u64>, from: u64) -> u64
+    ensures { result ≡ begin_at (lookup (is_at (nat_cmp from)) passed.now.entries) from }
 {
-    if known == from && from <= to {
-        to
-    } else {
-        from
+    match passed.get(&from) {
+        None => from,
+        Some(to) => { if from <= *to { *to } else { from } }
     }
 }
 
@@ -119,6 +118,15 @@ fn reached(found: Option<u32>) -> u64
     }
 }
 
+// All from the one number up to the other were found full. With no memory it is not remembered.
+fn remember(passed: &mut BTreeMap<u64, u64>, from: u64, to: u64)
+    ensures { (turn : ℕ) (xs : List (ℕ × ℕ)) → AreFull turn from to xs → AllPassed turn passed.old.entries xs → AllPassed turn passed.new.entries xs }
+{
+    if from < to {
+        let _ = passed.insert(from, to);
+    }
+}
+
 impl Ports {
     /// No pipe.
     pub fn new(alloc: Global) -> Ports
@@ -127,9 +135,7 @@ impl Ports {
         Ports {
             held: BTreeMap::new(alloc),
             turn: 1,
-            from: 0,
-            to: 0,
-            front: 0,
+            passed: BTreeMap::new(alloc),
         }
     }
 
@@ -144,9 +150,7 @@ impl Ports {
         if self.held.insert(p.0, 0).is_err() {
             return Err(NoMemory);
         }
-        self.from = 0;
-        self.to = 0;
-        self.front = 0;
+        self.passed.clear();
         Ok(())
     }
 
@@ -164,9 +168,7 @@ impl Ports {
     pub fn clear(&mut self)
         ensures { self.new.items ≡ map cleared self.old.items }
     {
-        self.from = 0;
-        self.to = 0;
-        self.front = 0;
+        self.passed.clear();
         if self.turn < u64::MAX {
             self.turn += 1;
             return;
@@ -227,12 +229,7 @@ impl Ports {
         ensures same { self.new ≡ self.old }
         ensures port { result ≡ option_map (λ (x : PortView). x.pipe) (find (is_free_behind last) self.old.items) }
     {
-        let from = u64::from(last.0) + 1;
-        let begin = begin_at(self.from, self.to, from);
-        let found = first_free(&self.held, self.turn, begin);
-        self.from = from;
-        self.to = reached(found);
-        found
+        self.free_from(u64::from(last.0) + 1)
     }
 
     // The first pipe that is not full.
@@ -240,9 +237,17 @@ impl Ports {
         ensures same { self.new ≡ self.old }
         ensures port { result ≡ option_map (λ (x : PortView). x.pipe) (find is_free self.old.items) }
     {
-        let begin = self.front;
+        self.free_from(0)
+    }
+
+    // The first pipe from this number on that is not full.
+    fn free_from(&mut self, from: u64) -> Option<u32>
+        ensures same { self.new ≡ self.old }
+        ensures port { result ≡ option_map (λ (x : PortView). x.pipe) (find (is_free_at from) self.old.items) }
+    {
+        let begin = begin_at(&self.passed, from);
         let found = first_free(&self.held, self.turn, begin);
-        self.front = reached(found);
+        remember(&mut self.passed, from, reached(found));
         found
     }
 }

@@ -10,7 +10,7 @@ pub invariant_of-self : goal.invariant_of-self
 invariant_of-self c =
     let m = c.self.inside in
     let test = is_at (nat_cmp c.p.inside.0) in
-    subst (AreKnown m.turn m.from m.to m.front) (sym c.remove.ensures.entries) (less_known test m.turn m.from m.to m.front m.held.entries c.self.invariant)
+    subst (AreKnown m.turn m.passed.entries) (sym c.remove.ensures.entries) (less_known test m.turn m.passed.entries m.held.entries c.self.invariant)
 
 pub returns : goal.returns
 returns c =

@@ -8,8 +8,8 @@ pub invariant_of-self : goal.invariant_of-self
 invariant_of-self c =
     let m = c.self.inside in
     elim c.match-get_mut.branch [
-      | in-None w ↦ subst (λ s. AreKnown s.turn s.from s.to s.front s.held.entries) (sym w.self-inside-is) (subst (λ h. AreKnown m.turn m.from m.to m.front h.entries) (sym c.get_mut.follows.holds-at-none) c.self.invariant)
-      | in-Some w ↦ subst (λ s. AreKnown s.turn s.from s.to s.front s.held.entries) (sym w.self-inside-is) (subst (AreKnown m.turn m.from m.to m.front) (sym (c.get_mut.follows.holds m.turn).0) (marked_known _ m.turn m.from m.to m.front m.held.entries c.self.invariant))
+      | in-None w ↦ subst (λ s. AreKnown s.turn s.passed.entries s.held.entries) (sym w.self-inside-is) (subst (λ h. AreKnown m.turn m.passed.entries h.entries) (sym c.get_mut.follows.holds-at-none) c.self.invariant)
+      | in-Some w ↦ subst (λ s. AreKnown s.turn s.passed.entries s.held.entries) (sym w.self-inside-is) (subst (AreKnown m.turn m.passed.entries) (sym (c.get_mut.follows.holds m.turn).0) (marked_known _ m.turn m.passed.entries m.held.entries c.self.invariant))
     ]
 
 pub returns : goal.returns

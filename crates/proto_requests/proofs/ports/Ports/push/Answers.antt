@@ -20,7 +20,7 @@ invariant_of-self-2 c =
     let put : c.insert.new.self.entries ≡ insert_entry nat_cmp m.held.entries c.p.inside.0 0 = search rules in
     put ∙ ap (λ n. insert_entry nat_cmp m.held.entries n 0) c.p.view_is ∙ put_last c.args.p m.held.entries all in
     let low : c.args.p < 2 ^ 32 = search rules in
-    subst (AreKnown m.turn 0 0 0) (sym put) (more_known m.turn m.from m.to m.front c.args.p m.held.entries c.self.invariant low)
+    subst (λ es. AreKnown m.turn es c.insert.new.self.entries) (sym c.clear.ensures.empty) (subst (AreKnown m.turn []) (sym put) (more_known m.turn c.args.p m.passed.entries m.held.entries c.self.invariant low))
 
 pub returns-clause-more : goal.returns-clause-more
 returns-clause-more c = λ below.
