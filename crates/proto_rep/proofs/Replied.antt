@@ -117,7 +117,8 @@ up_ties m n t p place name l h e f w g same =
     }
 
 pub down_ties : (m n : Reply) (t : Moment) (p : ℕ) (why : Why) → Ties m t → n.ports.items ≡ filter (λ (x : PortView). not (x.pipe == p)) m.ports.items → n.kept.items ≡ filter (λ (k : KeptRequest). not (k.pipe == p)) m.kept.items
-    → ((ws : List ReplyOperation) → Holds m.waiting ws → Holds n.waiting ws) → n.waiting.replies.passed ≡ 0 → n.places ≡ m.places → (n.raw ≡ m.raw) × (n.options ≡ m.options) × (n.role ≡ m.role) → Ties n (also t (Down p why))
+    → ((ws : List ReplyOperation) → Holds m.waiting ws → Holds n.waiting ws) → (AreStuck m.raw m.ports.items m.waiting.replies → AreStuck m.raw n.ports.items n.waiting.replies) → n.places ≡ m.places → (n.raw ≡ m.raw) × (n.options ≡ m.options) × (n.role ≡ m.role)
+    → Ties n (also t (Down p why))
 down_ties m n t p why h e f w x l same =
     record {
       kind = rw (same.0, same.1, same.2) h.kind;
@@ -132,7 +133,7 @@ down_ties m n t p why h e f w x l same =
       homes = h.homes;
       stored = rw l h.stored;
       routed = h.routed;
-      stuck = none_stuck n.raw n.ports.items n.waiting.replies x;
+      stuck = rw same.0 (x h.stuck);
     }
 
 pub full_ties : (m n : Reply) (t : Moment) (p : ℕ) → Lawful (also t (Full p)) → Ties m t → n.ports.items ≡ map (marked p) m.ports.items → n.kept ≡ m.kept → n.waiting ≡ m.waiting → n.places ≡ m.places → (n.raw ≡ m.raw) × (n.options ≡ m.options) × (n.role ≡ m.role) → Ties n (also t (Full p))

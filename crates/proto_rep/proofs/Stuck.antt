@@ -1,6 +1,7 @@
 -- Replies that are passed over, none of which can leave.
-use Rattle.std.proofs.Common.{◌≡◌, refl, List, [], ◌∷◌, ◌++◌, ℕ, Bool, true, false, cond, Option, Some, None, map, take}
-use Rattle.std.specs.Prelude.{find, ◌||◌, ◌==◌}
+use Rattle.std.proofs.Common.{◌≡◌, refl, ap, sym, subst, ◌∙◌, List, [], ◌∷◌, ◌++◌, ℕ, Bool, true, false, cond, Option, Some, None, map, take, arith}
+use Rattle.std.specs.Prelude.{find, filter, not, ◌||◌, ◌==◌}
+use Rattle.std.proofs.lemmas.Bool.Decides.{nat_tests}
 use Rattle.proto_requests.specs.Ports.{PortView, marked, is_pipe, way_at, where_is}
 use Rattle.proto_requests.specs.declared.ports.Destination.TheVariants as ways
 use Rattle.proto_requests.proofs.FirstPlaces.{none_as}
@@ -51,3 +52,30 @@ full_among x xs (Some q) h = go xs h
 
 pub more_stuck : (raw : Bool) (x : PortView) (xs : List PortView) (v : RepliesView) → AreStuck raw xs v → AreStuck raw (xs ++ x ∷ []) v
 more_stuck raw x xs v h = none_as (can_leave raw xs) (can_leave raw (xs ++ x ∷ [])) (take v.passed v.items) (λ w. full_among x xs (target_of raw w.answer)) h
+
+-- without a pipe that isn't full, what goes to a full one can't go, either
+full_without : (p : ℕ) (xs : List PortView) (to : Option ℕ) → isnt_full (where_is xs (Some p)) ≡ true → isnt_full (where_is (filter (λ (x : PortView). not (x.pipe == p)) xs) to) ≡ true → isnt_full (where_is xs to) ≡ true
+full_without p xs None k h = h
+full_without p xs (Some q) k h = go (q == p) refl
+  where
+    same : (m n : ℕ) → (m == n) ≡ true → m ≡ n
+    same m n e = grind (arith, nat_tests)
+
+    differ : (l m n : ℕ) → (l == m) ≡ true → (n == m) ≡ false → (l == n) ≡ false
+    differ l m n e f = grind (arith, nat_tests)
+
+    others : (xs : List PortView) → (q == p) ≡ false → find (is_pipe q) (filter (λ (x : PortView). not (x.pipe == p)) xs) ≡ find (is_pipe q) xs
+    others [] f = refl
+    others (x ∷ xs) f = step (x.pipe == p) refl (others xs f)
+      where
+        step : (b : Bool) → (x.pipe == p) ≡ b → find (is_pipe q) (filter (λ (y : PortView). not (y.pipe == p)) xs) ≡ find (is_pipe q) xs
+            → find (is_pipe q) (cond (not b) (x ∷ filter (λ (y : PortView). not (y.pipe == p)) xs) (filter (λ (y : PortView). not (y.pipe == p)) xs)) ≡ cond (x.pipe == q) (Some x) (find (is_pipe q) xs)
+        step true e again = let other : (x.pipe == q) ≡ false = differ x.pipe p q e f in rw other again
+        step false e again = ap (λ (r : Option PortView). cond (x.pipe == q) (Some x) r) again
+
+    go : (b : Bool) → (q == p) ≡ b → isnt_full (where_is xs (Some q)) ≡ true
+    go true e = subst (λ n. isnt_full (where_is xs (Some n)) ≡ true) (sym (same q p e)) k
+    go false e = ap (λ (r : Option PortView). isnt_full (way_at q r)) (sym (others xs e)) ∙ h
+
+pub less_stuck : (raw : Bool) (p : ℕ) (xs : List PortView) (v : RepliesView) → isnt_full (where_is xs (Some p)) ≡ true → AreStuck raw xs v → AreStuck raw (filter (λ (x : PortView). not (x.pipe == p)) xs) v
+less_stuck raw p xs v k h = none_as (can_leave raw xs) (can_leave raw (filter (λ (x : PortView). not (x.pipe == p)) xs)) (take v.passed v.items) (λ w. full_without p xs (target_of raw w.answer) k) h

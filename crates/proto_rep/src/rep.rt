@@ -18,7 +18,7 @@ ghost use Rattle.proto_rep.specs.Reps.{Ties, CameTooFar, offers_left, places_lef
 
 use crate::operations::{RepOperations, ReplyOperation};
 use crate::places::Places;
-use crate::replies::Answer;
+use crate::replies::{Answer, is_full};
 use proto_requests::backlog::{Backlog, FromPipe};
 use proto_requests::ports::Ports;
 use proto_requests::trail::{BacktraceWords, Trail, scan};
@@ -261,9 +261,13 @@ impl Proto for Reply {
     }
 
     fn down(&mut self, p: PipeId) {
+        let was_full = is_full(&self.ports, p);
         self.ports.forget(p);
         self.kept.forget(p);
-        self.waiting.pass_none();
+        // Otherwise none of the replies that are passed over waits for it.
+        if was_full {
+            self.waiting.pass_none();
+        }
     }
 
     fn wants(&self, p: PipeId) -> bool {

@@ -3,12 +3,14 @@
 //! They stand in the order of their begins, each at a spot that it leaves behind when it ends. Where nothing stands at
 //! half of the spots, the others are closed up, so that going over all of them costs no more than there are. By the slot
 //! of its name the number of a reply's spot is known, and by that the spot is found by halving. Those before a mark are
-//! passed over: each was found at a full pipe in this turn.
-ghost use Rattle.std.specs.Prelude.{◌≡◌, ◌≤◌, ◌<◌, ◌+◌, ◌++◌, ◌∷◌, Bool, [], false, find, drop, take, length, option_to_list, OnOk};
+//! passed over: each was found at a full pipe in this turn. A new turn sets the mark back, and so do a closing up, and
+//! a pipe that goes down and was full.
+ghost use Rattle.std.specs.Prelude.{◌≡◌, ◌≤◌, ◌<◌, ◌+◌, ◌++◌, ◌∷◌, Bool, [], Some, false, not, find, drop, take, length, option_to_list, OnOk};
 ghost use Rattle.std.specs.List.{position, list_any};
+ghost use Rattle.proto_requests.specs.Ports.{where_is};
 ghost use Rattle.proto_requests.specs.Spots.{holds, held};
 ghost use Rattle.proto_rep.specs.declared.replies.WaitingReply.{WaitingReply as WaitingReplyType};
-ghost use Rattle.proto_rep.specs.Replies.{way_of, can_leave, way_offer, reply_offer, is_reply_of, without_reply, StayPassed, AreStuck};
+ghost use Rattle.proto_rep.specs.Replies.{way_of, can_leave, way_offer, reply_offer, is_reply_of, without_reply, isnt_full, StayPassed, AreStuck};
 
 use crate::rep::Source;
 use proto_requests::numbers::Numbers;
@@ -109,6 +111,13 @@ impl Model for WaitingReplies {
 }
 
 // ---- Where one goes
+
+/// The pipe is up, and was found full in this turn.
+pub fn is_full(ports: &Ports, p: PipeId) -> bool
+    ensures { result ≡ not (isnt_full (where_is ports.now.items (Some p))) }
+{
+    ports.way_to(Some(p)) == Destination::Full
+}
 
 // Where a send may go.
 fn way_of(raw: bool, ports: &Ports, answer: &Answer) -> Destination
