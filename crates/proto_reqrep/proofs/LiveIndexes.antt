@@ -1,7 +1,7 @@
 -- What is known of live requests by their contexts and ids, when one begins, ends or changes; and where one stands.
-use Rattle.std.proofs.Common.{◌≡◌, refl, ap, sym, ◌∙◌, List, [], ◌∷◌, ◌++◌, ℕ, Bool, true, false, cond, Some, None, map}
+use Rattle.std.proofs.Common.{◌≡◌, refl, ap, sym, ◌∙◌, List, [], ◌∷◌, ◌++◌, ℕ, Bool, true, false, cond, Option, Some, None, map, ◌<◌, length, slice_index_or}
 use Rattle.std.specs.Prelude.{not, find, is_some, ◌||◌, ◌&&◌, ◌==◌}
-use Rattle.std.specs.List.{list_any}
+use Rattle.std.specs.List.{list_any, position}
 use Rattle.sp_history.specs.Lists.{has}
 use Rattle.sp_history.specs.Once.{AreDistinct}
 use Rattle.proto_requests.specs.Numbers.{number_at, is_known}
@@ -10,6 +10,11 @@ use Rattle.proto_requests.specs.FirstFound.{without_found, with_found}
 use Rattle.proto_reqrep.specs.Reqs.{is_live_on, waits_for, keeps_reply, live_ctx, live_id}
 use Rattle.proto_reqrep.specs.declared.req.Live.{Live}
 use Rattle.proto_requests.proofs.Backlogged.{kept_more}
+use Rattle.proto_requests.specs.declared.spots.Spot.{Spot}
+use Rattle.proto_requests.specs.Spots.{any_in, holds, held}
+use Rattle.proto_requests.proofs.KnownOperations.{at_spot}
+use Rattle.proto_requests.proofs.Positions.{nowhere}
+use Rattle.proto_requests.proofs.Spotted.{found_there, any_held}
 use Rattle.proto_requests.proofs.NumberIndexes.{some_put, some_lost, index_less, index_same, keys_with}
 use Rattle.proto_requests.proofs.TestValues.{both_false, equal_of, some_inj}
 
@@ -30,6 +35,35 @@ same_id n v w e f = its_id n v e ∙ sym (its_id n w f)
 pub none_waits : (n : ℕ) (xs : List Live) → list_any (λ (x : Live). x.id == n) xs ≡ false → list_any (waits_for n) xs ≡ false
 none_waits n [] h = refl
 none_waits n (x ∷ xs) h = let no = both_false (x.id == n) (list_any (λ (x : Live). x.id == n) xs) h in ap (λ b. b || list_any (waits_for n) xs) (ap (λ b. b && is_some x.last_out && not (is_some x.reply)) no.0) ∙ none_waits n xs no.1
+
+-- nor where none has the id
+id_away : (n : ℕ) (xs : List Live) → has (map live_id xs) n ≡ false → list_any (waits_for n) xs ≡ false
+id_away n [] h = refl
+id_away n (x ∷ xs) h = let no = both_false (x.id == n) (has (map live_id xs) n) h in ap (λ b. (b && is_some x.last_out && not (is_some x.reply)) || list_any (waits_for n) xs) no.0 ∙ id_away n xs no.1
+
+-- where the one with the id doesn't wait, none does
+other_waits : (n : ℕ) (xs : List Live) (x : Live) → AreDistinct (map live_id xs) → find (λ (v : Live). v.id == n) xs ≡ Some x → waits_for n x ≡ false → list_any (waits_for n) xs ≡ false
+other_waits n [] x h f w = refl
+other_waits n (y ∷ ys) x h f w = go (y.id == n) refl f (λ q. other_waits n ys x h.1 q w)
+  where
+    go : (b : Bool) → (y.id == n) ≡ b → cond b (Some y) (find (λ (v : Live). v.id == n) ys) ≡ Some x → (find (λ (v : Live). v.id == n) ys ≡ Some x → list_any (waits_for n) ys ≡ false) → (waits_for n y || list_any (waits_for n) ys) ≡ false
+    go true e f again =
+        let none : list_any (waits_for n) ys ≡ false = id_away n ys (ap (has (map live_id ys)) (sym (equal_of y.id n e)) ∙ h.0) in
+        ap (λ b. b || list_any (waits_for n) ys) (ap (waits_for n) (some_inj y x f) ∙ w) ∙ none
+    go false e f again = ap (λ b. (b && is_some y.last_out && not (is_some y.reply)) || list_any (waits_for n) ys) e ∙ again f
+
+both_ids : (n : ℕ) (v w : Live) → (v.id == n) ≡ true → (w.id == n) ≡ true → v.id ≡ w.id
+both_ids n v w e f = equal_of v.id n e ∙ sym (equal_of w.id n f)
+
+-- the same, where it is looked at at its spot
+pub waits_nowhere : (n : ℕ) (ss : List (Spot Live)) (i : ℕ) (d : Spot Live) → AreDistinct (map live_id (held ss)) → i < length ss → holds (λ (v : Live). v.id == n) (slice_index_or ss i d) ≡ true → holds (waits_for n) (slice_index_or ss i d) ≡ false → None ≡ position (holds (waits_for n)) ss
+waits_nowhere n ss i d h l t w =
+    let found : find (λ (v : Live). v.id == n) (held ss) ≡ (slice_index_or ss i d).value = found_there (λ (v : Live). v.id == n) ss i d (sym (at_spot live_id ss i d (λ (v : Live). v.id == n) h l t (both_ids n))) in
+    nowhere (holds (waits_for n)) ss (any_held (waits_for n) ss ∙ go (slice_index_or ss i d).value found t w)
+  where
+    go : (o : Option Live) → find (λ (v : Live). v.id == n) (held ss) ≡ o → any_in (λ (v : Live). v.id == n) o ≡ true → any_in (waits_for n) o ≡ false → list_any (waits_for n) (held ss) ≡ false
+    go None f t w = absurd cc
+    go (Some x) f t w = other_waits n (held ss) x h f w
 
 away : (c : ℕ) (xs : List Live) → has (map live_ctx xs) c ≡ false → list_any (keeps_reply c) xs ≡ false
 away c [] h = refl

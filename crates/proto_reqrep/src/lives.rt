@@ -3,8 +3,8 @@
 //! They stand in the order of their begins, each at a spot that it leaves behind when it ends, so that none of the
 //! others moves; where no room is left and nothing stands at half of the spots, the others are closed up. By its context
 //! and by its id the number of its spot is known, and by that its spot is found by halving, where it is then looked at.
-//! One that isn't there is not known, either. They are searched through only where a number isn't known, which is rare
-//! (`Numbers::put` says when).
+//! One that isn't there is not known, either, and whether one waits for a reply is seen at its spot. The calls here
+//! search through them only once a number wasn't kept, which is rare (`Numbers::put` says when).
 ghost use Rattle.std.specs.Prelude.{◌≡◌, ◌≤◌, ◌<◌, ◌+◌, ◌-◌, ◌==◌, ◌++◌, ◌∷◌, ℕ, Bool, [], Some, None, true, false, if◌then◌else◌, find, map, length, is_some, OnOk, IfSome};
 ghost use Rattle.std.specs.List.{position, list_any};
 ghost use Rattle.std.specs.Option.{option_map};
@@ -174,13 +174,18 @@ fn search_id(list: &[Spot<Live>], id: u32) -> Option<usize>
     list.iter().position(|s| waits_at(s, id))
 }
 
-// The same, where no other has the id. It is looked for here first.
+// The same, where no other has the id. It is looked for here first: where the one with the id stands here but doesn't
+// wait, none does.
 fn place_of(list: &[Spot<Live>], i: usize, id: u32) -> Option<usize>
     ensures { AreDistinct (map live_id (held list.now)) → result ≡ position (holds (waits_for id)) list.now }
 {
     if i < list.len() {
-        if waits_at(&list[i], id) {
-            return Some(i);
+        let s = &list[i];
+        if has_id(s, id) {
+            if waits_at(s, id) {
+                return Some(i);
+            }
+            return None;
         }
     }
     search_id(list, id)
