@@ -1,8 +1,9 @@
 -- Live requests that are looked at when they are due: what keeps it so.
-use Rattle.std.proofs.Common.{◌≡◌, refl, ap, sym, ◌∙◌, List, [], ◌∷◌, ◌++◌, ℕ, ◌+◌, ◌≤◌, subst, Bool, true, false, cond, arith, Option, Some, None, map, drop, filter, inl, inr}
+use Rattle.std.proofs.Common.{◌≡◌, refl, ap, sym, ◌∙◌, List, [], ◌∷◌, ◌++◌, ℕ, ◌+◌, ◌≤◌, ◌<◌, length, get_or, subst, Bool, true, false, cond, arith, Option, Some, None, map, drop, filter, inl, inr}
 use Rattle.std.specs.Prelude.{◌⊎◌, find, IfNone, IfSome, not, is_some, nat_le, ◌&&◌, ◌||◌, ◌==◌}
 use Rattle.std.specs.List.{list_any}
 use Rattle.std.proofs.lemmas.Bool.Decides.{nat_tests}
+use Rattle.std.proofs.lemmas.List.{drop_more, drop_all}
 use Rattle.sp_history.specs.declared.parts.LastOut.{LastOut}
 use Rattle.sp_history.specs.Lists.{has, head_of}
 use Rattle.sp_history.specs.Once.{AreDistinct}
@@ -446,15 +447,38 @@ pub on_pipe : (o : LastOut) (p : ℕ) (late : LastOut → Bool) → (late o ≡ 
 on_pipe o p late (inl e) = inl e
 on_pipe o p late (inr e) = inr (ap (λ n. n == p) e ∙ same_number p)
 
--- more contexts are looked at, and what waits for no reply is dropped
-pub seen_reserved : (v : DuesView) (due dr : HintsView ℕ) (outs : HintsView SentOut) (xs : List Live) (late : LastOut → Bool) (dry : ℕ → Bool) (last : ℕ) → AreDistinct (map live_ctx xs) → ((q : ℕ) → covers v.due q ≡ true → covers due q ≡ true) → ((q : ℕ) → covers v.dry q ≡ true → covers dr q ≡ true)
+-- what went out of a context is of a live request
+live_at : (P : Live → Bool) (xs : List Live) (o : LastOut) → awaited (find P xs) ≡ Some o → list_any P xs ≡ true
+live_at P [] o z = absurd cc
+live_at P (x ∷ xs) o z = go (P x) (live_at P xs o) z
+  where
+    go : (b : Bool) → (awaited (find P xs) ≡ Some o → list_any P xs ≡ true) → awaited (cond b (Some x) (find P xs)) ≡ Some o → (b || list_any P xs) ≡ true
+    go true again z = refl
+    go false again z = again z
+
+-- the next is looked at, or one of the rest is still to be
+pub next_or : {A : Type 0} (P : A → Bool) (xs : List A) (i : ℕ) (x : A) (D : Type 0) → i < length xs → x ≡ get_or xs i x → (P x ≡ true → D) → (list_any P (drop i xs) ≡ true) ⊎ D → (list_any P (drop (i + 1) xs) ≡ true) ⊎ D
+next_or P xs i x D l e d (inr k) = inr k
+next_or P xs i x D l e d (inl k) = go (P x) refl (ap (λ y. P y || list_any P (drop (i + 1) xs)) e ∙ sym (ap (list_any P) (drop_more xs i x l)) ∙ k)
+  where
+    go : (b : Bool) → P x ≡ b → (b || list_any P (drop (i + 1) xs)) ≡ true → (list_any P (drop (i + 1) xs) ≡ true) ⊎ D
+    go true f k = inr (d f)
+    go false f k = inl k
+
+-- none is left behind the last
+pub none_behind : {A : Type 0} (P : A → Bool) (xs : List A) (i : ℕ) (D : Type 0) → length xs ≤ i → (list_any P (drop i xs) ≡ true) ⊎ D → D
+none_behind P xs i D l (inr k) = k
+none_behind P xs i D l (inl k) = let bad : true ≡ false = sym k ∙ ap (list_any P) (drop_all i xs l) in absurd cc
+
+-- more contexts of live requests are looked at, and what waits for no reply is dropped
+pub seen_reserved : (v : DuesView) (due dr : HintsView ℕ) (outs : HintsView SentOut) (xs : List Live) (late : LastOut → Bool) (dry : ℕ → Bool) (last : ℕ) → AreDistinct (map live_ctx xs) → ((q : ℕ) → list_any (is_live_on q) xs ≡ true → covers v.due q ≡ true → covers due q ≡ true) → ((q : ℕ) → covers v.dry q ≡ true → covers dr q ≡ true)
     → ((c : ℕ) (o : LastOut) → awaited (find (is_live_on c) xs) ≡ Some o → covers_by v.outs (is_sent c o) ≡ true → covers_by outs (is_sent c o) ≡ true) → AreSeen v late dry last xs → AreSeen (record { due = due; dry = dr; outs = outs }) late dry last xs
 seen_reserved v due dr outs xs late dry last a d e k h = seen_live v (record { due = due; dry = dr; outs = outs }) late late dry dry last last xs a (λ q n. e q (h.1 q n)) (λ c o z n. both _ _ (first_of _ _ n) (at c o z (late o) (second_of _ _ n))) h
   where
-    looked : (c : ℕ) (b : Bool) → (b || covers v.due c) ≡ true → (b || covers due c) ≡ true
-    looked c true n = refl
-    looked c false n = d c n
+    looked : (c : ℕ) (b : Bool) → list_any (is_live_on c) xs ≡ true → (b || covers v.due c) ≡ true → (b || covers due c) ≡ true
+    looked c true l n = refl
+    looked c false l n = d c l n
 
     at : (c : ℕ) (o : LastOut) → awaited (find (is_live_on c) xs) ≡ Some o → (b : Bool) → cond b (dry c || covers v.due c) (covers_by v.outs (is_sent c o)) ≡ true → cond b (dry c || covers due c) (covers_by outs (is_sent c o)) ≡ true
-    at c o z true n = looked c (dry c) n
+    at c o z true n = looked c (dry c) (live_at (is_live_on c) xs o z) n
     at c o z false n = k c o z n

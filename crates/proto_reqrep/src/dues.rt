@@ -4,18 +4,24 @@
 //! only what they look at. Once its time has come, or its pipe is down, its context is looked at before the next request
 //! goes out again. A context for which a copy found no memory is looked at again after the next tick. What is left of
 //! requests that ended is dropped by a pass over all that went out, once these are some twice the live requests and more;
-//! after it they are no more than those.
+//! after it they are no more than those. The contexts that may be due give way to those of all live requests, once
+//! they are more than some twice the spots of these (`lives`), so that a pass over the spots costs no more than what it
+//! drops.
 ghost use Rattle.std.specs.Prelude.{◌≡◌, ◌==◌, ◌+◌, ℕ, List, [], true, false, nat_le, drop};
+ghost use Rattle.std.specs.List.{list_any};
 ghost use Rattle.sp_history.specs.Lists.{head_of};
 ghost use Rattle.proto_requests.specs.Hints.{covers, StayAmong};
+ghost use Rattle.proto_requests.specs.Spots.{holds};
 ghost use Rattle.proto_reqrep.specs.declared.req.Live.{Live as LiveType};
 ghost use Rattle.proto_reqrep.specs.Outs.{KeepOthers};
 ghost use Rattle.proto_reqrep.specs.Dues.{LookAtAll, StaySeen, NotesDry, is_past};
-ghost use Rattle.proto_reqrep.specs.Reqs.{OnePerContext, KeepAwaited, LookAtPast, NotesOut, SeeLater, is_awaited};
+ghost use Rattle.proto_reqrep.specs.Reqs.{OnePerContext, KeepAwaited, LookAtPast, NotesOut, SeeLater, is_awaited, is_live_on};
 
 use crate::lives::Lives;
 use crate::outs::{Outs, SentOut, is_awaited};
+use crate::req::Live;
 use proto_requests::hints::Hints;
+use proto_requests::spots::Spot;
 use sp_base::{Ctx, NoMemory, PipeId, Tick};
 use std::alloc::Global;
 use std::marker::Model;
@@ -65,6 +71,38 @@ fn limit(contexts: &mut Hints<u32>, many: usize)
 {
     if contexts.len() / 2 > many {
         contexts.give_up();
+    }
+}
+
+// The request that stands there is looked at.
+fn look_at_spot(due: &mut Hints<u32>, s: &Spot<Live>)
+    ensures it { (q : ℕ) → holds (is_live_on q) s.now ≡ true → covers due.new q ≡ true }
+    ensures more { StayAmong due.old due.new }
+{
+    match &s.value {
+        None => {}
+        Some(x) => due.add(x.ctx.0),
+    }
+}
+
+// Those that stand there are looked at.
+fn look_at_spots(due: &mut Hints<u32>, list: &[Spot<Live>])
+    ensures { (q : ℕ) → list_any (holds (is_live_on q)) list.now ≡ true → covers due.new q ≡ true }
+{
+    for s in list {
+        look_at_spot(due, s);
+    }
+}
+
+// Where more are looked at than some twice the spots of the live requests, all of these take their place. There is room
+// for them.
+fn refill(due: &mut Hints<u32>, live: &Lives)
+    ensures { (q : ℕ) → list_any (is_live_on q) live.now.items ≡ true → covers due.old q ≡ true → covers due.new q ≡ true }
+{
+    let list = live.spots();
+    if due.len() / 2 > list.len() {
+        due.clear();
+        look_at_spots(due, list);
     }
 }
 
@@ -145,7 +183,7 @@ impl Dues {
         ensures { OnePerContext live.now.items → StaySeen self.old self.new live.now.items }
     {
         let many = live.len();
-        limit(&mut self.due, many);
+        refill(&mut self.due, live);
         limit(&mut self.dry, many);
         let more = many.saturating_add(2);
         make_room(&mut self.due, &mut self.dry, &self.outs, more)
