@@ -27,8 +27,8 @@ impl Made for Reply {
     }
 }
 
-// The frame that answers the request with this id.
-fn reply_to(id: u32) -> [u8; 5] {
+/// The frame that answers the request with this id.
+pub fn reply_to(id: u32) -> [u8; 5] {
     let [a, b, c, d] = id.to_be_bytes();
     [a | 128, b, c, d, 114]
 }
@@ -59,8 +59,8 @@ fn trips<M: Proto, R: AllocGlobal + Clock + Eprint>(
     Ok(())
 }
 
-// A request of each of so many contexts goes out over one of so many pipes.
-fn ask_all<M: Proto>(
+/// A request of each of so many contexts goes out over one of so many pipes.
+pub fn ask_all<M: Proto>(
     req: &mut M,
     alloc: Global,
     contexts: u32,
@@ -99,8 +99,8 @@ fn contexts<M: Proto, R: AllocGlobal + Clock + Eprint>(
     Ok(())
 }
 
-// A request comes on each of so many pipes.
-fn come_all<M: Proto>(rep: &mut M, alloc: Global, pipes: u32) -> Result<(), NoMemory> {
+/// A request comes on each of so many pipes.
+pub fn come_all<M: Proto>(rep: &mut M, alloc: Global, pipes: u32) -> Result<(), NoMemory> {
     for i in 0..pipes {
         come(rep, alloc, PipeId(i + 1), &reply_to(i))?;
     }
@@ -234,8 +234,8 @@ fn downs<M: Proto, R: AllocGlobal + Clock + Eprint>(
     Ok(())
 }
 
-// So many offers are taken, over one pipe.
-fn take_offers<M: Proto>(req: &mut M, count: u32) {
+/// So many offers are taken, over one pipe.
+pub fn take_offers<M: Proto>(req: &mut M, count: u32) {
     for _ in 0..count {
         take_offer(req, 1);
     }

@@ -4,6 +4,7 @@
 
 mod asked;
 mod moves;
+mod repeated;
 mod spread;
 mod surveyed;
 mod timing;
@@ -19,6 +20,7 @@ fn all<R: AllocGlobal + Clock + Eprint>(rt: &R) -> Result<(), NoMemory> {
     spread::frames::<Subscribe, R>(rt)?;
     spread::sends::<Publish, R>(rt)?;
     asked::requests::<Request, Reply, R>(rt)?;
+    repeated::repeats::<Request, Reply, R>(rt)?;
     surveyed::surveys::<Survey, R>(rt)
 }
 
