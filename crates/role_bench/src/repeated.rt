@@ -160,7 +160,7 @@ fn fails<M: Proto, R: AllocGlobal + Clock + Eprint>(
     rep: &mut M,
     pipes: u32,
 ) -> Result<(), NoMemory> {
-    opens(rep, pipes - 1)?;
+    opens(rep, pipes.saturating_sub(1))?;
     ups(rep, pipes)?;
     come_all(rep, rt.alloc(), pipes)?;
     reply_from_all(rep, rt.alloc(), pipes)?;
