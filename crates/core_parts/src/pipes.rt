@@ -1,8 +1,8 @@
 //! The pipes with their wires: those that are up, and those that are down until their wires are taken.
 //!
 //! A pipe that comes up gets a place behind all others. One that goes down leaves its place empty, so that no other pipe
-//! moves. Empty places are taken out once they are more than those with a pipe, when a wire is taken. So over all pipes
-//! that go down, each costs a fixed number of moves and the search of its place.
+//! moves. When a wire is taken while the pipes are fewer than half of the places, rounded down, the empty places are
+//! taken out. So over all pipes that go down, each costs a fixed number of moves and the search of its place.
 ghost use Rattle.std.specs.Prelude.{◌≡◌, ◌==◌, ◌<◌, ◌≤◌, ◌+◌, ◌++◌, ◌∷◌, ℕ, [], true, false, length, is_some, OnOk};
 ghost use Rattle.std.specs.VecDeque.{deque_capacity};
 ghost use Rattle.sp_history.specs.declared.entry.Entry.TheVariants.{Down};
@@ -278,7 +278,7 @@ impl<W: Wire> Pipes<W> {
         Some(first)
     }
 
-    // Takes the empty places out, where more than half are empty.
+    // Takes the empty places out, where the pipes are fewer than half of the places.
     fn pack(&mut self)
         ensures up { up_pipes self.new ≡ up_pipes self.old }
         ensures in_order { (q : ℕ) → IsRising (numbers self.old.places.items ++ q ∷ []) → IsRising (numbers self.new.places.items ++ q ∷ []) }
