@@ -105,7 +105,7 @@ impl Deadlines {
     {
         let count = due_count(&self.entries, now);
         name_all(&self.entries[..count], out);
-        drop_front(&mut self.entries, count);
+        drop_prefix(&mut self.entries, count);
     }
 }
 
@@ -174,7 +174,7 @@ fn name_all(entries: &[Deadline], out: &mut NameList)
     }
 }
 
-fn drop_front(entries: &mut Vec<Deadline>, count: usize)
+fn drop_prefix(entries: &mut Vec<Deadline>, count: usize)
     requires { count ≤ length entries.old.items }
     ensures rest { entries.new.items ≡ drop count entries.old.items }
     ensures room { vec_capacity entries.new ≡ vec_capacity entries.old }

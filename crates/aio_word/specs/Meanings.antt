@@ -1,4 +1,4 @@
--- What each answer means, as the contracts of the calls say it.
+-- What each result means, as the contracts of the calls say it.
 use Rattle.std.specs.Prelude.{◌≡◌, ℕ, true, ◌+◌, ◌-◌, ◌^◌, ◌<◌, slice_index, slice_set}
 use Rattle.sp_base.specs.declared.OpName.{OpName}
 use Rattle.aio_word.specs.declared.phase.Phase.{Phase}

@@ -170,7 +170,7 @@ impl Words {
     }
 
     // Ends the operation as `to`, unless it has ended. A name that no word can show is looked up all the same, so that
-    // each answer but at a slot out of range rests on a step.
+    // each result but at a slot out of range rests on a step.
     fn race(&self, seat: &mut CallSeat, op: OpName, to: Phase) -> Raced
         requires own { seat.old.words ≡ self.now.id }
         requires end { is_call_end to ≡ true }
@@ -231,8 +231,8 @@ impl Words {
         }
     }
 
-    /// How the core's operation stands, with what the caller's seat has read: where the seat has read an end of it, the
-    /// answer is that end. The seat stays as it is.
+    /// How the core's operation stands, with what the caller's seat has read: where the seat has read an end of it,
+    /// that end is returned. The seat stays as it is.
     pub fn found(&self, core: &mut CoreSeat, seat: &mut CallSeat, op: OpName) -> Look
         requires core { core.old.words ≡ self.now.id }
         requires own { seat.old.words ≡ self.now.id }

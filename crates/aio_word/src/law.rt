@@ -14,8 +14,8 @@ pub fn rule_gives_one_winner()
     ensures { (n : ℕ) (s : State (Unit {0}) WordsView) → Ruled n s → OneWinner n s.words s.views }
 {}
 
-/// What a step's `rule` clause says of a caller's own wins: each is of a slot that there is, was begun and has ended, by
-/// this caller's number.
+/// What a step's `rule` clause says of a caller's own wins: each is of a slot that there is, was begun and has ended,
+/// by this caller's number.
 pub fn wins_are_the_callers()
     ensures { (slots : ℕ) (v : WordsView) → IsKnownCaller slots v → (e : ShownOperation) → Stands e v.wins → (e.slot < slots) × (0 < e.generation) × (is_decided e.phase ≡ true) × (e.by ≡ v.number) }
 {}

@@ -13,10 +13,10 @@
 //! exchanges took. At the end the core joins the callers' seats, and then its ends and their wins agree
 //! (`Words::join`).
 //!
-//! What a seat knows is ghost: it is a `WordsView`, which grows at the seat's own steps. `Rule` in specs/ says what holds
-//! between any two steps of any threads, and `OneWinner` says what that gives (`rule_gives_one_winner`); each step is
-//! proved to keep the rule for every interleaving. Every step is sequentially consistent. Nothing waits, and only
-//! `words` and `Words::share` take memory.
+//! What a seat knows is ghost: it is a `WordsView`, which grows at the seat's own steps. `Rule` in specs/ says what
+//! holds between any two steps of any threads, and `OneWinner` says what that gives (`rule_gives_one_winner`); each
+//! step is proved to keep the rule for every interleaving. Every step is sequentially consistent. Nothing waits, and
+//! only `words` and `Words::share` take memory.
 #![tactic(auto)]
 
 mod answers;

@@ -3,9 +3,9 @@
 //! is trusted. That a socket is ready ends a rest, and a link whose socket was not reported ready since a read of it
 //! found nothing is not read.
 //!
-//! `tcp` has links and the net, `pace` the clock, `output` standard output, `files` files and standard input. `wake` says
-//! which links are to be read, by what the machine reported of their sockets; net and pace share it. `back` says what
-//! became of the links of a net that tells its contents.
+//! `tcp` has links and the net, `pace` the clock, `output` standard output, `files` files and standard input. `wake`
+//! says which links are to be read, by what the machine reported of their sockets; net and pace share it. `back` says
+//! what became of the links of a net that tells its contents.
 #![tactic(auto)]
 
 mod back;

@@ -20,12 +20,12 @@ more_as p q whole at middle end old half new e a b = subst (λ (t : List ℕ). P
 -- of a piece of four bytes the first ones
 pub fewer : (a b c d at n : ℕ) (old new : List ℕ) → n ≤ 4 → at ≤ length old → Puts (a ∷ b ∷ c ∷ d ∷ []) at (at + 4) old new → Puts (take n (a ∷ b ∷ c ∷ d ∷ [])) at (at + n) old new
 fewer a b c d at n old new small room h =
-    let front : List ℕ = take at old in
+    let prefix : List ℕ = take at old in
     let piece : List ℕ = a ∷ b ∷ c ∷ d ∷ [] in
-    let before : length front ≡ at = length-take-le at old room in
+    let before : length prefix ≡ at = length-take-le at old room in
     let within : take (at + n) new ≡ take (at + n) (take (at + 4) new) = sym (take-take (at + n) (at + 4) new (omega arith)) in
-    let cut : take (length front + n) (front ++ piece) ≡ front ++ take n piece = take-append-add front piece n in
-    record { same_length = h.same_length; text = within ∙ ap (take (at + n)) h.text ∙ subst (λ (m : ℕ). take (m + n) (front ++ piece) ≡ front ++ take n piece) before cut }
+    let cut : take (length prefix + n) (prefix ++ piece) ≡ prefix ++ take n piece = take-append-add prefix piece n in
+    record { same_length = h.same_length; text = within ∙ ap (take (at + n)) h.text ∙ subst (λ (m : ℕ). take (m + n) (prefix ++ piece) ≡ prefix ++ take n piece) before cut }
 
 -- what is cut off behind the piece that stands at the end of a text
 pub cut_text : (piece old spare new : List ℕ) (end : ℕ) → Puts piece (length old) end (old ++ spare) new → take end new ≡ old ++ piece

@@ -7,8 +7,8 @@ use crate::printing::print;
 use sp_base::{Bytes, NoMemory};
 use std::alloc::Global;
 
-/// Puts the line that names a wrong word at the end of `out`: the word stands in it as the format Quoted prints it, so no
-/// byte of it but visible ones reaches a terminal. Refused only when out of memory, and then a part of it may stand
+/// Puts the line that names a wrong word at the end of `out`: the word stands in it as the format Quoted prints it, so
+/// no byte of it but visible ones reaches a terminal. Refused only when out of memory, and then a part of it may stand
 /// there.
 pub fn name_word(alloc: Global, word: &str, out: &mut Bytes) -> Result<(), NoMemory>
     ensures { OnOk result (out.new ≡ out.old ++ naming word.now) }

@@ -13,8 +13,8 @@ use Rattle.end_wire.specs.Opened.{IsBegun}
 abbrev Tells : Role → Way → Option (List ℕ) → Option (List ℕ) → Type 0
 Tells role way c w = Told c (λ came. Told w (λ written. IsGood role way came × ((owed : List ℕ) → Owes role way came owed → IsPrefix owed written)))
 
-front_on : (xs ys more : List ℕ) → IsPrefix xs ys → IsPrefix xs (ys ++ more)
-front_on xs ys more f = (f.0 ++ more, ap (λ (v : List ℕ). v ++ more) f.1 ∙ append_assoc xs f.0 more)
+prefix_on : (xs ys more : List ℕ) → IsPrefix xs ys → IsPrefix xs (ys ++ more)
+prefix_on xs ys more f = (f.0 ++ more, ap (λ (v : List ℕ). v ++ more) f.1 ∙ append_assoc xs f.0 more)
 
 came_on : (role : Role) (way : Way) (piece : List ℕ) (c w : Option (List ℕ)) → Tells role way c w → Tells role way (grown c piece) w
 came_on role way piece None w t = tt
@@ -24,7 +24,7 @@ came_on role way piece (Some c) (Some w) t = (stays_good role way c piece t.0, �
 went_on : (role : Role) (way : Way) (piece : List ℕ) (c w : Option (List ℕ)) → Tells role way c w → Tells role way c (grown w piece)
 went_on role way piece None w t = tt
 went_on role way piece (Some c) None t = tt
-went_on role way piece (Some c) (Some w) t = (t.0, λ owed o. front_on owed w piece (t.1 owed o))
+went_on role way piece (Some c) (Some w) t = (t.0, λ owed o. prefix_on owed w piece (t.1 owed o))
 
 moved : (role : Role) (way : Way) (a b : LinkView) (c w : Option (List ℕ)) → b.came ≡ c → b.written ≡ w → Tells role way c w → IsBegun role way b
 moved role way a b c w e f t = subst (λ (x : Option (List ℕ)). Tells role way x b.written) (sym e) (subst (λ (y : Option (List ℕ)). Tells role way c y) (sym f) t)

@@ -54,15 +54,15 @@ module _ {L : Type 0} (seen : L → LinkView) (n : Opening L) (o : IsOpened seen
       good : (c : List ℕ) → c ≡ n.came → IsGood n.role n.way c
       good c e = subst (λ (s : List ℕ). IsGood n.role n.way s) (sym e) (opens_good n.role n.way o.used own.1 n.came own.3)
 
-      front : (c w owed : List ℕ) → c ≡ n.came → w ≡ take n.said n.own → Owes n.role n.way c owed → IsPrefix owed w
-      front c w owed e f d =
+      prefix : (c w owed : List ℕ) → c ≡ n.came → w ≡ take n.said n.own → Owes n.role n.way c owed → IsPrefix owed w
+      prefix c w owed e f d =
           let is : owed ≡ own.0 ++ own.1 = owes_one n.role n.way o.used own.0 own.1 n.came owed own.2 own.3 (subst (λ (s : List ℕ). Owes n.role n.way s owed) e d) in
           ([], whole_is w f ∙ (own.4 ∙ (sym is ∙ sym (append-nil owed))))
 
       go : (c w : Option (List ℕ)) → Told c (λ s. s ≡ n.came) → Told w (λ t. t ≡ take n.said n.own) → Told c (λ came. Told w (λ written. IsGood n.role n.way came × ((owed : List ℕ) → Owes n.role n.way came owed → IsPrefix owed written)))
       go None w x y = tt
       go (Some c) None x y = tt
-      go (Some c) (Some w) x y = (good c x, λ owed d. front c w owed x y d)
+      go (Some c) (Some w) x y = (good c x, λ owed d. prefix c w owed x y d)
 
   -- over TCP both greetings are whole
   pub hellos : (u : ℕ) → n.used ≡ Some u → n.way ≡ ways.Greeting → Told (seen n.link).written (λ t. t ≡ hello (role_number n.role)) × Told (seen n.link).came (λ s. s ≡ hello (peer_number n.role) ++ drop u n.came)

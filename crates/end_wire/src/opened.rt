@@ -15,7 +15,7 @@ use sp_ws::WsWire;
 use std::marker::Model;
 use std::sync::Wait;
 
-/// A wire over a WebSocket whose opening is done, by the own role and the way in which it was opened.
+/// A wire over a WebSocket (nng_ws(7)) whose opening is done, by the own role and the way in which it was opened.
 #[derive(Drop)]
 pub struct OpenedWire<L: Link> {
     wire: WsWire<L>,

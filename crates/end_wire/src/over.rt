@@ -14,8 +14,8 @@ use sp_ws::{Side, WsWire};
 use std::alloc::Global;
 
 impl<L: Link> EndWire<L> {
-    /// The wire of an opened link, by its transport; the bytes that came behind the peer's part go to it. A body that is
-    /// read has at most `max` bytes. Refused when out of memory alone, and then the link comes back as it was.
+    /// The wire of an opened link, by its transport; the bytes that came behind the peer's part go to it. A body that
+    /// is read has at most `max` bytes. Refused when out of memory alone, and then the link comes back as it was.
     pub fn over(alloc: Global, opening: Opening<L>, max: u32) -> Result<EndWire<L>, (NoMemory, L)>
         requires opened { IsOpened L.seen opening }
         ensures { MatchResult result (λ w. IsNewOver L.seen max opening w) (λ e. e.1 ≡ opening.link) }

@@ -10,7 +10,7 @@ use sp_msg::{Message, Room, Wire, WireFlush, WireIn};
 use sp_tcp::TcpWire;
 use std::sync::Wait;
 
-/// A wire of one of the transports.
+/// A wire of one of the transports (nng_tcp(7), nng_ws(7), nng_inproc(7)).
 #[derive(Drop)]
 pub enum EndWire<L: Link> {
     /// SP over TCP.

@@ -11,12 +11,12 @@ ghost use Rattle.history_judge_past.specs.Story.{entries_of};
 ghost use Rattle.history_judge.specs.Faults.{Finds};
 
 use crate::faults::Fault;
+use history_judge_past::entries::Past;
 use history_judge_past::frames::{floods, has_requests, is_sub, malformed, resends};
 use history_judge_past::lists::{
     has_ctx, has_pipe, is_empty, is_of, same_bytes, without_ctx, without_pipe,
 };
 use history_judge_past::past::{begins, ctxs, one_more, pend, pending, uncollected, up};
-use history_judge_past::story::Past;
 use history_judge_requests::kept::{kept, stored};
 use history_judge_requests::requests::{how_ended, live_on, request_of};
 use history_judge_requests::sends::{is_due_again, is_sent, unclaimed};

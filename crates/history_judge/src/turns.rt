@@ -20,13 +20,13 @@ use crate::rules::{
     comes_after_close, condemned, goes_on, has_topic, is_after_frame, is_pending_on, is_recv,
     is_uncollected, is_up, may_begin, may_dry, may_end, may_finish,
 };
+use history_judge_past::entries::Past;
 use history_judge_past::frames::{has_contexts, has_topics, is_pair, is_reply, is_sub, resends};
 use history_judge_past::lists::{has_ctx, has_pipe, is_empty};
 use history_judge_past::past::{
     caller_of, counts, ctxs, due_at, is_closed, now, one_more, opened, pend, topics, untaken, up,
     ups,
 };
-use history_judge_past::story::Past;
 use history_judge_requests::kept::{kept, wanted};
 use history_judge_requests::requests::requests;
 use history_judge_requests::sends::{is_due_again, targets};

@@ -1,8 +1,8 @@
 -- A past as the program keeps it.
 use Rattle.std.specs.Prelude.{List, [], ◌∷◌}
 use Rattle.sp_history.specs.declared.entry.Entry.{Entry}
-use Rattle.history_judge_past.specs.declared.story.Past.{Past}
-use Rattle.history_judge_past.specs.declared.story.Past.TheVariants.{Start, After'}
+use Rattle.history_judge_past.specs.declared.entries.Past.{Past}
+use Rattle.history_judge_past.specs.declared.entries.Past.TheVariants.{Start, After'}
 
 -- its entries, the newest first
 abbrev pub entries_of : Past → List Entry

@@ -6,8 +6,8 @@ ghost use Rattle.sp_history.specs.Frames.{malformed, plain_item, traced_item, it
 ghost use Rattle.sp_history.specs.Setting.{is_req, is_sub, is_pair, is_reply, is_asker, floods, has_contexts, has_topics, has_requests, resends, has_stored};
 ghost use Rattle.history_judge_past.specs.Story.{entries_of};
 
+use crate::entries::Past;
 use crate::lists::word;
-use crate::story::Past;
 use sp_base::{Bytes, NoMemory, PipeId, Role};
 use sp_history::entry::RecordedMessage;
 use sp_history::parts::{Back, Item};
@@ -109,7 +109,7 @@ fn behind(alloc: Global, w: &[u8], found: Back) -> Result<Back, NoMemory>
     }
 }
 
-/// The backtrace at the front of the bytes, with this many hops left.
+/// The backtrace that is a prefix of the bytes, with this many hops left.
 pub fn back(alloc: Global, hops: u8, b: &[u8]) -> Result<Back, NoMemory>
     ensures { IfOk result (λ r. r ≡ back hops b.now) }
 {

@@ -5,8 +5,8 @@ ghost use Rattle.sp_history.specs.Lists.{same_op, same_bytes};
 ghost use Rattle.sp_history.specs.Past.{up, ups, untaken, pend, pending, ended_as, uncollected, caller_of, begins, now, timer_of, is_due, timers, is_earlier, put_in_order, by_deadline, due_at, opened, ctxs, topics, is_closed, counts, counted, without_begun, is_of};
 ghost use Rattle.history_judge_past.specs.Story.{entries_of};
 
+use crate::entries::{Past, copy_act, copy_bytes, copy_ending};
 use crate::lists::{find_begun, same_bytes, same_op, without_begun, without_ctx, without_pipe};
-use crate::story::{Past, copy_act, copy_bytes, copy_ending};
 use sp_base::{Bytes, Ctx, NoMemory, OpName, PipeId, Tick};
 use sp_history::entry::{ContextChange, Ending, Entry, RecordedAct, Switch, Totals};
 use sp_history::parts::{Begun, OperationEnd, Timer};

@@ -10,12 +10,12 @@ ghost use Rattle.history_judge_past.specs.Story.{entries_of};
 
 use crate::one_request::wire_of;
 use crate::requests::{live_on, requests};
+use history_judge_past::entries::Past;
 use history_judge_past::frames::{
     has_requests, has_stored, has_topics, is_reply, item_of, malformed,
 };
 use history_judge_past::lists::{has_ctx, is_empty, matches, same_op};
 use history_judge_past::past::{ctxs, now, pending, topics};
-use history_judge_past::story::Past;
 use sp_base::{Bytes, Ctx, NoMemory, OpName, PipeId, Role};
 use sp_history::entry::{Completion, ContextChange, Ending, Entry, Switch};
 use sp_history::parts::{Begun, Item, Keeping, LiveRequest, Origin};

@@ -5,9 +5,9 @@ ghost use Rattle.std.specs.List.{list_any};
 ghost use Rattle.sp_history.specs.Requests.{next_number, has_id, free_from, next_id, is_on, wire_of, is_for, has_room, with_out, with_frame, with_taken, is_over};
 ghost use Rattle.history_judge_past.specs.Story.{entries_of};
 
+use history_judge_past::entries::Past;
 use history_judge_past::frames::{after_word, is_req, malformed, plain_item};
 use history_judge_past::lists::{first_word, is_empty, is_number, same_bytes, word};
-use history_judge_past::story::Past;
 use sp_base::{Bytes, Ctx, NoMemory, PipeId, Tick};
 use sp_history::parts::{LastOut, LiveRequest, Requests};
 use sp_history::setting::Setting;

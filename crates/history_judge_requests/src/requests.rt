@@ -8,10 +8,10 @@ ghost use Rattle.sp_history.specs.Past.{now, pend, pending, without_begun};
 ghost use Rattle.history_judge_past.specs.Story.{entries_of};
 
 use crate::one_request::{is_on, is_over, next_id, with_frame, with_out, with_taken};
+use history_judge_past::entries::{Past, copy_bytes};
 use history_judge_past::frames::{has_requests, is_req};
 use history_judge_past::lists::{has_ctx, same_op, without_begun};
 use history_judge_past::past::{now, pend, pending};
-use history_judge_past::story::{Past, copy_bytes};
 use sp_base::{Bytes, Ctx, NoMemory, OpName, PipeId, Tick};
 use sp_history::entry::{Completion, ContextChange, Ending, Entry, RecordedAct, RecordedMessage};
 use sp_history::parts::{Begun, How, Item, LiveRequest, Orphan, Requests};

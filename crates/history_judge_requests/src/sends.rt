@@ -12,12 +12,12 @@ ghost use Rattle.history_judge_past.specs.Story.{entries_of};
 use crate::kept::route;
 use crate::one_request::wire_of;
 use crate::requests::{request_of, requests};
+use history_judge_past::entries::{Past, copy_bytes};
 use history_judge_past::frames::{after_word, floods, is_reply, resends};
 use history_judge_past::lists::{
     all_in, first_word, has_pipe, is_empty, is_number, same_bytes, same_op,
 };
 use history_judge_past::past::{now, pend, up};
-use history_judge_past::story::{Past, copy_bytes};
 use sp_base::{Bytes, NoMemory, OpName, PipeId, Role};
 use sp_history::entry::{Entry, RecordedAct, RecordedMessage};
 use sp_history::parts::{Begun, LastOut, LiveRequest, Origin};
@@ -92,10 +92,10 @@ pub fn targets(
     }
 }
 
-fn joined(alloc: Global, front: &[u8], back: &[u8]) -> Result<Bytes, NoMemory>
-    ensures { IfOk result (λ r. r ≡ front.now ++ back.now) }
+fn joined(alloc: Global, prefix: &[u8], back: &[u8]) -> Result<Bytes, NoMemory>
+    ensures { IfOk result (λ r. r ≡ prefix.now ++ back.now) }
 {
-    let mut whole = Bytes::from_slice(alloc, front)?;
+    let mut whole = Bytes::from_slice(alloc, prefix)?;
     whole.append(back)?;
     Ok(whole)
 }

@@ -382,7 +382,8 @@ fn with_option(z: Setting, w: &str) -> Result<Setting, Unread> {
     Ok(z)
 }
 
-/// The setting in `= NAME ROLE OPTION..`: 2 slots, 2 callers, a queue of 2, and else what is usual, but for the options.
+/// The setting in `= NAME ROLE OPTION..`: 2 slots, 2 callers, a queue of 2, and else what is usual, but for the
+/// options.
 pub fn setting_of(alloc: Global, title: &str) -> Result<Setting, Unread> {
     let words = words_of(alloc, title)?;
     let words = words.as_slice();

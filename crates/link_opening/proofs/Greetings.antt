@@ -8,11 +8,11 @@ pub hello_long : (n : ℕ) → length (hello n) ≡ 8
 hello_long n = refl
 
 -- a prefix of a list is taken from it
-front_taken : (xs ys : List ℕ) → IsPrefix xs ys → take (length xs) ys ≡ xs
-front_taken xs ys f = ap (take (length xs)) f.1 ∙ take-append-le (length xs) xs f.0 (omega arith) ∙ take_all (length xs) xs (omega arith)
+prefix_taken : (xs ys : List ℕ) → IsPrefix xs ys → take (length xs) ys ≡ xs
+prefix_taken xs ys f = ap (take (length xs)) f.1 ∙ take-append-le (length xs) xs f.0 (omega arith) ∙ take_all (length xs) xs (omega arith)
 
-front_long : (xs ys : List ℕ) → IsPrefix xs ys → length xs ≤ length ys
-front_long xs ys f = omega (arith, ap length f.1, length-append xs f.0)
+prefix_long : (xs ys : List ℕ) → IsPrefix xs ys → length xs ≤ length ys
+prefix_long xs ys f = omega (arith, ap length f.1, length-append xs f.0)
 
 module _ (n : ℕ) (came : List ℕ) (count : ℕ) (is : count ≡ min (length came) 8) where
   -- so many bytes differ
@@ -21,15 +21,15 @@ module _ (n : ℕ) (came : List ℕ) (count : ℕ) (is : count ≡ min (length c
     where
       fewer : IsPrefix came (hello n) → ⊥
       fewer f =
-          let long = front_long came (hello n) f in
+          let long = prefix_long came (hello n) f in
           let k : count ≡ length came = omega (arith, is, long, hello_long n) in
-          differs (ap (λ (j : ℕ). take j came) k ∙ take_all (length came) came (omega arith) ∙ sym (front_taken came (hello n) f) ∙ ap (λ (j : ℕ). take j (hello n)) (sym k))
+          differs (ap (λ (j : ℕ). take j came) k ∙ take_all (length came) came (omega arith) ∙ sym (prefix_taken came (hello n) f) ∙ ap (λ (j : ℕ). take j (hello n)) (sym k))
 
       all : IsPrefix (hello n) came → ⊥
       all f =
-          let long = front_long (hello n) came f in
+          let long = prefix_long (hello n) came f in
           let k : count ≡ 8 = omega (arith, is, long, hello_long n) in
-          differs (ap (λ (j : ℕ). take j came) k ∙ front_taken (hello n) came f ∙ sym (take_all 8 (hello n) (omega (arith, hello_long n))) ∙ ap (λ (j : ℕ). take j (hello n)) (sym k))
+          differs (ap (λ (j : ℕ). take j came) k ∙ prefix_taken (hello n) came f ∙ sym (take_all 8 (hello n) (omega (arith, hello_long n))) ∙ ap (λ (j : ℕ). take j (hello n)) (sym k))
 
   -- all of them are the same, and they are fewer than eight
   pub more_by : take count came ≡ take count (hello n) → count < 8 → IsPrefix came (hello n)
@@ -53,4 +53,4 @@ module _ (n : ℕ) (came : List ℕ) (count : ℕ) (is : count ≡ min (length c
 
 -- a part isn't the whole
 pub part_or_whole : (n : ℕ) (came : List ℕ) → length came < 8 → IsPrefix (hello n) came → ⊥
-part_or_whole n came few f = omega (arith, few, front_long (hello n) came f, hello_long n)
+part_or_whole n came few f = omega (arith, few, prefix_long (hello n) came f, hello_long n)

@@ -66,12 +66,12 @@ module _ (came more : List ℕ) where
 
 -- ---- Greetings
 
-front_later : (xs came more : List ℕ) → IsPrefix xs came → IsPrefix xs (came ++ more)
-front_later xs came more f = (f.0 ++ more, ap (λ (v : List ℕ). v ++ more) f.1 ∙ append_assoc xs f.0 more)
+prefix_later : (xs came more : List ℕ) → IsPrefix xs came → IsPrefix xs (came ++ more)
+prefix_later xs came more f = (f.0 ++ more, ap (λ (v : List ℕ). v ++ more) f.1 ∙ append_assoc xs f.0 more)
 
 -- of two lists that go on to one, the shorter is a prefix of the longer
-front_of : (xs ys more rest : List ℕ) → ys ++ more ≡ xs ++ rest → length xs ≤ length ys → IsPrefix xs ys
-front_of xs ys more rest e fits =
+prefix_of : (xs ys more rest : List ℕ) → ys ++ more ≡ xs ++ rest → length xs ≤ length ys → IsPrefix xs ys
+prefix_of xs ys more rest e fits =
     let is : take (length xs) ys ≡ xs = sym (take-append-le (length xs) ys more fits) ∙ ap (take (length xs)) e ∙ take-append-le (length xs) xs rest (omega arith) ∙ take_all (length xs) xs (omega arith) in
     (drop (length xs) ys, sym (ap (λ (v : List ℕ). v ++ drop (length xs) ys) (sym is) ∙ take-append-drop (length xs) ys))
 
@@ -79,8 +79,8 @@ bad_greeting : (n : ℕ) (came more : List ℕ) → IsBadGreeting n came → IsB
 bad_greeting n came more (fewer, all) = (
   (λ f. fewer (more ++ f.0, f.1 ∙ append_assoc came more f.0)),
   (λ f. elim (leb_tells (length (hello n)) (length came)) [
-    | inl p ↦ all (front_of (hello n) came more f.0 f.1 p.1)
-    | inr p ↦ fewer (front_of came (hello n) f.0 more (sym f.1) (omega (arith, p.1)))
+    | inl p ↦ all (prefix_of (hello n) came more f.0 f.1 p.1)
+    | inr p ↦ fewer (prefix_of came (hello n) f.0 more (sym f.1) (omega (arith, p.1)))
   ]),
 )
 
@@ -90,7 +90,7 @@ good_or_bad : (u : ℕ) (a : List ℕ) (f : HeadFault) → heads.Good u a ≡ he
 good_or_bad u a f e = cc e
 
 pub stays_good : (role : Role) (way : Way) → StaysGood role way
-stays_good role ways.Greeting came more x = front_later (hello (peer_number role)) came more x
+stays_good role ways.Greeting came more x = prefix_later (hello (peer_number role)) came more x
 stays_good role (ways.Serves path) came more (u, a, x) = (u, a, good_later came more (GoodRequest role path) (BadRequest role path) u a x)
 stays_good role (ways.Asks addr start) came more (u, a, x) = (u, a, good_later came more (GoodResponse role (key_of start)) (BadResponse role (key_of start)) u a x)
 

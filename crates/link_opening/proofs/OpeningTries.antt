@@ -47,8 +47,8 @@ module _ {L : Type 0} (seen : L → LinkView) (n : Opening L) (stands : Stands s
   pub tried : n.used ≡ None → n.said ≡ length n.own → HasTried seen n
   tried none all = go (seen n.link).came (seen n.link).written stands.came stands.written
     where
-      front : (c w owed : List ℕ) → c ≡ n.came → w ≡ take n.said n.own → Owes n.role n.way c owed → IsPrefix owed w
-      front c w owed ce we o =
+      prefix : (c w owed : List ℕ) → c ≡ n.came → w ≡ take n.said n.own → Owes n.role n.way c owed → IsPrefix owed w
+      prefix c w owed ce we o =
           let own = own_as None none in
           let is : owed ≡ n.own = more_owes n.role n.way n.came n.own owed own.1 own.0 (subst (λ (s : List ℕ). Owes n.role n.way s owed) ce o) in
           ([], we ∙ (take_all n.said n.own (omega (arith, all)) ∙ (sym is ∙ sym (append-nil owed))))
@@ -56,7 +56,7 @@ module _ {L : Type 0} (seen : L → LinkView) (n : Opening L) (stands : Stands s
       go : (c w : Option (List ℕ)) → Told c (λ s. s ≡ n.came) → Told w (λ t. t ≡ take n.said n.own) → Told c (λ came. Told w (λ written. (owed : List ℕ) → Owes n.role n.way came owed → IsPrefix owed written ⊎ (1 ≤ (seen n.link).stalls)))
       go None w x y = tt
       go (Some c) None x y = tt
-      go (Some c) (Some w) x y = λ owed o. inl (front c w owed x y o)
+      go (Some c) (Some w) x y = λ owed o. inl (prefix c w owed x y o)
 
 missing_if : {L : Type 0} (n : Opening L) → n.said < length n.own → (u : Option ℕ) → IsMissing n u
 missing_if n few None = tt

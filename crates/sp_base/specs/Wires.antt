@@ -28,9 +28,9 @@ numbers_of (OverLanes out inward) = 1 ∷ length out ∷ (out ++ inward)
 numbers_of Nameless = 2 ∷ []
 
 -- name: no call changes it. came: the bodies that were pulled, outs: the texts that were put, where told. waits: how
--- many of these are not wholly written. is_ready: room was found for one more. The counts: of answers Failed, Full,
--- NotYet of a pull, NotYet of a flush, Refused. is_open: calls other than shut are lawful. drains: a flush is lawful
--- after shut. ended and malformed: a pull answered so
+-- many of these are not wholly written. is_ready: room was found for one more. The counts: how often Failed, Full,
+-- NotYet of a pull, NotYet of a flush and Refused were returned. is_open: calls other than shut are lawful. drains: a
+-- flush is lawful after shut. ended and malformed: a pull returned that
 pub record WireView : Type 0 where
   pub name : WireName
   pub came : Option (List (List ℕ))

@@ -133,7 +133,7 @@ pub record DialBy (result : Linked NetLink) (addr : Addr) (opened : ℕ) (old ne
   pub accepts : new.accepts ≡ old.accepts
   pub dials : DialsBy result addr (next_fails old.calls) opened old.dials new.dials
 
--- a fault is one that is answered, and nothing else counts as one
+-- a fault is one that is returned, and nothing else counts as one
 abbrev pub faults_listened : Listened → ℕ → ℕ
 faults_listened (listened.At n) faults = faults
 faults_listened listened.Failed faults = one_more faults

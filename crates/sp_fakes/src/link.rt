@@ -158,7 +158,7 @@ impl Link for MemLink {
         }
         match &self.script[self.at] {
             LinkStep::Bytes(b) => {
-                let n = copy_front(b.as_slice(), self.offset, buf);
+                let n = copy_prefix(b.as_slice(), self.offset, buf);
                 self.offset += n;
                 LinkRead::Got(n)
             }
@@ -251,7 +251,7 @@ fn skip(script: &[LinkStep], at: &mut usize, offset: &mut usize, written: u64)
 }
 
 // Copies the bytes behind the first ones, as many as there is room for.
-fn copy_front(bytes: &[u8], offset: usize, buf: &mut [u8]) -> usize
+fn copy_prefix(bytes: &[u8], offset: usize, buf: &mut [u8]) -> usize
     requires some { offset < length bytes.now }
     requires room { 0 < length buf.old }
     ensures size { result ≡ min (length (drop offset bytes.now)) (length buf.new) }

@@ -39,7 +39,7 @@ impl MemPace {
         self.turns
     }
 
-    /// Whether it has answered that no turn is left.
+    /// Whether it has returned that no turn is left.
     pub fn is_over(&self) -> bool
         ensures { result ≡ (pace_view self.now).is_over }
     {

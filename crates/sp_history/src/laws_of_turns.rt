@@ -63,8 +63,8 @@ pub fn time_goes_on()
 
 // ---- What no longer happens
 
-/// A pipe that came up and is down stays down, with no further frame, Out, Full, Quiet or Stall, no other name and no other
-/// cause.
+/// A pipe that came up and is down stays down, with no further frame, Out, Full, Quiet or Stall, no other name and no
+/// other cause.
 pub fn a_pipe_that_is_down_is_silent()
     ensures silent { (z : Setting) (past : List Entry) (turns : List (Turn Entry)) (p : ℕ) → LegalFrom z past turns → p ≤ ups past → has (up past) p ≡ false → SameOfPipe p past (past_from past turns) }
     ensures down { (z : Setting) (past : List Entry) (turns : List (Turn Entry)) (p : ℕ) → LegalFrom z past turns → p ≤ ups past → has (up past) p ≡ false → has (up (past_from past turns)) p ≡ false }
@@ -75,8 +75,8 @@ pub fn nothing_goes_out_by_itself()
     ensures { (z : Setting) (past : List Entry) (t : Turn Entry) → LegalTurn z past t → sending (pend past) ≡ [] → (requests z past).live ≡ [] → none_of is_begin t.entries ≡ true → none_of is_out t.entries ≡ true }
 {}
 
-/// Of a cooked surveyor: whether a survey is live on a context changes with the begin of a send, a tick, a context that is
-/// shut and the close alone; and where none is live, none is until a send is begun.
+/// Of a cooked surveyor: whether a survey is live on a context changes with the begin of a send, a tick, a context that
+/// is shut and the close alone; and where none is live, none is until a send is begun.
 pub fn a_survey_stays()
     ensures gone { (z : Setting) → has_requests z ≡ true → is_req z.role ≡ false → (c : ℕ) (entries past : List Entry) → none_of begins_send entries ≡ true → is_some (live_on z past c) ≡ false → is_some (live_on z (onto entries past) c) ≡ false }
     ensures stays { (z : Setting) → has_requests z ≡ true → is_req z.role ≡ false → (c : ℕ) (entries past : List Entry) → none_of moves_surveys entries ≡ true → is_some (live_on z (onto entries past) c) ≡ is_some (live_on z past c) }

@@ -1,4 +1,4 @@
--- What each answer does to the marks of a wire, and how they stand in what it shows.
+-- What each result does to the marks of a wire, and how they stand in what it shows.
 use Rattle.std.specs.Prelude.{◌+◌, ◌-◌, ◌^◌, ℕ, Bool, true, false, List, Option, min}
 use Rattle.sp_msg.specs.Views.{WireName, WireView}
 use Rattle.sp_msg.specs.declared.marks.WireMarks.{WireMarks}

@@ -18,7 +18,7 @@ abbrev pub with_text : Option (List (List ℕ)) → List ℕ → Option (List (L
 with_text None text = None
 with_text (Some texts) text = Some (texts ++ text ∷ [])
 
--- after every other answer than a message or NotYet only `shut` is lawful
+-- after every other result than a message or NotYet only `shut` is lawful
 abbrev pub AfterPull : WireIn → WireView → WireView → Type 0
 AfterPull (ins.Message m) old new = (m.header ≡ []) × (new ≡ record old { came = with_text old.came m.body })
 AfterPull ins.NotYet old new = new ≡ record old { idles = one_more old.idles }
@@ -62,7 +62,7 @@ pub record AfterFlush (result : WireFlush) (old new : WireView) : Type 0 where
 abbrev pub AfterShut : WireView → WireView → Type 0
 AfterShut old new = new ≡ record old { is_ready = false; is_open = false; drains = new.drains }
 
--- the bodies that were pulled, after this answer
+-- the bodies that were pulled, after this result
 abbrev pub came_after : WireIn → Option (List (List ℕ)) → Option (List (List ℕ))
 came_after (ins.Message m) came = with_text came m.body
 came_after ins.NotYet came = came
@@ -82,7 +82,7 @@ IsBare ins.Failed = Unit {0}
 IsBare ins.Refused = Unit {0}
 IsBare ins.NoMemory = Unit {0}
 
--- the answer on room, by how the writing ended and how many messages are not wholly written after it
+-- what `room` returns, by how the writing ended and how many messages are not wholly written after it
 abbrev pub RoomAfter : WireFlush → ℕ → Room → Type 0
 RoomAfter flushes.Empty waits room = room ≡ rooms.Yes
 RoomAfter flushes.NotYet waits room = ((waits < 16) × (room ≡ rooms.Yes)) ⊎ ((16 ≤ waits) × (room ≡ rooms.Full))

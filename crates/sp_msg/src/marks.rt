@@ -11,9 +11,9 @@ pub struct WireMarks {
     pub is_ready: bool,
     /// Calls other than `shut` are lawful.
     pub is_open: bool,
-    /// A pull answered that the peer has ended.
+    /// A pull returned that the peer has ended.
     pub ended: bool,
-    /// A pull answered that the next message is malformed.
+    /// A pull returned that the next message is malformed.
     pub malformed: bool,
     /// Returns `Failed`.
     pub faults: u64,
@@ -59,7 +59,7 @@ impl WireMarks {
         self.refusals = self.refusals.saturating_add(1);
     }
 
-    /// After a pull with this answer.
+    /// After a pull that returned this.
     pub fn pulled(&mut self, answer: &WireIn)
         ensures { self.new ≡ marks_pulled answer.now self.old }
     {
@@ -80,7 +80,7 @@ impl WireMarks {
         }
     }
 
-    /// After this answer on room.
+    /// After `room` returned this.
     pub fn roomed(&mut self, answer: Room)
         ensures { self.new ≡ marks_roomed answer self.old }
     {
@@ -100,7 +100,7 @@ impl WireMarks {
         self.is_ready = false;
     }
 
-    /// After a flush with this answer.
+    /// After a flush that returned this.
     pub fn flushed(&mut self, answer: WireFlush)
         ensures { self.new ≡ marks_flushed answer self.old }
     {

@@ -55,7 +55,7 @@ pub enum WireFlush {
     NoMemory,
 }
 
-/// A way to one peer, of whole messages in order. No call waits. After any answer but a message, `NotYet`,
+/// A way to one peer, of whole messages in order. No call waits. After any result but a message, `NotYet`,
 /// `Yes`, `Full` and `Empty` only `shut` is lawful; after `shut` only `shut`, and `flush` where the wire says
 /// that it still drains.
 pub trait Wire {

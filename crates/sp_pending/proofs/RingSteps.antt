@@ -57,10 +57,10 @@ differ-without (a ∷ fs) x gs d =
 
 -- ---- Lists of numbers
 
-at_front : (xs ys : List ℕ) (i : ℕ) → i < length xs → at (xs ++ ys) i ≡ at xs i
-at_front [] ys i l = absurd (omega (arith, l))
-at_front (x ∷ xs) ys zero l = refl
-at_front (x ∷ xs) ys (suc i) l = at_front xs ys i (omega (arith, l))
+at_prefix : (xs ys : List ℕ) (i : ℕ) → i < length xs → at (xs ++ ys) i ≡ at xs i
+at_prefix [] ys i l = absurd (omega (arith, l))
+at_prefix (x ∷ xs) ys zero l = refl
+at_prefix (x ∷ xs) ys (suc i) l = at_prefix xs ys i (omega (arith, l))
 
 at_last : (xs : List ℕ) (y : ℕ) → at (xs ++ y ∷ []) (length xs) ≡ y
 at_last [] y = refl
@@ -74,7 +74,7 @@ one_more n xs ys h e = record {
   where
     go : (i : ℕ) → i < n + 1 → (b : Bool) → (i == n) ≡ b → at (xs ++ n ∷ []) i ≡ i
     go i l true f = ap (at (xs ++ n ∷ [])) (same i n f ∙ sym h.count) ∙ at_last xs n ∙ sym (same i n f)
-    go i l false f = let less : i < length xs = grind (arith, nat_tests, h.count) in at_front xs (n ∷ []) i less ∙ h.each i (omega (arith, less, h.count))
+    go i l false f = let less : i < length xs = grind (arith, nat_tests, h.count) in at_prefix xs (n ∷ []) i less ∙ h.each i (omega (arith, less, h.count))
 
 -- ---- Paths
 

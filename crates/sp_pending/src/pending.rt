@@ -12,7 +12,7 @@ use sp_base::{Ctx, NoMemory, OpName};
 use std::alloc::Global;
 use std::marker::Model;
 
-/// An operation that was begun and has not ended.
+/// An operation (nng_aio(5)) that was begun and has not ended.
 #[derive(Clone, Copy)]
 pub struct PendingOperation {
     /// Its name.

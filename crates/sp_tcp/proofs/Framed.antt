@@ -3,7 +3,7 @@ use Rattle.std.proofs.Common.{◌≡◌, ◌<◌, ◌^◌, ◌++◌, ℕ, false,
 use Rattle.std.proofs.lemmas.List.{length-take, take-append-le, take-append-drop}
 use Rattle.sp_spec.specs.SpTcp.{frame, frames, text, shows, begins, IsOversize}
 use Rattle.sp_spec.specs.Outside.{Told, IsPrefix}
-use Rattle.sp_spec.proofs.Shows.{frames-cons, shows-front, length-frame}
+use Rattle.sp_spec.proofs.Shows.{frames-cons, shows-prefix, length-frame}
 use Rattle.sp_tcp.specs.Readings.{IsPart, IsTooLong}
 use Rattle.sp_tcp.specs.Outlets.{SentWithin}
 use Rattle.sp_tcp.specs.TcpWires.{number_in, taken_in, put_in, ReadsAs, WritesAs, TcpState, tcp_view, Holds, ShowsIn, WrittenIn, CutShort, Framed, AllShown, NextFits, NextTooLong}
@@ -17,8 +17,8 @@ shows_in t s lt r e =
     record {
       bodies = r.bodies;
       came = ap (taken_in t.max t.unread) e ∙ ap (λ (b : List (List ℕ)). Some b) (Framing.reads_taken t.max t.unread s lt r);
-      text_front = (t.unread, is);
-      front = subst (λ x. IsPrefix r.bodies (shows role t.max x)) (sym is) (shows-front role t.max r.bodies t.unread lt r.fit);
+      text_prefix = (t.unread, is);
+      prefix = subst (λ x. IsPrefix r.bodies (shows role t.max x)) (sym is) (shows-prefix role t.max r.bodies t.unread lt r.fit);
     }
 
 cut_short : (sent : ℕ) (w : List (List ℕ)) → SentWithin [] sent w → CutShort (take sent (frames w)) w

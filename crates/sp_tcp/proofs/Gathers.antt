@@ -180,8 +180,8 @@ within_none mark written old (m ∷ items) left e p = absurd (omega (arith, e))
 
 -- ---- a prefix of what is not written
 
-pub long_front : (mark : List ℕ) (items : List MessageView) (m : MessageView) (sent : ℕ) (rest : List ℕ) → items ≡ m ∷ drop 1 items → sent < head_of mark + length (wire_text m) → drop sent (marked mark (wire_text m)) ≡ rest → drop sent (marked_all mark (map wire_text items)) ≡ rest ++ marked_all mark (map wire_text (drop 1 items))
-long_front mark items m sent rest first lt e =
+pub long_prefix : (mark : List ℕ) (items : List MessageView) (m : MessageView) (sent : ℕ) (rest : List ℕ) → items ≡ m ∷ drop 1 items → sent < head_of mark + length (wire_text m) → drop sent (marked mark (wire_text m)) ≡ rest → drop sent (marked_all mark (map wire_text items)) ≡ rest ++ marked_all mark (map wire_text (drop 1 items))
+long_prefix mark items m sent rest first lt e =
     ap (λ (x : List MessageView). drop sent (marked_all mark (map wire_text x))) first
     ∙ ap (drop sent) (marked-cons mark (wire_text m) (map wire_text (drop 1 items)))
     ∙ drop-append-le sent (marked mark (wire_text m)) (marked_all mark (map wire_text (drop 1 items))) (omega (arith, lt, length-marked mark (wire_text m)))
@@ -196,8 +196,8 @@ long_drop s k lt = omega (arith, lt, length-drop k s)
 -- something is gathered
 pub gathers_some : (mark : List ℕ) (items : List MessageView) (m : MessageView) (sent most : ℕ) → items ≡ m ∷ drop 1 items → sent < head_of mark + length (wire_text m) → 0 < most → 0 < length (take most (drop sent (marked_all mark (map wire_text items))))
 gathers_some mark items m sent most first lt some =
-    let front = long_front mark items m sent (drop sent (marked mark (wire_text m))) first lt refl in
-    omega (arith, length-take most (drop sent (marked_all mark (map wire_text items))), ap length front, length-append (drop sent (marked mark (wire_text m))) (marked_all mark (map wire_text (drop 1 items))), long_drop (marked mark (wire_text m)) sent (omega (arith, lt, length-marked mark (wire_text m))), some)
+    let prefix = long_prefix mark items m sent (drop sent (marked mark (wire_text m))) first lt refl in
+    omega (arith, length-take most (drop sent (marked_all mark (map wire_text items))), ap length prefix, length-append (drop sent (marked mark (wire_text m))) (marked_all mark (map wire_text (drop 1 items))), long_drop (marked mark (wire_text m)) sent (omega (arith, lt, length-marked mark (wire_text m))), some)
 
 -- what is left of a frame behind its header
 long_frame : (m : MessageView) (sent : ℕ) → 8 + length m.header ≤ sent → drop sent (frame (wire_text m)) ≡ drop (sent - (8 + length m.header)) m.body

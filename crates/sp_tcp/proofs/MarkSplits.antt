@@ -6,7 +6,7 @@ use Rattle.sp_tcp.specs.declared.reader.Front.{Front}
 use Rattle.sp_tcp.specs.declared.reader.Front.TheVariants as f
 use Rattle.sp_tcp.specs.Readings.{FrontIs}
 use Rattle.sp_tcp.specs.Marked.{IsMarkedPart, IsMarkedBad, MarkedFrontIs}
-use Rattle.sp_tcp.proofs.FrontPieces.{part_other}
+use Rattle.sp_tcp.proofs.PrefixPieces.{part_other}
 use Rattle.sp_tcp.proofs.MarkedFrames.{marked-is}
 
 module _ (mark s : List ℕ) (n max : ℕ) (n_is : n ≡ min (length mark) (length s)) where
@@ -14,8 +14,8 @@ module _ (mark s : List ℕ) (n max : ℕ) (n_is : n ≡ min (length mark) (leng
   pub split_short : take n s ≡ take n mark → n < length mark → IsMarkedPart mark max s
   split_short same lt =
       let all : n ≡ length s = omega (arith, n_is, lt) in
-      let front : s ≡ take n mark = sym (take_all n s (omega (arith, all))) ∙ same in
-      inl (drop n mark, ap (λ t. t ++ drop n mark) front ∙ take-append-drop n mark, omega (arith, length-drop n mark, lt))
+      let prefix : s ≡ take n mark = sym (take_all n s (omega (arith, all))) ∙ same in
+      inl (drop n mark, ap (λ t. t ++ drop n mark) prefix ∙ take-append-drop n mark, omega (arith, length-drop n mark, lt))
 
   -- it differs from the mark
   pub split_wrong : ¬ (take n s ≡ take n mark) → IsMarkedBad mark max s

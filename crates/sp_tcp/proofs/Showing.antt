@@ -3,7 +3,7 @@ use Rattle.std.proofs.Common.{◌≡◌, ◌≤◌, ◌<◌, ◌+◌, ◌^◌, �
 use Rattle.std.proofs.lemmas.List.{drop_at}
 use Rattle.sp_spec.specs.Outside.{IsPrefix}
 use Rattle.sp_spec.specs.SpTcp.{hello, frame, frames, text, shows, Fit, size_of, IsOversize}
-use Rattle.sp_spec.proofs.Shows.{shows-front, shows-rest, begins-false, Fit-append, frames-append, frames-cons}
+use Rattle.sp_spec.proofs.Shows.{shows-prefix, shows-rest, begins-false, Fit-append, frames-append, frames-cons}
 use Rattle.sp_tcp.specs.declared.reader.Front.{Front}
 use Rattle.sp_tcp.specs.declared.reader.Front.TheVariants as f
 use Rattle.sp_tcp.specs.Readings.{FrontIs, ShownAs}
@@ -35,7 +35,7 @@ module _ (role max : ℕ) (bodies : List (List ℕ)) (s : List ℕ) (lt : max < 
 pub shown_as : (max : ℕ) (s : List ℕ) (front : Front) → max < 2 ^ 64 → FrontIs max s front → ShownAs max s front
 shown_as max s (f.Message body) lt is = λ role bodies fit.
     let whole : text role bodies ++ s ≡ text role (bodies ++ body.now ∷ []) ++ is.1.0 = ap (λ t. text role bodies ++ t) is.1.1 ∙ one_more role bodies body.now is.1.0 in
-    subst (λ t. IsPrefix (bodies ++ body.now ∷ []) (shows role max t)) (sym whole) (shows-front role max (bodies ++ body.now ∷ []) is.1.0 lt (Fit-append max bodies (body.now ∷ []) fit (is.0, tt)))
+    subst (λ t. IsPrefix (bodies ++ body.now ∷ []) (shows role max t)) (sym whole) (shows-prefix role max (bodies ++ body.now ∷ []) is.1.0 lt (Fit-append max bodies (body.now ∷ []) fit (is.0, tt)))
 shown_as max s f.Part lt is = λ role bodies fit.
     let none : (8 ≤ length s) × (size_of s ≤ max) × (8 + size_of s ≤ length s) → ⊥ = (λ p. elim is [ inl short ↦ omega (arith, short, p.0) | inr part ↦ omega (arith, part.2, p.2) ]) in
     let small : (8 ≤ length s) × (max < size_of s) → ⊥ = (λ p. elim is [ inl short ↦ omega (arith, short, p.0) | inr part ↦ omega (arith, part.1, p.1) ]) in

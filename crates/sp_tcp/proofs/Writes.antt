@@ -10,10 +10,10 @@ use Rattle.sp_msg.specs.Views.{MessageView, wire_text}
 use Rattle.sp_tcp.specs.Views.{OutletView}
 use Rattle.sp_msg.specs.Links.{WriteCounts}
 use Rattle.sp_tcp.specs.Marked.{marked, marked_all, IsMark}
-use Rattle.sp_tcp.specs.Outlets.{SentWithin, IsLongRest, Passed, WroteFront, Wrote, WrotePiece}
+use Rattle.sp_tcp.specs.Outlets.{SentWithin, IsLongRest, Passed, WrotePrefix, Wrote, WrotePiece}
 use Rattle.sp_tcp.proofs.Buffers.{take_apart}
 use Rattle.sp_tcp.proofs.Pulls.{grown-nil, grown-grown}
-use Rattle.sp_tcp.proofs.Gathers.{first_within, long_front}
+use Rattle.sp_tcp.proofs.Gathers.{first_within, long_prefix}
 use Rattle.sp_tcp.proofs.MarkedFrames.{marked-nil, marked-cons, marked-append, length-marked}
 
 pub went_none : (l : LinkView) → Went [] l l
@@ -89,33 +89,33 @@ writes_fall mark o p l m within within_p a some =
 -- ---- one write
 
 -- the counts of one write
-wrote_counts : (mark : List ℕ) (o : OutletView) (l m : LinkView) (result : LinkWrite) → (w : WroteFront mark result o l m) → WriteCounts l m
+wrote_counts : (mark : List ℕ) (o : OutletView) (l m : LinkView) (result : LinkWrite) → (w : WrotePrefix mark result o l m) → WriteCounts l m
 wrote_counts mark o l m result w = record { faults = w.wrote.faults; idles = w.wrote.idles; stalls = w.wrote.stalls; ended = w.wrote.ended }
 
 -- no more is written than there is
-pub write_fits : (mark : List ℕ) (o : OutletView) (l m : LinkView) (n : ℕ) → (w : WroteFront mark (writes.Took n) o l m) → (o.sent + n ≤ length (marked_all mark o.waiting)) × (o.sent + n < 2 ^ 64)
+pub write_fits : (mark : List ℕ) (o : OutletView) (l m : LinkView) (n : ℕ) → (w : WrotePrefix mark (writes.Took n) o l m) → (o.sent + n ≤ length (marked_all mark o.waiting)) × (o.sent + n < 2 ^ 64)
 write_fits mark o l m n w =
     let le = sent_le mark o.sent o.waiting w.within in
-    let long : length (marked_all mark o.waiting) - o.sent ≡ length w.piece + length w.front.0 = omega (arith, ap length w.front.1, length-drop o.sent (marked_all mark o.waiting), length-append w.piece w.front.0) in
+    let long : length (marked_all mark o.waiting) - o.sent ≡ length w.piece + length w.prefix.0 = omega (arith, ap length w.prefix.1, length-drop o.sent (marked_all mark o.waiting), length-append w.piece w.prefix.0) in
     (omega (arith, long, le, w.wrote.shows.1), omega (arith, w.few, w.wrote.shows.1))
 
-pub took : (mark : List ℕ) (o : OutletView) (l m : LinkView) (n : ℕ) (new : List (List ℕ)) (left : ℕ) → WroteFront mark (writes.Took n) o l m → Passed mark (o.sent + n) o.waiting new left → SentWithin mark left new → WrotePiece mark (writes.Took n) o (record { waiting = new; sent = left }) l m
+pub took : (mark : List ℕ) (o : OutletView) (l m : LinkView) (n : ℕ) (new : List (List ℕ)) (left : ℕ) → WrotePrefix mark (writes.Took n) o l m → Passed mark (o.sent + n) o.waiting new left → SentWithin mark left new → WrotePiece mark (writes.Took n) o (record { waiting = new; sent = left }) l m
 took mark o l m n new left w p within =
-    let front : take n w.piece ≡ take n (drop o.sent (marked_all mark o.waiting)) = sym (ap (take n) w.front.1 ∙ take-append-le n w.piece w.front.0 w.wrote.shows.1) in
+    let prefix : take n w.piece ≡ take n (drop o.sent (marked_all mark o.waiting)) = sym (ap (take n) w.prefix.1 ∙ take-append-le n w.piece w.prefix.0 w.wrote.shows.1) in
     let wrote : Wrote mark o (record { waiting = new; sent = left }) l m = record {
       gone = p.gone;
       piece = take n w.piece;
       left = p.is;
-      text = ap (λ t. take o.sent (marked_all mark o.waiting) ++ t) front ∙ sym (take_apart o.sent n (marked_all mark o.waiting)) ∙ p.text;
+      text = ap (λ t. take o.sent (marked_all mark o.waiting) ++ t) prefix ∙ sym (take_apart o.sent n (marked_all mark o.waiting)) ∙ p.text;
       went = w.wrote.shows.2;
       counts = wrote_counts mark o l m (writes.Took n) w;
     } in
     (within, (wrote, omega (arith, length-take n w.piece, w.wrote.shows.0, w.wrote.shows.1)))
 
-pub took_nothing : (mark : List ℕ) (o p : OutletView) (l m : LinkView) → p ≡ o → WroteFront mark writes.NotYet o l m → WrotePiece mark writes.NotYet o p l m
+pub took_nothing : (mark : List ℕ) (o p : OutletView) (l m : LinkView) → p ≡ o → WrotePrefix mark writes.NotYet o l m → WrotePiece mark writes.NotYet o p l m
 took_nothing mark o p l m e w = (e, w.wrote.shows.0, wrote_counts mark o l m writes.NotYet w, w.wrote.shows.1)
 
-pub took_failed : (mark : List ℕ) (o p : OutletView) (l m : LinkView) → p ≡ o → WroteFront mark writes.Failed o l m → WrotePiece mark writes.Failed o p l m
+pub took_failed : (mark : List ℕ) (o p : OutletView) (l m : LinkView) → p ≡ o → WrotePrefix mark writes.Failed o l m → WrotePiece mark writes.Failed o p l m
 took_failed mark o p l m e w = (e, w.wrote.shows.0, wrote_counts mark o l m writes.Failed w, w.wrote.shows.1)
 
 -- ---- what one write starts from
@@ -123,23 +123,23 @@ took_failed mark o p l m e w = (e, w.wrote.shows.0, wrote_counts mark o l m writ
 abbrev pub outlet_of : List MessageView → ℕ → OutletView
 outlet_of items sent = record { waiting = map wire_text items; sent = sent }
 
-pub wrote_long : (mark : List ℕ) (items : List MessageView) (m : MessageView) (sent size : ℕ) (rest : List ℕ) (result : LinkWrite) (l l2 : LinkView) → items ≡ m ∷ drop 1 items → SentWithin mark sent (map wire_text items) → size ≡ length m.header + length m.body → size < 2 ^ 63 → IsMark mark → IsLongRest mark m sent rest → 0 < length rest → AfterWrite result rest l l2 → WroteFront mark result (outlet_of items sent) l l2
+pub wrote_long : (mark : List ℕ) (items : List MessageView) (m : MessageView) (sent size : ℕ) (rest : List ℕ) (result : LinkWrite) (l l2 : LinkView) → items ≡ m ∷ drop 1 items → SentWithin mark sent (map wire_text items) → size ≡ length m.header + length m.body → size < 2 ^ 63 → IsMark mark → IsLongRest mark m sent rest → 0 < length rest → AfterWrite result rest l l2 → WrotePrefix mark result (outlet_of items sent) l l2
 wrote_long mark items m sent size rest result l l2 first within e lt is_mark long some wrote = record {
   piece = rest;
-  front = (marked_all mark (map wire_text (drop 1 items)), long_front mark items m sent rest first (first_within mark items m sent first within) (long some).0);
+  prefix = (marked_all mark (map wire_text (drop 1 items)), long_prefix mark items m sent rest first (first_within mark items m sent first within) (long some).0);
   few = omega (arith, is_mark, (long some).1, e, lt, length-append m.header m.body);
   within = within;
   wrote = wrote;
 }
 
-pub wrote_gathered : (mark : List ℕ) (items : List MessageView) (m : MessageView) (sent size most : ℕ) (buf : List ℕ) (result : LinkWrite) (l l2 : LinkView) → items ≡ m ∷ drop 1 items → SentWithin mark sent (map wire_text items) → size ≡ length m.header + length m.body → size < 2 ^ 63 → IsMark mark → most ≤ 65536 → buf ≡ take most (drop sent (marked_all mark (map wire_text items))) → AfterWrite result buf l l2 → WroteFront mark result (outlet_of items sent) l l2
+pub wrote_gathered : (mark : List ℕ) (items : List MessageView) (m : MessageView) (sent size most : ℕ) (buf : List ℕ) (result : LinkWrite) (l l2 : LinkView) → items ≡ m ∷ drop 1 items → SentWithin mark sent (map wire_text items) → size ≡ length m.header + length m.body → size < 2 ^ 63 → IsMark mark → most ≤ 65536 → buf ≡ take most (drop sent (marked_all mark (map wire_text items))) → AfterWrite result buf l l2 → WrotePrefix mark result (outlet_of items sent) l l2
 wrote_gathered mark items m sent size most buf result l l2 first within e lt is_mark few is wrote =
     let rest : List ℕ = drop sent (marked_all mark (map wire_text items)) in
     let whole : buf ++ drop most rest ≡ rest = ap (λ t. t ++ drop most rest) is ∙ take-append-drop most rest in
     let short : length buf ≤ most = omega (arith, ap length is, length-take most rest) in
     record {
       piece = buf;
-      front = (drop most rest, sym whole);
+      prefix = (drop most rest, sym whole);
       few = omega (arith, is_mark, short, few, first_within mark items m sent first within, e, lt, length-append m.header m.body);
       within = within;
       wrote = wrote;

@@ -28,9 +28,9 @@ pub record Passed (mark : List ℕ) (written : ℕ) (old new : List (List ℕ)) 
   pub text : take written (marked_all mark old) ≡ marked_all mark gone ++ take left (marked_all mark new)
 
 -- one write of a prefix of what is not written
-pub record WroteFront (mark : List ℕ) (result : LinkWrite) (o : OutletView) (link link' : LinkView) : Type 0 where
+pub record WrotePrefix (mark : List ℕ) (result : LinkWrite) (o : OutletView) (link link' : LinkView) : Type 0 where
   pub piece : List ℕ
-  pub front : IsPrefix piece (drop o.sent (marked_all mark o.waiting))
+  pub prefix : IsPrefix piece (drop o.sent (marked_all mark o.waiting))
   pub few : o.sent + length piece < 2 ^ 64
   pub within : SentWithin mark o.sent o.waiting
   pub wrote : AfterWrite result piece link link'

@@ -109,8 +109,8 @@ pub record Holds (t : TcpState) : Type 0 where
 pub record ShowsIn (v : TcpView) (s : List ℕ) : Type 0 where
   pub bodies : List (List ℕ)
   pub came : v.wire.came ≡ Some bodies
-  pub text_front : IsPrefix (text (number_in s) bodies) s
-  pub front : IsPrefix bodies (shows (number_in s) v.max s)
+  pub text_prefix : IsPrefix (text (number_in s) bodies) s
+  pub prefix : IsPrefix bodies (shows (number_in s) v.max s)
 
 -- at most a part of the first frame, and not all of it
 abbrev pub CutShort : List ℕ → List (List ℕ) → Type 0

@@ -20,8 +20,8 @@ pub enum Greeted {
     Bad,
 }
 
-/// The greetings of a link: the own one, and how far the peer's came. Contracts see the own role, all bytes that were
-/// fed, and whether it still waits for more; after `Peer` or `Bad` it takes no more.
+/// The greetings of a link (nng_tcp(7)): the own one, and how far the peer's came. Contracts see the own role, all
+/// bytes that were fed, and whether it still waits for more; after `Peer` or `Bad` it takes no more.
 #[derive(Debug, Drop)]
 pub struct Greeting {
     /// The own role.

@@ -5,7 +5,7 @@ ghost use Rattle.sp_spec.specs.SpTcp.{frame};
 ghost use Rattle.sp_tcp.specs.Marked.{marked, marked_all, head_of, IsMark};
 ghost use Rattle.sp_msg.specs.Views.{wire_text};
 ghost use Rattle.sp_tcp.specs.Stages.{added, gathered};
-ghost use Rattle.sp_tcp.specs.Outlets.{SentWithin, IsLongRest, Passed, WroteFront, WrotePiece, FlushedFrom};
+ghost use Rattle.sp_tcp.specs.Outlets.{SentWithin, IsLongRest, Passed, WrotePrefix, WrotePiece, FlushedFrom};
 
 use crate::stage::WriteStage;
 use sp_base::{Link, LinkWrite, NoMemory};
@@ -144,14 +144,14 @@ impl Outlet {
         self.waiting.push_back_reserved(m);
     }
 
-    // One write, from the front of what is not written.
-    fn write_front<L: Link>(&mut self, mark: &[u8], link: &mut L) -> LinkWrite
+    // One write, of a prefix of what is not written.
+    fn write_prefix<L: Link>(&mut self, mark: &[u8], link: &mut L) -> LinkWrite
         requires is_open { (L.seen link.old).is_open ≡ true }
         requires waiting { 0 < length self.old.waiting }
         requires few { IsMark mark.now }
         requires within { SentWithin mark.now self.old.sent self.old.waiting }
         ensures same { self.new ≡ self.old }
-        ensures wrote { WroteFront mark.now result self.old (L.seen link.old) (L.seen link.new) }
+        ensures wrote { WrotePrefix mark.now result self.old (L.seen link.old) (L.seen link.new) }
     {
         let Some(front) = self.waiting.front() else {
             unreachable!()
@@ -173,7 +173,7 @@ impl Outlet {
         requires within { SentWithin mark.now self.old.sent self.old.waiting }
         ensures { WrotePiece mark.now result self.old self.new (L.seen link.old) (L.seen link.new) }
     {
-        match self.write_front(mark, link) {
+        match self.write_prefix(mark, link) {
             LinkWrite::Took(n) => {
                 let written = self.sent + n;
                 self.sent = pass_frames(mark, &mut self.waiting, written);

@@ -15,8 +15,8 @@ use std::alloc::Global;
 use std::marker::Model;
 use std::sync::Wait;
 
-/// A wire over a link that is greeted (SP over TCP, nng_tcp(7)). It reads into one buffer, from which it takes message after
-/// message, and writes many small frames at once. `pull` alone takes memory.
+/// A wire over a link that is greeted (SP over TCP, nng_tcp(7)). It reads into one buffer, from which it takes message
+/// after message, and writes many small frames at once. `pull` alone takes memory.
 #[derive(Drop)]
 pub struct TcpWire<L: Link> {
     /// The link, greeted by both sides.
@@ -44,7 +44,7 @@ impl<L: Link> Model for TcpWire<L> {
     ghost invariant = { λ w. Holds (tcp_state (L.seen w.link) w.inlet w.outlet w.max w.spent.ticks w.marks) };
 }
 
-// The answer on room after the writing ended so, where so many messages are not wholly written.
+// What `room` returns after the writing ended so, where so many messages are not wholly written.
 fn room_after(flushed: WireFlush, waiting: usize) -> Room
     ensures { RoomAfter flushed waiting result }
 {

@@ -38,7 +38,7 @@ pub enum HeadFault {
     Accept,
 }
 
-/// What came of a head.
+/// What came of a head (RFC 6455 section 4).
 #[derive(Debug, Drop)]
 pub enum Head {
     /// The head isn't whole yet.

@@ -5,8 +5,8 @@ use Rattle.std.proofs.lemmas.List.Folds.{concat-append}
 use Rattle.std.proofs.lemmas.List.{take_all, take_at, take-append-drop, drop-drop, length-take, length-drop}
 
 -- what a read takes stands before what is left
-pub read_front : (fed buf piece : List ℕ) (at n : ℕ) → n ≤ length fed - at → piece ≡ take (at + n - at) (drop at fed) → drop at fed ≡ take n (piece ++ drop n buf) ++ drop (at + n) fed
-read_front fed buf piece at n fits is =
+pub read_prefix : (fed buf piece : List ℕ) (at n : ℕ) → n ≤ length fed - at → piece ≡ take (at + n - at) (drop at fed) → drop at fed ≡ take n (piece ++ drop n buf) ++ drop (at + n) fed
+read_prefix fed buf piece at n fits is =
     let k : at + n - at ≡ n = omega arith in
     let piece_is : piece ≡ take n (drop at fed) = is ∙ ap (λ (j : ℕ). take j (drop at fed)) k in
     let long : length piece ≡ n = omega (arith, ap length piece_is, length-take n (drop at fed), length-drop at fed, fits) in

@@ -15,7 +15,7 @@ use Rattle.websocket.specs.declared.protocol.frame.coding.Data.TheVariants as da
 use Rattle.websocket.specs.Frame.{encode_frame}
 use Rattle.websocket.specs.FrameHeader.{encode_header}
 use Rattle.websocket.specs.Connection.{whole_header}
-use Rattle.sp_ws.specs.Outlets.{passed, AreWithin, AreFrames, GaveFront, Gave, Wrote, WroteAll, Written, FlushAnswer, FlushedFrom}
+use Rattle.sp_ws.specs.Outlets.{passed, AreWithin, AreFrames, GaveOldest, Gave, Wrote, WroteAll, Written, FlushAnswer, FlushedFrom}
 use Rattle.sp_msg.specs.declared.wire.WireFlush.{WireFlush}
 use Rattle.sp_msg.specs.declared.wire.WireFlush.TheVariants as flushes
 use Rattle.sp_ws.specs.declared.frames.FrameOut.TheVariants as outs
@@ -155,7 +155,7 @@ piece_some : (role : Role) (piece body : List ℕ) → IsFrame role piece body �
 piece_some role piece body e = omega (arith, ap length e.is, frame_some e.mask body)
 
 -- one more was sent
-pub gave_more : (o o2 o3 : FrameOutletView) (f f2 f3 : FramesView) → Gave o o2 f f2 → GaveFront outs.Done o2 o3 f2 f3 → Gave o o3 f f3
+pub gave_more : (o o2 o3 : FrameOutletView) (f f2 f3 : FramesView) → Gave o o2 f f2 → GaveOldest outs.Done o2 o3 f2 f3 → Gave o o3 f f3
 gave_more o o2 o3 f f2 f3 g one =
     let s = one.3 in
     let body : List ℕ = one.0 in

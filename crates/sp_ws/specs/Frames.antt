@@ -79,7 +79,7 @@ Fails ins.Closed e is_empty = IsClosed e
 Fails ins.Broken e is_empty = (IsClosed e → ⊥) × (IsOutOfMemory e → ⊥) × (Waits e → is_empty ≡ true → ⊥) × (IsEnd e → is_empty ≡ true → ⊥)
 Fails ins.NoMemory e is_empty = IsOutside e ⊎ (IsEnd e × (is_empty ≡ true))
 
--- what a read's answer is called
+-- what a read's result is called
 abbrev pub Names : FrameIn → Result Message Error → Bool → Type 0
 Names answer (Ok (messages.Text s)) is_empty = answer ≡ ins.Text
 Names answer (Ok (messages.Binary s)) is_empty = IsCopied answer s
@@ -88,7 +88,7 @@ Names answer (Ok (messages.Pong s)) is_empty = ⊥
 Names answer (Ok (messages.Close frame)) is_empty = answer ≡ ins.Closed
 Names answer (Err e) is_empty = Fails answer e is_empty
 
--- the reads of one call: pings and pongs, and then the one that is answered; or out of memory
+-- the reads of one call: pings and pongs, and then the one that is returned; or out of memory
 pub record ReadsTo (answer : FrameIn) (old new : List (Result Message Error)) (is_empty : Bool) : Type 0 where
   pub passed : List (Result Message Error)
   pub are : All IsPassed passed
@@ -96,7 +96,7 @@ pub record ReadsTo (answer : FrameIn) (old new : List (Result Message Error)) (i
 
 -- ---- calls
 
--- the bodies that came, after this answer
+-- the bodies that came, after this result
 abbrev pub came_with : FrameIn → List (List ℕ) → List (List ℕ)
 came_with (ins.Binary b) came = came ++ b ∷ []
 came_with ins.Text came = came

@@ -33,10 +33,10 @@ AreFrames role at (body ∷ bodies) [] s = ⊥
 AreFrames role at (body ∷ bodies) (p ∷ ps) s = (frame : List ℕ) × (rest : List ℕ) × (s ≡ frame ++ rest) × IsFrame role frame body × (p ≡ at + length frame) × AreFrames role p bodies ps rest
 
 -- the oldest text in hand was given to the frames
-abbrev pub GaveFront : FrameOut → FrameOutletView → FrameOutletView → FramesView → FramesView → Type 0
-GaveFront outs.Done old new f f' = (body : List ℕ) × (old.held ≡ body ∷ new.held) × (new.ends ≡ old.ends ++ length f'.waiting ∷ []) × AfterSend outs.Done body f f'
-GaveFront outs.Refused old new f f' = ⊥
-GaveFront outs.NoMemory old new f f' = (new ≡ old) × (f' ≡ f)
+abbrev pub GaveOldest : FrameOut → FrameOutletView → FrameOutletView → FramesView → FramesView → Type 0
+GaveOldest outs.Done old new f f' = (body : List ℕ) × (old.held ≡ body ∷ new.held) × (new.ends ≡ old.ends ++ length f'.waiting ∷ []) × AfterSend outs.Done body f f'
+GaveOldest outs.Refused old new f f' = ⊥
+GaveOldest outs.NoMemory old new f f' = (new ≡ old) × (f' ≡ f)
 
 -- the texts that are gone from the hand were sent, each once and in order; nothing else of the frames changes
 pub record Gave (old new : FrameOutletView) (f f' : FramesView) : Type 0 where

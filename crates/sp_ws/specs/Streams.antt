@@ -64,7 +64,7 @@ IsNamed (Some answer) r empty = Names answer r empty
 abbrev pub is_dry : Socket Memory → Bool
 is_dry s = length (unread_in s.stream) == 0
 
--- the socket's read answered so, after messages that were passed over; or there was no end to these
+-- the socket's read returned that, after messages that were passed over; or there was no end to these
 abbrev pub ReadTo : FrameIn → Socket Memory → Socket Memory → Type 0
 ReadTo answer old new =
     ((count : ℕ) × (mid : Socket Memory) × Passed count old mid × ((r : Result Message Error) × Reads remaining_in mid new r × Names answer r (is_dry new)))

@@ -33,7 +33,7 @@ pub enum FrameOut {
     NoMemory,
 }
 
-/// The kind of the last answer of `next`.
+/// The kind of the last result of `next`.
 #[derive(Clone, Copy, Debug, PartialEq, Eq)]
 pub enum LastAnswer {
     /// None yet.
@@ -52,11 +52,11 @@ pub enum LastAnswer {
     NoMemory,
 }
 
-/// Messages of one peer in frames.
+/// Messages of one peer in frames (RFC 6455 section 5).
 pub trait Frames {
     /// What was handed over to the crate that frames, what was fed and isn't handed over, how much of what was handed
-    /// over isn't read, what waits for the link, the bodies that came and those that were sent, the last answer, the
-    /// counts of answers Refused and Broken, and what each read gave.
+    /// over isn't read, what waits for the link, the bodies that came and those that were sent, the last result, the
+    /// counts of results Refused and Broken, and what each read gave.
     ghost seen: { Self → FramesView };
 
     /// Takes bytes that came. Refused only when out of memory, and then nothing changes.

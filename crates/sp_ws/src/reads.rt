@@ -23,7 +23,7 @@ unsafe impl Send for ReadLog {}
 
 unsafe impl Sync for ReadLog {}
 
-/// The next read's answer.
+/// The next read's result.
 #[derive(Clone, Copy, Drop)]
 pub(crate) struct Given<'a> {
     pub answer: &'a Result<Message, Error>,

@@ -46,7 +46,7 @@ fn kind(answer: &FrameIn) -> LastAnswer
     }
 }
 
-// Notes the body that came with this answer.
+// Notes the body that came with this result.
 fn note(came: &mut Log, answer: &FrameIn)
     ensures { came.new.texts ≡ came_with answer.now came.old.texts }
 {

@@ -102,7 +102,7 @@ fn framed(alloc: Global, role: Role, seed: u64, b: &[u8]) -> Result<Vec<u8>, NoM
     }
 }
 
-// What a read's answer is called, if it isn't passed over.
+// What a read's result is called, if it isn't passed over.
 fn name(alloc: Global, answer: Result<Message, Error>, is_empty: bool) -> Option<FrameIn>
     ensures { IsNamed result answer is_empty }
 {

@@ -7,21 +7,21 @@ ghost use Rattle.sp_msg.specs.Wires.{AfterPull, AfterRoom, AfterPut, AfterFlush,
 ghost use Rattle.sp_msg.specs.Wires.{RoomAfter};
 ghost use Rattle.sp_ws.specs.Wires.{IsNewWire, Tied, WsPulled, WsWrote, RoomCause, FlushCause, Holds, ws_state, ws_view};
 
+use crate::counts_at_start::CountsAtStart;
 use crate::frames::Frames;
 use crate::inlet::{pull_from, read_room};
 use crate::outlet::{FrameOutlet, MOST_WAITING, flush_from};
 use crate::side::Side;
 use crate::socket::MemorySocket;
-use crate::spent::CountsAtStart;
 use sp_base::{Link, NoMemory};
 use sp_msg::{Message, Room, Wire, WireFlush, WireIn, WireMarks};
 use std::alloc::Global;
 use std::marker::Model;
 use std::sync::Wait;
 
-/// A wire over a link whose WebSocket is open (nng_ws(7)): each message, header then body, is one binary message (RFC 6455 sections
-/// 5.6 and 6). At most 16 messages wait. After any answer but a message, `NotYet`, `Yes`, `Full` and `Empty` only `shut`
-/// is lawful.
+/// A wire over a link whose WebSocket is open (nng_ws(7)): each message, header then body, is one binary message (RFC
+/// 6455 sections 5.6 and 6). At most 16 messages wait. After any result but a message, `NotYet`, `Yes`, `Full` and
+/// `Empty` only `shut` is lawful.
 #[derive(Drop)]
 pub struct WsWire<L: Link> {
     /// Where memory for messages is taken.
@@ -53,7 +53,7 @@ impl<L: Link> Model for WsWire<L> {
     ghost invariant = { λ w. Holds (ws_state (L.seen w.link) w.frames w.outlet w.lost w.max w.spent.ticks w.marks) × (0 < length w.room.items) };
 }
 
-// The answer on room after the writing ended so, where so many messages are not wholly written.
+// What `room` returns after the writing ended so, where so many messages are not wholly written.
 fn room_after(flushed: WireFlush, waiting: usize) -> Room
     ensures { RoomAfter flushed waiting result }
 {

@@ -28,9 +28,9 @@ module _ {A : Type 0} where
   nil_or x (z ∷ zs) ys e = cc
 
   -- an element of two lists in a row stands in the first or in the second
-  pub stands_in : (xs ys front : List A) (t : A) (rest : List A) → xs ++ ys ≡ front ++ t ∷ rest
-      → ((more : List A) × (xs ≡ front ++ t ∷ more)) ⊎ ((less : List A) × (front ≡ xs ++ less) × (ys ≡ less ++ t ∷ rest))
-  stands_in [] ys front t rest e = inr (front, refl, e)
+  pub stands_in : (xs ys prefix : List A) (t : A) (rest : List A) → xs ++ ys ≡ prefix ++ t ∷ rest
+      → ((more : List A) × (xs ≡ prefix ++ t ∷ more)) ⊎ ((less : List A) × (prefix ≡ xs ++ less) × (ys ≡ less ++ t ∷ rest))
+  stands_in [] ys prefix t rest e = inr (prefix, refl, e)
   stands_in (x ∷ xs) ys [] t rest e = let f : x ≡ t = cc in inl (xs, ap (λ (z : A). z ∷ xs) f)
   stands_in (x ∷ xs) ys (z ∷ zs) t rest e = let f : x ≡ z = cc in let g : xs ++ ys ≡ zs ++ t ∷ rest = cc in
       ⊎_elim
@@ -50,12 +50,12 @@ module _ {E : Type 0} where
   turns_split n xs ys = filter-append (λ (t : Turn E). t.number == n) xs ys
 
   -- where there are no turns of a number, none of them has it
-  pub none_there : (n : ℕ) (past front rest : List (Turn E)) (t : Turn E) → turns_of n past ≡ [] → past ≡ front ++ t ∷ rest → t.number ≡ n → ⊥
-  none_there n past front rest t none is e =
-      let all : turns_of n (front ++ t ∷ rest) ≡ [] = sym (ap (turns_of n) is) ∙ none in
-      let front_is = turns_split n front (t ∷ rest) in
+  pub none_there : (n : ℕ) (past prefix rest : List (Turn E)) (t : Turn E) → turns_of n past ≡ [] → past ≡ prefix ++ t ∷ rest → t.number ≡ n → ⊥
+  none_there n past prefix rest t none is e =
+      let all : turns_of n (prefix ++ t ∷ rest) ≡ [] = sym (ap (turns_of n) is) ∙ none in
+      let prefix_is = turns_split n prefix (t ∷ rest) in
       let here : turns_of n (t ∷ rest) ≡ t ∷ turns_of n rest = ap (λ (b : Bool). cond b (t ∷ turns_of n rest) (turns_of n rest)) (eq-eqb t.number n e) in
-      nil_or t (turns_of n front) (turns_of n rest) (ap (λ (l : List (Turn E)). turns_of n front ++ l) (sym here) ∙ (sym front_is ∙ all))
+      nil_or t (turns_of n prefix) (turns_of n rest) (ap (λ (l : List (Turn E)). turns_of n prefix ++ l) (sym here) ∙ (sym prefix_is ∙ all))
 
   -- a caller's turns, and one more
   turns_more : (n : ℕ) (past between : List (Turn E)) (t : Turn E) → turns_of n between ≡ [] → t.number ≡ n → turns_of n (past ++ (between ++ t ∷ [])) ≡ turns_of n past ++ t ∷ []
@@ -66,17 +66,17 @@ module _ {E : Type 0} where
 
   answered_more : (answers : ℕ → List (Turn E) → Turn E → Type 0) (n k : ℕ) (before past between : List (Turn E)) (t : Turn E) → AnswersInOrder answers n before past → length (turns_of n past) ≡ k → turns_of n between ≡ []
       → answers k (before ++ (past ++ between)) t → AnswersInOrder answers n before (past ++ (between ++ t ∷ []))
-  answered_more answers n k before past between t so_far turns none new front u rest is e = ⊎_elim
-      (λ (h : (more : List (Turn E)) × (past ≡ front ++ u ∷ more)). so_far front u h.0 h.1 e)
-      (λ (h : (less : List (Turn E)) × (front ≡ past ++ less) × (between ++ t ∷ [] ≡ less ++ u ∷ rest)). ⊎_elim
+  answered_more answers n k before past between t so_far turns none new prefix u rest is e = ⊎_elim
+      (λ (h : (more : List (Turn E)) × (past ≡ prefix ++ u ∷ more)). so_far prefix u h.0 h.1 e)
+      (λ (h : (less : List (Turn E)) × (prefix ≡ past ++ less) × (between ++ t ∷ [] ≡ less ++ u ∷ rest)). ⊎_elim
       (λ (g : (more : List (Turn E)) × (between ≡ h.0 ++ u ∷ more)). absurd (none_there n between h.0 g.0 u none g.1 e))
       (λ (g : (less : List (Turn E)) × (h.0 ≡ between ++ less) × (t ∷ [] ≡ less ++ u ∷ rest)).
       let last = only_one g.0 rest t u g.2 in
-      let whole : front ≡ past ++ between = h.1 ∙ ap (λ (l : List (Turn E)). past ++ l) (g.1 ∙ (ap (λ (l : List (Turn E)). between ++ l) last.0 ∙ append-nil between)) in
-      let count : length (turns_of n front) ≡ k = ap (λ (l : List (Turn E)). length (turns_of n l)) whole ∙ (ap length (turns_same n past between none) ∙ turns) in
+      let whole : prefix ≡ past ++ between = h.1 ∙ ap (λ (l : List (Turn E)). past ++ l) (g.1 ∙ (ap (λ (l : List (Turn E)). between ++ l) last.0 ∙ append-nil between)) in
+      let count : length (turns_of n prefix) ≡ k = ap (λ (l : List (Turn E)). length (turns_of n l)) whole ∙ (ap length (turns_same n past between none) ∙ turns) in
       subst (λ (z : ℕ × List (Turn E) × Turn E). answers z.0 (before ++ z.1) z.2) (λ i. (sym count i, sym whole i, last.1 i)) new)
       (stands_in between (t ∷ []) h.0 u rest h.2))
-      (stands_in past (between ++ t ∷ []) front u rest is)
+      (stands_in past (between ++ t ∷ []) prefix u rest is)
 
 module _ {E L : Type 0} where
   pub none_yet : (answers : ℕ → List (Turn E) → Turn E → Type 0) (lock : TableId) (p : TurnPassView E L) → IsReady lock p → Acted answers lock p 0 p
@@ -87,7 +87,7 @@ module _ {E L : Type 0} where
     seen = sym (append-nil p.seen);
     mine = sym (append-nil p.mine);
     turns = refl;
-    answered = λ front t rest is _. absurd (nil_or t front rest (sym is));
+    answered = λ prefix t rest is _. absurd (nil_or t prefix rest (sym is));
   }
 
   pub one_more : (answers : ℕ → List (Turn E) → Turn E → Type 0) (lock : TableId) (k : ℕ) (p q r : TurnPassView E L) (past : List (Turn E)) (t : Turn E) → Acted answers lock p k q → IsReady lock r → IsSameCaller q r → OwnTurn q past t r → answers k past t
@@ -115,10 +115,10 @@ module _ {E L : Type 0} where
       let mine : turns_of k a.past ≡ turns_of k past = sym a.mine ∙ (fits.1 ∙ ap (λ (z : ℕ). turns_of z past) number) in
       let none : turns_of k rest ≡ [] = nothing_more (turns_of k a.past) (turns_of k rest) (mine ∙ (ap (turns_of k) whole ∙ turns_split k a.past rest)) in (
         ap length (sym mine) ∙ a.turns,
-        λ front t after is e. ⊎_elim
-            (λ (h : (more : List (Turn E)) × (a.past ≡ front ++ t ∷ more)). a.answered front t h.0 h.1 e)
-            (λ (h : (less : List (Turn E)) × (front ≡ a.past ++ less) × (rest ≡ less ++ t ∷ after)). absurd (none_there k rest h.0 after t none h.2 e))
-            (stands_in a.past rest front t after (sym whole ∙ is)),
+        λ prefix t after is e. ⊎_elim
+            (λ (h : (more : List (Turn E)) × (a.past ≡ prefix ++ t ∷ more)). a.answered prefix t h.0 h.1 e)
+            (λ (h : (less : List (Turn E)) × (prefix ≡ a.past ++ less) × (rest ≡ less ++ t ∷ after)). absurd (none_there k rest h.0 after t none h.2 e))
+            (stands_in a.past rest prefix t after (sym whole ∙ is)),
       )
 
   -- the history has as many turns of a new pass as it acted, and they answer in order
@@ -134,20 +134,20 @@ module _ {E : Type 0} where
 
   -- every turn answers
   abbrev pub AllAnswer : (ℕ → List (Turn E) → Turn E → Type 0) → List (Turn E) → Type 0
-  AllAnswer answers past = (front : List (Turn E)) (t : Turn E) (rest : List (Turn E)) → past ≡ front ++ t ∷ rest → answers (length (turns_of t.number front)) front t
+  AllAnswer answers past = (prefix : List (Turn E)) (t : Turn E) (rest : List (Turn E)) → past ≡ prefix ++ t ∷ rest → answers (length (turns_of t.number prefix)) prefix t
 
-  by_there : (callers : ℕ) (past front rest : List (Turn E)) (t : Turn E) → IsByCallers callers past → past ≡ front ++ t ∷ rest → (1 ≤ t.number) × (t.number ≤ callers)
-  by_there callers [] front rest t all is = absurd (nil_or t front rest (sym is))
+  by_there : (callers : ℕ) (past prefix rest : List (Turn E)) (t : Turn E) → IsByCallers callers past → past ≡ prefix ++ t ∷ rest → (1 ≤ t.number) × (t.number ≤ callers)
+  by_there callers [] prefix rest t all is = absurd (nil_or t prefix rest (sym is))
   by_there callers (x ∷ xs) [] rest t all is = let e : x ≡ t = cc in subst (λ (z : Turn E). (1 ≤ z.number) × (z.number ≤ callers)) e (All-head (λ (z : Turn E). (1 ≤ z.number) × (z.number ≤ callers)) x xs all)
   by_there callers (x ∷ xs) (z ∷ zs) rest t all is = let e : xs ≡ zs ++ t ∷ rest = cc in by_there callers xs zs rest t (All-tail (λ (z : Turn E). (1 ≤ z.number) × (z.number ≤ callers)) x xs all) e
 
-  answer_at : (answers : ℕ → List (Turn E) → Turn E → Type 0) (k : ℕ) (past front rest : List (Turn E)) (t : Turn E) → AnswersInOrder answers k [] past → past ≡ front ++ t ∷ rest → t.number ≡ k → answers (length (turns_of t.number front)) front t
-  answer_at answers k past front rest t all is e = subst (λ (z : ℕ). answers (length (turns_of z front)) front t) (sym e) (all front t rest is e)
+  answer_at : (answers : ℕ → List (Turn E) → Turn E → Type 0) (k : ℕ) (past prefix rest : List (Turn E)) (t : Turn E) → AnswersInOrder answers k [] past → past ≡ prefix ++ t ∷ rest → t.number ≡ k → answers (length (turns_of t.number prefix)) prefix t
+  answer_at answers k past prefix rest t all is e = subst (λ (z : ℕ). answers (length (turns_of z prefix)) prefix t) (sym e) (all prefix t rest is e)
 
   pub both_answer : (answers : ℕ → List (Turn E) → Turn E → Type 0) (past : List (Turn E)) → IsByCallers 2 past → AnswersInOrder answers 1 [] past → AnswersInOrder answers 2 [] past → AllAnswer answers past
-  both_answer answers past by first second front t rest is = let known = by_there 2 past front rest t by is in
-      ⊎_elim (answer_at answers 1 past front rest t first is) (answer_at answers 2 past front rest t second is) (one_or_two t.number known.0 known.1)
+  both_answer answers past by first second prefix t rest is = let known = by_there 2 past prefix rest t by is in
+      ⊎_elim (answer_at answers 1 past prefix rest t first is) (answer_at answers 2 past prefix rest t second is) (one_or_two t.number known.0 known.1)
 
   pub three_answer : (answers : ℕ → List (Turn E) → Turn E → Type 0) (past : List (Turn E)) → IsByCallers 3 past → AnswersInOrder answers 1 [] past → AnswersInOrder answers 2 [] past → AnswersInOrder answers 3 [] past → AllAnswer answers past
-  three_answer answers past by first second third front t rest is = let known = by_there 3 past front rest t by is in
-      ⊎_elim (answer_at answers 1 past front rest t first is) (⊎_elim (answer_at answers 2 past front rest t second is) (answer_at answers 3 past front rest t third is)) (one_to_three t.number known.0 known.1)
+  three_answer answers past by first second third prefix t rest is = let known = by_there 3 past prefix rest t by is in
+      ⊎_elim (answer_at answers 1 past prefix rest t first is) (⊎_elim (answer_at answers 2 past prefix rest t second is) (answer_at answers 3 past prefix rest t third is)) (one_to_three t.number known.0 known.1)

@@ -38,24 +38,24 @@ counted-push before (x ∷ xs) t = let here : Write = record { by = x.number; va
 writes_of-push : (past : List (Turn Written)) (t : Turn Written) → writes_of (past ++ t ∷ []) ≡ writes_of past ++ map (λ (w : Written). record { by = t.number; value = w.0 }) t.entries
 writes_of-push past t = let here : List Write = map (λ (w : Written). record { by = t.number; value = w.0 }) t.entries in writes_of-append past (t ∷ []) ∙ ap (λ (l : List Write). writes_of past ++ l) (append-nil here)
 
-step : (room : ℕ) (front : List (Turn Written)) (t : Turn Written) (reply : Option ℕ) → Replies room (length (turns_of t.number front)) reply front t → writes_of front ≡ take room (counted [] front) → writes_of (front ++ t ∷ []) ≡ take room (counted [] (front ++ t ∷ []))
-step room front t None r so_far = let w : Write = record { by = t.number; value = length (turns_of t.number front) } in
-    let full : length (take room (counted [] front)) ≡ room = ap length (sym so_far) ∙ r.0 in
+step : (room : ℕ) (prefix : List (Turn Written)) (t : Turn Written) (reply : Option ℕ) → Replies room (length (turns_of t.number prefix)) reply prefix t → writes_of prefix ≡ take room (counted [] prefix) → writes_of (prefix ++ t ∷ []) ≡ take room (counted [] (prefix ++ t ∷ []))
+step room prefix t None r so_far = let w : Write = record { by = t.number; value = length (turns_of t.number prefix) } in
+    let full : length (take room (counted [] prefix)) ≡ room = ap length (sym so_far) ∙ r.0 in
     let none : map (λ (w : Written). record { by = t.number; value = w.0 }) t.entries ≡ [] = ap (map (λ (w : Written). record { by = t.number; value = w.0 })) r.1 in
-    writes_of-push front t ∙ (ap (λ (l : List Write). writes_of front ++ l) none ∙ (append-nil (writes_of front) ∙ (so_far ∙ (sym (take_full room (counted [] front) w full) ∙ ap (take room) (sym (counted-push [] front t))))))
-step room front t (Some before) r so_far = let w : Write = record { by = t.number; value = length (turns_of t.number front) } in
-    let low : length (take room (counted [] front)) < room = subst (λ (l : List Write). length l < room) so_far r.0 in
+    writes_of-push prefix t ∙ (ap (λ (l : List Write). writes_of prefix ++ l) none ∙ (append-nil (writes_of prefix) ∙ (so_far ∙ (sym (take_full room (counted [] prefix) w full) ∙ ap (take room) (sym (counted-push [] prefix t))))))
+step room prefix t (Some before) r so_far = let w : Write = record { by = t.number; value = length (turns_of t.number prefix) } in
+    let low : length (take room (counted [] prefix)) < room = subst (λ (l : List Write). length l < room) so_far r.0 in
     let one : map (λ (w : Written). record { by = t.number; value = w.0 }) t.entries ≡ w ∷ [] = ap (map (λ (w : Written). record { by = t.number; value = w.0 })) r.2 in
-    writes_of-push front t ∙ (ap (λ (l : List Write). writes_of front ++ l) one ∙ (ap (λ (l : List Write). l ++ w ∷ []) so_far ∙ (sym (take_more room (counted [] front) w low) ∙ ap (take room) (sym (counted-push [] front t)))))
+    writes_of-push prefix t ∙ (ap (λ (l : List Write). writes_of prefix ++ l) one ∙ (ap (λ (l : List Write). l ++ w ∷ []) so_far ∙ (sym (take_more room (counted [] prefix) w low) ∙ ap (take room) (sym (counted-push [] prefix t)))))
 
-follow : (room : ℕ) (past front rest : List (Turn Written)) → past ≡ front ++ rest → AllAnswer (λ value before t. (reply : Option ℕ) × Replies room value reply before t) past → writes_of front ≡ take room (counted [] front) → writes_of past ≡ take room (counted [] past)
-follow room past front [] is all so_far = let same : past ≡ front = is ∙ append-nil front in subst (λ (l : List (Turn Written)). writes_of l ≡ take room (counted [] l)) (sym same) so_far
-follow room past front (t ∷ ts) is all so_far = let r = all front t ts is in follow room past (front ++ t ∷ []) ts (is ∙ sym (append_assoc front (t ∷ []) ts)) all (step room front t r.0 r.1 so_far)
+follow : (room : ℕ) (past prefix rest : List (Turn Written)) → past ≡ prefix ++ rest → AllAnswer (λ value before t. (reply : Option ℕ) × Replies room value reply before t) past → writes_of prefix ≡ take room (counted [] prefix) → writes_of past ≡ take room (counted [] past)
+follow room past prefix [] is all so_far = let same : past ≡ prefix = is ∙ append-nil prefix in subst (λ (l : List (Turn Written)). writes_of l ≡ take room (counted [] l)) (sym same) so_far
+follow room past prefix (t ∷ ts) is all so_far = let r = all prefix t ts is in follow room past (prefix ++ t ∷ []) ts (is ∙ sym (append_assoc prefix (t ∷ []) ts)) all (step room prefix t r.0 r.1 so_far)
 
 -- where every turn answers, the log is what the turns write in their order, as far as the room goes
 pub log_of : (setting : MachineLabel) (label : Option MachineLabel) (past : List (Turn Written)) → label ≡ Some setting → AllAnswer (RepliesTo Replies label) past → writes_of past ≡ take setting.room (counted [] past)
 log_of setting label past is all = follow setting.room past [] past refl
-    (λ front t rest e. let r = all front t rest e in let same : r.0 ≡ setting = some_same r.0 setting (sym r.1 ∙ is) in (r.2, subst (λ (z : MachineLabel). Replies z.room (length (turns_of t.number front)) r.2 front t) same r.3))
+    (λ prefix t rest e. let r = all prefix t rest e in let same : r.0 ≡ setting = some_same r.0 setting (sym r.1 ∙ is) in (r.2, subst (λ (z : MachineLabel). Replies z.room (length (turns_of t.number prefix)) r.2 prefix t) same r.3))
     (sym (take_none setting.room))
   where
     or_else : MachineLabel → Option MachineLabel → MachineLabel
@@ -82,9 +82,9 @@ whole_log lock lock' z label times past log p q p' q' p'' q'' is by new acted fi
       third = third.0;
     }
 
-added : (past front rest : List (Turn Added)) → past ≡ front ++ rest → AllAnswer (λ _. Adds 1) past → total front ≡ min (length front) (2 ^ 64 - 1) → total past ≡ min (length past) (2 ^ 64 - 1)
-added past front [] is all so_far = let same : past ≡ front = is ∙ append-nil front in subst (λ (l : List (Turn Added)). total l ≡ min (length l) (2 ^ 64 - 1)) (sym same) so_far
-added past front (t ∷ ts) is all so_far = let more = all front t ts is in let longer = length-append front (t ∷ []) in added past (front ++ t ∷ []) ts (is ∙ sym (append_assoc front (t ∷ []) ts)) all (omega arith)
+added : (past prefix rest : List (Turn Added)) → past ≡ prefix ++ rest → AllAnswer (λ _. Adds 1) past → total prefix ≡ min (length prefix) (2 ^ 64 - 1) → total past ≡ min (length past) (2 ^ 64 - 1)
+added past prefix [] is all so_far = let same : past ≡ prefix = is ∙ append-nil prefix in subst (λ (l : List (Turn Added)). total l ≡ min (length l) (2 ^ 64 - 1)) (sym same) so_far
+added past prefix (t ∷ ts) is all so_far = let more = all prefix t ts is in let longer = length-append prefix (t ∷ []) in added past (prefix ++ t ∷ []) ts (is ∙ sym (append_assoc prefix (t ∷ []) ts)) all (omega arith)
 
 -- where every turn adds 1, the sum is the number of turns, up to the greatest count
 pub count_of : (past : List (Turn Added)) → AllAnswer (λ _. Adds 1) past → total past ≡ min (length past) (2 ^ 64 - 1)

@@ -13,7 +13,7 @@ module _ {E : Type 0} where
 
   -- each turn of this number in the part of the history behind `before` answers over all that stood before it, the first to the value 0, the next to 1, and so on
   abbrev pub AnswersInOrder : (ℕ → List (Turn E) → Turn E → Type 0) → ℕ → List (Turn E) → List (Turn E) → Type 0
-  AnswersInOrder answers n before past = (front : List (Turn E)) (t : Turn E) (rest : List (Turn E)) → past ≡ front ++ t ∷ rest → t.number ≡ n → answers (length (turns_of n front)) (before ++ front) t
+  AnswersInOrder answers n before past = (prefix : List (Turn E)) (t : Turn E) (rest : List (Turn E)) → past ≡ prefix ++ t ∷ rest → t.number ≡ n → answers (length (turns_of n prefix)) (before ++ prefix) t
 
   module _ {L : Type 0} where
     -- the caller has taken so many turns, one for each value from 0 on, and is ready again

@@ -15,7 +15,7 @@ abbrev pub value_after : ℕ → List Write → ℕ
 value_after value [] = value
 value_after value (w ∷ ws) = value_after w.value ws
 
--- a register answers the value before where it has room for a write; else it writes nothing
+-- a register returns the value before where it has room for a write; else it writes nothing
 abbrev pub Replies : ℕ → ℕ → Option ℕ → List (Turn Written) → Turn Written → Type 0
 Replies room value reply past t = MatchOption reply
     ((length (writes_of past) ≡ room) × (t.entries ≡ []))

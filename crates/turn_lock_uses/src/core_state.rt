@@ -27,7 +27,7 @@ pub trait Machine {
     // What no call changes.
     ghost room: { Self → ℕ };
 
-    // Of the room, the value, the answer, the history before and the turn.
+    // Of the room, the value, the result, the history before and the turn.
     ghost replies: { ℕ → ℕ → Option ℕ → List (Turn Self.Entry) → Turn Self.Entry → Type 0 };
 
     /// One turn of the caller's. It may be one with no entries.
@@ -54,7 +54,7 @@ impl<M: Machine> Stands for CoreState<M> {
     ghost label = { λ c. record { room = M.room c.machine; words = c.words.table_id } };
 }
 
-/// Takes one turn. What was seen grows by turns of others and by one turn of the caller's own, and the answer is one
+/// Takes one turn. What was seen grows by turns of others and by one turn of the caller's own, and the result is one
 /// over these.
 pub fn act<M: Machine, R: Wait>(
     rt: &R,

@@ -17,9 +17,9 @@ name_all-requires c =
 pub invariant_of-self : goal.invariant_of-self
 invariant_of-self c =
     let s : Schedule = record { slots = c.self.inside.slots; entries = c.self.inside.entries.items } in
-    let left : c.drop_front.new.entries.items ≡ later_than c.args.now s.entries = search rules in (
+    let left : c.drop_prefix.new.entries.items ≡ later_than c.args.now s.entries = search rules in (
       subst (λ (es : List Deadline). IsSchedule record s { entries = es }) (sym left) (schedule_filter s _ c.self.invariant.0),
-      omega (arith, c.drop_front.ensures.room, c.self.invariant.1),
+      omega (arith, c.drop_prefix.ensures.room, c.self.invariant.1),
       c.self.invariant.2,
       subst (λ (es : List Deadline). AreTimed c.self.inside.times.items es) (sym left) (Each-filter _ _ s.entries c.self.invariant.3),
     )
@@ -32,5 +32,5 @@ returns-clause-order c =
 pub returns-clause-schedule : goal.returns-clause-schedule
 returns-clause-schedule c =
     let s : Schedule = record { slots = c.self.inside.slots; entries = c.self.inside.entries.items } in
-    let left : c.drop_front.new.entries.items ≡ later_than c.args.now s.entries = search rules in
+    let left : c.drop_prefix.new.entries.items ≡ later_than c.args.now s.entries = search rules in
     subst (λ (es : List Deadline). IsSchedule record s { entries = es }) (sym left) (schedule_filter s _ c.self.invariant.0)

@@ -37,8 +37,8 @@ returns-then-self-clause-by c = record {
   writes = refl;
 }
 
-pub copy_front-n-requires-clause-some : goal.copy_front-n-requires-clause-some
-copy_front-n-requires-clause-some c =
+pub copy_prefix-n-requires-clause-some : goal.copy_prefix-n-requires-clause-some
+copy_prefix-n-requires-clause-some c =
     let within : c.skip.new.at < length c.args.self.now.script.items = search rules in
     let at_bytes = stands c.args.self.now.script.items c.skip.new.at c.index.result.now (steps.Bytes c.in-Bytes.b) within c.index.ensures c.in-Bytes.is in
     let left = left_bytes c.args.self.now.script.items c.skip.new.at c.skip.new.offset c.len-written.result c.in-Bytes.b at_bytes (rw c.deref.ensures.value at c.skip.ensures.left) in
@@ -52,17 +52,17 @@ invariant_of-self-in-End c =
 pub returns-in-Bytes-clause-by : goal.returns-in-Bytes-clause-by
 returns-in-Bytes-clause-by c =
     let script = c.args.self.now.script.items in
-    let buf = c.copy_front-n.new.buf in
+    let buf = c.copy_prefix-n.new.buf in
     let within : c.skip.new.at < length script = search rules in
     let at_bytes = stands script c.skip.new.at c.index.result.now (steps.Bytes c.in-Bytes.b) within c.index.ensures c.in-Bytes.is in
     let left = left_bytes script c.skip.new.at c.skip.new.offset c.len-written.result c.in-Bytes.b at_bytes (rw c.deref.ensures.value at c.skip.ensures.left) in
-    let size : c.copy_front-n.result ≡ min (length (drop c.skip.new.offset c.in-Bytes.b)) (length buf) = c.copy_front-n.ensures.size ∙ ap (λ t. min (length (drop c.skip.new.offset t)) (length buf)) c.as_slice.ensures in
-    let same : take c.copy_front-n.result buf ≡ take c.copy_front-n.result (drop c.skip.new.offset c.in-Bytes.b) = c.copy_front-n.ensures.same ∙ ap (λ t. take c.copy_front-n.result (drop c.skip.new.offset t)) c.as_slice.ensures in
-    let next = gives_bytes c.len-written.result script c.skip.new.at c.skip.new.offset c.copy_front-n.result c.in-Bytes.b buf at_bytes left size same in
-    let gives = (rw c.deref.ensures.value at c.skip.ensures.gives) (reads.Got c.copy_front-n.result) buf (left_at script c.skip.new.at (c.skip.new.offset + c.copy_front-n.result)) next in
+    let size : c.copy_prefix-n.result ≡ min (length (drop c.skip.new.offset c.in-Bytes.b)) (length buf) = c.copy_prefix-n.ensures.size ∙ ap (λ t. min (length (drop c.skip.new.offset t)) (length buf)) c.as_slice.ensures in
+    let same : take c.copy_prefix-n.result buf ≡ take c.copy_prefix-n.result (drop c.skip.new.offset c.in-Bytes.b) = c.copy_prefix-n.ensures.same ∙ ap (λ t. take c.copy_prefix-n.result (drop c.skip.new.offset t)) c.as_slice.ensures in
+    let next = gives_bytes c.len-written.result script c.skip.new.at c.skip.new.offset c.copy_prefix-n.result c.in-Bytes.b buf at_bytes left size same in
+    let gives = (rw c.deref.ensures.value at c.skip.ensures.gives) (reads.Got c.copy_prefix-n.result) buf (left_at script c.skip.new.at (c.skip.new.offset + c.copy_prefix-n.result)) next in
     let many : c.len-written.result ≡ length c.args.self.now.kept.items = search rules in
     record {
-      gives = subst (λ w. GivesNext w (left_at script c.args.self.now.at c.args.self.now.offset) (reads.Got c.copy_front-n.result) buf (left_at script c.skip.new.at (c.skip.new.offset + c.copy_front-n.result))) many gives;
+      gives = subst (λ w. GivesNext w (left_at script c.args.self.now.at c.args.self.now.offset) (reads.Got c.copy_prefix-n.result) buf (left_at script c.skip.new.at (c.skip.new.offset + c.copy_prefix-n.result))) many gives;
       most = refl;
       writes = refl;
     }
@@ -86,13 +86,13 @@ pub returns-in-Bytes-clause-after : goal.returns-in-Bytes-clause-after
 returns-in-Bytes-clause-after c =
     let within : c.skip.new.at < length c.args.self.now.script.items = search rules in
     let at_bytes = stands c.args.self.now.script.items c.skip.new.at c.index.result.now (steps.Bytes c.in-Bytes.b) within c.index.ensures c.in-Bytes.is in
-    let same : take c.copy_front-n.result c.copy_front-n.new.buf ≡ take c.copy_front-n.result (drop c.skip.new.offset c.in-Bytes.b) = c.copy_front-n.ensures.same ∙ ap (λ t. take c.copy_front-n.result (drop c.skip.new.offset t)) c.as_slice.ensures in
+    let same : take c.copy_prefix-n.result c.copy_prefix-n.new.buf ≡ take c.copy_prefix-n.result (drop c.skip.new.offset c.in-Bytes.b) = c.copy_prefix-n.ensures.same ∙ ap (λ t. take c.copy_prefix-n.result (drop c.skip.new.offset t)) c.as_slice.ensures in
     let left : c.skip.new.offset < length c.in-Bytes.b = left_bytes c.args.self.now.script.items c.skip.new.at c.skip.new.offset c.len-written.result c.in-Bytes.b at_bytes (rw c.deref.ensures.value at c.skip.ensures.left) in
-    let size : c.copy_front-n.result ≡ min (length (drop c.skip.new.offset c.in-Bytes.b)) (length c.copy_front-n.new.buf) = c.copy_front-n.ensures.size ∙ ap (λ t. min (length (drop c.skip.new.offset t)) (length c.copy_front-n.new.buf)) c.as_slice.ensures in
-    let same_length : length c.copy_front-n.new.buf ≡ length c.args.buf.now = search rules in
-    let low : 0 < c.copy_front-n.result = omega (arith, size, length-drop c.skip.new.offset c.in-Bytes.b, left, same_length, c.requires.room) in
-    let high : c.copy_front-n.result ≤ length c.copy_front-n.new.buf = omega (arith, size) in
-    let came = more c.args.self.now.script.items c.skip.new.at c.skip.new.offset c.copy_front-n.result c.in-Bytes.b c.copy_front-n.new.buf (given c.args.self.now.script.items c.args.self.now.at c.args.self.now.offset) at_bytes same (rw c.deref.ensures.value at c.skip.ensures.given) in
+    let size : c.copy_prefix-n.result ≡ min (length (drop c.skip.new.offset c.in-Bytes.b)) (length c.copy_prefix-n.new.buf) = c.copy_prefix-n.ensures.size ∙ ap (λ t. min (length (drop c.skip.new.offset t)) (length c.copy_prefix-n.new.buf)) c.as_slice.ensures in
+    let same_length : length c.copy_prefix-n.new.buf ≡ length c.args.buf.now = search rules in
+    let low : 0 < c.copy_prefix-n.result = omega (arith, size, length-drop c.skip.new.offset c.in-Bytes.b, left, same_length, c.requires.room) in
+    let high : c.copy_prefix-n.result ≤ length c.copy_prefix-n.new.buf = omega (arith, size) in
+    let came = more c.args.self.now.script.items c.skip.new.at c.skip.new.offset c.copy_prefix-n.result c.in-Bytes.b c.copy_prefix-n.new.buf (given c.args.self.now.script.items c.args.self.now.at c.args.self.now.offset) at_bytes same (rw c.deref.ensures.value at c.skip.ensures.given) in
     record {
       shows = (low, high, record { place = refl; scheme = refl; came = ap Some came; written = refl; is_open = refl }, c.if-self.false, refl, refl);
       faults = omega arith;

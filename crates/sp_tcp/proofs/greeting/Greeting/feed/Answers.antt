@@ -5,7 +5,7 @@ use Rattle.sp_tcp.specs.Views.{GreetingView}
 use Rattle.sp_tcp.specs.Greetings.{FedAs, peer_hello}
 use Rattle.sp_tcp.specs.declared.greeting.Greeted.{Greeted}
 use Rattle.sp_tcp.specs.declared.greeting.Greeted.TheVariants as g
-use Rattle.sp_tcp.proofs.FrontPieces.{part_more, part_other}
+use Rattle.sp_tcp.proofs.PrefixPieces.{part_more, part_other}
 use Rattle.sp_tcp.proofs.greeting.Greeting.feed.Goals as goal
 
 -- an answer of the greeting that shows this, from its fields: the bytes of the peer's greeting so far are what was fed
@@ -22,13 +22,13 @@ compared : (peer piece : List ℕ) (seen n : ℕ) → length peer ≡ 8 → seen
 compared peer piece seen n long within is = omega (arith, is, length-take (8 - seen) (drop seen peer), length-drop seen peer, long, within)
 
 -- the compared bytes behind those that came
-same_front : (peer piece : List ℕ) (seen n : ℕ) → length peer ≡ 8 → seen ≤ 8 → n ≡ min (8 - seen) (length piece) → take n piece ≡ take n (take (8 - seen) (drop seen peer)) → take seen peer ++ take n piece ≡ take (seen + n) peer
-same_front peer piece seen n long within is same =
+same_prefix : (peer piece : List ℕ) (seen n : ℕ) → length peer ≡ 8 → seen ≤ 8 → n ≡ min (8 - seen) (length piece) → take n piece ≡ take n (take (8 - seen) (drop seen peer)) → take seen peer ++ take n piece ≡ take (seen + n) peer
+same_prefix peer piece seen n long within is same =
     part_more peer piece seen n (omega (arith, long, within)) (omega (arith, is)) (same ∙ take-take n (8 - seen) (drop seen peer) (omega (arith, is)))
 
 part : (peer piece : List ℕ) (seen n : ℕ) → length peer ≡ 8 → seen ≤ 8 → n ≡ min (8 - seen) (length piece) → seen + n < 8 → take n piece ≡ take n (take (8 - seen) (drop seen peer)) → take seen peer ++ piece ≡ take (seen + n) peer
 part peer piece seen n long within is few same =
-    ap (λ t. take seen peer ++ t) (sym (take_all n piece (omega (arith, is, few)))) ∙ same_front peer piece seen n long within is same
+    ap (λ t. take seen peer ++ t) (sym (take_all n piece (omega (arith, is, few)))) ∙ same_prefix peer piece seen n long within is same
 
 more : (peer piece : List ℕ) (seen n : ℕ) → length peer ≡ 8 → seen ≤ 8 → n ≡ min (8 - seen) (length piece) → seen + n < 8 → take n piece ≡ take n (take (8 - seen) (drop seen peer)) → FedAs g.More piece peer (take seen peer) true
 more peer piece seen n long within is few same =
@@ -40,7 +40,7 @@ more peer piece seen n long within is few same =
 
 whole : (peer piece : List ℕ) (seen n : ℕ) → length peer ≡ 8 → seen ≤ 8 → n ≡ min (8 - seen) (length piece) → 8 ≤ seen + n → take n piece ≡ take n (take (8 - seen) (drop seen peer)) → FedAs (g.Peer (length piece - n)) piece peer (take seen peer) false
 whole peer piece seen n long within is all same = (
-  (take n piece, drop n piece, sym (take-append-drop n piece), same_front peer piece seen n long within is same ∙ take_all (seen + n) peer (omega (arith, long, all)), length-drop n piece),
+  (take n piece, drop n piece, sym (take-append-drop n piece), same_prefix peer piece seen n long within is same ∙ take_all (seen + n) peer (omega (arith, long, all)), length-drop n piece),
   refl,
 )
 

@@ -1,4 +1,4 @@
--- Pieces at the front of a list.
+-- Pieces behind a prefix of a list.
 use Rattle.std.proofs.Common.{◌≡◌, ◌≤◌, ◌+◌, ◌++◌, ℕ, List, length, take, drop, sym, ap, ◌∙◌, append_assoc, arith}
 use Rattle.std.proofs.lemmas.List.{take-append-drop, take-append-le, drop-take, take-take, drop_at, drop-append-le, length-take}
 use Rattle.sp_spec.specs.Outside.{IsPrefix}
@@ -13,11 +13,11 @@ part_more peer piece seen n fits long same =
 -- a piece that differs from the next part of the wanted bytes leads nowhere
 pub part_other : (peer piece : List ℕ) (seen n : ℕ) → seen ≤ length peer → n ≤ length piece → n ≤ length (drop seen peer) → ¬ (take n piece ≡ take n (drop seen peer)) → ¬ IsPrefix (take seen peer ++ piece) peer × ¬ IsPrefix peer (take seen peer ++ piece)
 part_other peer piece seen n fits long short other =
-    let front : length (take seen peer) ≡ seen = omega (arith, length-take seen peer) in (
+    let prefix : length (take seen peer) ≡ seen = omega (arith, length-take seen peer) in (
       (λ (rest, e).
-          let next : drop seen peer ≡ piece ++ rest = ap (drop seen) (e ∙ append_assoc (take seen peer) piece rest) ∙ drop_at (take seen peer) (piece ++ rest) seen front in
+          let next : drop seen peer ≡ piece ++ rest = ap (drop seen) (e ∙ append_assoc (take seen peer) piece rest) ∙ drop_at (take seen peer) (piece ++ rest) seen prefix in
           other (sym (ap (take n) next ∙ take-append-le n piece rest long))),
       (λ (rest, e).
-          let next : piece ≡ drop seen peer ++ rest = sym (drop_at (take seen peer) piece seen front) ∙ ap (drop seen) e ∙ drop-append-le seen peer rest fits in
+          let next : piece ≡ drop seen peer ++ rest = sym (drop_at (take seen peer) piece seen prefix) ∙ ap (drop seen) e ∙ drop-append-le seen peer rest fits in
           other (ap (take n) next ∙ take-append-le n (drop seen peer) rest short)),
     )

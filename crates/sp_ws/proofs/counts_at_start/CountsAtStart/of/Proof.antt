@@ -24,11 +24,11 @@ use denote.Triple.Spec.{Meets, triple_of}
 use denote.Triple.Table.{entered}
 use denote.Triple.Walked.{says, Stays, walk_of, ends_at, walk_Meets}
 use Rattle.sp_ws.proofs.EmptyLogs.{none, none_made}
-use Rattle.sp_ws.specs.contracts.spent.CountsAtStart as CountsAtStart
-use Rattle.sp_ws.specs.contracts.spent.CountsAtStart.of as F
-use Rattle.sp_ws.specs.contracts.spent.CountsAtStart.of.Key.{name as #self}
-use Rattle.sp_ws.proofs.spent.CountsAtStart.of.Statement as stated
-use Rattle.sp_ws.proofs.spent.CountsAtStart.of.Code as code
+use Rattle.sp_ws.specs.contracts.counts_at_start.CountsAtStart as CountsAtStart
+use Rattle.sp_ws.specs.contracts.counts_at_start.CountsAtStart.of as F
+use Rattle.sp_ws.specs.contracts.counts_at_start.CountsAtStart.of.Key.{name as #self}
+use Rattle.sp_ws.proofs.counts_at_start.CountsAtStart.of.Statement as stated
+use Rattle.sp_ws.proofs.counts_at_start.CountsAtStart.of.Code as code
 
 abbrev function : Fn
 function = code.function

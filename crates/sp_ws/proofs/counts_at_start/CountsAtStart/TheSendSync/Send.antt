@@ -1,6 +1,6 @@
 -- It is owned by nobody, so it may go to any thread.
 use denote.Param.Send.{IsSend, owning_send}
-use Rattle.sp_ws.specs.contracts.spent.CountsAtStart.{the_row, the_type}
+use Rattle.sp_ws.specs.contracts.counts_at_start.CountsAtStart.{the_row, the_type}
 
 pub send : IsSend the_row
 send = owning_send the_type tt (λ d. tt) (λ k x w. tt)
