@@ -20,8 +20,8 @@ use Rattle.sp_history.proofs.OnceHolds.{same_op-refl, ends_once}
 use Rattle.aio_word.specs.Sight.{Named, Sight, IsSameSeat}
 use Rattle.sp_core.specs.declared.owner.Core.{Core}
 use Rattle.sp_core.specs.declared.ops.BeginError.{BeginError}
-use Rattle.sp_core.specs.declared.attach.AttachError.{AttachError}
-use Rattle.sp_core.specs.declared.attach.Gone.{Gone}
+use Rattle.sp_core.specs.declared.calls.attach.AttachError.{AttachError}
+use Rattle.sp_core.specs.declared.calls.attach.Gone.{Gone}
 use Rattle.sp_core.specs.Moving.{IsSettling, AreSettling}
 use Rattle.sp_core.specs.Standing.{StandsFor, HasBegin, HasFirst, BeganBy}
 use Rattle.sp_msg.specs.Views.{MessageView}
@@ -30,7 +30,7 @@ use Rattle.sp_history.specs.declared.entry.RecordedAct.TheVariants.{Recv}
 use Rattle.sp_history.specs.declared.entry.Ending.{Ending}
 use Rattle.sp_history.specs.declared.entry.Ending.TheVariants.{Won, Gone as GoneEnd}
 use Rattle.sp_history.specs.declared.entry.Completion.TheVariants.{Received}
-use Rattle.sp_core.specs.declared.immediate.NowError.{NowError}
+use Rattle.sp_core.specs.declared.calls.immediate.NowError.{NowError}
 use Rattle.sp_core.specs.Immediate.{AreLost, HasLost, ReceivedNow}
 use Rattle.sp_core.specs.Attaching.{AttachedBy, TookWire}
 use Rattle.sp_core.specs.Collecting.{IsOpen, IsOpenBefore, HasTook, DueFrom, DueBy}
@@ -171,9 +171,9 @@ held_try past ops op c ending a =
 held_lost : (n c callers : ℕ) (es past : List Entry) (ops : List OpName) → AreLost n 1 c callers es → AreHeld past ops → AreHeld (onto es past) ops
 held_lost zero c callers es past ops l a = subst (λ (xs : List Entry). AreHeld (onto xs past) ops) (sym l) a
 held_lost (suc n) c callers es past ops l a =
-    let front = held_lost n c callers l.0 past ops l.3 a in
+    let prefix = held_lost n c callers l.0 past ops l.3 a in
     let one = l.4 in
-    let last : AreHeld (onto l.1 (onto l.0 past)) ops = subst (λ (xs : List Entry). AreHeld (onto xs (onto l.0 past)) ops) (sym one.entries) (held_plain _ ops one.late (settling_plain one.late one.late_settles) (held_try (onto l.0 past) ops one.op c (GoneEnd one.cause one.by) front)) in
+    let last : AreHeld (onto l.1 (onto l.0 past)) ops = subst (λ (xs : List Entry). AreHeld (onto xs (onto l.0 past)) ops) (sym one.entries) (held_plain _ ops one.late (settling_plain one.late one.late_settles) (held_try (onto l.0 past) ops one.op c (GoneEnd one.cause one.by) prefix)) in
     subst (λ (xs : List Entry). AreHeld xs ops) (sym (ap (λ (xs : List Entry). onto xs past) l.2 ∙ onto-append l.0 l.1 past)) last
 
 held_has_lost : (c callers : ℕ) (es past : List Entry) (ops : List OpName) → HasLost 1 c callers es → AreHeld past ops → AreHeld (onto es past) ops
@@ -182,9 +182,9 @@ held_has_lost c callers es past ops l a =
 
 held_now : (r : Result MessageView NowError) (z : Setting) (h : List (Turn Entry)) (t : Turn Entry) (c : ℕ) (ops : List OpName) → ReceivedNow r z h t 1 c → AreHeld (past_of h) ops → AreHeld (onto t.entries (past_of h)) ops
 held_now (Ok m) z h t c ops n a =
-    let front = held_has_lost c z.callers n.front (past_of h) ops n.front_lost a in
-    let last = held_plain _ ops n.late (settling_plain n.late n.late_settles) (held_try (onto n.front (past_of h)) ops n.op c (Won (Received (text_of m))) front) in
-    subst (λ (xs : List Entry). AreHeld xs ops) (sym (ap (λ (xs : List Entry). onto xs (past_of h)) n.entries ∙ onto-append n.front _ (past_of h))) last
+    let prefix = held_has_lost c z.callers n.prefix (past_of h) ops n.prefix_lost a in
+    let last = held_plain _ ops n.late (settling_plain n.late n.late_settles) (held_try (onto n.prefix (past_of h)) ops n.op c (Won (Received (text_of m))) prefix) in
+    subst (λ (xs : List Entry). AreHeld xs ops) (sym (ap (λ (xs : List Entry). onto xs (past_of h)) n.entries ∙ onto-append n.prefix _ (past_of h))) last
 held_now (Err e) z h t c ops n a = held_has_lost c z.callers t.entries (past_of h) ops n.0 a
 
 count_turned : (op : OpName) (ops : List OpName) (o : OpName) → count_of (ops ++ op ∷ []) o ≡ count_of (op ∷ ops) o

@@ -9,6 +9,7 @@ use Rattle.sp_history.specs.Moments.{Moment}
 use Rattle.sp_history.specs.Once.{begin_count, took_count}
 use Rattle.sp_history.specs.Past.{past_of, caller_of}
 use Rattle.aio_word.specs.Sight.{Sight}
+use Rattle.sp_core.specs.Cores.{callers_of, slots_of, words_of}
 use Rattle.sp_core.specs.declared.owner.Core.{Core}
 use Rattle.sp_core.specs.Standing.{StandsFor}
 
@@ -27,8 +28,8 @@ pub record Drives {P W : Type 0} (ties : P → Moment → Type 0) (room : P → 
   pub history : List (Turn Entry)
   pub stands : StandsFor ties room shown core history
   pub held : AreHeld (past_of history) ops
-  pub has_caller : 1 ≤ core.op_words.words.callers
-  pub slots_are : core.op_words.words.slots ≡ slots
-  pub own_seat : seat.words ≡ core.op_words.words.id
+  pub has_caller : 1 ≤ callers_of core
+  pub slots_are : slots_of core ≡ slots
+  pub own_seat : seat.words ≡ (words_of core).id
   pub first_seat : seat.view.number ≡ 1
-  pub other_seat : other.words ≡ core.op_words.words.id
+  pub other_seat : other.words ≡ (words_of core).id

@@ -14,7 +14,7 @@ use Rattle.sp_history.specs.Lists.{has}
 use Rattle.sp_history.specs.Past.{ups, frames, outs, fulls, quiets, stalls, up_to_most}
 use Rattle.sp_history.specs.Legal.{Allowed}
 use Rattle.sp_history.specs.Moments.{Moment, past, also, Lawful}
-use Rattle.core_parts.specs.declared.pipes.Place.{Place}
+use Rattle.core_parts.specs.declared.pipes.PipePlace.{PipePlace}
 use Rattle.core_parts.specs.declared.pipes.DownPipe.{DownPipe}
 use Rattle.core_parts.specs.declared.pipes.Pipes.{Pipes}
 use Rattle.core_parts.specs.Wires.{IsUpWire, IsDownWire, IsUnused, numbers_of}
@@ -97,7 +97,7 @@ module _ {W : Type 0} (shown : W → WireView) where
       let new : IsUpWire (Up p place name ∷ past t) p (shown w) = itself_up (past t) p place (shown w) (untouched t lawful p above) unused in
       let us : up_pipes m ≡ up_pipes l ++ x ∷ [] = ap held places ∙ held_more l.places.items p w in
       let longer : length (up_pipes m) ≡ length (up_pipes l) + 1 = ap length us ∙ length-append (up_pipes l) (x ∷ []) in
-      let ns : numbers m.places.items ≡ numbers l.places.items ++ p ∷ [] = ap numbers places ∙ map-append (λ (z : Place W). z.id) l.places.items _ in
+      let ns : numbers m.places.items ≡ numbers l.places.items ++ p ∷ [] = ap numbers places ∙ map-append (λ (z : PipePlace W). z.id) l.places.items _ in
       let before : IsRising (numbers l.places.items ++ p ∷ []) = subst (λ (q : ℕ). IsRising (numbers l.places.items ++ q ∷ [])) (sym is) h.in_order in
       record {
         up_is = ap ids us ∙ map-append (λ (z : UpPipe W). z.id) (up_pipes l) _ ∙ ap (λ xs. xs ++ p ∷ []) h.up_is;

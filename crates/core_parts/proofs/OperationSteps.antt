@@ -32,10 +32,10 @@ has_push (w ∷ xs) x y = go (w == y) (has_push xs x y)
 other_way : (x y : ℕ) (b : Bool) → (x == y) ≡ b → (y == x) ≡ b
 other_way x y b h = grind (arith, nat_tests)
 
-pub apart_front : (xs : List ℕ) (x : ℕ) → Apart (xs ++ x ∷ []) → Apart xs × (has xs x ≡ false)
-apart_front [] x h = (tt, refl)
-apart_front (w ∷ xs) x h =
-    let rest = apart_front xs x h.1 in
+pub apart_prefix : (xs : List ℕ) (x : ℕ) → Apart (xs ++ x ∷ []) → Apart xs × (has xs x ≡ false)
+apart_prefix [] x h = (tt, refl)
+apart_prefix (w ∷ xs) x h =
+    let rest = apart_prefix xs x h.1 in
     let parts : (has xs w ≡ false) × ((x == w) ≡ false) = or_parts (has xs w) (x == w) (sym (has_push xs x w) ∙ h.0) in
     ((parts.0, rest.0), rw (other_way x w false parts.1) rest.1)
 
@@ -114,7 +114,7 @@ module _ (slots : ℕ) (free : ℕ → Bool) (gens : ℕ → ℕ) where
         → (slot < slots) × (free slot ≡ true) × Holds (slot ∷ []) r slots ss es ds free gens
     unfolding Stands
     drawn s r slot h f fc pe de dl =
-        let apart = apart_front r.free.items slot (subst Apart f h.free_apart) in
+        let apart = apart_prefix r.free.items slot (subst Apart f h.free_apart) in
         let all = All-pop (λ i. (i < slots) × (free i ≡ true)) s.free.items r.free.items (Some slot) f h.free_is in (
           all.1.0,
           all.1.1,

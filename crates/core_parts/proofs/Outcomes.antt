@@ -34,10 +34,10 @@ module _ {A : Type 0} where
       go (inl m) = inl (inr m)
       go (inr e) = inr e
 
-  stands_front : (xs ys : List A) (x : A) → Stands x xs → Stands x (xs ++ ys)
-  stands_front [] ys x s = absurd s
-  stands_front (w ∷ xs) ys x (inl e) = inl e
-  stands_front (w ∷ xs) ys x (inr s) = inr (stands_front xs ys x s)
+  stands_prefix : (xs ys : List A) (x : A) → Stands x xs → Stands x (xs ++ ys)
+  stands_prefix [] ys x s = absurd s
+  stands_prefix (w ∷ xs) ys x (inl e) = inl e
+  stands_prefix (w ∷ xs) ys x (inr s) = inr (stands_prefix xs ys x s)
 
   -- what is kept passes the test
   stands_kept : (p : A → Bool) (xs : List A) (x : A) → Stands x (filter p xs) → Stands x xs × (p x ≡ true)
@@ -143,7 +143,7 @@ put_in xs es slot e d h l at is none i x = go (i == slot) refl
         ended y a b stands same (inr q) = stands ∙ ap Some (is ∙ ap done_of q ∙ sym b)
     go false f =
         let stands : done_at (set xs slot (Some d)) i ≡ done_at xs i = get_or-set_other xs slot i (Some d) None (other_slot i slot f) in (
-          λ k. let w = (h i x).0 (sym stands ∙ k) in (w.0, stands_front es (e ∷ []) w.0 w.1, w.2, w.3),
+          λ k. let w = (h i x).0 (sym stands ∙ k) in (w.0, stands_prefix es (e ∷ []) w.0 w.1, w.2, w.3),
           λ k. stands ∙ (h i x).1 (k.0, before k.0 k.2 (stands_last es k.0 e k.1), k.2, k.3),
         )
       where

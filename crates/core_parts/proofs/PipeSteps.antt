@@ -20,7 +20,7 @@ use Rattle.sp_history.specs.Lists.{has, without}
 use Rattle.sp_history.specs.Past.{up, ups, untaken}
 use Rattle.sp_history.specs.Once.{AreDistinct}
 use Rattle.sp_history.specs.Moments.{Moment, past, also, Lawful}
-use Rattle.core_parts.specs.declared.pipes.Place.{Place}
+use Rattle.core_parts.specs.declared.pipes.PipePlace.{PipePlace}
 use Rattle.core_parts.specs.declared.pipes.DownPipe.{DownPipe}
 use Rattle.core_parts.specs.declared.pipes.Pipes.{Pipes}
 use Rattle.core_parts.specs.declared.pipes.Asked.TheVariants as asked
@@ -32,14 +32,14 @@ use Rattle.core_parts.proofs.ChangedWires.{same_number, equal_numbers, has_at, d
 -- ---- Places
 
 -- the pipe of a place that is not empty, among those that are up: where it stands, and what changing or emptying the place does
-record Ranked {W : Type 0} (xs : List (Place W)) (i p : ℕ) (w : W) : Type 0 where
+record Ranked {W : Type 0} (xs : List (PipePlace W)) (i p : ℕ) (w : W) : Type 0 where
   rank : ℕ
   inside : rank < length (held xs)
   is : (let u : UpPipe W = record { id = p; wire = w } in u ≡ get_or (held xs) rank u)
   changed : (v : W) → held (set xs i (record { id = p; wire = Some v })) ≡ set (held xs) rank (record { id = p; wire = v })
   emptied : held (set xs i (record { id = p; wire = None })) ≡ remove (held xs) rank
 
-first_ranked : {W : Type 0} (y : Place W) (xs : List (Place W)) (w : W) → y.wire ≡ Some w → Ranked (y ∷ xs) 0 y.id w
+first_ranked : {W : Type 0} (y : PipePlace W) (xs : List (PipePlace W)) (w : W) → y.wire ≡ Some w → Ranked (y ∷ xs) 0 y.id w
 first_ranked y xs w e = record {
   rank = 0;
   inside = rw e (omega arith);
@@ -48,7 +48,7 @@ first_ranked y xs w e = record {
   emptied = rw e refl;
 }
 
-next_ranked : {W : Type 0} (y : Place W) (xs : List (Place W)) (i p : ℕ) (w : W) (o : Option W) → y.wire ≡ o → Ranked xs i p w → Ranked (y ∷ xs) (suc i) p w
+next_ranked : {W : Type 0} (y : PipePlace W) (xs : List (PipePlace W)) (i p : ℕ) (w : W) (o : Option W) → y.wire ≡ o → Ranked xs i p w → Ranked (y ∷ xs) (suc i) p w
 next_ranked y xs i p w None e r = record { rank = r.rank; inside = rw e r.inside; is = rw e r.is; changed = λ v. rw e (r.changed v); emptied = rw e r.emptied }
 next_ranked {W = W} y xs i p w (Some v) e r = record {
   rank = suc r.rank;
@@ -58,9 +58,9 @@ next_ranked {W = W} y xs i p w (Some v) e r = record {
   emptied = rw e (ap (λ (rest : List (UpPipe W)). record { id = y.id; wire = v } ∷ rest) r.emptied);
 }
 
-ranked : {W : Type 0} (xs : List (Place W)) (i : ℕ) (x : Place W) (w : W) → i < length xs → x ≡ get_or xs i x → x.wire ≡ Some w → Ranked xs i x.id w
+ranked : {W : Type 0} (xs : List (PipePlace W)) (i : ℕ) (x : PipePlace W) (w : W) → i < length xs → x ≡ get_or xs i x → x.wire ≡ Some w → Ranked xs i x.id w
 ranked [] i x w l at e = absurd (omega arith)
-ranked (y ∷ xs) zero x w l at e = subst (λ (z : Place _). Ranked (y ∷ xs) 0 z.id w) (sym at) (first_ranked y xs w (ap (λ (z : Place _). z.wire) (sym at) ∙ e))
+ranked (y ∷ xs) zero x w l at e = subst (λ (z : PipePlace _). Ranked (y ∷ xs) 0 z.id w) (sym at) (first_ranked y xs w (ap (λ (z : PipePlace _). z.wire) (sym at) ∙ e))
 ranked (y ∷ xs) (suc i) x w l at e = next_ranked y xs i x.id w y.wire refl (ranked xs i x w (omega (arith, l)) at e)
 
 pub some_at : {A : Type 0} (xs : List A) (i : ℕ) → i < length xs → (x : A) × (x ≡ get_or xs i x)
@@ -79,15 +79,15 @@ wire_of None e = absurd cc
 wire_of (Some w) e = (w, refl)
 
 -- the place of a pipe, with its wire
-pub placed : {W : Type 0} (l : Pipes W) (i p : ℕ) → IsPipeAt l i p → (x : Place W) × (w : W) × (x ≡ get_or l.places.items i x) × (x.id ≡ p) × (x.wire ≡ Some w)
+pub placed : {W : Type 0} (l : Pipes W) (i p : ℕ) → IsPipeAt l i p → (x : PipePlace W) × (w : W) × (x ≡ get_or l.places.items i x) × (x.id ≡ p) × (x.wire ≡ Some w)
 placed l i p h =
     let x = some_at l.places.items i h.inside in
     let k = h.is x.0 x.1 in
     let w = wire_of x.0.wire k.1 in
     (x.0, w.0, x.1, k.0, w.1)
 
-numbers_same : {W : Type 0} (xs : List (Place W)) (i : ℕ) (x : Place W) (o : Option W) → x ≡ get_or xs i x → numbers (set xs i (record { id = x.id; wire = o })) ≡ numbers xs
-numbers_same {W = W} xs i x o at = map-set_same (λ (z : Place W). z.id) xs i (record { id = x.id; wire = o }) x (ap (λ (z : Place W). z.id) at)
+numbers_same : {W : Type 0} (xs : List (PipePlace W)) (i : ℕ) (x : PipePlace W) (o : Option W) → x ≡ get_or xs i x → numbers (set xs i (record { id = x.id; wire = o })) ≡ numbers xs
+numbers_same {W = W} xs i x o at = map-set_same (λ (z : PipePlace W). z.id) xs i (record { id = x.id; wire = o }) x (ap (λ (z : PipePlace W). z.id) at)
 
 -- ---- The lists
 
@@ -155,7 +155,7 @@ pub record SamePlaces {W : Type 0} (l m : Pipes W) : Type 0 where
   pub count : m.count ≡ l.count
 
 module _ {W : Type 0} (shown : W → WireView) where
-  pub wire_at : (l : Pipes W) (t : Moment) (i : ℕ) (x : Place W) (w : W) → PipesStand shown l t → i < length l.places.items → x ≡ get_or l.places.items i x → x.wire ≡ Some w → IsUpWire (past t) x.id (shown w)
+  pub wire_at : (l : Pipes W) (t : Moment) (i : ℕ) (x : PipePlace W) (w : W) → PipesStand shown l t → i < length l.places.items → x ≡ get_or l.places.items i x → x.wire ≡ Some w → IsUpWire (past t) x.id (shown w)
   wire_at l t i x w h inside at e =
       let r = ranked l.places.items i x w inside at e in
       subst (λ (z : UpPipe W). IsUpWire (past t) z.id (shown z.wire)) (sym r.is) (h.up_wires r.rank (record { id = x.id; wire = w }) r.inside)
@@ -233,12 +233,12 @@ module _ {W : Type 0} (shown : W → WireView) where
     inside = rw (us, length-set l.places.items i (record { id = p; wire = Some w })) inside;
     is =
         λ x at.
-        let same : x ≡ (let y : Place W = record { id = p; wire = Some w } in y) = at ∙ ap (λ (xs : List (Place W)). get_or xs i x) us ∙ get_or-set_same l.places.items i (record { id = p; wire = Some w }) x inside in
-        (ap (λ (y : Place W). y.id) same, ap (λ (y : Place W). is_some y.wire) same);
+        let same : x ≡ (let y : PipePlace W = record { id = p; wire = Some w } in y) = at ∙ ap (λ (xs : List (PipePlace W)). get_or xs i x) us ∙ get_or-set_same l.places.items i (record { id = p; wire = Some w }) x inside in
+        (ap (λ (y : PipePlace W). y.id) same, ap (λ (y : PipePlace W). is_some y.wire) same);
   }
 
   -- the place holds this wire now
-  pub moved : (l m : Pipes W) (t : Moment) (e : Entry) (i p : ℕ) (x : Place W) (v w : W) → Lawful t → PipesStand shown l t → IsPipeAt l i p → x ≡ get_or l.places.items i x → x.wire ≡ Some v → IsOf p e → up (e ∷ past t) ≡ up (past t) → ups (e ∷ past t) ≡ ups (past t) → untaken (e ∷ past t) ≡ untaken (past t)
+  pub moved : (l m : Pipes W) (t : Moment) (e : Entry) (i p : ℕ) (x : PipePlace W) (v w : W) → Lawful t → PipesStand shown l t → IsPipeAt l i p → x ≡ get_or l.places.items i x → x.wire ≡ Some v → IsOf p e → up (e ∷ past t) ≡ up (past t) → ups (e ∷ past t) ≡ ups (past t) → untaken (e ∷ past t) ≡ untaken (past t)
       → (IsUpWire (past t) p (shown v) → IsUpWire (e ∷ past t) p (shown w)) → m.places.items ≡ set l.places.items i (record { id = x.id; wire = Some w }) → m.down ≡ l.down → m.count ≡ l.count → PipesStand shown m (also t e) × IsPipeAt m i p
   moved l m t e i p x v w lawful h there at holds is stay most quiet goes us ds cs =
       let id : x.id ≡ p = (there.is x at).0 in
@@ -250,7 +250,7 @@ module _ {W : Type 0} (shown : W → WireView) where
       )
 
   -- and nothing is recorded
-  pub moved_alone : (l m : Pipes W) (t : Moment) (i p : ℕ) (x : Place W) (v w : W) → PipesStand shown l t → IsPipeAt l i p → x ≡ get_or l.places.items i x → x.wire ≡ Some v
+  pub moved_alone : (l m : Pipes W) (t : Moment) (i p : ℕ) (x : PipePlace W) (v w : W) → PipesStand shown l t → IsPipeAt l i p → x ≡ get_or l.places.items i x → x.wire ≡ Some v
       → (IsUpWire (past t) p (shown v) → IsUpWire (past t) p (shown w)) → m.places.items ≡ set l.places.items i (record { id = x.id; wire = Some w }) → m.down ≡ l.down → m.count ≡ l.count → PipesStand shown m t × IsPipeAt m i p
   moved_alone l m t i p x v w h there at holds goes us ds cs =
       let id : x.id ≡ p = (there.is x at).0 in
@@ -262,14 +262,14 @@ module _ {W : Type 0} (shown : W → WireView) where
       )
 
   -- the place is empty now, where its wire shows why
-  pub emptied : (l k m : Pipes W) (t : Moment) (i p : ℕ) (x : Place W) (v w : W) (why : Why) → Lawful t → PipesStand shown l t → IsPipeAt l i p → x ≡ get_or l.places.items i x → x.wire ≡ Some v → (IsUpWire (past t) p (shown v) → GoesDown t.z (past t) p why (shown w))
+  pub emptied : (l k m : Pipes W) (t : Moment) (i p : ℕ) (x : PipePlace W) (v w : W) (why : Why) → Lawful t → PipesStand shown l t → IsPipeAt l i p → x ≡ get_or l.places.items i x → x.wire ≡ Some v → (IsUpWire (past t) p (shown v) → GoesDown t.z (past t) p why (shown w))
       → k.places.items ≡ set l.places.items i (record { id = x.id; wire = Some w }) → k.down ≡ l.down → k.count ≡ l.count → EmptiesPlace i why k m → PipesStand shown m (also t (Down p why))
   emptied l k m t i p x v w why lawful h there at holds goes us ds cs out =
       let id : x.id ≡ p = (there.is x at).0 in
       let r = ranked l.places.items i x v there.inside at holds in
-      let y : Place W = record { id = x.id; wire = Some w } in
-      let now : y ≡ get_or k.places.items i y = sym (ap (λ (xs : List (Place W)). get_or xs i y) us ∙ get_or-set_same l.places.items i y y there.inside) in
-      let left : m.places.items ≡ set l.places.items i (record { id = x.id; wire = None }) = out.places y now ∙ ap (λ (xs : List (Place W)). set xs i (record { id = x.id; wire = None })) us ∙ set_twice l.places.items i y (record { id = x.id; wire = None }) in
+      let y : PipePlace W = record { id = x.id; wire = Some w } in
+      let now : y ≡ get_or k.places.items i y = sym (ap (λ (xs : List (PipePlace W)). get_or xs i y) us ∙ get_or-set_same l.places.items i y y there.inside) in
+      let left : m.places.items ≡ set l.places.items i (record { id = x.id; wire = None }) = out.places y now ∙ ap (λ (xs : List (PipePlace W)). set xs i (record { id = x.id; wire = None })) us ∙ set_twice l.places.items i y (record { id = x.id; wire = None }) in
       let so : GoesDown t.z (past t) x.id why (shown w) = subst (λ (q : ℕ). GoesDown t.z (past t) q why (shown w)) (sym id) (goes (subst (λ (q : ℕ). IsUpWire (past t) q (shown v)) id (wire_at l t i x v h there.inside at holds))) in
       subst (λ (q : ℕ). PipesStand shown m (also t (Down q why))) id
       (fell l m t r.rank (record { id = x.id; wire = v }) w why lawful h r.inside r.is so (ap held left ∙ r.emptied) (ap numbers left ∙ numbers_same l.places.items i x None at) (out.count ∙ cs) (out.down y w now refl ∙ ap (λ (d : _). d.items ++ record { id = x.id; why = why; wire = w } ∷ []) ds) (out.room ∙ ap deque_capacity ds))
@@ -302,8 +302,8 @@ module _ {W : Type 0} (shown : W → WireView) where
   -- the wire of this place has room
   ready_now : (l m : Pipes W) (i q : ℕ) (w : W) → i < length l.places.items → m.places.items ≡ set l.places.items i (record { id = q; wire = Some w }) → (shown w).is_ready ≡ true → IsReadyAt shown m i
   ready_now l m i q w inside us ready x v at holds =
-      let same : x ≡ (let y : Place W = record { id = q; wire = Some w } in y) = at ∙ ap (λ (xs : List (Place W)). get_or xs i x) us ∙ get_or-set_same l.places.items i (record { id = q; wire = Some w }) x inside in
-      let wires : Some w ≡ Some v = sym (ap (λ (y : Place W). y.wire) same) ∙ holds in
+      let same : x ≡ (let y : PipePlace W = record { id = q; wire = Some w } in y) = at ∙ ap (λ (xs : List (PipePlace W)). get_or xs i x) us ∙ get_or-set_same l.places.items i (record { id = q; wire = Some w }) x inside in
+      let wires : Some w ≡ Some v = sym (ap (λ (y : PipePlace W). y.wire) same) ∙ holds in
       let it : w ≡ v = cc in
       subst (λ (y : W). (shown y).is_ready ≡ true) it ready
 
@@ -311,11 +311,11 @@ module _ {W : Type 0} (shown : W → WireView) where
   pub close_pipe : (l m : Pipes W) (t : Moment) (i p : ℕ) → Lawful t → PipesStand shown l t → IsPipeAt l i p → EmptiesPlace i whys.Closed l m → PipesStand shown m (also t (Down p whys.Closed))
   close_pipe l m t i p lawful h there out =
       let k = placed l i p there in
-      let same : set l.places.items i (record { id = k.0.id; wire = Some k.1 }) ≡ l.places.items = set_itself l.places.items i (record { id = k.0.id; wire = Some k.1 }) k.0 there.inside k.2 (ap (λ (o : Option W). let y : Place W = record { id = k.0.id; wire = o } in y) (sym k.4)) in
+      let same : set l.places.items i (record { id = k.0.id; wire = Some k.1 }) ≡ l.places.items = set_itself l.places.items i (record { id = k.0.id; wire = Some k.1 }) k.0 there.inside k.2 (ap (λ (o : Option W). let y : PipePlace W = record { id = k.0.id; wire = o } in y) (sym k.4)) in
       emptied l l m t i p k.0 k.1 k.1 whys.Closed lawful h there k.2 k.4 (λ was. (was.agrees, tt)) (sym same) refl refl out
 
   -- there is room
-  pub roomy : (l m : Pipes W) (t : Moment) (i p : ℕ) (x : Place W) (v w : W) → PipesStand shown l t → IsPipeAt l i p → x ≡ get_or l.places.items i x → x.wire ≡ Some v → AfterRoom rooms.Yes (shown v) (shown w)
+  pub roomy : (l m : Pipes W) (t : Moment) (i p : ℕ) (x : PipePlace W) (v w : W) → PipesStand shown l t → IsPipeAt l i p → x ≡ get_or l.places.items i x → x.wire ≡ Some v → AfterRoom rooms.Yes (shown v) (shown w)
       → m.places.items ≡ set l.places.items i (record { id = x.id; wire = Some w }) → m.down ≡ l.down → m.count ≡ l.count → AskedAs shown asked.Yes i p t m
   roomy l m t i p x v w h there at holds after us ds cs =
       let now = moved_alone l m t i p x v w h there at holds (λ was. (roomed (past t) p (shown v) (shown w) was after).0) us ds cs in

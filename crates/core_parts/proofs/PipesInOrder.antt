@@ -12,7 +12,7 @@ use Rattle.sp_history.specs.Legal.{Allowed}
 use Rattle.sp_history.specs.Lists.{has, without}
 use Rattle.sp_history.specs.Past.{up, ups}
 use Rattle.sp_history.specs.Moments.{Moment, past, Lawful}
-use Rattle.core_parts.specs.declared.pipes.Place.{Place}
+use Rattle.core_parts.specs.declared.pipes.PipePlace.{PipePlace}
 use Rattle.core_parts.specs.declared.pipes.Pipes.{Pipes}
 use Rattle.core_parts.specs.Pipes.{UpPipe, ids, numbers, before_others, held, is_below, IsRising, IsPipeAt, PipesStand}
 use Rattle.core_parts.specs.PartSteps.{IsFirstAbove, NoneAbove}
@@ -136,7 +136,7 @@ rising_push (x ∷ xs) q r h l =
 -- ---- Places
 
 module _ {W : Type 0} where
-  pub held_append : (xs ys : List (Place W)) → held (xs ++ ys) ≡ held xs ++ held ys
+  pub held_append : (xs ys : List (PipePlace W)) → held (xs ++ ys) ≡ held xs ++ held ys
   held_append [] ys = refl
   held_append (x ∷ xs) ys = go x.wire (held_append xs ys)
     where
@@ -144,22 +144,22 @@ module _ {W : Type 0} where
       go None e = e
       go (Some w) e = ap (λ (rest : List (UpPipe W)). record { id = x.id; wire = w } ∷ rest) e
 
-  pub held_more : (xs : List (Place W)) (p : ℕ) (w : W) → (let x : Place W = record { id = p; wire = Some w } in let u : UpPipe W = record { id = p; wire = w } in held (xs ++ x ∷ []) ≡ held xs ++ u ∷ [])
+  pub held_more : (xs : List (PipePlace W)) (p : ℕ) (w : W) → (let x : PipePlace W = record { id = p; wire = Some w } in let u : UpPipe W = record { id = p; wire = w } in held (xs ++ x ∷ []) ≡ held xs ++ u ∷ [])
   held_more xs p w = held_append xs (record { id = p; wire = Some w } ∷ [])
 
   -- one that is up has a place
-  pub place_for : (xs : List (Place W)) (p : ℕ) → has (ids (held xs)) p ≡ true → (k : ℕ) × (k < length xs) × ((x : Place W) → x ≡ get_or xs k x → (x.id ≡ p) × (is_some x.wire ≡ true))
+  pub place_for : (xs : List (PipePlace W)) (p : ℕ) → has (ids (held xs)) p ≡ true → (k : ℕ) × (k < length xs) × ((x : PipePlace W) → x ≡ get_or xs k x → (x.id ≡ p) × (is_some x.wire ≡ true))
   place_for [] p h = absurd cc
   place_for (x ∷ xs) p h = go x.wire refl h (place_for xs p)
     where
-      behind : ((k : ℕ) × (k < length xs) × ((y : Place W) → y ≡ get_or xs k y → (y.id ≡ p) × (is_some y.wire ≡ true))) → (k : ℕ) × (k < suc (length xs)) × ((y : Place W) → y ≡ get_or (x ∷ xs) k y → (y.id ≡ p) × (is_some y.wire ≡ true))
+      behind : ((k : ℕ) × (k < length xs) × ((y : PipePlace W) → y ≡ get_or xs k y → (y.id ≡ p) × (is_some y.wire ≡ true))) → (k : ℕ) × (k < suc (length xs)) × ((y : PipePlace W) → y ≡ get_or (x ∷ xs) k y → (y.id ≡ p) × (is_some y.wire ≡ true))
       behind r = (suc r.0, omega (arith, r.1), r.2)
 
-      here : (w : W) (b : Bool) → x.wire ≡ Some w → (x.id == p) ≡ b → (b || has (ids (held xs)) p) ≡ true → (has (ids (held xs)) p ≡ true → (k : ℕ) × (k < length xs) × ((y : Place W) → y ≡ get_or xs k y → (y.id ≡ p) × (is_some y.wire ≡ true))) → (k : ℕ) × (k < suc (length xs)) × ((y : Place W) → y ≡ get_or (x ∷ xs) k y → (y.id ≡ p) × (is_some y.wire ≡ true))
-      here w true e f m again = (0, omega arith, λ y at. (ap (λ (z : Place W). z.id) at ∙ equal_numbers x.id p f, ap (λ (z : Place W). is_some z.wire) at ∙ ap is_some e))
+      here : (w : W) (b : Bool) → x.wire ≡ Some w → (x.id == p) ≡ b → (b || has (ids (held xs)) p) ≡ true → (has (ids (held xs)) p ≡ true → (k : ℕ) × (k < length xs) × ((y : PipePlace W) → y ≡ get_or xs k y → (y.id ≡ p) × (is_some y.wire ≡ true))) → (k : ℕ) × (k < suc (length xs)) × ((y : PipePlace W) → y ≡ get_or (x ∷ xs) k y → (y.id ≡ p) × (is_some y.wire ≡ true))
+      here w true e f m again = (0, omega arith, λ y at. (ap (λ (z : PipePlace W). z.id) at ∙ equal_numbers x.id p f, ap (λ (z : PipePlace W). is_some z.wire) at ∙ ap is_some e))
       here w false e f m again = behind (again m)
 
-      go : (o : Option W) → x.wire ≡ o → has (ids (before_others x.id o (held xs))) p ≡ true → (has (ids (held xs)) p ≡ true → (k : ℕ) × (k < length xs) × ((y : Place W) → y ≡ get_or xs k y → (y.id ≡ p) × (is_some y.wire ≡ true))) → (k : ℕ) × (k < suc (length xs)) × ((y : Place W) → y ≡ get_or (x ∷ xs) k y → (y.id ≡ p) × (is_some y.wire ≡ true))
+      go : (o : Option W) → x.wire ≡ o → has (ids (before_others x.id o (held xs))) p ≡ true → (has (ids (held xs)) p ≡ true → (k : ℕ) × (k < length xs) × ((y : PipePlace W) → y ≡ get_or xs k y → (y.id ≡ p) × (is_some y.wire ≡ true))) → (k : ℕ) × (k < suc (length xs)) × ((y : PipePlace W) → y ≡ get_or (x ∷ xs) k y → (y.id ≡ p) × (is_some y.wire ≡ true))
       go None e m again = behind (again m)
       go (Some w) e m again = here w (x.id == p) e refl m again
 
@@ -183,38 +183,38 @@ unequal a b e n = absurd (grind (arith, nat_tests))
 
 module _ {W : Type 0} where
   -- a place in front of another has the lower number
-  pub number_to : (xs : List (Place W)) (i j : ℕ) (x y : Place W) → IsRising (numbers xs) → i ≤ j → j < length xs → x ≡ get_or xs i x → y ≡ get_or xs j y → x.id ≤ y.id
+  pub number_to : (xs : List (PipePlace W)) (i j : ℕ) (x y : PipePlace W) → IsRising (numbers xs) → i ≤ j → j < length xs → x ≡ get_or xs i x → y ≡ get_or xs j y → x.id ≤ y.id
   number_to xs i j x y h l m at to =
       let least : get_or (numbers xs) i 0 ≤ get_or (numbers xs) j 0 = rises_to (numbers xs) i j h l (simp length-map m) in
-      let one : get_or (numbers xs) i 0 ≡ x.id = get_or-map (λ (z : Place W). z.id) xs i x 0 (omega (arith, l, m)) ∙ ap (λ (z : Place W). z.id) (sym at) in
-      let two : get_or (numbers xs) j 0 ≡ y.id = get_or-map (λ (z : Place W). z.id) xs j y 0 m ∙ ap (λ (z : Place W). z.id) (sym to) in
+      let one : get_or (numbers xs) i 0 ≡ x.id = get_or-map (λ (z : PipePlace W). z.id) xs i x 0 (omega (arith, l, m)) ∙ ap (λ (z : PipePlace W). z.id) (sym at) in
+      let two : get_or (numbers xs) j 0 ≡ y.id = get_or-map (λ (z : PipePlace W). z.id) xs j y 0 m ∙ ap (λ (z : PipePlace W). z.id) (sym to) in
       omega (arith, least, one, two)
 
-  number_less : (xs : List (Place W)) (i j : ℕ) (x y : Place W) → IsRising (numbers xs) → i < j → j < length xs → x ≡ get_or xs i x → y ≡ get_or xs j y → x.id < y.id
+  number_less : (xs : List (PipePlace W)) (i j : ℕ) (x y : PipePlace W) → IsRising (numbers xs) → i < j → j < length xs → x ≡ get_or xs i x → y ≡ get_or xs j y → x.id < y.id
   number_less xs i j x y h l m at to =
       let least : get_or (numbers xs) i 0 < get_or (numbers xs) j 0 = rises (numbers xs) i j h l (simp length-map m) in
-      let one : get_or (numbers xs) i 0 ≡ x.id = get_or-map (λ (z : Place W). z.id) xs i x 0 (omega (arith, l, m)) ∙ ap (λ (z : Place W). z.id) (sym at) in
-      let two : get_or (numbers xs) j 0 ≡ y.id = get_or-map (λ (z : Place W). z.id) xs j y 0 m ∙ ap (λ (z : Place W). z.id) (sym to) in
+      let one : get_or (numbers xs) i 0 ≡ x.id = get_or-map (λ (z : PipePlace W). z.id) xs i x 0 (omega (arith, l, m)) ∙ ap (λ (z : PipePlace W). z.id) (sym at) in
+      let two : get_or (numbers xs) j 0 ≡ y.id = get_or-map (λ (z : PipePlace W). z.id) xs j y 0 m ∙ ap (λ (z : PipePlace W). z.id) (sym to) in
       omega (arith, least, one, two)
 
-  pub parted : (xs : List (Place W)) (p : ℕ) → IsRising (numbers xs) → IsPartitionedBy (is_below p) xs
+  pub parted : (xs : List (PipePlace W)) (p : ℕ) → IsRising (numbers xs) → IsPartitionedBy (is_below p) xs
   parted xs p h i j d l m k =
       let least : get_or (numbers xs) i 0 ≤ get_or (numbers xs) j 0 = rises_to (numbers xs) i j h l (simp length-map m) in
-      let one : get_or (numbers xs) i 0 ≡ (get_or xs i d).id = get_or-map (λ (x : Place W). x.id) xs i d 0 (omega (arith, l, m)) in
-      let two : get_or (numbers xs) j 0 ≡ (get_or xs j d).id = get_or-map (λ (x : Place W). x.id) xs j d 0 m in
+      let one : get_or (numbers xs) i 0 ≡ (get_or xs i d).id = get_or-map (λ (x : PipePlace W). x.id) xs i d 0 (omega (arith, l, m)) in
+      let two : get_or (numbers xs) j 0 ≡ (get_or xs j d).id = get_or-map (λ (x : PipePlace W). x.id) xs j d 0 m in
       below (get_or xs i d).id (get_or xs j d).id p (omega (arith, least, one, two)) k
     where
       below : (a b c : ℕ) → a ≤ b → nat_lt b c ≡ true → nat_lt a c ≡ true
       below a b c e f = grind (arith, nat_tests)
 
   -- the pipe isn't up, where it isn't at the place that halving finds
-  pub nowhere : (xs : List (Place W)) (p i : ℕ) → IsRising (numbers xs) → IsPartitionPoint (λ x. is_below p x ≡ true) (λ x. is_below p x ≡ false) xs i → ((x : Place W) → i < length xs → x ≡ get_or xs i x → is_some x.wire ≡ true → (x.id == p) ≡ false) → has (ids (held xs)) p ≡ false
+  pub nowhere : (xs : List (PipePlace W)) (p i : ℕ) → IsRising (numbers xs) → IsPartitionPoint (λ x. is_below p x ≡ true) (λ x. is_below p x ≡ false) xs i → ((x : PipePlace W) → i < length xs → x ≡ get_or xs i x → is_some x.wire ≡ true → (x.id == p) ≡ false) → has (ids (held xs)) p ≡ false
   nowhere xs p i h point here = go (has (ids (held xs)) p) refl
     where
-      at : (k : ℕ) (x : Place W) → k < length xs → x ≡ get_or xs k x → x.id ≡ p → is_some x.wire ≡ true → (b c : Bool) → nat_lt k i ≡ b → (k == i) ≡ c → ⊥
+      at : (k : ℕ) (x : PipePlace W) → k < length xs → x ≡ get_or xs k x → x.id ≡ p → is_some x.wire ≡ true → (b c : Bool) → nat_lt k i ≡ b → (k == i) ≡ c → ⊥
       at k x m e n s true c f g =
           let less : nat_lt (get_or xs k x).id p ≡ true = point.0 k x (omega arith) (grind (arith, nat_tests)) in
-          let is : x.id ≡ (get_or xs k x).id = ap (λ (z : Place W). z.id) e in
+          let is : x.id ≡ (get_or xs k x).id = ap (λ (z : PipePlace W). z.id) e in
           let low : (get_or xs k x).id < p = grind (arith, nat_tests) in
           absurd (omega (arith, low, is, n))
       at k x m e n s false true f g =
@@ -225,7 +225,7 @@ module _ {W : Type 0} where
           let less : i < k = grind (arith, nat_tests) in
           let y = some_at xs i (omega (arith, less, m)) in
           let no : nat_lt (get_or xs i y.0).id p ≡ false = point.1 i y.0 (omega arith) (omega (arith, less, m)) in
-          let is : y.0.id ≡ (get_or xs i y.0).id = ap (λ (z : Place W). z.id) y.1 in
+          let is : y.0.id ≡ (get_or xs i y.0).id = ap (λ (z : PipePlace W). z.id) y.1 in
           let low : y.0.id < x.id = number_less xs i k y.0 x h less m y.1 e in
           let high : p ≤ (get_or xs i y.0).id = grind (arith, nat_tests) in
           absurd (omega (arith, low, high, is, n))
@@ -246,12 +246,12 @@ module _ {W : Type 0} (shown : W → WireView) where
 
   -- the pipes of the places in front of this one have no number above
   abbrev pub NoneBefore : Pipes W → ℕ → ℕ → Type 0
-  NoneBefore l i p = (t : Moment) → PipesStand shown l t → (j : ℕ) (x : Place W) → j < i → x ≡ get_or l.places.items j x → is_some x.wire ≡ true → x.id ≤ p
+  NoneBefore l i p = (t : Moment) → PipesStand shown l t → (j : ℕ) (x : PipePlace W) → j < i → x ≡ get_or l.places.items j x → is_some x.wire ≡ true → x.id ≤ p
 
   -- the pipe of this place is the first above
-  pub found_above : (l : Pipes W) (t : Moment) (i p : ℕ) (x : Place W) → PipesStand shown l t → i < length l.places.items → x ≡ get_or l.places.items i x → is_some x.wire ≡ true → p < x.id → NoneBefore l i p → IsPipeAt l i x.id × IsFirstAbove p x.id (up (past t))
+  pub found_above : (l : Pipes W) (t : Moment) (i p : ℕ) (x : PipePlace W) → PipesStand shown l t → i < length l.places.items → x ≡ get_or l.places.items i x → is_some x.wire ≡ true → p < x.id → NoneBefore l i p → IsPipeAt l i x.id × IsFirstAbove p x.id (up (past t))
   found_above l t i p x h inside at some above before =
-      let there : IsPipeAt l i x.id = record { inside = inside; is = λ y e. let same : y ≡ x = placed_once l.places.items i y x inside e at in (ap (λ (z : Place W). z.id) same, ap (λ (z : Place W). is_some z.wire) same ∙ some) } in
+      let there : IsPipeAt l i x.id = record { inside = inside; is = λ y e. let same : y ≡ x = placed_once l.places.items i y x inside e at in (ap (λ (z : PipePlace W). z.id) same, ap (λ (z : PipePlace W). is_some z.wire) same ∙ some) } in
       (there, record { above = above; there = up_at shown l t i x.id h there; first = λ r m n. first r m n })
     where
       first : (r : ℕ) → has (up (past t)) r ≡ true → p < r → x.id ≤ r
@@ -261,7 +261,7 @@ module _ {W : Type 0} (shown : W → WireView) where
           let s = k.2 y.0 y.1 in
           go y.0 k.0 k.1 y.1 s.0 s.1 (nat_lt k.0 i) refl
         where
-          go : (y : Place W) (k : ℕ) → k < length l.places.items → y ≡ get_or l.places.items k y → y.id ≡ r → is_some y.wire ≡ true → (b : Bool) → nat_lt k i ≡ b → x.id ≤ r
+          go : (y : PipePlace W) (k : ℕ) → k < length l.places.items → y ≡ get_or l.places.items k y → y.id ≡ r → is_some y.wire ≡ true → (b : Bool) → nat_lt k i ≡ b → x.id ≤ r
           go y k j e num s true f = let low : y.id ≤ p = before t h k y (grind (arith, nat_tests)) e s in absurd (omega (arith, low, num, n))
           go y k j e num s false f = let high : i ≤ k = grind (arith, nat_tests) in let low = number_to l.places.items i k x y (places_rise l t h) high j at e in omega (arith, low, num)
 

@@ -10,7 +10,7 @@ use Rattle.core_parts.specs.declared.op_words.OpWords.{OpWords}
 use Rattle.core_parts.specs.declared.op_words.Decision.{Decision}
 use Rattle.core_parts.specs.declared.op_words.Decision.TheVariants as decision
 use Rattle.core_parts.specs.declared.pipes.Pipes.{Pipes}
-use Rattle.core_parts.specs.declared.pipes.Place.{Place as PlaceType}
+use Rattle.core_parts.specs.declared.pipes.PipePlace.{PipePlace as PipePlaceType}
 use Rattle.core_parts.specs.declared.outcome.Outcome.{Outcome}
 use Rattle.core_parts.specs.declared.operations.Operations.{Operations}
 use Rattle.core_parts.specs.declared.tally.Tally.{Tally}
@@ -138,8 +138,8 @@ PutsOut shown i m old new =
 
 -- the pipe at this place has left it empty, and is the last of those that are down
 pub record EmptiesPlace {W : Type 0} (i : ℕ) (why : Why) (old new : Pipes W) : Type 0 where
-  pub places : (x : PlaceType W) → x ≡ slice_index_or old.places.items i x → new.places.items ≡ set old.places.items i (record { id = x.id; wire = None })
-  pub down : (x : PlaceType W) (w : W) → x ≡ slice_index_or old.places.items i x → x.wire ≡ Some w → new.down.items ≡ old.down.items ++ record { id = x.id; why = why; wire = w } ∷ []
+  pub places : (x : PipePlaceType W) → x ≡ slice_index_or old.places.items i x → new.places.items ≡ set old.places.items i (record { id = x.id; wire = None })
+  pub down : (x : PipePlaceType W) (w : W) → x ≡ slice_index_or old.places.items i x → x.wire ≡ Some w → new.down.items ≡ old.down.items ++ record { id = x.id; why = why; wire = w } ∷ []
   pub count : new.count + 1 ≡ old.count
   pub room : deque_capacity new.down ≡ deque_capacity old.down
 
@@ -166,7 +166,7 @@ FindsAbove shown r p x =
 -- no place in front of this one has a number above
 abbrev pub ArePassed : {W : Type 0} → (W → WireView) → ℕ → ℕ → Pipes W → Type 0
 ArePassed {W = W} shown i p l =
-    (t : Moment) → PipesStand shown l t → (j : ℕ) (x : PlaceType W) → j < i → x ≡ slice_index_or l.places.items j x → x.id ≤ p
+    (t : Moment) → PipesStand shown l t → (j : ℕ) (x : PipePlaceType W) → j < i → x ≡ slice_index_or l.places.items j x → x.id ≤ p
 
 -- ---- Counts
 

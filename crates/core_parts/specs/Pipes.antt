@@ -10,7 +10,7 @@ use Rattle.sp_history.specs.declared.setting.Setting.{Setting}
 use Rattle.sp_history.specs.Lists.{has, head_of}
 use Rattle.sp_history.specs.Past.{up, ups, untaken}
 use Rattle.sp_history.specs.Moments.{Moment, past, also}
-use Rattle.core_parts.specs.declared.pipes.Place.{Place}
+use Rattle.core_parts.specs.declared.pipes.PipePlace.{PipePlace}
 use Rattle.core_parts.specs.declared.pipes.DownPipe.{DownPipe}
 use Rattle.core_parts.specs.declared.pipes.Pipes.{Pipes}
 use Rattle.core_parts.specs.declared.pipes.Asked.{Asked}
@@ -35,11 +35,11 @@ down_ids pipes = map (λ x. x.id) pipes
 -- ---- Places
 
 -- the numbers of places
-abbrev pub numbers : {W : Type 0} → List (Place W) → List ℕ
+abbrev pub numbers : {W : Type 0} → List (PipePlace W) → List ℕ
 numbers places = map (λ x. x.id) places
 
 -- its number is below this one
-abbrev pub is_below : {W : Type 0} → ℕ → Place W → Bool
+abbrev pub is_below : {W : Type 0} → ℕ → PipePlace W → Bool
 is_below p x = nat_lt x.id p
 
 -- the pipe with this wire, if there is one, before others
@@ -48,7 +48,7 @@ before_others p None rest = rest
 before_others p (Some w) rest = record { id = p; wire = w } ∷ rest
 
 -- the pipes of places that are not empty
-abbrev pub held : {W : Type 0} → List (Place W) → List (UpPipe W)
+abbrev pub held : {W : Type 0} → List (PipePlace W) → List (UpPipe W)
 held [] = []
 held (x ∷ xs) = before_others x.id x.wire (held xs)
 
@@ -65,7 +65,7 @@ IsRising (x ∷ xs) = ((y : ℕ) → has xs y ≡ true → x < y) × IsRising xs
 
 -- these pipes are up and these are down and not taken, each with a wire that shows its history; the number of the next pipe
 -- is above those of all places
-pub record Carries {W : Type 0} (shown : W → WireView) (l : Pipes W) (z : Setting) (past : List Entry) : Type 0 where
+pub record PipesCarry {W : Type 0} (shown : W → WireView) (l : Pipes W) (z : Setting) (past : List Entry) : Type 0 where
   pub up_is : ids (up_pipes l) ≡ up past
   pub up_wires : All (λ x. IsUpWire past x.id (shown x.wire)) (up_pipes l)
   pub down_is : down_ids l.down.items ≡ untaken past
@@ -76,22 +76,22 @@ pub record Carries {W : Type 0} (shown : W → WireView) (l : Pipes W) (z : Sett
   pub few : length (up_pipes l) + length l.down.items ≤ 4096
 
 abbrev pub PipesStand : {W : Type 0} → (W → WireView) → Pipes W → Moment → Type 0
-PipesStand shown l t = Carries shown l t.z (past t)
+PipesStand shown l t = PipesCarry shown l t.z (past t)
 
 -- the pipe is up and has this place
 pub record IsPipeAt {W : Type 0} (l : Pipes W) (i p : ℕ) : Type 0 where
   pub inside : i < length l.places.items
-  pub is : (x : Place W) → x ≡ slice_index_or l.places.items i x → (x.id ≡ p) × (is_some x.wire ≡ true)
+  pub is : (x : PipePlace W) → x ≡ slice_index_or l.places.items i x → (x.id ≡ p) × (is_some x.wire ≡ true)
 
 -- a pipe has this place
 pub record HasPlace {W : Type 0} (l : Pipes W) (i : ℕ) : Type 0 where
   pub inside : i < length l.places.items
-  pub is_up : (x : Place W) → x ≡ slice_index_or l.places.items i x → is_some x.wire ≡ true
+  pub is_up : (x : PipePlace W) → x ≡ slice_index_or l.places.items i x → is_some x.wire ≡ true
   pub counted : 0 < l.count
 
 -- the wire at this place has room for a message
 abbrev pub IsReadyAt : {W : Type 0} → (W → WireView) → Pipes W → ℕ → Type 0
-IsReadyAt shown l i = (x : Place _) (w : _) → x ≡ slice_index_or l.places.items i x → x.wire ≡ Some w → (shown w).is_ready ≡ true
+IsReadyAt shown l i = (x : PipePlace _) (w : _) → x ≡ slice_index_or l.places.items i x → x.wire ≡ Some w → (shown w).is_ready ≡ true
 
 -- what asking the pipe for room came to
 abbrev pub AskedAs : {W : Type 0} → (W → WireView) → Asked → ℕ → ℕ → Moment → Pipes W → Type 0

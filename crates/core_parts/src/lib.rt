@@ -29,6 +29,6 @@ pub use fresh::fresh_parts;
 pub use op_words::{Decision, OpWords};
 pub use operations::{EndedOperation, Operations};
 pub use outcome::Outcome;
-pub use pipes::{Asked, DownPipe, Flushed, Pipes, Place, Pulled};
+pub use pipes::{Asked, DownPipe, Flushed, PipePlace, Pipes, Pulled};
 pub use tally::Tally;
 pub use wire_list::WireList;

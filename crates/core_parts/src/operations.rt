@@ -13,7 +13,7 @@ use sp_base::{Ctx, NoMemory, OpName, Tick};
 use sp_pending::PendingOps;
 use std::alloc::Global;
 
-/// An operation that ended and was not collected.
+/// An operation (nng_aio(5)) that ended and was not collected.
 #[derive(Drop)]
 pub struct EndedOperation {
     /// Its name.

@@ -1,8 +1,8 @@
 //! The pipes with their wires: those that are up, and those that are down until their wires are taken.
 //!
-//! A pipe that comes up gets a place behind all others. One that goes down leaves its place empty, so that no other pipe
-//! moves. When a wire is taken while the pipes are fewer than half of the places, rounded down, the empty places are
-//! taken out. So over all pipes that go down, each costs a fixed number of moves and the search of its place.
+//! A pipe that comes up gets a place behind all others. One that goes down leaves its place empty, so that no other
+//! pipe moves. When a wire is taken while the pipes are fewer than half of the places, rounded down, the empty places
+//! are taken out. So over all pipes that go down, each costs a fixed number of moves and the search of its place.
 ghost use Rattle.std.specs.Prelude.{◌≡◌, ◌==◌, ◌<◌, ◌≤◌, ◌+◌, ◌++◌, ◌∷◌, ℕ, [], true, false, length, is_some, OnOk};
 ghost use Rattle.std.specs.VecDeque.{deque_capacity};
 ghost use Rattle.sp_history.specs.declared.entry.Entry.TheVariants.{Down};
@@ -19,12 +19,12 @@ use std::alloc::Global;
 use std::collections::VecDeque;
 use std::sync::Wait;
 
-/// The place of a pipe.
+/// A place, with the wire of the pipe that has it while that is up.
 #[derive(Drop)]
-pub struct Place<W> {
-    /// Its number.
+pub struct PipePlace<W> {
+    /// The number of the pipe.
     pub id: PipeId,
-    /// What its messages go over while it is up.
+    /// What its messages go over.
     pub wire: Option<W>,
 }
 
@@ -39,11 +39,11 @@ pub struct DownPipe<W> {
     pub wire: W,
 }
 
-/// The pipes of a socket.
+/// The pipes of a socket (nng_pipe(5)).
 #[derive(Drop)]
 pub struct Pipes<W> {
     /// In the order in which pipes came up, which is that of their numbers.
-    pub places: VecDeque<Place<W>>,
+    pub places: VecDeque<PipePlace<W>>,
     /// How many pipes are up.
     pub count: usize,
     /// In the order in which they went down, with room for all that are up. The first is taken first.
@@ -83,7 +83,7 @@ pub enum Pulled {
     Down(Why),
 }
 
-impl<W> Place<W> {
+impl<W> PipePlace<W> {
     // Whether the pipe of this number is up, with its wire here.
     fn is_up_as(&self, p: PipeId) -> bool
         ensures number { result ≡ true → self.now.id ≡ p }
@@ -163,7 +163,7 @@ impl<W: Wire> Pipes<W> {
         }
     }
 
-    /// The pipe at this place goes down.
+    /// The pipe at this place goes down; returns that it did, and why.
     pub fn take_down(&mut self, i: usize, why: Why) -> Asked
         requires there { HasPlace self.old i }
         requires room { length self.old.down.items < deque_capacity self.old.down }
@@ -291,11 +291,11 @@ impl<W: Wire> Pipes<W> {
         let mut left = self.places.len();
         while left > 0 {
             left -= 1;
-            let Some(Place { id, wire }) = self.places.pop_front() else {
+            let Some(PipePlace { id, wire }) = self.places.pop_front() else {
                 unreachable!()
             };
             if let Some(wire) = wire {
-                self.places.push_back_reserved(Place {
+                self.places.push_back_reserved(PipePlace {
                     id,
                     wire: Some(wire),
                 });
@@ -321,7 +321,7 @@ impl<W: Wire> Pipes<W> {
         requires { HasRoom self.old }
         ensures { AddsPipe W.shown id wire self.old self.new }
     {
-        self.places.push_back_reserved(Place {
+        self.places.push_back_reserved(PipePlace {
             id,
             wire: Some(wire),
         });

@@ -3,7 +3,7 @@ ghost use Rattle.std.specs.Prelude.{◌≡◌, ◌∷◌, ◌++◌, [], IfSome, 
 ghost use Rattle.sp_history.specs.declared.entry.Why.{Why as WhyType};
 ghost use Rattle.core_parts.specs.Pipes.{held, up_pipes};
 
-use crate::pipes::{DownPipe, Pipes, Place};
+use crate::pipes::{DownPipe, PipePlace, Pipes};
 use sp_base::PipeId;
 use std::collections::VecDeque;
 use std::marker::Model;
@@ -45,10 +45,10 @@ impl<W> WireList<W> {
 }
 
 // Ends the places, which are empty.
-fn end_places<W>(mut places: VecDeque<Place<W>>)
+fn end_places<W>(mut places: VecDeque<PipePlace<W>>)
     requires { held places.items ≡ [] }
 {
-    while let Some(Place { id: _, wire }) = places.pop_front() {
+    while let Some(PipePlace { id: _, wire }) = places.pop_front() {
         match wire {
             None => {}
             Some(_wire) => unreachable!(),

@@ -1,4 +1,4 @@
-//! What is compared of an answer.
+//! What is compared of a result.
 use crate::wires::PlayWire;
 use sp_base::{OpName, SpError};
 use sp_core::{BeginError, CtxError, Gone, NowError, Outcome, TopicError};

@@ -15,9 +15,9 @@ pub enum Give<'a> {
     Malformed,
 }
 
-/// A call of a core, and what it answers. Places, pipes and contexts stand by their numbers, errors by those of nng, and
-/// operations by how many began before them. A header stands by its words where a message goes in or comes back, else by
-/// its bytes; the body follows it.
+/// A call of a core, and what it returns. Places, pipes and contexts stand by their numbers, errors by those of nng,
+/// and operations by how many began before them. A header stands by its words where a message goes in or comes back,
+/// else by its bytes; the body follows it.
 #[derive(Clone, Copy)]
 pub enum Step<'a> {
     /// A wire over the link with this place, which takes so many messages and gives this, becomes this pipe.

@@ -106,7 +106,7 @@ impl PlayWire {
         }
     }
 
-    // What it answers where it is asked for room.
+    // What it returns where it is asked for room.
     fn has_room(&self) -> Room {
         if matches!(self.fails, Fails::AtRoom) {
             return Room::Failed;

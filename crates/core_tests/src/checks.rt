@@ -5,7 +5,7 @@ ghost use Rattle.proto_pipeline.specs.Pulls.{Ties as PullTies};
 ghost use Rattle.proto_pipeline.specs.Pushes.{Ties as PushTies};
 
 use core_driver::Driver;
-use core_plays::{Out, Play, PlayWire, Step};
+use core_plays::{CorePlay, Out, PlayWire, Step};
 use proto_pipeline::{Pull, Push};
 use sp_base::{NoMemory, Role};
 use sp_history::setting::Options;
@@ -56,7 +56,7 @@ fn pushing(rt: &impl Abort, alloc: Global, raw: bool, slots: u32) -> Driver<Push
     made(rt, Driver::new(alloc, push(rt, alloc, raw), slots))
 }
 
-// The core answers each step as it says, and ends with these wires.
+// The core returns at each step what it says, and ends with these wires.
 fn plays<P: Proto, R: Wait + Abort>(
     rt: &R,
     alloc: Global,
@@ -64,12 +64,12 @@ fn plays<P: Proto, R: Wait + Abort>(
     steps: &[Step<'_>],
     outs: &[Out<'_>],
 ) {
-    let mut play = Play::new(alloc, driver);
+    let mut play = CorePlay::new(alloc, driver);
     assert_eq!(rt; play.wrong_step(rt, alloc, steps), None);
     assert!(rt; play.ends(rt, alloc, outs));
 }
 
-/// A core over a pull, raw or not, of so many slots answers each step as it says, and ends with these wires.
+/// A core over a pull, raw or not, of so many slots returns at each step what it says, and ends with these wires.
 pub fn pull_plays<R: Wait + Abort>(
     rt: &R,
     alloc: Global,

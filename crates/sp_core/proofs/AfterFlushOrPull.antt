@@ -17,7 +17,7 @@ use Rattle.sp_history.specs.Past.{up, ctxs, is_closed}
 use Rattle.sp_history.specs.Legal.{Calm, Allowed, condemned}
 use Rattle.sp_history.specs.Moments.{Moment, past, also, Lawful}
 use Rattle.sp_core.specs.declared.owner.Core.{Core}
-use Rattle.core_parts.specs.declared.pipes.Place.{Place}
+use Rattle.core_parts.specs.declared.pipes.PipePlace.{PipePlace}
 use Rattle.core_parts.specs.declared.pipes.Pipes.{Pipes}
 use Rattle.core_parts.specs.OpWordsStand.{OpWordsStand}
 use Rattle.core_parts.specs.OperationsStand.{OperationsStand, done_count}
@@ -154,7 +154,7 @@ module _ {W : Type 0} (shown : W → WireView) where
       let x = placed l i p there in
       let w = x.1 in
       let out = subst (λ (y : Why). EmptiesPlace i y l m) e empties in
-      let alike : l.places.items ≡ set l.places.items i (record { id = x.0.id; wire = Some w }) = sym (ap (set l.places.items i) (ap (λ (o : Option W). let y : Place W = record { id = x.0.id; wire = o } in y) (sym x.4) ∙ x.2) ∙ set-get_or l.places.items i x.0) in
+      let alike : l.places.items ≡ set l.places.items i (record { id = x.0.id; wire = Some w }) = sym (ap (set l.places.items i) (ap (λ (o : Option W). let y : PipePlace W = record { id = x.0.id; wire = o } in y) (sym x.4) ∙ x.2) ∙ set-get_or l.places.items i x.0) in
       subst (λ (q : Pipes W). PipesStand shown q (also t (Down p why))) (sym same) (emptied shown l l m t i p x.0 w w why lawful h there x.2 x.4 (λ u. (u.agrees, shows (shown w))) alike refl refl out)
 
 pub shows_malformed : (z : Setting) (p : ℕ) (b : List ℕ) (before : List Entry) (w : WireView) → malformed z before p b ≡ true → ShowsWhy z (Frame p b ∷ before) p whys.Malformed w

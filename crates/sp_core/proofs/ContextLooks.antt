@@ -20,7 +20,7 @@ use Rattle.sp_pending.specs.declared.pending.PendingOperation.{PendingOperation}
 use Rattle.sp_pending.specs.Pendings.{PendingView, IsNextIn, behind, in_bucket, left_of, bucket_of}
 use Rattle.sp_pending.proofs.RingSteps.{is_same}
 use Rattle.sp_pending.proofs.Walks.{Step, bucket_without}
-use Rattle.sp_core.specs.Looking.{ends_in, HasLooked, IsLeft, LooksTo, ReadsPending, FoundOf, line_on}
+use Rattle.sp_core.specs.Looking.{ends_in, HasLooked, IsLeft, LooksTo, ReadsPending, FoundOf, bucket_items}
 use Rattle.core_parts.specs.Reads.{Grows}
 use Rattle.core_parts.specs.declared.operations.Operations.{Operations}
 use Rattle.core_parts.specs.OperationsStand.{OperationsStand, pending_of}
@@ -62,7 +62,7 @@ first_left (r ∷ ss) slots op s c h e = go (is_of op r) refl h (first_left ss s
         rw (is_same (bucket_of slots r.ctx) (bucket_of slots c) (ap (bucket_of slots) here)) (inl (same_op-eq r.op op k, here))
     go false k q again = more (bucket_of slots r.ctx == bucket_of slots c) (again q e)
 
-pub looks_first : (sh : Operations) (c : ℕ) (t : Moment) (reads : List word.ShownOperation) → OperationsStand [] sh t → LooksTo (line_on c sh.pending) c t t reads reads
+pub looks_first : (sh : Operations) (c : ℕ) (t : Moment) (reads : List word.ShownOperation) → OperationsStand [] sh t → LooksTo (bucket_items c sh.pending) c t t reads reads
 looks_first sh c t reads h = record {
   more = [];
   grew = sym (append-nil reads);
@@ -103,15 +103,15 @@ looks_step x rest c t u v before after old mid new l (inl f) = looks_on x rest c
 looks_step x rest c t u v before after old mid new l (inr f) = looks_ended x rest c t u v old mid new l f.1 f.2.0 f.2.1
 
 -- what is left of the line, and the next one in it
-pub line_then : (x : PendingOperation) (c : ℕ) (t u : Moment) (before after : Operations) (old new : List word.ShownOperation) (s : Step x (line_on c before.pending)) → FoundOf x c t u before after old new
-    → (left_of (behind x.op (line_on c before.pending)) (line_on c after.pending) ≡ s.rest) × IsNextIn (behind x.op (line_on c before.pending)) (line_on c after.pending)
+pub line_then : (x : PendingOperation) (c : ℕ) (t u : Moment) (before after : Operations) (old new : List word.ShownOperation) (s : Step x (bucket_items c before.pending)) → FoundOf x c t u before after old new
+    → (left_of (behind x.op (bucket_items c before.pending)) (bucket_items c after.pending) ≡ s.rest) × IsNextIn (behind x.op (bucket_items c before.pending)) (bucket_items c after.pending)
 line_then x c t u before after old new s (inl f) =
-    subst (λ (v : PendingView). (left_of (behind x.op (line_on c before.pending)) (line_on c v) ≡ s.rest) × IsNextIn (behind x.op (line_on c before.pending)) (line_on c v)) (sym f.1) (s.stays, s.stays_in)
+    subst (λ (v : PendingView). (left_of (behind x.op (bucket_items c before.pending)) (bucket_items c v) ≡ s.rest) × IsNextIn (behind x.op (bucket_items c before.pending)) (bucket_items c v)) (sym f.1) (s.stays, s.stays_in)
 line_then x c t u before after old new s (inr f) =
     let b = before.pending in
     let gone = bucket_without b.slots (bucket_of b.slots c) x.op b.items in
-    subst (λ (v : PendingView). (left_of (behind x.op (line_on c b)) (line_on c v) ≡ s.rest) × IsNextIn (behind x.op (line_on c b)) (line_on c v)) (sym f.0)
-    (subst (λ (xs : List PendingOperation). (left_of (behind x.op (line_on c b)) xs ≡ s.rest) × IsNextIn (behind x.op (line_on c b)) xs) (sym gone) (s.gone, s.gone_in))
+    subst (λ (v : PendingView). (left_of (behind x.op (bucket_items c b)) (bucket_items c v) ≡ s.rest) × IsNextIn (behind x.op (bucket_items c b)) (bucket_items c v)) (sym f.0)
+    (subst (λ (xs : List PendingOperation). (left_of (behind x.op (bucket_items c b)) xs ≡ s.rest) × IsNextIn (behind x.op (bucket_items c b)) xs) (sym gone) (s.gone, s.gone_in))
 
 -- all of them were looked at
 abbrev pub LookedAll : ℕ → Moment → Moment → List word.ShownOperation → List word.ShownOperation → Type 0

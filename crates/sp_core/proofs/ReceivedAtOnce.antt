@@ -49,7 +49,7 @@ use Rattle.sp_core.specs.Moving.{AreSettling, Later}
 use Rattle.aio_word.specs.declared.phase.Phase.TheVariants as phase
 use Rattle.aio_word.specs.declared.rule.ShownOperation as word
 use Rattle.aio_word.specs.Answers.{of_op}
-use Rattle.sp_core.specs.declared.immediate.NowError.{NowError}
+use Rattle.sp_core.specs.declared.calls.immediate.NowError.{NowError}
 use Rattle.sp_core.specs.Looking.{HasLooked, ends_in}
 use Rattle.core_parts.specs.Reads.{Grows}
 use Rattle.sp_core.specs.Owning.{Owns, CanBegin}
@@ -336,14 +336,14 @@ never_sent op c callers im (Gone cause by) h e = cc
 
 -- ---- The whole turn
 
-ends_front : (op : OpName) (xs ys : List Entry) → ends_in op xs ≡ true → ends_in op (xs ++ ys) ≡ true
-ends_front op [] ys h = absurd cc
-ends_front op (End other ending ∷ xs) ys h = go (same_op other op) h (ends_front op xs ys)
+ends_prefix : (op : OpName) (xs ys : List Entry) → ends_in op xs ≡ true → ends_in op (xs ++ ys) ≡ true
+ends_prefix op [] ys h = absurd cc
+ends_prefix op (End other ending ∷ xs) ys h = go (same_op other op) h (ends_prefix op xs ys)
   where
     go : (b : Bool) → (b || ends_in op xs) ≡ true → (ends_in op xs ≡ true → ends_in op (xs ++ ys) ≡ true) → (b || ends_in op (xs ++ ys)) ≡ true
     go true h again = refl
     go false h again = again h
-ends_front op (_ ∷ xs) ys h = ends_front op xs ys h
+ends_prefix op (_ ∷ xs) ys h = ends_prefix op xs ys h
 
 looked_on : (c : ℕ) (before turn more : List Entry) (old mid new : List word.ShownOperation) → HasLooked c before turn old mid → Grows mid new → HasLooked c before (onto turn [] ++ more) old new
 looked_on c before turn more old mid new l g =
@@ -355,7 +355,7 @@ looked_on c before turn more old mid new l g =
     }
   where
     go : (xs : List word.ShownOperation) (op : OpName) → (ends_in op (onto turn []) ≡ true) ⊎ Stands (of_op op phase.Pending 0) xs → (ends_in op (onto turn [] ++ more) ≡ true) ⊎ Stands (of_op op phase.Pending 0) (xs ++ g.more)
-    go xs op (inl h) = inl (ends_front op (onto turn []) more h)
+    go xs op (inl h) = inl (ends_prefix op (onto turn []) more h)
     go xs op (inr h) = inr (stands_left (of_op op phase.Pending 0) xs g.more h)
 
 module _ {P W : Type 0} (ties : P → Moment → Type 0) (room : P → ℕ) (shown : W → WireView) where
@@ -363,8 +363,8 @@ module _ {P W : Type 0} (ties : P → Moment → Type 0) (room : P → ℕ) (sho
   lost_turns c d h k ctx t u v s l e g =
       goes_on ties room shown c d [] [] h k t u s (ap (λ (x : Moment). x.z) e ∙ ap (λ (x : Moment). x.z) l.same) (ap (λ (x : Moment). x.before) e ∙ ap (λ (x : Moment). x.before) l.same) (ap (λ (x : Moment). x.caller) e ∙ ap (λ (x : Moment). x.caller) l.same) g
 
-  front_lost : (c : Core P W) (h : List (Turn Entry)) (k ctx : ℕ) (z : Setting) (t v : Moment) → Turns ties room shown [] c h k t → AreSettling t.turn → t.z ≡ z → (l : LostTo ctx t v) → HasLost k ctx z.callers (onto t.turn [] ++ l.lost)
-  front_lost c h k ctx z t v s quiet z_is l = record {
+  prefix_lost : (c : Core P W) (h : List (Turn Entry)) (k ctx : ℕ) (z : Setting) (t v : Moment) → Turns ties room shown [] c h k t → AreSettling t.turn → t.z ≡ z → (l : LostTo ctx t v) → HasLost k ctx z.callers (onto t.turn [] ++ l.lost)
+  prefix_lost c h k ctx z t v s quiet z_is l = record {
     early = onto t.turn [];
     lost = l.lost;
     count = l.count;
@@ -390,11 +390,11 @@ module _ {P W : Type 0} (ties : P → Moment → Type 0) (room : P → ℕ) (sho
         done.0,
         done.1,
         record {
-          front = onto t.turn [] ++ l.lost;
+          prefix = onto t.turn [] ++ l.lost;
           op = op;
           late = onto n.2.1.0 [];
           entries = entries ∙ ap (λ (xs : List Entry). (onto t.turn [] ++ l.lost) ++ xs) named;
-          front_lost = front_lost c h k ctx z t v s quiet z_is l;
+          prefix_lost = prefix_lost c h k ctx z t v s quiet z_is l;
           late_settles = settling-order n.2.1.0 n.2.1.1;
         },
         subst (λ (xs : List Entry). HasLooked ctx (past_of h) xs old new) (sym (entries ∙ append_assoc (onto t.turn []) l.lost last)) (looked_on ctx (past_of h) t.turn (l.lost ++ last) old mid new looked grew),
@@ -411,7 +411,7 @@ module _ {P W : Type 0} (ties : P → Moment → Type 0) (room : P → ℕ) (sho
         done.0,
         done.1,
         (
-          subst (λ (xs : List Entry). HasLost k ctx z.callers xs) (sym entries) (front_lost c h k ctx z t v s quiet z_is l),
+          subst (λ (xs : List Entry). HasLost k ctx z.callers xs) (sym entries) (prefix_lost c h k ctx z t v s quiet z_is l),
           subst (λ (xs : List Entry). RefusedNow e z xs ctx) at_end (subst (λ (x : Setting). RefusedNow e x (past v) ctx) v_z n.2.1),
         ),
         subst (λ (xs : List Entry). HasLooked ctx (past_of h) xs old new) (sym entries) (looked_on ctx (past_of h) t.turn l.lost old mid new looked grew),

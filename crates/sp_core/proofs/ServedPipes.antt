@@ -6,7 +6,7 @@ use Rattle.sp_history.specs.declared.entry.Entry.{Entry}
 use Rattle.sp_history.specs.Lists.{has}
 use Rattle.sp_history.specs.Past.{up}
 use Rattle.sp_history.specs.Moments.{Moment, past, Lawful}
-use Rattle.sp_core.specs.declared.serve.Visit.{Visit}
+use Rattle.sp_core.specs.declared.calls.serve.Visit.{Visit}
 use Rattle.core_parts.specs.PartSteps.{IsFirstAbove}
 use Rattle.sp_core.specs.Serving.{AreAsMany, AreFew, IsFlushedIn, IsServedIn, VisitedTo, SweptTo, ups_after}
 use Rattle.core_parts.proofs.ChangedWires.{equal_numbers, same_number, without-left}

@@ -1,11 +1,11 @@
 -- What the steps of a begin lead to, within a turn.
 use Rattle.sp_base.specs.declared.OpName.{OpName}
 use Rattle.sp_core.specs.KeptWords.{KeepsReads, KeepsWords}
-use Rattle.core_parts.specs.OpWordsStand.{IsNext}
+use Rattle.core_parts.specs.OpWordsStand.{IsNext, OpWordsStand}
 use Rattle.sp_core.specs.Looking.{HasLooked, reads_of}
 use Rattle.sp_core.specs.Moving.{AreSettling}
 use Rattle.sp_core.specs.Owning.{CanBegin, Owns}
-use Rattle.core_parts.specs.OperationsStand.{AllTaken}
+use Rattle.core_parts.specs.OperationsStand.{AllTaken, OperationsStand}
 use Rattle.sp_core.specs.Standing.{IsSettled, RefusedFor, StandsFor, Turns, core_setting}
 use Rattle.sp_core.specs.declared.ops.BeginError.{BeginError}
 use Rattle.sp_core.specs.declared.owner.Core.{Core}
@@ -31,6 +31,19 @@ OpensTurn ties room shown k c kind old new =
 abbrev pub TellsMayBegin : {P W : Type 0} → (P → Moment → Type 0) → (P → ℕ) → (W → WireView) → Result (Unit {0}) BeginError → ℕ → Verb → Core P W → Type 0
 TellsMayBegin ties room shown r c verb x =
     (t : Moment) (act : RecordedActType) → Owns ties room shown [] x t → verb_of act ≡ verb → MatchResult r (λ _. CanBegin t c act) (λ e. RefusedFor e t.z (past t) c act × (e ≢ begin_error.NoMemory))
+
+-- the words and the lists of operations stand for a moment
+abbrev pub MayDraw : {P W : Type 0} → Core P W → Type 0
+MayDraw old = (t : Moment) × OpWordsStand old.op_words t × OperationsStand [] old.operations t
+
+-- a free slot is drawn for an operation that may begin, or why not
+abbrev pub DrawsFor : {P W : Type 0} → (P → Moment → Type 0) → (P → ℕ) → (W → WireView) → Result OpName BeginError → ℕ → Verb → Core P W → Core P W → Type 0
+DrawsFor ties room shown r c verb old new =
+    KeepsReads old new ((t : Moment) (act : RecordedActType) → Owns ties room shown [] old t → verb_of act ≡ verb → MatchResult r (λ op. Owns ties room shown (op.slot ∷ []) new t × IsNext t op × CanBegin t c act) (λ e. Owns ties room shown [] new t × RefusedFor e t.z (past t) c act × (e ≢ begin_error.NoMemory)))
+
+-- the slot that was drawn can be put back
+abbrev pub MayPutBack : {P W : Type 0} → Core P W → OpName → Type 0
+MayPutBack new op = (t : Moment) × OperationsStand (op.slot ∷ []) new.operations t
 
 -- a free slot is drawn, or every one is taken
 abbrev pub DrawsSlot : {P W : Type 0} → (P → Moment → Type 0) → (P → ℕ) → (W → WireView) → Option OpName → Core P W → Core P W → Type 0

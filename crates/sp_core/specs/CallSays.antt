@@ -9,21 +9,21 @@ use Rattle.sp_history.specs.Moments.{Moment}
 use Rattle.sp_history.specs.Past.{past_of, is_closed, up}
 use Rattle.sp_history.specs.Swept.{IsSwept, AreFlushed}
 use Rattle.sp_proto.specs.Kinds.{Kind, text_of}
-use Rattle.sp_core.specs.declared.contexts.CtxError.{CtxError}
-use Rattle.sp_core.specs.declared.contexts.TopicError.{TopicError}
-use Rattle.sp_core.specs.declared.immediate.NowError.{NowError}
+use Rattle.sp_core.specs.declared.calls.contexts.CtxError.{CtxError}
+use Rattle.sp_core.specs.declared.calls.contexts.TopicError.{TopicError}
+use Rattle.sp_core.specs.declared.calls.immediate.NowError.{NowError}
 use Rattle.core_parts.specs.declared.pipes.DownPipe.{DownPipe}
 use Rattle.sp_core.specs.declared.ops.BeginError.{BeginError}
 use Rattle.sp_core.specs.declared.owner.Core.{Core}
-use Rattle.sp_core.specs.declared.attach.AttachError.{AttachError}
-use Rattle.sp_core.specs.declared.serve.Served.{Served}
+use Rattle.sp_core.specs.declared.calls.attach.AttachError.{AttachError}
+use Rattle.sp_core.specs.declared.calls.serve.Served.{Served}
 use Rattle.sp_core.specs.Attaching.{AttachedBy, attached}
 use Rattle.sp_core.specs.Collecting.{IsOpen}
 use Rattle.sp_core.specs.Contexts.{ShutBy, SubscribedBy, UnsubscribedBy}
 use Rattle.sp_core.specs.Cores.{callers_of, words_of}
 use Rattle.sp_core.specs.declared.label.CoreLabel.{CoreLabel}
 use Rattle.sp_history.specs.declared.setting.Setting.{Setting}
-use Rattle.turn_lock.specs.Turning.{TakesTurn}
+use Rattle.turn_lock.specs.Turning.{TakesTurn, HasTurnMore}
 use Rattle.sp_core.specs.Immediate.{ReceivedNow}
 use Rattle.sp_core.specs.Looking.{HasLooked, reads_of}
 use Rattle.sp_core.specs.Parts.{HasWires}
@@ -48,7 +48,7 @@ MayCollect stands c k op = ((h : List (Turn Entry)) × stands c h × IsOpen k op
 -- what `TakesTurn` says, of the histories of which this is so
 abbrev pub TakesTurnWhere : {P W : Type 0} → (Core P W → List (Turn Entry) → Type 0) → Core P W → Core P W → ℕ → (List (Turn Entry) → Type 0) → (List (Turn Entry) → Turn Entry → Type 0) → Type 0
 TakesTurnWhere stands old new k holds says =
-    (h : List (Turn Entry)) → stands old h → holds h → (t : Turn Entry) × (t.number ≡ k) × stands new (h ++ t ∷ []) × says h t
+    (h : List (Turn Entry)) → stands old h → holds h → HasTurnMore stands new k says h
 
 -- what no turn changes: the setting, and which words are the core's
 abbrev pub core_label : {P W : Type 0} → (P → Kind) → Core P W → CoreLabel

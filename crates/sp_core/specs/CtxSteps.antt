@@ -3,8 +3,8 @@ use Rattle.sp_core.specs.KeptWords.{KeepsWords}
 use Rattle.sp_core.specs.Closing.{ClosesAt, after}
 use Rattle.sp_core.specs.Contexts.{AreCtxEnds, IsShutting, MayOpen, MayShut, MaySwitch, RefusedOpen, RefusedShut, RefusedTopic, ShutOne, SwitchedTo}
 use Rattle.sp_core.specs.Owning.{Owns}
-use Rattle.sp_core.specs.declared.contexts.CtxError.{CtxError}
-use Rattle.sp_core.specs.declared.contexts.TopicError.{TopicError}
+use Rattle.sp_core.specs.declared.calls.contexts.CtxError.{CtxError}
+use Rattle.sp_core.specs.declared.calls.contexts.TopicError.{TopicError}
 use Rattle.sp_core.specs.declared.owner.Core.{Core}
 use Rattle.sp_history.specs.Legal.{is_pending_on}
 use Rattle.sp_history.specs.Lists.{has}
@@ -27,10 +27,15 @@ abbrev pub TellsMayOpen : {P W : Type 0} → (P → Moment → Type 0) → (P �
 TellsMayOpen ties room shown r x =
     (t : Moment) → Owns ties room shown [] x t → MatchOption r (MayOpen t.z (past t)) (λ e. RefusedOpen e t.z (past t))
 
--- the context was shut, or why not
-abbrev pub ShutsOne : {P W : Type 0} → (P → Moment → Type 0) → (P → ℕ) → (W → WireView) → Result (Unit {0}) CtxError → ℕ → Core P W → Core P W → Type 0
-ShutsOne ties room shown r c old new =
-    KeepsWords old new ((t : Moment) → Owns ties room shown [] old t → MatchResult r (λ _. ShutOne (Owns ties room shown [] new) t c) (λ e. RefusedShut e t.z (past t) c × Owns ties room shown [] new t))
+-- the context may be shut
+abbrev pub MayShutOne : {P W : Type 0} → (P → Moment → Type 0) → (P → ℕ) → (W → WireView) → ℕ → Core P W → Type 0
+MayShutOne ties room shown c old =
+    (t : Moment) × Owns ties room shown [] old t × MayShut t.z (past t) c
+
+-- the context was shut
+abbrev pub ShutsOne : {P W : Type 0} → (P → Moment → Type 0) → (P → ℕ) → (W → WireView) → ℕ → Core P W → Core P W → Type 0
+ShutsOne ties room shown c old new =
+    KeepsWords old new ((t : Moment) → Owns ties room shown [] old t → MayShut t.z (past t) c → ShutOne (Owns ties room shown [] new) t c)
 
 -- whether the context may be shut, or why not
 abbrev pub TellsMayShut : {P W : Type 0} → (P → Moment → Type 0) → (P → ℕ) → (W → WireView) → Option CtxError → ℕ → Core P W → Type 0

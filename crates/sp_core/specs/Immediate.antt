@@ -18,8 +18,8 @@ use Rattle.sp_history.specs.Kept.{kept}
 use Rattle.sp_history.specs.Moments.{Moment, past, also}
 use Rattle.sp_proto.specs.Kinds.{text_of}
 use Rattle.sp_proto.specs.Machines.{ChecksAct}
-use Rattle.sp_core.specs.declared.immediate.NowError.{NowError}
-use Rattle.sp_core.specs.declared.immediate.NowError.TheVariants as now_error
+use Rattle.sp_core.specs.declared.calls.immediate.NowError.{NowError}
+use Rattle.sp_core.specs.declared.calls.immediate.NowError.TheVariants as now_error
 use Rattle.sp_core.specs.declared.ops.BeginError.TheVariants as error
 use Rattle.core_parts.specs.Ends.{IsCallers}
 use Rattle.sp_core.specs.Moving.{AreSettling, Later}
@@ -44,7 +44,7 @@ pub record IsLost (k c callers : ℕ) (es : List Entry) : Type 0 where
 -- so many receives were lost so, one after the other
 abbrev pub AreLost : ℕ → ℕ → ℕ → ℕ → List Entry → Type 0
 AreLost zero k c callers es = es ≡ []
-AreLost (suc n) k c callers es = (front : List Entry) × (last : List Entry) × (es ≡ front ++ last) × AreLost n k c callers front × IsLost k c callers last
+AreLost (suc n) k c callers es = (prefix : List Entry) × (last : List Entry) × (es ≡ prefix ++ last) × AreLost n k c callers prefix × IsLost k c callers last
 
 -- what settling records, and then receives that were lost
 pub record HasLost (k c callers : ℕ) (es : List Entry) : Type 0 where
@@ -57,11 +57,11 @@ pub record HasLost (k c callers : ℕ) (es : List Entry) : Type 0 where
 
 -- then one that was begun, won with this message, and collected, in one turn
 pub record HasReceived (m : MessageView) (k c callers : ℕ) (es : List Entry) : Type 0 where
-  pub front : List Entry
+  pub prefix : List Entry
   pub op : OpName
   pub late : List Entry
-  pub entries : es ≡ front ++ Begin op k c Recv None ∷ End op (Won (Received (text_of m))) ∷ Took op k ∷ late
-  pub front_lost : HasLost k c callers front
+  pub entries : es ≡ prefix ++ Begin op k c Recv None ∷ End op (Won (Received (text_of m))) ∷ Took op k ∷ late
+  pub prefix_lost : HasLost k c callers prefix
   pub late_settles : AreSettling late
 
 -- why nothing was received, by the history with this turn: as no receive begins, or nothing is kept

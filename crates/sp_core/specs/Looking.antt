@@ -37,9 +37,9 @@ pub record HasLooked (c : ℕ) (past entries : List Entry) (old new : List word.
 
 -- ---- On the way
 
--- the pending operations in the line of the context
-abbrev pub line_on : ℕ → PendingView → List PendingOperation
-line_on c v = in_bucket v.slots (bucket_of v.slots c) v.items
+-- the pending operations in the bucket of the context
+abbrev pub bucket_items : ℕ → PendingView → List PendingOperation
+bucket_items c v = in_bucket v.slots (bucket_of v.slots c) v.items
 
 -- an operation of this name and context is among these
 abbrev pub IsLeft : OpName → ℕ → List PendingOperation → Type 0

@@ -1,5 +1,5 @@
 use Rattle.std.proofs.Common.{◌∙◌, ◌-◌, List, arith, refl, subst, sym}
-use Rattle.core_parts.specs.declared.pipes.Place.{Place}
+use Rattle.core_parts.specs.declared.pipes.PipePlace.{PipePlace}
 use Rattle.core_parts.proofs.Packing.{PackedTo, packs_none, packs_some, packs_empty, packs_all}
 use Rattle.core_parts.proofs.pipes.Pipes.pack.Goals as goal
 
@@ -8,7 +8,7 @@ loop-left-init g c = record { parts = packs_none c.args.self.now.places.items c.
 
 pub loop-left-preserved-in-Some-wire : goal.loop-left-preserved-in-Some-wire
 loop-left-preserved-in-Some-wire g c = record {
-  parts = subst (λ (xs : List (Place g.row.W.Denot)). PackedTo c.args.self.now.places.items xs (c.loop-left.left - 1)) (sym c.push_back_reserved.ensures.items) (packs_some _ _ _ _ _ _ _ c.loop-left.invariant.parts (omega (arith, c.loop-left-test.true)) c.in-Some.ensures.items refl c.in-Some-wire.is);
+  parts = subst (λ (xs : List (PipePlace g.row.W.Denot)). PackedTo c.args.self.now.places.items xs (c.loop-left.left - 1)) (sym c.push_back_reserved.ensures.items) (packs_some _ _ _ _ _ _ _ c.loop-left.invariant.parts (omega (arith, c.loop-left-test.true)) c.in-Some.ensures.items refl c.in-Some-wire.is);
   count = c.loop-left.invariant.count;
   down = c.loop-left.invariant.down;
 }

@@ -1,7 +1,7 @@
 use Rattle.std.proofs.Common.{◌∙◌, subst, rules}
 use Rattle.std.specs.Prelude.{Option, Result, Ok}
 use Rattle.sp_msg.specs.Views.{MessageView}
-use Rattle.sp_core.specs.declared.immediate.NowError.{NowError}
+use Rattle.sp_core.specs.declared.calls.immediate.NowError.{NowError}
 use Rattle.sp_core.specs.Immediate.{TriedTo}
 use Rattle.sp_core.proofs.ContextLooks.{grows_trans}
 use Rattle.sp_core.proofs.ReceivedAtOnce.{lost_more}

@@ -10,6 +10,9 @@ use Rattle.sp_core.proofs.ReceivedAtOnce.{now_begun, got, missed, never_sent}
 use Rattle.sp_core.proofs.TriedOnce.{begun, begun_now, given_now, took_now}
 use Rattle.sp_core.proofs.owner.Core.try_once.Goals as goal
 
+pub draw_to_receive-requires : goal.draw_to_receive-requires
+draw_to_receive-requires g c = let r = c.requires in (r.0, r.1.op_words, r.1.operations)
+
 pub give-requires : goal.give-requires
 give-requires g c =
     let r = c.requires in

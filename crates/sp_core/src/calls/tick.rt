@@ -19,7 +19,7 @@ use turn_lock::Stands;
 impl<P: Proto, W: Wire> Core<P, W> {
     /// The moment is `now`, in milliseconds: names the operations whose deadlines have come, by deadline and then by
     /// slot, each once. A moment before the last tick counts as that. A closed socket names nothing. To end a named
-    /// operation is its callers' part (`expire` of the words). Takes no memory.
+    /// operation is its callers' part (`expire` of the words). Doesn't fail when out of memory.
     pub fn due<R: Wait>(&mut self, rt: &R, k: u32, now: Tick, out: &mut NameList)
         requires turn { MayTakeTurn ⟦<Core<P, W> as Stands>⟧.stands self.old k }
         requires room { slots_of self.old ≤ out.old.spare }

@@ -1,11 +1,11 @@
 //! Operations begin.
-ghost use Rattle.std.specs.Prelude.{◌≡◌, ◌≢◌, [], Err, IfErr};
+ghost use Rattle.std.specs.Prelude.{◌≡◌, ◌≢◌, [], Err, IfErr, IfOk, IfSome};
 ghost use Rattle.sp_history.specs.Moments.{Moment};
 ghost use Rattle.sp_pending.specs.Pendings.{IsAmong};
 ghost use Rattle.sp_proto.specs.Kinds.{entry_act};
 ghost use Rattle.sp_core.specs.Cores.{pending_of};
 ghost use Rattle.sp_core.specs.Owning.{Owns, IsInTurn};
-ghost use Rattle.sp_core.specs.BeginSteps.{OpensTurn, TellsMayBegin, DrawsSlot, MayBegin, BeginsDrawn};
+ghost use Rattle.sp_core.specs.BeginSteps.{OpensTurn, TellsMayBegin, MayDraw, DrawsFor, DrawsSlot, MayPutBack, MayBegin, BeginsDrawn};
 ghost use Rattle.sp_core.specs.SettleSteps.{SettlesTo, LooksOn, FindsOf};
 ghost use Rattle.sp_core.specs.CallSays.{MayTakeTurn, BeginsRecv, BeginsSend, TakesOneTurn};
 
@@ -23,7 +23,8 @@ use turn_lock::Stands;
 impl<P: Proto, W: Wire> Core<P, W> {
     /// Begins a receive on the context, with a deadline or none. It is answered by a message, or ends without one; its
     /// caller collects it. Refused by the first of these causes: the socket is closed; the role doesn't receive, or has
-    /// no such contexts; the context isn't open; the protocol's state; every slot is taken. Takes no memory.
+    /// no such contexts; the context isn't open; the protocol's state; every slot is taken. Doesn't fail when out of
+    /// memory.
     pub fn begin_recv<R: Wait>(
         &mut self,
         rt: &R,
@@ -36,11 +37,9 @@ impl<P: Proto, W: Wire> Core<P, W> {
         ensures memory { result ≢ Err BeginError.NoMemory }
     {
         self.open_turn(rt, k, c);
-        if let Err(e) = self.may_begin(c, Verb::Recv) {
-            return Err(e);
-        }
-        let Some(op) = self.draw() else {
-            return Err(BeginError::Busy);
+        let op = match self.draw_for(c, Verb::Recv) {
+            Err(e) => return Err(e),
+            Ok(op) => op,
         };
         match self.begin_drawn(op, c, Act::Recv, deadline) {
             Ok(()) => (),
@@ -65,11 +64,9 @@ impl<P: Proto, W: Wire> Core<P, W> {
         ensures handed_back { IfErr result (λ e. e.1 ≡ m) }
     {
         self.open_turn(rt, k, c);
-        if let Err(e) = self.may_begin(c, Verb::Send) {
-            return Err((e, m));
-        }
-        let Some(op) = self.draw() else {
-            return Err((BeginError::Busy, m));
+        let op = match self.draw_for(c, Verb::Send) {
+            Err(e) => return Err((e, m)),
+            Ok(op) => op,
         };
         match self.begin_drawn(op, c, Act::Send(m), deadline) {
             Ok(()) => (),
@@ -118,9 +115,23 @@ impl<P: Proto, W: Wire> Core<P, W> {
         }
     }
 
+    // Draws a slot for an operation that may begin on the context.
+    pub(crate) fn draw_for(&mut self, c: Ctx, verb: Verb) -> Result<OpName, BeginError>
+        requires { MayDraw self.old }
+        ensures drawn { DrawsFor P.ties P.room W.shown result c verb self.old self.new }
+        ensures back { IfOk result (λ op. MayPutBack self.new op) }
+    {
+        if let Err(e) = self.may_begin(c, verb) {
+            return Err(e);
+        }
+        let Some(op) = self.draw() else {
+            return Err(BeginError::Busy);
+        };
+        Ok(op)
+    }
+
     // Whether the socket is open and the protocol lets an operation begin.
-    pub(crate) fn may_begin(&self, c: Ctx, verb: Verb) -> Result<(), BeginError>
-        requires { IsInTurn P.ties P.room W.shown self.now }
+    fn may_begin(&self, c: Ctx, verb: Verb) -> Result<(), BeginError>
         ensures { TellsMayBegin P.ties P.room W.shown result c verb self.now }
     {
         if self.closed {
@@ -135,9 +146,10 @@ impl<P: Proto, W: Wire> Core<P, W> {
     }
 
     // Draws a free slot that isn't worn, and names its next operation.
-    pub(crate) fn draw(&mut self) -> Option<OpName>
-        requires { IsInTurn P.ties P.room W.shown self.old }
-        ensures { DrawsSlot P.ties P.room W.shown result self.old self.new }
+    fn draw(&mut self) -> Option<OpName>
+        requires { MayDraw self.old }
+        ensures drawn { DrawsSlot P.ties P.room W.shown result self.old self.new }
+        ensures back { IfSome result (λ op. MayPutBack self.new op) }
     {
         while let Some(slot) = self.operations.draw() {
             if let Some(op) = self.op_words.next(slot) {

@@ -5,8 +5,9 @@
 ghost use Rattle.std.specs.Prelude.{◌≡◌, []};
 ghost use Rattle.sp_history.specs.Moments.{Moment};
 ghost use Rattle.sp_core.specs.Errors.{now_number};
-ghost use Rattle.sp_core.specs.Owning.{Owns, IsInTurn};
+ghost use Rattle.sp_core.specs.Owning.{Owns};
 ghost use Rattle.sp_core.specs.Standing.{IsSettled};
+ghost use Rattle.sp_core.specs.BeginSteps.{MayDraw};
 ghost use Rattle.sp_core.specs.CollectSteps.{DrawsToReceive, ReceivesAtOnce, TriesOnce};
 ghost use Rattle.sp_core.specs.CallSays.{MayTakeTurn, ReceivesNow, TakesOneTurn};
 
@@ -20,7 +21,7 @@ use sp_proto::{Act, Proto, Verb};
 use std::sync::Wait;
 use turn_lock::Stands;
 
-/// Why nothing was received at once, the first cause that stands.
+/// Why nothing was received at once (nng_recvmsg(3)), the first cause that stands.
 #[derive(Clone, Copy, PartialEq, Eq, Debug)]
 pub enum NowError {
     /// As no receive begins. Never for being out of memory.
@@ -42,7 +43,8 @@ impl From<NowError> for SpError {
 
 impl<P: Proto, W: Wire> Core<P, W> {
     /// Receives the oldest message that is kept for the context, if there is one: an operation is begun, won and
-    /// collected in one turn. Refused as `begin_recv` is, and then where nothing is kept. Takes no memory.
+    /// collected in one turn. Refused as `begin_recv` is, and then where nothing is kept. Doesn't fail when out of
+    /// memory.
     pub fn try_recv<R: Wait>(&mut self, rt: &R, k: u32, c: Ctx) -> Result<Message, NowError>
         requires turn { MayTakeTurn ⟦<Core<P, W> as Stands>⟧.stands self.old k }
         ensures { TakesOneTurn P.ties P.room P.kind W.shown self.old self.new k (ReceivesNow result k c self.old self.new) }
@@ -95,14 +97,12 @@ impl<P: Proto, W: Wire> Core<P, W> {
 
     // Draws a slot for a receive that can be given something at once.
     fn draw_to_receive(&mut self, c: Ctx) -> Result<OpName, NowError>
-        requires { IsInTurn P.ties P.room W.shown self.old }
+        requires { MayDraw self.old }
         ensures { DrawsToReceive P.ties P.room W.shown result c self.old self.new }
     {
-        if let Err(e) = self.may_begin(c, Verb::Recv) {
-            return Err(NowError::Begin(e));
-        }
-        let Some(op) = self.draw() else {
-            return Err(NowError::Begin(BeginError::Busy));
+        let op = match self.draw_for(c, Verb::Recv) {
+            Err(e) => return Err(NowError::Begin(e)),
+            Ok(op) => op,
         };
         if !self.proto.keeps(c) {
             self.operations.put_back(op.slot);

@@ -8,7 +8,7 @@ ghost use Rattle.sp_history.specs.Moments.{Moment, past};
 ghost use Rattle.sp_proto.specs.Machines.{NoFlood};
 ghost use Rattle.core_parts.specs.Wires.{IsUnused};
 ghost use Rattle.sp_core.specs.Errors.{attach_number};
-ghost use Rattle.sp_core.specs.Owning.{Owns, IsInTurn};
+ghost use Rattle.sp_core.specs.Owning.{Owns};
 ghost use Rattle.sp_core.specs.Standing.{HasFirst};
 ghost use Rattle.sp_core.specs.Attaching.{NotesLink, TookWire};
 ghost use Rattle.sp_core.specs.ServeSteps.{BringsUp, TellsMayAttach, LeavesNumbers};
@@ -29,7 +29,7 @@ const MOST_PIPES: usize = 4_096;
 // The greatest number of a pipe.
 const LAST_NUMBER: u32 = 2_147_483_647;
 
-/// Why a wire became no pipe, the first cause that stands.
+/// Why a wire became no pipe (nng_pipe(5)), the first cause that stands.
 #[derive(Clone, Copy, PartialEq, Eq, Debug)]
 pub enum AttachError {
     /// The socket is closed.
@@ -54,7 +54,7 @@ impl From<AttachError> for SpError {
     }
 }
 
-/// A pipe that went down, with its wire.
+/// A pipe (nng_pipe(5)) that went down, with its wire.
 #[derive(Drop)]
 pub struct Gone<W> {
     /// Its number.
@@ -66,9 +66,9 @@ pub struct Gone<W> {
 }
 
 impl<P: Proto, W: Wire> Core<P, W> {
-    /// The wire, which was not used yet, becomes a pipe over the link with this place; returns its number, one more than
-    /// the pipes that came up before. Takes all memory that the pipe needs until its wire is taken. Refused by the first
-    /// cause of `AttachError` that stands; then the wire comes back as it was.
+    /// The wire, which was not used yet, becomes a pipe over the link with this place; returns its number, one more
+    /// than the pipes that came up before. Takes all memory that the pipe needs until its wire is taken. Refused by the
+    /// first cause of `AttachError` that stands; then the wire comes back as it was.
     pub fn attach<R: Wait>(
         &mut self,
         rt: &R,
@@ -87,7 +87,7 @@ impl<P: Proto, W: Wire> Core<P, W> {
         answer
     }
 
-    /// The net handed out the link with this place. Also after the close. Takes no memory.
+    /// The net handed out the link with this place. Also after the close. Doesn't fail when out of memory.
     pub fn met<R: Wait>(&mut self, rt: &R, k: u32, place: u32)
         requires turn { MayTakeTurn ⟦<Core<P, W> as Stands>⟧.stands self.old k }
         ensures { TakesOneTurn P.ties P.room P.kind W.shown self.old self.new k (λ z h t. HasFirst (Met place) t) }
@@ -95,7 +95,8 @@ impl<P: Proto, W: Wire> Core<P, W> {
         self.note_link(rt, k);
     }
 
-    /// The link with this place was given back without having become a pipe. Also after the close. Takes no memory.
+    /// The link with this place was given back without having become a pipe. Also after the close. Doesn't fail when
+    /// out of memory.
     pub fn missed<R: Wait>(&mut self, rt: &R, k: u32, place: u32, miss: Miss)
         requires turn { MayTakeTurn ⟦<Core<P, W> as Stands>⟧.stands self.old k }
         ensures { TakesOneTurn P.ties P.room P.kind W.shown self.old self.new k (λ z h t. HasFirst (NoUp place miss) t) }
@@ -114,7 +115,7 @@ impl<P: Proto, W: Wire> Core<P, W> {
     }
 
     /// Takes the wire of the pipe that went down first of those that were not taken; none where there is none. Also
-    /// after the close. Takes no memory.
+    /// after the close. Doesn't fail when out of memory.
     pub fn take_ended<R: Wait>(&mut self, rt: &R, k: u32) -> Option<Gone<W>>
         requires turn { MayTakeTurn ⟦<Core<P, W> as Stands>⟧.stands self.old k }
         ensures { TakesOneTurn P.ties P.room P.kind W.shown self.old self.new k (TookWire W.shown result) }
@@ -156,7 +157,6 @@ impl<P: Proto, W: Wire> Core<P, W> {
 
     // Why no pipe may come up, other than being out of memory.
     fn why_not(&self) -> Option<AttachError>
-        requires { IsInTurn P.ties P.room W.shown self.now }
         ensures told { TellsMayAttach P.ties P.room W.shown result self.now }
         ensures room { LeavesNumbers result self.now }
     {
@@ -166,7 +166,7 @@ impl<P: Proto, W: Wire> Core<P, W> {
         if self.has_its_one() {
             return Some(AttachError::Refused);
         }
-        if self.pipes.count + self.pipes.down.len() >= MOST_PIPES {
+        if self.pipes.count.saturating_add(self.pipes.down.len()) >= MOST_PIPES {
             return Some(AttachError::Many);
         }
         if self.tally.ups >= LAST_NUMBER {

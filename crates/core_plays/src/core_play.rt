@@ -13,21 +13,21 @@ use std::alloc::Global;
 use std::sync::Wait;
 
 /// A core that plays, and the names of the operations that it began. It must be spent: `ends` ends it.
-pub struct Play<P: Proto> {
+pub struct CorePlay<P: Proto> {
     driver: Driver<P, PlayWire>,
     names: Vec<OpName>,
 }
 
-impl<P: Proto> Play<P> {
+impl<P: Proto> CorePlay<P> {
     /// A play of the core from its beginning on.
-    pub fn new(alloc: Global, driver: Driver<P, PlayWire>) -> Play<P> {
-        Play {
+    pub fn new(alloc: Global, driver: Driver<P, PlayWire>) -> CorePlay<P> {
+        CorePlay {
             driver,
             names: Vec::new(alloc),
         }
     }
 
-    /// Goes on with these steps. The number of the first one that is answered otherwise, from 0 on.
+    /// Goes on with these steps. The number of the first one that returns something else, from 0 on.
     pub fn wrong_step<R: Wait>(
         &mut self,
         rt: &R,
@@ -42,8 +42,8 @@ impl<P: Proto> Play<P> {
         None
     }
 
-    /// A wire that gives this is refused at the first place for this cause. After these steps it becomes this pipe at the
-    /// second one.
+    /// A wire that gives this is refused at the first place for this cause. After these steps it becomes this pipe at
+    /// the second one.
     pub fn comes_again<R: Wait>(
         &mut self,
         rt: &R,
@@ -72,7 +72,7 @@ impl<P: Proto> Play<P> {
     /// Ends the core, of which no operation is open. Whether the wires that were not taken are these, in the order of
     /// their pipes.
     pub fn ends<R: Wait>(self, rt: &R, alloc: Global, outs: &[Out<'_>]) -> bool {
-        let Play { driver, names: _ } = self;
+        let CorePlay { driver, names: _ } = self;
         let is_done = driver.open_count() == 0;
         match driver.finish(rt, alloc) {
             Err(_) => false,
@@ -80,7 +80,7 @@ impl<P: Proto> Play<P> {
         }
     }
 
-    // The step is answered so. Each part knows some of the steps, and finds none of the others right.
+    // The step returns what it says. Each part knows some of the steps, and finds none of the others right.
     fn is_right<R: Wait>(&mut self, rt: &R, alloc: Global, step: Step<'_>) -> bool {
         self.joins(rt, alloc, step)
             || self.serves(rt, step)
