@@ -30,8 +30,8 @@ use Rattle.sp_socket.specs.Passes.{SocketName, PassView, ListView, label_with}
 use Rattle.sp_socket.specs.Finishing.{IsRecord, FitsIn, HasSeenClose}
 use Rattle.sp_socket.specs.Turns.{TookTurn}
 use Rattle.sp_socket.proofs.Closed.{all_ended}
-use Rattle.cat_play.specs.declared.ends.Status.{Status}
-use Rattle.cat_play.specs.declared.ends.Status.TheVariants as status
+use Rattle.cat_play.specs.declared.status.Status.{Status}
+use Rattle.cat_play.specs.declared.status.Status.TheVariants as status
 use Rattle.cat_play.specs.Drilling.{drill_setting, lines, values, bodies, Drills, GivesAll}
 use Rattle.cat_play.specs.Running.{world, RunsDrill, IsCutShort}
 use Rattle.sp_lane.specs.Items.{texts}
@@ -200,7 +200,7 @@ undrilled net files pace n h out d = (d, nothing_printed out out n refl)
 
 -- a put that failed left a prefix of the lines
 pub failed : (old new : SinkView) (n : ℕ) → ((k : ℕ) × (new.text ≡ grown old.text (take k (lines n)))) × (old.faults ≤ new.faults) × Rose old.faults new.faults → Prints status.OutFault n old new
-failed old new n (front, most, rose) = ((take front.0 (lines n), inr ([], lines n, take front.0 (lines n), refl, (drop front.0 (lines n), sym (take_drop front.0 (lines n))), refl), front.1), rose)
+failed old new n (prefix, most, rose) = ((take prefix.0 (lines n), inr ([], lines n, take prefix.0 (lines n), refl, (drop prefix.0 (lines n), sym (take_drop prefix.0 (lines n))), refl), prefix.1), rose)
   where
     take_drop : {A : Type 0} (k : ℕ) (xs : List A) → take k xs ++ drop k xs ≡ xs
     take_drop zero xs = refl

@@ -42,9 +42,9 @@ pub past_both : (past : List Entry) (h g : List (Turn Entry)) → past_from past
 past_both past [] g = refl
 past_both past (t ∷ h) g = past_both (onto t.entries past) h g
 
-pub legal_front : (z : Setting) (past : List Entry) (h g : List (Turn Entry)) → LegalFrom z past (h ++ g) → LegalFrom z past h
-legal_front z past [] g l = tt
-legal_front z past (t ∷ h) g l = (l.0, legal_front z (onto t.entries past) h g l.1)
+pub legal_prefix : (z : Setting) (past : List Entry) (h g : List (Turn Entry)) → LegalFrom z past (h ++ g) → LegalFrom z past h
+legal_prefix z past [] g l = tt
+legal_prefix z past (t ∷ h) g l = (l.0, legal_prefix z (onto t.entries past) h g l.1)
 
 pub legal_rest : (z : Setting) (past : List Entry) (h g : List (Turn Entry)) → LegalFrom z past (h ++ g) → LegalFrom z (past_from past h) g
 legal_rest z past [] g l = l
@@ -235,7 +235,7 @@ still_named z h g p name l is known =
 pub totals_given : (y : Setting) (h g : List (Turn Entry)) (t : Totals) → Legal (as_pull y) (h ++ g) → closed_totals (past_of h) ≡ Some t
     → (t.won ≡ up_to_most (length (given (past_of (h ++ g))))) × (t.frames ≡ up_to_most (frame_total (past_of (h ++ g)))) × (is_closed (past_of (h ++ g)) ≡ true)
 totals_given y h g t l c =
-    let s = (summed (as_pull y) h refl (legal_front (as_pull y) [] h g l)).closes t c in
+    let s = (summed (as_pull y) h refl (legal_prefix (as_pull y) [] h g l)).closes t c in
     let r = stays (as_pull y) (past_of h) g s.1 (legal_rest (as_pull y) [] h g l) in
     let e = past_both [] h g in
     (s.0.0 ∙ ap (λ (ms : List RecordedMessage). up_to_most (length ms)) (sym (ap given e ∙ r.given_is)), s.0.1 ∙ ap up_to_most (sym (ap frame_total e ∙ r.frames_are)), ap is_closed e ∙ r.closed)

@@ -15,8 +15,8 @@ use Rattle.sp_lane.specs.Lanes.{OutView}
 use Rattle.sp_socket.specs.Passes.{SocketName, ListView}
 use Rattle.sp_base.specs.Views.{NetView, FilesView, PaceView, SinkView}
 use Rattle.sp_spec.specs.Outside.{Rose, grown}
-use Rattle.cat_play.specs.declared.ends.Status.{Status}
-use Rattle.cat_play.specs.declared.ends.Status.TheVariants as status
+use Rattle.cat_play.specs.declared.status.Status.{Status}
+use Rattle.cat_play.specs.declared.status.Status.TheVariants as status
 use Rattle.cat_play.specs.Drilling.{lines, drill_setting}
 use Rattle.cat_play.specs.Running.{IsCutShort, RunsDrill, world}
 

@@ -5,7 +5,7 @@ ghost use Rattle.std.specs.Option.{option_map};
 ghost use Rattle.sp_base.specs.Views.{NetView, FilesView, PaceView};
 ghost use Rattle.sp_msg.specs.Views.{OverLanes};
 ghost use Rattle.core_parts.specs.Wires.{IsUnused};
-ghost use Rattle.cat_play.specs.declared.ends.Status.TheVariants as status;
+ghost use Rattle.cat_play.specs.declared.status.Status.TheVariants as status;
 ghost use Rattle.cat_play.specs.Drilling.{values, lines, drill_setting, Drills, GivesAll};
 ghost use Rattle.cat_play.specs.Running.{world, RunsDrill};
 ghost use Rattle.drill_rounds.specs.Feeds.{IsSource};
@@ -14,7 +14,7 @@ ghost use Rattle.cat_drill.specs.Ending.{IsOut, IsFedBy, Prints, EndsDrill};
 ghost use Rattle.sp_socket.specs.Passes.{new_list};
 
 use crate::ending::{Closed, close_all, drop_all, sum_of_all};
-use cat_play::ends::Status;
+use cat_play::status::Status;
 use drill_rounds::rounds::rounds;
 use drill_rounds::{Crew, DrillSource, Feed, Gate};
 use proto_pipeline::Pull;
@@ -230,8 +230,8 @@ fn drill_on<R: Wait + Threads + Sync, G: Gate + Sync, S: Sink>(
 }
 
 /// Sends so many messages, 1 to 1,000,000, through a lane of 64 to a pull socket of 256 slots and 4 callers, round by
-/// round: four tasks in threads of their own serve, cancel and let expire what one caller has begun. Prints how many were
-/// given, the sum of their values, and how many operations have no end. Out of memory ends it early.
+/// round: four tasks in threads of their own serve, cancel and let expire what one caller has begun. Prints how many
+/// were given, the sum of their values, and how many operations have no end. Out of memory ends it early.
 pub fn drill<R: AllocGlobal + Wait + Threads + Sync, G: Gate + Sync, S: Sink>(
     rt: &R,
     count: u32,

@@ -3,7 +3,7 @@ use denote.RattleType.{RattleType}
 use denote.Param.Send.{IsSend, sendable}
 use Rattle.std.proofs.Crossing.{crosses}
 use Rattle.sp_socket.specs.contracts.pass.Pass.{the_row}
-use Rattle.sp_socket.proofs.hands.Hands.TheSendSync as hands
+use Rattle.sp_socket.proofs.pass_parts.PassParts.TheSendSync as hands
 use Rattle.sp_socket.proofs.boxed.BoxedCore.TheSendSync as boxed
 use Rattle.turn_lock.proofs.pass.Resting.TheSendSync as resting
 use Rattle.turn_lock.proofs.stack.Chain.TheLaws.TheKnot as chains

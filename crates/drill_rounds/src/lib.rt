@@ -2,8 +2,8 @@
 //! round, which four callers of one pull socket serve, cancel and let expire at once. The drill itself is `cat_drill`.
 //!
 //! The main caller puts the values, begins the receives and collects them. While no task runs it has the pass of the
-//! first task. No round keeps what was given, nor more than that its callers' passes stay what they are, that the source
-//! knows what was put, and the wire whether a message was lost.
+//! first task. No round keeps what was given, nor more than that its callers' passes stay what they are, that the
+//! source knows what was put, and the wire whether a message was lost.
 #![tactic(auto)]
 
 mod calls;

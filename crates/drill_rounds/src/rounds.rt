@@ -193,8 +193,8 @@ fn give_rest<P: Proto, W: Wire, R: Wait>(
     true
 }
 
-/// The first half of a round: its receives are begun and held, and the four tasks work on them at once. Whether all were
-/// begun.
+/// The first half of a round: its receives are begun and held, and the four tasks work on them at once. Whether all
+/// were begun.
 pub fn contend<P: Proto + Send, W: Wire + Send, G: Gate + Sync, R: Wait + Threads + Sync>(
     rt: &R,
     alloc: Global,

@@ -4,8 +4,8 @@ use Rattle.sp_lane.specs.declared.item.LaneItem.{LaneItem}
 use Rattle.sp_spec.specs.Outside.{IsPrefix}
 use Rattle.sp_lane.specs.Lanes.{InView, OutView, DidPut, FoundFull, FoundEmpty}
 
-prefix_length : (front all : List LaneItem) (p : IsPrefix front all) → length all ≡ length front + length p.0
-prefix_length front all p = ap length p.1 ∙ length-append front p.0
+prefix_length : (prefix all : List LaneItem) (p : IsPrefix prefix all) → length all ≡ length prefix + length p.0
+prefix_length prefix all p = ap length p.1 ∙ length-append prefix p.0
 
 -- it isn't full where there is room
 pub has_room : (old mid : InView) (taken : List LaneItem) → mid ≡ record old { seen_taken = taken } → length old.put < length taken + old.cap → FoundFull mid → ⊥

@@ -1,6 +1,6 @@
-//! A round in which one task comes through its gate while another one serves: a round whose tasks come through their gates
-//! together, and then work one after the other, is no such round. And one in which two tasks stay at their gates until the
-//! others have served.
+//! A round in which one task comes through its gate while another one serves: a round whose tasks come through their
+//! gates together, and then work one after the other, is no such round. And one in which two tasks stay at their gates
+//! until the others have served.
 ghost use Rattle.std.specs.Prelude.{◌≡◌};
 ghost use Rattle.core_parts.specs.Wires.{IsUnused};
 ghost use Rattle.sp_socket.specs.Passes.{new_list};
@@ -159,8 +159,8 @@ fn stay(marks: &TaskMarks) {
     comes_to(&marks.pulls, 2);
 }
 
-// A round over this wire, and the end of its socket. Whether the first receives got so many messages, each of the others was
-// cancelled or expired, and all were begun.
+// A round over this wire, and the end of its socket. Whether the first receives got so many messages, each of the
+// others was cancelled or expired, and all were begun.
 fn round_over<R: Wait + Threads + Sync, G: Gate + Sync>(
     rt: &R,
     alloc: Global,

@@ -186,8 +186,8 @@ fn is_nothing_due<P: Proto, W: Wire, R: Wait>(
     ticked.won == 0 && ticked.lost == 0
 }
 
-// A round without messages and without tasks, whose receives are cancelled where they are collected. Whether they wait for
-// this deadline at the moment that came last; none where not all were begun, or one got a message.
+// A round without messages and without tasks, whose receives are cancelled where they are collected. Whether they wait
+// for this deadline at the moment that came last; none where not all were begun, or one got a message.
 fn waits_for<R: Wait>(
     rt: &R,
     alloc: Global,
@@ -213,8 +213,8 @@ fn waits_for<R: Wait>(
     (crew, answer)
 }
 
-// A round without messages and without tasks, as the first one. How many messages its receives got, where they waited for
-// their deadline.
+// A round without messages and without tasks, as the first one. How many messages its receives got, where they waited
+// for their deadline.
 fn untouched<R: Wait>(
     rt: &R,
     alloc: Global,
@@ -278,8 +278,8 @@ fn totals_of<R: Wait>(
 }
 
 // Whether these are the totals of a round of which so many messages were given: 96 receives were begun, those that got
-// none are gone, and a message came for each that got one, and at most one more, which is kept. Where messages were put,
-// one came.
+// none are gone, and a message came for each that got one, and at most one more, which is kept. Where messages were
+// put, one came.
 fn are_of_round(totals: Totals, messages: u32, given: u32) -> bool {
     let won = given as u64;
     let ended = totals.begun == 96 && won <= 96 && totals.won == won && totals.gone == 96 - won;
@@ -288,8 +288,8 @@ fn are_of_round(totals: Totals, messages: u32, given: u32) -> bool {
 }
 
 // Whether these are the totals of so many messages in so many rounds, and of two rounds more without messages: all were
-// given. Of each round 96 receives were begun, and one more for each message that those did not get. Each of the two that
-// serve pulls one message at the most, so they got two at the most.
+// given. Of each round 96 receives were begun, and one more for each message that those did not get. Each of the two
+// that serve pulls one message at the most, so they got two at the most.
 fn are_of_rounds(totals: Totals, messages: u16, rounds: u16) -> bool {
     let won = messages as u64;
     let rounds = rounds as u64;
@@ -333,8 +333,9 @@ fn raced<R: Wait + Threads + Sync>(
     }
 }
 
-// Whether the rounds of a drill of so many messages gave them all, each round with its receives. The tick of the last round
-// is its number, since a tick before the last one counts as that: what is due then is due, and what is due later waits.
+// Whether the rounds of a drill of so many messages gave them all, each round with its receives. The tick of the last
+// round is its number, since a tick before the last one counts as that: what is due then is due, and what is due later
+// waits.
 fn went_round<R: Wait + Threads + Sync>(
     rt: &R,
     alloc: Global,

@@ -3,7 +3,7 @@ ghost use Rattle.std.specs.Prelude.{◌≡◌};
 
 use crate::checks::{holds, is_ok, same};
 use cat_drill::{Gate, OpenGate, drill};
-use cat_play::ends::Status;
+use cat_play::status::Status;
 use sp_fakes::MemSink;
 use std::process::Abort;
 use std::sync::Wait;

@@ -3,7 +3,7 @@ use Rattle.std.proofs.Common.{◌≡◌, ap, sym, ◌∙◌, subst, arith, refl,
 use Rattle.aio_word.specs.Views.{Each}
 use Rattle.sp_history.specs.declared.setting.Setting.{Setting}
 use Rattle.sp_socket.specs.Passes.{SocketName, PassView, ListView, IsOf, new_list}
-use Rattle.socket_tests.proofs.SocketCallers.{each_front, each_more, list_less, list_more, list_made, list_whole}
+use Rattle.socket_tests.proofs.SocketCallers.{each_prefix, each_more, list_less, list_more, list_made, list_whole}
 use Rattle.socket_bench.specs.Lent.{AreLent}
 
 one_more : (xs : List PassView) (x : PassView) → length (xs ++ x ∷ []) ≡ suc (length xs)
@@ -46,14 +46,14 @@ own_out s l m out p is callers lock h = (list_less s l m p is callers lock h.lis
 -- one goes back
 pub one_back : (s : SocketName) (l m : ListView) (out less : List PassView) (p : PassView) → out ≡ less ++ p ∷ [] → m.items ≡ l.items ++ p ∷ [] → m.callers ≡ l.callers → m.lock ≡ l.lock → AreLent s l out → AreLent s m less
 one_back s l m out less p is_out is callers lock h =
-    let r = each_front (IsOf s) less p (subst (Each (IsOf s)) is_out h.own) in
+    let r = each_prefix (IsOf s) less p (subst (Each (IsOf s)) is_out h.own) in
     let a : length m.items ≡ suc (length l.items) = longer l.items m.items p is in
     let b : length out ≡ suc (length less) = longer less out p is_out in
     record { list = list_more s l m p is callers lock r.1 h.list; own = r.0; all = omega (arith, a, b, h.all) }
 
 -- the last of those that are out is of the socket
 pub own_back : (s : SocketName) (l : ListView) (out less : List PassView) (p : PassView) → out ≡ less ++ p ∷ [] → AreLent s l out → IsOf s p
-own_back s l out less p is h = (each_front (IsOf s) less p (subst (Each (IsOf s)) is h.own)).1
+own_back s l out less p is h = (each_prefix (IsOf s) less p (subst (Each (IsOf s)) is h.own)).1
 
 -- one was taken, and goes back whatever it has seen since
 pub back_again : (s : SocketName) (l m n : ListView) (out : List PassView) (p q : PassView) → l.items ≡ m.items ++ p ∷ [] → m.callers ≡ l.callers → m.lock ≡ l.lock → n.items ≡ m.items ++ q ∷ [] → n.callers ≡ m.callers → n.lock ≡ m.lock → IsOf s q → AreLent s l out → AreLent s n out

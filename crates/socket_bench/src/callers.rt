@@ -127,8 +127,8 @@ fn give_last<P: Proto, W: Wire>(
     }
 }
 
-/// So many callers do the work so many times, each in a thread of its own where one can be made. Adds how often it came to
-/// what was wanted.
+/// So many callers do the work so many times, each in a thread of its own where one can be made. Adds how often it came
+/// to what was wanted.
 pub fn do_all<P: Proto + Send, W: Wire + Send, R: Threads + Wait + Sync>(
     rt: &R,
     alloc: Global,

@@ -202,8 +202,8 @@ fn adds<P: Proto, W: Wire, R: Wait>(
     done.fetch_add(u64::from(count), Ordering::SeqCst);
 }
 
-/// Each of these callers does it so many times, each in a thread of its own where one can be made. Adds how often it came
-/// to what was wanted.
+/// Each of these callers does it so many times, each in a thread of its own where one can be made. Adds how often it
+/// came to what was wanted.
 pub fn by_all<P: Proto + Send, W: Wire + Send, R: Threads + Wait + Sync>(
     rt: &R,
     socket: &Socket<P, W>,

@@ -5,8 +5,8 @@ use Rattle.std.specs.Prelude.{map}
 use Rattle.sp_base.specs.declared.OpName.{OpName}
 use Rattle.aio_word.specs.Views.{Stands, Each}
 use Rattle.sp_history.specs.declared.setting.Setting.{Setting}
-use Rattle.sp_core.specs.declared.collect.Collected.{Collected}
-use Rattle.sp_core.specs.declared.collect.Collected.TheVariants as collected
+use Rattle.sp_core.specs.declared.calls.collect.Collected.{Collected}
+use Rattle.sp_core.specs.declared.calls.collect.Collected.TheVariants as collected
 use Rattle.sp_socket.specs.Passes.{SocketName, PassView, ListView, IsOf, IsSamePass, new_pass, new_list}
 use Rattle.sp_socket.specs.Open.{IsOpenFor, OpensFor, AreOpenFor, KeepsOpen, KeepsOthers, KeepsPass, TakesNoTurn}
 use Rattle.sp_socket.proofs.Held.{all_keep, all_more, last_open, others_keep}
@@ -54,9 +54,9 @@ pub list_made : (s : SocketName) (l : ListView) (z : Setting) → l ≡ new_list
 list_made s l z is slots callers =
     subst (IsListOf s) (sym is) (record { lock = refl; callers = callers; own = each_mapped (IsOf s) (new_pass s z) (λ n. (refl, (z, refl, slots, callers))) _ })
 
-pub each_front : {A : Type 0} (P : A → Type 0) (xs : List A) (x : A) → Each P (xs ++ x ∷ []) → Each P xs × P x
-each_front P [] x h = (tt, h.0)
-each_front P (y ∷ xs) x h = let r = each_front P xs x h.1 in ((h.0, r.0), r.1)
+pub each_prefix : {A : Type 0} (P : A → Type 0) (xs : List A) (x : A) → Each P (xs ++ x ∷ []) → Each P xs × P x
+each_prefix P [] x h = (tt, h.0)
+each_prefix P (y ∷ xs) x h = let r = each_prefix P xs x h.1 in ((h.0, r.0), r.1)
 
 pub each_more : {A : Type 0} (P : A → Type 0) (xs : List A) (x : A) → Each P xs → P x → Each P (xs ++ x ∷ [])
 each_more P [] x h p = (p, tt)
@@ -64,7 +64,7 @@ each_more P (y ∷ xs) x h p = (h.0, each_more P xs x h.1 p)
 
 pub list_less : (s : SocketName) (l m : ListView) (p : PassView) → l.items ≡ m.items ++ p ∷ [] → m.callers ≡ l.callers → m.lock ≡ l.lock → IsListOf s l → IsListOf s m × IsOf s p
 list_less s l m p is callers lock h =
-    let r = each_front (IsOf s) m.items p (subst (Each (IsOf s)) is h.own) in
+    let r = each_prefix (IsOf s) m.items p (subst (Each (IsOf s)) is h.own) in
     (record { lock = lock ∙ h.lock; callers = callers ∙ h.callers; own = r.0 }, r.1)
 
 pub list_more : (s : SocketName) (l m : ListView) (p : PassView) → m.items ≡ l.items ++ p ∷ [] → m.callers ≡ l.callers → m.lock ≡ l.lock → IsOf s p → IsListOf s l → IsListOf s m

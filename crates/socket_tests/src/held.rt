@@ -1,5 +1,5 @@
-//! A turn that is held up by its wire: others wait for no more than that turn, and a cancel doesn't wait at all. No socket
-//! shuts a wire.
+//! A turn that is held up by its wire: others wait for no more than that turn, and a cancel doesn't wait at all. No
+//! socket shuts a wire.
 ghost use Rattle.std.specs.Prelude.{◌≡◌};
 ghost use Rattle.sp_proto.specs.Kinds.{Kind, Starts};
 ghost use Rattle.core_parts.specs.Wires.{IsUnused};
@@ -30,7 +30,7 @@ struct HeldWire {
 }
 
 impl HeldWire {
-    // Once: stops until the cancel was answered.
+    // Once: stops until the cancel has returned.
     fn hold(&mut self)
         ensures { self.new.wire ≡ self.old.wire }
     {

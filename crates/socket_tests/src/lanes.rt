@@ -191,8 +191,8 @@ fn send_and_wait<P: Proto, W: Wire + Drop>(rt: &(impl Wait + Abort), alloc: Glob
     finish(rt, alloc, socket, list);
 }
 
-// A send whose room comes while its caller waits goes out, with no other caller there: a wait takes turn after turn. The wire
-// is full as the send begins and in the first two turns of the wait.
+// A send whose room comes while its caller waits goes out, with no other caller there: a wait takes turn after turn.
+// The wire is full as the send begins and in the first two turns of the wait.
 #[test]
 fn a_send_waits_for_room(rt: HostRuntime) {
     let alloc = rt.alloc();

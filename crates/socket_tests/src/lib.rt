@@ -1,5 +1,5 @@
-//! Tests of sockets over machines and wires in memory, with one caller and with several. A caller keeps its pass and what
-//! it has begun and did not collect, so that a test says only what it does.
+//! Tests of sockets over machines and wires in memory, with one caller and with several. A caller keeps its pass and
+//! what it has begun and did not collect, so that a test says only what it does.
 #![tactic(auto)]
 
 #[cfg(test)]

@@ -15,7 +15,7 @@ pub struct ThreadMarks {
     held: AtomicU64,
     // 1 once another caller was about to ask for a turn while one was held up.
     entered: AtomicU64,
-    // 1 once the cancel was answered.
+    // 1 once the cancel has returned.
     answered: AtomicU64,
     // 1 once a wire was shut.
     shut: AtomicU64,
@@ -61,7 +61,7 @@ fn seen(mark: &AtomicU64) -> u64 {
 }
 
 impl ThreadMarks {
-    /// Holds up until the cancel was answered.
+    /// Holds up until the cancel has returned.
     pub fn hold(&self) {
         self.held.store(1, Ordering::SeqCst);
         if seen(&self.answered) == 0 {
@@ -74,7 +74,7 @@ impl ThreadMarks {
         seen(&self.held) == 1
     }
 
-    /// Whether a turn was held up, until the cancel was answered.
+    /// Whether a turn was held up, until the cancel had returned.
     pub fn was_held(&self) -> bool {
         self.held.load(Ordering::SeqCst) == 1
     }
@@ -89,7 +89,7 @@ impl ThreadMarks {
         seen(&self.entered) == 1
     }
 
-    /// The cancel was answered.
+    /// The cancel has returned.
     pub fn answer(&self) {
         self.answered.store(1, Ordering::SeqCst)
     }

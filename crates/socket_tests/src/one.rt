@@ -12,8 +12,8 @@ use std::alloc::Global;
 use std::process::Abort;
 use std::sync::Wait;
 
-/// Receives one message from the wire, on a pull socket with one caller. Returns what the receive came to, and the wires
-/// that are left.
+/// Receives one message from the wire, on a pull socket with one caller. Returns what the receive came to, and the
+/// wires that are left.
 pub fn receive_one<W: Wire + Drop, R: Wait + Abort>(
     rt: &R,
     alloc: Global,

@@ -90,7 +90,7 @@ pub fn x(rt: &impl Abort, alloc: Global) -> Message {
     }
 }
 
-// ---- What is answered
+// ---- What is returned
 
 /// What a close returns of a socket that sent nothing.
 pub fn totals(begun: u64, won: u64, gone: u64, frames: u64) -> Totals {

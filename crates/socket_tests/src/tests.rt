@@ -1,5 +1,5 @@
-//! What sockets answer to the callers of one thread. A test makes the machine and the wires; what it does with them is a
-//! function over any machine and wire, since calls on types that are written out are dear to prove.
+//! What sockets return to the callers of one thread. A test makes the machine and the wires; what it does with them is
+//! a function over any machine and wire, since calls on types that are written out are dear to prove.
 ghost use Rattle.std.specs.Prelude.{◌≡◌};
 ghost use Rattle.sp_proto.specs.Kinds.{Kind, Starts};
 ghost use Rattle.core_parts.specs.Wires.{IsUnused};

@@ -1,4 +1,4 @@
-//! What sockets answer to callers in several threads.
+//! What sockets return to callers in several threads.
 ghost use Rattle.std.specs.Prelude.{◌≡◌, ◌++◌, ◌∷◌, [], false};
 ghost use Rattle.aio_word.specs.Views.{Each};
 ghost use Rattle.sp_proto.specs.Kinds.{Kind, Starts};
@@ -204,7 +204,7 @@ fn four_threads_race_for_the_lock(rt: HostRuntime) {
     );
 }
 
-// Two callers close at the same time. Each receive ends once, and both answer the same totals.
+// Two callers close at the same time. Each receive ends once, and both return the same totals.
 fn close_by_two<P: Proto + Send, W: Wire + Send + Drop>(
     rt: &(impl Wait + Abort + Threads + Sync),
     alloc: Global,
@@ -398,7 +398,8 @@ fn guesses(rt: &impl Abort, alloc: Global, rounds: u32, generations: u64) -> Vec
     names
 }
 
-// One caller receives at once, again and again, and another cancels what it guesses. Each message is received, in order.
+// One caller receives at once, again and again, and another cancels what it guesses. Each message is received, in
+// order.
 fn guess_and_receive<P: Proto + Send, W: Wire + Send + Drop>(
     rt: &(impl Wait + Abort + Threads + Sync),
     alloc: Global,

@@ -18,7 +18,8 @@ use std::thread::{self, Threads};
 pub enum Job {
     /// Receives so many messages, one after the other.
     Receive(u32),
-    /// So many times serves the pipes, and then receives at once. What comes are the bodies of one byte, 0, 1 and so on.
+    /// So many times serves the pipes, and then receives at once. What comes are the bodies of one byte, 0, 1 and so
+    /// on.
     ReceiveNow(u32),
     /// Serves the pipes so many times.
     Serve(u32),
@@ -198,7 +199,7 @@ fn cancel_all<P: Proto, W: Wire>(
     won
 }
 
-// Once a turn is held up and another caller has come, cancels the operation. Answers how many operations that has
+// Once a turn is held up and another caller has come, cancels the operation. Returns how many operations that has
 // ended.
 fn cancel_when_held<P: Proto, W: Wire>(
     socket: &Socket<P, W>,
@@ -217,7 +218,7 @@ fn cancel_when_held<P: Proto, W: Wire>(
     won as u64
 }
 
-// Once a turn is held up, lets the moment come, after that turn. Answers 1 where it was held up.
+// Once a turn is held up, lets the moment come, after that turn. Returns 1 where it was held up.
 fn tick_when_held<P: Proto, W: Wire, R: Wait>(
     rt: &R,
     socket: &Socket<P, W>,
@@ -236,7 +237,7 @@ fn tick_when_held<P: Proto, W: Wire, R: Wait>(
     1
 }
 
-// Begins a receive, says so, and waits for it. Answers how many messages it has received.
+// Begins a receive, says so, and waits for it. Returns how many messages it has received.
 fn wait_for_one<P: Proto, W: Wire, R: Wait + Abort>(
     rt: &R,
     socket: &Socket<P, W>,
@@ -268,7 +269,7 @@ fn serve_when_begun<P: Proto, W: Wire, R: Wait + Abort>(
     0
 }
 
-// Once a receive has begun, cancels it. Answers how many operations that has ended.
+// Once a receive has begun, cancels it. Returns how many operations that has ended.
 fn cancel_when_begun<P: Proto, W: Wire, R: Wait + Abort>(
     rt: &R,
     socket: &Socket<P, W>,
@@ -302,7 +303,7 @@ fn tick_one<P: Proto, W: Wire, R: Wait>(
     socket.tick(rt, pass, now).won as u64
 }
 
-// Closes the socket. Answers how many operations have ended without being won.
+// Closes the socket. Returns how many operations have ended without being won.
 fn close_one<P: Proto, W: Wire, R: Wait>(
     rt: &R,
     socket: &Socket<P, W>,
@@ -314,7 +315,7 @@ fn close_one<P: Proto, W: Wire, R: Wait>(
     socket.close(rt, pass).gone
 }
 
-// Does the job. Answers how many operations it has ended.
+// Does the job. Returns how many operations it has ended.
 fn work<P: Proto, W: Wire, R: Wait + Abort>(
     rt: &R,
     socket: &Socket<P, W>,

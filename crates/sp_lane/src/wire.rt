@@ -11,8 +11,8 @@ use sp_msg::{Message, Room, Wire, WireFlush, WireIn, WireMarks};
 use std::marker::Model;
 use std::sync::Wait;
 
-/// A wire over two lanes. It keeps one message in hand, so `put` never fails. `pull` alone takes memory, where it
-/// joins a header and a body.
+/// A wire over two lanes (nng_inproc(7)). It keeps one message in hand, so `put` never fails. `pull` alone takes
+/// memory, where it joins a header and a body.
 #[derive(Drop)]
 pub struct LaneWire {
     /// Where messages are put.

@@ -19,8 +19,8 @@ use Rattle.sp_core.specs.Collecting.{IsOpen, CollectedBy}
 use Rattle.sp_socket.specs.Passes.{SocketName, PassView, ListView, IsOf, IsSamePass, KeepsSeat}
 use Rattle.sp_socket.specs.Open.{KeepsPass, IsOpenFor}
 use Rattle.sp_socket.specs.Open as opens
-use Rattle.sp_core.specs.declared.collect.Collected.{Collected}
-use Rattle.sp_core.specs.declared.collect.Collected.TheVariants as collected
+use Rattle.sp_core.specs.declared.calls.collect.Collected.{Collected}
+use Rattle.sp_core.specs.declared.calls.collect.Collected.TheVariants as collected
 use Rattle.sp_socket.specs.Turns.{TookTurn, ReadsFor}
 use Rattle.sp_single.specs.Singles.{SingleView, single_of, setting_in, IsSingle, TookOne, KeepsOpen, StaysOpen, StaysPending}
 
@@ -33,9 +33,9 @@ all_own z past (t ∷ h) e l = go (t.number == 1) refl (all_own z (onto t.entrie
     go true f rest = ap (λ (ts : List (Turn Entry)). t ∷ ts) rest
     go false f rest = absurd (grind (arith, nat_tests, e, l.0.is_caller.0, l.0.is_caller.1, f))
 
-legal_front : (z : Setting) (past : List Entry) (h g : List (Turn Entry)) → LegalFrom z past (h ++ g) → LegalFrom z past h
-legal_front z past [] g l = tt
-legal_front z past (t ∷ h) g l = (l.0, legal_front z (onto t.entries past) h g l.1)
+legal_prefix : (z : Setting) (past : List Entry) (h g : List (Turn Entry)) → LegalFrom z past (h ++ g) → LegalFrom z past h
+legal_prefix z past [] g l = tt
+legal_prefix z past (t ∷ h) g l = (l.0, legal_prefix z (onto t.entries past) h g l.1)
 
 setting_of_label : (l : Option CoreLabel) (label : CoreLabel) → l ≡ Some label → setting_in l ≡ label.setting
 setting_of_label l label e = ap setting_in e
@@ -48,7 +48,7 @@ legal_behind z past (t ∷ h) g l = legal_behind z (onto t.entries past) h g l.1
 no_others : (z : Setting) (n : ℕ) (seen past : List (Turn Entry)) (t : Turn Entry) → n ≡ 1 → t.number ≡ n → z.callers ≡ 1 → Legal z (past ++ t ∷ []) → OthersAfter n seen past → past ≡ seen
 no_others z n seen past t one e c l (between, is, none) =
     let early = legal_behind z [] seen (between ++ t ∷ []) (subst (λ (h : List (Turn Entry)). Legal z h) (ap (λ (h : List (Turn Entry)). h ++ t ∷ []) is ∙ append_assoc seen between (t ∷ [])) l) in
-    let own = all_own z early.0 between c (legal_front z early.0 between (t ∷ []) early.1) in
+    let own = all_own z early.0 between c (legal_prefix z early.0 between (t ∷ []) early.1) in
     is ∙ ap (λ (g : List (Turn Entry)). seen ++ g) (sym own ∙ ap (λ (m : ℕ). turns_of m between) (sym one) ∙ none) ∙ append-nil seen
 
 some_same : {A : Type 0} (a b : A) → Some a ≡ Some b → a ≡ b

@@ -16,8 +16,8 @@ use Rattle.sp_history.specs.Legal.{Legal}
 use Rattle.sp_history.specs.Settled.{Settled}
 use Rattle.sp_core.specs.declared.label.CoreLabel.{CoreLabel}
 use Rattle.core_parts.specs.declared.pipes.DownPipe.{DownPipe}
-use Rattle.sp_core.specs.declared.collect.Collected.{Collected}
-use Rattle.sp_core.specs.declared.collect.Collected.TheVariants as collected
+use Rattle.sp_core.specs.declared.calls.collect.Collected.{Collected}
+use Rattle.sp_core.specs.declared.calls.collect.Collected.TheVariants as collected
 use Rattle.sp_core.specs.Collecting.{DueBy, IsOpen}
 use Rattle.sp_core.specs.Parts.{HasWires}
 use Rattle.sp_base.specs.declared.OpName.{OpName}

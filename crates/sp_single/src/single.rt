@@ -12,7 +12,7 @@ use std::alloc::Global;
 use std::marker::Model;
 use std::sync::Wait;
 
-/// A socket with its one caller. It must be spent: `finish` ends it.
+/// A socket (nng_socket(5)) with its one caller. It must be spent: `finish` ends it.
 pub struct Single<P: Proto, W: Wire> {
     pub(crate) socket: Socket<P, W>,
     // Empty while the pass is out.

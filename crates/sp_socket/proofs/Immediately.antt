@@ -16,7 +16,7 @@ use Rattle.sp_history.specs.Once.{begin_count}
 use Rattle.sp_history.specs.Legal.{Legal}
 use Rattle.sp_history.proofs.Appending.{past_of-append}
 use Rattle.sp_history.proofs.OnceHolds.{ends_once}
-use Rattle.sp_core.specs.declared.immediate.NowError.{NowError}
+use Rattle.sp_core.specs.declared.calls.immediate.NowError.{NowError}
 use Rattle.sp_core.specs.Immediate.{IsLost, AreLost, HasLost, HasReceived, ReceivedNow}
 use Rattle.sp_socket.specs.Open.{LeavesOpen}
 use Rattle.sp_socket.proofs.BegunOnce.{more_begun, no_caller}
@@ -93,9 +93,9 @@ lost_taken op k c callers es l h =
 
 received_taken : (op : OpName) (m : MessageView) (k c callers : ℕ) (es : List Entry) → HasReceived m k c callers es → none_of (begins_it op) es ≡ true → none_of (collects op) es ≡ true
 received_taken op m k c callers es r h =
-    let parts = both_parts (begins_it op) r.front _ (subst (λ (x : List Entry). none_of (begins_it op) x ≡ true) r.entries h) in
+    let parts = both_parts (begins_it op) r.prefix _ (subst (λ (x : List Entry). none_of (begins_it op) x ≡ true) r.entries h) in
     let other : same_op r.op op ≡ false = other_name (same_op r.op op) _ parts.1 in
-    subst (λ (x : List Entry). none_of (collects op) x ≡ true) (sym r.entries) (both (collects op) r.front _ (lost_taken op k c callers r.front r.front_lost parts.0) (λ i. not (other i) && none_settling op r.late r.late_settles i))
+    subst (λ (x : List Entry). none_of (collects op) x ≡ true) (sym r.entries) (both (collects op) r.prefix _ (lost_taken op k c callers r.prefix r.prefix_lost parts.0) (λ i. not (other i) && none_settling op r.late r.late_settles i))
 
 taken_by : (r : Result MessageView NowError) (z : Setting) (h : List (Turn Entry)) (t : Turn Entry) (k c : ℕ) (op : OpName) → ReceivedNow r z h t k c → none_of (begins_it op) t.entries ≡ true → none_of (collects op) t.entries ≡ true
 taken_by (Ok m) z h t k c op r n = received_taken op m k c z.callers t.entries r n

@@ -11,16 +11,16 @@ use Rattle.sp_history.specs.declared.setting.Setting.{Setting}
 use Rattle.sp_history.specs.Past.{past_of}
 use Rattle.sp_history.specs.Legal.{Legal}
 use Rattle.sp_core.specs.declared.ops.BeginError.{BeginError}
-use Rattle.sp_core.specs.declared.collect.Collected.{Collected}
-use Rattle.sp_core.specs.declared.collect.Collected.TheVariants as collected
+use Rattle.sp_core.specs.declared.calls.collect.Collected.{Collected}
+use Rattle.sp_core.specs.declared.calls.collect.Collected.TheVariants as collected
 use Rattle.sp_core.specs.Collecting.{IsOpen, CollectedBy}
 use Rattle.sp_history.specs.Changes.{none_of}
 use Rattle.sp_history.specs.Found.{IsOpenOf, collects}
-use Rattle.sp_history.proofs.Appending.{LegalFrom-front}
+use Rattle.sp_history.proofs.Appending.{LegalFrom-prefix}
 use Rattle.sp_history.proofs.OpenOperations.{open_in_both, open_after, open_begun}
 use Rattle.sp_core.specs.Standing.{BeganBy, HasBegin, began}
 use Rattle.sp_core.specs.declared.label.CoreLabel.{CoreLabel}
-use Rattle.sp_socket.specs.declared.hands.Hands.{Hands}
+use Rattle.sp_socket.specs.declared.pass_parts.PassParts.{PassParts}
 use Rattle.sp_socket.specs.Passes.{PassView, TurnsOf, pass_of}
 use Rattle.sp_socket.specs.Turns.{TookTurn}
 use Rattle.sp_socket.specs.Open.{IsOpenFor, OpensFor, LeavesOpen, KeepsOpen, KeepsOthers}
@@ -47,7 +47,7 @@ module _ (says : Setting → List (Turn Entry) → Turn Entry → Type 0) (befor
   -- and what was open for the pass was so in the whole
   was_open : (op : OpName) → IsOpenFor before op → IsOpenOf before.number op (past_of t.past)
   was_open op o =
-      (open_in_both t.label.setting before.number t.past op (LegalFrom-front t.label.setting [] t.past t.turn legal_turn).0).0 (subst (IsOpen before.number op) own_past o)
+      (open_in_both t.label.setting before.number t.past op (LegalFrom-prefix t.label.setting [] t.past t.turn legal_turn).0).0 (subst (IsOpen before.number op) own_past o)
 
   -- what the turn doesn't collect is open still
   pub keeps_one : (op : OpName) → none_of (collects op) t.turn.entries ≡ true → IsOpenFor before op → IsOpenFor after op
@@ -64,7 +64,7 @@ module _ (says : Setting → List (Turn Entry) → Turn Entry → Type 0) (befor
   )
 
 -- the same, of what the lock and the core said of the turn
-pub kept : (says : Setting → List (Turn Entry) → Turn Entry → Type 0) (t0 t1 t2 : TurnsOf) (h k : Hands) (x : Turn Entry) (label : CoreLabel) (before : PassView) → before ≡ pass_of t0 h → Went says t0 t1 t2 h k x label → t2.number ≡ before.number → LeavesOpen t1.seen x → KeepsOpen before (pass_of t2 k)
+pub kept : (says : Setting → List (Turn Entry) → Turn Entry → Type 0) (t0 t1 t2 : TurnsOf) (h k : PassParts) (x : Turn Entry) (label : CoreLabel) (before : PassView) → before ≡ pass_of t0 h → Went says t0 t1 t2 h k x label → t2.number ≡ before.number → LeavesOpen t1.seen x → KeepsOpen before (pass_of t2 k)
 kept says t0 t1 t2 h k x label before is w same n =
     subst (λ (b : PassView). KeepsOpen b (pass_of t2 k)) (sym is)
     (keeps says (pass_of t0 h) (pass_of t2 k) (took_here says t0 t1 t2 h k x label w) (same ∙ ap (λ (b : PassView). b.number) is) n)

@@ -12,18 +12,18 @@ use Rattle.sp_history.specs.declared.setting.Setting.{Setting}
 use Rattle.sp_history.specs.Past.{caller_of, past_of}
 use Rattle.sp_history.specs.Once.{took_count}
 use Rattle.sp_history.specs.Legal.{Legal}
-use Rattle.sp_core.specs.declared.collect.Collected.{Collected}
-use Rattle.sp_core.specs.declared.collect.Collected.TheVariants as collected
+use Rattle.sp_core.specs.declared.calls.collect.Collected.{Collected}
+use Rattle.sp_core.specs.declared.calls.collect.Collected.TheVariants as collected
 use Rattle.sp_core.specs.Collecting.{IsOpen, ReadFor}
 use Rattle.core_parts.specs.Reads.{ReadAs}
-use Rattle.sp_socket.specs.declared.hands.Hands.{Hands}
+use Rattle.sp_socket.specs.declared.pass_parts.PassParts.{PassParts}
 use Rattle.sp_socket.specs.Passes.{PassView, TurnsOf, pass_of}
 use Rattle.sp_socket.specs.Open.{IsOpenFor}
 use Rattle.sp_socket.specs.Turns.{ReadsAs, ReadsFor}
 use Rattle.sp_history.proofs.OpenOperations.{open_in_both}
 
 -- an operation that is open for the pass is open in what it has seen since
-pub open_now : (p : PassView) (t0 t1 : TurnsOf) (h : Hands) (op : OpName) (k : ℕ) (z : Setting) → p ≡ pass_of t0 h → IsSameCaller t0 t1 → t1.mine ≡ t0.mine → t1.mine ≡ turns_of t1.number t1.seen → Legal z t1.seen → k ≡ t1.number → IsOpenFor p op → IsOpen k op t1.seen
+pub open_now : (p : PassView) (t0 t1 : TurnsOf) (h : PassParts) (op : OpName) (k : ℕ) (z : Setting) → p ≡ pass_of t0 h → IsSameCaller t0 t1 → t1.mine ≡ t0.mine → t1.mine ≡ turns_of t1.number t1.seen → Legal z t1.seen → k ≡ t1.number → IsOpenFor p op → IsOpen k op t1.seen
 open_now p t0 t1 h op k z is same mine exact legal number o =
     let o0 : IsOpenFor (pass_of t0 h) op = subst (λ (x : PassView). IsOpenFor x op) is o in
     let n : t0.number ≡ k = sym same.0 ∙ sym number in
@@ -33,10 +33,10 @@ open_now p t0 t1 h op k z is same mine exact legal number o =
       subst (λ (ts : List (Turn Entry)). took_count (past_of ts) op ≡ 0) m o0.1,
     )
 
-reads_as : (op : OpName) (p : Phase) (by : ℕ) (t0 t2 : TurnsOf) (h k : Hands) → ReadAs op p by h.seat.view k.seat.view → ReadsAs op p by (pass_of t0 h) (pass_of t2 k)
+reads_as : (op : OpName) (p : Phase) (by : ℕ) (t0 t2 : TurnsOf) (h k : PassParts) → ReadAs op p by h.seat.view k.seat.view → ReadsAs op p by (pass_of t0 h) (pass_of t2 k)
 reads_as op p by t0 t2 h k r = record { others = r.others; are_others = r.are_others; read = ap (λ x. x.reads) r.read; wins = ap (λ x. x.wins) r.read }
 
-pub reads_for : (result : Collected) (op : OpName) (t0 t2 : TurnsOf) (h k : Hands) → ReadFor result op h.seat.view k.seat.view → ReadsFor result op (pass_of t0 h) (pass_of t2 k)
+pub reads_for : (result : Collected) (op : OpName) (t0 t2 : TurnsOf) (h k : PassParts) → ReadFor result op h.seat.view k.seat.view → ReadsFor result op (pass_of t0 h) (pass_of t2 k)
 reads_for (collected.NotYet o) op t0 t2 h k r = reads_as op phase.Pending 0 t0 t2 h k r
 reads_for (collected.Ended outcome) op t0 t2 h k r = (r.0, r.1, r.2, reads_as op r.0 r.1 t0 t2 h k r.3)
 

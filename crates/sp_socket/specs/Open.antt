@@ -7,8 +7,8 @@ use Rattle.sp_history.specs.declared.entry.Entry.{Entry}
 use Rattle.sp_history.specs.Changes.{none_of}
 use Rattle.sp_history.specs.Found.{IsOpenOf, collects}
 use Rattle.sp_history.specs.Past.{past_of}
-use Rattle.sp_core.specs.declared.collect.Collected.{Collected}
-use Rattle.sp_core.specs.declared.collect.Collected.TheVariants as collected
+use Rattle.sp_core.specs.declared.calls.collect.Collected.{Collected}
+use Rattle.sp_core.specs.declared.calls.collect.Collected.TheVariants as collected
 use Rattle.sp_core.specs.Collecting.{IsOpen}
 use Rattle.sp_socket.specs.Passes.{PassView, IsSamePass, KeepsSeat}
 

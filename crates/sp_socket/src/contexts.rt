@@ -24,9 +24,9 @@ impl<P: Proto, W: Wire> Socket<P, W> {
         self.act::<OpenCtx, R>(rt, pass, OpenCtx)
     }
 
-    /// Shuts the context (nng_ctx_close(3)): what is pending on it ends, Closed unless a caller has ended it, and what is
-    /// kept for it is dropped. Refused where the socket is closed, or no such context is open that can be shut; the
-    /// socket's own can't. Takes no memory.
+    /// Shuts the context (nng_ctx_close(3)): what is pending on it ends, Closed unless a caller has ended it, and what
+    /// is kept for it is dropped. Refused where the socket is closed, or no such context is open that can be shut; the
+    /// socket's own can't. Doesn't fail when out of memory.
     pub fn close_ctx<R: Wait>(&self, rt: &R, pass: &mut Pass<P, W>, c: Ctx) -> Result<(), CtxError>
         requires own { IsOf self.now pass.old }
         ensures pass { KeepsPass pass.old pass.new }
@@ -52,7 +52,8 @@ impl<P: Proto, W: Wire> Socket<P, W> {
     }
 
     /// Takes a topic off for the context (NNG_OPT_SUB_UNSUBSCRIBE of nng_sub(7)). What is kept for it and no topic
-    /// matches any more is dropped. Refused by the first cause of `TopicError` that stands. Takes no memory.
+    /// matches any more is dropped. Refused by the first cause of `TopicError` that stands. Doesn't fail when out of
+    /// memory.
     pub fn unsubscribe<R: Wait>(
         &self,
         rt: &R,

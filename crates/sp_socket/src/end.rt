@@ -8,8 +8,8 @@ ghost use Rattle.sp_core.specs.CallSays.{core_label};
 ghost use Rattle.sp_socket.specs.Finishing.{HasSeenClose, IsFinished, Joins};
 
 use crate::boxed::BoxedCore;
-use crate::hands::Hands;
 use crate::list::SocketPasses;
+use crate::pass_parts::PassParts;
 use crate::record::{Record, Told};
 use crate::socket::Socket;
 use sp_core::{Core, WireList};
@@ -43,11 +43,11 @@ impl<P: Proto, W: Wire> Socket<P, W> {
         ensures { IsFinished W.shown result.wires result.record_.turns passes.items }
     {
         let Socket { lock, words: _ } = self;
-        let SocketPasses { turns, mut hands } = passes;
+        let SocketPasses { turns, mut parts } = passes;
         let (held, pass) = lock.end(rt, turns);
         let mut core = held.into_core();
-        join_all(&mut core, &mut hands);
-        hands.destroy_empty();
+        join_all(&mut core, &mut parts);
+        parts.destroy_empty();
         Finished {
             wires: core.into_wires(),
             record_: Record::of::<TurnPass<BoxedCore<P, W>>, Seen>(&pass),
@@ -56,17 +56,17 @@ impl<P: Proto, W: Wire> Socket<P, W> {
 }
 
 // The core takes in what the seats have won and read, the last seat first.
-fn join_all<P: Proto, W: Wire>(core: &mut Core<P, W>, hands: &mut Stack<Hands>)
+fn join_all<P: Proto, W: Wire>(core: &mut Core<P, W>, parts: &mut Stack<PassParts>)
     requires stands { (h : List (Turn Entry)) × StandsFor P.ties P.room W.shown core.old h }
-    requires own { Each (λ x. x.seat.words ≡ (core_label P.kind core.old).words) hands.old }
+    requires own { Each (λ x. x.seat.words ≡ (core_label P.kind core.old).words) parts.old }
     ensures stands { (h : List (Turn Entry)) → StandsFor P.ties P.room W.shown core.old h → StandsFor P.ties P.room W.shown core.new h }
     ensures label { core_label P.kind core.new ≡ core_label P.kind core.old }
-    ensures joined { Joins core.old core.new hands.old }
-    ensures taken { hands.new ≡ [] }
+    ensures joined { Joins core.old core.new parts.old }
+    ensures taken { parts.new ≡ [] }
 {
-    let Some((Hands { seat, names: _ }, _)) = hands.pop() else {
+    let Some((PassParts { seat, names: _ }, _)) = parts.pop() else {
         return;
     };
     core.join(seat);
-    join_all(core, hands);
+    join_all(core, parts);
 }

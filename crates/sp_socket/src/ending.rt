@@ -1,4 +1,5 @@
-//! The calls without a turn: a caller ends an operation, whoever began it, or looks how it stands. They wait for nobody.
+//! The calls without a turn: a caller ends an operation, whoever began it, or looks how it stands. They wait for
+//! nobody.
 ghost use Rattle.std.specs.Prelude.{◌<◌};
 ghost use Rattle.aio_word.specs.declared.phase.Phase.TheVariants as phase;
 ghost use Rattle.sp_socket.specs.Passes.{IsOf};
@@ -21,7 +22,7 @@ impl<P: Proto, W: Wire> Socket<P, W> {
         ensures raced { RacedAs phase.Cancelled result pass.old.number self.now.words.slots op (hand pass.old) (hand pass.new) }
         ensures rule { op.slot < self.now.words.slots → IsKnownPass self.now.words.slots pass.new }
     {
-        self.words.cancel(&mut pass.hands.seat, op)
+        self.words.cancel(&mut pass.parts.seat, op)
     }
 
     /// How the operation stands. One look at its word, and no turn: it waits for nobody, and takes no memory.
@@ -31,6 +32,6 @@ impl<P: Proto, W: Wire> Socket<P, W> {
         ensures polled { PolledAs result pass.old.number self.now.words.slots op (hand pass.old) (hand pass.new) }
         ensures rule { op.slot < self.now.words.slots → IsKnownPass self.now.words.slots pass.new }
     {
-        self.words.poll(&mut pass.hands.seat, op)
+        self.words.poll(&mut pass.parts.seat, op)
     }
 }

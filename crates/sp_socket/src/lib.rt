@@ -1,8 +1,8 @@
 //! A socket that several callers share: a core behind a turn lock, and for each caller a pass.
 //!
 //! A pass is a caller's right to take turns, its seat at the words of the operations, and room for the names that are
-//! due. Each call with a pass enters the lock, does one call of the core for the pass's number, and leaves: so it is one
-//! turn of that caller. What the call did and returns is said over the history that the pass has seen then. No call
+//! due. Each call with a pass enters the lock, does one call of the core for the pass's number, and leaves: so it is
+//! one turn of that caller. What the call did and returns is said over the history that the pass has seen then. No call
 //! holds the lock while it waits for another caller's answer; what ends an operation from outside the lock is one
 //! exchange on its word.
 //!
@@ -21,9 +21,9 @@ mod contexts;
 mod end;
 mod ending;
 mod expiring;
-mod hands;
 mod list;
 mod pass;
+mod pass_parts;
 mod record;
 mod shared;
 mod socket;

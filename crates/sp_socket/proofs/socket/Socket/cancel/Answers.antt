@@ -1,10 +1,10 @@
 use Rattle.std.proofs.Common.{ap, sym, subst, ℕ, ◌<◌}
-use Rattle.sp_socket.specs.declared.hands.Hands.{Hands}
+use Rattle.sp_socket.specs.declared.pass_parts.PassParts.{PassParts}
 use Rattle.sp_socket.proofs.Ticks.{known_pass}
 use Rattle.sp_socket.proofs.socket.Socket.cancel.Goals as goal
 
 pub returns-clause-rule : goal.returns-clause-rule
 returns-clause-rule g c = λ inside.
-    let k : Hands = record { seat = c.cancel.new.seat; names = c.pass.inside.hands.names } in
+    let k : PassParts = record { seat = c.cancel.new.seat; names = c.pass.inside.parts.names } in
     let slots = ap (λ q. q.words.slots) c.self.view_is in
-    known_pass c.self.inside.words.slots c.args.self.now.words.slots c.pass.inside.turn c.pass.inside.hands k slots c.pass.invariant c.cancel.ensures.own.1 (c.cancel.ensures.rule (subst (λ (n : ℕ). c.args.op.slot < n) (sym slots) inside))
+    known_pass c.self.inside.words.slots c.args.self.now.words.slots c.pass.inside.turn c.pass.inside.parts k slots c.pass.invariant c.cancel.ensures.own.1 (c.cancel.ensures.rule (subst (λ (n : ℕ). c.args.op.slot < n) (sym slots) inside))
