@@ -188,7 +188,8 @@ impl Proto for Bus {
         Ok(())
     }
 
-    /// A send takes a copy for each pipe that is up, and no more. Where none is up it takes no memory, however long it is.
+    /// A send takes a copy for each pipe that is up, and no more. Where none is up it takes no memory, however long it
+    /// is.
     fn begin(&mut self, op: OpName, c: Ctx, act: Act) -> Result<(), Message>
         requires { 0 < places_left self.old }
         ensures begun { OnOk result ((t : Moment) (deadline : Option ℕ) → NoFlood t → Takes (Ties self.old) (Ties self.new) t (Begin op t.caller c (entry_act act) deadline)) }

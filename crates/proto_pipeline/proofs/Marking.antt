@@ -14,7 +14,7 @@ use Rattle.proto_pipeline.specs.declared.push.Marks.{Marks}
 use Rattle.proto_pipeline.specs.Pushes.{port_of, marked, cleared, is_free, is_port, pipes_of, less_by, IsLater, IsPortAt, AreMarked}
 use Rattle.proto_pipeline.proofs.Ports.{has_append}
 use Rattle.std.proofs.lemmas.List.Quantifiers.{position-Some}
-use Rattle.proto_pipeline.proofs.FirstPlaces.{not_found}
+use Rattle.proto_pipeline.proofs.FirstThatPasses.{not_found}
 use Rattle.proto_pipeline.proofs.Reserved as reserved
 
 equal_of : (m n : ℕ) → (m == n) ≡ true → m ≡ n

@@ -149,8 +149,8 @@ counted_up us is p old new k free h e le =
 pub counted_down : (us : List ℕ) (is : List Item) (p old new : ℕ) (k : Option Bool) → has us p ≡ true → k ≡ mark_of us is p → new + cond (is_some k) 1 0 ≡ old → length us ≤ old → length (without us p) ≤ new
 counted_down us is p old new k is_up h e le =
     let some : k ≡ Some (list_any (is_from p) is) = h ∙ ap (λ (b : Bool). cond b (Some (list_any (is_from p) is)) None) is_up in
-    let fallen : new + 1 ≡ old = sym (ap (λ (o : Option Bool). new + cond (is_some o) 1 0) some) ∙ e in
-    omega (arith, fallen, le, one_fewer us p is_up)
+    let down : new + 1 ≡ old = sym (ap (λ (o : Option Bool). new + cond (is_some o) 1 0) some) ∙ e in
+    omega (arith, down, le, one_fewer us p is_up)
 
 -- ---- The map
 

@@ -13,7 +13,7 @@ use Rattle.std.proofs.lemmas.Map.Views.{any-filter_same}
 use Rattle.sp_history.specs.Lists.{has, without, same_bytes, matches}
 use Rattle.sp_history.specs.Kept.{is_wanted_by}
 use Rattle.sp_history.specs.Legal.{has_topic}
-use Rattle.proto_pubsub.specs.Seats.{topics_without}
+use Rattle.proto_pubsub.specs.SubContexts.{topics_without}
 use Rattle.proto_pubsub.specs.Topics.{is_known, is_prefix, IsIndex}
 
 -- ---- Texts

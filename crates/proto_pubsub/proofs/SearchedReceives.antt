@@ -8,7 +8,7 @@ use Rattle.sp_msg.specs.Views.{MessageView}
 use Rattle.sp_history.specs.Lists.{is_nil}
 use Rattle.proto_pubsub.specs.declared.subscribe.Subscribe.{Subscribe}
 use Rattle.proto_pubsub.specs.declared.subscribe.WaitingReceive.{WaitingReceive}
-use Rattle.proto_pubsub.specs.Seats.{SeatView, is_home, with_found, given_from, emptied, fresh_seat, switched}
+use Rattle.proto_pubsub.specs.SubContexts.{SubContextView, is_home, with_found, given_from, emptied, fresh_seat, switched}
 use Rattle.proto_pubsub.specs.Subs.{NoneBefore, is_ready, is_kept, keeps_at}
 use Rattle.proto_pubsub.proofs.SubContexts.{not_found}
 
@@ -173,8 +173,8 @@ fewer : (a b : Bool) → (a ≡ true → b ≡ true) → not a ≡ false → not
 fewer true b h e = let yes = h refl in ap not yes
 fewer false b h e = absurd cc
 
-module _ (P : SeatView → Bool) (f : SeatView → SeatView) (same : (x : SeatView) → (f x).ctx ≡ x.ctx) (less : (x : SeatView) → is_nil x.kept ≡ true → is_nil (f x).kept ≡ true) where
-  pub less_kept : (xs : List SeatView) (c : ℕ) → keeps_at xs c ≡ false → keeps_at (with_found P f xs) c ≡ false
+module _ (P : SubContextView → Bool) (f : SubContextView → SubContextView) (same : (x : SubContextView) → (f x).ctx ≡ x.ctx) (less : (x : SubContextView) → is_nil x.kept ≡ true → is_nil (f x).kept ≡ true) where
+  pub less_kept : (xs : List SubContextView) (c : ℕ) → keeps_at xs c ≡ false → keeps_at (with_found P f xs) c ≡ false
   less_kept [] c h = h
   less_kept (x ∷ xs) c h = go (P x) (less_kept xs c)
     where
@@ -191,7 +191,7 @@ module _ (P : SeatView → Bool) (f : SeatView → SeatView) (same : (x : SeatVi
       go false again = there (x.ctx == c) h again
 
 -- one less
-pub given_kept : (P : SeatView → Bool) (xs : List SeatView) (c : ℕ) → keeps_at xs c ≡ false → keeps_at (with_found P given_from xs) c ≡ false
+pub given_kept : (P : SubContextView → Bool) (xs : List SubContextView) (c : ℕ) → keeps_at xs c ≡ false → keeps_at (with_found P given_from xs) c ≡ false
 given_kept P = less_kept P given_from (λ x. refl) (λ x. none x.kept)
   where
     none : (ms : List MessageView) → is_nil ms ≡ true → is_nil (drop 1 ms) ≡ true
@@ -199,10 +199,10 @@ given_kept P = less_kept P given_from (λ x. refl) (λ x. none x.kept)
     none (m ∷ ms) h = absurd cc
 
 -- a topic is switched
-pub switched_kept : (on : Bool) (t : List ℕ) (P : SeatView → Bool) (xs : List SeatView) (c : ℕ) → keeps_at xs c ≡ false → keeps_at (with_found P (switched on t) xs) c ≡ false
+pub switched_kept : (on : Bool) (t : List ℕ) (P : SubContextView → Bool) (xs : List SubContextView) (c : ℕ) → keeps_at xs c ≡ false → keeps_at (with_found P (switched on t) xs) c ≡ false
 switched_kept on t P = less_kept P (switched on t) (same on) (less on)
   where
-    same : (on : Bool) (x : SeatView) → (switched on t x).ctx ≡ x.ctx
+    same : (on : Bool) (x : SubContextView) → (switched on t x).ctx ≡ x.ctx
     same true x = refl
     same false x = refl
 
@@ -210,11 +210,11 @@ switched_kept on t P = less_kept P (switched on t) (same on) (less on)
     none Q [] h = refl
     none Q (m ∷ ms) h = absurd cc
 
-    less : (on : Bool) (x : SeatView) → is_nil x.kept ≡ true → is_nil (switched on t x).kept ≡ true
+    less : (on : Bool) (x : SubContextView) → is_nil x.kept ≡ true → is_nil (switched on t x).kept ≡ true
     less true x h = h
     less false x h = none _ x.kept h
 
-pub emptied_kept : (xs : List SeatView) (c : ℕ) → keeps_at (map emptied xs) c ≡ false
+pub emptied_kept : (xs : List SubContextView) (c : ℕ) → keeps_at (map emptied xs) c ≡ false
 emptied_kept [] c = refl
 emptied_kept (x ∷ xs) c = go (x.ctx == c) (emptied_kept xs c)
   where
@@ -223,7 +223,7 @@ emptied_kept (x ∷ xs) c = go (x.ctx == c) (emptied_kept xs c)
     go false h = h
 
 -- a context is opened
-pub opened_kept : (places n : ℕ) (xs : List SeatView) (c : ℕ) → keeps_at xs c ≡ false → keeps_at (xs ++ fresh_seat places n ∷ []) c ≡ false
+pub opened_kept : (places n : ℕ) (xs : List SubContextView) (c : ℕ) → keeps_at xs c ≡ false → keeps_at (xs ++ fresh_seat places n ∷ []) c ≡ false
 opened_kept places n [] c h = go (n == c)
   where
     go : (b : Bool) → is_kept (cond b (Some (fresh_seat places n)) None) ≡ false
@@ -238,10 +238,10 @@ opened_kept places n (x ∷ xs) c h = go (x.ctx == c) h (opened_kept places n xs
 equal : (m n : ℕ) → (m == n) ≡ true → m ≡ n
 equal m n e = grind (arith, nat_tests)
 
-abbrev others : ℕ → List SeatView → List SeatView
-others n xs = filter (λ (x : SeatView). not (x.ctx == n)) xs
+abbrev others : ℕ → List SubContextView → List SubContextView
+others n xs = filter (λ (x : SubContextView). not (x.ctx == n)) xs
 
-gone : (c : ℕ) (xs : List SeatView) → keeps_at (others c xs) c ≡ false
+gone : (c : ℕ) (xs : List SubContextView) → keeps_at (others c xs) c ≡ false
 gone c [] = refl
 gone c (x ∷ xs) = go (x.ctx == c) refl (gone c xs)
   where
@@ -250,7 +250,7 @@ gone c (x ∷ xs) = go (x.ctx == c) refl (gone c xs)
     go false e again = ap (λ b. is_kept (cond b (Some x) (find (is_home c) (others c xs)))) e ∙ again
 
 -- a context is shut
-pub shut_kept : (n : ℕ) (xs : List SeatView) (c : ℕ) → keeps_at xs c ≡ false → keeps_at (filter (λ (x : SeatView). not (x.ctx == n)) xs) c ≡ false
+pub shut_kept : (n : ℕ) (xs : List SubContextView) (c : ℕ) → keeps_at xs c ≡ false → keeps_at (filter (λ (x : SubContextView). not (x.ctx == n)) xs) c ≡ false
 shut_kept n [] c h = h
 shut_kept n (x ∷ xs) c h = go (x.ctx == n) refl (x.ctx == c) refl h (shut_kept n xs c)
   where

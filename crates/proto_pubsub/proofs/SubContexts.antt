@@ -9,7 +9,7 @@ use Rattle.std.proofs.lemmas.List.Quantifiers.{position-Some}
 use Rattle.std.proofs.lemmas.List.Folds.{find_at}
 use Rattle.sp_history.specs.declared.parts.Item.{Item}
 use Rattle.sp_history.specs.Lists.{has, without}
-use Rattle.proto_pubsub.specs.Seats.{SeatView, is_home, with_found, switched, Switches, SwitchesOne, StopsAt}
+use Rattle.proto_pubsub.specs.SubContexts.{SubContextView, is_home, with_found, switched, Switches, SwitchesOne, StopsAt}
 use Rattle.proto_pubsub.specs.Subs.{seat_at}
 use Rattle.proto_pubsub.proofs.Knowing.{IsRising, equal_of}
 
@@ -39,17 +39,17 @@ not_found p xs h = find_at p xs ∙ nothing_past xs (position_or_len p xs) (go (
 
 -- ---- One is changed
 
-sets : (P : SeatView → Bool) (f : SeatView → SeatView) (xs : List SeatView) (i : ℕ) (d : SeatView) → i < length xs → P (slice_index_or xs i d) ≡ true → ((k : ℕ) → k < i → P (slice_index_or xs k d) ≡ false) → slice_set xs i (f (slice_index_or xs i d)) ≡ with_found P f xs
+sets : (P : SubContextView → Bool) (f : SubContextView → SubContextView) (xs : List SubContextView) (i : ℕ) (d : SubContextView) → i < length xs → P (slice_index_or xs i d) ≡ true → ((k : ℕ) → k < i → P (slice_index_or xs k d) ≡ false) → slice_set xs i (f (slice_index_or xs i d)) ≡ with_found P f xs
 sets P f [] i d h t b = absurd (omega arith)
 sets P f (x ∷ xs) zero d h t b = rw t refl
 sets P f (x ∷ xs) (suc i) d h t b =
     let no : P x ≡ false = b 0 (omega arith) in
     rw no (ap (λ rest. x ∷ rest) (sets P f xs i d (omega (arith, h)) t (λ k l. b (suc k) (omega (arith, l)))))
 
-pub with_at : (P : SeatView → Bool) (f : SeatView → SeatView) (xs : List SeatView) (i : ℕ) (d : SeatView) → position P xs ≡ Some i → slice_set xs i (f (slice_index_or xs i d)) ≡ with_found P f xs
+pub with_at : (P : SubContextView → Bool) (f : SubContextView → SubContextView) (xs : List SubContextView) (i : ℕ) (d : SubContextView) → position P xs ≡ Some i → slice_set xs i (f (slice_index_or xs i d)) ≡ with_found P f xs
 with_at P f xs i d h = let at = position-Some P xs i d h in sets P f xs i d at.0 at.1 at.2
 
-pub with_none : (P : SeatView → Bool) (f : SeatView → SeatView) (xs : List SeatView) → find P xs ≡ None → xs ≡ with_found P f xs
+pub with_none : (P : SubContextView → Bool) (f : SubContextView → SubContextView) (xs : List SubContextView) → find P xs ≡ None → xs ≡ with_found P f xs
 with_none P f [] h = refl
 with_none P f (x ∷ xs) h = go (P x) h (with_none P f xs)
   where
@@ -57,26 +57,26 @@ with_none P f (x ∷ xs) h = go (P x) h (with_none P f xs)
     go true h again = absurd cc
     go false h again = ap (λ rest. x ∷ rest) (again h)
 
-sets_same : (xs : List SeatView) (i : ℕ) (d : SeatView) → i < length xs → slice_set xs i (slice_index_or xs i d) ≡ xs
+sets_same : (xs : List SubContextView) (i : ℕ) (d : SubContextView) → i < length xs → slice_set xs i (slice_index_or xs i d) ≡ xs
 sets_same [] i d h = absurd (omega arith)
 sets_same (x ∷ xs) zero d h = refl
 sets_same (x ∷ xs) (suc i) d h = ap (λ rest. x ∷ rest) (sets_same xs i d (omega (arith, h)))
 
-pub same_at : (P : SeatView → Bool) (xs : List SeatView) (i : ℕ) (d v : SeatView) → position P xs ≡ Some i → v ≡ slice_index_or xs i d → slice_set xs i v ≡ xs
+pub same_at : (P : SubContextView → Bool) (xs : List SubContextView) (i : ℕ) (d v : SubContextView) → position P xs ≡ Some i → v ≡ slice_index_or xs i d → slice_set xs i v ≡ xs
 same_at P xs i d v h e = ap (slice_set xs i) e ∙ sets_same xs i d (position-Some P xs i d h).0
 
 -- the topic of one is switched
-pub switch_one : {E : Type 0} (r : Result Bool E) (c : ℕ) (xs : List SeatView) (i : ℕ) (d v : SeatView) (topic : List ℕ) (on : Bool) → position (is_home c) xs ≡ Some i → Switches r (slice_index_or xs i d) v topic on → SwitchesOne r (slice_index_or xs i d) c xs (slice_set xs i v) topic on
+pub switch_one : {E : Type 0} (r : Result Bool E) (c : ℕ) (xs : List SubContextView) (i : ℕ) (d v : SubContextView) (topic : List ℕ) (on : Bool) → position (is_home c) xs ≡ Some i → Switches r (slice_index_or xs i d) v topic on → SwitchesOne r (slice_index_or xs i d) c xs (slice_set xs i v) topic on
 switch_one (Ok true) c xs i d v topic on h s = (s.0, ap (slice_set xs i) s.1 ∙ with_at (is_home c) (switched on topic) xs i d h)
 switch_one (Ok false) c xs i d v topic on h s = (s.0, same_at (is_home c) xs i d v h s.1)
 switch_one (Err e) c xs i d v topic on h s = (s.0, same_at (is_home c) xs i d v h s.1)
 
 -- no out of memory where one is taken off
-pub one_off : {E : Type 0} (r : Result Bool E) (x v : SeatView) (topic : List ℕ) (on : Bool) → on ≡ false → Switches r x v topic on → OnErr r ⊥
+pub one_off : {E : Type 0} (r : Result Bool E) (x v : SubContextView) (topic : List ℕ) (on : Bool) → on ≡ false → Switches r x v topic on → OnErr r ⊥
 one_off (Ok b) x v topic on e s = tt
 one_off (Err y) x v topic on e s = let no : false ≡ true = sym e ∙ s.0 in absurd cc
 
-with_long : (P : SeatView → Bool) (f : SeatView → SeatView) (xs : List SeatView) → length (with_found P f xs) ≡ length xs
+with_long : (P : SubContextView → Bool) (f : SubContextView → SubContextView) (xs : List SubContextView) → length (with_found P f xs) ≡ length xs
 with_long P f [] = refl
 with_long P f (x ∷ xs) = go (P x) (with_long P f xs)
   where
@@ -126,12 +126,12 @@ halts f [] i d h = absurd (omega arith)
 halts f (x ∷ xs) zero d h = refl
 halts f (x ∷ xs) (suc i) d h = ap (λ rest. f x ∷ rest) (halts f xs i d (omega (arith, h)))
 
-record Parts (f : SeatView → SeatView) (xs : List SeatView) (i : ℕ) (d : SeatView) : Type 0 where
-  rest : List SeatView
+record Parts (f : SubContextView → SubContextView) (xs : List SubContextView) (i : ℕ) (d : SubContextView) : Type 0 where
+  rest : List SubContextView
   before : xs ≡ take i xs ++ slice_index_or (map f (take i xs) ++ drop i xs) i d ∷ rest
   after : map f (take i xs) ++ drop i xs ≡ map f (take i xs) ++ slice_index_or (map f (take i xs) ++ drop i xs) i d ∷ rest
 
-parts : (f : SeatView → SeatView) (xs : List SeatView) (i : ℕ) (d : SeatView) → i < length xs → Parts f xs i d
+parts : (f : SubContextView → SubContextView) (xs : List SubContextView) (i : ℕ) (d : SubContextView) → i < length xs → Parts f xs i d
 parts f [] i d h = absurd (omega arith)
 parts f (x ∷ xs) zero d h = record { rest = xs; before = refl; after = refl }
 parts f (x ∷ xs) (suc i) d h =
@@ -139,36 +139,36 @@ parts f (x ∷ xs) (suc i) d h =
     record { rest = p.rest; before = ap (λ rest. x ∷ rest) p.before; after = ap (λ rest. f x ∷ rest) p.after }
 
 -- the one before which it stopped is as it was
-pub stops : (needs : SeatView → Bool) (f : SeatView → SeatView) (xs ys : List SeatView) (i c : ℕ) (d v : SeatView) → i < length xs → ys ≡ map f (take i xs) ++ drop i xs → v ≡ slice_index_or ys i d → needs v ≡ true → v.ctx ≡ c → StopsAt needs f c xs (slice_set ys i v)
+pub stops : (needs : SubContextView → Bool) (f : SubContextView → SubContextView) (xs ys : List SubContextView) (i c : ℕ) (d v : SubContextView) → i < length xs → ys ≡ map f (take i xs) ++ drop i xs → v ≡ slice_index_or ys i d → needs v ≡ true → v.ctx ≡ c → StopsAt needs f c xs (slice_set ys i v)
 stops needs f xs ys i c d v h e w need k =
-    let at : SeatView = slice_index_or (map f (take i xs) ++ drop i xs) i d in
-    let is : v ≡ at = w ∙ ap (λ (zs : List SeatView). slice_index_or zs i d) e in
+    let at : SubContextView = slice_index_or (map f (take i xs) ++ drop i xs) i d in
+    let is : v ≡ at = w ∙ ap (λ (zs : List SubContextView). slice_index_or zs i d) e in
     let p = parts f xs i d h in
     record {
       done = take i xs;
       at = at;
       rest = p.rest;
       before = p.before;
-      here = ap (λ (x : SeatView). x.ctx) (sym is) ∙ k;
+      here = ap (λ (x : SubContextView). x.ctx) (sym is) ∙ k;
       needed = ap needs (sym is) ∙ need;
-      after = ap (λ (zs : List SeatView). slice_set zs i v) e ∙ ap (slice_set (map f (take i xs) ++ drop i xs) i) is ∙ halts f xs i d h ∙ p.after;
+      after = ap (λ (zs : List SubContextView). slice_set zs i v) e ∙ ap (slice_set (map f (take i xs) ++ drop i xs) i) is ∙ halts f xs i d h ∙ p.after;
     }
 
 -- the seats are those that were written
-pub seats_written : {Z : Type 0} (v : Vec SeatView Z) (xs ys : List SeatView) → ys ≡ v.items → length xs ≡ length ys → (with_items v xs).items ≡ xs
+pub seats_written : {Z : Type 0} (v : Vec SubContextView Z) (xs ys : List SubContextView) → ys ≡ v.items → length xs ≡ length ys → (with_items v xs).items ≡ xs
 seats_written v xs ys e h = with_items_is v xs (h ∙ ap length e ∙ sym v.ok.0)
 
-pub long_map : (f : SeatView → SeatView) (xs ys : List SeatView) → xs ≡ map f ys → length xs ≡ length ys
+pub long_map : (f : SubContextView → SubContextView) (xs ys : List SubContextView) → xs ≡ map f ys → length xs ≡ length ys
 long_map f xs ys e = ap length e ∙ length-map ys f
 
-pub long_with : (P : SeatView → Bool) (f : SeatView → SeatView) (xs ys : List SeatView) → xs ≡ with_found P f ys → length xs ≡ length ys
+pub long_with : (P : SubContextView → Bool) (f : SubContextView → SubContextView) (xs ys : List SubContextView) → xs ≡ with_found P f ys → length xs ≡ length ys
 long_with P f xs ys e = ap length e ∙ with_long P f ys
 
-long_parts : (f : SeatView → SeatView) (done rest : List SeatView) → length (map f done ++ rest) ≡ length (done ++ rest)
+long_parts : (f : SubContextView → SubContextView) (done rest : List SubContextView) → length (map f done ++ rest) ≡ length (done ++ rest)
 long_parts f [] rest = refl
 long_parts f (x ∷ done) rest = omega (arith, long_parts f done rest)
 
-pub long_stops : (needs : SeatView → Bool) (f : SeatView → SeatView) (c : ℕ) (xs ys : List SeatView) → StopsAt needs f c xs ys → length ys ≡ length xs
+pub long_stops : (needs : SubContextView → Bool) (f : SubContextView → SubContextView) (c : ℕ) (xs ys : List SubContextView) → StopsAt needs f c xs ys → length ys ≡ length xs
 long_stops needs f c xs ys h = ap length h.after ∙ long_parts f h.done (h.at ∷ h.rest) ∙ sym (ap length h.before)
 
 -- ---- As a past tells them
@@ -186,14 +186,14 @@ map_same f g (c ∷ cs) h =
     after true b q = refl
     after false b q = q
 
-pub each : (k : SeatView → SeatView) (f g : ℕ → SeatView) (cs : List ℕ) → ((c : ℕ) → has cs c ≡ true → k (f c) ≡ g c) → map k (map f cs) ≡ map g cs
+pub each : (k : SubContextView → SubContextView) (f g : ℕ → SubContextView) (cs : List ℕ) → ((c : ℕ) → has cs c ≡ true → k (f c) ≡ g c) → map k (map f cs) ≡ map g cs
 each k f g cs h = twice cs ∙ map_same (λ c. k (f c)) g cs h
   where
     twice : (cs : List ℕ) → map k (map f cs) ≡ map (λ c. k (f c)) cs
     twice [] = refl
     twice (c ∷ cs) = ap (λ rest. k (f c) ∷ rest) (twice cs)
 
-tail_is : (x y : SeatView) (xs ys : List SeatView) → x ∷ xs ≡ y ∷ ys → (x ≡ y) × (xs ≡ ys)
+tail_is : (x y : SubContextView) (xs ys : List SubContextView) → x ∷ xs ≡ y ∷ ys → (x ≡ y) × (xs ≡ ys)
 tail_is x y xs ys e = (cc, cc)
 
 module _ (places : ℕ) (is : ℕ → List Item) (ts : ℕ → List (List ℕ)) where
@@ -210,11 +210,11 @@ module _ (places : ℕ) (is : ℕ → List Item) (ts : ℕ → List (List ℕ)) 
   any_seat c [] = refl
   any_seat c (x ∷ cs) = ap (λ b. (x == c) || b) (any_seat c cs)
 
-  pub stands : (c : ℕ) (cs : List ℕ) (done rest : List SeatView) (at : SeatView) → map (seat_at places is ts) cs ≡ done ++ at ∷ rest → at.ctx ≡ c → has cs c ≡ true
+  pub stands : (c : ℕ) (cs : List ℕ) (done rest : List SubContextView) (at : SubContextView) → map (seat_at places is ts) cs ≡ done ++ at ∷ rest → at.ctx ≡ c → has cs c ≡ true
   stands c [] [] rest at e k = absurd cc
   stands c [] (d ∷ done) rest at e k = absurd cc
   stands c (x ∷ cs) [] rest at e k =
-      let same : x ≡ c = ap (λ (y : SeatView). y.ctx) (tail_is _ _ _ _ e).0 ∙ k in
+      let same : x ≡ c = ap (λ (y : SubContextView). y.ctx) (tail_is _ _ _ _ e).0 ∙ k in
       let is : (x == c) ≡ true = grind (arith, nat_tests) in rw is refl
   stands c (x ∷ cs) (d ∷ done) rest at e k = after (x == c) (has cs c) (stands c cs done rest at (tail_is _ _ _ _ e).1 k)
     where
@@ -223,17 +223,17 @@ module _ (places : ℕ) (is : ℕ → List Item) (ts : ℕ → List (List ℕ)) 
       after false b q = q
 
   -- the one that stands there is as the past tells it
-  pub is_at : (cs : List ℕ) (done rest : List SeatView) (at : SeatView) → map (seat_at places is ts) cs ≡ done ++ at ∷ rest → at ≡ seat_at places is ts at.ctx
+  pub is_at : (cs : List ℕ) (done rest : List SubContextView) (at : SubContextView) → map (seat_at places is ts) cs ≡ done ++ at ∷ rest → at ≡ seat_at places is ts at.ctx
   is_at [] [] rest at e = absurd cc
   is_at [] (d ∷ done) rest at e = absurd cc
   is_at (x ∷ cs) [] rest at e =
       let first : seat_at places is ts x ≡ at = (tail_is _ _ _ _ e).0 in
-      sym first ∙ ap (seat_at places is ts) (ap (λ (y : SeatView). y.ctx) first)
+      sym first ∙ ap (seat_at places is ts) (ap (λ (y : SubContextView). y.ctx) first)
   is_at (x ∷ cs) (d ∷ done) rest at e = is_at cs done rest at (tail_is _ _ _ _ e).1
 
   module _ (js : ℕ → List Item) (us : ℕ → List (List ℕ)) where
     -- the one of this number is changed, and no other
-    pub changed : (g : SeatView → SeatView) (c : ℕ) (cs : List ℕ) → IsRising cs → g (seat_at places is ts c) ≡ seat_at places js us c → ((e : ℕ) → has cs e ≡ true → (c == e) ≡ false → seat_at places is ts e ≡ seat_at places js us e)
+    pub changed : (g : SubContextView → SubContextView) (c : ℕ) (cs : List ℕ) → IsRising cs → g (seat_at places is ts c) ≡ seat_at places js us c → ((e : ℕ) → has cs e ≡ true → (c == e) ≡ false → seat_at places is ts e ≡ seat_at places js us e)
         → with_found (is_home c) g (map (seat_at places is ts) cs) ≡ map (seat_at places js us) cs
     changed g c [] h k o = refl
     changed g c (x ∷ cs) h k o = go (x == c) refl (changed g c cs h.1 k)
@@ -261,25 +261,25 @@ module _ (places : ℕ) (is : ℕ → List Item) (ts : ℕ → List (List ℕ)) 
             ap (λ y. y ∷ with_found (is_home c) g (map (seat_at places is ts) cs)) first ∙ ap (λ rest. seat_at places js us x ∷ rest) (again (λ d q. o d (after (x == d) (has cs d) q)))
 
     -- the one of this number is gone
-    pub shut : (c : ℕ) (cs : List ℕ) → ((e : ℕ) → (c == e) ≡ false → seat_at places is ts e ≡ seat_at places js us e) → filter (λ (x : SeatView). not (x.ctx == c)) (map (seat_at places is ts) cs) ≡ map (seat_at places js us) (without cs c)
+    pub shut : (c : ℕ) (cs : List ℕ) → ((e : ℕ) → (c == e) ≡ false → seat_at places is ts e ≡ seat_at places js us e) → filter (λ (x : SubContextView). not (x.ctx == c)) (map (seat_at places is ts) cs) ≡ map (seat_at places js us) (without cs c)
     shut c [] o = refl
     shut c (x ∷ cs) o = go (x == c) refl (shut c cs o)
       where
         turned : (m n : ℕ) → (m == n) ≡ false → (n == m) ≡ false
         turned m n e = grind (arith, nat_tests)
 
-        go : (b : Bool) → (x == c) ≡ b → filter (λ (x : SeatView). not (x.ctx == c)) (map (seat_at places is ts) cs) ≡ map (seat_at places js us) (without cs c)
-            → cond (not b) (seat_at places is ts x ∷ filter (λ (x : SeatView). not (x.ctx == c)) (map (seat_at places is ts) cs)) (filter (λ (x : SeatView). not (x.ctx == c)) (map (seat_at places is ts) cs)) ≡ map (seat_at places js us) (cond (not b) (x ∷ without cs c) (without cs c))
+        go : (b : Bool) → (x == c) ≡ b → filter (λ (x : SubContextView). not (x.ctx == c)) (map (seat_at places is ts) cs) ≡ map (seat_at places js us) (without cs c)
+            → cond (not b) (seat_at places is ts x ∷ filter (λ (x : SubContextView). not (x.ctx == c)) (map (seat_at places is ts) cs)) (filter (λ (x : SubContextView). not (x.ctx == c)) (map (seat_at places is ts) cs)) ≡ map (seat_at places js us) (cond (not b) (x ∷ without cs c) (without cs c))
         go true e again = again
-        go false e again = ap (λ y. y ∷ filter (λ (x : SeatView). not (x.ctx == c)) (map (seat_at places is ts) cs)) (o x (turned x c e)) ∙ ap (λ rest. seat_at places js us x ∷ rest) again
+        go false e again = ap (λ y. y ∷ filter (λ (x : SubContextView). not (x.ctx == c)) (map (seat_at places is ts) cs)) (o x (turned x c e)) ∙ ap (λ rest. seat_at places js us x ∷ rest) again
 
     -- those below this number were changed, and no other
-    pub stopped : (f : SeatView → SeatView) (c : ℕ) (cs : List ℕ) (done rest : List SeatView) (at : SeatView) → IsRising cs → map (seat_at places is ts) cs ≡ done ++ at ∷ rest → at.ctx ≡ c
+    pub stopped : (f : SubContextView → SubContextView) (c : ℕ) (cs : List ℕ) (done rest : List SubContextView) (at : SubContextView) → IsRising cs → map (seat_at places is ts) cs ≡ done ++ at ∷ rest → at.ctx ≡ c
         → ((e : ℕ) → has cs e ≡ true → e < c → f (seat_at places is ts e) ≡ seat_at places js us e) → ((e : ℕ) → has cs e ≡ true → c ≤ e → seat_at places is ts e ≡ seat_at places js us e) → map f done ++ at ∷ rest ≡ map (seat_at places js us) cs
     stopped f c [] [] rest at r e k low high = absurd cc
     stopped f c [] (d ∷ done) rest at r e k low high = absurd cc
     stopped f c (x ∷ cs) [] rest at r e k low high =
-        let same : x ≡ c = ap (λ (y : SeatView). y.ctx) (tail_is _ _ _ _ e).0 ∙ k in
+        let same : x ≡ c = ap (λ (y : SubContextView). y.ctx) (tail_is _ _ _ _ e).0 ∙ k in
         sym e ∙ map_same (seat_at places is ts) (seat_at places js us) (x ∷ cs) (λ d q. high d q (least d (x == d) refl q same))
       where
         least : (d : ℕ) (b : Bool) → (x == d) ≡ b → (b || has cs d) ≡ true → x ≡ c → c ≤ d

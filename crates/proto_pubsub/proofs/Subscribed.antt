@@ -42,7 +42,7 @@ use Rattle.sp_proto.specs.declared.Verdict.TheVariants as verdicts
 use Rattle.sp_proto.specs.Machines.{CanGive, CanSend, CanDrop, IsIdle, Frames, Topics, switch_of, message_of}
 use Rattle.proto_pubsub.specs.declared.subscribe.Subscribe.{Subscribe}
 use Rattle.proto_pubsub.specs.declared.subscribe.WaitingReceive.{WaitingReceive}
-use Rattle.proto_pubsub.specs.Seats.{SeatView, is_home, kept_in, takes_frame, added, fresh_seat, given_from, emptied, switched, first_in, with_found, ctx_of, AreOrdered, InOrder, SwitchesIn, StopsAt}
+use Rattle.proto_pubsub.specs.SubContexts.{SubContextView, is_home, kept_in, takes_frame, added, fresh_seat, given_from, emptied, switched, first_in, with_found, ctx_of, AreOrdered, InOrder, SwitchesIn, StopsAt}
 use Rattle.proto_pubsub.specs.Subs.{Ties, NeedsCopy, seat_at, view_of, begun_of, is_for, is_ready, keeps_at, is_kept, without_first, NoneBefore}
 use Rattle.proto_pubsub.proofs.Knowing.{IsRising, allowed, allowed_before, apart, rising, only_zero, AreHome, homes, home_of, pool_home, kept_home, nothing}
 use Rattle.proto_pubsub.proofs.SubContexts.{found_at, not_found, long_with, found_seat, any_seat, changed, each, map_same, shut, stands, is_at, stopped}
@@ -60,7 +60,7 @@ is_options : (m : Subscribe) (t : Moment) → Ties m t → t.z.options ≡ m.opt
 is_options m t h = ap (λ (k : Kind). k.options) h.kind
 
 -- its contexts stand in order
-pub in_order : (m : Subscribe) (t : Moment) (xs : List SeatView) → Ties m t → xs ≡ m.seats.items → InOrder xs
+pub in_order : (m : Subscribe) (t : Moment) (xs : List SubContextView) → Ties m t → xs ≡ m.seats.items → InOrder xs
 in_order m t xs h e = subst AreOrdered (sym (ap (map ctx_of) (e ∙ h.seats) ∙ numbers m.options.queue (λ c. pool t.z (past t) c) (λ c. topics (past t) c) (ctxs (past t)))) h.order
 
 -- what is kept in the pools, and the topics, at a moment
@@ -112,7 +112,7 @@ module _ (m : Subscribe) (t : Moment) (p : ℕ) (v : MessageView) (h : Ties m t)
 
   -- the context keeps it
   takes_in : (c : ℕ) → has (ctxs (past t)) c ≡ true → kept_in m.raw m.options v (seat_at m.options.queue (pools t) (tops t) c) ≡ seat_at m.options.queue (pools (also t (Frame p v.body))) (tops t) c
-  takes_in c k = go (m.raw || is_wanted_by (tops t c) v.body) ∙ sym (ap (λ (is : List Item). let x : SeatView = record { ctx = c; topics = tops t c; places = m.options.queue; kept = map view_of is } in x) same)
+  takes_in c k = go (m.raw || is_wanted_by (tops t c) v.body) ∙ sym (ap (λ (is : List Item). let x : SubContextView = record { ctx = c; topics = tops t c; places = m.options.queue; kept = map view_of is } in x) same)
     where
       more : List Item
       more = add_discarding m.options.prefer_new m.options.queue (Some (plain_item p v.body)) (pools t c)
@@ -127,8 +127,8 @@ module _ (m : Subscribe) (t : Moment) (p : ℕ) (v : MessageView) (h : Ties m t)
       puts = ap (λ (x : MessageView). added m.options.prefer_new m.options.queue x (map view_of (pools t c))) is ∙ views_added m.options.prefer_new m.options.queue (plain_item p v.body) (pools t c)
 
       go : (b : Bool) → cond b (record { ctx = c; topics = tops t c; places = m.options.queue; kept = added m.options.prefer_new m.options.queue v (map view_of (pools t c)) }) (seat_at m.options.queue (pools t) (tops t) c)
-          ≡ (let x : SeatView = record { ctx = c; topics = tops t c; places = m.options.queue; kept = map view_of (cond b more (pools t c)) } in x)
-      go true = ap (λ (vs : List MessageView). let x : SeatView = record { ctx = c; topics = tops t c; places = m.options.queue; kept = vs } in x) puts
+          ≡ (let x : SubContextView = record { ctx = c; topics = tops t c; places = m.options.queue; kept = map view_of (cond b more (pools t c)) } in x)
+      go true = ap (λ (vs : List MessageView). let x : SubContextView = record { ctx = c; topics = tops t c; places = m.options.queue; kept = vs } in x) puts
       go false = refl
 
   well_formed : malformed t.z (past t) p v.body ≡ false
@@ -171,13 +171,13 @@ module _ (m : Subscribe) (t : Moment) (p : ℕ) (v : MessageView) (h : Ties m t)
       now_is e b q = ap (λ b'. cond b' (pools (also t (Frame p v.body)) e) (pools t e)) q
 
       low : (e : ℕ) → has (ctxs (past t)) e ≡ true → e < d → kept_in m.raw m.options v (seat_at m.options.queue (pools t) (tops t) e) ≡ seat_at m.options.queue (pools (also (also t (Frame p v.body)) (Dry d))) (tops t) e
-      low e k l = takes_in e k ∙ ap (λ (is : List Item). let x : SeatView = record { ctx = e; topics = tops t e; places = m.options.queue; kept = map view_of is } in x) (sym (now_is e true (below e l)))
+      low e k l = takes_in e k ∙ ap (λ (is : List Item). let x : SubContextView = record { ctx = e; topics = tops t e; places = m.options.queue; kept = map view_of is } in x) (sym (now_is e true (below e l)))
 
       high : (e : ℕ) → has (ctxs (past t)) e ≡ true → d ≤ e → seat_at m.options.queue (pools t) (tops t) e ≡ seat_at m.options.queue (pools (also (also t (Frame p v.body)) (Dry d))) (tops t) e
-      high e k l = ap (λ (is : List Item). let x : SeatView = record { ctx = e; topics = tops t e; places = m.options.queue; kept = map view_of is } in x) (sym (now_is e false (above e l)))
+      high e k l = ap (λ (is : List Item). let x : SubContextView = record { ctx = e; topics = tops t e; places = m.options.queue; kept = map view_of is } in x) (sym (now_is e false (above e l)))
 
   -- the context at which it stopped needed a copy
-  pub dry_needs : (ys : List SeatView) (d : ℕ) → StopsAt (takes_frame m.raw m.options v.body) (kept_in m.raw m.options v) d m.seats.items ys → NeedsCopy t.z (past t) d p v.body
+  pub dry_needs : (ys : List SubContextView) (d : ℕ) → StopsAt (takes_frame m.raw m.options v.body) (kept_in m.raw m.options v) d m.seats.items ys → NeedsCopy t.z (past t) d p v.body
   dry_needs ys d stops =
       let before = sym h.seats ∙ stops.before in
       let home = stands m.options.queue (pools t) (tops t) d (ctxs (past t)) stops.done stops.rest stops.at before stops.here in
@@ -225,15 +225,15 @@ nil_views (i ∷ is) = refl
 
 keeps_of : (m : Subscribe) (t : Moment) (c : ℕ) → AreAllowed t.z (past t) → Ties m t → has (ctxs (past t)) c ≡ true → keeps_at m.seats.items c ≡ not (is_nil (kept t.z (past t) c))
 keeps_of m t c a h k =
-    ap (λ (xs : List SeatView). is_kept (find (is_home c) xs)) h.seats ∙ ap is_kept (found_seat m.options.queue (pools t) (tops t) c (ctxs (past t)) ∙ ap (λ b. cond b (Some (seat_at m.options.queue (pools t) (tops t) c)) None) k) ∙ ap not (nil_views (pools t c))
+    ap (λ (xs : List SubContextView). is_kept (find (is_home c) xs)) h.seats ∙ ap is_kept (found_seat m.options.queue (pools t) (tops t) c (ctxs (past t)) ∙ ap (λ b. cond b (Some (seat_at m.options.queue (pools t) (tops t) c)) None) k) ∙ ap not (nil_views (pools t c))
     ∙ sym (ap (λ (is : List Item). not (is_nil is)) (kept_home t.z (past t) c (is_sub m t h) a k))
 
-pub keeps_means : (m : Subscribe) (t : Moment) (c : ℕ) (xs : List SeatView) (b : Bool) → Lawful t → Ties m t → has (ctxs (past t)) c ≡ true → xs ≡ m.seats.items → b ≡ keeps_at xs c → b ≡ not (is_nil (kept t.z (past t) c))
-keeps_means m t c xs b l h k e f = f ∙ ap (λ (ys : List SeatView). keeps_at ys c) e ∙ keeps_of m t c (allowed t l) h k
+pub keeps_means : (m : Subscribe) (t : Moment) (c : ℕ) (xs : List SubContextView) (b : Bool) → Lawful t → Ties m t → has (ctxs (past t)) c ≡ true → xs ≡ m.seats.items → b ≡ keeps_at xs c → b ≡ not (is_nil (kept t.z (past t) c))
+keeps_means m t c xs b l h k e f = f ∙ ap (λ (ys : List SubContextView). keeps_at ys c) e ∙ keeps_of m t c (allowed t l) h k
 
 -- ---- Whether an operation may begin
 
-pub open_is : (m : Subscribe) (t : Moment) (c : ℕ) (xs : List SeatView) (b o : Bool) → Ties m t → xs ≡ m.seats.items → o ≡ list_any (is_home c) xs → o ≡ b → has (ctxs (past t)) c ≡ b
+pub open_is : (m : Subscribe) (t : Moment) (c : ℕ) (xs : List SubContextView) (b o : Bool) → Ties m t → xs ≡ m.seats.items → o ≡ list_any (is_home c) xs → o ≡ b → has (ctxs (past t)) c ≡ b
 open_is m t c xs b o h e k f = sym (any_seat m.options.queue (pools t) (tops t) c (ctxs (past t))) ∙ ap (list_any (is_home c)) (sym h.seats ∙ sym e) ∙ sym k ∙ f
 
 pub no_state : (m : Subscribe) (t : Moment) (c : ℕ) (act : RecordedAct) → Ties m t → is_state t.z (past t) c act ≡ false
@@ -335,17 +335,17 @@ idle m t l h f =
     }
 
 -- the place of the first that is ready
-pub place_of : (m : Subscribe) (t : Moment) (xs : List SeatView) (r : Option ℕ) → Ties m t → xs ≡ m.seats.items → (NoneBefore (is_ready xs) m.looked m.waiting.items → r ≡ position (is_ready xs) m.waiting.items) → r ≡ position (is_ready m.seats.items) m.waiting.items
+pub place_of : (m : Subscribe) (t : Moment) (xs : List SubContextView) (r : Option ℕ) → Ties m t → xs ≡ m.seats.items → (NoneBefore (is_ready xs) m.looked m.waiting.items → r ≡ position (is_ready xs) m.waiting.items) → r ≡ position (is_ready m.seats.items) m.waiting.items
 place_of m t xs r h e f = g h.looked
   where
     g : NoneBefore (is_ready m.seats.items) m.looked m.waiting.items → r ≡ position (is_ready m.seats.items) m.waiting.items
-    g = subst (λ (ys : List SeatView). NoneBefore (is_ready ys) m.looked m.waiting.items → r ≡ position (is_ready ys) m.waiting.items) e f
+    g = subst (λ (ys : List SubContextView). NoneBefore (is_ready ys) m.looked m.waiting.items → r ≡ position (is_ready ys) m.waiting.items) e f
 
-pub can_give_at : (m : Subscribe) (t : Moment) (xs : List SeatView) (i : ℕ) (w : WaitingReceive) (r : Option ℕ) → Lawful t → Ties m t → xs ≡ m.seats.items → Some i ≡ r → (NoneBefore (is_ready xs) m.looked m.waiting.items → r ≡ position (is_ready xs) m.waiting.items) → w ≡ slice_index_or m.waiting.items i w
+pub can_give_at : (m : Subscribe) (t : Moment) (xs : List SubContextView) (i : ℕ) (w : WaitingReceive) (r : Option ℕ) → Lawful t → Ties m t → xs ≡ m.seats.items → Some i ≡ r → (NoneBefore (is_ready xs) m.looked m.waiting.items → r ≡ position (is_ready xs) m.waiting.items) → w ≡ slice_index_or m.waiting.items i w
     → (s : Begun) × (x : RecordedMessage) × CanGive t w.op s x
 can_give_at m t xs i w r l h e f g k = can_give m t w l h (found_at (is_ready m.seats.items) m.waiting.items i w (sym (f ∙ place_of m t xs r h e g)) ∙ ap (λ (v : WaitingReceive). Some v) (sym k))
 
-pub idle_at : (m : Subscribe) (t : Moment) (xs : List SeatView) (r : Option ℕ) → Lawful t → Ties m t → xs ≡ m.seats.items → None ≡ r → (NoneBefore (is_ready xs) m.looked m.waiting.items → r ≡ position (is_ready xs) m.waiting.items) → IsIdle t
+pub idle_at : (m : Subscribe) (t : Moment) (xs : List SubContextView) (r : Option ℕ) → Lawful t → Ties m t → xs ≡ m.seats.items → None ≡ r → (NoneBefore (is_ready xs) m.looked m.waiting.items → r ≡ position (is_ready xs) m.waiting.items) → IsIdle t
 idle_at m t xs r l h e f g = idle m t l h (not_found (is_ready m.seats.items) m.waiting.items (sym (f ∙ place_of m t xs r h e g)))
 
 -- the receives were looked at up to this place
@@ -360,11 +360,11 @@ looked_ties m n t h s w k same =
     }
 
 -- up to the one that is ready
-pub looked_to : (m : Subscribe) (t : Moment) (xs : List SeatView) (i : ℕ) (d : WaitingReceive) (r : Option ℕ) → Ties m t → xs ≡ m.seats.items → Some i ≡ r → (NoneBefore (is_ready xs) m.looked m.waiting.items → r ≡ position (is_ready xs) m.waiting.items) → NoneBefore (is_ready m.seats.items) i m.waiting.items
+pub looked_to : (m : Subscribe) (t : Moment) (xs : List SubContextView) (i : ℕ) (d : WaitingReceive) (r : Option ℕ) → Ties m t → xs ≡ m.seats.items → Some i ≡ r → (NoneBefore (is_ready xs) m.looked m.waiting.items → r ≡ position (is_ready xs) m.waiting.items) → NoneBefore (is_ready m.seats.items) i m.waiting.items
 looked_to m t xs i d r h e f g = before_first (is_ready m.seats.items) m.waiting.items i d (f ∙ place_of m t xs r h e g)
 
 -- all
-pub looked_all : (m : Subscribe) (t : Moment) (xs : List SeatView) (n : ℕ) (r : Option ℕ) → Ties m t → xs ≡ m.seats.items → None ≡ r → n ≡ length m.waiting.items → (NoneBefore (is_ready xs) m.looked m.waiting.items → r ≡ position (is_ready xs) m.waiting.items) → NoneBefore (is_ready m.seats.items) n m.waiting.items
+pub looked_all : (m : Subscribe) (t : Moment) (xs : List SubContextView) (n : ℕ) (r : Option ℕ) → Ties m t → xs ≡ m.seats.items → None ≡ r → n ≡ length m.waiting.items → (NoneBefore (is_ready xs) m.looked m.waiting.items → r ≡ position (is_ready xs) m.waiting.items) → NoneBefore (is_ready m.seats.items) n m.waiting.items
 looked_all m t xs n r h e f l g = before_end (is_ready m.seats.items) m.waiting.items n l (f ∙ place_of m t xs r h e g)
 
 -- ---- Begin
@@ -441,15 +441,15 @@ module _ (m n : Subscribe) (t : Moment) (op : OpName) (s : Begun) (text : Record
   heads [] = refl
   heads (i ∷ is) = refl
 
-  pub gives : (r : Option MessageView) (xs : List SeatView) → xs ≡ m.seats.items → r ≡ first_in (find (is_home s.ctx) xs) → option_map text_of r ≡ Some text
+  pub gives : (r : Option MessageView) (xs : List SubContextView) → xs ≡ m.seats.items → r ≡ first_in (find (is_home s.ctx) xs) → option_map text_of r ≡ Some text
   gives r xs e f =
-      ap (option_map text_of) (f ∙ ap (λ (ys : List SeatView). first_in (find (is_home s.ctx) ys)) (e ∙ h.seats) ∙ ap first_in (found_seat m.options.queue (pools t) (tops t) s.ctx (ctxs (past t)) ∙ ap (λ b. cond b (Some (seat_at m.options.queue (pools t) (tops t) s.ctx)) None) home))
+      ap (option_map text_of) (f ∙ ap (λ (ys : List SubContextView). first_in (find (is_home s.ctx) ys)) (e ∙ h.seats) ∙ ap first_in (found_seat m.options.queue (pools t) (tops t) s.ctx (ctxs (past t)) ∙ ap (λ b. cond b (Some (seat_at m.options.queue (pools t) (tops t) s.ctx)) None) home))
       ∙ heads (pools t s.ctx) ∙ ap (λ (is : List Item). option_map (λ (i : Item). i.message) (head_of is)) (sym (kept_home t.z (past t) s.ctx (is_sub m t h) a home)) ∙ c.may.oldest
 
   on : (e : ℕ) → is_on_pool t.z e (pending (past t) op) ≡ (s.ctx == e)
   on e = ap (is_on_pool t.z e) c.pending ∙ ap (λ n. n == e) (pool_home t.z (past t) s.ctx (is_sub m t h) a home)
 
-  pub given_ties : (xs : List SeatView) → xs ≡ m.seats.items → n.seats.items ≡ with_found (is_home s.ctx) given_from xs → n.waiting.items ≡ without_first op m.waiting.items → ((P : WaitingReceive → Bool) → NoneBefore P m.looked m.waiting.items → NoneBefore P n.looked n.waiting.items) → (n.raw ≡ m.raw) × (n.options ≡ m.options) → Ties n (also t (End op (Won (Received text))))
+  pub given_ties : (xs : List SubContextView) → xs ≡ m.seats.items → n.seats.items ≡ with_found (is_home s.ctx) given_from xs → n.waiting.items ≡ without_first op m.waiting.items → ((P : WaitingReceive → Bool) → NoneBefore P m.looked m.waiting.items → NoneBefore P n.looked n.waiting.items) → (n.raw ≡ m.raw) × (n.options ≡ m.options) → Ties n (also t (End op (Won (Received text))))
   given_ties xs e f w k same =
       record {
         kind = rw (same.0, same.1) h.kind;
@@ -463,7 +463,7 @@ module _ (m n : Subscribe) (t : Moment) (op : OpName) (s : Begun) (text : Record
       itself k = grind (arith, nat_tests)
 
       nothing_more : (x : WaitingReceive) → is_ready m.seats.items x ≡ false → is_ready n.seats.items x ≡ false
-      nothing_more x q = ap (λ (ys : List SeatView). keeps_at ys x.ctx) (f ∙ ap (with_found (is_home s.ctx) given_from) e) ∙ given_kept (is_home s.ctx) m.seats.items x.ctx q
+      nothing_more x q = ap (λ (ys : List SubContextView). keeps_at ys x.ctx) (f ∙ ap (with_found (is_home s.ctx) given_from) e) ∙ given_kept (is_home s.ctx) m.seats.items x.ctx q
 
       fewer : (is : List Item) → drop 1 (map view_of is) ≡ map view_of (drop 1 is)
       fewer [] = refl
@@ -473,15 +473,15 @@ module _ (m n : Subscribe) (t : Moment) (op : OpName) (s : Begun) (text : Record
       now_is k b q = ap (λ b'. cond b' (drop 1 (pools t k)) (pools t k)) (on k ∙ q)
 
       here : given_from (seat_at m.options.queue (pools t) (tops t) s.ctx) ≡ seat_at m.options.queue (pools (also t (End op (Won (Received text))))) (tops t) s.ctx
-      here = ap (λ (vs : List MessageView). let x : SeatView = record { ctx = s.ctx; topics = tops t s.ctx; places = m.options.queue; kept = vs } in x) (fewer (pools t s.ctx) ∙ ap (map view_of) (sym (now_is s.ctx true (itself s.ctx))))
+      here = ap (λ (vs : List MessageView). let x : SubContextView = record { ctx = s.ctx; topics = tops t s.ctx; places = m.options.queue; kept = vs } in x) (fewer (pools t s.ctx) ∙ ap (map view_of) (sym (now_is s.ctx true (itself s.ctx))))
 
       others : (k : ℕ) → has (ctxs (past t)) k ≡ true → (s.ctx == k) ≡ false → seat_at m.options.queue (pools t) (tops t) k ≡ seat_at m.options.queue (pools (also t (End op (Won (Received text))))) (tops t) k
-      others k q f = ap (λ (is : List Item). let x : SeatView = record { ctx = k; topics = tops t k; places = m.options.queue; kept = map view_of is } in x) (sym (now_is k false f))
+      others k q f = ap (λ (is : List Item). let x : SubContextView = record { ctx = k; topics = tops t k; places = m.options.queue; kept = map view_of is } in x) (sym (now_is k false f))
 
-pub gives_from : (m n : Subscribe) (t : Moment) (op : OpName) (s : Begun) (text : RecordedMessage) → Lawful t → Ties m t → CanGive t op s text → (w : WaitingReceive) → begun_of w ≡ s → (r : Option MessageView) (xs : List SeatView) → xs ≡ m.seats.items → r ≡ first_in (find (is_home w.ctx) xs) → option_map text_of r ≡ Some text
+pub gives_from : (m n : Subscribe) (t : Moment) (op : OpName) (s : Begun) (text : RecordedMessage) → Lawful t → Ties m t → CanGive t op s text → (w : WaitingReceive) → begun_of w ≡ s → (r : Option MessageView) (xs : List SubContextView) → xs ≡ m.seats.items → r ≡ first_in (find (is_home w.ctx) xs) → option_map text_of r ≡ Some text
 gives_from m n t op s text l h c w own r xs e f = gives m n t op s text l h c r xs e (f ∙ ap (λ (q : Begun). first_in (find (is_home q.ctx) xs)) own)
 
-pub given_from_ties : (m n : Subscribe) (t : Moment) (op : OpName) (s : Begun) (text : RecordedMessage) → Lawful t → Ties m t → CanGive t op s text → (w : WaitingReceive) → begun_of w ≡ s → (xs : List SeatView) → xs ≡ m.seats.items → n.seats.items ≡ with_found (is_home w.ctx) given_from xs → n.waiting.items ≡ without_first op m.waiting.items
+pub given_from_ties : (m n : Subscribe) (t : Moment) (op : OpName) (s : Begun) (text : RecordedMessage) → Lawful t → Ties m t → CanGive t op s text → (w : WaitingReceive) → begun_of w ≡ s → (xs : List SubContextView) → xs ≡ m.seats.items → n.seats.items ≡ with_found (is_home w.ctx) given_from xs → n.waiting.items ≡ without_first op m.waiting.items
     → ((P : WaitingReceive → Bool) → NoneBefore P m.looked m.waiting.items → NoneBefore P n.looked n.waiting.items) → (n.raw ≡ m.raw) × (n.options ≡ m.options) → Ties n (also t (End op (Won (Received text))))
 given_from_ties m n t op s text l h c w own xs e f g k same = given_ties m n t op s text l h c xs e (f ∙ ap (λ (q : Begun). with_found (is_home q.ctx) given_from xs) own) g k same
 
@@ -492,27 +492,27 @@ opened_ties m n t c l h e w k same =
     let now = l.turn.0.itself.1 in
     let none = nothing t.z Everywhere (past t) c (is_sub m t h) (allowed_before t (Ctx c Open) l) (omega (arith, now)) in
     let new : fresh_seat m.options.queue c ≡ seat_at m.options.queue (pools t) (tops t) c =
-    ap (λ (is : List Item). let x : SeatView = record { ctx = c; topics = []; places = m.options.queue; kept = map view_of is } in x) (sym none.0) ∙ ap (λ (ts : List (List ℕ)). let x : SeatView = record { ctx = c; topics = ts; places = m.options.queue; kept = map view_of (pools t c) } in x) (sym none.1) in
+    ap (λ (is : List Item). let x : SubContextView = record { ctx = c; topics = []; places = m.options.queue; kept = map view_of is } in x) (sym none.0) ∙ ap (λ (ts : List (List ℕ)). let x : SubContextView = record { ctx = c; topics = ts; places = m.options.queue; kept = map view_of (pools t c) } in x) (sym none.1) in
     record {
       kind = rw (same.0, same.1) h.kind;
-      seats = rw same.1 (e ∙ ap (λ (xs : List SeatView). xs ++ fresh_seat m.options.queue c ∷ []) h.seats ∙ ap (λ (x : SeatView). map (seat_at m.options.queue (pools t) (tops t)) (ctxs (past t)) ++ x ∷ []) new ∙ sym (map-append (seat_at m.options.queue (pools t) (tops t)) (ctxs (past t)) (c ∷ [])));
+      seats = rw same.1 (e ∙ ap (λ (xs : List SubContextView). xs ++ fresh_seat m.options.queue c ∷ []) h.seats ∙ ap (λ (x : SubContextView). map (seat_at m.options.queue (pools t) (tops t)) (ctxs (past t)) ++ x ∷ []) new ∙ sym (map-append (seat_at m.options.queue (pools t) (tops t)) (ctxs (past t)) (c ∷ [])));
       order = ordered_is (ctxs (past (also t (Ctx c Open)))) (rising t.z (past (also t (Ctx c Open))) (allowed (also t (Ctx c Open)) l));
       pending = rw w h.pending;
-      looked = looks_on m n h.looked w k (λ d q. ap (λ (xs : List SeatView). keeps_at xs d) e ∙ opened_kept m.options.queue c m.seats.items d q);
+      looked = looks_on m n h.looked w k (λ d q. ap (λ (xs : List SubContextView). keeps_at xs d) e ∙ opened_kept m.options.queue c m.seats.items d q);
     }
 
-pub shut_ties : (m n : Subscribe) (t : Moment) (c : ℕ) → Lawful (also t (Ctx c Shut)) → Ties m t → n.seats.items ≡ filter (λ (x : SeatView). not (x.ctx == c)) m.seats.items → n.waiting ≡ m.waiting → n.looked ≡ m.looked → (n.raw ≡ m.raw) × (n.options ≡ m.options) → Ties n (also t (Ctx c Shut))
+pub shut_ties : (m n : Subscribe) (t : Moment) (c : ℕ) → Lawful (also t (Ctx c Shut)) → Ties m t → n.seats.items ≡ filter (λ (x : SubContextView). not (x.ctx == c)) m.seats.items → n.waiting ≡ m.waiting → n.looked ≡ m.looked → (n.raw ≡ m.raw) × (n.options ≡ m.options) → Ties n (also t (Ctx c Shut))
 shut_ties m n t c l h e w k same =
     record {
       kind = rw (same.0, same.1) h.kind;
-      seats = rw same.1 (e ∙ ap (filter (λ (x : SeatView). not (x.ctx == c))) h.seats ∙ shut m.options.queue (pools t) (tops t) (pools (also t (Ctx c Shut))) (tops (also t (Ctx c Shut))) c (ctxs (past t)) others);
+      seats = rw same.1 (e ∙ ap (filter (λ (x : SubContextView). not (x.ctx == c))) h.seats ∙ shut m.options.queue (pools t) (tops t) (pools (also t (Ctx c Shut))) (tops (also t (Ctx c Shut))) c (ctxs (past t)) others);
       order = ordered_is (ctxs (past (also t (Ctx c Shut)))) (rising t.z (past (also t (Ctx c Shut))) (allowed (also t (Ctx c Shut)) l));
       pending = rw w h.pending;
-      looked = looks_on m n h.looked w k (λ d q. ap (λ (xs : List SeatView). keeps_at xs d) e ∙ shut_kept c m.seats.items d q);
+      looked = looks_on m n h.looked w k (λ d q. ap (λ (xs : List SubContextView). keeps_at xs d) e ∙ shut_kept c m.seats.items d q);
     }
   where
     others : (k : ℕ) → (c == k) ≡ false → seat_at m.options.queue (pools t) (tops t) k ≡ seat_at m.options.queue (pools (also t (Ctx c Shut))) (tops (also t (Ctx c Shut))) k
-    others k f = sym (ap (λ b. let x : SeatView = record { ctx = k; topics = cond b [] (tops t k); places = m.options.queue; kept = map view_of (cond b [] (pools t k)) } in x) f)
+    others k f = sym (ap (λ b. let x : SubContextView = record { ctx = k; topics = cond b [] (tops t k); places = m.options.queue; kept = map view_of (cond b [] (pools t k)) } in x) f)
 
 pub closed_ties : (m n : Subscribe) (t : Moment) (totals : Totals) → Ties m t → n.seats.items ≡ map emptied m.seats.items → n.waiting ≡ m.waiting → n.looked ≡ m.looked → (n.raw ≡ m.raw) × (n.options ≡ m.options) → Ties n (also t (Close totals))
 closed_ties m n t totals h e w k same =
@@ -521,7 +521,7 @@ closed_ties m n t totals h e w k same =
       seats = rw same.1 (e ∙ ap (map emptied) h.seats ∙ each emptied (seat_at m.options.queue (pools t) (tops t)) (seat_at m.options.queue (λ c. []) (tops t)) (ctxs (past t)) (λ c k. refl));
       order = h.order;
       pending = rw w h.pending;
-      looked = looks_on m n h.looked w k (λ d q. ap (λ (xs : List SeatView). keeps_at xs d) e ∙ emptied_kept m.seats.items d);
+      looked = looks_on m n h.looked w k (λ d q. ap (λ (xs : List SubContextView). keeps_at xs d) e ∙ emptied_kept m.seats.items d);
     }
 
 -- ---- Pipes
@@ -540,7 +540,7 @@ down_ties m t p why h =
     same r is e = rw e refl
 
     stays : (c : ℕ) → has (ctxs (past t)) c ≡ true → seat_at m.options.queue (pools t) (tops t) c ≡ seat_at m.options.queue (pools (also t (Down p why))) (tops t) c
-    stays c k = ap (λ (is : List Item). let x : SeatView = record { ctx = c; topics = tops t c; places = m.options.queue; kept = map view_of is } in x) (same t.z.role (pools t c) (is_sub m t h))
+    stays c k = ap (λ (is : List Item). let x : SubContextView = record { ctx = c; topics = tops t c; places = m.options.queue; kept = map view_of is } in x) (same t.z.role (pools t c) (is_sub m t h))
 
 -- ---- Topics
 
@@ -558,20 +558,20 @@ module _ (m n : Subscribe) (t : Moment) (c : ℕ) (topic : List ℕ) (l : Lawful
   itself k = grind (arith, nat_tests)
 
   switched_at : (on : Bool) → switched on topic (seat_at m.options.queue (pools t) (tops t) c) ≡ seat_at m.options.queue (pools (also t (Topic c topic (switch_of on)))) (tops (also t (Topic c topic (switch_of on)))) c
-  switched_at true = sym (ap (λ b. let x : SeatView = record { ctx = c; topics = cond b (tops t c ++ topic ∷ []) (tops t c); places = m.options.queue; kept = map view_of (pools t c) } in x) (itself c))
+  switched_at true = sym (ap (λ b. let x : SubContextView = record { ctx = c; topics = cond b (tops t c ++ topic ∷ []) (tops t c); places = m.options.queue; kept = map view_of (pools t c) } in x) (itself c))
   switched_at false =
       let P : List ℕ → Bool = is_wanted_by (filter (λ u. not (same_bytes u topic)) (tops t c)) in
       let now : tops (also t (Topic c topic Off)) c ≡ filter (λ u. not (same_bytes u topic)) (tops t c) = ap (λ b. cond b (filter (λ u. not (same_bytes u topic)) (tops t c)) (tops t c)) (itself c) in
       let left : pools (also t (Topic c topic Off)) c ≡ filter (λ (i : Item). P i.message.body) (pools t c) =
       ap (λ b. cond b (filter (λ (i : Item). is_wanted_by (tops (also t (Topic c topic Off)) c) i.message.body) (pools t c)) (pools t c)) (itself c) ∙ ap (λ (ts : List (List ℕ)). filter (λ (i : Item). is_wanted_by ts i.message.body) (pools t c)) now in
-      ap (λ (vs : List MessageView). let x : SeatView = record { ctx = c; topics = filter (λ u. not (same_bytes u topic)) (tops t c); places = m.options.queue; kept = vs } in x) (filters P (pools t c) ∙ ap (map view_of) (sym left))
-      ∙ ap (λ (ts : List (List ℕ)). let x : SeatView = record { ctx = c; topics = ts; places = m.options.queue; kept = map view_of (pools (also t (Topic c topic Off)) c) } in x) (sym now)
+      ap (λ (vs : List MessageView). let x : SubContextView = record { ctx = c; topics = filter (λ u. not (same_bytes u topic)) (tops t c); places = m.options.queue; kept = vs } in x) (filters P (pools t c) ∙ ap (map view_of) (sym left))
+      ∙ ap (λ (ts : List (List ℕ)). let x : SubContextView = record { ctx = c; topics = ts; places = m.options.queue; kept = map view_of (pools (also t (Topic c topic Off)) c) } in x) (sym now)
 
   others : (on : Bool) (k : ℕ) → has (ctxs (past t)) k ≡ true → (c == k) ≡ false → seat_at m.options.queue (pools t) (tops t) k ≡ seat_at m.options.queue (pools (also t (Topic c topic (switch_of on)))) (tops (also t (Topic c topic (switch_of on)))) k
-  others true k q f = sym (ap (λ b. let x : SeatView = record { ctx = k; topics = cond b (tops t k ++ topic ∷ []) (tops t k); places = m.options.queue; kept = map view_of (pools t k) } in x) f)
+  others true k q f = sym (ap (λ b. let x : SubContextView = record { ctx = k; topics = cond b (tops t k ++ topic ∷ []) (tops t k); places = m.options.queue; kept = map view_of (pools t k) } in x) f)
   others false k q f =
       sym
-      (ap (λ b. let x : SeatView = record { ctx = k; topics = cond b (filter (λ u. not (same_bytes u topic)) (tops t k)) (tops t k); places = m.options.queue; kept = map view_of (cond b (filter (λ (i : Item). is_wanted_by (tops (also t (Topic c topic Off)) k) i.message.body) (pools t k)) (pools t k)) } in x) f)
+      (ap (λ b. let x : SubContextView = record { ctx = k; topics = cond b (filter (λ u. not (same_bytes u topic)) (tops t k)) (tops t k); places = m.options.queue; kept = map view_of (cond b (filter (λ (i : Item). is_wanted_by (tops (also t (Topic c topic Off)) k) i.message.body) (pools t k)) (pools t k)) } in x) f)
 
   ctxs_same : (on : Bool) → ctxs (past (also t (Topic c topic (switch_of on)))) ≡ ctxs (past t)
   ctxs_same true = refl
@@ -588,14 +588,14 @@ module _ (m n : Subscribe) (t : Moment) (c : ℕ) (topic : List ℕ) (l : Lawful
         seats = rw same.1 (e ∙ h.seats);
         order = h.order;
         pending = rw w h.pending;
-        looked = looks_on m n h.looked w mark (λ d k. ap (λ (xs : List SeatView). keeps_at xs d) e ∙ k);
+        looked = looks_on m n h.looked w mark (λ d k. ap (λ (xs : List SubContextView). keeps_at xs d) e ∙ k);
       }
 
-  found : (xs : List SeatView) → xs ≡ m.seats.items → find (is_home c) xs ≡ Some (seat_at m.options.queue (pools t) (tops t) c)
+  found : (xs : List SubContextView) → xs ≡ m.seats.items → find (is_home c) xs ≡ Some (seat_at m.options.queue (pools t) (tops t) c)
   found xs e = ap (find (is_home c)) (e ∙ h.seats) ∙ found_seat m.options.queue (pools t) (tops t) c (ctxs (past t)) ∙ ap (λ b. cond b (Some (seat_at m.options.queue (pools t) (tops t) c)) None) open_
 
-  pub switched_ties : {E : Type 0} (r : Result Bool E) (xs : List SeatView) (on : Bool) → xs ≡ m.seats.items → SwitchesIn r (find (is_home c) xs) c xs n.seats.items topic on → Topics (Ties n) r t c topic on
-  switched_ties {E = E} r xs on e s = go r (subst (λ (o : Option SeatView). SwitchesIn r o c xs n.seats.items topic on) (found xs e) s)
+  pub switched_ties : {E : Type 0} (r : Result Bool E) (xs : List SubContextView) (on : Bool) → xs ≡ m.seats.items → SwitchesIn r (find (is_home c) xs) c xs n.seats.items topic on → Topics (Ties n) r t c topic on
+  switched_ties {E = E} r xs on e s = go r (subst (λ (o : Option SubContextView). SwitchesIn r o c xs n.seats.items topic on) (found xs e) s)
     where
       go : (r : Result Bool E) → SwitchesIn r (Some (seat_at m.options.queue (pools t) (tops t) c)) c xs n.seats.items topic on → Topics (Ties n) r t c topic on
       go (Ok true) q = (
@@ -608,13 +608,13 @@ module _ (m n : Subscribe) (t : Moment) (c : ℕ) (topic : List ℕ) (l : Lawful
               ∙ ap (map (seat_at m.options.queue (pools (also t (Topic c topic (switch_of on)))) (tops (also t (Topic c topic (switch_of on)))))) (sym (ctxs_same on)));
           order = subst AreOrdered (sym (ctxs_same on)) h.order;
           pending = rw w h.pending ∙ sym (pend_same on);
-          looked = looks_on m n h.looked w mark (λ d k. ap (λ (xs : List SeatView). keeps_at xs d) (q.1 ∙ ap (with_found (is_home c) (switched on topic)) e) ∙ switched_kept on topic (is_home c) m.seats.items d k);
+          looked = looks_on m n h.looked w mark (λ d k. ap (λ (xs : List SubContextView). keeps_at xs d) (q.1 ∙ ap (with_found (is_home c) (switched on topic)) e) ∙ switched_kept on topic (is_home c) m.seats.items d k);
         },
       )
       go (Ok false) q = (q.0, unchanged (q.1 ∙ e))
       go (Err x) q = unchanged (q.1 ∙ e)
 
-pub long_switched : {E : Type 0} (r : Result Bool E) (o : Option SeatView) (c : ℕ) (xs ys : List SeatView) (topic : List ℕ) (on : Bool) → SwitchesIn r o c xs ys topic on → length ys ≡ length xs
+pub long_switched : {E : Type 0} (r : Result Bool E) (o : Option SubContextView) (c : ℕ) (xs ys : List SubContextView) (topic : List ℕ) (on : Bool) → SwitchesIn r o c xs ys topic on → length ys ≡ length xs
 long_switched r None c xs ys topic on s = ap length s.0
 long_switched (Ok true) (Some x) c xs ys topic on s = long_with (is_home c) (switched on topic) ys xs s.1
 long_switched (Ok false) (Some x) c xs ys topic on s = ap length s.1

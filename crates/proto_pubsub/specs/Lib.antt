@@ -1,6 +1,6 @@
 pub mod Pubs
 pub mod PubLaws
-pub mod Seats
+pub mod SubContexts
 pub mod Subs
 pub mod SubLaws
 pub mod Topics

@@ -17,7 +17,7 @@ use Rattle.sp_history.specs.Past.{ctxs}
 use Rattle.sp_history.specs.Moments.{Moment}
 use Rattle.sp_proto.specs.Kinds.{Kind}
 use Rattle.sp_proto.specs.Readings.{MomentReading, reading}
-use Rattle.proto_pubsub.specs.Seats.{SeatView, is_home, AreOrdered}
+use Rattle.proto_pubsub.specs.SubContexts.{SubContextView, is_home, AreOrdered}
 use Rattle.proto_pubsub.specs.declared.subscribe.Subscribe.{Subscribe}
 use Rattle.proto_pubsub.specs.declared.subscribe.WaitingReceive.{WaitingReceive}
 
@@ -33,7 +33,7 @@ abbrev pub view_of : Item → MessageView
 view_of i = record { header = i.message.header; body = i.message.body }
 
 -- a context of so many places, with what is kept for it and its topics
-abbrev pub seat_at : ℕ → (ℕ → List Item) → (ℕ → List (List ℕ)) → ℕ → SeatView
+abbrev pub seat_at : ℕ → (ℕ → List Item) → (ℕ → List (List ℕ)) → ℕ → SubContextView
 seat_at places is ts c = record { ctx = c; topics = ts c; places = places; kept = map view_of (is c) }
 
 abbrev pub begun_of : WaitingReceive → Begun
@@ -48,16 +48,16 @@ without_first op [] = []
 without_first op (w ∷ ws) = if is_for op w then ws else w ∷ without_first op ws
 
 -- something is kept
-abbrev pub is_kept : Option SeatView → Bool
+abbrev pub is_kept : Option SubContextView → Bool
 is_kept None = false
 is_kept (Some x) = not (is_nil x.kept)
 
 -- something is kept for the context
-abbrev pub keeps_at : List SeatView → ℕ → Bool
+abbrev pub keeps_at : List SubContextView → ℕ → Bool
 keeps_at xs c = is_kept (find (is_home c) xs)
 
 -- something is kept for the receive
-abbrev pub is_ready : List SeatView → WaitingReceive → Bool
+abbrev pub is_ready : List SubContextView → WaitingReceive → Bool
 is_ready xs w = keeps_at xs w.ctx
 
 -- none of the elements before the place passes the test

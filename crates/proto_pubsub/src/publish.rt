@@ -1,7 +1,8 @@
 //! The machine of pub (nng_pub(7)), cooked and raw.
 //!
-//! A send goes to every pipe that is up and has room, in the turn of its begin. It takes a copy for each of them then, so
-//! that going out takes no memory. A pub receives nothing: a frame is no message of its protocol, whatever its bytes.
+//! A send goes to every pipe that is up and has room, in the turn of its begin. It takes a copy for each of them then,
+//! so that going out takes no memory. A pub receives nothing: a frame is no message of its protocol, whatever its
+//! bytes.
 ghost use Rattle.std.specs.Prelude.{◌≡◌, ◌<◌, ◌≤◌, ◌+◌, ℕ, [], Option, IfOk, IsOk, IfErr, OnOk, OnErr, length};
 ghost use Rattle.sp_history.specs.declared.entry.Entry.TheVariants.{Frame, Begin};
 ghost use Rattle.sp_history.specs.Moments.{Moment, Lawful, past, also};
@@ -121,7 +122,8 @@ impl Proto for Publish {
         Ok(())
     }
 
-    /// A send takes a copy for each pipe that is up, and no more. Where none is up it takes no memory, however long it is.
+    /// A send takes a copy for each pipe that is up, and no more. Where none is up it takes no memory, however long it
+    /// is.
     fn begin(&mut self, op: OpName, c: Ctx, act: Act) -> Result<(), Message>
         requires { 0 < places_left self.old }
         ensures begun { OnOk result ((t : Moment) (deadline : Option ℕ) → NoFlood t → Takes (Ties self.old) (Ties self.new) t (Begin op t.caller c (entry_act act) deadline)) }

@@ -1,10 +1,10 @@
 //! The machine of sub (nng_sub(7)), cooked and raw.
 //!
-//! Each open context has topics, and a queue of at most `queue` messages, whose places are taken when it is opened. A frame
-//! is kept for each context of which a topic is a prefix of it, the empty topic of each; raw, for the one context that
-//! there is. A full queue discards its oldest message or the new one, as `prefer_new` says. The last open context keeps the
-//! frame itself, each other one a copy, which is made before anything is discarded; the first that finds no memory is
-//! told, and contexts of greater numbers go without as well.
+//! Each open context has topics, and a queue of at most `queue` messages, whose places are taken when it is opened. A
+//! frame is kept for each context of which a topic is a prefix of it, the empty topic of each; raw, for the one context
+//! that there is. A full queue discards its oldest message or the new one, as `prefer_new` says. The last open context
+//! keeps the frame itself, each other one a copy, which is made before anything is discarded; the first that finds no
+//! memory is told, and contexts of greater numbers go without as well.
 ghost use Rattle.std.specs.Prelude.{◌≡◌, ◌-◌, ◌+◌, ◌≤◌, ◌<◌, ◌==◌, ◌≢◌, Bool, ℕ, [], ◌∷◌, true, false, Some, None, IfOk, IfSome, OnErr, nat_lt, map, filter, find, length, take, drop, ◌++◌, not, option_to_list};
 ghost use Rattle.std.specs.VecDeque.{deque_len, deque_capacity};
 ghost use Rattle.std.specs.Option.{option_map};
@@ -15,11 +15,11 @@ ghost use Rattle.sp_history.specs.Moments.{Moment, Lawful, past, also};
 ghost use Rattle.sp_history.specs.Past.{ctxs};
 ghost use Rattle.sp_proto.specs.Kinds.{Starts};
 ghost use Rattle.sp_proto.specs.Machines.{Frames};
-ghost use Rattle.proto_pubsub.specs.Seats.{kept_in, takes_frame, emptied, fresh_seat, given_from, is_home, first_in, with_found, SwitchesIn, StopsAt, SeatView, InOrder};
+ghost use Rattle.proto_pubsub.specs.SubContexts.{kept_in, takes_frame, emptied, fresh_seat, given_from, is_home, first_in, with_found, SwitchesIn, StopsAt, SubContextView, InOrder};
 ghost use Rattle.proto_pubsub.specs.Subs.{Ties, NeedsCopy, places_left, sub_kind, is_for, is_ready, keeps_at, without_first, NoneBefore};
 ghost use Rattle.proto_pubsub.specs.declared.subscribe.WaitingReceive.{WaitingReceive as WaitingReceiveType};
 
-use crate::seats::Seat;
+use crate::sub_contexts::SubContext;
 use sp_base::{Ctx, NoMemory, OpName, PipeId, Role, Tick};
 use sp_history::setting::Options;
 use sp_msg::Message;
@@ -41,7 +41,7 @@ pub struct Subscribe {
     raw: bool,
     options: Options,
     /// In the order in which they were opened, which is that of their numbers.
-    seats: Vec<Seat>,
+    seats: Vec<SubContext>,
     /// In the order of their begins.
     waiting: VecDeque<WaitingReceive>,
     /// Nothing is kept for the receives before this place.
@@ -49,14 +49,14 @@ pub struct Subscribe {
 }
 
 // Its number is below this one.
-fn is_before(seat: &Seat, c: Ctx) -> bool
+fn is_before(seat: &SubContext, c: Ctx) -> bool
     ensures { result ≡ nat_lt seat.now.ctx c }
 {
     seat.ctx().0 < c.0
 }
 
 // Where the context stands, by halving.
-fn home(seats: &[Seat], c: Ctx) -> Option<usize>
+fn home(seats: &[SubContext], c: Ctx) -> Option<usize>
     ensures place { InOrder seats.now → result ≡ position (is_home c) seats.now }
     ensures inside { IfSome result (λ i. i < length seats.now) }
 {
@@ -71,14 +71,14 @@ fn home(seats: &[Seat], c: Ctx) -> Option<usize>
 }
 
 // The context is open.
-fn is_open(seats: &[Seat], c: Ctx) -> bool
+fn is_open(seats: &[SubContext], c: Ctx) -> bool
     ensures { InOrder seats.now → result ≡ list_any (is_home c) seats.now }
 {
     home(seats, c).is_some()
 }
 
 // Something is kept for the context.
-fn keeps_for(seats: &[Seat], c: Ctx) -> bool
+fn keeps_for(seats: &[SubContext], c: Ctx) -> bool
     ensures { InOrder seats.now → result ≡ keeps_at seats.now c }
 {
     match home(seats, c) {
@@ -88,7 +88,11 @@ fn keeps_for(seats: &[Seat], c: Ctx) -> bool
 }
 
 // Where the first receive stands for which something is kept. Those before the place are not looked at.
-fn ready_place(seats: &[Seat], waiting: &VecDeque<WaitingReceive>, looked: usize) -> Option<usize>
+fn ready_place(
+    seats: &[SubContext],
+    waiting: &VecDeque<WaitingReceive>,
+    looked: usize,
+) -> Option<usize>
     ensures place { InOrder seats.now → NoneBefore (is_ready seats.now) looked waiting.now.items → result ≡ position (is_ready seats.now) waiting.now.items }
     ensures inside { (i : ℕ) → result ≡ Some i → i < deque_len waiting.now }
 {
@@ -141,7 +145,13 @@ fn take(
 
 // Keeps a copy of the frame in each of so many contexts that takes it. Returns the first for which there was no memory,
 // with which it stops.
-fn spread(seats: &mut [Seat], most: usize, raw: bool, options: Options, m: &Message) -> Option<Ctx>
+fn spread(
+    seats: &mut [SubContext],
+    most: usize,
+    raw: bool,
+    options: Options,
+    m: &Message,
+) -> Option<Ctx>
     requires { most ≤ length seats.old }
     ensures whole { result ≡ None → seats.new ≡ map (kept_in raw options m.now) (take most seats.old) ++ drop most seats.old }
     ensures none { most ≡ 0 → result ≡ None }
@@ -157,7 +167,7 @@ fn spread(seats: &mut [Seat], most: usize, raw: bool, options: Options, m: &Mess
 
 // Keeps the frame in each context that takes it: the last has the frame itself, each other one a copy. Returns the
 // first for which there was no memory, with which it stops.
-fn keep_in_all(seats: &mut [Seat], raw: bool, options: Options, m: Message) -> Option<Ctx>
+fn keep_in_all(seats: &mut [SubContext], raw: bool, options: Options, m: Message) -> Option<Ctx>
     ensures whole { result ≡ None → seats.new ≡ map (kept_in raw options m) seats.old }
     ensures stops { (c : ℕ) → result ≡ Some c → StopsAt (takes_frame raw options m.body) (kept_in raw options m) c seats.old seats.new }
     ensures one { length seats.old ≤ 1 → result ≡ None }
@@ -176,7 +186,7 @@ fn keep_in_all(seats: &mut [Seat], raw: bool, options: Options, m: Message) -> O
 }
 
 // The oldest message of the context, which is kept no longer.
-fn give(seats: &mut [Seat], c: Ctx) -> Option<Message>
+fn give(seats: &mut [SubContext], c: Ctx) -> Option<Message>
     ensures given { InOrder seats.old → result ≡ first_in (find (is_home c) seats.old) }
     ensures rest { InOrder seats.old → seats.new ≡ with_found (is_home c) given_from seats.old }
 {
@@ -187,7 +197,13 @@ fn give(seats: &mut [Seat], c: Ctx) -> Option<Message>
 }
 
 // Puts a topic of the context on, or takes it off. Returns whether that changed something.
-fn switch(seats: &mut [Seat], alloc: Global, c: Ctx, t: &[u8], on: bool) -> Result<bool, NoMemory>
+fn switch(
+    seats: &mut [SubContext],
+    alloc: Global,
+    c: Ctx,
+    t: &[u8],
+    on: bool,
+) -> Result<bool, NoMemory>
     ensures switched { InOrder seats.old → SwitchesIn result (find (is_home c) seats.old) c seats.old seats.new t.now on }
     ensures off { on ≡ false → OnErr result ⊥ }
 {
@@ -198,8 +214,8 @@ fn switch(seats: &mut [Seat], alloc: Global, c: Ctx, t: &[u8], on: bool) -> Resu
 }
 
 // The context is shut.
-fn shut(seats: &mut Vec<Seat>, c: Ctx)
-    ensures { InOrder seats.old.items → seats.new.items ≡ filter (λ (x : SeatView). not (is_home c x)) seats.old.items }
+fn shut(seats: &mut Vec<SubContext>, c: Ctx)
+    ensures { InOrder seats.old.items → seats.new.items ≡ filter (λ (x : SubContextView). not (is_home c x)) seats.old.items }
 {
     match home(seats, c) {
         None => {}
@@ -210,7 +226,7 @@ fn shut(seats: &mut Vec<Seat>, c: Ctx)
 }
 
 // Nothing is kept any more.
-fn clear(seats: &mut [Seat])
+fn clear(seats: &mut [SubContext])
     ensures { seats.new ≡ map emptied seats.old }
 {
     for seat in seats.iter_mut() {
@@ -219,10 +235,10 @@ fn clear(seats: &mut [Seat])
 }
 
 // The first context.
-fn first_seats(alloc: Global, options: Options) -> Result<Vec<Seat>, NoMemory>
+fn first_seats(alloc: Global, options: Options) -> Result<Vec<SubContext>, NoMemory>
     ensures { IfOk result (λ v. v.items ≡ fresh_seat options.queue 0 ∷ []) }
 {
-    let seat = Seat::new(alloc, Ctx(0), options)?;
+    let seat = SubContext::new(alloc, Ctx(0), options)?;
     let mut seats = Vec::new(alloc);
     seats.push(seat)?;
     Ok(seats)
@@ -295,8 +311,8 @@ impl Proto for Subscribe {
         true
     }
 
-    /// It has memory for all that it keeps, and the last open context gets the frame itself, so where one alone is open it
-    /// is never out of memory.
+    /// It has memory for all that it keeps, and the last open context gets the frame itself, so where one alone is open
+    /// it is never out of memory.
     fn frame(&mut self, p: PipeId, m: Message) -> Verdict
         requires { m.header ≡ [] }
         ensures kept { (t : Moment) → Lawful (also t (Frame p m.body)) → Ties self.old t → Frames (Ties self.new) result t p m.body }
@@ -398,7 +414,7 @@ impl Proto for Subscribe {
     }
 
     fn open_ctx(&mut self, c: Ctx) -> Result<(), NoMemory> {
-        let seat = Seat::new(self.alloc, c, self.options)?;
+        let seat = SubContext::new(self.alloc, c, self.options)?;
         self.seats.push(seat)?;
         Ok(())
     }

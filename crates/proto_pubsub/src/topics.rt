@@ -1,13 +1,13 @@
 //! The topics of a context.
 //!
-//! A frame is looked up by its prefixes, one for each length that a topic has. So what it costs grows with the number of
-//! these lengths, and with the number of topics by a logarithm. A few topics are compared one by one.
+//! A frame is looked up by its prefixes, one for each length that a topic has. So what it costs grows with the number
+//! of these lengths, and with the number of topics by a logarithm. A few topics are compared one by one.
 ghost use Rattle.std.specs.Prelude.{◌≡◌, ◌++◌, ◌∷◌, ◌==◌, ℕ, List, [], true, false, length, OnOk, OnErr};
 ghost use Rattle.std.specs.List.{list_any};
 ghost use Rattle.sp_history.specs.Lists.{has, without, matches, same_bytes};
 ghost use Rattle.sp_history.specs.Kept.{is_wanted_by};
 ghost use Rattle.sp_history.specs.Legal.{has_topic};
-ghost use Rattle.proto_pubsub.specs.Seats.{topics_without};
+ghost use Rattle.proto_pubsub.specs.SubContexts.{topics_without};
 ghost use Rattle.proto_pubsub.specs.Topics.{is_known, is_prefix};
 
 use sp_base::{Bytes, NoMemory};
@@ -18,7 +18,7 @@ use std::marker::Model;
 /// So many topics are compared one by one.
 const FEW: usize = 8;
 
-/// The topics that are on.
+/// The topics that are on (nng_sub(7)).
 #[derive(Drop)]
 pub struct Topics {
     /// In the order in which they were put on.

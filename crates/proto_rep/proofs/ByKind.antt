@@ -14,7 +14,7 @@ use Rattle.proto_rep.specs.declared.operations.RepOperations.{RepOperations}
 use Rattle.proto_rep.specs.declared.operations.Recipient.{Recipient}
 use Rattle.proto_rep.specs.declared.operations.ReplyOperation.{ReplyOperation}
 use Rattle.proto_rep.specs.declared.replies.WaitingReply.{WaitingReply}
-use Rattle.proto_rep.specs.declared.replies.Answer.{Answer}
+use Rattle.proto_rep.specs.declared.replies.PendingReply.{PendingReply}
 use Rattle.proto_rep.specs.Replies.{can_leave, reply_offer, is_reply_of, without_reply}
 use Rattle.proto_rep.specs.Operations.{Holds, count, places, without_first, begun_of, is_for, is_receive, is_reply, is_ready, receives_on, of_recipient, of_reply, can_go, send_offer}
 
@@ -74,7 +74,7 @@ first_receives rs ws h = names (find (isnt (λ (x : Recipient). false)) rs) ∙ 
 pub receiving_on : (c : ℕ) (rs : List Recipient) (ws : List ReplyOperation) → map of_recipient rs ≡ filter is_receive ws → list_any (λ (x : Recipient). receives_on c (of_recipient x)) rs ≡ list_any (receives_on c) ws
 receiving_on c rs ws h = sym (any_mapped of_recipient (receives_on c) rs) ∙ ap (list_any (receives_on c)) h ∙ any_kind (receives_on c) is_receive (λ w k. first w.answer (w.ctx == c) k) ws
   where
-    first : (o : Option Answer) (b : Bool) → (not (is_some o) && b) ≡ true → not (is_some o) ≡ true
+    first : (o : Option PendingReply) (b : Bool) → (not (is_some o) && b) ≡ true → not (is_some o) ≡ true
     first None b k = refl
     first (Some r) b k = absurd cc
 
@@ -88,7 +88,7 @@ reply_offered raw xs rs ws h = offers (find (can_leave raw xs) rs) ∙ ap (send_
     ready : (w : ReplyOperation) → is_ready raw xs w ≡ true → is_reply w ≡ true
     ready w k = go w.answer k
       where
-        go : (r : Option Answer) → can_go raw xs r ≡ true → is_some r ≡ true
+        go : (r : Option PendingReply) → can_go raw xs r ≡ true → is_some r ≡ true
         go None h = absurd cc
         go (Some r) h = refl
 
@@ -120,7 +120,7 @@ pub no_kind : (op : OpName) (ws : List ReplyOperation) → find (is_for op) (fil
 no_kind op [] h k = refl
 no_kind op (w ∷ ws) h k = go w.answer (is_for op w) refl h k (no_kind op ws)
   where
-    go : (r : Option Answer) (a : Bool) → is_for op w ≡ a → find (is_for op) (cond (not (is_some r)) (w ∷ filter is_receive ws) (filter is_receive ws)) ≡ None → find (is_for op) (cond (is_some r) (w ∷ filter is_reply ws) (filter is_reply ws)) ≡ None
+    go : (r : Option PendingReply) (a : Bool) → is_for op w ≡ a → find (is_for op) (cond (not (is_some r)) (w ∷ filter is_receive ws) (filter is_receive ws)) ≡ None → find (is_for op) (cond (is_some r) (w ∷ filter is_reply ws) (filter is_reply ws)) ≡ None
         → (find (is_for op) (filter is_receive ws) ≡ None → find (is_for op) (filter is_reply ws) ≡ None → find (is_for op) ws ≡ None) → cond a (Some w) (find (is_for op) ws) ≡ None
     go None true e h k again = let bad : Some w ≡ None = ap (λ v. cond v (Some w) (find (is_for op) (filter is_receive ws))) (sym e) ∙ h in absurd cc
     go (Some r) true e h k again = let bad : Some w ≡ None = ap (λ v. cond v (Some w) (find (is_for op) (filter is_reply ws))) (sym e) ∙ k in absurd cc

@@ -16,7 +16,7 @@ use Rattle.sp_proto.specs.Kinds.{verb_of}
 use Rattle.sp_proto.specs.declared.Verb.{Verb}
 use Rattle.proto_rep.specs.declared.rep.Reply.{Reply}
 use Rattle.proto_rep.specs.Places.{ReplyContext}
-use Rattle.proto_rep.specs.declared.replies.Answer.{Answer}
+use Rattle.proto_rep.specs.declared.replies.PendingReply.{PendingReply}
 use Rattle.proto_rep.specs.declared.operations.ReplyOperation.{ReplyOperation}
 use Rattle.proto_rep.specs.Reps.{Ties, ctx_of, is_home, state_at, role_of}
 use Rattle.proto_rep.specs.Operations.{begun_of, act_of, receives_on}
@@ -28,7 +28,7 @@ recv_any : (c : ℕ) (ws : List ReplyOperation) → list_any (is_recv_on c) (map
 recv_any c [] = refl
 recv_any c (w ∷ ws) = go w.answer (recv_any c ws)
   where
-    go : (r : Option Answer) → list_any (is_recv_on c) (map begun_of ws) ≡ list_any (receives_on c) ws
+    go : (r : Option PendingReply) → list_any (is_recv_on c) (map begun_of ws) ≡ list_any (receives_on c) ws
         → (is_recv_on c (record { op = w.op; ctx = w.ctx; act = act_of r }) || list_any (is_recv_on c) (map begun_of ws)) ≡ (not (is_some r) && (w.ctx == c) || list_any (receives_on c) ws)
     go None h = ap (λ b. (w.ctx == c) || b) h
     go (Some r) h = h

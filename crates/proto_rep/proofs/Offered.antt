@@ -23,7 +23,7 @@ use Rattle.sp_proto.specs.Kinds.{text_of}
 use Rattle.sp_proto.specs.Machines.{CanGive, CanSend, CanDrop, IsIdle}
 use Rattle.proto_rep.specs.declared.rep.Reply.{Reply}
 use Rattle.proto_rep.specs.declared.rep.KeptRequest.{KeptRequest}
-use Rattle.proto_rep.specs.declared.replies.Answer.{Answer}
+use Rattle.proto_rep.specs.declared.replies.PendingReply.{PendingReply}
 use Rattle.proto_rep.specs.declared.operations.ReplyOperation.{ReplyOperation}
 use Rattle.proto_requests.specs.Ports.{PortView, port_of}
 use Rattle.proto_requests.specs.declared.ports.Destination.{Destination}
@@ -60,7 +60,7 @@ receives_none : (z : Setting) (before : List Entry) (ws : List ReplyOperation) �
 receives_none z before [] h = refl
 receives_none z before (w ∷ ws) h = go w.answer h (receives_none z before ws)
   where
-    go : (r : Option Answer) → cond (not (is_some r)) (Some w) (find is_receive ws) ≡ None → (find is_receive ws ≡ None → list_all (receive_settled z before) (map begun_of ws) ≡ true)
+    go : (r : Option PendingReply) → cond (not (is_some r)) (Some w) (find is_receive ws) ≡ None → (find is_receive ws ≡ None → list_all (receive_settled z before) (map begun_of ws) ≡ true)
         → ((not (is_recv (act_of r)) || is_nil (kept z before w.ctx)) && list_all (receive_settled z before) (map begun_of ws)) ≡ true
     go None h again = absurd cc
     go (Some r) h again = again h
@@ -78,7 +78,7 @@ not_nil (u ∷ us) q h = go (q == u) refl (u == q) refl h (not_nil us q)
     go false e false f h again = again h
 
 -- a send that isn't ready finds its pipe full
-full_targets : (y : ReplyRole) (z : Setting) (before : List Entry) (full : ℕ → Bool) (raw : Bool) (w : ReplyOperation) (r : Answer) → z.role ≡ role_of y → z.raw ≡ raw → w.answer ≡ Some r → option_map origin_of r.source ≡ route z before w.op
+full_targets : (y : ReplyRole) (z : Setting) (before : List Entry) (full : ℕ → Bool) (raw : Bool) (w : ReplyOperation) (r : PendingReply) → z.role ≡ role_of y → z.raw ≡ raw → w.answer ≡ Some r → option_map origin_of r.source ≡ route z before w.op
     → isnt_full (way_of raw (map (port_of full) (up before)) r) ≡ false → (q : ℕ) × (targets z before (begun_of w) ≡ filter (is_number (Some q)) (up before)) × (has (up before) q ≡ true) × (full q ≡ true)
 full_targets y z before full raw w r h k e o f =
     let at = is_full_at full (up before) (target_of raw r) (is_full_way (way_of raw (map (port_of full) (up before)) r) f) in
@@ -89,7 +89,7 @@ full_targets y z before full raw w r h k e o f =
     is_full_way ways.Nowhere h = absurd cc
     is_full_way (ways.To p) h = absurd cc
 
-settled_send : (y : ReplyRole) (z : Setting) (before : List Entry) (full : ℕ → Bool) (raw : Bool) (w : ReplyOperation) → z.role ≡ role_of y → z.raw ≡ raw → ((r : Answer) → w.answer ≡ Some r → option_map origin_of r.source ≡ route z before w.op)
+settled_send : (y : ReplyRole) (z : Setting) (before : List Entry) (full : ℕ → Bool) (raw : Bool) (w : ReplyOperation) → z.role ≡ role_of y → z.raw ≡ raw → ((r : PendingReply) → w.answer ≡ Some r → option_map origin_of r.source ≡ route z before w.op)
     → is_ready raw (map (port_of full) (up before)) w ≡ false → send_settled z before full (begun_of w) ≡ true
 settled_send y z before full raw w h k o f = go w.answer refl
   where
@@ -97,10 +97,10 @@ settled_send y z before full raw w h k o f = go w.answer refl
     holds true us q e g i = refl
     holds false us q e g i = rw (e, all_full full (up before) q i, not_nil (up before) q g, replies y z h) refl
 
-    go : (x : Option Answer) → w.answer ≡ x → send_settled z before full (begun_of w) ≡ true
-    go None e = ap (λ (x : Option Answer). is_recv (act_of x) || list_all full (targets z before (begun_of w)) && not (is_reply z.role && is_nil (targets z before (begun_of w)))) e
+    go : (x : Option PendingReply) → w.answer ≡ x → send_settled z before full (begun_of w) ≡ true
+    go None e = ap (λ (x : Option PendingReply). is_recv (act_of x) || list_all full (targets z before (begun_of w)) && not (is_reply z.role && is_nil (targets z before (begun_of w)))) e
     go (Some r) e =
-        let at = full_targets y z before full raw w r h k e (o r e) (sym (ap (λ (x : Option Answer). can_go raw (map (port_of full) (up before)) x) e) ∙ f) in
+        let at = full_targets y z before full raw w r h k e (o r e) (sym (ap (λ (x : Option PendingReply). can_go raw (map (port_of full) (up before)) x) e) ∙ f) in
         holds (is_recv (act_of w.answer)) (targets z before (begun_of w)) at.0 at.1 at.2 at.3
 
 sends_settled : (y : ReplyRole) (z : Setting) (before : List Entry) (full : ℕ → Bool) (raw : Bool) (ws : List ReplyOperation) → z.role ≡ role_of y → z.raw ≡ raw → Routed (λ o. route z before o) ws → find (is_ready raw (map (port_of full) (up before))) ws ≡ None
@@ -142,7 +142,7 @@ first_on (v ∷ ws) w h = go v.answer refl h (first_on ws w)
     same_number : (n : ℕ) → (n == n) ≡ true
     same_number n = grind (arith, nat_tests)
 
-    go : (r : Option Answer) → v.answer ≡ r → cond (not (is_some r)) (Some v) (find is_receive ws) ≡ Some w → (find is_receive ws ≡ Some w → option_map (λ (s : Begun). s.op) (find (is_recv_on w.ctx) (map begun_of ws)) ≡ Some w.op)
+    go : (r : Option PendingReply) → v.answer ≡ r → cond (not (is_some r)) (Some v) (find is_receive ws) ≡ Some w → (find is_receive ws ≡ Some w → option_map (λ (s : Begun). s.op) (find (is_recv_on w.ctx) (map begun_of ws)) ≡ Some w.op)
         → option_map (λ (s : Begun). s.op) (cond (is_recv (act_of r) && (v.ctx == w.ctx)) (Some (record { op = v.op; ctx = v.ctx; act = act_of r })) (find (is_recv_on w.ctx) (map begun_of ws))) ≡ Some w.op
     go None e h again =
         let is : v ≡ w = some_inj h in
@@ -159,8 +159,8 @@ receives_act (v ∷ ws) w h = go v.answer refl h (receives_act ws w)
     some_inj : Some v ≡ Some w → v ≡ w
     some_inj q = cc
 
-    go : (r : Option Answer) → v.answer ≡ r → cond (not (is_some r)) (Some v) (find is_receive ws) ≡ Some w → (find is_receive ws ≡ Some w → is_recv (act_of w.answer) ≡ true) → is_recv (act_of w.answer) ≡ true
-    go None e h again = ap (λ (x : ReplyOperation). is_recv (act_of x.answer)) (sym (some_inj h)) ∙ ap (λ (x : Option Answer). is_recv (act_of x)) e
+    go : (r : Option PendingReply) → v.answer ≡ r → cond (not (is_some r)) (Some v) (find is_receive ws) ≡ Some w → (find is_receive ws ≡ Some w → is_recv (act_of w.answer) ≡ true) → is_recv (act_of w.answer) ≡ true
+    go None e h again = ap (λ (x : ReplyOperation). is_recv (act_of x.answer)) (sym (some_inj h)) ∙ ap (λ (x : Option PendingReply). is_recv (act_of x)) e
     go (Some r) e h again = again h
 
 pub can_give : (m : Reply) (t : Moment) (k : KeptRequest) (ks : List KeptRequest) (w : ReplyOperation) → (h : Ties m t) → m.kept.items ≡ k ∷ ks → find is_receive h.waits ≡ Some w → CanGive t w.op (begun_of w) (text_of k.message)
@@ -194,10 +194,10 @@ no_earlier y z before full raw (v ∷ ws) w p h k o f n = go (is_ready raw (map 
     misses q e true f = let k : true ≡ false = sym e ∙ ap full (equal_of q p f) ∙ n in absurd cc
     misses q e false f = refl
 
-    hasnt : (x : Option Answer) → v.answer ≡ x → is_ready raw (map (port_of full) (up before)) v ≡ false → has (targets z before (begun_of v)) p ≡ false
-    hasnt None e g = ap (λ (x : Option Answer). has (targets_of z before v.op (act_of x)) p) e
+    hasnt : (x : Option PendingReply) → v.answer ≡ x → is_ready raw (map (port_of full) (up before)) v ≡ false → has (targets z before (begun_of v)) p ≡ false
+    hasnt None e g = ap (λ (x : Option PendingReply). has (targets_of z before v.op (act_of x)) p) e
     hasnt (Some r) e g =
-        let at = full_targets y z before full raw v r h k e (o.0 r e) (sym (ap (λ (x : Option Answer). can_go raw (map (port_of full) (up before)) x) e) ∙ g) in
+        let at = full_targets y z before full raw v r h k e (o.0 r e) (sym (ap (λ (x : Option PendingReply). can_go raw (map (port_of full) (up before)) x) e) ∙ g) in
         ap (λ us. has us p) at.1 ∙ has_number (up before) at.0 p ∙ misses at.0 at.3 (at.0 == p) refl
 
     skip : (b : Bool) → has (targets z before (begun_of v)) p ≡ false → list_any (λ other. has (targets z before other) p) (begun_before w.op (map begun_of ws)) ≡ false
@@ -217,7 +217,7 @@ no_earlier y z before full raw (v ∷ ws) w p h k o f n = go (is_ready raw (map 
 is_same : (n : ℕ) → (n == n) ≡ true
 is_same n = grind (arith, nat_tests)
 
-pub can_send : (m : Reply) (t : Moment) (w : ReplyOperation) (r : Answer) (p : ℕ) → (h : Ties m t) → find (is_ready m.raw m.ports.items) h.waits ≡ Some w → w.answer ≡ Some r → way_of m.raw m.ports.items r ≡ ways.To p → CanSend t w.op p (begun_of w) (out_text m.raw r)
+pub can_send : (m : Reply) (t : Moment) (w : ReplyOperation) (r : PendingReply) (p : ℕ) → (h : Ties m t) → find (is_ready m.raw m.ports.items) h.waits ≡ Some w → w.answer ≡ Some r → way_of m.raw m.ports.items r ≡ ways.To p → CanSend t w.op p (begun_of w) (out_text m.raw r)
 can_send m t w r p h f e g =
     let full : ℕ → Bool = λ q. has_full t.turn q in
     let apart = all_apart m t h in
@@ -232,7 +232,7 @@ can_send m t w r p h f e g =
           ap (λ us. has us p) (targets_are m.role t.z (past t) m.raw w r (is_rep m t h) (is_raw m t h) e from) ∙ ap (λ (to : Option ℕ). has (filter (is_number to) (up (past t))) p) way.0
           ∙ has_number (up (past t)) p p ∙ both _ _ (is_same p) way.1;
       bytes =
-          ap (λ (x : Option Answer). bytes_of_act t.z (past t) (begun_of w) (act_of x)) e
+          ap (λ (x : Option PendingReply). bytes_of_act t.z (past t) (begun_of w) (act_of x)) e
           ∙ ap (λ (x : Role). bytes_for x t.z.raw (route t.z (past t) w.op) (request_of t.z (past t) (begun_of w)) (text_of r.message)) (is_rep m t h)
           ∙ ap (λ (x : Bool). bytes_for (role_of m.role) x (route t.z (past t) w.op) (request_of t.z (past t) (begun_of w)) (text_of r.message)) (is_raw m t h)
           ∙ out_bytes m.role m.raw r (route t.z (past t) w.op) (request_of t.z (past t) (begun_of w)) p from number;
@@ -241,7 +241,7 @@ can_send m t w r p h f e g =
       one_target = no_floods m.role t.z (is_rep m t h);
     }
 
-pub can_drop : (m : Reply) (t : Moment) (w : ReplyOperation) (r : Answer) → Calm t.z (past t) → (h : Ties m t) → find (is_ready m.raw m.ports.items) h.waits ≡ Some w → w.answer ≡ Some r → way_of m.raw m.ports.items r ≡ ways.Nowhere → CanDrop t w.op (begun_of w)
+pub can_drop : (m : Reply) (t : Moment) (w : ReplyOperation) (r : PendingReply) → Calm t.z (past t) → (h : Ties m t) → find (is_ready m.raw m.ports.items) h.waits ≡ Some w → w.answer ≡ Some r → way_of m.raw m.ports.items r ≡ ways.Nowhere → CanDrop t w.op (begun_of w)
 can_drop m t w r q h f e g =
     let full : ℕ → Bool = λ q. has_full t.turn q in
     let apart = all_apart m t h in
@@ -249,7 +249,7 @@ can_drop m t w r q h f e g =
     let from : option_map origin_of r.source ≡ route t.z (past t) w.op = route_of (λ o. route t.z (past t) o) (is_ready m.raw m.ports.items) h.waits w r h.routed f e in
     record {
       pending = ap (find (is_of w.op)) (sym h.pending) ∙ find_own (is_ready m.raw m.ports.items) h.waits w f apart;
-      is_send = ap (λ (x : Option Answer). is_recv (act_of x)) e;
+      is_send = ap (λ (x : Option PendingReply). is_recv (act_of x)) e;
       nowhere = all (is_reply t.z.role) (targets t.z (past t) (begun_of w)) (unclaimed t.z (past t)) (replies m.role t.z (is_rep m t h)) (targets_are m.role t.z (past t) m.raw w r (is_rep m t h) (is_raw m t h) e from ∙ none) q.outs_claimed;
     }
   where
@@ -271,12 +271,12 @@ sends_right m t x q h r e = subst (λ (y : Offer). IsOffered y t) (sym e) (go (f
         step true k f again = ap (λ (u : ReplyOperation). can_go m.raw m.ports.items u.answer) (sym (some_inj f)) ∙ k
         step false k f again = again f
 
-    ways_right : (w : ReplyOperation) (p : Answer) (y : Destination) → find (is_ready m.raw m.ports.items) h.waits ≡ Some w → w.answer ≡ Some p → way_of m.raw m.ports.items p ≡ y → isnt_full y ≡ true → IsOffered (way_offer w.op y) t
+    ways_right : (w : ReplyOperation) (p : PendingReply) (y : Destination) → find (is_ready m.raw m.ports.items) h.waits ≡ Some w → w.answer ≡ Some p → way_of m.raw m.ports.items p ≡ y → isnt_full y ≡ true → IsOffered (way_offer w.op y) t
     ways_right w p ways.Full f g k n = absurd cc
     ways_right w p ways.Nowhere f g k n = (begun_of w, can_drop m t w p q h f g k)
     ways_right w p (ways.To u) f g k n = (begun_of w, out_text m.raw p, can_send m t w p u h f g k)
 
-    replies_right : (w : ReplyOperation) (y : Option Answer) → find (is_ready m.raw m.ports.items) h.waits ≡ Some w → w.answer ≡ y → can_go m.raw m.ports.items y ≡ true → IsOffered (answer_offer m.raw m.ports.items w.op y) t
+    replies_right : (w : ReplyOperation) (y : Option PendingReply) → find (is_ready m.raw m.ports.items) h.waits ≡ Some w → w.answer ≡ y → can_go m.raw m.ports.items y ≡ true → IsOffered (answer_offer m.raw m.ports.items w.op y) t
     replies_right w None f g n = absurd cc
     replies_right w (Some p) f g n = ways_right w p (way_of m.raw m.ports.items p) f g refl n
 

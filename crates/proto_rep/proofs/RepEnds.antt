@@ -34,7 +34,7 @@ use Rattle.proto_rep.specs.declared.rep.Reply.{Reply}
 use Rattle.proto_rep.specs.declared.rep.KeptRequest.{KeptRequest}
 use Rattle.proto_rep.specs.declared.rep.Source.{Source}
 use Rattle.proto_rep.specs.Places.{ReplyContext}
-use Rattle.proto_rep.specs.declared.replies.Answer.{Answer}
+use Rattle.proto_rep.specs.declared.replies.PendingReply.{PendingReply}
 use Rattle.proto_rep.specs.declared.operations.ReplyOperation.{ReplyOperation}
 use Rattle.proto_rep.specs.Reps.{Ties, Stands, item_of, origin_of, origin_at, ctx_of, out_text, words_of, Routed, AreHome, Given, role_of}
 use Rattle.proto_rep.specs.Operations.{Holds, begun_of, act_of, is_for, without_first}
@@ -198,7 +198,7 @@ goes_back None p = refl
 goes_back (Some s) p = refl
 
 -- where a send may go
-pub may_go_is : (y : ReplyRole) (raw : Bool) (r : Answer) (o : Option Origin) (p : ℕ) → option_map origin_of r.source ≡ o → may_go (role_of y) raw o r.message.header p ≡ is_number (target_of raw r) p
+pub may_go_is : (y : ReplyRole) (raw : Bool) (r : PendingReply) (o : Option Origin) (p : ℕ) → option_map origin_of r.source ≡ o → may_go (role_of y) raw o r.message.header p ≡ is_number (target_of raw r) p
 may_go_is sides.Rep true r o p h = refl
 may_go_is sides.Respondent true r o p h = refl
 may_go_is sides.Rep false r o p h = ap (λ (q : Option Origin). may_go role.Rep false q r.message.header p) (sym h) ∙ goes_back r.source p
@@ -208,16 +208,16 @@ filter_is : (P Q : ℕ → Bool) (us : List ℕ) → ((u : ℕ) → P u ≡ Q u)
 filter_is P Q [] h = refl
 filter_is P Q (u ∷ us) h = rw (h u) (ap (λ (rest : List ℕ). cond (Q u) (u ∷ rest) rest) (filter_is P Q us h))
 
-pub targets_are : (y : ReplyRole) (z : Setting) (before : List Entry) (raw : Bool) (w : ReplyOperation) (r : Answer) → z.role ≡ role_of y → z.raw ≡ raw → w.answer ≡ Some r → option_map origin_of r.source ≡ route z before w.op
+pub targets_are : (y : ReplyRole) (z : Setting) (before : List Entry) (raw : Bool) (w : ReplyOperation) (r : PendingReply) → z.role ≡ role_of y → z.raw ≡ raw → w.answer ≡ Some r → option_map origin_of r.source ≡ route z before w.op
     → targets z before (begun_of w) ≡ filter (is_number (target_of raw r)) (up before)
 targets_are y z before raw w r h k e o =
-    ap (λ (x : Option Answer). targets_of z before w.op (act_of x)) e
+    ap (λ (x : Option PendingReply). targets_of z before w.op (act_of x)) e
     ∙ ap (λ (x : Role). filter (may_go x z.raw (route z before w.op) r.message.header) (up before)) h
     ∙ ap (λ (x : Bool). filter (may_go (role_of y) x (route z before w.op) r.message.header) (up before)) k
     ∙ filter_is (may_go (role_of y) raw (route z before w.op) r.message.header) (is_number (target_of raw r)) (up before) (λ u. may_go_is y raw r (route z before w.op) u o)
 
 -- the request that a pending send answers
-pub route_of : (routes : OpName → Option Origin) (P : ReplyOperation → Bool) (ws : List ReplyOperation) (w : ReplyOperation) (r : Answer) → Routed routes ws → find P ws ≡ Some w → w.answer ≡ Some r → option_map origin_of r.source ≡ routes w.op
+pub route_of : (routes : OpName → Option Origin) (P : ReplyOperation → Bool) (ws : List ReplyOperation) (w : ReplyOperation) (r : PendingReply) → Routed routes ws → find P ws ≡ Some w → w.answer ≡ Some r → option_map origin_of r.source ≡ routes w.op
 route_of routes P [] w r h f e = absurd cc
 route_of routes P (v ∷ ws) w r h f e = go (P v) f (λ k. route_of routes P ws w r h.1 k e)
   where
@@ -235,7 +235,7 @@ leads_back : (s : Option Source) (p : ℕ) (body : List ℕ) → is_number (opti
 leads_back None p body k = absurd cc
 leads_back (Some s) p body k = refl
 
-pub out_bytes : (y : ReplyRole) (raw : Bool) (r : Answer) (o : Option Origin) (q : Option LiveRequest) (p : ℕ) → option_map origin_of r.source ≡ o → is_number (target_of raw r) p ≡ true → bytes_for (role_of y) raw o q (text_of r.message) ≡ Some (out_text raw r)
+pub out_bytes : (y : ReplyRole) (raw : Bool) (r : PendingReply) (o : Option Origin) (q : Option LiveRequest) (p : ℕ) → option_map origin_of r.source ≡ o → is_number (target_of raw r) p ≡ true → bytes_for (role_of y) raw o q (text_of r.message) ≡ Some (out_text raw r)
 out_bytes sides.Rep true r o q p h k = refl
 out_bytes sides.Respondent true r o q p h k = refl
 out_bytes sides.Rep false r o q p h k = ap (λ (x : Option Origin). traced x r.message.body) (sym h) ∙ leads_back r.source p r.message.body k
@@ -257,7 +257,7 @@ has_filter P (u ∷ us) p h = go (P u) refl h (has_filter P us p)
     go false e h again = again h
 
 -- what goes out for a send that can go
-pub goes_out : (m : Reply) (t : Moment) (op : OpName) (p : ℕ) (s : Begun) (b : List ℕ) (w : ReplyOperation) (r : Answer) → (h : Ties m t) → CanSend t op p s b → find (is_for op) h.waits ≡ Some w → begun_of w ≡ s → w.answer ≡ Some r → out_text m.raw r ≡ b
+pub goes_out : (m : Reply) (t : Moment) (op : OpName) (p : ℕ) (s : Begun) (b : List ℕ) (w : ReplyOperation) (r : PendingReply) → (h : Ties m t) → CanSend t op p s b → find (is_for op) h.waits ≡ Some w → begun_of w ≡ s → w.answer ≡ Some r → out_text m.raw r ≡ b
 goes_out m t op p s b w r h c f e g =
     let from : option_map origin_of r.source ≡ route t.z (past t) w.op = route_of (λ o. route t.z (past t) o) (is_for op) h.waits w r h.routed f g in
     let targets_is = targets_are m.role t.z (past t) m.raw w r (is_rep m t h) (is_raw m t h) g from in
@@ -271,7 +271,7 @@ goes_out m t op p s b w r h c f e g =
 
     bytes_is : option_map origin_of r.source ≡ route t.z (past t) w.op → is_number (target_of m.raw r) p ≡ true → bytes_of t.z (past t) (begun_of w) ≡ Some (out_text m.raw r)
     bytes_is o k =
-        ap (λ (x : Option Answer). bytes_of_act t.z (past t) (begun_of w) (act_of x)) g
+        ap (λ (x : Option PendingReply). bytes_of_act t.z (past t) (begun_of w) (act_of x)) g
         ∙ ap (λ (x : Role). bytes_for x t.z.raw (route t.z (past t) w.op) (request_of t.z (past t) (begun_of w)) (text_of r.message)) (is_rep m t h)
         ∙ ap (λ (x : Bool). bytes_for (role_of m.role) x (route t.z (past t) w.op) (request_of t.z (past t) (begun_of w)) (text_of r.message)) (is_raw m t h)
         ∙ out_bytes m.role m.raw r (route t.z (past t) w.op) (request_of t.z (past t) (begun_of w)) p o k
@@ -288,7 +288,7 @@ recv_isnt_answer t op s w c e g =
     let k : true ≡ false = rw act at c.is_send in
     absurd cc
 
-pub send_isnt_recv : {A : Type 0} (t : Moment) (op : OpName) (s : Begun) (text : RecordedMessage) (w : ReplyOperation) (r : Answer) → CanGive t op s text → begun_of w ≡ s → w.answer ≡ Some r → A
+pub send_isnt_recv : {A : Type 0} (t : Moment) (op : OpName) (s : Begun) (text : RecordedMessage) (w : ReplyOperation) (r : PendingReply) → CanGive t op s text → begun_of w ≡ s → w.answer ≡ Some r → A
 send_isnt_recv t op s text w r c e g =
     let act : s.act ≡ Send (text_of r.message) = ap (λ (q : Begun). q.act) (sym e) ∙ ap act_of g in
     let k : false ≡ true = rw act at c.may.is_receive in
@@ -305,8 +305,8 @@ taken m t op s w h p e = let v = the_op m t op s h p in ap begun_of (some_inj v.
 pub none_taken : {A : Type 0} (m : Reply) (t : Moment) (op : OpName) (s : Begun) → (h : Ties m t) → pending (past t) op ≡ Some s → None ≡ find (is_for op) h.waits → A
 none_taken m t op s h p e = let v = the_op m t op s h p in let k : None ≡ Some v.0 = e ∙ v.1 in absurd cc
 
-pub its_message : (s : Begun) (w : ReplyOperation) (r : Answer) → begun_of w ≡ s → w.answer ≡ Some r → Some (text_of r.message) ≡ message_of s.act
-its_message s w r e g = sym (ap (λ (x : Option Answer). message_of (act_of x)) g) ∙ ap (λ (q : Begun). message_of q.act) e
+pub its_message : (s : Begun) (w : ReplyOperation) (r : PendingReply) → begun_of w ≡ s → w.answer ≡ Some r → Some (text_of r.message) ≡ message_of s.act
+its_message s w r e g = sym (ap (λ (x : Option PendingReply). message_of (act_of x)) g) ∙ ap (λ (q : Begun). message_of q.act) e
 
 pub no_message : (s : Begun) (w : ReplyOperation) → begun_of w ≡ s → w.answer ≡ None → None ≡ message_of s.act
-no_message s w e g = sym (ap (λ (x : Option Answer). message_of (act_of x)) g) ∙ ap (λ (q : Begun). message_of q.act) e
+no_message s w e g = sym (ap (λ (x : Option PendingReply). message_of (act_of x)) g) ∙ ap (λ (q : Begun). message_of q.act) e

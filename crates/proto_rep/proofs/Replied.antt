@@ -30,7 +30,7 @@ use Rattle.proto_rep.specs.declared.rep.Reply.{Reply}
 use Rattle.proto_rep.specs.declared.rep.KeptRequest.{KeptRequest}
 use Rattle.proto_rep.specs.declared.rep.Source.{Source}
 use Rattle.proto_rep.specs.Places.{ReplyContext}
-use Rattle.proto_rep.specs.declared.replies.Answer.{Answer}
+use Rattle.proto_rep.specs.declared.replies.PendingReply.{PendingReply}
 use Rattle.proto_rep.specs.declared.operations.ReplyOperation.{ReplyOperation}
 use Rattle.proto_requests.specs.Ports.{PortView, marked, cleared, is_below}
 use Rattle.proto_requests.specs.Ordered.{is_before}
@@ -269,7 +269,7 @@ left_of a b h = elim a as (λ v. (not v && b) ≡ true → v ≡ false) [ true �
 
 -- the sends that waited, and one more
 routed_more : (routes : OpName → Option Origin) (x : Option Origin) (op : OpName) (ws : List ReplyOperation) (w : ReplyOperation) → w.op ≡ op → list_any (is_at op.slot) (map begun_of ws) ≡ false → Routed routes ws
-    → ((r : Answer) → w.answer ≡ Some r → option_map origin_of r.source ≡ x) → Routed (λ o. cond (same_op op o) x (routes o)) (ws ++ w ∷ [])
+    → ((r : PendingReply) → w.answer ≡ Some r → option_map origin_of r.source ≡ x) → Routed (λ o. cond (same_op op o) x (routes o)) (ws ++ w ∷ [])
 routed_more routes x op [] w i h k n = (λ r e. n r e ∙ sym (ap (λ b. cond b x (routes w.op)) (subst (λ (o : OpName). same_op op o ≡ true) (sym i) (same_op-refl op))), k)
 routed_more routes x op (v ∷ ws) w i h k n = go (is_at op.slot (begun_of v)) refl h (routed_more routes x op ws w i)
   where
@@ -277,14 +277,14 @@ routed_more routes x op (v ∷ ws) w i h k n = go (is_at op.slot (begun_of v)) r
     differ m n h = grind (arith, nat_tests)
 
     go : (b : Bool) → is_at op.slot (begun_of v) ≡ b → (b || list_any (is_at op.slot) (map begun_of ws)) ≡ false
-        → (list_any (is_at op.slot) (map begun_of ws) ≡ false → Routed routes ws → ((r : Answer) → w.answer ≡ Some r → option_map origin_of r.source ≡ x) → Routed (λ o. cond (same_op op o) x (routes o)) (ws ++ w ∷ []))
+        → (list_any (is_at op.slot) (map begun_of ws) ≡ false → Routed routes ws → ((r : PendingReply) → w.answer ≡ Some r → option_map origin_of r.source ≡ x) → Routed (λ o. cond (same_op op o) x (routes o)) (ws ++ w ∷ []))
         → Routed (λ o. cond (same_op op o) x (routes o)) (v ∷ ws ++ w ∷ [])
     go true e h again = absurd cc
     go false e h again =
         let other : same_op op v.op ≡ false = rw (differ v.op.slot op.slot e) refl in
         (λ r q. k.0 r q ∙ sym (ap (λ b. cond b x (routes v.op)) other), again h k.1 n)
 
-pub begun_ties : (m n : Reply) (t : Moment) (w : ReplyOperation) (a : RecordedAct) (source : Option Source) (deadline : Option ℕ) → Lawful (also t (Begin w.op t.caller w.ctx a deadline)) → (h : Ties m t) → act_of w.answer ≡ a → ((r : Answer) → w.answer ≡ Some r → r.source ≡ source)
+pub begun_ties : (m n : Reply) (t : Moment) (w : ReplyOperation) (a : RecordedAct) (source : Option Source) (deadline : Option ℕ) → Lawful (also t (Begin w.op t.caller w.ctx a deadline)) → (h : Ties m t) → act_of w.answer ≡ a → ((r : PendingReply) → w.answer ≡ Some r → r.source ≡ source)
     → option_map origin_of source ≡ origin_at w.ctx m.places.items → ((d : ℕ) → origin_at d n.places.items ≡ cond (w.ctx == d) None (origin_at d m.places.items)) → map ctx_of n.places.items ≡ map ctx_of m.places.items
     → Holds n.waiting (h.waits ++ w ∷ []) → StayPassed m.waiting.replies n.waiting.replies → n.ports ≡ m.ports → n.kept ≡ m.kept → (n.raw ≡ m.raw) × (n.options ≡ m.options) × (n.role ≡ m.role) → Ties n (also t (Begin w.op t.caller w.ctx a deadline))
 begun_ties m n t w a source deadline l h i j u v x e y p f same =

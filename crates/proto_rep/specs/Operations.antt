@@ -11,13 +11,13 @@ use Rattle.sp_proto.specs.declared.Offer.TheVariants as offers
 use Rattle.proto_requests.specs.FirstFound.{without_found}
 use Rattle.proto_requests.specs.Ports.{PortView}
 use Rattle.proto_rep.specs.Replies.{isnt_full, way_of, way_offer}
-use Rattle.proto_rep.specs.declared.replies.Answer.{Answer}
+use Rattle.proto_rep.specs.declared.replies.PendingReply.{PendingReply}
 use Rattle.proto_rep.specs.declared.replies.WaitingReply.{WaitingReply}
 use Rattle.proto_rep.specs.declared.operations.Recipient.{Recipient}
 use Rattle.proto_rep.specs.declared.operations.ReplyOperation.{ReplyOperation}
 use Rattle.proto_rep.specs.declared.operations.RepOperations.{RepOperations}
 
-abbrev pub act_of : Option Answer → RecordedAct
+abbrev pub act_of : Option PendingReply → RecordedAct
 act_of None = Recv
 act_of (Some r) = Send (text_of r.message)
 
@@ -48,7 +48,7 @@ of_reply x = record { op = x.op; ctx = x.ctx; answer = Some x.answer }
 
 -- ---- Replies that can leave
 
-abbrev pub can_go : Bool → List PortView → Option Answer → Bool
+abbrev pub can_go : Bool → List PortView → Option PendingReply → Bool
 can_go raw xs None = false
 can_go raw xs (Some r) = isnt_full (way_of raw xs r)
 
@@ -56,7 +56,7 @@ can_go raw xs (Some r) = isnt_full (way_of raw xs r)
 abbrev pub is_ready : Bool → List PortView → ReplyOperation → Bool
 is_ready raw xs w = can_go raw xs w.answer
 
-abbrev pub answer_offer : Bool → List PortView → OpName → Option Answer → Offer
+abbrev pub answer_offer : Bool → List PortView → OpName → Option PendingReply → Offer
 answer_offer raw xs op None = offers.Idle
 answer_offer raw xs op (Some r) = way_offer op (way_of raw xs r)
 

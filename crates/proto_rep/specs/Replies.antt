@@ -15,17 +15,17 @@ use Rattle.proto_requests.specs.declared.spots.Spot.{Spot}
 use Rattle.proto_requests.specs.declared.ports.Destination.{Destination}
 use Rattle.proto_requests.specs.declared.ports.Destination.TheVariants as ways
 use Rattle.proto_rep.specs.declared.rep.Source.{Source}
-use Rattle.proto_rep.specs.declared.replies.Answer.{Answer}
+use Rattle.proto_rep.specs.declared.replies.PendingReply.{PendingReply}
 use Rattle.proto_rep.specs.declared.replies.WaitingReply.{WaitingReply}
 
 -- ---- Where one goes
 
 -- the pipe to which it may go
-abbrev pub target_of : Bool → Answer → Option ℕ
+abbrev pub target_of : Bool → PendingReply → Option ℕ
 target_of true r = first_word r.message.header
 target_of false r = option_map (λ (s : Source). s.pipe) r.source
 
-abbrev pub way_of : Bool → List PortView → Answer → Destination
+abbrev pub way_of : Bool → List PortView → PendingReply → Destination
 way_of raw xs r = where_is xs (target_of raw r)
 
 abbrev pub isnt_full : Destination → Bool

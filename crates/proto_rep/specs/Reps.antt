@@ -24,7 +24,7 @@ use Rattle.proto_rep.specs.declared.rep.Reply.{Reply}
 use Rattle.proto_rep.specs.declared.rep.KeptRequest.{KeptRequest}
 use Rattle.proto_rep.specs.declared.rep.Source.{Source}
 use Rattle.proto_rep.specs.Places.{ReplyContext}
-use Rattle.proto_rep.specs.declared.replies.Answer.{Answer}
+use Rattle.proto_rep.specs.declared.replies.PendingReply.{PendingReply}
 use Rattle.proto_rep.specs.declared.operations.ReplyOperation.{ReplyOperation}
 use Rattle.proto_rep.specs.Replies.{AreStuck}
 use Rattle.proto_rep.specs.Operations.{Holds, begun_of, count, receives_on, room}
@@ -83,7 +83,7 @@ abbrev pub words_of : Option Source → List ℕ
 words_of None = []
 words_of (Some s) = s.words
 
-abbrev pub out_text : Bool → Answer → List ℕ
+abbrev pub out_text : Bool → PendingReply → List ℕ
 out_text true r = drop 4 r.message.header ++ r.message.body
 out_text false r = words_of r.source ++ r.message.body
 
@@ -103,7 +103,7 @@ Gives c r m n = (k : Option KeptRequest) × Given c r m n k
 -- each send has the request that it answers
 abbrev pub Routed : (OpName → Option Origin) → List ReplyOperation → Type 0
 Routed routes [] = ⊤
-Routed routes (w ∷ ws) = ((r : Answer) → w.answer ≡ Some r → option_map origin_of r.source ≡ routes w.op) × Routed routes ws
+Routed routes (w ∷ ws) = ((r : PendingReply) → w.answer ≡ Some r → option_map origin_of r.source ≡ routes w.op) × Routed routes ws
 
 -- each operation is of one of these contexts
 abbrev pub AreHome : List ℕ → List Begun → Type 0

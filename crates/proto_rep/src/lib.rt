@@ -5,9 +5,9 @@
 //! from, when that has room, or nowhere, when it is down; what a context's next send answers is stored with the
 //! context. Raw, the pipe and the words of the backtrace stand in the header.
 //!
-//! Who owns what: `operations` has what waits, receives and replies apart, and each reply with its message until it goes
-//! out or ends; `replies` passes over those that were found at full pipes in this turn. `places` has the open contexts
-//! with what their next sends answer.
+//! Who owns what: `operations` has what waits, receives and replies apart, and each reply with its message until it
+//! goes out or ends; `replies` passes over those that were found at full pipes in this turn. `places` has the open
+//! contexts with what their next sends answer.
 //!
 //! To read: `Ties` of `specs/Reps` and `Holds` of `specs/Operations`, then `rep`.
 #![tactic(auto)]

@@ -1,7 +1,7 @@
 //! The operations of a rep that wait: its receives, and its replies.
 //!
-//! They are kept apart, so that a look at the replies passes no receive. Contracts see all of them in the order of their
-//! begins (`Holds`).
+//! They are kept apart, so that a look at the replies passes no receive. Contracts see all of them in the order of
+//! their begins (`Holds`).
 ghost use Rattle.std.specs.Prelude.{◌≡◌, ◌≤◌, ◌<◌, ◌+◌, ◌++◌, ◌∷◌, ℕ, Bool, List, [], find, map, IfOk, IfSome, OnOk};
 ghost use Rattle.std.specs.Option.{option_map};
 ghost use Rattle.std.specs.List.{list_any};
@@ -12,7 +12,7 @@ ghost use Rattle.proto_rep.specs.declared.operations.ReplyOperation.{ReplyOperat
 ghost use Rattle.proto_rep.specs.Replies.{AreStuck, StayPassed};
 ghost use Rattle.proto_rep.specs.Operations.{Holds, begun_of, is_for, is_receive, is_ready, receives_on, without_first, of_recipient, of_reply, send_offer, count, room};
 
-use crate::replies::{Answer, WaitingReplies, WaitingReply};
+use crate::replies::{PendingReply, WaitingReplies, WaitingReply};
 use proto_requests::ports::Ports;
 use proto_requests::waits::{Waiter, Waits};
 use sp_base::{Ctx, NoMemory, OpName};
@@ -72,7 +72,7 @@ impl Waiter for Recipient {
 pub struct ReplyOperation {
     pub op: OpName,
     pub ctx: Ctx,
-    pub answer: Option<Answer>,
+    pub answer: Option<PendingReply>,
 }
 
 /// Those that wait.

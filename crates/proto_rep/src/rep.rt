@@ -11,14 +11,14 @@ ghost use Rattle.sp_history.specs.declared.parts.Back.TheVariants.{Found};
 ghost use Rattle.sp_msg.specs.Views.{wire_text};
 ghost use Rattle.sp_proto.specs.Kinds.{Starts, entry_act};
 ghost use Rattle.proto_rep.specs.declared.operations.ReplyOperation.{ReplyOperation as ReplyOperationType};
-ghost use Rattle.proto_rep.specs.declared.replies.Answer.{Answer as AnswerType};
+ghost use Rattle.proto_rep.specs.declared.replies.PendingReply.{PendingReply as PendingReplyType};
 ghost use Rattle.proto_rep.specs.Operations.{Holds, act_of};
 ghost use Rattle.proto_rep.specs.Wins.{HasNoMessage, WinsFlood, WinsNowhere, WinsOut, WinsReceive};
 ghost use Rattle.proto_rep.specs.Reps.{Ties, CameTooFar, offers_left, places_left, reply_kind, role_of, item_of, out_text, Gives, state_at};
 
 use crate::operations::{RepOperations, ReplyOperation};
 use crate::places::Places;
-use crate::replies::{Answer, is_full};
+use crate::replies::{PendingReply, is_full};
 use proto_requests::backlog::{Backlog, FromPipe};
 use proto_requests::ports::Ports;
 use proto_requests::trail::{BacktraceWords, Trail, scan};
@@ -75,18 +75,18 @@ pub struct Reply {
 }
 
 // A send of the act, with the request that it answers.
-fn answer_of(act: Act, source: Option<Source>) -> Option<Answer>
+fn answer_of(act: Act, source: Option<Source>) -> Option<PendingReply>
     ensures act { act_of result ≡ entry_act act }
-    ensures source { (r : AnswerType) → result ≡ Some r → r.source ≡ source }
+    ensures source { (r : PendingReplyType) → result ≡ Some r → r.source ≡ source }
 {
     match act {
         Act::Recv => None,
-        Act::Send(message) => Some(Answer { message, source }),
+        Act::Send(message) => Some(PendingReply { message, source }),
     }
 }
 
 // What goes out for a send.
-fn outward(raw: bool, answer: Answer) -> Message
+fn outward(raw: bool, answer: PendingReply) -> Message
     ensures { wire_text result ≡ out_text raw answer }
 {
     let mut message = answer.message;
@@ -105,7 +105,7 @@ fn outward(raw: bool, answer: Answer) -> Message
 }
 
 // What a reply that was won puts on the pipe. One that goes nowhere has none.
-fn put_out(raw: bool, answer: Answer, out: Option<PipeId>) -> Option<Message>
+fn put_out(raw: bool, answer: PendingReply, out: Option<PipeId>) -> Option<Message>
     ensures nothing { out ≡ None → result ≡ None }
     ensures message { (p : ℕ) (b : List ℕ) → out ≡ Some p → out_text raw answer ≡ b → MatchOption result ⊥ (λ m. wire_text m ≡ b) }
 {

@@ -1,10 +1,10 @@
 //! Replies that wait for their pipes.
 //!
 //! They stand in the order of their begins, each at a spot that it leaves behind when it ends. Where nothing stands at
-//! half of the spots, the others are closed up, so that going over all of them costs no more than there are. By the slot
-//! of its name the number of a reply's spot is known, and by that the spot is found by halving. Those before a mark are
-//! passed over: each was found at a full pipe in this turn. A new turn sets the mark back, and so do a closing up, and
-//! a pipe that goes down and was full.
+//! half of the spots, the others are closed up, so that going over all of them costs no more than there are. By the
+//! slot of its name the number of a reply's spot is known, and by that the spot is found by halving. Those before a
+//! mark are passed over: each was found at a full pipe in this turn. A new turn sets the mark back, and so do a closing
+//! up, and a pipe that goes down and was full.
 ghost use Rattle.std.specs.Prelude.{◌≡◌, ◌≤◌, ◌<◌, ◌+◌, ◌++◌, ◌∷◌, Bool, [], Some, false, not, find, drop, take, length, option_to_list, OnOk};
 ghost use Rattle.std.specs.List.{position, list_any};
 ghost use Rattle.proto_requests.specs.Ports.{where_is};
@@ -26,7 +26,7 @@ use std::marker::Model;
 
 /// What a send is to send: its message, as it was begun, and, cooked, the request that it answers.
 #[derive(Drop)]
-pub struct Answer {
+pub struct PendingReply {
     pub message: Message,
     pub source: Option<Source>,
 }
@@ -36,7 +36,7 @@ pub struct Answer {
 pub struct WaitingReply {
     pub op: OpName,
     pub ctx: Ctx,
-    pub answer: Answer,
+    pub answer: PendingReply,
 }
 
 impl Waiter for WaitingReply {
@@ -120,7 +120,7 @@ pub fn is_full(ports: &Ports, p: PipeId) -> bool
 }
 
 // Where a send may go.
-fn way_of(raw: bool, ports: &Ports, answer: &Answer) -> Destination
+fn way_of(raw: bool, ports: &Ports, answer: &PendingReply) -> Destination
     ensures { result ≡ way_of raw ports.now.items answer.now }
 {
     if raw {

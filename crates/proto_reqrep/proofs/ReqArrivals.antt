@@ -51,7 +51,7 @@ use Rattle.proto_requests.specs.Ids.{raw_item, number_after}
 use Rattle.proto_reqrep.proofs.Requested.{ended, reply_came, begun_one, begun_new}
 use Rattle.sp_history.specs.Legal.{is_recv_on, is_state}
 use Rattle.proto_requests.specs.Ports.{Knows}
-use Rattle.proto_reqrep.specs.Seats.{SeatView}
+use Rattle.proto_reqrep.specs.ReqContexts.{ReqContextView}
 use Rattle.proto_reqrep.proofs.RequestLives.{ctx_less, gone_on}
 use Rattle.proto_reqrep.proofs.ReqStands.{is_req_role, is_raw, asks, asks_nothing, req_is, raw_same, live_is, kept_is, kept_raw}
 use Rattle.proto_reqrep.proofs.OwnedRequests.{all_marked}
@@ -394,10 +394,10 @@ does_is m t c act b h e =
     both Recv = refl
     both (Send x) = refl
 
-pub open_is : (m : Machine) (t : Moment) (c : ℕ) (ss : List SeatView) (b o : Bool) → Ties m t → ss ≡ m.seats.items → o ≡ list_any (λ (s : SeatView). s.ctx == c) ss → o ≡ b → has (ctxs (past t)) c ≡ b
-open_is m t c ss b o h e k f = ap (λ cs. has cs c) (sym h.4.contexts) ∙ same m.seats.items ∙ ap (list_any (λ (s : SeatView). s.ctx == c)) (sym e) ∙ sym k ∙ f
+pub open_is : (m : Machine) (t : Moment) (c : ℕ) (ss : List ReqContextView) (b o : Bool) → Ties m t → ss ≡ m.seats.items → o ≡ list_any (λ (s : ReqContextView). s.ctx == c) ss → o ≡ b → has (ctxs (past t)) c ≡ b
+open_is m t c ss b o h e k f = ap (λ cs. has cs c) (sym h.4.contexts) ∙ same m.seats.items ∙ ap (list_any (λ (s : ReqContextView). s.ctx == c)) (sym e) ∙ sym k ∙ f
   where
-    same : (ss : List SeatView) → has (map seat_ctx ss) c ≡ list_any (λ (s : SeatView). s.ctx == c) ss
+    same : (ss : List ReqContextView) → has (map seat_ctx ss) c ≡ list_any (λ (s : ReqContextView). s.ctx == c) ss
     same [] = refl
     same (s ∷ ss) = ap (λ b. (s.ctx == c) || b) (same ss)
 
@@ -460,10 +460,10 @@ asked_live e h = rw e h
 pub asked_ops : {raw : Bool} {xs : List Live} {id : Option ℕ} {ws vs : List Asking} {ss : List Begun} {rs : Requests} → vs ≡ ws → Asked raw xs id ws ss rs → Asked raw xs id vs ss rs
 asked_ops e h = rw e h
 
-pub opened_live : {xs ys : List Live} {ss : List SeatView} {cs : List ℕ} {dry : ℕ → Bool} → ys ≡ xs → Opened xs ss cs dry → Opened ys ss cs dry
+pub opened_live : {xs ys : List Live} {ss : List ReqContextView} {cs : List ℕ} {dry : ℕ → Bool} → ys ≡ xs → Opened xs ss cs dry → Opened ys ss cs dry
 opened_live e h = rw e h
 
-pub opened_seats : {xs : List Live} {ss rs : List SeatView} {cs : List ℕ} {dry : ℕ → Bool} → rs ≡ ss → Opened xs ss cs dry → Opened xs rs cs dry
+pub opened_seats : {xs : List Live} {ss rs : List ReqContextView} {cs : List ℕ} {dry : ℕ → Bool} → rs ≡ ss → Opened xs ss cs dry → Opened xs rs cs dry
 opened_seats e h = rw e h
 
 pub down_items : (m : Machine) (t : Moment) (p : ℕ) (why : Why) → Ties m t → m.raw ≡ true → map item_of m.kept.items ≡ pool t.z (Down p why ∷ past t) 0

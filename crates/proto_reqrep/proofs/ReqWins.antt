@@ -35,7 +35,7 @@ use Rattle.proto_reqrep.specs.declared.req.Live.{Live}
 use Rattle.proto_reqrep.specs.declared.req.KeptReply.{KeptReply}
 use Rattle.proto_reqrep.specs.declared.req.Asking.{Asking}
 use Rattle.proto_requests.specs.Waits.{WaitsView}
-use Rattle.proto_reqrep.specs.Seats.{SeatView}
+use Rattle.proto_reqrep.specs.ReqContexts.{ReqContextView}
 use Rattle.proto_reqrep.specs.Reqs.{Ties, NotesOut, late_in, dry_in, AreReady, item_of, is_asked, is_live_on, without_first, without_live, sent_at, reply_in, work_left, is_due, live_ctx, request_of, dried, dry_at, items_of, is_late_in, due_count, SetTo, Keeps, Asked, Opened}
 use Rattle.proto_requests.specs.FirstFound.{with_found}
 use Rattle.proto_reqrep.proofs.ReqStands.{given_raw, given_cooked, given_items, given_oldest, given_message}
@@ -160,13 +160,13 @@ due_now m t c p r h g =
     let not_dry : dry_at y.0.ctx m.seats.items ≡ false = ap (λ n. dry_at n m.seats.items) on ∙ h.4.dryness c g.ctx_open ∙ g.not_dry in
     due_is m t h y.0 not_dry ∙ due
 
-pub again_dry : (m : Machine) (t : Moment) (c p : ℕ) (r : LiveRequest) → Ties m t → CanAgain t c p r → (ss : List SeatView) (v : DuesView) → ss ≡ map (dried c) m.seats.items → AreSeen v (late_in m) (λ q. dry_at q ss) (ups (past t)) m.live.items
+pub again_dry : (m : Machine) (t : Moment) (c p : ℕ) (r : LiveRequest) → Ties m t → CanAgain t c p r → (ss : List ReqContextView) (v : DuesView) → ss ≡ map (dried c) m.seats.items → AreSeen v (late_in m) (λ q. dry_at q ss) (ups (past t)) m.live.items
     → SetTo m.raw m.options m.tick m.last_pipe (kind_of t.z) (now (past t)) (out_last (past t)) × Knows m.ports.items (up (past t)) (ups (past t)) (λ q. has_full t.turn q) × Keeps m.raw m.kept.items (pool t.z (Dry c ∷ past t) 0)
     × Asked m.raw m.live.items m.last_id m.waiting.items (pend (past t)) (requests t.z (past t)) × Opened m.live.items ss (ctxs (past t)) (λ d. (c == d) || is_dry (past t) d)
     × (AreSeen v (late_in m) (λ q. dry_at q ss) (ups (past t)) m.live.items × AreReady m.ready m.live.items m.waiting.items)
 again_dry m t c p r h g ss v e s = (h.0, h.1, λ v. not_both v (again_cooked m t c p r h g), h.3, opened_seats e (dried_opened c m.live.items m.seats.items (ctxs (past t)) (λ d. is_dry (past t) d) h.4), (s, h.5.1))
 
-pub dry_less : (m : Machine) (t : Moment) (c p : ℕ) (r : LiveRequest) → Ties m t → CanAgain t c p r → (ss : List SeatView) → ss ≡ map (dried c) m.seats.items
+pub dry_less : (m : Machine) (t : Moment) (c p : ℕ) (r : LiveRequest) → Ties m t → CanAgain t c p r → (ss : List ReqContextView) → ss ≡ map (dried c) m.seats.items
     → free_count m.ports.items * (length m.live.items + 1) + due_count (is_due m.options.resend m.tick m.ports.items ss) m.live.items + length m.waiting.items < work_left m
 dry_less m t c p r h g ss e =
     let y = again_live m t c p r h g in

@@ -41,7 +41,7 @@ use Rattle.proto_requests.specs.Ordered.{is_before}
 use Rattle.proto_requests.proofs.OpenContexts.{lawful_before, seen_before}
 use Rattle.proto_reqrep.proofs.Requested.{taken, ended_alone, gone_out}
 use Rattle.sp_history.specs.declared.parts.LastOut.{LastOut}
-use Rattle.proto_reqrep.specs.Seats.{SeatView}
+use Rattle.proto_reqrep.specs.ReqContexts.{ReqContextView}
 use Rattle.proto_reqrep.proofs.RequestLives.{ctx_less, gone_on}
 use Rattle.proto_requests.proofs.NumbersIn.{has_still, has_first}
 use Rattle.proto_reqrep.proofs.ReqStands.{is_req_role, is_raw, asks, asks_nothing, raw_same, raw_end, live_is, flag, is_begun}
@@ -143,10 +143,10 @@ ctxs_sent c o (x ∷ xs) = go (x.ctx == c) (ctxs_sent c o xs)
     go true h = refl
     go false h = ap (λ (rest : List ℕ). x.ctx ∷ rest) h
 
-pub opened_as : (xs ys : List Live) (ss : List SeatView) (cs : List ℕ) (dry : ℕ → Bool) → map live_ctx ys ≡ map live_ctx xs → Opened xs ss cs dry → Opened ys ss cs dry
+pub opened_as : (xs ys : List Live) (ss : List ReqContextView) (cs : List ℕ) (dry : ℕ → Bool) → map live_ctx ys ≡ map live_ctx xs → Opened xs ss cs dry → Opened ys ss cs dry
 opened_as xs ys ss cs dry e h = record { homes = λ c k. h.homes c (ap (λ l. has l c) (sym e) ∙ k); contexts = h.contexts; dryness = h.dryness }
 
-pub opened_less : (c : ℕ) (xs : List Live) (ss : List SeatView) (cs : List ℕ) (dry : ℕ → Bool) → Opened xs ss cs dry → Opened (without_live c xs) ss cs dry
+pub opened_less : (c : ℕ) (xs : List Live) (ss : List ReqContextView) (cs : List ℕ) (dry : ℕ → Bool) → Opened xs ss cs dry → Opened (without_live c xs) ss cs dry
 opened_less c xs ss cs dry h = record { homes = λ d k. h.homes d (ctx_less c d xs k); contexts = h.contexts; dryness = h.dryness }
 
 -- ---- A request goes out again
@@ -202,15 +202,15 @@ module _ (m : Machine) (t : Moment) (c p : ℕ) (r : LiveRequest) (h : Ties m t)
 
 -- ---- A context is dry
 
-pub dried_opened : (c : ℕ) (xs : List Live) (ss : List SeatView) (cs : List ℕ) (dry : ℕ → Bool) → Opened xs ss cs dry → Opened xs (map (dried c) ss) cs (λ d. (c == d) || dry d)
+pub dried_opened : (c : ℕ) (xs : List Live) (ss : List ReqContextView) (cs : List ℕ) (dry : ℕ → Bool) → Opened xs ss cs dry → Opened xs (map (dried c) ss) cs (λ d. (c == d) || dry d)
 dried_opened c xs ss cs dry h = record { homes = h.homes; contexts = same ss ∙ h.contexts; dryness = λ d k. marks d ss (ap (λ l. has l d) h.contexts ∙ k) ∙ ap (λ b. (c == d) || b) (h.dryness d k) }
   where
-    same : (ss : List SeatView) → map seat_ctx (map (dried c) ss) ≡ map seat_ctx ss
+    same : (ss : List ReqContextView) → map seat_ctx (map (dried c) ss) ≡ map seat_ctx ss
     same [] = refl
     same (s ∷ ss) = ap (λ (rest : List ℕ). s.ctx ∷ rest) (same ss)
 
     -- of another context nothing changes
-    other : (d : ℕ) (ss : List SeatView) → (c == d) ≡ false → dry_at d (map (dried c) ss) ≡ dry_at d ss
+    other : (d : ℕ) (ss : List ReqContextView) → (c == d) ≡ false → dry_at d (map (dried c) ss) ≡ dry_at d ss
     other d [] e = refl
     other d (s ∷ ss) e = let k = other d ss e in rw k (go (s.ctx == d) refl (s.ctx == c) refl s.is_dry)
       where
@@ -223,7 +223,7 @@ dried_opened c xs ss cs dry h = record { homes = h.homes; contexts = same ss ∙
         go true f false g false = refl
         go true f true g y = absurd (third s.ctx d c f g e)
 
-    it : (d : ℕ) (ss : List SeatView) → (c == d) ≡ true → has (map seat_ctx ss) d ≡ true → dry_at d (map (dried c) ss) ≡ true
+    it : (d : ℕ) (ss : List ReqContextView) → (c == d) ≡ true → has (map seat_ctx ss) d ≡ true → dry_at d (map (dried c) ss) ≡ true
     it d [] e k = absurd cc
     it d (s ∷ ss) e k = go (s.ctx == d) refl (s.ctx == c) refl s.is_dry k (it d ss e)
       where
@@ -236,21 +236,21 @@ dried_opened c xs ss cs dry h = record { homes = h.homes; contexts = same ss ∙
         go true f true g false k again = refl
         go true f false g y k again = absurd (third s.ctx d c f g e)
 
-    marks : (d : ℕ) (ss : List SeatView) → has (map seat_ctx ss) d ≡ true → dry_at d (map (dried c) ss) ≡ ((c == d) || dry_at d ss)
+    marks : (d : ℕ) (ss : List ReqContextView) → has (map seat_ctx ss) d ≡ true → dry_at d (map (dried c) ss) ≡ ((c == d) || dry_at d ss)
     marks d ss k = go (c == d) refl
       where
         go : (b : Bool) → (c == d) ≡ b → dry_at d (map (dried c) ss) ≡ (b || dry_at d ss)
         go true e = it d ss e k
         go false e = other d ss e
 
-pub wetted_opened : (xs : List Live) (ss : List SeatView) (cs : List ℕ) (dry : ℕ → Bool) → Opened xs ss cs dry → Opened xs (map wetted ss) cs (λ d. false)
+pub wetted_opened : (xs : List Live) (ss : List ReqContextView) (cs : List ℕ) (dry : ℕ → Bool) → Opened xs ss cs dry → Opened xs (map wetted ss) cs (λ d. false)
 wetted_opened xs ss cs dry h = record { homes = h.homes; contexts = same ss ∙ h.contexts; dryness = λ d k. none d ss }
   where
-    same : (ss : List SeatView) → map seat_ctx (map wetted ss) ≡ map seat_ctx ss
+    same : (ss : List ReqContextView) → map seat_ctx (map wetted ss) ≡ map seat_ctx ss
     same [] = refl
     same (s ∷ ss) = ap (λ (rest : List ℕ). s.ctx ∷ rest) (same ss)
 
-    none : (d : ℕ) (ss : List SeatView) → dry_at d (map wetted ss) ≡ false
+    none : (d : ℕ) (ss : List ReqContextView) → dry_at d (map wetted ss) ≡ false
     none d [] = refl
     none d (s ∷ ss) = rw (none d ss) (go (s.ctx == d))
       where
@@ -274,7 +274,7 @@ opened_more m t c l h =
     new : c ≡ opened (past t) + 1
     new = l.turn.0.itself.1
 
-    one : (ss : List SeatView) (d : ℕ) → dry_at d (ss ++ record { ctx = c; is_dry = false } ∷ []) ≡ dry_at d ss
+    one : (ss : List ReqContextView) (d : ℕ) → dry_at d (ss ++ record { ctx = c; is_dry = false } ∷ []) ≡ dry_at d ss
     one [] d = last (c == d)
       where
         last : (b : Bool) → (b && false || false) ≡ false
@@ -282,7 +282,7 @@ opened_more m t c l h =
         last false = refl
     one (s ∷ ss) d = ap (λ b. (s.ctx == d) && s.is_dry || b) (one ss d)
 
-    absent : (ss : List SeatView) (d : ℕ) → has (map seat_ctx ss) d ≡ false → dry_at d ss ≡ false
+    absent : (ss : List ReqContextView) (d : ℕ) → has (map seat_ctx ss) d ≡ false → dry_at d ss ≡ false
     absent [] d k = refl
     absent (s ∷ ss) d k = step (s.ctx == d) s.is_dry k (absent ss d)
       where
@@ -309,7 +309,7 @@ opened_more m t c l h =
         let above : opened (past t) < d = omega (arith, new, is) in
         absent m.seats.items d (ap (λ cs. has cs d) h.4.contexts ∙ e) ∙ sym (next_not_dry t.z (past t) d (lawful_before t (Ctx c Open) l) above)
 
-pub shut_opened : (m : Machine) (t : Moment) (c : ℕ) (ss : List SeatView) → Ties m t → ss ≡ filter (λ (s : SeatView). not (s.ctx == c)) m.seats.items → Opened (without_live c m.live.items) ss (without (ctxs (past t)) c) (λ d. is_dry (past t) d)
+pub shut_opened : (m : Machine) (t : Moment) (c : ℕ) (ss : List ReqContextView) → Ties m t → ss ≡ filter (λ (s : ReqContextView). not (s.ctx == c)) m.seats.items → Opened (without_live c m.live.items) ss (without (ctxs (past t)) c) (λ d. is_dry (past t) d)
 shut_opened m t c ss h e =
     record {
       homes = λ d k. has_still (ctxs (past t)) c d (h.4.homes d (ctx_less c d m.live.items k)) (away d k);
@@ -317,12 +317,12 @@ shut_opened m t c ss h e =
       dryness = λ d k. let q = there (ctxs (past t)) d k in ap (dry_at d) e ∙ stays d m.seats.items q.1 ∙ h.4.dryness d q.0;
     }
   where
-    less : (ss : List SeatView) → map seat_ctx (filter (λ (s : SeatView). not (s.ctx == c)) ss) ≡ without (map seat_ctx ss) c
+    less : (ss : List ReqContextView) → map seat_ctx (filter (λ (s : ReqContextView). not (s.ctx == c)) ss) ≡ without (map seat_ctx ss) c
     less [] = refl
     less (s ∷ ss) = go (s.ctx == c) (less ss)
       where
-        go : (b : Bool) → map seat_ctx (filter (λ (s : SeatView). not (s.ctx == c)) ss) ≡ without (map seat_ctx ss) c
-            → map seat_ctx (cond (not b) (s ∷ filter (λ (s : SeatView). not (s.ctx == c)) ss) (filter (λ (s : SeatView). not (s.ctx == c)) ss)) ≡ cond (not b) (s.ctx ∷ without (map seat_ctx ss) c) (without (map seat_ctx ss) c)
+        go : (b : Bool) → map seat_ctx (filter (λ (s : ReqContextView). not (s.ctx == c)) ss) ≡ without (map seat_ctx ss) c
+            → map seat_ctx (cond (not b) (s ∷ filter (λ (s : ReqContextView). not (s.ctx == c)) ss) (filter (λ (s : ReqContextView). not (s.ctx == c)) ss)) ≡ cond (not b) (s.ctx ∷ without (map seat_ctx ss) c) (without (map seat_ctx ss) c)
         go true k = k
         go false k = ap (λ (rest : List ℕ). s.ctx ∷ rest) k
 
@@ -348,18 +348,18 @@ shut_opened m t c ss h e =
         go false f true g k again = (refl, other x c d f g)
         go false f false g k again = again (sym (ap (λ y. y || has (without cs c) d) g) ∙ k)
 
-    stays : (d : ℕ) (ss : List SeatView) → (d == c) ≡ false → dry_at d (filter (λ (s : SeatView). not (s.ctx == c)) ss) ≡ dry_at d ss
+    stays : (d : ℕ) (ss : List ReqContextView) → (d == c) ≡ false → dry_at d (filter (λ (s : ReqContextView). not (s.ctx == c)) ss) ≡ dry_at d ss
     stays d [] q = refl
     stays d (s ∷ ss) q = go (s.ctx == c) refl (s.ctx == d) refl (stays d ss q)
       where
         third : (l m n : ℕ) → (l == m) ≡ true → (l == n) ≡ true → (n == m) ≡ false → ⊥
         third l m n a b k = grind (arith, nat_tests)
 
-        go : (a : Bool) → (s.ctx == c) ≡ a → (b : Bool) → (s.ctx == d) ≡ b → dry_at d (filter (λ (s : SeatView). not (s.ctx == c)) ss) ≡ dry_at d ss
-            → dry_at d (cond (not a) (s ∷ filter (λ (s : SeatView). not (s.ctx == c)) ss) (filter (λ (s : SeatView). not (s.ctx == c)) ss)) ≡ (b && s.is_dry || dry_at d ss)
+        go : (a : Bool) → (s.ctx == c) ≡ a → (b : Bool) → (s.ctx == d) ≡ b → dry_at d (filter (λ (s : ReqContextView). not (s.ctx == c)) ss) ≡ dry_at d ss
+            → dry_at d (cond (not a) (s ∷ filter (λ (s : ReqContextView). not (s.ctx == c)) ss) (filter (λ (s : ReqContextView). not (s.ctx == c)) ss)) ≡ (b && s.is_dry || dry_at d ss)
         go true f true g k = absurd (third s.ctx c d f g q)
         go true f false g k = k
-        go false f b g k = ap (λ y. y && s.is_dry || dry_at d (filter (λ (s : SeatView). not (s.ctx == c)) ss)) g ∙ ap (λ y. b && s.is_dry || y) k
+        go false f b g k = ap (λ y. y && s.is_dry || dry_at d (filter (λ (s : ReqContextView). not (s.ctx == c)) ss)) g ∙ ap (λ y. b && s.is_dry || y) k
 
 pub shut_asked : (m : Machine) (t : Moment) (c : ℕ) → Lawful (also t (Ctx c Shut)) → Ties m t → Asked m.raw (without_live c m.live.items) m.last_id m.waiting.items (pend (past t)) (requests t.z (Ctx c Shut ∷ past t))
 shut_asked m t c l h = go m.raw refl

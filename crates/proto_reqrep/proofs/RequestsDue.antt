@@ -14,7 +14,7 @@ use Rattle.proto_requests.specs.Hints.{covers, covers_by}
 use Rattle.proto_reqrep.specs.declared.req.Request.{Request as Machine}
 use Rattle.proto_reqrep.specs.declared.req.Live.{Live}
 use Rattle.proto_reqrep.specs.declared.req.KeptReply.{KeptReply}
-use Rattle.proto_reqrep.specs.Seats.{SeatView}
+use Rattle.proto_reqrep.specs.ReqContexts.{ReqContextView}
 use Rattle.proto_reqrep.specs.Dues.{DuesView, AreSeen, StaySeen, StayLate, awaited, is_seen}
 use Rattle.proto_reqrep.specs.Outs.{is_sent}
 use Rattle.proto_reqrep.specs.Reqs.{Ties, Asks, IsSeen, IsDueOn, NotesOut, is_live_on, live_ctx, without_live, sent_at, is_late, is_late_in, due_in, late_in, dry_in, is_due_out, dry_at, dried, wetted}
@@ -168,7 +168,7 @@ tick_late m now o h = go (not (list_any (is_pipe o.pipe) m.ports.items))
 
 -- ---- Contexts
 
-dry_wetted : (d : ℕ) (ss : List SeatView) → dry_at d (map wetted ss) ≡ false
+dry_wetted : (d : ℕ) (ss : List ReqContextView) → dry_at d (map wetted ss) ≡ false
 dry_wetted d [] = refl
 dry_wetted d (s ∷ ss) = ap (λ b. ((s.ctx == d) && false) || b) (dry_wetted d ss) ∙ go (s.ctx == d)
   where
@@ -177,10 +177,10 @@ dry_wetted d (s ∷ ss) = ap (λ b. ((s.ctx == d) && false) || b) (dry_wetted d 
     go false = refl
 
 -- none is dry after a tick
-pub seen_wet : (v : DuesView) (late : LastOut → Bool) (last : ℕ) (ss rs : List SeatView) (xs : List Live) → rs ≡ map wetted ss → AreSeen v late (λ q. false) last xs → AreSeen v late (λ q. dry_at q rs) last xs
+pub seen_wet : (v : DuesView) (late : LastOut → Bool) (last : ℕ) (ss rs : List ReqContextView) (xs : List Live) → rs ≡ map wetted ss → AreSeen v late (λ q. false) last xs → AreSeen v late (λ q. dry_at q rs) last xs
 seen_wet v late last ss rs xs e h = seen_late v late late (λ q. false) (λ q. dry_at q rs) last last xs (λ o k. refl) (λ q. ap (dry_at q) e ∙ dry_wetted q ss) (omega arith) h
 
-dry_opened : (c d : ℕ) (ss : List SeatView) → dry_at d (ss ++ record { ctx = c; is_dry = false } ∷ []) ≡ dry_at d ss
+dry_opened : (c d : ℕ) (ss : List ReqContextView) → dry_at d (ss ++ record { ctx = c; is_dry = false } ∷ []) ≡ dry_at d ss
 dry_opened c d [] = go (c == d)
   where
     go : (b : Bool) → (b && false || false) ≡ false
@@ -188,18 +188,18 @@ dry_opened c d [] = go (c == d)
     go false = refl
 dry_opened c d (s ∷ ss) = ap (λ b. ((s.ctx == d) && s.is_dry) || b) (dry_opened c d ss)
 
-pub seen_opened : (m : Machine) (last c : ℕ) (rs : List SeatView) → rs ≡ m.seats.items ++ record { ctx = c; is_dry = false } ∷ [] → IsSeen m last → AreSeen m.dues (late_in m) (λ q. dry_at q rs) last m.live.items
+pub seen_opened : (m : Machine) (last c : ℕ) (rs : List ReqContextView) → rs ≡ m.seats.items ++ record { ctx = c; is_dry = false } ∷ [] → IsSeen m last → AreSeen m.dues (late_in m) (λ q. dry_at q rs) last m.live.items
 seen_opened m last c rs e h = seen_late m.dues (late_in m) (late_in m) (dry_in m) (λ q. dry_at q rs) last last m.live.items (λ o k. refl) (λ q. ap (dry_at q) e ∙ dry_opened c q m.seats.items) (omega arith) h
 
 -- context 0 of a new req is not dry
-pub none_dry : (q : ℕ) (ss : List SeatView) → ss ≡ record { ctx = 0; is_dry = false } ∷ [] → dry_at q ss ≡ false
+pub none_dry : (q : ℕ) (ss : List ReqContextView) → ss ≡ record { ctx = 0; is_dry = false } ∷ [] → dry_at q ss ≡ false
 none_dry q ss e = ap (dry_at q) e ∙ go (0 == q)
   where
     go : (b : Bool) → (b && false || false) ≡ false
     go true = refl
     go false = refl
 
-dry_shut : (c d : ℕ) (ss : List SeatView) → (d == c) ≡ false → dry_at d (filter (λ (s : SeatView). not (s.ctx == c)) ss) ≡ dry_at d ss
+dry_shut : (c d : ℕ) (ss : List ReqContextView) → (d == c) ≡ false → dry_at d (filter (λ (s : ReqContextView). not (s.ctx == c)) ss) ≡ dry_at d ss
 dry_shut c d [] e = refl
 dry_shut c d (s ∷ ss) e = go (s.ctx == c) refl (dry_shut c d ss e)
   where
@@ -207,11 +207,11 @@ dry_shut c d (s ∷ ss) e = go (s.ctx == c) refl (dry_shut c d ss e)
     other false k q = refl
     other true k q = let same : d ≡ c = sym (equal_of s.ctx d k) ∙ equal_of s.ctx c q in let bad : true ≡ false = sym (same_number c) ∙ sym (ap (λ n. n == c) same) ∙ e in absurd cc
 
-    go : (b : Bool) → (s.ctx == c) ≡ b → dry_at d (filter (λ (s : SeatView). not (s.ctx == c)) ss) ≡ dry_at d ss → dry_at d (cond (not b) (s ∷ filter (λ (s : SeatView). not (s.ctx == c)) ss) (filter (λ (s : SeatView). not (s.ctx == c)) ss)) ≡ ((s.ctx == d) && s.is_dry || dry_at d ss)
+    go : (b : Bool) → (s.ctx == c) ≡ b → dry_at d (filter (λ (s : ReqContextView). not (s.ctx == c)) ss) ≡ dry_at d ss → dry_at d (cond (not b) (s ∷ filter (λ (s : ReqContextView). not (s.ctx == c)) ss) (filter (λ (s : ReqContextView). not (s.ctx == c)) ss)) ≡ ((s.ctx == d) && s.is_dry || dry_at d ss)
     go true q k = k ∙ sym (ap (λ b. b && s.is_dry || dry_at d ss) (other (s.ctx == d) refl q))
     go false q k = ap (λ b. (s.ctx == d) && s.is_dry || b) k
 
-dry_fewer : (c d : ℕ) (ss : List SeatView) → dry_at d (filter (λ (s : SeatView). not (s.ctx == c)) ss) ≡ true → dry_at d ss ≡ true
+dry_fewer : (c d : ℕ) (ss : List ReqContextView) → dry_at d (filter (λ (s : ReqContextView). not (s.ctx == c)) ss) ≡ true → dry_at d ss ≡ true
 dry_fewer c d [] h = h
 dry_fewer c d (s ∷ ss) h = go (s.ctx == c) h (dry_fewer c d ss)
   where
@@ -219,16 +219,16 @@ dry_fewer c d (s ∷ ss) h = go (s.ctx == c) h (dry_fewer c d ss)
     or_right true b h = refl
     or_right false b h = h
 
-    keep : (a : Bool) → (a || dry_at d (filter (λ (s : SeatView). not (s.ctx == c)) ss)) ≡ true → (dry_at d (filter (λ (s : SeatView). not (s.ctx == c)) ss) ≡ true → dry_at d ss ≡ true) → (a || dry_at d ss) ≡ true
+    keep : (a : Bool) → (a || dry_at d (filter (λ (s : ReqContextView). not (s.ctx == c)) ss)) ≡ true → (dry_at d (filter (λ (s : ReqContextView). not (s.ctx == c)) ss) ≡ true → dry_at d ss ≡ true) → (a || dry_at d ss) ≡ true
     keep true h again = refl
     keep false h again = again h
 
-    go : (b : Bool) → dry_at d (cond (not b) (s ∷ filter (λ (s : SeatView). not (s.ctx == c)) ss) (filter (λ (s : SeatView). not (s.ctx == c)) ss)) ≡ true → (dry_at d (filter (λ (s : SeatView). not (s.ctx == c)) ss) ≡ true → dry_at d ss ≡ true) → ((s.ctx == d) && s.is_dry || dry_at d ss) ≡ true
+    go : (b : Bool) → dry_at d (cond (not b) (s ∷ filter (λ (s : ReqContextView). not (s.ctx == c)) ss) (filter (λ (s : ReqContextView). not (s.ctx == c)) ss)) ≡ true → (dry_at d (filter (λ (s : ReqContextView). not (s.ctx == c)) ss) ≡ true → dry_at d ss ≡ true) → ((s.ctx == d) && s.is_dry || dry_at d ss) ≡ true
     go true h again = or_right ((s.ctx == d) && s.is_dry) (dry_at d ss) (again h)
     go false h again = keep ((s.ctx == d) && s.is_dry) h again
 
 -- the context is closed, and no request of it is live any more
-pub seen_shut : (m : Machine) (t : Moment) (last c : ℕ) (xs : List Live) (rs : List SeatView) → Ties m t → rs ≡ filter (λ (s : SeatView). not (s.ctx == c)) m.seats.items → xs ≡ without_live c m.live.items → AreDistinct (map live_ctx xs) → IsSeen m last → AreSeen m.dues (late_in m) (λ q. dry_at q rs) last xs
+pub seen_shut : (m : Machine) (t : Moment) (last c : ℕ) (xs : List Live) (rs : List ReqContextView) → Ties m t → rs ≡ filter (λ (s : ReqContextView). not (s.ctx == c)) m.seats.items → xs ≡ without_live c m.live.items → AreDistinct (map live_ctx xs) → IsSeen m last → AreSeen m.dues (late_in m) (λ q. dry_at q rs) last xs
 seen_shut m t last c xs rs h e f a s =
     let less = seen_less m.dues (late_in m) (dry_in m) last (is_live_on c) m.live.items xs f s in
     seen_live m.dues m.dues (late_in m) (late_in m) (dry_in m) (λ q. dry_at q rs) last last xs a (λ q k. less.1 q (dry_fewer c q m.seats.items (sym (ap (dry_at q) e) ∙ k)))
@@ -246,10 +246,10 @@ seen_shut m t last c xs rs h e f a s =
     other q o z true g = let bad : None ≡ Some o = sym (none xs gone) ∙ ap (λ n. awaited (find (is_live_on n) xs)) (sym (equal_of q c g)) ∙ z in absurd cc
 
 -- a context is dry
-pub dry_others : (c q : ℕ) (ss rs : List SeatView) → rs ≡ map (dried c) ss → (q == c) ≡ false → dry_at q rs ≡ dry_at q ss
+pub dry_others : (c q : ℕ) (ss rs : List ReqContextView) → rs ≡ map (dried c) ss → (q == c) ≡ false → dry_at q rs ≡ dry_at q ss
 dry_others c q ss rs e n = ap (dry_at q) e ∙ go ss
   where
-    other : (s : SeatView) (b : Bool) → (s.ctx == q) ≡ b → (b && (s.is_dry || (s.ctx == c))) ≡ (b && s.is_dry)
+    other : (s : ReqContextView) (b : Bool) → (s.ctx == q) ≡ b → (b && (s.is_dry || (s.ctx == c))) ≡ (b && s.is_dry)
     other s false k = refl
     other s true k = ap (λ b. s.is_dry || b) (ap (λ n. n == c) (equal_of s.ctx q k) ∙ n) ∙ end s.is_dry
       where
@@ -257,11 +257,11 @@ dry_others c q ss rs e n = ap (dry_at q) e ∙ go ss
         end true = refl
         end false = refl
 
-    go : (ss : List SeatView) → dry_at q (map (dried c) ss) ≡ dry_at q ss
+    go : (ss : List ReqContextView) → dry_at q (map (dried c) ss) ≡ dry_at q ss
     go [] = refl
     go (s ∷ ss) = ap (λ b. b || dry_at q (map (dried c) ss)) (other s (s.ctx == q) refl) ∙ ap (λ b. ((s.ctx == q) && s.is_dry) || b) (go ss)
 
-pub dry_itself : (c : ℕ) (ss rs : List SeatView) → rs ≡ map (dried c) ss → dry_at c ss ≡ true → dry_at c rs ≡ true
+pub dry_itself : (c : ℕ) (ss rs : List ReqContextView) → rs ≡ map (dried c) ss → dry_at c ss ≡ true → dry_at c rs ≡ true
 dry_itself c ss rs e k = ap (dry_at c) e ∙ dry_more c c ss k
 
 -- ---- Requests

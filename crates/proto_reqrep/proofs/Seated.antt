@@ -12,7 +12,7 @@ use Rattle.std.proofs.lemmas.Bool.Decides.{nat_tests}
 use Rattle.std.proofs.lemmas.Map.Keys.{sorted_head, sorted_tail}
 use Rattle.proto_requests.proofs.NumberedEntries.{at_is, behind, with_all}
 use Rattle.proto_requests.proofs.TestValues.{equal_of, same_number, or_true}
-use Rattle.proto_reqrep.specs.Seats.{SeatView, SeatsView, seat_in, AreUpTo, AreSeated}
+use Rattle.proto_reqrep.specs.ReqContexts.{ReqContextView, ReqContextsView, seat_in, AreUpTo, AreSeated}
 use Rattle.proto_reqrep.specs.Reqs.{dry_at, dried, wetted}
 
 or_false : (b : Bool) → (b || false) ≡ b
@@ -22,7 +22,7 @@ or_false false = refl
 below : (m n : ℕ) → m < n → (m == n) ≡ false
 below m n h = grind (arith, nat_tests)
 
-abbrev seat : ℕ → Bool → SeatView
+abbrev seat : ℕ → Bool → ReqContextView
 seat c b = record { ctx = c; is_dry = b }
 
 pair : {A : Type 0} {x y : A} {xs ys : List A} → x ≡ y → xs ≡ ys → x ∷ xs ≡ y ∷ ys
@@ -119,13 +119,13 @@ anew_seated es = record { ticks = ticks_anew es; begun = omega arith }
 
 pub anew_view : (tick : ℕ) (es : List (ℕ × ℕ)) → map (seat_in 1) (with_all 0 es) ≡ map wetted (map (seat_in tick) es)
 anew_view tick [] = refl
-anew_view tick (e ∷ es) = ap (λ (rest : List SeatView). seat e.0 false ∷ rest) (anew_view tick es)
+anew_view tick (e ∷ es) = ap (λ (rest : List ReqContextView). seat e.0 false ∷ rest) (anew_view tick es)
 
 -- ---- One more, and one less
 
 pub more_view : (tick c : ℕ) (es : List (ℕ × ℕ)) → 1 ≤ tick → map (seat_in tick) (es ++ (c, 0) ∷ []) ≡ map (seat_in tick) es ++ record { ctx = c; is_dry = false } ∷ []
 more_view tick c [] l = ap (λ (b : Bool). seat c b ∷ []) (below 0 tick (omega (arith, l)))
-more_view tick c (e ∷ es) l = ap (λ (rest : List SeatView). seat_in tick e ∷ rest) (more_view tick c es l)
+more_view tick c (e ∷ es) l = ap (λ (rest : List ReqContextView). seat_in tick e ∷ rest) (more_view tick c es l)
 
 ticks_more : (tick c : ℕ) (es : List (ℕ × ℕ)) → AreUpTo tick es → AreUpTo tick (insert_entry nat_cmp es c 0)
 ticks_more tick c [] h = (omega arith, tt)
@@ -152,12 +152,12 @@ less_seated P tick es h = record { ticks = ticks_less P tick es h.ticks; begun =
 
 -- ---- The seats as they are seen, where n is the context's number
 
-abbrev pub seen : ℕ → List (ℕ × ℕ) → SeatsView
+abbrev pub seen : ℕ → List (ℕ × ℕ) → ReqContextsView
 seen tick es = record { items = map (seat_in tick) es }
 
-module _ (n c tick : ℕ) (v : SeatsView) (es : List (ℕ × ℕ)) (same : n ≡ c) (e : seen tick es ≡ v) where
+module _ (n c tick : ℕ) (v : ReqContextsView) (es : List (ℕ × ℕ)) (same : n ≡ c) (e : seen tick es ≡ v) where
   pub dry_is : IsStrictlySortedBy nat_cmp (keys_of es) → (o : Option ℕ) → lookup (is_at (nat_cmp n)) es ≡ o → dry_found tick o ≡ dry_at c v.items
-  dry_is o r h = ap (dry_found tick) (sym h) ∙ dry_seen tick n es o ∙ ap (λ (u : SeatsView). dry_at n u.items) e ∙ ap (λ (m : ℕ). dry_at m v.items) same
+  dry_is o r h = ap (dry_found tick) (sym h) ∙ dry_seen tick n es o ∙ ap (λ (u : ReqContextsView). dry_at n u.items) e ∙ ap (λ (m : ℕ). dry_at m v.items) same
 
   pub dried_view : (fs : List (ℕ × ℕ)) → map (seat_in tick) fs ≡ map (dried n) (map (seat_in tick) es) → map (seat_in tick) fs ≡ map (dried c) v.items
-  dried_view fs h = h ∙ ap (λ (u : SeatsView). map (dried n) u.items) e ∙ ap (λ (m : ℕ). map (dried m) v.items) same
+  dried_view fs h = h ∙ ap (λ (u : ReqContextsView). map (dried n) u.items) e ∙ ap (λ (m : ℕ). map (dried m) v.items) same

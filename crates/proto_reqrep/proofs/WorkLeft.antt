@@ -9,7 +9,7 @@ use Rattle.proto_requests.specs.Ports.{PortView, is_pipe, port_of}
 use Rattle.proto_reqrep.specs.declared.req.Live.{Live}
 use Rattle.proto_reqrep.specs.declared.req.Asking.{Asking}
 use Rattle.std.proofs.lemmas.List.{length-map}
-use Rattle.proto_reqrep.specs.Seats.{SeatView}
+use Rattle.proto_reqrep.specs.ReqContexts.{ReqContextView}
 use Rattle.proto_reqrep.specs.Reqs.{is_live_on, without_live, sent_at, is_late_in, is_due, due_count, dry_at, dried}
 use Rattle.proto_requests.specs.FirstFound.{without_found, with_found}
 
@@ -143,7 +143,7 @@ count_narrowed due now c (x ∷ xs) y h d k n = go (x.ctx == c) refl h (λ q. co
 -- ---- What is due
 
 -- what went out now on a pipe that is up is not due
-pub not_due : (resend t p : ℕ) (ps : List PortView) (ss : List SeatView) (x : Live) → 1 ≤ resend → list_any (is_pipe p) ps ≡ true → is_due resend t ps ss (sent_at (record { pipe = p; when = t }) x) ≡ false
+pub not_due : (resend t p : ℕ) (ps : List PortView) (ss : List ReqContextView) (x : Live) → 1 ≤ resend → list_any (is_pipe p) ps ≡ true → is_due resend t ps ss (sent_at (record { pipe = p; when = t }) x) ≡ false
 not_due resend t p ps ss x h u = rw (u, later t resend h) (never (is_some x.reply))
   where
     later : (m n : ℕ) → 1 ≤ n → nat_le (m + n) m ≡ false
@@ -153,7 +153,7 @@ not_due resend t p ps ss x h u = rw (u, later t resend h) (never (is_some x.repl
     never true = refl
     never false = refl
 
-pub dry_not_due : (resend t c : ℕ) (ps : List PortView) (ss : List SeatView) (x : Live) → x.ctx ≡ c → dry_at c ss ≡ true → is_due resend t ps ss x ≡ false
+pub dry_not_due : (resend t c : ℕ) (ps : List PortView) (ss : List ReqContextView) (x : Live) → x.ctx ≡ c → dry_at c ss ≡ true → is_due resend t ps ss x ≡ false
 dry_not_due resend t c ps ss x e d = rw (e, d) (never (is_some x.reply) (is_late_in resend t ps x.last_out))
   where
     never : (a b : Bool) → (not a && (b && false)) ≡ false
@@ -168,7 +168,7 @@ up_is full (u ∷ us) p = ap (λ b. (u == p) || b) (up_is full us p)
 
 -- ---- Dry contexts
 
-pub dry_more : (c d : ℕ) (ss : List SeatView) → dry_at d ss ≡ true → dry_at d (map (dried c) ss) ≡ true
+pub dry_more : (c d : ℕ) (ss : List ReqContextView) → dry_at d ss ≡ true → dry_at d (map (dried c) ss) ≡ true
 dry_more c d [] h = h
 dry_more c d (s ∷ ss) h = go (s.ctx == d) s.is_dry (s.ctx == c) h (dry_more c d ss)
   where
@@ -178,7 +178,7 @@ dry_more c d (s ∷ ss) h = go (s.ctx == d) s.is_dry (s.ctx == c) h (dry_more c 
     go true false false h again = again h
     go false b e h again = again h
 
-pub due_before : (resend t c : ℕ) (ps : List PortView) (ss : List SeatView) (x : Live) → is_due resend t ps (map (dried c) ss) x ≡ true → is_due resend t ps ss x ≡ true
+pub due_before : (resend t c : ℕ) (ps : List PortView) (ss : List ReqContextView) (x : Live) → is_due resend t ps (map (dried c) ss) x ≡ true → is_due resend t ps ss x ≡ true
 due_before resend t c ps ss x h = go (dry_at x.ctx ss) refl (is_some x.reply) (is_late_in resend t ps x.last_out) h
   where
     go : (d : Bool) → dry_at x.ctx ss ≡ d → (a b : Bool) → (not a && (b && not (dry_at x.ctx (map (dried c) ss)))) ≡ true → (not a && (b && not d)) ≡ true

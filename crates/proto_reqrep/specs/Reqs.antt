@@ -36,7 +36,7 @@ use Rattle.proto_reqrep.specs.declared.req.Request.{Request as Machine}
 use Rattle.proto_reqrep.specs.declared.req.Live.{Live}
 use Rattle.proto_reqrep.specs.declared.req.KeptReply.{KeptReply}
 use Rattle.proto_reqrep.specs.declared.req.Asking.{Asking}
-use Rattle.proto_reqrep.specs.Seats.{SeatView}
+use Rattle.proto_reqrep.specs.ReqContexts.{ReqContextView}
 use Rattle.proto_requests.specs.FirstFound.{without_found, with_found}
 use Rattle.proto_requests.specs.Ids.{number_after, raw_item}
 
@@ -45,17 +45,17 @@ req_kind raw options = record { role = role.Req; raw = raw; options = options }
 
 -- ---- Contexts
 
-abbrev pub seat_ctx : SeatView → ℕ
+abbrev pub seat_ctx : ReqContextView → ℕ
 seat_ctx s = s.ctx
 
 -- a copy for the context found no memory
-abbrev pub dry_at : ℕ → List SeatView → Bool
-dry_at c xs = list_any (λ (s : SeatView). (s.ctx == c) && s.is_dry) xs
+abbrev pub dry_at : ℕ → List ReqContextView → Bool
+dry_at c xs = list_any (λ (s : ReqContextView). (s.ctx == c) && s.is_dry) xs
 
-abbrev pub dried : ℕ → SeatView → SeatView
+abbrev pub dried : ℕ → ReqContextView → ReqContextView
 dried c s = record { ctx = s.ctx; is_dry = s.is_dry || (s.ctx == c) }
 
-abbrev pub wetted : SeatView → SeatView
+abbrev pub wetted : ReqContextView → ReqContextView
 wetted s = record { ctx = s.ctx; is_dry = false }
 
 -- ---- Operations
@@ -175,7 +175,7 @@ is_late_in resend t ps None = false
 is_late_in resend t ps (Some o) = is_late resend t ps o
 
 -- the live request may go out again
-abbrev pub is_due : ℕ → ℕ → List PortView → List SeatView → Live → Bool
+abbrev pub is_due : ℕ → ℕ → List PortView → List ReqContextView → Live → Bool
 is_due resend t ps ss x = not (is_some x.reply) && (is_late_in resend t ps x.last_out && not (dry_at x.ctx ss))
 
 -- a receive for which a reply is kept
@@ -402,7 +402,7 @@ pub record Asked (raw : Bool) (xs : List Live) (id : Option ℕ) (ws : List Aski
   pub owned : raw ≡ false → HaveLive xs ws
 
 -- the open contexts, those of the live requests among them, and which are dry
-pub record Opened (xs : List Live) (seats : List SeatView) (cs : List ℕ) (dry : ℕ → Bool) : Type 0 where
+pub record Opened (xs : List Live) (seats : List ReqContextView) (cs : List ℕ) (dry : ℕ → Bool) : Type 0 where
   pub homes : (c : ℕ) → has (map live_ctx xs) c ≡ true → has cs c ≡ true
   pub contexts : map seat_ctx seats ≡ cs
   pub dryness : (c : ℕ) → has cs c ≡ true → dry_at c seats ≡ dry c

@@ -1,12 +1,12 @@
 //! Which live requests are looked at because they may be due.
 //!
-//! What went out is found in the order of its time and by its pipe (`outs`), so a tick and a pipe that goes down take out
-//! only what they look at. Once its time has come, or its pipe is down, its context is looked at before the next request
-//! goes out again. A context for which a copy found no memory is looked at again after the next tick. What is left of
-//! requests that ended is dropped by a pass over all that went out, once these are some twice the live requests and more;
-//! after it they are no more than those. The contexts that may be due give way to those of all live requests, once
-//! they are more than some twice the spots of these (`lives`), so that a pass over the spots costs no more than what it
-//! drops.
+//! What went out is found in the order of its time and by its pipe (`outs`), so a tick and a pipe that goes down take
+//! out only what they look at. Once its time has come, or its pipe is down, its context is looked at before the next
+//! request goes out again. A context for which a copy found no memory is looked at again after the next tick. What is
+//! left of requests that ended is dropped by a pass over all that went out, once these are some twice the live requests
+//! and more; after it they are no more than those. The contexts that may be due give way to those of all live requests,
+//! once they are more than some twice the spots of these (`lives`), so that a pass over the spots costs no more than
+//! what it drops.
 ghost use Rattle.std.specs.Prelude.{◌≡◌, ◌==◌, ◌+◌, ℕ, List, [], true, false, nat_le, drop};
 ghost use Rattle.std.specs.List.{list_any};
 ghost use Rattle.sp_history.specs.Lists.{head_of};

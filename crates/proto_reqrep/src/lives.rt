@@ -1,10 +1,10 @@
 //! The requests that are live.
 //!
 //! They stand in the order of their begins, each at a spot that it leaves behind when it ends, so that none of the
-//! others moves; where no room is left and nothing stands at half of the spots, the others are closed up. By its context
-//! and by its id the number of its spot is known, and by that its spot is found by halving, where it is then looked at.
-//! One that isn't there is not known, either, and whether one waits for a reply is seen at its spot. The calls here
-//! search through them only once a number wasn't kept, which is rare (`Numbers::put` says when).
+//! others moves; where no room is left and nothing stands at half of the spots, the others are closed up. By its
+//! context and by its id the number of its spot is known, and by that its spot is found by halving, where it is then
+//! looked at. One that isn't there is not known, either, and whether one waits for a reply is seen at its spot. The
+//! calls here search through them only once a number wasn't kept, which is rare (`Numbers::put` says when).
 ghost use Rattle.std.specs.Prelude.{◌≡◌, ◌≤◌, ◌<◌, ◌+◌, ◌-◌, ◌==◌, ◌++◌, ◌∷◌, ℕ, Bool, [], Some, None, true, false, if◌then◌else◌, find, map, length, is_some, OnOk, IfSome};
 ghost use Rattle.std.specs.List.{position, list_any};
 ghost use Rattle.std.specs.Option.{option_map};
@@ -26,7 +26,7 @@ use sp_msg::Message;
 use std::alloc::Global;
 use std::marker::Model;
 
-/// The requests that are live.
+/// The requests (nng_req(7)) that are live.
 #[derive(Drop)]
 pub struct Lives {
     /// In the order of their begins.

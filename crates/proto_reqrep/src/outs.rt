@@ -1,7 +1,8 @@
 //! What went out, in two orders.
 //!
-//! The entries stand in a set in the order of their time, and in another by their pipes. So what went out first, and what
-//! went out on a pipe, is found and taken out by a logarithm of how many there are. Two that are alike are one entry.
+//! The entries stand in a set in the order of their time, and in another by their pipes. So what went out first, and
+//! what went out on a pipe, is found and taken out by a logarithm of how many there are. Two that are alike are one
+//! entry.
 ghost use Rattle.std.specs.Prelude.{◌≡◌, [], true, false, drop, length, map, IfNone, IfSome, OnOk};
 ghost use Rattle.std.specs.List.{filter, list_any};
 ghost use Rattle.sp_history.specs.Lists.{head_of};
@@ -23,8 +24,8 @@ pub struct SentOut {
     pub when: Tick,
 }
 
-/// What went out. An `add`, a `drop_first` and a `pop_on` cost a logarithm of how many they are. Where an `add` found no
-/// memory they are not all among these, until a `clear`.
+/// What went out. An `add`, a `drop_first` and a `pop_on` cost a logarithm of how many they are. Where an `add` found
+/// no memory they are not all among these, until a `clear`.
 #[derive(Drop)]
 pub struct Outs {
     /// When, on which pipe and for which context.

@@ -20,7 +20,7 @@ ghost use Rattle.proto_requests.specs.Ids.{number_after};
 
 use crate::dues::Dues;
 use crate::lives::Lives;
-use crate::seats::Seats;
+use crate::req_contexts::ReqContexts;
 use proto_requests::backlog::{Backlog, FromPipe};
 use proto_requests::hints::Hints;
 use proto_requests::ports::Ports;
@@ -52,7 +52,7 @@ impl FromPipe for KeptReply {
     }
 }
 
-/// A live request.
+/// A live request (nng_req(7)).
 #[derive(Drop)]
 pub struct Live {
     pub ctx: Ctx,
@@ -138,7 +138,7 @@ pub struct Request {
     /// The contexts that have both a receive and a reply are among these.
     pub(crate) ready: Hints<u32>,
     /// Of the open contexts.
-    pub(crate) seats: Seats,
+    pub(crate) seats: ReqContexts,
 }
 
 // ---- Operations
@@ -308,7 +308,7 @@ impl Request {
         requires { Fits options }
         ensures { IfOk result (λ m. Starts Ties m (req_kind raw options)) }
     {
-        match Seats::new(alloc) {
+        match ReqContexts::new(alloc) {
             Err(e) => Err(e),
             Ok(seats) => Ok(Request {
                 raw,

@@ -36,8 +36,8 @@ module _ {A : Type 0} (pipe : A → ℕ) where
   distinct_more (y ∷ xs) x h none =
       let apart = both_false (pipe y == pipe x) (list_any (is_of pipe (pipe x)) xs) none in
       let last : (pipe x == pipe y) ≡ false = turned (pipe y) (pipe x) false apart.0 in
-      let front : list_any (is_of pipe (pipe y)) xs ≡ false = sym (any_has xs (pipe y)) ∙ h.0 in (
-        any_has (xs ++ x ∷ []) (pipe y) ∙ list_any-append (is_of pipe (pipe y)) xs (x ∷ []) ∙ ap (λ b. b || ((pipe x == pipe y) || false)) front ∙ ap (λ b. b || false) last,
+      let prefix : list_any (is_of pipe (pipe y)) xs ≡ false = sym (any_has xs (pipe y)) ∙ h.0 in (
+        any_has (xs ++ x ∷ []) (pipe y) ∙ list_any-append (is_of pipe (pipe y)) xs (x ∷ []) ∙ ap (λ b. b || ((pipe x == pipe y) || false)) prefix ∙ ap (λ b. b || false) last,
         distinct_more xs x h.1 apart.1,
       )
 

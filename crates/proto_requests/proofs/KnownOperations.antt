@@ -298,10 +298,10 @@ module _ {A : Type 0} where
   length_left home left c (s ∷ ss) = let k = length_left home left c ss in omega (arith, k)
 
   module _ (P : A → Bool) where
-    front : (n : ℕ) (ss : List (Spot A)) (s : Spot A) → n ≤ length ss → list_any (holds P) (take n ss) ≡ false → list_any (holds P) (take n (ss ++ s ∷ [])) ≡ false
-    front zero ss s l h = refl
-    front (suc n) [] s l h = absurd (omega (arith, l))
-    front (suc n) (r ∷ ss) s l h = let b = both_false (holds P r) (list_any (holds P) (take n ss)) h in ap (λ v. v || list_any (holds P) (take n (ss ++ s ∷ []))) b.0 ∙ front n ss s (omega (arith, l)) b.1
+    prefix : (n : ℕ) (ss : List (Spot A)) (s : Spot A) → n ≤ length ss → list_any (holds P) (take n ss) ≡ false → list_any (holds P) (take n (ss ++ s ∷ [])) ≡ false
+    prefix zero ss s l h = refl
+    prefix (suc n) [] s l h = absurd (omega (arith, l))
+    prefix (suc n) (r ∷ ss) s l h = let b = both_false (holds P r) (list_any (holds P) (take n ss)) h in ap (λ v. v || list_any (holds P) (take n (ss ++ s ∷ []))) b.0 ∙ prefix n ss s (omega (arith, l)) b.1
 
     -- one more stands behind them
     pub mark_more : (moved : Bool) (from : ℕ) (ss ts ys : List (Spot A)) (s : Spot A) → (moved ≡ false → ts ≡ ss) → ys ≡ ts ++ s ∷ [] → IsMark P from ss → IsMark P (stays moved from) ys
@@ -310,7 +310,7 @@ module _ {A : Type 0} where
         let it : ys ≡ ss ++ s ∷ [] = e ∙ ap (λ (l : List (Spot A)). l ++ s ∷ []) (f refl) in
         let long = longer ss s in
         let bound = h.bound in
-        rw it (record { bound = omega (arith, long, bound); none = front from ss s h.bound h.none })
+        rw it (record { bound = omega (arith, long, bound); none = prefix from ss s h.bound h.none })
 
     -- they are closed up, or stay
     pub mark_kept : (moved : Bool) (from k : ℕ) (ss us : List (Spot A)) → k ≡ stays moved from → (moved ≡ false → us ≡ ss) → IsMark P from ss → IsMark P k us

@@ -185,15 +185,15 @@ module _ {A : Type 0} (P : A → Bool) (f : A → A) where
   changed_there ss i d h = let at = position-Some (holds P) ss i d h in changes ss i d at.0 at.1 at.2
 
 -- as many stand before a spot
-pub front_same : {A : Type 0} (f : A → A) (n : ℕ) (ss : List (Spot A)) (i : ℕ) (d : Spot A) → length (held (take n (slice_set ss i (changed f (slice_index_or ss i d))))) ≡ length (held (take n ss))
-front_same {A} f zero ss i d = refl
-front_same {A} f (suc n) [] i d = refl
-front_same {A} f (suc n) (s ∷ ss) zero d = go s.value
+pub prefix_same : {A : Type 0} (f : A → A) (n : ℕ) (ss : List (Spot A)) (i : ℕ) (d : Spot A) → length (held (take n (slice_set ss i (changed f (slice_index_or ss i d))))) ≡ length (held (take n ss))
+prefix_same {A} f zero ss i d = refl
+prefix_same {A} f (suc n) [] i d = refl
+prefix_same {A} f (suc n) (s ∷ ss) zero d = go s.value
   where
     go : (v : Option A) → length (with_value (option_map f v) (held (take n ss))) ≡ length (with_value v (held (take n ss)))
     go None = refl
     go (Some x) = refl
-front_same {A} f (suc n) (s ∷ ss) (suc i) d = go s.value (front_same f n ss i d)
+prefix_same {A} f (suc n) (s ∷ ss) (suc i) d = go s.value (prefix_same f n ss i d)
   where
     go : (v : Option A) → length (held (take n (slice_set ss i (changed f (slice_index_or ss i d))))) ≡ length (held (take n ss)) → length (with_value v (held (take n (slice_set ss i (changed f (slice_index_or ss i d)))))) ≡ length (with_value v (held (take n ss)))
     go None h = h
@@ -202,10 +202,10 @@ front_same {A} f (suc n) (s ∷ ss) (suc i) d = go s.value (front_same f n ss i 
 -- ---- Those before a spot, and the others
 
 module _ {A : Type 0} where
-  pub front_is : (n : ℕ) (ss : List (Spot A)) → take (length (held (take n ss))) (held ss) ≡ held (take n ss)
-  front_is zero ss = refl
-  front_is (suc n) [] = refl
-  front_is (suc n) (s ∷ ss) = go s.value (front_is n ss)
+  pub prefix_is : (n : ℕ) (ss : List (Spot A)) → take (length (held (take n ss))) (held ss) ≡ held (take n ss)
+  prefix_is zero ss = refl
+  prefix_is (suc n) [] = refl
+  prefix_is (suc n) (s ∷ ss) = go s.value (prefix_is n ss)
     where
       go : (v : Option A) → take (length (held (take n ss))) (held ss) ≡ held (take n ss) → take (length (with_value v (held (take n ss)))) (with_value v (held ss)) ≡ with_value v (held (take n ss))
       go None h = h
@@ -222,7 +222,7 @@ module _ {A : Type 0} where
 
   -- none of those before the spot passes the test
   pub none_before_is : (P : A → Bool) (n : ℕ) (ss : List (Spot A)) → list_any P (take (length (held (take n ss))) (held ss)) ≡ list_any (holds P) (take n ss)
-  none_before_is P n ss = ap (list_any P) (front_is n ss) ∙ sym (any_held P (take n ss))
+  none_before_is P n ss = ap (list_any P) (prefix_is n ss) ∙ sym (any_held P (take n ss))
 
   pub find_past : (P : A → Bool) (n : ℕ) (xs : List A) → list_any P (take n xs) ≡ false → find P xs ≡ find P (drop n xs)
   find_past P zero xs h = refl

@@ -2,9 +2,9 @@
 //!
 //! `ports` has the pipes that are up, and which of them were found full in this turn. `backlog` has what is kept of the
 //! pipes, one of each. `waits` has the operations that wait, at `spots` that they leave behind when they end; `numbers`
-//! finds them. `hints` has what is worth a look, the oldest first: contexts, or operations whose requests have ended; where
-//! it had no room for one, all are looked at. `trail` has the words of a backtrace, and `specs/Ids` the ids of requests and
-//! surveys.
+//! finds them. `hints` has what is worth a look, the oldest first: contexts, or operations whose requests have ended;
+//! where it had no room for one, all are looked at. `trail` has the words of a backtrace, and `specs/Ids` the ids of
+//! requests and surveys.
 //!
 //! Each part is seen by contracts as a list or a set, whatever it remembers to find things fast. To read: `specs/Waits`
 //! and `specs/Ports`, then the part's calls.

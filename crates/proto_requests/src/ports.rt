@@ -2,8 +2,8 @@
 //!
 //! They are held in the order of their numbers, in a map: to look one up, to add one or to take one out costs the
 //! logarithm of how many they are. Each has the number of the turn in which it was last found full, so that a new turn
-//! writes nothing to them. Every stretch of full ones that was passed over is remembered, by the number from which it was
-//! looked at, until the turn ends or one more comes up: no search from there looks at them again.
+//! writes nothing to them. Every stretch of full ones that was passed over is remembered, by the number from which it
+//! was looked at, until the turn ends or one more comes up: no search from there looks at them again.
 ghost use Rattle.std.specs.Prelude.{◌≡◌, ◌++◌, ◌∷◌, [], OnOk, OnErr, not, map, filter, find};
 ghost use Rattle.std.specs.List.{list_any, list_all};
 ghost use Rattle.std.specs.Option.{option_map};

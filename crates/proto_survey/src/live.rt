@@ -9,7 +9,7 @@ use std::alloc::Global;
 use std::collections::VecDeque;
 use std::marker::Model;
 
-/// A survey that is live.
+/// A survey (nng_surveyor(7)) that is live.
 #[derive(Drop)]
 pub struct LiveSurvey {
     ctx: Ctx,

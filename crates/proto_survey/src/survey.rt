@@ -161,8 +161,8 @@ fn id_place(live: &[LiveSurvey], id: u32) -> Option<usize>
     live.iter().position(|x| x.has_id(id))
 }
 
-// Keeps the response for the survey that has this id, if there is one and it keeps fewer than so many. Returns false where
-// that found no memory; then all is as before.
+// Keeps the response for the survey that has this id, if there is one and it keeps fewer than so many. Returns false
+// where that found no memory; then all is as before.
 fn keep(live: &mut [LiveSurvey], id: u32, most: u32, m: Message) -> bool
     ensures { KeepsReply result id most m live.old live.new }
 {

@@ -1,4 +1,4 @@
-use Rattle.proto_pubsub.specs.Seats.{emptied}
+use Rattle.proto_pubsub.specs.SubContexts.{emptied}
 use Rattle.proto_pubsub.proofs.SubContexts.{written}
 use Rattle.proto_pubsub.proofs.subscribe.clear.Goals as goal
 

@@ -1,5 +1,5 @@
 use Rattle.std.proofs.Common.{◌≡◌, ◌++◌, map, take, drop}
-use Rattle.proto_pubsub.specs.Seats.{emptied}
+use Rattle.proto_pubsub.specs.SubContexts.{emptied}
 use Rattle.proto_pubsub.proofs.subscribe.clear.Given as goal
 
 abbrev pub invariant-loop-seat : goal.invariant-loop-seat

@@ -1,5 +1,5 @@
 use Rattle.std.proofs.Common.{◌∙◌, sym, ap}
-use Rattle.proto_pubsub.specs.Seats.{is_home, given_from, first_in}
+use Rattle.proto_pubsub.specs.SubContexts.{is_home, given_from, first_in}
 use Rattle.proto_pubsub.proofs.SubContexts.{found_at, not_found, with_at, with_none}
 use Rattle.proto_pubsub.proofs.subscribe.give.Goals as goal
 

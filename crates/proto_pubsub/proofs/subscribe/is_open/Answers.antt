@@ -1,6 +1,6 @@
 use Rattle.std.proofs.Common.{◌∙◌, ap}
 use Rattle.std.specs.Prelude.{is_some}
-use Rattle.proto_pubsub.specs.Seats.{is_home}
+use Rattle.proto_pubsub.specs.SubContexts.{is_home}
 use Rattle.proto_pubsub.proofs.ContextsByNumber.{some_place}
 use Rattle.proto_pubsub.proofs.subscribe.is_open.Goals as goal
 

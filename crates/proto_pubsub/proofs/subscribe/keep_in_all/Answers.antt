@@ -1,5 +1,5 @@
 use Rattle.std.proofs.Common.{refl, arith}
-use Rattle.proto_pubsub.specs.Seats.{kept_in}
+use Rattle.proto_pubsub.specs.SubContexts.{kept_in}
 use Rattle.proto_pubsub.proofs.SubContexts.{last_written}
 use Rattle.proto_pubsub.proofs.subscribe.keep_in_all.Goals as goal
 

@@ -1,6 +1,6 @@
 use Rattle.std.proofs.Common.{◌≡◌, ◌∙◌, sym, ap, rules, slice_index_or}
 use Rattle.std.specs.Prelude.{not}
-use Rattle.proto_pubsub.specs.Seats.{SeatView, is_home}
+use Rattle.proto_pubsub.specs.SubContexts.{SubContextView, is_home}
 use Rattle.sp_history.specs.Lists.{is_nil}
 use Rattle.proto_pubsub.specs.Subs.{is_kept}
 use Rattle.proto_pubsub.proofs.SubContexts.{found_at, not_found}
@@ -12,4 +12,4 @@ returns-in-None c = λ o. sym (ap is_kept (not_found (is_home c.args.c) c.args.s
 pub returns-in-Some : goal.returns-in-Some
 returns-in-Some c = λ o.
     let at : c.index-seats-i.result ≡ slice_index_or c.args.seats.now c.in-Some.i c.index-seats-i.result = search rules in
-    ap not c.is_empty.ensures ∙ ap (λ (x : SeatView). not (is_nil x.kept)) at ∙ sym (ap is_kept (found_at (is_home c.args.c) c.args.seats.now c.in-Some.i c.index-seats-i.result (sym (c.in-Some.ensures.place o))))
+    ap not c.is_empty.ensures ∙ ap (λ (x : SubContextView). not (is_nil x.kept)) at ∙ sym (ap is_kept (found_at (is_home c.args.c) c.args.seats.now c.in-Some.i c.index-seats-i.result (sym (c.in-Some.ensures.place o))))

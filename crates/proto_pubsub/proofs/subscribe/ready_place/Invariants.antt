@@ -1,6 +1,6 @@
 use Rattle.std.proofs.Common.{◌≡◌, false, take}
 use Rattle.std.specs.List.{list_any}
-use Rattle.proto_pubsub.specs.Seats.{InOrder}
+use Rattle.proto_pubsub.specs.SubContexts.{InOrder}
 use Rattle.proto_pubsub.specs.Subs.{NoneBefore, is_ready}
 use Rattle.proto_pubsub.proofs.subscribe.ready_place.Given as goal
 

@@ -1,5 +1,5 @@
 use Rattle.std.proofs.Common.{◌∙◌, ap, arith, length}
-use Rattle.proto_pubsub.specs.Seats.{is_home}
+use Rattle.proto_pubsub.specs.SubContexts.{is_home}
 use Rattle.proto_pubsub.proofs.SubContexts.{not_found}
 use Rattle.proto_pubsub.proofs.ContextsByNumber.{here, shut_none, shut_at}
 use Rattle.proto_pubsub.proofs.subscribe.shut.Goals as goal

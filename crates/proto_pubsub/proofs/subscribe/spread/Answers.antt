@@ -1,5 +1,5 @@
 use Rattle.std.proofs.Common.{◌≡◌, ◌∙◌, ap, sym, arith, ℕ, Some, length}
-use Rattle.proto_pubsub.specs.Seats.{SeatView, kept_in, takes_frame}
+use Rattle.proto_pubsub.specs.SubContexts.{SubContextView, kept_in, takes_frame}
 use Rattle.proto_pubsub.proofs.SubContexts.{written, long_written, set_is, stops}
 use Rattle.proto_pubsub.proofs.subscribe.spread.Goals as goal
 
@@ -14,7 +14,7 @@ returns-then-not-keep_copy-clause-stops c =
     let many = ap length c.loop-i.invariant ∙ long_written (kept_in c.args.raw c.args.options c.args.m.now) c.args.seats.now c.loop-i.i in
     let there = set_is c.loop-i.seats c.loop-i.i c.keep_copy.new.self c.index-seats-i-then-not-keep_copy.result (omega (arith, c.loop-i-test.true, c.requires, many)) in
     stops (takes_frame c.args.raw c.args.options c.args.m.now.body) (kept_in c.args.raw c.args.options c.args.m.now) c.args.seats.now c.loop-i.seats c.loop-i.i d c.index-seats-i.result c.keep_copy.new.self (omega (arith, c.loop-i-test.true, c.requires)) c.loop-i.invariant same
-    (ap (takes_frame c.args.raw c.args.options c.args.m.now.body) same ∙ c.keep_copy.ensures.needed c.if-not-keep_copy.true) (ap (λ (x : SeatView). x.ctx) (sym there) ∙ sym c.ctx.ensures ∙ inj d e)
+    (ap (takes_frame c.args.raw c.args.options c.args.m.now.body) same ∙ c.keep_copy.ensures.needed c.if-not-keep_copy.true) (ap (λ (x : SubContextView). x.ctx) (sym there) ∙ sym c.ctx.ensures ∙ inj d e)
   where
     inj : (d : ℕ) → Some c.ctx.result ≡ Some d → c.ctx.result ≡ d
     inj d q = cc

@@ -1,5 +1,5 @@
 use Rattle.std.proofs.Common.{◌≡◌, ◌++◌, map, take, drop}
-use Rattle.proto_pubsub.specs.Seats.{kept_in}
+use Rattle.proto_pubsub.specs.SubContexts.{kept_in}
 use Rattle.proto_pubsub.proofs.subscribe.spread.Given as goal
 
 abbrev pub invariant-loop-i : goal.invariant-loop-i

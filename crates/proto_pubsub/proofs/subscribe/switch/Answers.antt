@@ -1,5 +1,5 @@
 use Rattle.std.proofs.Common.{sym, refl}
-use Rattle.proto_pubsub.specs.Seats.{is_home}
+use Rattle.proto_pubsub.specs.SubContexts.{is_home}
 use Rattle.proto_pubsub.proofs.SubContexts.{found_at, not_found, switch_one, one_off}
 use Rattle.proto_pubsub.proofs.subscribe.switch.Goals as goal
 

@@ -1,7 +1,7 @@
 use Rattle.std.proofs.Common.{refl, ap, ◌∙◌, ◌≡◌, map}
 use Rattle.std.specs.Vec.{with_items}
 use Rattle.proto_pubsub.specs.declared.subscribe.Subscribe.{Subscribe}
-use Rattle.proto_pubsub.specs.Seats.{emptied}
+use Rattle.proto_pubsub.specs.SubContexts.{emptied}
 use Rattle.proto_pubsub.proofs.SubContexts.{seats_written, long_map}
 use Rattle.proto_pubsub.proofs.Subscribed.{closed_ties}
 use Rattle.proto_pubsub.proofs.subscribe.SubscribeProto.close.Goals as goal

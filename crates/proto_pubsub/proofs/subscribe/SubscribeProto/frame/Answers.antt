@@ -3,7 +3,7 @@ use Rattle.std.specs.Vec.{with_items}
 use Rattle.sp_history.specs.declared.entry.Entry.TheVariants.{Frame}
 use Rattle.sp_history.specs.Moments.{past}
 use Rattle.proto_pubsub.specs.declared.subscribe.Subscribe.{Subscribe}
-use Rattle.proto_pubsub.specs.Seats.{SeatView, kept_in, takes_frame, StopsAt}
+use Rattle.proto_pubsub.specs.SubContexts.{SubContextView, kept_in, takes_frame, StopsAt}
 use Rattle.proto_pubsub.specs.Subs.{NeedsCopy}
 use Rattle.proto_pubsub.proofs.Knowing.{allowed_before}
 use Rattle.proto_pubsub.proofs.SubContexts.{seats_written, long_map, long_stops}
@@ -31,15 +31,15 @@ returns-in-Some-clause-kept c =
     seats_written was.seats c.keep_in_all.new.seats c.deref_mut.result.now olds (long_stops (takes_frame was.raw was.options c.args.m.body) (kept_in was.raw was.options c.args.m) d c.deref_mut.result.now c.keep_in_all.new.seats st) in
     let is : Subscribe = record { alloc = was.alloc; raw = was.raw; options = was.options; seats = with_items was.seats c.keep_in_all.new.seats; waiting = was.waiting; looked = 0 } in
     let stops : StopsAt (takes_frame was.raw was.options c.args.m.body) (kept_in was.raw was.options c.args.m) d was.seats.items is.seats.items =
-    subst (λ (ys : List SeatView). StopsAt (takes_frame was.raw was.options c.args.m.body) (kept_in was.raw was.options c.args.m) d was.seats.items ys) (sym written)
-    (subst (λ (xs : List SeatView). StopsAt (takes_frame was.raw was.options c.args.m.body) (kept_in was.raw was.options c.args.m) d xs c.keep_in_all.new.seats) olds st) in
+    subst (λ (ys : List SubContextView). StopsAt (takes_frame was.raw was.options c.args.m.body) (kept_in was.raw was.options c.args.m) d was.seats.items ys) (sym written)
+    (subst (λ (xs : List SubContextView). StopsAt (takes_frame was.raw was.options c.args.m.body) (kept_in was.raw was.options c.args.m) d xs c.keep_in_all.new.seats) olds st) in
     dry_ties was t c.args.p c.args.m h (allowed_before t (Frame c.args.p c.args.m.body) l) c.requires is d stops refl refl (refl, refl)
 
 pub returns-in-Some-clause-one : goal.returns-in-Some-clause-one
 returns-in-Some-clause-one c =
     λ t h few.
     let was = c.args.self.now in
-    let least : length c.deref_mut.result.now ≤ 1 = subst (λ (xs : List SeatView). length xs ≤ 1) (sym c.deref_mut.ensures.value) (subst (λ (n : ℕ). n ≤ 1) (sym (many was t h)) few) in
+    let least : length c.deref_mut.result.now ≤ 1 = subst (λ (xs : List SubContextView). length xs ≤ 1) (sym c.deref_mut.ensures.value) (subst (λ (n : ℕ). n ≤ 1) (sym (many was t h)) few) in
     let no : Some c.in-Some.c ≡ None = c.in-Some.ensures.one least in
     absurd cc
 
@@ -47,7 +47,7 @@ pub returns-in-Some-clause-raw : goal.returns-in-Some-clause-raw
 returns-in-Some-clause-raw c =
     λ t l h r.
     let was = c.args.self.now in
-    let least : length c.deref_mut.result.now ≤ 1 = subst (λ (xs : List SeatView). length xs ≤ 1) (sym c.deref_mut.ensures.value) (one_raw was t (allowed_before t (Frame c.args.p c.args.m.body) l) h r) in
+    let least : length c.deref_mut.result.now ≤ 1 = subst (λ (xs : List SubContextView). length xs ≤ 1) (sym c.deref_mut.ensures.value) (one_raw was t (allowed_before t (Frame c.args.p c.args.m.body) l) h r) in
     let no : Some c.in-Some.c ≡ None = c.in-Some.ensures.one least in
     absurd cc
 
@@ -57,5 +57,5 @@ returns-in-Some-clause-dry c =
     let was = c.args.self.now in
     let is : c.in-Some.c ≡ d = cc in
     let st : StopsAt (takes_frame was.raw was.options c.args.m.body) (kept_in was.raw was.options c.args.m) c.in-Some.c was.seats.items c.keep_in_all.new.seats =
-    subst (λ (xs : List SeatView). StopsAt (takes_frame was.raw was.options c.args.m.body) (kept_in was.raw was.options c.args.m) c.in-Some.c xs c.keep_in_all.new.seats) c.deref_mut.ensures.value (c.in-Some.ensures.stops c.in-Some.c refl) in
+    subst (λ (xs : List SubContextView). StopsAt (takes_frame was.raw was.options c.args.m.body) (kept_in was.raw was.options c.args.m) c.in-Some.c xs c.keep_in_all.new.seats) c.deref_mut.ensures.value (c.in-Some.ensures.stops c.in-Some.c refl) in
     subst (λ (k : ℕ). NeedsCopy t.z (past t) k c.args.p c.args.m.body) is (dry_needs was t c.args.p c.args.m h (allowed_before t (Frame c.args.p c.args.m.body) l) c.requires c.keep_in_all.new.seats c.in-Some.c st)

@@ -1,6 +1,6 @@
 use Rattle.std.proofs.Common.{rules, refl, ◌≡◌, ◌++◌, ◌∷◌, []}
 use Rattle.proto_pubsub.specs.declared.subscribe.Subscribe.{Subscribe}
-use Rattle.proto_pubsub.specs.Seats.{fresh_seat}
+use Rattle.proto_pubsub.specs.SubContexts.{fresh_seat}
 use Rattle.proto_pubsub.proofs.Subscribed.{opened_ties}
 use Rattle.proto_pubsub.proofs.subscribe.SubscribeProto.open_ctx.Goals as goal
 

@@ -2,7 +2,7 @@ use Rattle.std.proofs.Common.{◌≡◌, ◌∙◌, ap, sym, subst, List, ℕ, f
 use Rattle.std.specs.Prelude.{◌==◌}
 use Rattle.std.specs.List.{list_any}
 use Rattle.sp_history.specs.Lists.{has}
-use Rattle.proto_pubsub.specs.Seats.{topics_without}
+use Rattle.proto_pubsub.specs.SubContexts.{topics_without}
 use Rattle.proto_pubsub.specs.Topics.{IsIndex}
 use Rattle.proto_pubsub.proofs.Indexed.{index_fewer, length_left, updated}
 use Rattle.proto_pubsub.proofs.topics.Topics.remove.Goals as goal

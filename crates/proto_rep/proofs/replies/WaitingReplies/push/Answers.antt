@@ -55,8 +55,8 @@ returns-clause-passed c = λ P h.
     let n = c.stays-self-inside.result in
     let bound = bound_closed c.make_spot-moved.result c.self.inside.looked n ss ts c.stays-self-inside.ensures c.make_spot-moved.ensures.same c.self.invariant.bound in
     let closed = calm_closed P c.make_spot-moved.result c.self.inside.looked n ss ts c.stays-self-inside.ensures c.make_spot-moved.ensures.same (ap (λ (v : RepliesView). list_any P (take v.passed v.items)) c.self.view_is ∙ h) in
-    let front : take n (ts ++ s ∷ []) ≡ take n ts = take-append-le n ts (s ∷ []) bound in
-    none_before_is P n ys ∙ ap (λ (xs : List (Spot WaitingReply)). list_any (holds P) (take n xs)) e ∙ ap (list_any (holds P)) front ∙ sym (none_before_is P n ts) ∙ closed
+    let prefix : take n (ts ++ s ∷ []) ≡ take n ts = take-append-le n ts (s ∷ []) bound in
+    none_before_is P n ys ∙ ap (λ (xs : List (Spot WaitingReply)). list_any (holds P) (take n xs)) e ∙ ap (list_any (holds P)) prefix ∙ sym (none_before_is P n ts) ∙ closed
 
 pub returns-clause-room : goal.returns-clause-room
 returns-clause-room c =

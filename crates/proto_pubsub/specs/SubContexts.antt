@@ -7,7 +7,7 @@ use Rattle.sp_history.specs.Kept.{is_wanted_by}
 use Rattle.sp_history.specs.Legal.{has_topic}
 
 -- a context, its topics, how many messages it has memory for, and what is kept for it, the oldest first
-pub record SeatView : Type 0 where
+pub record SubContextView : Type 0 where
   pub ctx : ℕ
   pub topics : List (List ℕ)
   pub places : ℕ
@@ -18,53 +18,53 @@ abbrev pub added : Bool → ℕ → MessageView → List MessageView → List Me
 added prefer_new most m ms = if nat_lt (length ms) most then ms ++ m ∷ [] else if prefer_new then drop 1 ms ++ m ∷ [] else ms
 
 -- the context keeps the frame, where a topic matches it, or raw
-abbrev pub kept_in : Bool → Options → MessageView → SeatView → SeatView
+abbrev pub kept_in : Bool → Options → MessageView → SubContextView → SubContextView
 kept_in raw options m x =
     if raw || is_wanted_by x.topics m.body then record { ctx = x.ctx; topics = x.topics; places = x.places; kept = added options.prefer_new x.places m x.kept } else x
 
 -- the context keeps a frame with this body: it is for it, and the queue isn't full, or discards its oldest
-abbrev pub takes_frame : Bool → Options → List ℕ → SeatView → Bool
+abbrev pub takes_frame : Bool → Options → List ℕ → SubContextView → Bool
 takes_frame raw options body x = (raw || is_wanted_by x.topics body) && (nat_lt (length x.kept) x.places || options.prefer_new)
 
 -- the message is last, in a full queue in place of the oldest
-abbrev pub with_message : MessageView → SeatView → SeatView
+abbrev pub with_message : MessageView → SubContextView → SubContextView
 with_message m x =
     record { ctx = x.ctx; topics = x.topics; places = x.places; kept = if nat_lt (length x.kept) x.places then x.kept ++ m ∷ [] else drop 1 x.kept ++ m ∷ [] }
 
 -- a new one
-abbrev pub fresh_seat : ℕ → ℕ → SeatView
+abbrev pub fresh_seat : ℕ → ℕ → SubContextView
 fresh_seat places c = record { ctx = c; topics = []; places = places; kept = [] }
 
 -- the oldest message is gone
-abbrev pub given_from : SeatView → SeatView
+abbrev pub given_from : SubContextView → SubContextView
 given_from x = record { ctx = x.ctx; topics = x.topics; places = x.places; kept = drop 1 x.kept }
 
 -- nothing is kept
-abbrev pub emptied : SeatView → SeatView
+abbrev pub emptied : SubContextView → SubContextView
 emptied x = record { ctx = x.ctx; topics = x.topics; places = x.places; kept = [] }
 
 -- one topic more
-abbrev pub with_topic : List ℕ → SeatView → SeatView
+abbrev pub with_topic : List ℕ → SubContextView → SubContextView
 with_topic t x = record { ctx = x.ctx; topics = x.topics ++ t ∷ []; places = x.places; kept = x.kept }
 
 abbrev pub topics_without : List ℕ → List (List ℕ) → List (List ℕ)
 topics_without t ts = filter (λ u. not (same_bytes u t)) ts
 
 -- one topic less, and only what the others match
-abbrev pub without_topic : List ℕ → SeatView → SeatView
+abbrev pub without_topic : List ℕ → SubContextView → SubContextView
 without_topic t x =
     record { ctx = x.ctx; topics = topics_without t x.topics; places = x.places; kept = filter (λ m. is_wanted_by (topics_without t x.topics) m.body) x.kept }
 
 -- one is put on, or taken off
-abbrev pub switched : Bool → List ℕ → SeatView → SeatView
+abbrev pub switched : Bool → List ℕ → SubContextView → SubContextView
 switched true t x = with_topic t x
 switched false t x = without_topic t x
 
 -- the context has this number
-abbrev pub is_home : ℕ → SeatView → Bool
+abbrev pub is_home : ℕ → SubContextView → Bool
 is_home c x = x.ctx == c
 
-abbrev pub ctx_of : SeatView → ℕ
+abbrev pub ctx_of : SubContextView → ℕ
 ctx_of x = x.ctx
 
 -- each number is above this one
@@ -78,41 +78,41 @@ AreOrdered [] = ⊤
 AreOrdered (c ∷ cs) = AreOver c cs × AreOrdered cs
 
 -- they stand in the order of their numbers
-abbrev pub InOrder : List SeatView → Type 0
+abbrev pub InOrder : List SubContextView → Type 0
 InOrder xs = AreOrdered (map ctx_of xs)
 
 -- its oldest message
-abbrev pub first_in : Option SeatView → Option MessageView
+abbrev pub first_in : Option SubContextView → Option MessageView
 first_in None = None
 first_in (Some x) = head_of x.kept
 
 -- the first that passes the test is changed
-abbrev pub with_found : (SeatView → Bool) → (SeatView → SeatView) → List SeatView → List SeatView
+abbrev pub with_found : (SubContextView → Bool) → (SubContextView → SubContextView) → List SubContextView → List SubContextView
 with_found P f [] = []
 with_found P f (x ∷ xs) = if P x then f x ∷ xs else x ∷ with_found P f xs
 
 -- whether that changes something; out of memory it changes nothing
-abbrev pub Switches : {E : Type 0} → Result Bool E → SeatView → SeatView → List ℕ → Bool → Type 0
+abbrev pub Switches : {E : Type 0} → Result Bool E → SubContextView → SubContextView → List ℕ → Bool → Type 0
 Switches (Ok true) old new t on = (has_topic old.topics t ≡ not on) × (new ≡ switched on t old)
 Switches (Ok false) old new t on = (has_topic old.topics t ≡ on) × (new ≡ old)
 Switches (Err e) old new t on = (on ≡ true) × (new ≡ old)
 
 -- the same of one among several
-abbrev pub SwitchesOne : {E : Type 0} → Result Bool E → SeatView → ℕ → List SeatView → List SeatView → List ℕ → Bool → Type 0
+abbrev pub SwitchesOne : {E : Type 0} → Result Bool E → SubContextView → ℕ → List SubContextView → List SubContextView → List ℕ → Bool → Type 0
 SwitchesOne (Ok true) x c old new t on =
     (has_topic x.topics t ≡ not on) × (new ≡ with_found (is_home c) (switched on t) old)
 SwitchesOne (Ok false) x c old new t on = (has_topic x.topics t ≡ on) × (new ≡ old)
 SwitchesOne (Err e) x c old new t on = (on ≡ true) × (new ≡ old)
 
-abbrev pub SwitchesIn : {E : Type 0} → Result Bool E → Option SeatView → ℕ → List SeatView → List SeatView → List ℕ → Bool → Type 0
+abbrev pub SwitchesIn : {E : Type 0} → Result Bool E → Option SubContextView → ℕ → List SubContextView → List SubContextView → List ℕ → Bool → Type 0
 SwitchesIn r None c old new t on = (new ≡ old) × (r ≡ Ok false)
 SwitchesIn r (Some x) c old new t on = SwitchesOne r x c old new t on
 
 -- the frame was kept up to this context, which needed a copy of it for which there was no memory
-pub record StopsAt (needs : SeatView → Bool) (f : SeatView → SeatView) (c : ℕ) (old new : List SeatView) : Type 0 where
-  pub done : List SeatView
-  pub at : SeatView
-  pub rest : List SeatView
+pub record StopsAt (needs : SubContextView → Bool) (f : SubContextView → SubContextView) (c : ℕ) (old new : List SubContextView) : Type 0 where
+  pub done : List SubContextView
+  pub at : SubContextView
+  pub rest : List SubContextView
   pub before : old ≡ done ++ at ∷ rest
   pub here : at.ctx ≡ c
   pub needed : needs at ≡ true

@@ -1,19 +1,19 @@
--- The seats of open contexts.
+-- The open contexts of a req.
 use Rattle.std.specs.Prelude.{◌≤◌, ℕ, ◌==◌, Bool, ⊤, List, [], ◌∷◌}
 
 -- an open context, and whether a copy of a request of it found no memory since the last tick
-pub record SeatView : Type 0 where
+pub record ReqContextView : Type 0 where
   pub ctx : ℕ
   pub is_dry : Bool
 
 -- in the order of their contexts' numbers
-pub record SeatsView : Type 0 where
-  pub items : List SeatView
+pub record ReqContextsView : Type 0 where
+  pub items : List ReqContextView
 
 -- ---- As they are held: by its number, the tick in which each was last dry, or 0
 
 -- as it is in this tick
-abbrev pub seat_in : ℕ → ℕ × ℕ → SeatView
+abbrev pub seat_in : ℕ → ℕ × ℕ → ReqContextView
 seat_in tick e = record { ctx = e.0; is_dry = e.1 == tick }
 
 -- none was dry in a later tick

@@ -1,11 +1,11 @@
-//! The seats of open contexts.
+//! The open contexts of a req.
 //!
-//! They are found by the contexts' numbers, so that one that is shut moves none of the others. Each has the number of the
-//! tick in which a copy for it found no memory, so that a new tick writes nothing to them.
+//! They are found by the contexts' numbers, so that one that is shut moves none of the others. Each has the number of
+//! the tick in which a copy for it found no memory, so that a new tick writes nothing to them.
 ghost use Rattle.std.specs.Prelude.{◌≡◌, ◌++◌, ◌∷◌, ◌==◌, [], true, false, not, IfOk, OnOk, OnErr, filter, map};
 ghost use Rattle.std.specs.List.{list_any, list_all};
 ghost use Rattle.proto_requests.specs.Ordered.{is_before};
-ghost use Rattle.proto_reqrep.specs.Seats.{SeatView};
+ghost use Rattle.proto_reqrep.specs.ReqContexts.{ReqContextView};
 ghost use Rattle.proto_reqrep.specs.Reqs.{seat_ctx, dry_at, dried, wetted};
 
 use sp_base::{Ctx, NoMemory};
@@ -13,41 +13,41 @@ use std::alloc::Global;
 use std::collections::BTreeMap;
 use std::marker::Model;
 
-/// The seats of open contexts.
+/// The open contexts of a req.
 #[derive(Drop)]
-pub struct Seats {
+pub struct ReqContexts {
     /// The tick in which a copy of a request of each context last found no memory, or 0, by the contexts' numbers.
     dry_in: BTreeMap<u32, u64>,
     /// The number of this tick, from 1 on.
     tick: u64,
 }
 
-impl Model for Seats {
+impl Model for ReqContexts {
     ghost use Rattle.std.specs.Prelude.{map};
-    ghost use Rattle.proto_reqrep.specs.Seats.{SeatsView, AreSeated, seat_in};
+    ghost use Rattle.proto_reqrep.specs.ReqContexts.{ReqContextsView, AreSeated, seat_in};
 
-    ghost Value = { SeatsView };
+    ghost Value = { ReqContextsView };
 
     ghost view = { λ m. record { items = map (seat_in m.tick) m.dry_in.entries } };
 
     ghost invariant = { λ m. AreSeated m.tick m.dry_in.entries };
 }
 
-impl Seats {
-    /// The seat of context 0.
-    pub fn new(alloc: Global) -> Result<Seats, NoMemory>
+impl ReqContexts {
+    /// Context 0 alone.
+    pub fn new(alloc: Global) -> Result<ReqContexts, NoMemory>
         ensures { IfOk result (λ v. v.items ≡ record { ctx = 0; is_dry = false } ∷ []) }
     {
         let mut dry_in = BTreeMap::new(alloc);
         match dry_in.insert(0, 0) {
-            Ok(_) => Ok(Seats { dry_in, tick: 1 }),
+            Ok(_) => Ok(ReqContexts { dry_in, tick: 1 }),
             Err(_) => Err(NoMemory),
         }
     }
 
     /// The context is open.
     pub fn has(&self, c: Ctx) -> bool
-        ensures { result ≡ list_any (λ (s : SeatView). s.ctx == c) self.now.items }
+        ensures { result ≡ list_any (λ (s : ReqContextView). s.ctx == c) self.now.items }
     {
         self.dry_in.contains_key(&c.0)
     }
@@ -117,7 +117,7 @@ impl Seats {
 
     /// The context is open no longer.
     pub fn close(&mut self, c: Ctx)
-        ensures { self.new.items ≡ filter (λ (s : SeatView). not (s.ctx == c)) self.old.items }
+        ensures { self.new.items ≡ filter (λ (s : ReqContextView). not (s.ctx == c)) self.old.items }
     {
         // Gives the proof that the keys are in order.
         let _len = self.dry_in.len();

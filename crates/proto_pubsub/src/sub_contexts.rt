@@ -3,7 +3,7 @@ ghost use Rattle.std.specs.Prelude.{◌≡◌, ◌==◌, ◌++◌, ◌∷◌, []
 ghost use Rattle.std.specs.VecDeque.{deque_capacity};
 ghost use Rattle.sp_history.specs.Lists.{is_nil, head_of};
 ghost use Rattle.sp_history.specs.Kept.{is_wanted_by};
-ghost use Rattle.proto_pubsub.specs.Seats.{kept_in, takes_frame, with_message, fresh_seat, given_from, emptied, with_topic, without_topic, Switches};
+ghost use Rattle.proto_pubsub.specs.SubContexts.{kept_in, takes_frame, with_message, fresh_seat, given_from, emptied, with_topic, without_topic, Switches};
 
 use crate::topics::Topics;
 use sp_base::{Ctx, NoMemory};
@@ -15,7 +15,7 @@ use std::marker::Model;
 
 /// An open context.
 #[derive(Drop)]
-pub struct Seat {
+pub struct SubContext {
     ctx: Ctx,
     topics: Topics,
     /// So many messages it keeps at most.
@@ -24,12 +24,12 @@ pub struct Seat {
     kept: VecDeque<Message>,
 }
 
-impl Model for Seat {
+impl Model for SubContext {
     ghost use Rattle.std.specs.Prelude.{◌≤◌, ◌<◌};
     ghost use Rattle.std.specs.VecDeque.{deque_capacity};
-    ghost use Rattle.proto_pubsub.specs.Seats.{SeatView};
+    ghost use Rattle.proto_pubsub.specs.SubContexts.{SubContextView};
 
-    ghost Value = { SeatView };
+    ghost Value = { SubContextView };
 
     ghost view = { λ x. record { ctx = x.ctx; topics = x.topics; places = x.places; kept = x.kept.items } };
 
@@ -44,14 +44,14 @@ fn drop_unwanted(kept: &mut VecDeque<Message>, topics: &Topics)
     kept.retain(|m| topics.is_wanted(m.body()));
 }
 
-impl Seat {
+impl SubContext {
     /// A context with no topic, for which nothing is kept. Takes the places of `queue` messages.
-    pub fn new(alloc: Global, ctx: Ctx, options: Options) -> Result<Seat, NoMemory>
+    pub fn new(alloc: Global, ctx: Ctx, options: Options) -> Result<SubContext, NoMemory>
         ensures { IfOk result (λ x. x ≡ fresh_seat options.queue ctx) }
     {
         let places = options.queue as usize;
         let kept = VecDeque::with_capacity(alloc, places.max(1))?;
-        Ok(Seat {
+        Ok(SubContext {
             ctx,
             topics: Topics::new(alloc),
             places,

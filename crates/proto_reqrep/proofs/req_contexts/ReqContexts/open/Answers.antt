@@ -2,11 +2,11 @@ use Rattle.std.proofs.Common.{◌∙◌, ap, sym, subst, refl, map, ◌++◌, �
 use Rattle.std.specs.List.{list_all}
 use Rattle.proto_requests.specs.Ordered.{is_before}
 use Rattle.proto_requests.proofs.NumberedEntries.{more_entries}
-use Rattle.proto_reqrep.specs.Seats.{SeatsView, AreSeated, seat_in}
+use Rattle.proto_reqrep.specs.ReqContexts.{ReqContextsView, AreSeated, seat_in}
 use Rattle.proto_reqrep.specs.Reqs.{seat_ctx}
 use Rattle.proto_reqrep.proofs.Seated.{more_view, more_seated}
-use Rattle.proto_reqrep.proofs.seats.Seats.open.Goals.{in-Ok, in-Err}
-use Rattle.proto_reqrep.proofs.seats.Seats.open.Goals as goal
+use Rattle.proto_reqrep.proofs.req_contexts.ReqContexts.open.Goals.{in-Ok, in-Err}
+use Rattle.proto_reqrep.proofs.req_contexts.ReqContexts.open.Goals as goal
 
 pub invariant_of-self : goal.invariant_of-self
 invariant_of-self c =
@@ -23,8 +23,8 @@ returns-clause-more c =
     let es = m.dry_in.entries in
     elim c.match-insert.branch [
       | in-Ok w ↦ rw w.result-is (λ h.
-          let low = ap (λ (v : SeatsView). list_all (is_before seat_ctx n) v.items) c.self.view_is ∙ ap (λ (k : ℕ). list_all (is_before seat_ctx k) c.args.self.now.items) c.c.view_is ∙ h in
+          let low = ap (λ (v : ReqContextsView). list_all (is_before seat_ctx n) v.items) c.self.view_is ∙ ap (λ (k : ℕ). list_all (is_before seat_ctx k) c.args.self.now.items) c.c.view_is ∙ h in
           ap (map (seat_in m.tick)) (w.in-Ok.ensures.entries ∙ more_entries seat_ctx (seat_in m.tick) (λ e. refl) n 0 es low) ∙ more_view m.tick n es c.self.invariant.begun
-          ∙ ap (λ (v : SeatsView). v.items ++ record { ctx = n; is_dry = false } ∷ []) c.self.view_is ∙ ap (λ (k : ℕ). c.args.self.now.items ++ record { ctx = k; is_dry = false } ∷ []) c.c.view_is)
+          ∙ ap (λ (v : ReqContextsView). v.items ++ record { ctx = n; is_dry = false } ∷ []) c.self.view_is ∙ ap (λ (k : ℕ). c.args.self.now.items ++ record { ctx = k; is_dry = false } ∷ []) c.c.view_is)
       | in-Err w ↦ rw w.result-is tt
     ]

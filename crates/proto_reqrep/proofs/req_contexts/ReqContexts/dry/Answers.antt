@@ -2,10 +2,10 @@ use Rattle.std.proofs.Common.{◌∙◌, ap, sym, subst}
 use Rattle.std.specs.Option.{option_copied_mut}
 use Rattle.std.specs.Ordering.{nat_cmp}
 use Rattle.std.specs.BTreeMap.{is_at}
-use Rattle.proto_reqrep.specs.Seats.{AreSeated}
+use Rattle.proto_reqrep.specs.ReqContexts.{AreSeated}
 use Rattle.proto_reqrep.proofs.Seated.{one_dried, none_dried, dried_view, one_seated}
-use Rattle.proto_reqrep.proofs.seats.Seats.dry.Goals.{in-None, in-Some}
-use Rattle.proto_reqrep.proofs.seats.Seats.dry.Goals as goal
+use Rattle.proto_reqrep.proofs.req_contexts.ReqContexts.dry.Goals.{in-None, in-Some}
+use Rattle.proto_reqrep.proofs.req_contexts.ReqContexts.dry.Goals as goal
 
 pub invariant_of-self : goal.invariant_of-self
 invariant_of-self c =
