@@ -5,8 +5,8 @@ use Rattle.sp_spec.specs.Outside.{Rose}
 use Rattle.sp_history.specs.declared.entry.Entry.{Entry}
 use Rattle.sp_history.specs.declared.setting.Setting.{Setting}
 use Rattle.cat_text.specs.declared.plan.CatPlan.{CatPlan}
-use Rattle.cat_play.specs.declared.ends.Status.{Status}
-use Rattle.cat_play.specs.declared.ends.Status.TheVariants as status
+use Rattle.cat_play.specs.declared.status.Status.{Status}
+use Rattle.cat_play.specs.declared.status.Status.TheVariants as status
 use Rattle.cat_play.specs.Plans.{Play}
 use Rattle.cat_play.specs.Running.{World, ListensTwice, EndedFor, UnopenedFor, IsSpared, ComesToEnd}
 

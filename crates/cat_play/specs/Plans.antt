@@ -20,15 +20,15 @@ pub record Play : Type 0 where
   pub format : Format
 
 -- what the sends carry: the text, or what is told to stand under the name of the file
-abbrev pub Carries : Data → FilesView → Option (List ℕ) → Type 0
-Carries datas.None files body = body ≡ None
-Carries (datas.Text text) files body = body ≡ Some text
-Carries (datas.File name) files body = (bytes : List ℕ) × (body ≡ Some bytes) × Holds files name bytes
+abbrev pub IsBodyOf : Data → FilesView → Option (List ℕ) → Type 0
+IsBodyOf datas.None files body = body ≡ None
+IsBodyOf (datas.Text text) files body = body ≡ Some text
+IsBodyOf (datas.File name) files body = (bytes : List ℕ) × (body ≡ Some bytes) × Holds files name bytes
 
 -- the play of a plan, with the files as they are
 pub record IsPlayOf (plan : CatPlan) (files : FilesView) (play : Play) : Type 0 where
   pub role : play.role ≡ plan.role
-  pub body : Carries plan.data_ files play.body
+  pub body : IsBodyOf plan.data_ files play.body
   pub topics : play.topics ≡ plan.topics
   pub count : play.count ≡ plan.count
   pub interval : play.interval ≡ plan.interval

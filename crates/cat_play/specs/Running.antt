@@ -25,8 +25,8 @@ use Rattle.cat_text.specs.declared.plan.End.{End}
 use Rattle.cat_text.specs.declared.plan.End.TheVariants as ends
 use Rattle.cat_text.specs.declared.plan.Plan.{Plan}
 use Rattle.cat_text.specs.declared.plan.Plan.TheVariants as plans
-use Rattle.cat_play.specs.declared.ends.Status.{Status}
-use Rattle.cat_play.specs.declared.ends.Status.TheVariants as status
+use Rattle.cat_play.specs.declared.status.Status.{Status}
+use Rattle.cat_play.specs.declared.status.Status.TheVariants as status
 use Rattle.cat_play.specs.Plans.{Play, IsPlayOf}
 use Rattle.cat_play.specs.Scripts.{counted, texts, joined, has_reached, timed_out}
 use Rattle.cat_play.specs.Playing.{Plays}
@@ -111,7 +111,7 @@ pub record FilesBy (data_ : Data) (old new : World) : Type 0 where
 -- all of these texts, or a prefix of the last in its place
 abbrev pub IsCutShort : List (List ℕ) → List ℕ → Type 0
 IsCutShort ts piece = (piece ≡ joined ts)
-    ⊎ ((before : List (List ℕ)) × (last : List ℕ) × (front : List ℕ) × (ts ≡ before ++ last ∷ []) × IsPrefix front last × (piece ≡ joined before ++ front))
+    ⊎ ((before : List (List ℕ)) × (last : List ℕ) × (prefix : List ℕ) × (ts ≡ before ++ last ∷ []) × IsPrefix prefix last × (piece ≡ joined before ++ prefix))
 
 -- the sink's text grew by these; where a put failed or the run was out of memory, the last may be cut short
 abbrev pub Printed : Status → List (List ℕ) → World → World → Type 0

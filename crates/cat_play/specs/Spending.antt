@@ -39,7 +39,7 @@ ticks_where test (_ ∷ past) = ticks_where test past
 abbrev pub greeting_ticks : List Entry → ℕ → ℕ
 greeting_ticks past place = ticks_where (λ before. has (greeting before) place) past
 
--- while a link was in progress it answered at least once a round, but for one, that nothing was there or that it took
+-- while a link was in progress it returned at least once a round, but for one, that nothing was there or that it took
 -- nothing
 abbrev pub IsAsked : List Entry → ℕ → LinkView → Type 0
 IsAsked past place link = CanRise link.idles → CanRise link.stalls → greeting_ticks past place ≤ link.idles + link.stalls + 1

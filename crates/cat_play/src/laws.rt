@@ -14,7 +14,7 @@ ghost use Rattle.sp_history.specs.Changes.{none_of};
 ghost use Rattle.sp_history.specs.Requests.{live_on};
 ghost use Rattle.sp_history.specs.Setting.{is_req, has_requests};
 ghost use Rattle.sp_history.specs.Past.{onto, past_of, is_closed};
-ghost use Rattle.cat_play.specs.declared.ends.Status.{Status};
+ghost use Rattle.cat_play.specs.declared.status.Status.{Status};
 ghost use Rattle.cat_text.specs.declared.plan.CatPlan.{CatPlan};
 ghost use Rattle.cat_play.specs.Running.{World, EndedFor, UnopenedFor, IsSpared, ComesToEnd};
 ghost use Rattle.cat_play.specs.Plans.{Play};

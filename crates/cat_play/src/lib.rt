@@ -12,6 +12,6 @@
 //! - `Rows` and the files on it: worked records, each with its verdict.
 #![tactic(auto)]
 
-pub mod ends;
 pub mod laws;
 pub mod rows;
+pub mod status;

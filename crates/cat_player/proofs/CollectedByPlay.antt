@@ -23,8 +23,8 @@ use Rattle.sp_history.specs.Found.{act_of, end_of}
 use Rattle.sp_history.specs.Past.{past_of, now, pending}
 use Rattle.sp_history.proofs.OnceHolds.{ends_once}
 use Rattle.sp_history.proofs.StandingEntries.{begin_is_found, end_is_found}
-use Rattle.sp_core.specs.declared.collect.Collected.{Collected}
-use Rattle.sp_core.specs.declared.collect.Collected.TheVariants as collected
+use Rattle.sp_core.specs.declared.calls.collect.Collected.{Collected}
+use Rattle.sp_core.specs.declared.calls.collect.Collected.TheVariants as collected
 use Rattle.core_parts.specs.declared.outcome.Outcome.{Outcome}
 use Rattle.core_parts.specs.declared.outcome.Outcome.TheVariants as outcomes
 use Rattle.core_parts.specs.Ends.{outcome_of, back_of}
@@ -314,8 +314,8 @@ joined_more : (ts : List (List ℕ)) (t : List ℕ) → joined (ts ++ t ∷ []) 
 joined_more ts t = flat_map-append (λ x. x) ts (t ∷ []) ∙ ap (λ ys. joined ts ++ ys) (append_nil t)
 
 -- all but the last stand there, and a prefix of it
-cut : (ts : List (List ℕ)) (t front : List ℕ) → IsPrefix front t → IsCutShort (ts ++ t ∷ []) (joined ts ++ front)
-cut ts t front f = inr (ts, t, front, refl, f, refl)
+cut : (ts : List (List ℕ)) (t prefix : List ℕ) → IsPrefix prefix t → IsCutShort (ts ++ t ∷ []) (joined ts ++ prefix)
+cut ts t prefix f = inr (ts, t, prefix, refl, f, refl)
 
 pub noted_prints : (result : Collecting) (s s' : SingleView) (p p' : Player) (op : OpName) (b : Begun) (ending : Ending) (before was now : Option (List ℕ)) → IsCollected s s' p op b.act ending → p'.script ≡ p.script
     → PutsFor (outcome_of b ending) result p' was now → HasPrinted before was s.seen p → PrintedThen result before now s'.seen p'
@@ -334,10 +334,10 @@ noted_prints result s s' p p' op b ending before was now k same puts had =
         ∙ (grown_twice before (joined (texts (play_of p.script) (past_of s.seen))) (print p'.script.format m.body)
         ∙ ap (λ xs. grown before xs) (sym (ap joined all ∙ joined_more (texts (play_of p.script) (past_of s.seen)) (print p'.script.format m.body)))))
     by_result collecting.NotYet m put all = elim put [ ]
-    by_result collecting.OutFault m (front, rest, is, put) all = (
-      joined (texts (play_of p.script) (past_of s.seen)) ++ front,
-      subst (λ (ts : List (List ℕ)). IsCutShort ts (joined (texts (play_of p.script) (past_of s.seen)) ++ front)) (sym all) (cut (texts (play_of p.script) (past_of s.seen)) (print p'.script.format m.body) front (rest, is)),
-      put ∙ (ap (λ w. grown w front) had ∙ grown_twice before (joined (texts (play_of p.script) (past_of s.seen))) front),
+    by_result collecting.OutFault m (prefix, rest, is, put) all = (
+      joined (texts (play_of p.script) (past_of s.seen)) ++ prefix,
+      subst (λ (ts : List (List ℕ)). IsCutShort ts (joined (texts (play_of p.script) (past_of s.seen)) ++ prefix)) (sym all) (cut (texts (play_of p.script) (past_of s.seen)) (print p'.script.format m.body) prefix (rest, is)),
+      put ∙ (ap (λ w. grown w prefix) had ∙ grown_twice before (joined (texts (play_of p.script) (past_of s.seen))) prefix),
     )
     by_result collecting.NoMemory m put all = (
       joined (texts (play_of p.script) (past_of s.seen)) ++ [],

@@ -10,7 +10,7 @@ use Rattle.sp_history.specs.Once.{begin_count, end_count}
 use Rattle.sp_history.specs.Past.{past_of, pending}
 use Rattle.sp_history.proofs.Appending.{past_of-append}
 use Rattle.sp_history.proofs.Filters.{pending_means}
-use Rattle.sp_core.specs.declared.collect.Collected.{Collected}
+use Rattle.sp_core.specs.declared.calls.collect.Collected.{Collected}
 use Rattle.sp_core.specs.Moving.{IsSettling, AreSettling}
 use Rattle.sp_core.specs.Collecting.{CollectedBy}
 use Rattle.sp_socket.specs.Turns.{AllEnded}

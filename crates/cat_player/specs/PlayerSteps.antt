@@ -97,7 +97,7 @@ pub record Sinks (failed : Type 0) (old new : SinkView) : Type 0 where
 abbrev pub Puts : Collecting → Player → MessageView → Option (List ℕ) → Option (List ℕ) → Type 0
 Puts collecting.Free p m before now = now ≡ grown before (print p.script.format m.body)
 Puts collecting.NotYet p m before now = ⊥
-Puts collecting.OutFault p m before now = (front : List ℕ) × (rest : List ℕ) × (print p.script.format m.body ≡ front ++ rest) × (now ≡ grown before front)
+Puts collecting.OutFault p m before now = (prefix : List ℕ) × (rest : List ℕ) × (print p.script.format m.body ≡ prefix ++ rest) × (now ≡ grown before prefix)
 Puts collecting.NoMemory p m before now = now ≡ before
 
 -- one item more was counted, if it counts
@@ -159,7 +159,7 @@ PutsFor _ result p before now = (result ≡ collecting.Free) × (now ≡ before)
 -- a piece, put into the sink
 abbrev pub PutsPiece : Collecting → List ℕ → Option (List ℕ) → Option (List ℕ) → Type 0
 PutsPiece collecting.Free piece before now = now ≡ grown before piece
-PutsPiece collecting.OutFault piece before now = (front : List ℕ) × (rest : List ℕ) × (piece ≡ front ++ rest) × (now ≡ grown before front)
+PutsPiece collecting.OutFault piece before now = (prefix : List ℕ) × (rest : List ℕ) × (piece ≡ prefix ++ rest) × (now ≡ grown before prefix)
 PutsPiece _ piece before now = ⊥
 
 -- ---- The step

@@ -15,7 +15,7 @@ use Rattle.sp_history.proofs.Appending.{past_of-append}
 use Rattle.sp_history.proofs.Backing.{legal_allowed}
 use Rattle.sp_core.specs.Standing.{HasFirst}
 use Rattle.sp_core.specs.Moving.{AreSettling}
-use Rattle.sp_core.specs.declared.attach.AttachError.{AttachError}
+use Rattle.sp_core.specs.declared.calls.attach.AttachError.{AttachError}
 use Rattle.sp_core.specs.Attaching.{RefusedAttach}
 use Rattle.sp_single.specs.Singles.{SingleView, TookOne}
 use Rattle.sp_lane.specs.LaneWires.{LaneWireView}
@@ -23,8 +23,8 @@ use Rattle.sp_lane.specs.Registry.{ListenerView, Registry, names, Dials, Accepts
 use Rattle.cat_play.specs.Recording.{lane_place, place_of}
 use Rattle.cat_play.specs.Steps.{moves_ends}
 use Rattle.end_parts.specs.DialMoments.{moment}
-use Rattle.end_parts.specs.NameSteps.{IsDueCaller, IsLostCaller, AreLost, IsNewLane, HasCalled, HasNewLane, TriesName, DialsIfDue, DialsDue, CallsOne, CallsAll, CallsAt, Begins, AreAttached, pipes_of, halves_of, Accepting, GoesOn, CameUp}
-use Rattle.end_parts.specs.declared.caller.NameDialer.{NameDialer}
+use Rattle.end_parts.specs.NameSteps.{IsDueNameDialer, IsLostNameDialer, AreLost, IsNewLane, HasCalled, HasNewLane, TriesName, DialsIfDue, DialsDue, CallsOne, CallsAll, CallsAt, Begins, AreAttached, pipes_of, halves_of, Accepting, GoesOn, CameUp}
+use Rattle.end_parts.specs.declared.name_dialer.NameDialer.{NameDialer}
 use Rattle.std.proofs.lemmas.List.{length-set}
 use Rattle.end_parts.proofs.LaterEntries.{entries_leave, numbered, moves_links}
 use Rattle.end_parts.proofs.LinksStay.{same_place, legal_rest}
@@ -113,7 +113,7 @@ module _ (says : Setting → List (Turn Entry) → Turn Entry → Type 0) (a b :
         here : place_of (Up p lane_place name ∷ past_of a.seen) p ≡ Some lane_place
         here = rw (eq-eqb p p refl) refl
 
--- ---- Callers that dial
+-- ---- Name dialers that dial
 
 -- so many had their turn
 abbrev pub CallsTo : ℕ → ℕ → SingleView → SingleView → List NameDialer → List NameDialer → Type 0
@@ -146,12 +146,12 @@ calls_set zero now a b (x ∷ xs) (v ∷ ys) y w t at one =
 calls_set (suc i) now a b [] (v ∷ ys) y w t at one = absurd t
 calls_set (suc i) now a b (x ∷ xs) (v ∷ ys) y w t at one = (t.0, calls_set i now a b xs ys y w t.1 at one)
 
-pub calls_kept : (i now : ℕ) (a b : SingleView) (xs ys : List NameDialer) → CallsTo i now a b xs ys → ((y : NameDialer) → slice_get ys i ≡ Some y → IsDueCaller now y → ⊥) → CallsTo (suc i) now a b xs ys
+pub calls_kept : (i now : ℕ) (a b : SingleView) (xs ys : List NameDialer) → CallsTo i now a b xs ys → ((y : NameDialer) → slice_get ys i ≡ Some y → IsDueNameDialer now y → ⊥) → CallsTo (suc i) now a b xs ys
 calls_kept zero now a b [] [] t never = tt
 calls_kept zero now a b [] (y ∷ ys) t never = cc
 calls_kept zero now a b (x ∷ xs) [] t never = cc
 calls_kept zero now a b (x ∷ xs) (y ∷ ys) t never =
-    let head : y ≡ x = cc in let rest : ys ≡ xs = cc in (inr (λ due. never y refl (subst (IsDueCaller now) (sym head) due), head), rest)
+    let head : y ≡ x = cc in let rest : ys ≡ xs = cc in (inr (λ due. never y refl (subst (IsDueNameDialer now) (sym head) due), head), rest)
 calls_kept (suc i) now a b [] [] t never = tt
 calls_kept (suc i) now a b [] (y ∷ ys) t never = absurd t
 calls_kept (suc i) now a b (x ∷ xs) [] t never = absurd t
@@ -179,7 +179,7 @@ from_before now a b c x y g (inl free) = inl free
 from_before now a b c x y g (inr (p, lane, is)) = inr (p, (let l = lane.0 in let u = g.ups in omega (arith, l, u), lane.1), is)
 
 -- one that is due dialed
-pub calls_next : (i now : ℕ) (role : Role) (a b c : SingleView) (r s : Registry) (xs ys ws : List NameDialer) (y : NameDialer) → GoesOn a b → GoesOn b c → CallsTo i now a b xs ys → slice_get ys i ≡ Some y → IsDueCaller now y → CallsAt i now role b c r s ys ws → CallsTo (suc i) now a c xs ws
+pub calls_next : (i now : ℕ) (role : Role) (a b c : SingleView) (r s : Registry) (xs ys ws : List NameDialer) (y : NameDialer) → GoesOn a b → GoesOn b c → CallsTo i now a b xs ys → slice_get ys i ≡ Some y → IsDueNameDialer now y → CallsAt i now role b c r s ys ws → CallsTo (suc i) now a c xs ws
 calls_next i now role a b c r s xs ys ws y f g t at due (x, w, at', called, tries, is) =
     let same : x ≡ y = one_caller (sym at' ∙ at) in
     subst (λ (vs : List NameDialer). CallsTo (suc i) now a c xs vs) (sym is) (calls_set i now a c xs ys y w (calls_on i now a b c xs ys g t) at (inl (due, from_before now a b c y w f (subst (λ (k : NameDialer). HasCalled now b c k w) same called))))
@@ -219,19 +219,19 @@ module _ (now : ℕ) (role : Role) where
   dials_set (suc i) a b c q r s (x ∷ xs) (v ∷ ys) y w (mid, m, first, t) at one = (mid, m, first, dials_set i mid b c m r s xs ys y w t at one)
 
   -- one that is due dialed
-  pub dials_next : (i : ℕ) (a b c : SingleView) (q r s : Registry) (xs ys ws : List NameDialer) (y : NameDialer) → DialsTo i a b q r xs ys → slice_get ys i ≡ Some y → IsDueCaller now y → CallsAt i now role b c r s ys ws → DialsTo (suc i) a c q s xs ws
+  pub dials_next : (i : ℕ) (a b c : SingleView) (q r s : Registry) (xs ys ws : List NameDialer) (y : NameDialer) → DialsTo i a b q r xs ys → slice_get ys i ≡ Some y → IsDueNameDialer now y → CallsAt i now role b c r s ys ws → DialsTo (suc i) a c q s xs ws
   dials_next i a b c q r s xs ys ws y t at due (x, w, at', called, tries, is) =
       let same : x ≡ y = one_caller (sym at' ∙ at) in
       let mine = subst (λ (k : NameDialer). TriesName k.name role w.pipe b c r s) same tries in subst (λ (vs : List NameDialer). DialsTo (suc i) a c q s xs vs) (sym is) (dials_set i a b c q r s xs ys y w t at (inl (due, mine)))
 
   -- one that isn't did not
-  pub dials_kept : (i : ℕ) (a b : SingleView) (q r : Registry) (xs ys : List NameDialer) → DialsTo i a b q r xs ys → ((y : NameDialer) → slice_get ys i ≡ Some y → IsDueCaller now y → ⊥) → DialsTo (suc i) a b q r xs ys
+  pub dials_kept : (i : ℕ) (a b : SingleView) (q r : Registry) (xs ys : List NameDialer) → DialsTo i a b q r xs ys → ((y : NameDialer) → slice_get ys i ≡ Some y → IsDueNameDialer now y → ⊥) → DialsTo (suc i) a b q r xs ys
   dials_kept zero a b q r [] [] (same, e, f) never = (e, f)
   dials_kept zero a b q r [] (y ∷ ys) t never = let no : y ∷ ys ≡ [] = t.0 in cc
   dials_kept zero a b q r (x ∷ xs) [] t never = let no : [] ≡ x ∷ xs = t.0 in cc
   dials_kept zero a b q r (x ∷ xs) (y ∷ ys) (same, e, f) never =
       let head : y ≡ x = cc in
-      let rest : ys ≡ xs = cc in (b, r, inr (λ due. never y refl (subst (IsDueCaller now) (sym head) due), e, f), (rest, refl, refl))
+      let rest : ys ≡ xs = cc in (b, r, inr (λ due. never y refl (subst (IsDueNameDialer now) (sym head) due), e, f), (rest, refl, refl))
   dials_kept (suc i) a b q r [] [] t never = t
   dials_kept (suc i) a b q r [] (y ∷ ys) t never = absurd t
   dials_kept (suc i) a b q r (x ∷ xs) [] t never = absurd t
@@ -329,14 +329,14 @@ accepts_one name wire o a b reg reg' (i, l, rest, at, halves, is) came g = recor
 abbrev pub LostTo : ℕ → ℕ → ℕ → List NameDialer → List NameDialer → Type 0
 LostTo zero now pipe cs ds = ds ≡ cs
 LostTo (suc i) now pipe [] [] = ⊤
-LostTo (suc i) now pipe (c ∷ cs) (d ∷ ds) = IsLostCaller now pipe c d × LostTo i now pipe cs ds
+LostTo (suc i) now pipe (c ∷ cs) (d ∷ ds) = IsLostNameDialer now pipe c d × LostTo i now pipe cs ds
 LostTo (suc i) now pipe _ _ = ⊥
 
 module _ (now pipe : ℕ) where
-  pub lost_next : (i : ℕ) (cs ds : List NameDialer) (y z : NameDialer) → LostTo i now pipe cs ds → i < length ds → IsLostCaller now pipe (get_or ds i y) z → LostTo (suc i) now pipe cs (set ds i z)
+  pub lost_next : (i : ℕ) (cs ds : List NameDialer) (y z : NameDialer) → LostTo i now pipe cs ds → i < length ds → IsLostNameDialer now pipe (get_or ds i y) z → LostTo (suc i) now pipe cs (set ds i z)
   lost_next zero cs [] y z x l f = absurd (omega (arith, l))
   lost_next zero [] (d ∷ ds) y z x l f = cc
-  lost_next zero (c ∷ cs) (d ∷ ds) y z x l f = let same : d ≡ c = cc in let rest : ds ≡ cs = cc in (subst (λ (k : NameDialer). IsLostCaller now pipe k z) same f, rest)
+  lost_next zero (c ∷ cs) (d ∷ ds) y z x l f = let same : d ≡ c = cc in let rest : ds ≡ cs = cc in (subst (λ (k : NameDialer). IsLostNameDialer now pipe k z) same f, rest)
   lost_next (suc i) [] [] y z x l f = absurd (omega (arith, l))
   lost_next (suc i) [] (d ∷ ds) y z x l f = absurd x
   lost_next (suc i) (c ∷ cs) [] y z x l f = absurd x

@@ -153,16 +153,16 @@ number_told : (n : ℕ) (o : Option (List ℕ)) → IsNoneOr n (told_number o) �
 number_told n None h = tt
 number_told n (Some s) h = h
 
-hello_front : (role : ℕ) (bodies : List (List ℕ)) (s rest : List ℕ) → s ≡ text role bodies ++ rest → IsPrefix (hello role) s
-hello_front role bodies s rest e = (frames_text bodies ++ rest, e ∙ append_assoc (hello role) (frames_text bodies) rest)
+hello_prefix : (role : ℕ) (bodies : List (List ℕ)) (s rest : List ℕ) → s ≡ text role bodies ++ rest → IsPrefix (hello role) s
+hello_prefix role bodies s rest e = (frames_text bodies ++ rest, e ∙ append_assoc (hello role) (frames_text bodies) rest)
 
-part_front : (part : List ℕ) (waiting : List (List ℕ)) → CutShort part waiting → IsPrefix part (frames_text waiting)
-part_front part [] cut = (frames_text [], ap (λ (l : List ℕ). l ++ frames_text []) (sym cut))
-part_front part (t ∷ rest) cut = (cut.0.0 ++ frames_text rest, frames-cons t rest ∙ ap (λ (l : List ℕ). l ++ frames_text rest) cut.0.1 ∙ append_assoc part cut.0.0 (frames_text rest))
+part_prefix : (part : List ℕ) (waiting : List (List ℕ)) → CutShort part waiting → IsPrefix part (frames_text waiting)
+part_prefix part [] cut = (frames_text [], ap (λ (l : List ℕ). l ++ frames_text []) (sym cut))
+part_prefix part (t ∷ rest) cut = (cut.0.0 ++ frames_text rest, frames-cons t rest ∙ ap (λ (l : List ℕ). l ++ frames_text rest) cut.0.1 ∙ append_assoc part cut.0.0 (frames_text rest))
 
-written_front : (role : ℕ) (whole waiting : List (List ℕ)) (part s : List ℕ) → s ≡ text role whole ++ part → CutShort part waiting → IsPrefix s (text role (whole ++ waiting))
-written_front role whole waiting part s is cut =
-    let f = part_front part waiting cut in (
+written_prefix : (role : ℕ) (whole waiting : List (List ℕ)) (part s : List ℕ) → s ≡ text role whole ++ part → CutShort part waiting → IsPrefix s (text role (whole ++ waiting))
+written_prefix role whole waiting part s is cut =
+    let f = part_prefix part waiting cut in (
       f.0,
       ap (λ (l : List ℕ). hello role ++ l) (frames-append whole waiting ∙ ap (λ (l : List ℕ). frames_text whole ++ l) f.1)
           ∙ sym (append_assoc (hello role) (frames_text whole) (part ++ f.0)) ∙ sym (append_assoc (text role whole) part f.0) ∙ ap (λ (l : List ℕ). l ++ f.0) (sym is),
@@ -232,14 +232,14 @@ some_holds : (P : List (List ℕ) → Type 0) (o : Option (List (List ℕ))) (x 
 some_holds P o x e h = subst (λ (q : Option (List (List ℕ))). IfSome q P) e h
 
 -- what came shows the frames
-came_front : (z : Setting) (past : List Entry) (p : ℕ) (v : TcpView) (s : List ℕ) → IfSome v.wire.came (λ texts. texts ≡ frames past p) → ShowsIn v s → number_in s ≡ peer_number z.role → IsPrefix (text (peer_number z.role) (frames past p)) s
-came_front z past p v s came shows_in number =
+came_prefix : (z : Setting) (past : List Entry) (p : ℕ) (v : TcpView) (s : List ℕ) → IfSome v.wire.came (λ texts. texts ≡ frames past p) → ShowsIn v s → number_in s ≡ peer_number z.role → IsPrefix (text (peer_number z.role) (frames past p)) s
+came_prefix z past p v s came shows_in number =
     let same : shows_in.bodies ≡ frames past p = some_holds (λ texts. texts ≡ frames past p) v.wire.came shows_in.bodies shows_in.came came in
-    subst (λ (fs : List (List ℕ)). IsPrefix (text (peer_number z.role) fs) s) same (subst (λ (n : ℕ). IsPrefix (text n shows_in.bodies) s) number shows_in.text_front)
+    subst (λ (fs : List (List ℕ)). IsPrefix (text (peer_number z.role) fs) s) same (subst (λ (n : ℕ). IsPrefix (text n shows_in.bodies) s) number shows_in.text_prefix)
 
 record WrittenAs (z : Setting) (past : List Entry) (p : ℕ) (v : TcpView) (s : List ℕ) : Type 0 where
   opens : IsPrefix (hello (role_number z.role)) s
-  front : IsPrefix s (text (role_number z.role) (outs past p))
+  prefix : IsPrefix s (text (role_number z.role) (outs past p))
   all : v.wire.waits ≡ 0 → s ≡ text (role_number z.role) (outs past p)
 
 written_as : (z : Setting) (past : List Entry) (p : ℕ) (v : TcpView) (s : List ℕ) → IfSome v.wire.outs (λ texts. texts ≡ outs past p) → WrittenIn v s → number_in s ≡ role_number z.role → WrittenAs z past p v s
@@ -247,8 +247,8 @@ written_as z past p v s outs_are w number =
     let same : w.whole ++ w.waiting ≡ outs past p = some_holds (λ texts. texts ≡ outs past p) v.wire.outs (w.whole ++ w.waiting) w.outs outs_are in
     let is : s ≡ text (role_number z.role) w.whole ++ w.part = w.is ∙ ap (λ (n : ℕ). text n w.whole ++ w.part) number in
     record {
-      opens = hello_front (role_number z.role) w.whole s w.part is;
-      front = subst (λ (os : List (List ℕ)). IsPrefix s (text (role_number z.role) os)) same (written_front (role_number z.role) w.whole w.waiting w.part s is w.cut);
+      opens = hello_prefix (role_number z.role) w.whole s w.part is;
+      prefix = subst (λ (os : List (List ℕ)). IsPrefix s (text (role_number z.role) os)) same (written_prefix (role_number z.role) w.whole w.waiting w.part s is w.cut);
       all = λ none. written_whole (role_number z.role) w.whole w.waiting w.part s is w.cut (w.waits ∙ none) ∙ ap (text (role_number z.role)) same;
     }
 
@@ -298,13 +298,13 @@ module _ (o : Origins) (z : Setting) (h : List (Turn Entry)) (p place : ℕ) (n 
     outs_are = subst (λ (c : Option (List (List ℕ))). IfSome c (λ texts. texts ≡ outs past p)) (sym (ap (λ (x : WireView). x.outs) after)) down.agrees.outs_is
 
     came : Told v.link.came (λ s. IsPrefix (text (peer_number z.role) (frames past p)) s)
-    came = told_both (ShowsIn v) (λ s. number_in s ≡ peer_number z.role) _ v.link.came (λ s a b. came_front z past p v s came_are a b) framed.came over.peer
+    came = told_both (ShowsIn v) (λ s. number_in s ≡ peer_number z.role) _ v.link.came (λ s a b. came_prefix z past p v s came_are a b) framed.came over.peer
 
     written : Told v.link.written (WrittenAs z past p v)
     written = told_both (WrittenIn v) (λ s. number_in s ≡ role_number z.role) _ v.link.written (λ s a b. written_as z past p v s outs_are a b) framed.written over.own
 
     opened : HasOpened (run_ways z.role o) ways.Greeting v.link
-    opened = told_so _ _ v.link.came (λ s front. told_so (WrittenAs z past p v) _ v.link.written (λ t a. (hello_front (peer_number z.role) (frames past p) s front.0 front.1, λ owed e. subst (λ (l : List ℕ). IsPrefix l t) (sym e) a.opens)) written) came
+    opened = told_so _ _ v.link.came (λ s prefix. told_so (WrittenAs z past p v) _ v.link.written (λ t a. (hello_prefix (peer_number z.role) (frames past p) s prefix.0 prefix.1, λ owed e. subst (λ (l : List ℕ). IsPrefix l t) (sym e) a.opens)) written) came
 
     drained : Told v.link.came (λ s. v.wire.came ≡ Some (shows (number_in s) v.max s)) → IsDrained z max_body past p v.link
     drained all = told_both _ _ _ v.link.came (λ s a b.
@@ -332,7 +332,7 @@ module _ (o : Origins) (z : Setting) (h : List (Turn Entry)) (p place : ℕ) (n 
       asked = asked_by v.link over.waited;
       carried = record {
         opened = (ways.Greeting, (over.scheme, tt), opened);
-        carries = λ tcp. record { came = came; written = told_so _ _ v.link.written (λ s a. a.front) written };
+        carries = λ tcp. record { came = came; written = told_so _ _ v.link.written (λ s a. a.prefix) written };
         fell = λ tcp other e. subst (λ (y : Why). FellFor z max_body past p y v.link) (why_of other e) (fell_by why down.shows);
         read = read_by v.wire v.link after framed.idles;
         whole = λ tcp cleared. told_so _ _ v.link.written (λ s a. a.all (ap (λ (x : WireView). x.waits) after ∙ down.agrees.waits_is cleared)) written;

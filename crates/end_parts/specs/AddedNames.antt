@@ -1,7 +1,7 @@
 -- One name more within the process.
 use Rattle.std.specs.Prelude.{◌≡◌, ◌+◌, ◌++◌, ℕ, List, [], ◌∷◌, Some, None, Result, Ok, Err}
 use Rattle.sp_base.specs.declared.role.Role.{Role}
-use Rattle.end_parts.specs.declared.caller.NameDialer.{NameDialer}
+use Rattle.end_parts.specs.declared.name_dialer.NameDialer.{NameDialer}
 use Rattle.sp_base.specs.declared.error.NoMemory.{NoMemory}
 use Rattle.end_parts.specs.EndViews.{NamesView}
 use Rattle.sp_lane.specs.Registry.{Registry, Listens, names}
@@ -17,14 +17,14 @@ ListensName (Err errors.InUse) name role old new reg reg' = (new ≡ old) × Lis
 ListensName (Err errors.NoMemory) name role old new reg reg' = (new ≡ old) × (reg' ≡ reg)
 
 -- a caller of this name that has not dialed yet
-pub record IsNewCaller (name : List ℕ) (c : NameDialer) : Type 0 where
+pub record IsNewNameDialer (name : List ℕ) (c : NameDialer) : Type 0 where
   pub name_is : c.name ≡ name
   pub next : c.next ≡ Some 0
   pub pipe : c.pipe ≡ None
 
 -- one name more is dialed, or none when out of memory
 abbrev pub DialsName : Result (Unit {0}) EndError → List ℕ → NamesView → NamesView → Type 0
-DialsName (Ok done) name old new = (c : NameDialer) × IsNewCaller name c × (new ≡ record old { callers = old.callers ++ c ∷ [] })
+DialsName (Ok done) name old new = (c : NameDialer) × IsNewNameDialer name c × (new ≡ record old { callers = old.callers ++ c ∷ [] })
 DialsName (Err errors.Fault) name old new = ⊥
 DialsName (Err errors.InUse) name old new = ⊥
 DialsName (Err errors.NoMemory) name old new = new ≡ old

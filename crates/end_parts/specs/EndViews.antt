@@ -3,7 +3,7 @@ use Rattle.std.specs.Prelude.{ℕ, List, []}
 use Rattle.sp_base.specs.Views.{NetView}
 use Rattle.sp_base.specs.declared.role.Role.{Role}
 use Rattle.end_parts.specs.declared.newcomer.Newcomer.{Newcomer}
-use Rattle.end_parts.specs.declared.caller.NameDialer.{NameDialer}
+use Rattle.end_parts.specs.declared.name_dialer.NameDialer.{NameDialer}
 use Rattle.end_parts.specs.declared.dialer.Dialer.{Dialer}
 use Rattle.end_parts.specs.declared.listener.Listener.{Listener}
 use Rattle.link_opening.specs.Origins.{Origins}

@@ -8,10 +8,10 @@ use Rattle.sp_history.specs.declared.entry.Entry.{Entry}
 use Rattle.sp_history.specs.Past.{past_of, now, ups}
 use Rattle.cat_play.specs.Recording.{lane_place, place_of}
 use Rattle.cat_play.specs.Running.{has_dry_miss}
-use Rattle.end_parts.specs.declared.caller.NameDialer.{NameDialer}
+use Rattle.end_parts.specs.declared.name_dialer.NameDialer.{NameDialer}
 use Rattle.sp_single.specs.Singles.{SingleView, IsSound}
 use Rattle.sp_lane.specs.LaneWires.{LaneWireView}
-use Rattle.sp_core.specs.declared.attach.AttachError.{AttachError}
+use Rattle.sp_core.specs.declared.calls.attach.AttachError.{AttachError}
 use Rattle.end_parts.specs.DialMoments.{moment, IsDueAt}
 use Rattle.end_parts.specs.EndViews.{LinkEndsView, Beginning}
 use Rattle.end_parts.specs.RunLinks.{EndsStand, places}
@@ -20,25 +20,25 @@ use Rattle.end_parts.specs.SocketSteps.{Quietly}
 use Rattle.sp_core.specs.Attaching.{RefusedAttach}
 use Rattle.sp_lane.specs.declared.inproc.InprocError.{InprocError}
 
--- ---- Callers
+-- ---- Name dialers
 
 -- it has no pipe, and may dial
-abbrev pub IsDueCaller : ℕ → NameDialer → Type 0
-IsDueCaller now c = (c.pipe ≡ None) × IsDueAt c.next now
+abbrev pub IsDueNameDialer : ℕ → NameDialer → Type 0
+IsDueNameDialer now c = (c.pipe ≡ None) × IsDueAt c.next now
 
 -- it has no pipe now, and may dial after the pause
-abbrev pub IsFreeCaller : ℕ → NameDialer → NameDialer → Type 0
-IsFreeCaller now old new = new ≡ record old { next = moment (now + 100); pipe = None }
+abbrev pub IsFreeNameDialer : ℕ → NameDialer → NameDialer → Type 0
+IsFreeNameDialer now old new = new ≡ record old { next = moment (now + 100); pipe = None }
 
 -- the caller that had this pipe is free; any other is the same
-pub record IsLostCaller (now pipe : ℕ) (old new : NameDialer) : Type 0 where
-  pub lost : old.pipe ≡ Some pipe → IsFreeCaller now old new
+pub record IsLostNameDialer (now pipe : ℕ) (old new : NameDialer) : Type 0 where
+  pub lost : old.pipe ≡ Some pipe → IsFreeNameDialer now old new
   pub others : (old.pipe ≡ Some pipe → ⊥) → new ≡ old
 
 -- one by one
 abbrev pub AreLost : ℕ → ℕ → List NameDialer → List NameDialer → Type 0
 AreLost now pipe [] [] = ⊤
-AreLost now pipe (c ∷ cs) (d ∷ ds) = IsLostCaller now pipe c d × AreLost now pipe cs ds
+AreLost now pipe (c ∷ cs) (d ∷ ds) = IsLostNameDialer now pipe c d × AreLost now pipe cs ds
 AreLost now pipe _ _ = ⊥
 
 -- the pipe came up over lanes between these
@@ -48,11 +48,11 @@ IsNewLane old new p = (ups (past_of old.seen) < p) × (place_of (past_of new.see
 -- it dialed: it has a new pipe over lanes, or is free
 abbrev pub HasCalled : ℕ → SingleView → SingleView → NameDialer → NameDialer → Type 0
 HasCalled now s s' old new =
-    IsFreeCaller now old new ⊎ ((p : ℕ) × IsNewLane s s' p × (new ≡ record old { next = moment (now + 100); pipe = Some p }))
+    IsFreeNameDialer now old new ⊎ ((p : ℕ) × IsNewLane s s' p × (new ≡ record old { next = moment (now + 100); pipe = Some p }))
 
 -- one that is due dialed; any other is the same
 abbrev pub CallsOne : ℕ → SingleView → SingleView → NameDialer → NameDialer → Type 0
-CallsOne now s s' old new = (IsDueCaller now old × HasCalled now s s' old new) ⊎ ((IsDueCaller now old → ⊥) × (new ≡ old))
+CallsOne now s s' old new = (IsDueNameDialer now old × HasCalled now s s' old new) ⊎ ((IsDueNameDialer now old → ⊥) × (new ≡ old))
 
 abbrev pub CallsAll : ℕ → SingleView → SingleView → List NameDialer → List NameDialer → Type 0
 CallsAll now s s' [] [] = ⊤
@@ -117,7 +117,7 @@ CallsAt i now role s s' reg reg' old new =
 -- one that is due dialed, and has the pipe that this brought; for any other nothing was done
 abbrev pub DialsIfDue : ℕ → Role → SingleView → SingleView → Registry → Registry → NameDialer → NameDialer → Type 0
 DialsIfDue now role s s' reg reg' old new =
-    (IsDueCaller now old × TriesName old.name role new.pipe s s' reg reg') ⊎ ((IsDueCaller now old → ⊥) × (s' ≡ s) × (reg' ≡ reg))
+    (IsDueNameDialer now old × TriesName old.name role new.pipe s s' reg reg') ⊎ ((IsDueNameDialer now old → ⊥) × (s' ≡ s) × (reg' ≡ reg))
 
 -- one after the other: between these nothing else was done with the socket or the names
 abbrev pub DialsDue : ℕ → Role → SingleView → SingleView → Registry → Registry → List NameDialer → List NameDialer → Type 0

@@ -52,7 +52,7 @@ pub record IsOfRun {L : Type 0} (seen : L → LinkView) (o : Origins) (z : Setti
 abbrev pub in_order : {A : Type 0} → ℕ → List A → List A
 in_order k xs = drop k xs ++ take k xs
 
--- A link in progress, met at its tick. It answered at least once a tick that nothing was there or that it took nothing,
+-- A link in progress, met at its tick. It returned at least once a tick that nothing was there or that it took nothing,
 -- but for so many ticks
 pub record IsProgressing {L : Type 0} (seen : L → LinkView) (o : Origins) (z : Setting) (past : List Entry) (slack : ℕ) (n : Newcomer L) : Type 0 where
   pub under_way : IsUnderWay seen n.opening
@@ -93,7 +93,7 @@ name_number schemes.Tcp = scheme_number schemes.Tcp
 name_number schemes.Ws = opened_number (scheme_number schemes.Ws)
 name_number schemes.Inproc = scheme_number schemes.Inproc
 
--- the name of a wire over the link with this place. While the link was in progress it answered at least once a tick, but
+-- the name of a wire over the link with this place. While the link was in progress it returned at least once a tick, but
 -- for one, that nothing was there or that it took nothing
 pub record IsNameOver (o : Origins) (z : Setting) (past : List Entry) (place : ℕ) (numbers : List ℕ) : Type 0 where
   pub scheme : Scheme
@@ -230,7 +230,7 @@ pub record EndsStand {L : Type 0} (seen : L → LinkView) (z : Setting) (start :
   pub of_run : AreOfRun start.origins ends
   pub few : length ends.newcomers ≤ 320
 
--- no answer of the net was counted, and it listens as it did
+-- no result of the net was counted, and it listens as it did
 pub record SameCounts (old new : NetView) : Type 0 where
   pub listens : new.listens ≡ old.listens
   pub opened : new.opened ≡ old.opened

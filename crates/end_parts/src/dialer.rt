@@ -8,7 +8,7 @@ use sp_base::{Addr, Tick};
 /// How many milliseconds lie between two dials, and between the end of a link and the next dial.
 pub(crate) const PAUSE: u64 = 100;
 
-/// An address that is dialed again and again, while no link to it stands.
+/// An address that is dialed again and again, while no link to it stands (nng_dialer(5)).
 #[derive(Drop)]
 pub struct Dialer {
     /// It can be dialed.

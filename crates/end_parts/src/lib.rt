@@ -5,25 +5,25 @@
 //! that no link has, or it is shut, which tells the other half. What is shut is given back: its link, if it has one.
 //!
 //! `newcomer` has one link that is opened, `greeting` what becomes of it, `shut` links and wires that are given back;
-//! `dialer` has one address that is dialed, `listener` one that is listened at; `caller` one name that is dialed, `names`
-//! all names. What stands between the links of a run, its net and the history of its socket is `LinksStand`
+//! `dialer` has one address that is dialed, `listener` one that is listened at; `name_dialer` one name that is dialed,
+//! `names` all names. What stands between the links of a run, its net and the history of its socket is `LinksStand`
 //! (`specs/RunLinks`).
 #![tactic(auto)]
 
-mod caller;
 mod dialer;
 mod error;
 mod greeting;
 mod listener;
+mod name_dialer;
 mod names;
 mod newcomer;
 mod shut;
 
-pub use caller::NameDialer;
 pub use dialer::Dialer;
 pub use error::EndError;
 pub use greeting::{MAX_BODY, NewcomerDecision, NewcomerFate, greet_one, miss};
 pub use listener::Listener;
+pub use name_dialer::NameDialer;
 pub use names::{LINKS_A_TURN, NameEnds};
 pub use newcomer::{Newcomer, newcomer_over};
 pub use shut::{give_newcomers_back, give_wires_back, leave, leave_wire};

@@ -2,7 +2,7 @@
 
 use sp_base::Addr;
 
-/// An address at which the net listens.
+/// An address at which the net listens (nng_listener(5)).
 #[derive(Debug, Drop)]
 pub struct Listener {
     /// The number by which the net knows it.

@@ -4,8 +4,8 @@ ghost use Rattle.end_parts.specs.AddedNames.{ListensName, DialsName};
 ghost use Rattle.end_parts.specs.NameSteps.{AreLost, GoesOn, KeepsLinks, CallsAll, CallsAt, DialsDue, TriesName, Accepting, Brings, AllBring, HasFewer, HasNewLane, CameUp};
 ghost use Rattle.sp_lane.specs.Registry.{IsNewHalf};
 
-use crate::caller::NameDialer;
 use crate::error::EndError;
+use crate::name_dialer::NameDialer;
 use crate::shut::leave_wire;
 use end_wire::EndWire;
 use sp_base::{Bytes, Link, PipeId, Role, Tick};
@@ -22,7 +22,7 @@ pub const LINKS_A_TURN: u32 = 16;
 /// The place of a pipe that has no link of a net.
 const LANE_PLACE: u32 = u32::MAX;
 
-/// Names that are listened on, and names that are dialed.
+/// Names that are listened on (nng_listener(5)), and names that are dialed (nng_dialer(5)).
 #[derive(Drop)]
 pub struct NameEnds {
     alloc: Global,

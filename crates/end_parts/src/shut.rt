@@ -23,8 +23,8 @@ pub fn leave<N: Net>(net: &mut N, mut link: N::L)
     net.give_back(link);
 }
 
-/// Shuts a wire that a pipe had, and the link under it. A wire within the process has none, and tells its end to the other
-/// half, if there is room for it.
+/// Shuts a wire that a pipe had, and the link under it. A wire within the process has none, and tells its end to the
+/// other half, if there is room for it.
 pub fn leave_wire<R: Wait, L: Link>(rt: &R, mut wire: EndWire<L>) -> Option<L>
     ensures { IsLeftOf L.seen wire result }
 {

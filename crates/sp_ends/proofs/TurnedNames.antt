@@ -17,9 +17,9 @@ use Rattle.cat_play.specs.Recording.{lane_place}
 use Rattle.cat_play.specs.Steps.{moves_ends}
 use Rattle.end_parts.specs.DialMoments.{moment, IsDueAt}
 use Rattle.end_parts.specs.SocketSteps.{Quietly, NoLane}
-use Rattle.end_parts.specs.NameSteps.{IsDueCaller, IsFreeCaller, IsLostCaller, AreLost, DialsIfDue, DialsDue, CallsOne, CallsAll, Accepting, GoesOn, AllBring}
+use Rattle.end_parts.specs.NameSteps.{IsDueNameDialer, IsFreeNameDialer, IsLostNameDialer, AreLost, DialsIfDue, DialsDue, CallsOne, CallsAll, Accepting, GoesOn, AllBring}
 use Rattle.sp_ends.specs.NameTurns.{IsGone, TookPipe, TakesCaller, TakesCallers, TurnsCaller, TurnsCallers, TurnsLanes}
-use Rattle.end_parts.specs.declared.caller.NameDialer.{NameDialer}
+use Rattle.end_parts.specs.declared.name_dialer.NameDialer.{NameDialer}
 use Rattle.std.proofs.lemmas.Bool.{ne_eqb}
 use Rattle.end_parts.proofs.LinkPlaces.{gone}
 use Rattle.end_parts.proofs.Moves.{unequal}
@@ -65,12 +65,12 @@ taken_first (u ∷ us) p e = let same : u ≡ p = cc in rw (eq-eqb u p same) ref
 pub gone_stays : (a b : SingleView) (p : ℕ) → Quietly a b → IsSound b → IsGone a p → IsGone b p
 gone_stays a b p q sound g = let x = off_stays true a b p q sound (g.numbered, g.down, λ e. g.taken) in record { numbered = x.0; down = x.1; taken = x.2 refl }
 
--- ---- Callers that lose their pipes
+-- ---- Name dialers that lose their pipes
 
 -- so far each is the same, and its pipe that was down is still to be taken; or it is free
 abbrev pub TakesOne : ℕ → SingleView → SingleView → NameDialer → NameDialer → Type 0
 TakesOne now a b c d =
-    (d ≡ c) × ((p : ℕ) → c.pipe ≡ Some p → has (untaken (past_of a.seen)) p ≡ true → has (untaken (past_of b.seen)) p ≡ true) ⊎ ((p : ℕ) × (c.pipe ≡ Some p) × IsGone b p × IsFreeCaller now c d)
+    (d ≡ c) × ((p : ℕ) → c.pipe ≡ Some p → has (untaken (past_of a.seen)) p ≡ true → has (untaken (past_of b.seen)) p ≡ true) ⊎ ((p : ℕ) × (c.pipe ≡ Some p) × IsGone b p × IsFreeNameDialer now c d)
 
 abbrev pub TakesSome : ℕ → SingleView → SingleView → List NameDialer → List NameDialer → Type 0
 TakesSome now a b [] [] = ⊤
@@ -85,7 +85,7 @@ some_number : (p q : ℕ) → Some p ≡ Some q → p ≡ q
 some_number p q e = cc
 
 module _ (now : ℕ) (a b c : SingleView) (q : ℕ) (took : TookPipe q b c) (quiet : Quietly b c) (sound : IsSound c) where
-  takes_then : (x y w : NameDialer) → TakesOne now a b x y → IsLostCaller now q y w → TakesOne now a c x w
+  takes_then : (x y w : NameDialer) → TakesOne now a b x y → IsLostNameDialer now q y w → TakesOne now a c x w
   takes_then x y w (inr (p, has_p, g, free)) lost =
       let none : y.pipe ≡ None = ap (λ (k : NameDialer). k.pipe) free in
       inr (p, has_p, gone_stays b c p quiet sound g, lost.others (λ e. let no : Some q ≡ None = sym e ∙ none in cc) ∙ free)
@@ -144,10 +144,10 @@ module _ (now : ℕ) (role : Role) where
 -- ---- A whole turn
 
 turns_one : (now : ℕ) (a b c d e : SingleView) (x y w : NameDialer) → GoesOn d e → GoesOn c d → ups (past_of a.seen) ≤ ups (past_of c.seen) → Quietly b c → IsSound c → Quietly c e → IsSound e → TakesCaller now a b x y → CallsOne now c d y w → TurnsCaller now a e x w
-turns_one now a b c d e x y w on go more quiet sound quiet' sound' (inl (same, u)) (inl (due, inl free)) = inl (subst (IsDueCaller now) same due, inl (free ∙ ap (λ (k : NameDialer). record k { next = moment (now + 100); pipe = None }) same))
+turns_one now a b c d e x y w on go more quiet sound quiet' sound' (inl (same, u)) (inl (due, inl free)) = inl (subst (IsDueNameDialer now) same due, inl (free ∙ ap (λ (k : NameDialer). record k { next = moment (now + 100); pipe = None }) same))
 turns_one now a b c d e x y w on go more quiet sound quiet' sound' (inl (same, u)) (inl (due, inr (p, lane, is))) =
-    inl (subst (IsDueCaller now) same due, inr (p, (let l = lane.0 in omega (arith, l, more), on.places p lane_place lane.1), is ∙ ap (λ (k : NameDialer). record k { next = moment (now + 100); pipe = Some p }) same))
-turns_one now a b c d e x y w on go more quiet sound quiet' sound' (inl (same, u)) (inr (never, kept)) = inr (λ due. never (subst (IsDueCaller now) (sym same) due), inl (kept ∙ same, u))
+    inl (subst (IsDueNameDialer now) same due, inr (p, (let l = lane.0 in omega (arith, l, more), on.places p lane_place lane.1), is ∙ ap (λ (k : NameDialer). record k { next = moment (now + 100); pipe = Some p }) same))
+turns_one now a b c d e x y w on go more quiet sound quiet' sound' (inl (same, u)) (inr (never, kept)) = inr (λ due. never (subst (IsDueNameDialer now) (sym same) due), inl (kept ∙ same, u))
 turns_one now a b c d e x y w on go more quiet sound quiet' sound' (inr (p, has_p, g, free)) (inl (due, called)) =
     let l = due_moment (now + 100) now (subst (λ (k : NameDialer). IsDueAt k.next now) free due.1) in absurd (omega (arith, l))
 turns_one now a b c d e x y w on go more quiet sound quiet' sound' (inr (p, has_p, g, free)) (inr (never, kept)) =

@@ -126,7 +126,7 @@ AsksAll now ends old new =
 abbrev pub FewInProgress : {L : Type 0} → LinkEndsView L → LinkEndsView L → Type 0
 FewInProgress old new = length old.newcomers ≤ 256 → length new.newcomers ≤ 256 + length old.dialers
 
--- What was asked of the net for links, where each link counts once, and each answer that there is none, and each fault, as often
+-- What was asked of the net for links, where each link counts once, and each result that there is none, and each fault, as often
 -- as a listener is asked in a turn
 abbrev pub asks_of : NetView → ℕ
 asks_of net = 16 * (net.idles + net.faults) + net.opened

@@ -4,11 +4,11 @@ use Rattle.sp_base.specs.declared.role.Role.{Role}
 use Rattle.sp_history.specs.Lists.{has}
 use Rattle.sp_history.specs.Past.{past_of, up, untaken, now, ups}
 use Rattle.cat_play.specs.Recording.{greeting}
-use Rattle.end_parts.specs.declared.caller.NameDialer.{NameDialer}
+use Rattle.end_parts.specs.declared.name_dialer.NameDialer.{NameDialer}
 use Rattle.sp_single.specs.Singles.{SingleView}
 use Rattle.sp_lane.specs.Registry.{Registry}
 use Rattle.end_parts.specs.SocketSteps.{Quietly, NoLane}
-use Rattle.end_parts.specs.NameSteps.{IsDueCaller, IsFreeCaller, HasCalled, GoesOn, DialsDue, AllBring, Accepting}
+use Rattle.end_parts.specs.NameSteps.{IsDueNameDialer, IsFreeNameDialer, HasCalled, GoesOn, DialsDue, AllBring, Accepting}
 use Rattle.end_parts.specs.EndViews.{LinkEndsView, NamesView}
 
 -- the pipe is down, and its wire was taken
@@ -30,7 +30,7 @@ TakesPipe (Some p) s s' = TookPipe p s s'
 -- it is the same, and its pipe was not down before; or its pipe is gone, and it is free
 abbrev pub TakesCaller : ℕ → SingleView → SingleView → NameDialer → NameDialer → Type 0
 TakesCaller now s s' old new =
-    (new ≡ old) × ((p : ℕ) → old.pipe ≡ Some p → has (untaken (past_of s.seen)) p ≡ true → ⊥) ⊎ ((p : ℕ) × (old.pipe ≡ Some p) × IsGone s' p × IsFreeCaller now old new)
+    (new ≡ old) × ((p : ℕ) → old.pipe ≡ Some p → has (untaken (past_of s.seen)) p ≡ true → ⊥) ⊎ ((p : ℕ) × (old.pipe ≡ Some p) × IsGone s' p × IsFreeNameDialer now old new)
 
 -- one by one
 abbrev pub TakesCallers : ℕ → SingleView → SingleView → List NameDialer → List NameDialer → Type 0
@@ -40,7 +40,7 @@ TakesCallers now s s' _ _ = ⊥
 
 -- it was due, and dialed; or it was not
 abbrev pub TurnsCaller : ℕ → SingleView → SingleView → NameDialer → NameDialer → Type 0
-TurnsCaller now s s' old new = (IsDueCaller now old × HasCalled now s s' old new) ⊎ ((IsDueCaller now old → ⊥) × TakesCaller now s s' old new)
+TurnsCaller now s s' old new = (IsDueNameDialer now old × HasCalled now s s' old new) ⊎ ((IsDueNameDialer now old → ⊥) × TakesCaller now s s' old new)
 
 -- one by one
 abbrev pub TurnsCallers : ℕ → SingleView → SingleView → List NameDialer → List NameDialer → Type 0

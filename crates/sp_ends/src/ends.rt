@@ -11,8 +11,9 @@ use sp_lane::Inproc;
 use std::alloc::Global;
 use std::marker::Model;
 
-/// Addresses over links of a net that are listened at and dialed, the links that are being opened, and names within the
-/// process that are listened on and dialed. Its room for links is taken when it is made.
+/// Addresses over links of a net that are listened at and dialed (nng_listener(5), nng_dialer(5)), the links that are
+/// being opened, and names within the process that are listened on and dialed. Its room for links is taken when it is
+/// made.
 pub struct Ends<L: Link> {
     pub(crate) links: LinkEnds<L>,
     pub(crate) names: NameEnds,

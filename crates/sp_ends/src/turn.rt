@@ -60,9 +60,9 @@ impl EndsTurn {
 
 impl<L: Link> Ends<L> {
     /// One turn of the ends, at this tick, which is that of the history: takes the wires whose pipes are down and gives
-    /// their links back, goes on with the greetings, asks each listener for at most 16 links and dials each address that
-    /// is due; then it does the same with names within the process. Where there is no memory for a link this is given
-    /// back and the turn says so; the other links have their turn all the same.
+    /// their links back, goes on with the greetings, asks each listener for at most 16 links and dials each address
+    /// that is due; then it does the same with names within the process. Where there is no memory for a link this is
+    /// given back and the turn says so; the other links have their turn all the same.
     pub fn turn<R: Wait, N: Net<L = L>, P: Proto>(
         &mut self,
         rt: &R,

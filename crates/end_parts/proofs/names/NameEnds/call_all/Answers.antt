@@ -1,9 +1,9 @@
 -- Each name that is due is dialed.
 use Rattle.std.proofs.Common.{◌≡◌, ◌<◌, ◌∙◌, ℕ, refl, sym, ap, subst, arith, add-one, length, true, false, Some, slice_get}
 use Rattle.std.specs.Prelude.{IsTrue}
-use Rattle.end_parts.specs.NameSteps.{IsDueCaller}
+use Rattle.end_parts.specs.NameSteps.{IsDueNameDialer}
 use Rattle.end_parts.specs.EndViews.{NamesView}
-use Rattle.end_parts.specs.declared.caller.NameDialer.{NameDialer}
+use Rattle.end_parts.specs.declared.name_dialer.NameDialer.{NameDialer}
 use Rattle.end_parts.proofs.DialedNames.{goes_none, goes_both, CallsTo, calls_next, calls_kept, calls_whole, calls_long, DialsTo, dials_next, dials_kept, dials_whole}
 use Rattle.end_parts.proofs.Lanes.{keeps_none, keeps_both}
 use Rattle.end_parts.proofs.ListReads.{at_index}
@@ -29,7 +29,7 @@ calls-preserved-then-not-is_due g c =
     let old = ap (λ (e : NamesView). length e.callers) c.self.view_is in
     let below : c.calls.i < length c.calls.self.callers = omega (arith, old, c.calls-test.true, c.len-i-end.ensures, c.self.inside.callers.ok.0, c.calls.invariant.lengths) in
     let at = at_index c.self-in-calls.inside.callers.items c.calls.self.callers c.calls.i c.index.result.now there below c.index.ensures in
-    let never : (y : NameDialer) → slice_get c.calls.self.callers c.calls.i ≡ Some y → IsDueCaller c.args.now y → ⊥ = λ y e due. let no : false ≡ true = sym c.if-not-is_due.true ∙ c.is_due.ensures.1 (subst (IsDueCaller c.args.now) (sym (some_caller (sym at ∙ e))) due) in cc in
+    let never : (y : NameDialer) → slice_get c.calls.self.callers c.calls.i ≡ Some y → IsDueNameDialer c.args.now y → ⊥ = λ y e due. let no : false ≡ true = sym c.if-not-is_due.true ∙ c.is_due.ensures.1 (subst (IsDueNameDialer c.args.now) (sym (some_caller (sym at ∙ e))) due) in cc in
     record {
       on = c.calls.invariant.on;
       links = c.calls.invariant.links;

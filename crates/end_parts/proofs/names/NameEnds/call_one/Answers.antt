@@ -1,7 +1,7 @@
 -- The caller has what the call brought.
 use Rattle.std.proofs.Common.{◌≡◌, ◌∙◌, sym, ap, set, List}
 use Rattle.end_parts.specs.EndViews.{NamesView}
-use Rattle.end_parts.specs.declared.caller.NameDialer.{NameDialer}
+use Rattle.end_parts.specs.declared.name_dialer.NameDialer.{NameDialer}
 use Rattle.end_parts.proofs.DialedNames.{called_as, tries_as, one_caller}
 use Rattle.end_parts.proofs.ListReads.{at_index}
 use Rattle.end_parts.proofs.names.NameEnds.call_one.Goals as goal

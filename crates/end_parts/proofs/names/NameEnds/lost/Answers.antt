@@ -2,7 +2,7 @@
 use Rattle.std.proofs.Common.{◌≡◌, ◌<◌, ◌≤◌, length, List, ℕ, refl, ap, subst, sym, ◌∙◌, arith, add-one, set}
 use Rattle.std.specs.Vec.{with_items}
 use Rattle.std.proofs.lemmas.List.{with_items_is}
-use Rattle.end_parts.specs.declared.caller.NameDialer.{NameDialer}
+use Rattle.end_parts.specs.declared.name_dialer.NameDialer.{NameDialer}
 use Rattle.end_parts.specs.NameSteps.{AreLost}
 use Rattle.end_parts.specs.EndViews.{NamesView}
 use Rattle.end_parts.proofs.DialedNames.{LostTo, lost_next, lost_whole}

@@ -1,12 +1,12 @@
 //! A name within the process that is dialed.
 ghost use Rattle.std.specs.Prelude.{◌≡◌, ◌+◌, IsTrue, ◌↔◌, None, Some};
 ghost use Rattle.end_parts.specs.DialMoments.{moment};
-ghost use Rattle.end_parts.specs.NameSteps.{IsDueCaller, IsLostCaller};
+ghost use Rattle.end_parts.specs.NameSteps.{IsDueNameDialer, IsLostNameDialer};
 
 use crate::dialer::PAUSE;
 use sp_base::{Bytes, PipeId, Tick};
 
-/// A name within the process that is dialed again and again, while no pipe to it stands.
+/// A name within the process that is dialed again and again, while no pipe to it stands (nng_dialer(5)).
 #[derive(Debug, Drop)]
 pub struct NameDialer {
     /// The name.
@@ -31,7 +31,7 @@ impl NameDialer {
 
     /// Whether it is to be dialed at this tick.
     pub fn is_due(&self, now: Tick) -> bool
-        ensures { IsTrue result ↔ IsDueCaller now self.now }
+        ensures { IsTrue result ↔ IsDueNameDialer now self.now }
     {
         match self.next {
             None => false,
@@ -49,7 +49,7 @@ impl NameDialer {
 
     /// The wire of this pipe was taken: where it was this one's, it may be dialed again after the pause.
     pub fn lost(&mut self, now: Tick, pipe: PipeId)
-        ensures { IsLostCaller now pipe self.old self.new }
+        ensures { IsLostNameDialer now pipe self.old self.new }
     {
         if self.pipe == Some(pipe) {
             self.next = now.0.checked_add(PAUSE);
