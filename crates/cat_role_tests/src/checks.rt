@@ -1,5 +1,5 @@
-//! What a test makes, and what it asks: it stops where an answer is another one. Calls cost less to prove than the macros
-//! written out.
+//! What a test makes, and what it asks: it stops where a result is another one. Calls cost less to prove than the
+//! macros written out.
 ghost use Rattle.std.specs.Prelude.{◌≡◌, Ok, true};
 
 use cat_fakes::{ALL, link_of};

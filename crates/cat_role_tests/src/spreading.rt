@@ -16,7 +16,8 @@ const HELLO_112: &[u8] = b"\x00SP\x00\x00\x70\x00\x00";
 const TWICE_BY_BUS: &[u8] =
     b"\x00SP\x00\x00\x70\x00\x00\x00\x00\x00\x00\x00\x00\x00\x01m\x00\x00\x00\x00\x00\x00\x00\x01m";
 
-// Two are sent, a second apart. The greeting of the second subscriber is whole in the second round: it gets the second one.
+// Two are sent, a second apart. The greeting of the second subscriber is whole in the second round: it gets the second
+// one.
 #[test]
 fn a_pub_sends_to_each_subscriber(rt: HostRuntime) {
     let alloc = rt.alloc();

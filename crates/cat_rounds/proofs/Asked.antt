@@ -21,9 +21,9 @@ use Rattle.end_parts.specs.RunLinks.{NetStands, SameCounts, tries_of}
 
 -- ---- Tries
 
-spaced_front : (from : ℕ) (ts : List ℕ) (t : ℕ) → length (spaced_from from ts) ≤ length (spaced_from from (ts ++ t ∷ []))
-spaced_front from [] t = omega arith
-spaced_front from (u ∷ ts) t = go (nat_le from u) (spaced_front (u + 100) ts t) (spaced_front from ts t)
+spaced_prefix : (from : ℕ) (ts : List ℕ) (t : ℕ) → length (spaced_from from ts) ≤ length (spaced_from from (ts ++ t ∷ []))
+spaced_prefix from [] t = omega arith
+spaced_prefix from (u ∷ ts) t = go (nat_le from u) (spaced_prefix (u + 100) ts t) (spaced_prefix from ts t)
   where
     go : (b : Bool) → length (spaced_from (u + 100) ts) ≤ length (spaced_from (u + 100) (ts ++ t ∷ [])) → length (spaced_from from ts) ≤ length (spaced_from from (ts ++ t ∷ []))
         → length (if b then u ∷ spaced_from (u + 100) ts else spaced_from from ts) ≤ length (if b then u ∷ spaced_from (u + 100) (ts ++ t ∷ []) else spaced_from from (ts ++ t ∷ []))
@@ -32,7 +32,7 @@ spaced_front from (u ∷ ts) t = go (nat_le from u) (spaced_front (u + 100) ts t
 
 earlier_few : (past : List Entry) → length (spaced_from 0 (ticks (before_last_tick past))) ≤ length (spaced_from 0 (ticks past))
 earlier_few [] = omega arith
-earlier_few (Tick t due ∷ past) = spaced_front 0 (ticks past) t
+earlier_few (Tick t due ∷ past) = spaced_prefix 0 (ticks past) t
 earlier_few (_ ∷ past) = earlier_few past
 
 tries_few : (past : List Entry) (tries : List ℕ) → AreOrdered (ticks (before_last_tick past)) → AreTries past tries → length tries ≤ length (spaced_from 0 (ticks past))

@@ -1,8 +1,9 @@
 -- A run stands before its first round.
 use Rattle.std.proofs.Common.{◌≡◌, refl, ap, sym, ◌∙◌, subst, List, [], ℕ, zero, suc, Bool, true, false, arith, length, Option, Some, None, ◌∷◌, inl, inr}
 use Rattle.std.specs.List.{AllByRecursion}
-use Rattle.std.specs.Prelude.{IsTrue, ◌||◌, ◌&&◌, ◌==◌, not, is_some, nat_le}
+use Rattle.std.specs.Prelude.{IsTrue, ◌||◌, ◌&&◌, ◌==◌, not, is_some, nat_le, Result, Ok, IfOk}
 use Rattle.std.proofs.lemmas.Bool.Decides.{nat_tests}
+use Rattle.std.proofs.lemmas.Result.{IfOk-at_ok}
 use Rattle.turn_lock.specs.declared.turn.Turn.{Turn}
 use Rattle.sp_spec.specs.Outside.{grown}
 use Rattle.sp_base.specs.Views.{LinkView, NetView, FilesView}
@@ -11,6 +12,8 @@ use Rattle.sp_base.specs.declared.addr.Addr.{Addr}
 use Rattle.link_opening.specs.Origins.{Origins, IsAmong}
 use Rattle.sp_history.specs.declared.entry.Entry.{Entry}
 use Rattle.sp_history.specs.declared.setting.Setting.{Setting}
+use Rattle.sp_history.specs.Moments.{Moment}
+use Rattle.sp_proto.specs.Kinds.{Kind, kind_of, setting_of, start}
 use Rattle.sp_single.specs.Singles.{SingleView}
 use Rattle.end_parts.specs.EndViews.{LinkEndsView, Beginning}
 use Rattle.end_parts.specs.RunLinks.{EndsStand}
@@ -20,7 +23,7 @@ use Rattle.cat_text.specs.declared.plan.Data.{Data}
 use Rattle.cat_text.specs.declared.plan.Data.TheVariants as datas
 use Rattle.cat_text.specs.declared.plan.End.{End}
 use Rattle.cat_text.specs.declared.plan.End.TheVariants as ends
-use Rattle.cat_play.specs.Plans.{Carries, IsPlayOf}
+use Rattle.cat_play.specs.Plans.{IsBodyOf, IsPlayOf}
 use Rattle.cat_play.specs.Running.{run_setting}
 use Rattle.cat_player.specs.declared.player.PlayEnd.{PlayEnd}
 use Rattle.cat_player.specs.declared.player.Script.{Script}
@@ -29,7 +32,7 @@ use Rattle.cat_player.specs.Lasting.{play_of, HasSurveys, PlayStands, IsNewPlaye
 use Rattle.cat_rounds.specs.RunRounds.{RunStands}
 use Rattle.cat_rounds.specs.SubscribedTopics.{CanSubscribe}
 use Rattle.sp_history.specs.Setting.{is_sub}
-use Rattle.cat_rounds.specs.Built.{IsBuilt, IsBuiltData, IsBody, IsEndOf, has_data, listen_addrs, dial_addrs, origins_of}
+use Rattle.cat_rounds.specs.Built.{IsBuilt, IsBuiltData, IsMachineOf, IsBody, IsEndOf, has_data, listen_addrs, dial_addrs, origins_of}
 use Rattle.cat_player.proofs.Silent.{append_nil}
 
 -- no end
@@ -122,7 +125,7 @@ abbrev pub script_of : CatPlan → Option (List ℕ) → Script
 script_of plan body =
     record { role = plan.role; body = body; topics = plan.topics; count = plan.count; interval = plan.interval; recv_timeout = plan.recv_timeout; send_timeout = plan.send_timeout; format = plan.format }
 
-carries_body : (data_ : Data) (files : FilesView) (body : Option (List ℕ)) → IsBuiltData data_ → IsBody data_ body → Carries data_ files body
+carries_body : (data_ : Data) (files : FilesView) (body : Option (List ℕ)) → IsBuiltData data_ → IsBody data_ body → IsBodyOf data_ files body
 carries_body datas.None files body built is = is
 carries_body (datas.Text text) files body built is = is
 carries_body (datas.File name) files body built is = elim built [ ]
@@ -182,3 +185,9 @@ can_subscribe s plan body p dice setting new built =
     cooked : (a b : Bool) → (a || b) ≡ true → (a && not false || b) ≡ true
     cooked true b h = refl
     cooked false b h = h
+
+-- the socket of the machine that was made has the setting of the run
+pub made_setting : {M E : Type 0} (ties : M → Moment → Type 0) (kind : M → Kind) → ((m : M) (t : Moment) → ties m t → kind_of t.z ≡ kind m) → (made : Result M E) (m : M) (role : Role) (dice : ℕ) → made ≡ Ok m → IfOk made (IsMachineOf ties role dice) → setting_of (kind m) 16 1 ≡ run_setting role dice
+made_setting ties kind kinds made m role dice is starts =
+    let new = IfOk-at_ok (IsMachineOf ties role dice) is starts in
+    ap (λ (x : Kind). setting_of x 16 1) (sym (kinds m (start (setting_of new.0 16 1) 0) (new.1 16 1 0))) ∙ new.2

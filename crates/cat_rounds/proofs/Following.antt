@@ -28,8 +28,8 @@ use Rattle.sp_base.specs.declared.addr.Addr.TheVariants as addrs
 use Rattle.sp_single.specs.Singles.{SingleView}
 use Rattle.cat_text.specs.declared.plan.End.{End}
 use Rattle.cat_text.specs.declared.plan.End.TheVariants as ends
-use Rattle.cat_play.specs.declared.ends.Status.{Status}
-use Rattle.cat_play.specs.declared.ends.Status.TheVariants as status
+use Rattle.cat_play.specs.declared.status.Status.{Status}
+use Rattle.cat_play.specs.declared.status.Status.TheVariants as status
 use Rattle.cat_play.specs.Spending.{listens_of, dials_of}
 use Rattle.cat_player.specs.declared.player.Player.{Player}
 use Rattle.cat_player.specs.PlayerSteps.{Sinks}

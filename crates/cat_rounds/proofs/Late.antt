@@ -13,15 +13,15 @@ use Rattle.sp_history.specs.declared.setting.Setting.{Setting}
 use Rattle.sp_history.specs.Changes.{none_of}
 use Rattle.sp_history.specs.Past.{onto, past_of}
 use Rattle.sp_history.proofs.Appending.{past_of-append}
-use Rattle.sp_core.specs.declared.serve.Served.{Served}
+use Rattle.sp_core.specs.declared.calls.serve.Served.{Served}
 use Rattle.sp_core.specs.Serving.{stalls_in}
 use Rattle.sp_single.specs.Singles.{SingleView, TookOne, Ticks}
 use Rattle.end_parts.specs.SocketSteps.{Quietly}
 use Rattle.cat_text.specs.declared.plan.CatPlan.{CatPlan}
 use Rattle.cat_text.specs.declared.plan.Data.{Data}
 use Rattle.cat_text.specs.declared.plan.Data.TheVariants as datas
-use Rattle.cat_play.specs.declared.ends.Status.{Status}
-use Rattle.cat_play.specs.Plans.{Play, Carries, IsPlayOf}
+use Rattle.cat_play.specs.declared.status.Status.{Status}
+use Rattle.cat_play.specs.Plans.{Play, IsBodyOf, IsPlayOf}
 use Rattle.cat_play.specs.Running.{world, run_setting, is_called_off, EndsPlan}
 use Rattle.cat_play.specs.Scripts.{over, has_ticked}
 use Rattle.cat_play.specs.Spending.{ticks_where, late_ticks, stalled_turns, is_stall, stalls_from, down_total, out_total, IsPrompt, EndsSoon}
@@ -207,7 +207,7 @@ pub empty_late : (n : ℕ) (s : SingleView) (p : Player) → s.seen ≡ [] → I
 empty_late n s p empty =
     let none : late_at s p ≡ 0 = ap (λ (h : List (Turn Entry)). late_ticks s.setting (play_of p.script) (past_of h)) empty in omega (arith, none)
 
-same_body : (d : Data) (files : FilesView) (a b : Option (List ℕ)) → IsBuiltData d → Carries d files a → IsBody d b → a ≡ b
+same_body : (d : Data) (files : FilesView) (a b : Option (List ℕ)) → IsBuiltData d → IsBodyOf d files a → IsBody d b → a ≡ b
 same_body datas.None files a b built x y = x ∙ sym y
 same_body (datas.Text text) files a b built x y = x ∙ sym y
 same_body (datas.File name) files a b built x y = elim built [ ]

@@ -21,8 +21,8 @@ use Rattle.end_parts.specs.RunLinks.{NetStands}
 use Rattle.sp_ends.specs.LeftLinks.{LinksLeft}
 use Rattle.end_parts.proofs.EndsStay.{linkless}
 use Rattle.cat_text.specs.declared.plan.CatPlan.{CatPlan}
-use Rattle.cat_play.specs.declared.ends.Status.{Status}
-use Rattle.cat_play.specs.declared.ends.Status.TheVariants as status
+use Rattle.cat_play.specs.declared.status.Status.{Status}
+use Rattle.cat_play.specs.declared.status.Status.TheVariants as status
 use Rattle.cat_play.specs.Plans.{Play, IsPlayOf}
 use Rattle.cat_play.specs.Playing.{Plays}
 use Rattle.cat_play.specs.Running.{World, world, run_setting, has_dry_miss, ListensTwice, EndedFor, IsFinished, IsCutShort, Printed, Runs, RunsPlan}

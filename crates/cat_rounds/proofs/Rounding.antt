@@ -10,12 +10,12 @@ use Rattle.sp_history.specs.declared.entry.Entry.TheVariants.{Up, Met, NoUp, Tak
 use Rattle.sp_history.specs.declared.setting.Setting.{Setting}
 use Rattle.sp_history.specs.Changes.{none_of}
 use Rattle.sp_history.specs.Past.{onto, past_of, up, pend}
-use Rattle.sp_history.proofs.Appending.{past_of-append, LegalFrom-front}
+use Rattle.sp_history.proofs.Appending.{past_of-append, LegalFrom-prefix}
 use Rattle.sp_single.specs.Singles.{SingleView, TookOne}
 use Rattle.cat_play.specs.Scripts.{has_ticked, under_way, over, texts, joined}
 use Rattle.cat_play.specs.Playing.{each, alternates, is_tick, may_rest}
 use Rattle.sp_history.specs.Swept.{IsSwept, AreFlushed}
-use Rattle.sp_core.specs.declared.serve.Served.{Served}
+use Rattle.sp_core.specs.declared.calls.serve.Served.{Served}
 use Rattle.sp_core.specs.Serving.{IsServing, AreServing, IsServeTurn, ServedBy, stalls_in}
 use Rattle.sp_spec.specs.Outside.{grown}
 use Rattle.cat_play.specs.Steps.{moves_ends, moves_play}
@@ -233,7 +233,7 @@ through r s s' p t took stands free n none =
 
     no_outs : none_of is_out took.turn.entries ≡ true
     no_outs =
-        nothing_sent z (past_of s.seen) took.turn (LegalFrom-front z [] s.seen took.turn all).1 pends (silent (is_req z.role) refl) (no_begins took.turn.entries took.said.2.kinds)
+        nothing_sent z (past_of s.seen) took.turn (LegalFrom-prefix z [] s.seen took.turn all).1 pends (silent (is_req z.role) refl) (no_begins took.turn.entries took.said.2.kinds)
 
 pub serve_texts : (r : Served) (s s' : SingleView) (p : Player) (t : ℕ) → TookOne (ServesSo r) s s' → Stands s p t → texts (play_of p.script) (past_of s'.seen) ≡ texts (play_of p.script) (past_of s.seen)
 serve_texts r s s' p t took stands = silent_texts s s' took (play_of p.script) (serving_silent took.turn.entries took.said.2.kinds) stands.play.is_open

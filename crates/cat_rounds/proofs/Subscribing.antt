@@ -18,15 +18,15 @@ use Rattle.sp_history.specs.Lists.{has, same_bytes}
 use Rattle.sp_history.specs.Past.{onto, past_of, topics, ctxs, is_closed}
 use Rattle.sp_history.specs.Setting.{has_topics}
 use Rattle.sp_history.proofs.Appending.{past_of-append}
-use Rattle.sp_core.specs.declared.contexts.TopicError.{TopicError}
-use Rattle.sp_core.specs.declared.contexts.TopicError.TheVariants as topic
+use Rattle.sp_core.specs.declared.calls.contexts.TopicError.{TopicError}
+use Rattle.sp_core.specs.declared.calls.contexts.TopicError.TheVariants as topic
 use Rattle.sp_core.specs.Contexts.{SubscribedBy, RefusedTopic}
 use Rattle.sp_core.specs.Moving.{AreSettling}
 use Rattle.sp_core.specs.Standing.{HasFirst}
 use Rattle.sp_single.specs.Singles.{SingleView, TookOne, IsSound}
 use Rattle.end_parts.specs.EndViews.{Beginning, LinkEndsView}
 use Rattle.cat_play.specs.Plans.{Play}
-use Rattle.cat_play.specs.declared.ends.Status.TheVariants as status
+use Rattle.cat_play.specs.declared.status.Status.TheVariants as status
 use Rattle.cat_play.specs.Scripts.{joined, has_ticked, has_begun, under_way, last_result, last_send, counted, count_in, texts, texts_in, timed_out, timed_out_in}
 use Rattle.cat_play.specs.Playing.{each, keeps_topics, is_left}
 use Rattle.cat_play.specs.Steps.{moves_play, moves_ends, MayPlay, HasOne}

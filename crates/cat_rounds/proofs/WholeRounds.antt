@@ -31,7 +31,7 @@ use Rattle.sp_lane.specs.Registry.{Registry}
 use Rattle.cat_rounds.specs.RunRounds.{RunStands, RoundStands, TurnsNames, PrintsRound, past_now}
 use Rattle.cat_rounds.specs.declared.rounds.Round.{Round}
 use Rattle.cat_rounds.specs.declared.rounds.Round.TheVariants as rounds
-use Rattle.cat_play.specs.declared.ends.Status.TheVariants as status
+use Rattle.cat_play.specs.declared.status.Status.TheVariants as status
 use Rattle.cat_player.proofs.Silent.{keeps_all, now_stays}
 use Rattle.cat_player.proofs.PlaysStay.{play_stays, texts_stay_so}
 use Rattle.cat_player.proofs.Begins.{at_new, sound_new}

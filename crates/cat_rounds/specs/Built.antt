@@ -12,7 +12,9 @@ use Rattle.sp_history.specs.Setting.{is_sub}
 use Rattle.sp_history.specs.declared.entry.Entry.{Entry}
 use Rattle.sp_history.specs.Past.{past_of, is_closed}
 use Rattle.sp_history.specs.Legal.{Legal}
+use Rattle.sp_history.specs.Moments.{Moment}
 use Rattle.sp_history.specs.Settled.{Settled}
+use Rattle.sp_proto.specs.Kinds.{Kind, Starts, setting_of}
 use Rattle.sp_single.specs.Singles.{SingleView}
 use Rattle.link_opening.specs.Origins.{Origins, IsAmong}
 use Rattle.sp_lane.specs.Registry.{Registry}
@@ -26,11 +28,11 @@ use Rattle.cat_text.specs.declared.plan.Data.{Data}
 use Rattle.cat_text.specs.declared.plan.Data.TheVariants as datas
 use Rattle.cat_text.specs.declared.plan.End.{End}
 use Rattle.cat_text.specs.declared.plan.End.TheVariants as ends
-use Rattle.cat_play.specs.declared.ends.Status.{Status}
-use Rattle.cat_play.specs.declared.ends.Status.TheVariants as status
+use Rattle.cat_play.specs.declared.status.Status.{Status}
+use Rattle.cat_play.specs.declared.status.Status.TheVariants as status
 use Rattle.cat_play.specs.Playing.{each, Plays}
 use Rattle.cat_play.specs.Recording.{times_out_rightly}
-use Rattle.cat_play.specs.Running.{ListensTwice}
+use Rattle.cat_play.specs.Running.{ListensTwice, run_setting}
 use Rattle.cat_play.specs.Scripts.{texts, counted, timed_out}
 use Rattle.cat_play.specs.Spending.{listens_of, dials_of}
 use Rattle.cat_play.specs.Steps.{AddsNone, moves_ends}
@@ -73,6 +75,10 @@ pub record IsBuilt (plan : CatPlan) : Type 0 where
   pub topics_built : AreTopics plan.role plan.topics
   -- what is sent has a body
   pub carries : IsTrue (not (needs_data plan.role) || has_data plan.data_)
+
+-- a machine as good as new, whose socket has the setting of the run
+abbrev pub IsMachineOf : {M : Type 0} → (M → Moment → Type 0) → Role → ℕ → M → Type 0
+IsMachineOf ties role dice m = (k : Kind) × Starts ties m k × (setting_of k 16 1 ≡ run_setting role dice)
 
 -- what sends carry
 abbrev pub IsBody : Data → Option (List ℕ) → Type 0

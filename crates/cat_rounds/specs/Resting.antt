@@ -1,8 +1,7 @@
 -- When a round says that something moves still.
-use Rattle.std.specs.Prelude.{◌≡◌, ◌⊎◌, ◌≤◌, ◌+◌, ◌++◌, ⊤, true, false, List, [], ◌∷◌, length, Option, None}
+use Rattle.std.specs.Prelude.{◌≡◌, ◌≤◌, ◌+◌, ◌++◌, ⊤, true, false, List, [], ◌∷◌, length}
 use Rattle.std.specs.List.{list_any}
 use Rattle.turn_lock.specs.declared.turn.Turn.{Turn}
-use Rattle.sp_base.specs.declared.OpName.{OpName}
 use Rattle.sp_history.specs.declared.entry.Entry.{Entry}
 use Rattle.sp_history.specs.Past.{past_of}
 use Rattle.sp_history.specs.Swept.{IsSwept}

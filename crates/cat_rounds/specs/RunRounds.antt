@@ -5,15 +5,15 @@ use Rattle.sp_base.specs.Views.{LinkView, NetView, PaceView, SinkView}
 use Rattle.sp_history.specs.declared.entry.Entry.{Entry}
 use Rattle.sp_history.specs.Past.{past_of, up, now, is_cleared}
 use Rattle.sp_history.specs.Lists.{has}
-use Rattle.sp_core.specs.declared.serve.Served.{Served}
+use Rattle.sp_core.specs.declared.calls.serve.Served.{Served}
 use Rattle.sp_single.specs.Singles.{SingleView, IsSound}
 use Rattle.sp_lane.specs.Registry.{Registry}
 use Rattle.sp_ends.specs.NameTurns.{TurnsLanes}
 use Rattle.end_parts.specs.EndViews.{EndsView, LinkEndsView, Beginning}
 use Rattle.end_parts.specs.RunLinks.{EndsStand}
 use Rattle.end_parts.specs.SocketSteps.{IsDry}
-use Rattle.cat_play.specs.declared.ends.Status.{Status}
-use Rattle.cat_play.specs.declared.ends.Status.TheVariants as status
+use Rattle.cat_play.specs.declared.status.Status.{Status}
+use Rattle.cat_play.specs.declared.status.Status.TheVariants as status
 use Rattle.cat_play.specs.Running.{has_dry_miss}
 use Rattle.sp_history.specs.Found.{ticks}
 use Rattle.cat_player.specs.declared.player.PlayEnd.TheVariants as overs

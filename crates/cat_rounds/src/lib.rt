@@ -3,20 +3,20 @@
 //! A round is one turn of the pace. It ticks, has one turn of the ends, and then serves the pipes and goes on with the
 //! play, again and again while messages move.
 //!
-//! Who owns what: `play` is handed the machine, which goes into a socket with this one caller. A `Game` owns the parts
-//! of a run: the socket, the ends with all links that aren't pipes yet, the player, and the names within the process.
-//! Net, pace and sink are the caller's, and are lent to each round. At the end every link is back with the net, and
-//! what is left is a `CatEnd`: the status and the record.
+//! Who owns what: `play` is handed a `PlannedRun` and the machine, which goes into a socket with this one caller. A
+//! `RunParts` owns the parts of a run: the socket, the ends with all links that aren't pipes yet, the player, and the
+//! names within the process; it has the runtime beside them. Net, pace and sink are the caller's, and are lent to each
+//! round. At the end every link is back with the net, and what is left is a `CatEnd`: the status and the record.
 //!
-//! The play itself is `cat_player`: the operation that is under way, what was counted, and what is next. `game` has the
-//! parts of a run with what stands between two rounds, `topics` puts a sub's topics on before the first round, `rounds`
-//! says what a round does, and `whole` has the beginning and the end. To read: `whole`, then `rounds`, then the player of
-//! `cat_player`; what stands between two rounds is `RunStands` (`specs/RunRounds`).
+//! The play itself is `cat_player`: the operation that is under way, what was counted, and what is next. `run_parts` has
+//! the parts of a run with what stands between two rounds, `topics` puts a sub's topics on before the first round,
+//! `rounds` says what a round does, and `whole` has the beginning and the end. To read: `whole`, then `rounds`, then the
+//! player of `cat_player`; what stands between two rounds is `RunStands` (`specs/RunRounds`).
 #![tactic(auto)]
 
-mod game;
 mod rounds;
+mod run_parts;
 mod topics;
 mod whole;
 
-pub use whole::{CatEnd, play};
+pub use whole::{CatEnd, PlannedRun, play};

@@ -8,8 +8,8 @@ ghost use Rattle.cat_rounds.specs.Late.{IsLateBy, RoundIsLate, StallsMore};
 ghost use Rattle.cat_rounds.specs.Resting.{IsAtRest, MovesStill, RoundMoves};
 ghost use Rattle.cat_rounds.specs.RunRounds.{RunIsOpen, RunGoesOn, RoundGoesOn, SameRun, GoesTo, RoundGoesTo, WentOrOver, PacedTo, TicksOnce, PrintsTo, PrintsGoing, PrintsRound, TurnsNames, IsDryAt, past_now, has_more};
 
-use crate::game::Game;
-use cat_play::ends::Status;
+use crate::run_parts::RunParts;
+use cat_play::status::Status;
 use cat_player::{PlayEnd, StepResult};
 use sp_base::{Link, Net, Pace, Paced, Sink, Tick};
 use sp_proto::Proto;
@@ -44,11 +44,10 @@ pub enum Going {
     NoMemory,
 }
 
-impl<P: Proto, L: Link> Game<P, L> {
+impl<R: Wait, P: Proto, L: Link> RunParts<'_, R, P, L> {
     /// Goes round until the play is over and all is written, the pace is over, or something fails.
-    pub fn go_round<R: Wait, N: Net<L = L>, Pa: Pace, S: Sink>(
+    pub fn go_round<N: Net<L = L>, Pa: Pace, S: Sink>(
         &mut self,
-        rt: &R,
         net: &mut N,
         pace: &mut Pa,
         out: &mut S,
@@ -69,7 +68,7 @@ impl<P: Proto, L: Link> Game<P, L> {
         'rounds: for _ in 0..u64::MAX {
             match pace.turn(moved) {
                 Paced::Over => return Status::Over,
-                Paced::At(now) => match self.round(rt, net, out, now) {
+                Paced::At(now) => match self.round(net, out, now) {
                     Round::Ends(status) => return status,
                     Round::Goes(went) => moved = went,
                 },
@@ -80,13 +79,7 @@ impl<P: Proto, L: Link> Game<P, L> {
     }
 
     // One round.
-    fn round<R: Wait, N: Net<L = L>, S: Sink>(
-        &mut self,
-        rt: &R,
-        net: &mut N,
-        out: &mut S,
-        now: Tick,
-    ) -> Round
+    fn round<N: Net<L = L>, S: Sink>(&mut self, net: &mut N, out: &mut S, now: Tick) -> Round
         requires stands { RunIsOpen L.seen self.old.single self.old.ends self.old.player (N.seen net.old) }
         requires may_tick { MayTick self.old.single.setting self.old.single.seen self.old.player }
         requires later { past_now self.old.single ≤ now }
@@ -101,23 +94,23 @@ impl<P: Proto, L: Link> Game<P, L> {
         ensures late { RoundIsLate result self.new.single self.new.player }
         ensures moved { RoundMoves result self.new.player self.old.single self.new.single }
     {
-        self.single.tick(rt, now);
+        self.single.tick(self.rt, now);
         let turn = self
             .ends
-            .turn(rt, net, &mut self.inproc, &mut self.single, now);
+            .turn(self.rt, net, &mut self.inproc, &mut self.single, now);
         if turn.is_dry {
             return Round::Ends(Status::NoMemory);
         }
-        match self.play(rt, out, now) {
+        match self.play(out, now) {
             Going::Rests(moved) => Round::Goes(moved),
-            Going::Over => self.drain(rt),
+            Going::Over => self.drain(),
             Going::OutFault => Round::Ends(Status::OutFault),
             Going::NoMemory => Round::Ends(Status::NoMemory),
         }
     }
 
     // Serves the pipes and goes on with the play, while messages move.
-    fn play<R: Wait, S: Sink>(&mut self, rt: &R, out: &mut S, now: Tick) -> Going
+    fn play<S: Sink>(&mut self, out: &mut S, now: Tick) -> Going
         requires stands { Stands self.old.single self.old.player now }
         ensures stands { Stands self.new.single self.new.player now }
         ensures goes_on { GoesOnBy self.old.single self.new.single }
@@ -133,7 +126,7 @@ impl<P: Proto, L: Link> Game<P, L> {
             if self.player.over != PlayEnd::Open {
                 return Going::Over;
             }
-            match self.sweep(rt, out, now) {
+            match self.sweep(out, now) {
                 Going::Rests(false) => return Going::Rests(false),
                 Going::Rests(true) => (),
                 Going::Over => return Going::Over,
@@ -145,7 +138,7 @@ impl<P: Proto, L: Link> Game<P, L> {
     }
 
     // Serves the pipes once, and goes on with the play.
-    fn sweep<R: Wait, S: Sink>(&mut self, rt: &R, out: &mut S, now: Tick) -> Going
+    fn sweep<S: Sink>(&mut self, out: &mut S, now: Tick) -> Going
         requires stands { Stands self.old.single self.old.player now }
         ensures stands { Stands self.new.single self.new.player now }
         ensures goes_on { GoesOnBy self.old.single self.new.single }
@@ -157,9 +150,9 @@ impl<P: Proto, L: Link> Game<P, L> {
         ensures same { SameScript self.old.player self.new.player × (self.new.ends ≡ self.old.ends) }
         ensures names { self.new.inproc ≡ self.old.inproc }
     {
-        let served = self.single.serve(rt);
+        let served = self.single.serve(self.rt);
         let has_pipe = served.up > 0;
-        match self.steps(rt, out, now, has_pipe) {
+        match self.steps(out, now, has_pipe) {
             Going::Rests(went) => Going::Rests(went || served.moved),
             Going::Over => Going::Over,
             Going::OutFault => Going::OutFault,
@@ -168,7 +161,7 @@ impl<P: Proto, L: Link> Game<P, L> {
     }
 
     // Goes on with the play until it rests.
-    fn steps<R: Wait, S: Sink>(&mut self, rt: &R, out: &mut S, now: Tick, has_pipe: bool) -> Going
+    fn steps<S: Sink>(&mut self, out: &mut S, now: Tick, has_pipe: bool) -> Going
         requires stands { Stands self.old.single self.old.player now }
         requires served { HasServed self.old.single.setting self.old.single.seen }
         requires pipes { KnowsPipes has_pipe self.old.single self.old.player }
@@ -183,7 +176,10 @@ impl<P: Proto, L: Link> Game<P, L> {
     {
         let mut moved = false;
         'steps: for _ in 0..STEPS {
-            match self.player.step(rt, &mut self.single, out, now, has_pipe) {
+            match self
+                .player
+                .step(self.rt, &mut self.single, out, now, has_pipe)
+            {
                 StepResult::Begun => moved = true,
                 StepResult::Rests => return Going::Rests(moved),
                 StepResult::OutFault => return Going::OutFault,
@@ -194,7 +190,7 @@ impl<P: Proto, L: Link> Game<P, L> {
     }
 
     // The play is over: the run ends as soon as no pipe has something left to write.
-    fn drain<R: Wait>(&mut self, rt: &R) -> Round
+    fn drain(&mut self) -> Round
         requires stands { (now : ℕ) × Stands self.old.single self.old.player now }
         requires over { self.old.player.over ≢ PlayEnd.Open }
         requires free { self.old.player.op ≡ None }
@@ -208,7 +204,7 @@ impl<P: Proto, L: Link> Game<P, L> {
         ensures stalls { StallsMore result self.old.single self.new.single }
         ensures rests { result ≡ Round.Goes true → ⊥ }
     {
-        let served = self.single.serve(rt);
+        let served = self.single.serve(self.rt);
         let waits = has_more(served);
         if waits {
             return Round::Goes(false);

@@ -8,8 +8,8 @@ ghost use Rattle.cat_rounds.specs.RunRounds.{RunIsOpen, RunGoesOn, SameRun, Went
 ghost use Rattle.cat_rounds.specs.Late.{IsLateBy};
 ghost use Rattle.cat_rounds.specs.SubscribedTopics.{CanSubscribe, IsBefore, Prepares, IsOnFor, AreOnFor};
 
-use crate::game::Game;
-use cat_play::ends::Status;
+use crate::run_parts::RunParts;
+use cat_play::status::Status;
 use cat_player::{CTX, Player};
 use sp_base::{Link, Net, NoMemory, Pace, Sink};
 use sp_msg::Wire;
@@ -58,11 +58,10 @@ fn subscribe_all<R: Wait, P: Proto, W: Wire>(
     Ok(())
 }
 
-impl<P: Proto, L: Link> Game<P, L> {
+impl<R: Wait, P: Proto, L: Link> RunParts<'_, R, P, L> {
     // Puts the topics on, and goes round.
-    pub(crate) fn begin<R: Wait, N: Net<L = L>, Pa: Pace, S: Sink>(
+    pub(crate) fn begin<N: Net<L = L>, Pa: Pace, S: Sink>(
         &mut self,
-        rt: &R,
         net: &mut N,
         pace: &mut Pa,
         out: &mut S,
@@ -79,8 +78,8 @@ impl<P: Proto, L: Link> Game<P, L> {
         ensures same { SameRun self.old.single self.new.single self.old.ends self.new.ends self.old.player self.new.player }
         ensures late { IsLateBy 1 self.new.single self.new.player }
     {
-        match subscribe_all(rt, &mut self.single, &self.player) {
-            Ok(()) => self.go_round(rt, net, pace, out),
+        match subscribe_all(self.rt, &mut self.single, &self.player) {
+            Ok(()) => self.go_round(net, pace, out),
             Err(_) => Status::NoMemory,
         }
     }

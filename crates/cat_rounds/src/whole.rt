@@ -1,27 +1,25 @@
 //! A run from its beginning to its end.
-ghost use Rattle.std.specs.Prelude.{◌≡◌, [], Option, None};
+ghost use Rattle.std.specs.Prelude.{◌≡◌, [], Option, None, IfOk};
 ghost use Rattle.std.specs.Option.{option_map};
 ghost use Rattle.sp_base.specs.Views.{FilesView};
-ghost use Rattle.sp_proto.specs.Kinds.{Kind, Starts, setting_of};
 ghost use Rattle.link_opening.specs.Origins.{run_ways};
-ghost use Rattle.cat_play.specs.Running.{world, run_setting, RunsPlan, EndsPlan};
+ghost use Rattle.cat_play.specs.Running.{world, RunsPlan, EndsPlan};
 ghost use Rattle.cat_player.specs.PlayerSteps.{PrintsOn, SameScript};
 ghost use Rattle.cat_rounds.specs.RunRounds.{PrintsTo, IsDryAt};
 ghost use Rattle.cat_rounds.specs.SubscribedTopics.{CanSubscribe};
 ghost use Rattle.cat_rounds.specs.Late.{IsLateBy};
-ghost use Rattle.cat_rounds.specs.Built.{MayFollow, FollowsOn, RunIsOver, RunFinishes, IsBuilt, ListensOnce, AreBuilt, IsBuiltEnd, IsBody, Follows, AddsEnd, origins_of};
+ghost use Rattle.cat_rounds.specs.Built.{MayFollow, FollowsOn, RunIsOver, RunFinishes, IsBuilt, IsMachineOf, ListensOnce, AreBuilt, IsBuiltEnd, IsBody, Follows, AddsEnd, origins_of};
 
-use crate::game::Game;
-use cat_play::ends::Status;
+use crate::run_parts::RunParts;
+use cat_play::status::Status;
 use cat_player::{Player, Script};
 use cat_text::{CatPlan, Data, End};
-use sp_base::{Bytes, Link, Net, Pace, Sink};
+use sp_base::{Bytes, Link, Net, NoMemory, Pace, Sink};
 use sp_ends::{EndError, Ends};
 use sp_lane::Inproc;
 use sp_proto::Proto;
 use sp_single::{Single, SingleEnd};
 use sp_socket::Record;
-use std::alloc::Global;
 use std::sync::Wait;
 
 /// How many operations the socket of a run has at once.
@@ -46,30 +44,41 @@ fn unopened(status: Status) -> CatEnd
     }
 }
 
+/// A plan that is to be played, with the runtime by which its run waits. `dice` is the number of which its socket is
+/// made; the keys of WebSocket openings are made from it too.
+pub struct PlannedRun<'r, R> {
+    /// The runtime.
+    pub rt: &'r R,
+    /// The plan, with its data.
+    pub plan: CatPlan,
+    /// The random number.
+    pub dice: u32,
+}
+
 /// Plays the plan on a socket over this machine, which is one of the plan's role and as good as new: opens the socket,
 /// listens and dials in the order of the plan, puts its topics on, goes round, closes, and gives every link back. Names
 /// within the process are those of this run alone.
-/// Whatever it returns, the history of the socket says all that was done. `dice` is the number of which the socket was
-/// made; the keys of WebSocket openings are made from it too.
-pub fn play<R: Wait, N: Net, Pa: Pace, S: Sink, P: Proto + Drop>(
-    alloc: Global,
-    rt: &R,
-    machine: P,
-    plan: CatPlan,
-    dice: u32,
+/// Whatever it returns, the history of the socket says all that was done.
+pub fn play<R: AllocGlobal + Wait, N: Net, Pa: Pace, S: Sink, P: Proto + Drop>(
+    planned: PlannedRun<'_, R>,
+    machine: Result<P, NoMemory>,
     net: &mut N,
     pace: &mut Pa,
     out: &mut S,
 ) -> CatEnd
-    requires starts { (k : Kind) × Starts P.ties machine k }
-    requires setting { setting_of (P.kind machine) 16 1 ≡ run_setting plan.role dice }
-    requires built { IsBuilt plan }
+    requires starts { IfOk machine (IsMachineOf P.ties planned.plan.role planned.dice) }
+    requires built { IsBuilt planned.plan }
     ensures runs { (files : FilesView) →
-        RunsPlan (run_ways plan.role (origins_of plan dice)) result.status plan dice (option_map (λ r. r.turns) result.record_) (world (N.seen net.old) files (Pa.seen pace.old) (S.seen out.old)) (world (N.seen net.new) files (Pa.seen pace.new) (S.seen out.new)) }
-    ensures once { ListensOnce result.status plan.ends }
+        RunsPlan (run_ways planned.entry.plan.role (origins_of planned.entry.plan planned.entry.dice)) result.status planned.entry.plan planned.entry.dice (option_map (λ r. r.turns) result.record_) (world (N.seen net.old) files (Pa.seen pace.old) (S.seen out.old)) (world (N.seen net.new) files (Pa.seen pace.new) (S.seen out.new)) }
+    ensures once { ListensOnce result.status planned.entry.plan.ends }
     ensures in_time { (files : FilesView) →
-        EndsPlan result.status plan dice (option_map (λ r. r.turns) result.record_) (world (N.seen net.old) files (Pa.seen pace.old) (S.seen out.old)) (world (N.seen net.new) files (Pa.seen pace.new) (S.seen out.new)) }
+        EndsPlan result.status planned.entry.plan planned.entry.dice (option_map (λ r. r.turns) result.record_) (world (N.seen net.old) files (Pa.seen pace.old) (S.seen out.old)) (world (N.seen net.new) files (Pa.seen pace.new) (S.seen out.new)) }
 {
+    let PlannedRun { rt, plan, dice } = planned;
+    let Ok(machine) = machine else {
+        return unopened(Status::NoMemory);
+    };
+    let alloc = rt.alloc();
     let CatPlan {
         role,
         ends,
@@ -98,14 +107,15 @@ pub fn play<R: Wait, N: Net, Pa: Pace, S: Sink, P: Proto + Drop>(
         links.destroy_empty();
         return unopened(Status::NoMemory);
     };
-    let mut game = Game {
+    let mut parts = RunParts {
+        rt,
         single,
         ends: links,
         player: Player::new(alloc, script),
         inproc: Inproc::new(alloc),
     };
-    let status = game.follow(rt, ends.as_slice(), net, pace, out);
-    game.finish(rt, net, status)
+    let status = parts.follow(ends.as_slice(), net, pace, out);
+    parts.finish(net, status)
 }
 
 // The data of the plan, where it isn't a file's.
@@ -119,11 +129,10 @@ fn body_of(data_: Data) -> Option<Bytes>
     }
 }
 
-impl<P: Proto, L: Link> Game<P, L> {
+impl<R: Wait, P: Proto, L: Link> RunParts<'_, R, P, L> {
     // Listens and dials as planned, puts the topics on, and goes round.
-    fn follow<R: Wait, N: Net<L = L>, Pa: Pace, S: Sink>(
+    fn follow<N: Net<L = L>, Pa: Pace, S: Sink>(
         &mut self,
-        rt: &R,
         ends: &[End],
         net: &mut N,
         pace: &mut Pa,
@@ -150,7 +159,7 @@ impl<P: Proto, L: Link> Game<P, L> {
                 Err(EndError::NoMemory) => return Status::NoMemory,
             }
         }
-        self.begin(rt, net, pace, out)
+        self.begin(net, pace, out)
     }
 
     // One end of the plan.
@@ -166,12 +175,13 @@ impl<P: Proto, L: Link> Game<P, L> {
     }
 
     // Closes the socket, and gives everything back.
-    fn finish<R: Wait, N: Net<L = L>>(self, rt: &R, net: &mut N, status: Status) -> CatEnd
+    fn finish<N: Net<L = L>>(self, net: &mut N, status: Status) -> CatEnd
         requires stands { RunIsOver L.seen self.single self.ends self.player (N.seen net.old) }
         ensures status { result.status ≡ status }
-        ensures finished { RunFinishes L.seen self.single self.ends self.player (N.seen net.old) (N.seen net.new) (option_map (λ r. r.turns) result.record_) }
+        ensures finished { RunFinishes L.seen self.entry.single self.entry.ends self.entry.player (N.seen net.old) (N.seen net.new) (option_map (λ r. r.turns) result.record_) }
     {
-        let Game {
+        let RunParts {
+            rt,
             mut single,
             ends,
             player,

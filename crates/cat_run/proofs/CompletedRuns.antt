@@ -1,5 +1,5 @@
 -- A run or a drill that nothing stops comes to its end.
-use Rattle.std.specs.Prelude.{◌≡◌, ℕ, List, Option, Some, None}
+use Rattle.std.specs.Prelude.{ℕ, List, Option, Some, None}
 use Rattle.std.proofs.Common.{sym, subst}
 use Rattle.turn_lock.specs.declared.turn.Turn.{Turn}
 use Rattle.sp_spec.specs.Outside.{Rose}
@@ -8,8 +8,8 @@ use Rattle.cat_play.specs.Openings.{Ways}
 use Rattle.cat_text.specs.declared.plan.Plan.{Plan}
 use Rattle.cat_text.specs.declared.plan.Plan.TheVariants as plans
 use Rattle.cat_text.specs.declared.plan.CatPlan.{CatPlan}
-use Rattle.cat_play.specs.declared.ends.Status.{Status}
-use Rattle.cat_play.specs.declared.ends.Status.TheVariants as status
+use Rattle.cat_play.specs.declared.status.Status.{Status}
+use Rattle.cat_play.specs.declared.status.Status.TheVariants as status
 use Rattle.cat_play.specs.Running.{World, run_setting, RunsAs, RunsDrill, DrillsTo, ComesToEnd}
 use Rattle.cat_play.proofs.Completing.{opened, unopened}
 use Rattle.sp_history.specs.Past.{past_of}

@@ -2,16 +2,15 @@
 use Rattle.std.specs.Prelude.{◌≡◌, ◌≤◌, ℕ, List, Option, Some, None}
 use Rattle.std.proofs.Common.{subst, sym, ◌∙◌, arith}
 use Rattle.turn_lock.specs.declared.turn.Turn.{Turn}
-use Rattle.sp_spec.specs.Outside.{Rose}
 use Rattle.sp_base.specs.Views.{NetView, FilesView, PaceView, SinkView}
 use Rattle.sp_history.specs.declared.entry.Entry.{Entry}
 use Rattle.sp_history.specs.declared.setting.Setting.{Setting}
 use Rattle.cat_text.specs.declared.plan.CatPlan.{CatPlan}
 use Rattle.cat_text.specs.declared.plan.Data.{Data}
 use Rattle.cat_text.specs.declared.plan.Data.TheVariants as datas
-use Rattle.cat_play.specs.declared.ends.Status.{Status}
-use Rattle.cat_play.specs.declared.ends.Status.TheVariants as status
-use Rattle.cat_play.specs.Plans.{Play, IsPlayOf, Carries}
+use Rattle.cat_play.specs.declared.status.Status.{Status}
+use Rattle.cat_play.specs.declared.status.Status.TheVariants as status
+use Rattle.cat_play.specs.Plans.{Play, IsBodyOf}
 use Rattle.cat_play.specs.Openings.{Ways}
 use Rattle.cat_play.specs.Running.{World, world, run_setting, EndedFor, UnopenedFor, Printed, Runs, RunsPlan, FilesBy, RunsDrill, DrillsTo}
 use Rattle.cat_play.specs.Scripts.{texts}
@@ -34,10 +33,10 @@ drill_no_usage s n None old new runs at is = apart (sym runs.0 ∙ is)
 drill_no_usage s n (Some h) old new runs at is = subst (λ (x : Status). DrillsTo x n h old new) is runs.1
 
 -- what the sends carry
-carries : (data_ loaded : Data) (files : FilesView) (body : Option (List ℕ)) → HasContent data_ loaded files → Carries loaded files body → Carries data_ files body
-carries datas.None loaded files body is c = subst (λ (d : Data). Carries d files body) is c
-carries (datas.Text text) loaded files body is c = subst (λ (d : Data). Carries d files body) is c
-carries (datas.File name) loaded files body is c = (is.0, subst (λ (d : Data). Carries d files body) is.1 c, is.2)
+carries : (data_ loaded : Data) (files : FilesView) (body : Option (List ℕ)) → HasContent data_ loaded files → IsBodyOf loaded files body → IsBodyOf data_ files body
+carries datas.None loaded files body is c = subst (λ (d : Data). IsBodyOf d files body) is c
+carries (datas.Text text) loaded files body is c = subst (λ (d : Data). IsBodyOf d files body) is c
+carries (datas.File name) loaded files body is c = (is.0, subst (λ (d : Data). IsBodyOf d files body) is.1 c, is.2)
 
 module _ (net net' : NetView) (pace pace' : PaceView) (sink sink' : SinkView) (files files' : FilesView) where
   abbrev old : World

@@ -10,10 +10,10 @@ use Rattle.sp_history.specs.Past.{past_of}
 use Rattle.cat_text.specs.declared.plan.CatPlan.{CatPlan}
 use Rattle.cat_text.specs.declared.plan.Data.{Data}
 use Rattle.cat_text.specs.declared.plan.Data.TheVariants as datas
-use Rattle.cat_play.specs.declared.ends.Status.{Status}
-use Rattle.cat_play.specs.Plans.{Play, IsPlayOf, Carries}
+use Rattle.cat_play.specs.declared.status.Status.{Status}
+use Rattle.cat_play.specs.Plans.{Play, IsBodyOf}
 use Rattle.cat_play.specs.Running.{world, run_setting, is_called_off, EndsPlan}
-use Rattle.cat_play.specs.Scripts.{open_part, asks_anew, last_result, counts_for, count_in, over, has_reached, timed_out}
+use Rattle.cat_play.specs.Scripts.{open_part, asks_anew, last_result, counts_for, count_in, over}
 use Rattle.cat_play.specs.Spending.{EndsInTime, EndsSoon, IsPrompt, late_ticks, ticks_where, excuses}
 use Rattle.cat_run.specs.Loading.{HasContent}
 
@@ -36,12 +36,12 @@ over_all z play a b i past = over_same z play a b past i
 
 module _ (net net' : NetView) (files files' : FilesView) (pace pace' : PaceView) (sink sink' : SinkView) where
   -- the plan's own play
-  of_content : (s : Status) (z : Setting) (plan : CatPlan) (d loaded : Data) (h : List (Turn Entry)) (play : Play) → HasContent d loaded files → Carries d files play.body
-      → ((body : Option (List ℕ)) → Carries loaded files body → EndsInTime (is_called_off s) z (record play { body = body }) h net net') → EndsInTime (is_called_off s) z play h net net'
-  of_content s z plan datas.None loaded h play is carries ends = ends play.body (subst (λ (x : Data). Carries x files play.body) (sym is) carries)
-  of_content s z plan (datas.Text text) loaded h play is carries ends = ends play.body (subst (λ (x : Data). Carries x files play.body) (sym is) carries)
+  of_content : (s : Status) (z : Setting) (plan : CatPlan) (d loaded : Data) (h : List (Turn Entry)) (play : Play) → HasContent d loaded files → IsBodyOf d files play.body
+      → ((body : Option (List ℕ)) → IsBodyOf loaded files body → EndsInTime (is_called_off s) z (record play { body = body }) h net net') → EndsInTime (is_called_off s) z play h net net'
+  of_content s z plan datas.None loaded h play is carries ends = ends play.body (subst (λ (x : Data). IsBodyOf x files play.body) (sym is) carries)
+  of_content s z plan (datas.Text text) loaded h play is carries ends = ends play.body (subst (λ (x : Data). IsBodyOf x files play.body) (sym is) carries)
   of_content s z plan (datas.File name) loaded h play (bytes, is, holds) (own, body, held) ends =
-      subst (λ (b : Option (List ℕ)). EndsInTime (is_called_off s) z (record play { body = b }) h net net') (sym body) (moved (ends (Some bytes) (subst (λ (x : Data). Carries x files (Some bytes)) (sym is) refl)))
+      subst (λ (b : Option (List ℕ)). EndsInTime (is_called_off s) z (record play { body = b }) h net net') (sym body) (moved (ends (Some bytes) (subst (λ (x : Data). IsBodyOf x files (Some bytes)) (sym is) refl)))
     where
       late : late_ticks z (with_body play bytes) (past_of h) ≡ late_ticks z (with_body play own) (past_of h)
       late = ap (λ (o : List Entry → Bool). ticks_where o (past_of h)) (over_all z play bytes own)

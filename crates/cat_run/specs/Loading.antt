@@ -1,22 +1,13 @@
--- The data of a plan, and the machine of its role.
-use Rattle.std.specs.Prelude.{◌≡◌, ◌≤◌, ℕ, ⊤, false, List, Result, Ok, Err}
+-- The data of a plan, and what a file holds.
+use Rattle.std.specs.Prelude.{◌≡◌, ◌≤◌, ℕ, ⊤, List, Result, Ok, Err}
 use Rattle.sp_spec.specs.Outside.{Rose}
 use Rattle.sp_base.specs.Views.{FilesView}
 use Rattle.sp_base.specs.Steps.{Holds}
-use Rattle.sp_base.specs.declared.role.Role.{Role}
-use Rattle.sp_proto.specs.Kinds.{Kind}
-use Rattle.sp_history.specs.Options.{usual}
 use Rattle.cat_text.specs.declared.plan.CatPlan.{CatPlan}
 use Rattle.cat_text.specs.declared.plan.Data.{Data}
 use Rattle.cat_text.specs.declared.plan.Data.TheVariants as datas
-use Rattle.cat_play.specs.declared.ends.Status.{Status}
-use Rattle.cat_play.specs.declared.ends.Status.TheVariants as status
-
--- the machine of a role, cooked and as usual
-abbrev pub usual_kind : Role → ℕ → Kind
-usual_kind role dice = record { role = role; raw = false; options = usual role dice }
-
--- ---- What a file holds
+use Rattle.cat_play.specs.declared.status.Status.{Status}
+use Rattle.cat_play.specs.declared.status.Status.TheVariants as status
 
 -- data with what the file of a name holds in place of the name
 abbrev pub HasContent : Data → Data → FilesView → Type 0

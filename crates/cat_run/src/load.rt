@@ -1,7 +1,7 @@
 //! The data of a plan that stand in a file.
 ghost use Rattle.cat_run.specs.Loading.{AsksFiles, DataLoads, PlanLoads};
 
-use cat_play::ends::Status;
+use cat_play::status::Status;
 use cat_text::{CatPlan, Data};
 use sp_base::{Files, Whole};
 use std::str;

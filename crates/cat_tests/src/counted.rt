@@ -1,4 +1,5 @@
-//! What a round asks where nothing comes: each silent link once, each listener once, and each address once in 100 ticks.
+//! What a round asks where nothing comes: each silent link once, each listener once, and each address once in 100
+//! ticks.
 ghost use Rattle.sp_fakes.specs.Nets.{net_view};
 
 use crate::checks::{comes, made, same};
@@ -137,8 +138,8 @@ fn calls_of<R: AllocGlobal + Wait + Threads + Sync + Abort>(
     }
 }
 
-// A hundred rounds more in which nothing comes cost a hundred accepts of each listener and a hundred reads of each link.
-// An address at which nobody answers is dialed at the first tick, and again 100 ticks later.
+// A hundred rounds more in which nothing comes cost a hundred accepts of each listener and a hundred reads of each
+// link. An address at which nobody answers is dialed at the first tick, and again 100 ticks later.
 #[test]
 fn a_round_in_which_nothing_comes_is_cheap(rt: HostRuntime) {
     let once = calls_of(&rt, PULL, 100);

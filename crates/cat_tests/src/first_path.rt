@@ -227,7 +227,8 @@ fn two_links_are_served_at_once(rt: HostRuntime) {
     same(&rt, came.second.as_slice(), HELLO_81);
 }
 
-// While 256 links are in their greetings nobody is accepted, so the last link prints only where silent ones were given up.
+// While 256 links are in their greetings nobody is accepted, so the last link prints only where silent ones were given
+// up.
 #[test]
 fn a_greeting_that_never_comes_is_given_up(rt: HostRuntime) {
     let alloc = rt.alloc();

@@ -75,8 +75,8 @@ fn a_bus_talks_to_itself(rt: HostRuntime) {
     }
 }
 
-// A pair has one pipe: it refuses the other half of the lane that it dialed, and tells the half that it has of the end. So
-// its pipe goes down before it sends, and its message goes out on the pipe of its next dial, 100 turns after.
+// A pair has one pipe: it refuses the other half of the lane that it dialed, and tells the half that it has of the end.
+// So its pipe goes down before it sends, and its message goes out on the pipe of its next dial, 100 turns after.
 #[test]
 fn a_lane_that_is_left_is_told_its_end(rt: HostRuntime) {
     let came = made(

@@ -44,7 +44,8 @@ impl Pace for CountingPace {
     }
 }
 
-// While a round ends with messages that wait, the pace is told that they move; on a link that is silent, that they don't.
+// While a round ends with messages that wait, the pace is told that they move; on a link that is silent, that they
+// don't.
 #[test]
 fn the_pace_is_told_whether_messages_move(rt: HostRuntime) {
     let alloc = rt.alloc();
@@ -100,7 +101,8 @@ fn all_giving(rt: &impl Abort, alloc: Global, count: u32, text: &[u8]) -> Vec<Me
     links
 }
 
-// Each listener is asked until it has no link, or has brought 16 in this turn: 40 links come at one, or 20 at each of two.
+// Each listener is asked until it has no link, or has brought 16 in this turn: 40 links come at one, or 20 at each of
+// two.
 #[test]
 fn each_listener_brings_16_links_a_turn(rt: HostRuntime) {
     const BOTH: &[&str] = &[

@@ -17,8 +17,8 @@ const HELLO_48: &[u8] = b"\x00SP\x00\x00\x30\x00\x00";
 /// The greeting of a rep socket.
 const HELLO_49: &[u8] = b"\x00SP\x00\x00\x31\x00\x00";
 
-// How a push of the file `f` ends over files that hold one of this name, where these of their calls fail; whether it has a
-// record, how many links were handed out, and how many turns are left.
+// How a push of the file `f` ends over files that hold one of this name, where these of their calls fail; whether it
+// has a record, how many links were handed out, and how many turns are left.
 fn sending<R: AllocGlobal + Wait + Threads + Sync + Abort>(
     rt: &R,
     held: &str,

@@ -2,7 +2,7 @@ use Rattle.std.proofs.Common.{◌∙◌, refl, arith}
 use Rattle.cat_rounds.proofs.Late.{never_late}
 use Rattle.sp_history.specs.Past.{past_of}
 use Rattle.cat_rounds.proofs.AllRounds.{no_ticks, never, same_ends, same_then}
-use Rattle.cat_rounds.proofs.game.Game.go_round.Goals as goal
+use Rattle.cat_rounds.proofs.run_parts.RunParts.go_round.Goals as goal
 
 pub rounds-init : goal.rounds-init
 rounds-init g c =

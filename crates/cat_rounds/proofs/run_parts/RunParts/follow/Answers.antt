@@ -7,7 +7,7 @@ use Rattle.cat_rounds.specs.SubscribedTopics.{CanSubscribe}
 use Rattle.sp_lane.specs.Registry.{AreApart}
 use Rattle.cat_rounds.specs.Built.{IsEndOf, listen_names}
 use Rattle.cat_rounds.proofs.Following.{adds_on, refuses_on, refused, grows, name_one, listens_next, dials_next, names_next, followed_on, unfollowed, net_fault, in_use_twice, end_at, as_many, rose_on}
-use Rattle.cat_rounds.proofs.game.Game.follow.Goals as goal
+use Rattle.cat_rounds.proofs.run_parts.RunParts.follow.Goals as goal
 
 pub loop-end-preserved : goal.loop-end-preserved
 loop-end-preserved g c =

@@ -3,7 +3,7 @@ use Rattle.std.specs.Prelude.{is_some}
 use Rattle.sp_base.specs.declared.OpName.{OpName}
 use Rattle.cat_rounds.proofs.Rounding.{along_then, served_on}
 use Rattle.cat_rounds.proofs.Resting.{kept_then, rests_is}
-use Rattle.cat_rounds.proofs.game.Game.steps.Goals as goal
+use Rattle.cat_rounds.proofs.run_parts.RunParts.steps.Goals as goal
 
 none_held : (o : Option OpName) → is_some o ≡ true → o ≡ None → ⊥
 none_held None some none = cc

@@ -5,7 +5,7 @@ use Rattle.sp_core.specs.Collecting.{IsOpen}
 use Rattle.end_wire.specs.EndWires.{shown}
 use Rattle.cat_player.specs.Lasting.{IsUnderWay}
 use Rattle.cat_rounds.proofs.RunEnd.{IsEnding, hand_closed, legal_record, play_closes, ends_stand, wires_are, finishes}
-use Rattle.cat_rounds.proofs.game.Game.finish.Goals as goal
+use Rattle.cat_rounds.proofs.run_parts.RunParts.finish.Goals as goal
 
 pub finish-requires-clause-op : goal.finish-requires-clause-op
 finish-requires-clause-op g c =

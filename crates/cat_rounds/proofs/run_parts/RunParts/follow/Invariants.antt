@@ -5,7 +5,7 @@ use Rattle.cat_play.specs.Spending.{listens_of, dials_of}
 use Rattle.cat_rounds.specs.RunRounds.{RunStands}
 use Rattle.sp_lane.specs.Registry.{names, AreApart}
 use Rattle.cat_rounds.specs.Built.{IsEndOf, listen_names}
-use Rattle.cat_rounds.proofs.game.Game.follow.Given as goal
+use Rattle.cat_rounds.proofs.run_parts.RunParts.follow.Given as goal
 
 abbrev pub invariant-loop-end : goal.invariant-loop-end
 invariant-loop-end g l = record {

@@ -3,7 +3,7 @@ use Rattle.cat_rounds.specs.RunRounds.{has_more}
 use Rattle.sp_base.specs.Views.{SinkView}
 use Rattle.cat_rounds.proofs.Rounding.{serve_along, serve_texts, may_tick_at_end, through}
 use Rattle.cat_rounds.proofs.Late.{serve_stalls, something_waits}
-use Rattle.cat_rounds.proofs.game.Game.drain.Goals as goal
+use Rattle.cat_rounds.proofs.run_parts.RunParts.drain.Goals as goal
 
 abbrev quiet : SinkView
 quiet = record { text = None; faults = 0 }

@@ -1,6 +1,6 @@
 use Rattle.cat_rounds.proofs.Rounding.{serve_along, goes_then, serve_knows}
 use Rattle.cat_rounds.proofs.Resting.{swept_more}
-use Rattle.cat_rounds.proofs.game.Game.sweep.Goals as goal
+use Rattle.cat_rounds.proofs.run_parts.RunParts.sweep.Goals as goal
 
 pub steps-requires-clause-stands : goal.steps-requires-clause-stands
 steps-requires-clause-stands g c =

@@ -10,7 +10,7 @@ use Rattle.cat_rounds.proofs.Late.{late_tick, late_quiet, late_on, late_then, en
 use Rattle.cat_rounds.specs.RunRounds.{GoesTo}
 use Rattle.cat_rounds.specs.Resting.{MovesStill}
 use Rattle.cat_rounds.proofs.Resting.{before_play, round_moves, drained_moves}
-use Rattle.cat_rounds.proofs.game.Game.round.Goals as goal
+use Rattle.cat_rounds.proofs.run_parts.RunParts.round.Goals as goal
 
 pub turn-turn-requires-clause-ticked : goal.turn-turn-requires-clause-ticked
 turn-turn-requires-clause-ticked g c =

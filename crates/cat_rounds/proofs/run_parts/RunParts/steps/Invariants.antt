@@ -2,7 +2,7 @@ use Rattle.std.proofs.Common.{◌≡◌, ◌<◌, false}
 use Rattle.cat_player.specs.Lasting.{HasServed, HasPlayed}
 use Rattle.cat_player.specs.PlayerSteps.{KnowsPipes}
 use Rattle.cat_rounds.proofs.Rounding.{Along}
-use Rattle.cat_rounds.proofs.game.Game.steps.Given as goal
+use Rattle.cat_rounds.proofs.run_parts.RunParts.steps.Given as goal
 
 abbrev pub invariant-steps : goal.invariant-steps
 invariant-steps g l = record {

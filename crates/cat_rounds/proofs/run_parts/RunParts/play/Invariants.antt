@@ -2,7 +2,7 @@ use Rattle.std.proofs.Common.{◌≡◌, ◌<◌, ◌≤◌, ◌+◌, length}
 use Rattle.cat_player.specs.Lasting.{HasServed, HasPlayed}
 use Rattle.cat_rounds.proofs.Rounding.{Along}
 use Rattle.cat_player.specs.declared.player.PlayEnd.TheVariants as overs
-use Rattle.cat_rounds.proofs.game.Game.play.Given as goal
+use Rattle.cat_rounds.proofs.run_parts.RunParts.play.Given as goal
 
 abbrev pub invariant-sweeps : goal.invariant-sweeps
 invariant-sweeps g l = record {

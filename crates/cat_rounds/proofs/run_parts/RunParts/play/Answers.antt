@@ -1,7 +1,7 @@
 use Rattle.std.proofs.Common.{rules, ◌≡◌, arith}
 use Rattle.cat_player.specs.declared.player.PlayEnd.TheVariants as overs
 use Rattle.cat_rounds.proofs.Rounding.{free_at_end}
-use Rattle.cat_rounds.proofs.game.Game.play.Goals as goal
+use Rattle.cat_rounds.proofs.run_parts.RunParts.play.Goals as goal
 
 pub returns-then-ne-clause-went : goal.returns-then-ne-clause-went
 returns-then-ne-clause-went g c =

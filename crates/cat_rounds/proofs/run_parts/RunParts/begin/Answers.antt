@@ -3,7 +3,7 @@ use Rattle.cat_rounds.proofs.AllRounds.{same_ends}
 use Rattle.cat_rounds.proofs.Late.{never_late}
 use Rattle.cat_rounds.proofs.WholeRounds.{cut_nowhere}
 use Rattle.cat_rounds.proofs.Subscribing.{fresh_before, prepared_run, run_at, first_may_tick, prepared_prints, unpaced}
-use Rattle.cat_rounds.proofs.game.Game.begin.Goals as goal
+use Rattle.cat_rounds.proofs.run_parts.RunParts.begin.Goals as goal
 
 pub subscribe_all-requires-clause-before : goal.subscribe_all-requires-clause-before
 subscribe_all-requires-clause-before g c =

@@ -7,7 +7,7 @@ use Rattle.cat_player.specs.Lasting.{HasPrinted, MayTick}
 use Rattle.cat_player.specs.PlayerSteps.{SameScript}
 use Rattle.cat_rounds.specs.RunRounds.{RunStands, past_now}
 use Rattle.cat_rounds.specs.Late.{IsLateBy}
-use Rattle.cat_rounds.proofs.game.Game.go_round.Given as goal
+use Rattle.cat_rounds.proofs.run_parts.RunParts.go_round.Given as goal
 
 abbrev pub invariant-rounds : goal.invariant-rounds
 invariant-rounds g l = record {
