@@ -6,4 +6,6 @@ mod checks;
 #[cfg(test)]
 mod large;
 #[cfg(test)]
+mod larger;
+#[cfg(test)]
 mod topics;

@@ -12,7 +12,7 @@ fn bus(alloc: Global, raw: bool) -> Result<Bus, NoMemory> {
     Bus::new(alloc, Options::usual(Role::Bus, 0), raw)
 }
 
-// A bus answers each step as it says.
+// A bus returns at each step what it says.
 fn bus_plays(rt: &impl Abort, alloc: Global, raw: bool, steps: &[Call<'_>]) {
     plays(rt, alloc, bus(alloc, raw), steps);
 }
@@ -24,7 +24,7 @@ fn keeping(alloc: Global, queue: u32) -> Result<Bus, NoMemory> {
     Bus::new(alloc, options, false)
 }
 
-// A bus that keeps so many messages answers each step as it says.
+// A bus that keeps so many messages returns at each step what it says.
 fn keeping_plays(rt: &impl Abort, alloc: Global, queue: u32, steps: &[Call<'_>]) {
     plays(rt, alloc, keeping(alloc, queue), steps);
 }

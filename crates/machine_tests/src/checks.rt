@@ -13,7 +13,7 @@ pub fn made<M: Proto>(rt: &impl Abort, machine: Result<M, NoMemory>) -> M {
     }
 }
 
-/// The machine answers each step as it says.
+/// The machine returns at each step what it says.
 pub fn goes_on<M: Proto>(rt: &impl Abort, alloc: Global, m: &mut M, steps: &[Call<'_>]) {
     assert_eq!(rt; first_wrong(m, alloc, steps), None);
 }

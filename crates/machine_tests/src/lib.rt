@@ -1,4 +1,4 @@
-//! Tests of the machines of all roles, with exact messages, ids and answers.
+//! Tests of the machines of all roles, with exact messages, ids and results.
 #![tactic(auto)]
 
 #[cfg(test)]
@@ -8,7 +8,11 @@ mod checks;
 #[cfg(test)]
 mod copies;
 #[cfg(test)]
+mod long;
+#[cfg(test)]
 mod many;
+#[cfg(test)]
+mod meaningless;
 pub mod moves;
 #[cfg(test)]
 mod pair;

@@ -12,7 +12,7 @@ fn pair(alloc: Global, raw: bool) -> Result<Pair, NoMemory> {
     Pair::new(alloc, Options::usual(Role::Pair0, 0), raw)
 }
 
-// A pair answers each step as it says.
+// A pair returns at each step what it says.
 fn pair_plays(rt: &impl Abort, alloc: Global, raw: bool, steps: &[Call<'_>]) {
     plays(rt, alloc, pair(alloc, raw), steps);
 }

@@ -13,7 +13,7 @@ fn pull(alloc: Global) -> Result<Pull, NoMemory> {
     Pull::new(alloc, Options::usual(Role::Pull, 0), false)
 }
 
-// A pull answers each step as it says.
+// A pull returns at each step what it says.
 fn pull_plays(rt: &impl Abort, alloc: Global, steps: &[Call<'_>]) {
     plays(rt, alloc, pull(alloc), steps);
 }
@@ -22,7 +22,7 @@ fn push(alloc: Global, raw: bool) -> Result<Push, NoMemory> {
     Push::new(alloc, Options::usual(Role::Push, 0), raw)
 }
 
-// A push answers each step as it says.
+// A push returns at each step what it says.
 fn push_plays(rt: &impl Abort, alloc: Global, raw: bool, steps: &[Call<'_>]) {
     plays(rt, alloc, push(alloc, raw), steps);
 }

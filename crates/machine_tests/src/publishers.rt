@@ -12,7 +12,7 @@ fn publisher(alloc: Global, raw: bool) -> Result<Publish, NoMemory> {
     Publish::new(alloc, Options::usual(Role::Pub, 0), raw)
 }
 
-// A pub answers each step as it says.
+// A pub returns at each step what it says.
 fn publisher_plays(rt: &impl Abort, alloc: Global, raw: bool, steps: &[Call<'_>]) {
     plays(rt, alloc, publisher(alloc, raw), steps);
 }

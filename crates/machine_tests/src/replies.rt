@@ -44,7 +44,7 @@ const EIGHT_WORDS: [u8; 32] = [
     0, 0, 0, 1, 0, 0, 0, 1, 0, 0, 0, 1, 0, 0, 0, 1, 0, 0, 0, 1, 0, 0, 0, 1, 0, 0, 0, 1, 0, 0, 0, 1,
 ];
 
-// A rep and a respondent both answer each step as it says.
+// A rep and a respondent both return at each step what it says.
 fn both_play(rt: &impl Abort, alloc: Global, raw: bool, steps: &[Call<'_>]) {
     let options = Options::usual(Role::Rep, 0);
     plays(rt, alloc, Reply::new(alloc, options, raw), steps);

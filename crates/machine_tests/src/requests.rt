@@ -14,7 +14,7 @@ fn req(alloc: Global, dice: u32, raw: bool) -> Result<Request, NoMemory> {
     Request::new(alloc, Options::usual(Role::Req, dice), raw)
 }
 
-// A req whose ids begin there answers each step as it says.
+// A req whose ids begin there returns at each step what it says.
 fn req_plays(rt: &impl Abort, alloc: Global, dice: u32, raw: bool, steps: &[Call<'_>]) {
     plays(rt, alloc, req(alloc, dice, raw), steps);
 }

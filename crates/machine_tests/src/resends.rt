@@ -9,7 +9,7 @@ use sp_proto::{Offer, Proto};
 use std::alloc::Global;
 use std::process::Abort;
 
-// A req answers each step as it says.
+// A req returns at each step what it says.
 fn req_plays(rt: &impl Abort, alloc: Global, steps: &[Call<'_>]) {
     let req = Request::new(alloc, Options::usual(Role::Req, 0), false);
     plays(rt, alloc, req, steps);

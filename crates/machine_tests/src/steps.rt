@@ -1,4 +1,4 @@
-//! A play of a machine as a table: each call of it, and what it answers.
+//! A play of a machine as a table: each call of it, and what it returns.
 ghost use Rattle.std.specs.Prelude.{◌<◌};
 
 use crate::moves::{comes, op};
@@ -8,7 +8,7 @@ use sp_msg::Message;
 use sp_proto::{Act, CheckError, Offer, Proto, UpFault, Verb, Verdict};
 use std::alloc::Global;
 
-/// A call, and what it answers. Pipes, contexts and slots stand by their numbers, and a slot stands for its first
+/// A call, and what it returns. Pipes, contexts and slots stand by their numbers, and a slot stands for its first
 /// operation. Of a message the header comes first, then the body.
 #[derive(Clone, Copy)]
 pub enum Call<'a> {
@@ -69,6 +69,8 @@ pub enum Call<'a> {
     NoCopy(u32, u32),
     /// The request of the context goes out again on the pipe.
     Resend(u32, u32, &'a [u8], &'a [u8]),
+    /// None does: there is no copy.
+    NoResend(u32, u32),
     /// The receive gets this message.
     Gets(u32, &'a [u8], &'a [u8]),
     /// The receive gets this message, and a send of it begins on context 0 in the second slot.
@@ -85,7 +87,7 @@ pub enum Call<'a> {
     Loses(u32),
 }
 
-/// The number of the first step that is answered otherwise, from 0 on.
+/// The number of the first step that returns something else, from 0 on.
 pub fn first_wrong<M: Proto>(m: &mut M, alloc: Global, steps: &[Call<'_>]) -> Option<usize> {
     for (i, step) in steps.iter().enumerate() {
         if !is_right(m, alloc, *step) {
@@ -111,7 +113,7 @@ fn is_right<M: Proto>(m: &mut M, alloc: Global, step: Call<'_>) -> bool {
     }
 }
 
-// The machine is told something, and answers nothing.
+// The machine is told something, and returns nothing.
 fn is_told<M: Proto>(m: &mut M, step: Call<'_>) -> bool {
     match step {
         Call::Down(p) => m.down(PipeId(p)),
@@ -172,6 +174,7 @@ fn is_right_of_sends<M: Proto>(m: &mut M, step: Call<'_>) -> bool {
         Call::Copy(slot, p, header, body) => is_message(m.flood(op(slot), PipeId(p)), header, body),
         Call::NoCopy(slot, p) => m.flood(op(slot), PipeId(p)).is_none(),
         Call::Resend(c, p, header, body) => is_message(m.again(Ctx(c), PipeId(p)), header, body),
+        Call::NoResend(c, p) => m.again(Ctx(c), PipeId(p)).is_none(),
         _ => is_right_of_ends(m, step),
     }
 }

@@ -16,7 +16,7 @@ fn sub(alloc: Global, prefer_new: bool, raw: bool) -> Result<Subscribe, NoMemory
     Subscribe::new(alloc, options, raw)
 }
 
-// A sub with a queue of two messages answers each step as it says.
+// A sub with a queue of two messages returns at each step what it says.
 fn sub_plays(rt: &impl Abort, alloc: Global, prefer_new: bool, raw: bool, steps: &[Call<'_>]) {
     plays(rt, alloc, sub(alloc, prefer_new, raw), steps);
 }

@@ -13,7 +13,7 @@ fn survey(alloc: Global, raw: bool) -> Result<Survey, NoMemory> {
     Survey::new(alloc, Options::usual(Role::Surveyor, 0), raw)
 }
 
-// A surveyor answers each step as it says.
+// A surveyor returns at each step what it says.
 fn survey_plays(rt: &impl Abort, alloc: Global, raw: bool, steps: &[Call<'_>]) {
     plays(rt, alloc, survey(alloc, raw), steps);
 }
@@ -25,7 +25,7 @@ fn narrow(alloc: Global) -> Result<Survey, NoMemory> {
     Survey::new(alloc, options, false)
 }
 
-// A surveyor that keeps one response for a survey answers each step as it says.
+// A surveyor that keeps one response for a survey returns at each step what it says.
 fn narrow_plays(rt: &impl Abort, alloc: Global, steps: &[Call<'_>]) {
     plays(rt, alloc, narrow(alloc), steps);
 }
