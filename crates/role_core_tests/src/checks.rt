@@ -1,6 +1,6 @@
 //! What a test makes for a core, and what it asks of it.
 use core_driver::Driver;
-use core_plays::{Out, Play, PlayWire, Step};
+use core_plays::{CorePlay, Out, PlayWire, Step};
 use sp_base::NoMemory;
 use sp_proto::Proto;
 use std::alloc::Global;
@@ -16,7 +16,7 @@ pub fn made<T>(rt: &impl Abort, answer: Result<T, NoMemory>) -> T {
     }
 }
 
-/// The core answers each step as it says, and ends with these wires.
+/// The core returns at each step what it says, and ends with these wires.
 pub fn plays<P: Proto, R: Wait + Abort>(
     rt: &R,
     alloc: Global,
@@ -24,7 +24,7 @@ pub fn plays<P: Proto, R: Wait + Abort>(
     steps: &[Step<'_>],
     outs: &[Out<'_>],
 ) {
-    let mut play = Play::new(alloc, driver);
+    let mut play = CorePlay::new(alloc, driver);
     assert_eq!(rt; play.wrong_step(rt, alloc, steps), None);
     assert!(rt; play.ends(rt, alloc, outs));
 }

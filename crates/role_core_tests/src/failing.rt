@@ -50,7 +50,8 @@ fn a_request_goes_on_to_the_next_pipe_where_one_fails(rt: HostRuntime) {
         Step::Sent,
         Step::JoinsBroken(1, &[Give::Pause], 2),
         Step::Joins(2, 8, &[Give::Pause], 3),
-        // The first ends, the second fails where it is asked for room, and the third gets the request, all in this turn.
+        // The first ends, the second fails where it is asked for room, and the third gets the request, all in this
+        // turn.
         Step::Serve,
         Step::DownWith(1, Why::Ended, Some(1), &[b"\x80\0\0\0a"]),
         Step::DownWith(2, Why::Failed, Some(1), &[]),

@@ -19,7 +19,7 @@ fn publisher(rt: &impl Abort, alloc: Global) -> Driver<Publish, PlayWire> {
     }
 }
 
-/// A core over a publisher answers each step as it says, and ends with these wires.
+/// A core over a publisher returns at each step what it says, and ends with these wires.
 pub fn publisher_plays<R: Wait + Abort>(
     rt: &R,
     alloc: Global,
@@ -38,7 +38,7 @@ fn bus(rt: &impl Abort, alloc: Global, raw: bool, queue: u32) -> Driver<Bus, Pla
     }
 }
 
-// A core over a bus answers each step as it says, and ends with these wires.
+// A core over a bus returns at each step what it says, and ends with these wires.
 fn bus_plays<R: Wait + Abort>(
     rt: &R,
     alloc: Global,

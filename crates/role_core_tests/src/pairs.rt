@@ -1,7 +1,7 @@
 //! Pairs: one peer at a time, and sends that wait for it.
 use crate::checks::{holds, made, plays, same};
 use core_driver::Driver;
-use core_plays::{Give, Out, Play, PlayWire, Step};
+use core_plays::{CorePlay, Give, Out, PlayWire, Step};
 use proto_pair::Pair;
 use sp_base::{Role, SpError};
 use sp_core::AttachError;
@@ -20,7 +20,7 @@ fn pair(rt: &impl Abort, alloc: Global, raw: bool) -> Driver<Pair, PlayWire> {
     }
 }
 
-/// A core over a pair answers each step as it says, and ends with these wires.
+/// A core over a pair returns at each step what it says, and ends with these wires.
 pub fn pair_plays<R: Wait + Abort>(
     rt: &R,
     alloc: Global,
@@ -33,7 +33,7 @@ pub fn pair_plays<R: Wait + Abort>(
 
 // The core, over a pair, has one peer at a time.
 fn has_one_peer<P: Proto, R: Wait + Abort>(rt: &R, alloc: Global, driver: Driver<P, PlayWire>) {
-    let mut play = Play::new(alloc, driver);
+    let mut play = CorePlay::new(alloc, driver);
     let first = [Step::Joins(0, 0, &[Give::End], 1)];
     same(rt, play.wrong_step(rt, alloc, &first), None);
     // The wire that came back is the next peer.

@@ -23,6 +23,27 @@ fn a_reply_that_meets_a_cancelled_receive_is_gone_with_its_request(rt: HostRunti
 }
 
 #[test]
+fn the_reply_to_a_cancelled_request_does_not_reach_the_next_one(rt: HostRuntime) {
+    let gives = [Give::Frame(b"\x80\0\0\0a"), Give::Frame(b"\x80\0\0\x01b")];
+    let steps = [
+        Step::Joins(0, 8, &gives, 1),
+        Step::Send(0, &[], b"q"),
+        Step::Sent,
+        Step::Receive(0),
+        Step::Cancel(1, Raced::Won),
+        Step::Send(0, &[], b"r"),
+        Step::Sent,
+        Step::Gone(Cause::Cancelled, 1),
+        Step::Receive(0),
+        Step::Serve,
+        Step::Received(b"", b"b"),
+        Step::Close([4, 3, 1, 2, 2, 0]),
+    ];
+    let outs = [Out::Put(1, &[b"\x80\0\0\0q", b"\x80\0\0\x01r"])];
+    req_plays(&rt, rt.alloc(), false, 0, &steps, &outs);
+}
+
+#[test]
 fn a_request_that_meets_a_cancelled_receive_stays_for_the_next_one(rt: HostRuntime) {
     let steps = [
         Step::Joins(0, 8, &[Give::Frame(b"\x80\0\0\x01q")], 1),

@@ -18,7 +18,7 @@ fn rep(rt: &impl Abort, alloc: Global, raw: bool) -> Driver<Reply, PlayWire> {
     }
 }
 
-/// A core over a rep answers each step as it says, and ends with these wires.
+/// A core over a rep returns at each step what it says, and ends with these wires.
 pub fn rep_plays<R: Wait + Abort>(
     rt: &R,
     alloc: Global,
@@ -36,7 +36,7 @@ fn respondent(rt: &impl Abort, alloc: Global, raw: bool) -> Driver<Reply, PlayWi
     }
 }
 
-// A rep and a respondent both answer each step as it says, and end with these wires.
+// A rep and a respondent both return at each step what it says, and end with these wires.
 fn both_play<R: Wait + Abort>(
     rt: &R,
     alloc: Global,

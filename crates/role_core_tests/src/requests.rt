@@ -19,7 +19,7 @@ fn req(rt: &impl Abort, alloc: Global, raw: bool, dice: u32) -> Driver<Request, 
     }
 }
 
-/// A core over a req answers each step as it says, and ends with these wires.
+/// A core over a req returns at each step what it says, and ends with these wires.
 pub fn req_plays<R: Wait + Abort>(
     rt: &R,
     alloc: Global,
@@ -88,6 +88,20 @@ fn a_request_goes_out_again(rt: HostRuntime) {
         Step::Close([1, 1, 0, 0, 3, 0]),
     ];
     let outs = [Out::Put(2, &[b"\x80\0\0\0a", b"\x80\0\0\0a"])];
+    req_plays(&rt, rt.alloc(), false, 0, &steps, &outs);
+}
+
+#[test]
+fn a_request_does_not_go_out_again_a_millisecond_early(rt: HostRuntime) {
+    let steps = [
+        Step::Joins(0, 8, &[Give::Pause], 1),
+        Step::Due(1_000, 0),
+        Step::Send(0, &[], b"a"),
+        Step::Sent,
+        Step::Due(60_999, 0),
+        Step::Close([1, 1, 0, 0, 1, 0]),
+    ];
+    let outs = [Out::Put(1, &[b"\x80\0\0\0a"])];
     req_plays(&rt, rt.alloc(), false, 0, &steps, &outs);
 }
 

@@ -22,7 +22,7 @@ fn sub(rt: &impl Abort, alloc: Global, raw: bool, prefer_new: bool) -> Driver<Su
     }
 }
 
-// A core over a sub answers each step as it says, and ends with these wires.
+// A core over a sub returns at each step what it says, and ends with these wires.
 fn sub_plays<R: Wait + Abort>(
     rt: &R,
     alloc: Global,

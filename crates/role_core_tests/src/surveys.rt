@@ -18,7 +18,7 @@ fn surveyor(rt: &impl Abort, alloc: Global, raw: bool) -> Driver<Survey, PlayWir
     }
 }
 
-// A core over a surveyor answers each step as it says, and ends with these wires.
+// A core over a surveyor returns at each step what it says, and ends with these wires.
 fn surveyor_plays<R: Wait + Abort>(
     rt: &R,
     alloc: Global,
@@ -149,7 +149,8 @@ fn a_survey_that_is_over_at_a_deadline_ends_the_receive(rt: HostRuntime) {
         Step::ReceiveBy(0, 1_005),
         Step::Due(1_004, 0),
         Step::Poll(1, Polled::Pending),
-        // The tick names the receive as due, and ends it in its turn: who would let it expire after the turn is too late.
+        // The tick names the receive as due, and ends it in its turn: who would let it expire after the turn is too
+        // late.
         Step::Due(1_005, 1),
         Step::Expire(1, over),
         Step::Gone(Cause::SurveyOver, 0),
