@@ -3,6 +3,7 @@ use core_driver::Driver;
 use sp_base::Ctx;
 use sp_msg::{Message, Wire};
 use sp_proto::Proto;
+use std::io::Print;
 use std::sync::Wait;
 
 /// Opens so many contexts.
@@ -134,7 +135,17 @@ pub fn take_all_ended<P: Proto, W: Wire + Drop, R: Wait>(
     }
 }
 
-/// Collects what is open, and ends the core.
-pub fn end<P: Proto, W: Wire + Drop, R: AllocGlobal + Wait>(rt: &R, driver: Driver<P, W>) {
+/// Closes the core, prints what it counted, collects what is open, and ends it.
+pub fn end<P: Proto, W: Wire + Drop, R: AllocGlobal + Print + Wait>(
+    rt: &R,
+    row: &str,
+    size: u32,
+    mut driver: Driver<P, W>,
+) {
+    let t = driver.close(rt);
+    let _ = println!(rt;
+        "{row} at {size}: {} begun, {} won, {} gone, {} came, {} out, {} full",
+        t.begun, t.won, t.gone, t.frames, t.outs, t.fulls
+    );
     let _ = driver.finish(rt, rt.alloc());
 }

@@ -1,11 +1,13 @@
-//! What a call of the core costs at 256, 1,024, 3,000 and 4,096 pipes and slots (of a surveyor at 16 to 1,000), over
+//! What a call of the core costs at 64, 256, 1,024, 3,000 and 4,096 pipes and slots (of a surveyor at 16 to 1,000), over
 //! wires in memory that take no time of their own: nanoseconds for each pipe or operation that it touches, on standard
-//! error. What is printed is the same at any speed.
+//! error. On standard output it prints what each socket counted until its close, which is the same at any speed: so a row
+//! that measured refusals would be seen.
 #![tactic(auto)]
 
 ghost use Rattle.std.specs.Prelude.{◌<◌, ◌≤◌};
 
 mod calls;
+mod deadlines;
 mod makers;
 mod pipeline;
 mod replies;
@@ -19,20 +21,23 @@ use proto_reqrep::{Reply, Request};
 use proto_survey::Survey;
 use sp_base::NoMemory;
 use sp_fakes::MemWire;
-use std::io::{self, Eprint};
+use std::io::{self, Eprint, Print};
 use std::sync::Wait;
 use std::time::Clock;
 
-fn all<R: AllocGlobal + Clock + Eprint + Wait>(rt: &R, n: u32) -> Result<(), NoMemory>
+fn all<R: AllocGlobal + Clock + Eprint + Print + Wait>(rt: &R, n: u32) -> Result<(), NoMemory>
     requires { (0 < n) × (n ≤ 4096) }
 {
     pipeline::measure::<Push, Pull, MemWire, R>(rt, n)?;
+    deadlines::measure::<Pull, MemWire, R>(rt, n)?;
     requests::measure::<Request, MemWire, R>(rt, n)?;
     replies::measure::<Reply, MemWire, R>(rt, n)
 }
 
-// A queue that doubles its room has just enough at a power of 2: one size is none.
-fn every_size<R: AllocGlobal + Clock + Eprint + Wait>(rt: &R) -> Result<(), NoMemory> {
+// A queue that doubles its room has just enough at a power of 2: one size is none. The first size is small: what runs
+// first takes longer.
+fn every_size<R: AllocGlobal + Clock + Eprint + Print + Wait>(rt: &R) -> Result<(), NoMemory> {
+    all(rt, 64)?;
     all(rt, 256)?;
     all(rt, 1_024)?;
     all(rt, 3_000)?;

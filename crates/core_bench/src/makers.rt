@@ -16,45 +16,45 @@ use std::alloc::Global;
 
 /// A machine that can be made.
 pub trait Made: Proto {
-    /// One to which nothing has happened.
-    fn made(alloc: Global) -> Result<Self, NoMemory>
+    /// One to which nothing has happened, raw or cooked.
+    fn made(alloc: Global, raw: bool) -> Result<Self, NoMemory>
         ensures { IfOk result (λ m. (k : Kind) × Starts Self.ties m k) };
 }
 
 impl Made for Push {
-    fn made(alloc: Global) -> Result<Push, NoMemory> {
-        let machine = Push::new(alloc, Options::usual(Role::Push, 0), false)?;
+    fn made(alloc: Global, raw: bool) -> Result<Push, NoMemory> {
+        let machine = Push::new(alloc, Options::usual(Role::Push, 0), raw)?;
         Ok(machine)
     }
 }
 
 impl Made for Pull {
-    fn made(alloc: Global) -> Result<Pull, NoMemory> {
-        let machine = Pull::new(alloc, Options::usual(Role::Pull, 0), false)?;
+    fn made(alloc: Global, raw: bool) -> Result<Pull, NoMemory> {
+        let machine = Pull::new(alloc, Options::usual(Role::Pull, 0), raw)?;
         Ok(machine)
     }
 }
 
 impl Made for Request {
-    fn made(alloc: Global) -> Result<Request, NoMemory> {
-        let machine = Request::new(alloc, Options::usual(Role::Req, 0), false)?;
+    fn made(alloc: Global, raw: bool) -> Result<Request, NoMemory> {
+        let machine = Request::new(alloc, Options::usual(Role::Req, 0), raw)?;
         Ok(machine)
     }
 }
 
 impl Made for Reply {
-    fn made(alloc: Global) -> Result<Reply, NoMemory> {
-        let machine = Reply::new(alloc, Options::usual(Role::Rep, 0), false)?;
+    fn made(alloc: Global, raw: bool) -> Result<Reply, NoMemory> {
+        let machine = Reply::new(alloc, Options::usual(Role::Rep, 0), raw)?;
         Ok(machine)
     }
 }
 
 // It keeps 8,192 responses.
 impl Made for Survey {
-    fn made(alloc: Global) -> Result<Survey, NoMemory> {
+    fn made(alloc: Global, raw: bool) -> Result<Survey, NoMemory> {
         let mut options = Options::usual(Role::Surveyor, 0);
         options.queue = 8_192;
-        let machine = Survey::new(alloc, options, false)?;
+        let machine = Survey::new(alloc, options, raw)?;
         Ok(machine)
     }
 }
@@ -76,5 +76,12 @@ impl Scripted for MemWire {
 pub fn driver_of<P: Made, W: Wire>(alloc: Global, slots: u32) -> Result<Driver<P, W>, NoMemory>
     requires { (0 < slots) × (slots ≤ 4096) }
 {
-    Driver::new(alloc, P::made(alloc)?, slots)
+    Driver::new(alloc, P::made(alloc, false)?, slots)
+}
+
+/// The same, of a raw machine.
+pub fn raw_driver_of<P: Made, W: Wire>(alloc: Global, slots: u32) -> Result<Driver<P, W>, NoMemory>
+    requires { (0 < slots) × (slots ≤ 4096) }
+{
+    Driver::new(alloc, P::made(alloc, true)?, slots)
 }

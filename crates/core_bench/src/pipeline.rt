@@ -12,7 +12,7 @@ use core_driver::Driver;
 use sp_base::NoMemory;
 use sp_msg::Wire;
 use sp_proto::Proto;
-use std::io::Eprint;
+use std::io::{Eprint, Print};
 use std::sync::Wait;
 use std::time::Clock;
 
@@ -23,7 +23,7 @@ const ROUNDS: u32 = 16;
 const SENDS: u32 = 4_096;
 
 // A push whose pipes are all full: a send asks each of them.
-fn full_pipes<P: Proto, W: Scripted, R: AllocGlobal + Clock + Eprint + Wait>(
+fn full_pipes<P: Proto, W: Scripted, R: AllocGlobal + Clock + Eprint + Print + Wait>(
     rt: &R,
     n: u32,
     mut push: Driver<P, W>,
@@ -43,11 +43,11 @@ fn full_pipes<P: Proto, W: Scripted, R: AllocGlobal + Clock + Eprint + Wait>(
     let start = now(rt);
     push.close(rt);
     report(rt, "close of a push, a pipe", n, since(rt, start), n);
-    end(rt, push);
+    end(rt, "a push over full pipes", n, push);
 }
 
 // A push whose pipes have room: each send goes to the next one.
-fn free_pipes<P: Proto, W: Scripted, R: AllocGlobal + Clock + Eprint + Wait>(
+fn free_pipes<P: Proto, W: Scripted, R: AllocGlobal + Clock + Eprint + Print + Wait>(
     rt: &R,
     n: u32,
     mut push: Driver<P, W>,
@@ -62,11 +62,11 @@ fn free_pipes<P: Proto, W: Scripted, R: AllocGlobal + Clock + Eprint + Wait>(
         since(rt, start),
         SENDS,
     );
-    end(rt, push);
+    end(rt, "a push over free pipes", n, push);
 }
 
 // n receives that wait, and a message for each.
-fn receives<P: Proto, W: Scripted, R: AllocGlobal + Clock + Eprint + Wait>(
+fn receives<P: Proto, W: Scripted, R: AllocGlobal + Clock + Eprint + Print + Wait>(
     rt: &R,
     n: u32,
     pull: &mut Driver<P, W>,
@@ -93,7 +93,7 @@ fn receives<P: Proto, W: Scripted, R: AllocGlobal + Clock + Eprint + Wait>(
 }
 
 // The same, collected from the first.
-fn receives_from_first<P: Proto, W: Scripted, R: AllocGlobal + Clock + Eprint + Wait>(
+fn receives_from_first<P: Proto, W: Scripted, R: AllocGlobal + Clock + Eprint + Print + Wait>(
     rt: &R,
     n: u32,
     mut pull: Driver<P, W>,
@@ -102,11 +102,11 @@ fn receives_from_first<P: Proto, W: Scripted, R: AllocGlobal + Clock + Eprint + 
     let start = now(rt);
     collect_all(rt, &mut pull, n);
     report(rt, "n collects from the first", n, since(rt, start), n);
-    end(rt, pull);
+    end(rt, "receives of a pull, collected from the first", n, pull);
 }
 
 // The same, collected from the last.
-fn receives_from_last<P: Proto, W: Scripted, R: AllocGlobal + Clock + Eprint + Wait>(
+fn receives_from_last<P: Proto, W: Scripted, R: AllocGlobal + Clock + Eprint + Print + Wait>(
     rt: &R,
     n: u32,
     mut pull: Driver<P, W>,
@@ -115,11 +115,11 @@ fn receives_from_last<P: Proto, W: Scripted, R: AllocGlobal + Clock + Eprint + W
     let start = now(rt);
     collect_last(rt, &mut pull, n);
     report(rt, "n collects from the last", n, since(rt, start), n);
-    end(rt, pull);
+    end(rt, "receives of a pull, collected from the last", n, pull);
 }
 
 // Pipes of which a message is kept each.
-fn kept<P: Proto, W: Scripted, R: AllocGlobal + Clock + Eprint + Wait>(
+fn kept<P: Proto, W: Scripted, R: AllocGlobal + Clock + Eprint + Print + Wait>(
     rt: &R,
     n: u32,
     mut pull: Driver<P, W>,
@@ -154,11 +154,11 @@ fn kept<P: Proto, W: Scripted, R: AllocGlobal + Clock + Eprint + Wait>(
         since(rt, start),
         n,
     );
-    end(rt, pull);
+    end(rt, "a pull that keeps messages", n, pull);
 }
 
 // Pipes that give nothing.
-fn idle<P: Proto, W: Scripted, R: AllocGlobal + Clock + Eprint + Wait>(
+fn idle<P: Proto, W: Scripted, R: AllocGlobal + Clock + Eprint + Print + Wait>(
     rt: &R,
     n: u32,
     mut pull: Driver<P, W>,
@@ -180,7 +180,7 @@ fn idle<P: Proto, W: Scripted, R: AllocGlobal + Clock + Eprint + Wait>(
 }
 
 // The close of a pull whose receives wait.
-fn closes<P: Proto, W: Wire + Drop, R: AllocGlobal + Clock + Eprint + Wait>(
+fn closes<P: Proto, W: Wire + Drop, R: AllocGlobal + Clock + Eprint + Print + Wait>(
     rt: &R,
     n: u32,
     mut pull: Driver<P, W>,
@@ -191,11 +191,11 @@ fn closes<P: Proto, W: Wire + Drop, R: AllocGlobal + Clock + Eprint + Wait>(
     let start = now(rt);
     take_all_ended(rt, &mut pull, n);
     report(rt, "take_ended, a pipe", n, since(rt, start), n);
-    end(rt, pull);
+    end(rt, "a pull over idle pipes", n, pull);
 }
 
 /// Each row of a push and of a pull at this size.
-pub fn measure<S: Made, P: Made, W: Scripted, R: AllocGlobal + Clock + Eprint + Wait>(
+pub fn measure<S: Made, P: Made, W: Scripted, R: AllocGlobal + Clock + Eprint + Print + Wait>(
     rt: &R,
     n: u32,
 ) -> Result<(), NoMemory>

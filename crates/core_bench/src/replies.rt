@@ -1,22 +1,23 @@
-//! Replies of a rep through the core.
+//! Replies of a rep, cooked and raw, through the core.
 ghost use Rattle.std.specs.Prelude.{◌<◌, ◌≤◌};
 
 use crate::calls::{
     begin_recv, close_all, collect_all, end, open_all, receive_all, send, send_all,
 };
-use crate::makers::{Made, Scripted, driver_of};
+use crate::makers::{Made, Scripted, driver_of, raw_driver_of};
 use crate::timing::{now, report, since};
 use crate::wires::{MUCH, attach_all_numbered, attach_ending, attach_numbered, attach_series};
 use core_driver::Driver;
 use sp_base::{Ctx, NoMemory};
+use sp_core::Outcome;
 use sp_msg::Wire;
 use sp_proto::Proto;
-use std::io::Eprint;
+use std::io::{Eprint, Print};
 use std::sync::Wait;
 use std::time::Clock;
 
 // A rep that keeps a request of each of n pipes, takes each and replies.
-fn each_pipe_asks<P: Proto, W: Scripted, R: AllocGlobal + Clock + Eprint + Wait>(
+fn each_pipe_asks<P: Proto, W: Scripted, R: AllocGlobal + Clock + Eprint + Print + Wait>(
     rt: &R,
     n: u32,
     mut rep: Driver<P, W>,
@@ -42,7 +43,7 @@ fn each_pipe_asks<P: Proto, W: Scripted, R: AllocGlobal + Clock + Eprint + Wait>
         since(rt, start),
         n,
     );
-    end(rt, rep);
+    end(rt, "a rep that each pipe asks", n, rep);
 }
 
 // Receives what is kept, and replies.
@@ -64,8 +65,8 @@ fn reply_often<P: Proto, W: Wire, R: AllocGlobal + Wait>(
     }
 }
 
-// A request comes to each of so many contexts, one in a serve: the one that has waited longest. It replies, and waits
-// again.
+// A request comes to each of so many contexts, one in a serve, since a rep takes no more of a pipe: to the one that has
+// waited longest. It replies, and waits again.
 fn answer_all<P: Proto, W: Wire, R: AllocGlobal + Wait>(
     rt: &R,
     rep: &mut Driver<P, W>,
@@ -81,7 +82,7 @@ fn answer_all<P: Proto, W: Wire, R: AllocGlobal + Wait>(
 }
 
 // A rep of which n contexts wait for requests.
-fn waiting_contexts<P: Proto, W: Scripted, R: AllocGlobal + Clock + Eprint + Wait>(
+fn waiting_contexts<P: Proto, W: Scripted, R: AllocGlobal + Clock + Eprint + Print + Wait>(
     rt: &R,
     n: u32,
     mut rep: Driver<P, W>,
@@ -89,7 +90,7 @@ fn waiting_contexts<P: Proto, W: Scripted, R: AllocGlobal + Clock + Eprint + Wai
     requires { (0 < n) × (n ≤ 4096) }
 {
     open_all(rt, &mut rep, n - 1);
-    attach_series(rt, &mut rep, 0, n, true);
+    attach_series(rt, &mut rep, 0, n, false);
     let start = now(rt);
     receive_all(rt, &mut rep, n);
     report(
@@ -108,11 +109,11 @@ fn waiting_contexts<P: Proto, W: Scripted, R: AllocGlobal + Clock + Eprint + Wai
         since(rt, start),
         n,
     );
-    end(rt, rep);
+    end(rt, "a rep whose contexts wait", n, rep);
 }
 
 // A rep of which n - 1 contexts wait for requests. The reply of one more waits for room at its pipe.
-fn waiting_beside_a_reply<P: Proto, W: Scripted, R: AllocGlobal + Clock + Eprint + Wait>(
+fn waiting_beside_a_reply<P: Proto, W: Scripted, R: AllocGlobal + Clock + Eprint + Print + Wait>(
     rt: &R,
     n: u32,
     mut rep: Driver<P, W>,
@@ -125,7 +126,7 @@ fn waiting_beside_a_reply<P: Proto, W: Scripted, R: AllocGlobal + Clock + Eprint
     rep.serve(rt);
     begin_recv(rt, &mut rep, Ctx(last));
     let _ = rep.collect_first(rt);
-    attach_series(rt, &mut rep, 0, n, true);
+    attach_series(rt, &mut rep, 0, n, false);
     receive_all(rt, &mut rep, last);
     send(rt, &mut rep, Ctx(last));
     let start = now(rt);
@@ -137,11 +138,11 @@ fn waiting_beside_a_reply<P: Proto, W: Scripted, R: AllocGlobal + Clock + Eprint
         since(rt, start),
         last,
     );
-    end(rt, rep);
+    end(rt, "a rep whose contexts wait beside a reply", n, rep);
 }
 
 // A rep of n contexts, each of which replies to a pipe that is full.
-fn replies_at_full_pipes<P: Proto, W: Scripted, R: AllocGlobal + Clock + Eprint + Wait>(
+fn replies_at_full_pipes<P: Proto, W: Scripted, R: AllocGlobal + Clock + Eprint + Print + Wait>(
     rt: &R,
     n: u32,
     mut rep: Driver<P, W>,
@@ -172,11 +173,11 @@ fn replies_at_full_pipes<P: Proto, W: Scripted, R: AllocGlobal + Clock + Eprint 
         since(rt, start),
         n,
     );
-    end(rt, rep);
+    end(rt, "a rep whose replies wait", n, rep);
 }
 
 // The contexts of a rep, each of which has received a request, are shut.
-fn shuts<P: Proto, W: Scripted, R: AllocGlobal + Clock + Eprint + Wait>(
+fn shuts<P: Proto, W: Scripted, R: AllocGlobal + Clock + Eprint + Print + Wait>(
     rt: &R,
     n: u32,
     mut rep: Driver<P, W>,
@@ -197,11 +198,11 @@ fn shuts<P: Proto, W: Scripted, R: AllocGlobal + Clock + Eprint + Wait>(
         since(rt, start),
         n - 1,
     );
-    end(rt, rep);
+    end(rt, "a rep whose contexts are shut", n, rep);
 }
 
 // A rep that keeps a request of each pipe of the first half. Those of the second half go down in one serve.
-fn pipes_go_down<P: Proto, W: Scripted, R: AllocGlobal + Clock + Eprint + Wait>(
+fn pipes_go_down<P: Proto, W: Scripted, R: AllocGlobal + Clock + Eprint + Print + Wait>(
     rt: &R,
     n: u32,
     mut rep: Driver<P, W>,
@@ -221,11 +222,55 @@ fn pipes_go_down<P: Proto, W: Scripted, R: AllocGlobal + Clock + Eprint + Wait>(
         since(rt, start),
         half,
     );
-    end(rt, rep);
+    end(rt, "a rep whose pipes go down", n, rep);
+}
+
+// Receives what is kept, and sends it back. It goes where its header says that it came from.
+fn reply_raw<P: Proto, W: Wire, R: Wait>(rt: &R, rep: &mut Driver<P, W>) {
+    begin_recv(rt, rep, Ctx(0));
+    if let Some(Outcome::Received(m)) = rep.collect_first(rt) {
+        let _ = rep.begin_send(rt, Ctx(0), m, None);
+        let _ = rep.collect_first(rt);
+    }
+}
+
+// So many requests that are kept raw are received, and each is replied to.
+fn reply_raw_often<P: Proto, W: Wire, R: Wait>(rt: &R, rep: &mut Driver<P, W>, count: u32) {
+    for _ in 0..count {
+        reply_raw(rt, rep);
+    }
+}
+
+// A raw rep that keeps a request of each of n pipes, takes each and replies.
+fn each_pipe_asks_raw<P: Proto, W: Scripted, R: AllocGlobal + Clock + Eprint + Print + Wait>(
+    rt: &R,
+    n: u32,
+    mut rep: Driver<P, W>,
+) {
+    attach_all_numbered(rt, &mut rep, n, MUCH);
+    let start = now(rt);
+    rep.serve(rt);
+    report(
+        rt,
+        "serve of a raw rep that keeps a request of each, a pipe",
+        n,
+        since(rt, start),
+        n,
+    );
+    let start = now(rt);
+    reply_raw_often(rt, &mut rep, n);
+    report(
+        rt,
+        "a request that is kept raw, and its reply",
+        n,
+        since(rt, start),
+        n,
+    );
+    end(rt, "a raw rep that each pipe asks", n, rep);
 }
 
 /// Each row of a rep at this size.
-pub fn measure<P: Made, W: Scripted, R: AllocGlobal + Clock + Eprint + Wait>(
+pub fn measure<P: Made, W: Scripted, R: AllocGlobal + Clock + Eprint + Print + Wait>(
     rt: &R,
     n: u32,
 ) -> Result<(), NoMemory>
@@ -238,5 +283,6 @@ pub fn measure<P: Made, W: Scripted, R: AllocGlobal + Clock + Eprint + Wait>(
     replies_at_full_pipes(rt, n, driver_of::<P, W>(alloc, n)?);
     shuts(rt, n, driver_of::<P, W>(alloc, n)?);
     pipes_go_down(rt, n, driver_of::<P, W>(alloc, n)?);
+    each_pipe_asks_raw(rt, n, raw_driver_of::<P, W>(alloc, n)?);
     Ok(())
 }

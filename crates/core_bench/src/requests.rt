@@ -11,7 +11,7 @@ use core_driver::Driver;
 use sp_base::{Ctx, NoMemory, Tick};
 use sp_msg::Wire;
 use sp_proto::Proto;
-use std::io::Eprint;
+use std::io::{Eprint, Print};
 use std::sync::Wait;
 use std::time::Clock;
 
@@ -69,7 +69,7 @@ fn trip_often<P: Proto, W: Wire, R: AllocGlobal + Clock + Wait>(
 }
 
 // Trips of one context of a req over n pipes, the first of which gives the replies. The serves are timed alone.
-fn trips<P: Proto, W: Scripted, R: AllocGlobal + Clock + Eprint + Wait>(
+fn trips<P: Proto, W: Scripted, R: AllocGlobal + Clock + Eprint + Print + Wait>(
     rt: &R,
     n: u32,
     mut req: Driver<P, W>,
@@ -93,7 +93,7 @@ fn trips<P: Proto, W: Scripted, R: AllocGlobal + Clock + Eprint + Wait>(
         times.serves,
         TRIPS * n,
     );
-    end(rt, req);
+    end(rt, "trips of a req", n, req);
 }
 
 // Sends a request of the context, and waits for its reply.
@@ -114,45 +114,47 @@ fn ask_all<P: Proto, W: Wire, R: AllocGlobal + Wait>(
     }
 }
 
-// So many contexts, from 1 on, wait for replies that don't come. The pipe gives those to later requests.
+// So many contexts, from 1 on, wait for replies that don't come. The pipe gives so many to later requests.
 fn wait_for_replies<P: Proto, W: Scripted, R: AllocGlobal + Wait>(
     rt: &R,
     req: &mut Driver<P, W>,
     contexts: u32,
+    replies: u32,
 ) {
     open_all(rt, req, contexts);
-    attach_series(rt, req, contexts, TRIPS, true);
+    attach_series(rt, req, contexts, replies, true);
     ask_all(rt, req, contexts);
 }
 
-// The trips of one context, each with its serve.
-fn ask_often<P: Proto, W: Wire, R: AllocGlobal + Wait>(rt: &R, req: &mut Driver<P, W>) {
-    for _ in 0..TRIPS {
+// So many trips of one context, each with its serve.
+fn ask_often<P: Proto, W: Wire, R: AllocGlobal + Wait>(rt: &R, req: &mut Driver<P, W>, trips: u32) {
+    for _ in 0..trips {
         ask(rt, req, Ctx(0));
         req.serve(rt);
         let _ = req.collect(rt);
     }
 }
 
-// Trips of one context of a req while n - 2 others wait for replies that don't come.
-fn trips_among_waiting<P: Proto, W: Scripted, R: AllocGlobal + Clock + Eprint + Wait>(
+// n trips of one context of a req while n - 2 others wait for replies that don't come. What grows or is closed up once in
+// so many calls has its share in each.
+fn trips_among_waiting<P: Proto, W: Scripted, R: AllocGlobal + Clock + Eprint + Print + Wait>(
     rt: &R,
     n: u32,
     mut req: Driver<P, W>,
 )
     requires { (0 < n) × (n ≤ 4096) }
 {
-    wait_for_replies(rt, &mut req, n.saturating_sub(2));
+    wait_for_replies(rt, &mut req, n.saturating_sub(2), n);
     let start = now(rt);
-    ask_often(rt, &mut req);
+    ask_often(rt, &mut req, n);
     report(
         rt,
         "a trip of a req while n contexts wait",
         n,
         since(rt, start),
-        TRIPS,
+        n,
     );
-    end(rt, req);
+    end(rt, "trips of a req among waiting contexts", n, req);
 }
 
 // Each of so many contexts, from 1 on, asks anew. Its receive ends, and it waits again.
@@ -171,7 +173,7 @@ fn ask_all_anew<P: Proto, W: Wire, R: AllocGlobal + Wait>(
 }
 
 // Each of n - 2 contexts of a req that wait for replies asks anew, and its receive ends.
-fn asked_anew<P: Proto, W: Scripted, R: AllocGlobal + Clock + Eprint + Wait>(
+fn asked_anew<P: Proto, W: Scripted, R: AllocGlobal + Clock + Eprint + Print + Wait>(
     rt: &R,
     n: u32,
     mut req: Driver<P, W>,
@@ -179,7 +181,7 @@ fn asked_anew<P: Proto, W: Scripted, R: AllocGlobal + Clock + Eprint + Wait>(
     requires { (0 < n) × (n ≤ 4096) }
 {
     let contexts = n.saturating_sub(2);
-    wait_for_replies(rt, &mut req, contexts);
+    wait_for_replies(rt, &mut req, contexts, TRIPS);
     let start = now(rt);
     ask_all_anew(rt, &mut req, contexts);
     report(
@@ -189,11 +191,11 @@ fn asked_anew<P: Proto, W: Scripted, R: AllocGlobal + Clock + Eprint + Wait>(
         since(rt, start),
         contexts,
     );
-    end(rt, req);
+    end(rt, "requests in place of those whose receives wait", n, req);
 }
 
 // A request of each of n contexts over n pipes, each of which gives a reply.
-fn each_context_asks<P: Proto, W: Scripted, R: AllocGlobal + Clock + Eprint + Wait>(
+fn each_context_asks<P: Proto, W: Scripted, R: AllocGlobal + Clock + Eprint + Print + Wait>(
     rt: &R,
     n: u32,
     mut req: Driver<P, W>,
@@ -224,7 +226,7 @@ fn each_context_asks<P: Proto, W: Scripted, R: AllocGlobal + Clock + Eprint + Wa
 }
 
 // The replies to n requests come, and are collected.
-fn replies<P: Proto, W: Wire + Drop, R: AllocGlobal + Clock + Eprint + Wait>(
+fn replies<P: Proto, W: Wire + Drop, R: AllocGlobal + Clock + Eprint + Print + Wait>(
     rt: &R,
     n: u32,
     mut req: Driver<P, W>,
@@ -241,12 +243,12 @@ fn replies<P: Proto, W: Wire + Drop, R: AllocGlobal + Clock + Eprint + Wait>(
     let start = now(rt);
     collect_all(rt, &mut req, n);
     report(rt, "n collects of replies", n, since(rt, start), n);
-    end(rt, req);
+    end(rt, "requests of contexts", n, req);
 }
 
 // Requests of n contexts are out, each on a pipe of its own. The pipes of the second half go down in one serve, and what
 // was out on them goes out again on the others.
-fn pipes_go_down<P: Proto, W: Scripted, R: AllocGlobal + Clock + Eprint + Wait>(
+fn pipes_go_down<P: Proto, W: Scripted, R: AllocGlobal + Clock + Eprint + Print + Wait>(
     rt: &R,
     n: u32,
     mut req: Driver<P, W>,
@@ -267,11 +269,11 @@ fn pipes_go_down<P: Proto, W: Scripted, R: AllocGlobal + Clock + Eprint + Wait>(
         since(rt, start),
         half,
     );
-    end(rt, req);
+    end(rt, "a req whose pipes go down", n, req);
 }
 
 // Ticks at which none of n requests is due.
-fn idle_ticks<P: Proto, W: Wire, R: AllocGlobal + Clock + Eprint + Wait>(
+fn idle_ticks<P: Proto, W: Wire, R: AllocGlobal + Clock + Eprint + Print + Wait>(
     rt: &R,
     n: u32,
     req: &mut Driver<P, W>,
@@ -290,7 +292,7 @@ fn idle_ticks<P: Proto, W: Wire, R: AllocGlobal + Clock + Eprint + Wait>(
 }
 
 // Requests of n contexts are out on one pipe, and go out again at a tick.
-fn resends<P: Proto, W: Scripted, R: AllocGlobal + Clock + Eprint + Wait>(
+fn resends<P: Proto, W: Scripted, R: AllocGlobal + Clock + Eprint + Print + Wait>(
     rt: &R,
     n: u32,
     mut req: Driver<P, W>,
@@ -310,11 +312,11 @@ fn resends<P: Proto, W: Scripted, R: AllocGlobal + Clock + Eprint + Wait>(
         since(rt, start),
         n,
     );
-    end(rt, req);
+    end(rt, "requests that go out again at a tick", n, req);
 }
 
 // The contexts of a req, each of which has a live request, are shut.
-fn shuts<P: Proto, W: Scripted, R: AllocGlobal + Clock + Eprint + Wait>(
+fn shuts<P: Proto, W: Scripted, R: AllocGlobal + Clock + Eprint + Print + Wait>(
     rt: &R,
     n: u32,
     mut req: Driver<P, W>,
@@ -341,7 +343,7 @@ fn shuts<P: Proto, W: Scripted, R: AllocGlobal + Clock + Eprint + Wait>(
         since(rt, start),
         n - 1,
     );
-    end(rt, req);
+    end(rt, "a req whose contexts are shut", n, req);
 }
 
 // Each of so many contexts sends a request in place of its last one, one after the other, again and again, with a tick
@@ -358,7 +360,7 @@ fn replace_all<P: Proto, W: Wire, R: AllocGlobal + Wait>(
 }
 
 // The requests of n contexts are replaced in turn, over one pipe.
-fn replaced<P: Proto, W: Scripted, R: AllocGlobal + Clock + Eprint + Wait>(
+fn replaced<P: Proto, W: Scripted, R: AllocGlobal + Clock + Eprint + Print + Wait>(
     rt: &R,
     n: u32,
     mut req: Driver<P, W>,
@@ -377,12 +379,12 @@ fn replaced<P: Proto, W: Scripted, R: AllocGlobal + Clock + Eprint + Wait>(
         since(rt, start),
         ROUNDS * n,
     );
-    end(rt, req);
+    end(rt, "requests that are replaced", n, req);
 }
 
 // Requests that wait while n pipes are full. This one grows with the pipes: each turn that ends asks each pipe for room,
 // since what is left then is only what can't go out.
-fn full_pipes<P: Proto, W: Scripted, R: AllocGlobal + Clock + Eprint + Wait>(
+fn full_pipes<P: Proto, W: Scripted, R: AllocGlobal + Clock + Eprint + Print + Wait>(
     rt: &R,
     n: u32,
     mut req: Driver<P, W>,
@@ -398,11 +400,11 @@ fn full_pipes<P: Proto, W: Scripted, R: AllocGlobal + Clock + Eprint + Wait>(
         since(rt, start),
         WAITING,
     );
-    end(rt, req);
+    end(rt, "a req over full pipes", n, req);
 }
 
 /// Each row of a req at this size.
-pub fn measure<P: Made, W: Scripted, R: AllocGlobal + Clock + Eprint + Wait>(
+pub fn measure<P: Made, W: Scripted, R: AllocGlobal + Clock + Eprint + Print + Wait>(
     rt: &R,
     n: u32,
 ) -> Result<(), NoMemory>

@@ -10,7 +10,7 @@ use crate::wires::{MUCH, attach_numbered, attach_series};
 use core_driver::Driver;
 use sp_base::{Ctx, NoMemory};
 use sp_proto::Proto;
-use std::io::Eprint;
+use std::io::{Eprint, Print};
 use std::sync::Wait;
 use std::time::Clock;
 
@@ -26,7 +26,7 @@ fn attach_respondents<P: Proto, W: Scripted, R: AllocGlobal + Wait>(
 }
 
 // One survey over n wires, each of which gives a response.
-fn surveyed_wires<P: Proto, W: Scripted, R: AllocGlobal + Clock + Eprint + Wait>(
+fn surveyed_wires<P: Proto, W: Scripted, R: AllocGlobal + Clock + Eprint + Print + Wait>(
     rt: &R,
     n: u32,
     mut survey: Driver<P, W>,
@@ -54,11 +54,11 @@ fn surveyed_wires<P: Proto, W: Scripted, R: AllocGlobal + Clock + Eprint + Wait>
         since(rt, start),
         n,
     );
-    end(rt, survey);
+    end(rt, "a survey of wires", n, survey);
 }
 
 // A survey of each of n contexts over one wire, which gives the responses.
-fn surveying_contexts<P: Proto, W: Scripted, R: AllocGlobal + Clock + Eprint + Wait>(
+fn surveying_contexts<P: Proto, W: Scripted, R: AllocGlobal + Clock + Eprint + Print + Wait>(
     rt: &R,
     n: u32,
     mut survey: Driver<P, W>,
@@ -83,7 +83,7 @@ fn surveying_contexts<P: Proto, W: Scripted, R: AllocGlobal + Clock + Eprint + W
 }
 
 // The responses to n surveys come, and are collected.
-fn responses<P: Proto, W: Scripted, R: AllocGlobal + Clock + Eprint + Wait>(
+fn responses<P: Proto, W: Scripted, R: AllocGlobal + Clock + Eprint + Print + Wait>(
     rt: &R,
     n: u32,
     mut survey: Driver<P, W>,
@@ -103,11 +103,11 @@ fn responses<P: Proto, W: Scripted, R: AllocGlobal + Clock + Eprint + Wait>(
     let start = now(rt);
     collect_all(rt, &mut survey, n);
     report(rt, "n collects of responses", n, since(rt, start), n);
-    end(rt, survey);
+    end(rt, "surveys of contexts", n, survey);
 }
 
 /// Each count of wires, and of contexts, of a surveyor.
-pub fn measure<P: Made, W: Scripted, R: AllocGlobal + Clock + Eprint + Wait>(
+pub fn measure<P: Made, W: Scripted, R: AllocGlobal + Clock + Eprint + Print + Wait>(
     rt: &R,
 ) -> Result<(), NoMemory> {
     let alloc = rt.alloc();

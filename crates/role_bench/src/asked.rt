@@ -1,5 +1,5 @@
 //! Requests and replies.
-use crate::moves::{Made, come, opens, receive, send, take_offer, ups};
+use crate::moves::{NewMachine, come, opens, receive, send, take_offer, ups};
 use crate::timing::{now, row};
 use proto_reqrep::{Reply, Request};
 use sp_base::{Ctx, NoMemory, PipeId, Role, Tick};
@@ -15,13 +15,13 @@ const TRIPS: u32 = 1_000;
 /// How many pipes go down, and how many contexts are shut.
 const TIMES: u32 = 100;
 
-impl Made for Request {
+impl NewMachine for Request {
     fn made(alloc: Global) -> Result<Request, NoMemory> {
         Request::new(alloc, Options::usual(Role::Req, 0), false)
     }
 }
 
-impl Made for Reply {
+impl NewMachine for Reply {
     fn made(alloc: Global) -> Result<Reply, NoMemory> {
         Reply::new(alloc, Options::usual(Role::Rep, 0), false)
     }
@@ -37,11 +37,10 @@ pub fn reply_to(id: u32) -> [u8; 5] {
 fn trip<M: Proto>(req: &mut M, alloc: Global, id: u32, pipes: u32) -> Result<(), NoMemory> {
     req.fresh();
     send(req, alloc, 0, Ctx(0), b"q")?;
-    take_offer(req, pipes);
+    take_offer(req, pipes)?;
     receive(req, 1, Ctx(0))?;
     come(req, alloc, PipeId(1), &reply_to(id))?;
-    take_offer(req, pipes);
-    Ok(())
+    take_offer(req, pipes)
 }
 
 // Trips of one context of a req over so many pipes.
@@ -68,7 +67,7 @@ pub fn ask_all<M: Proto>(
 ) -> Result<(), NoMemory> {
     for i in 0..contexts {
         send(req, alloc, i, Ctx(i), b"q")?;
-        take_offer(req, pipes);
+        take_offer(req, pipes)?;
     }
     Ok(())
 }
@@ -79,7 +78,7 @@ fn answer_all<M: Proto>(req: &mut M, alloc: Global, contexts: u32) -> Result<(),
         let c = contexts - 1 - i;
         receive(req, c, Ctx(c))?;
         come(req, alloc, PipeId(1), &reply_to(c))?;
-        take_offer(req, 1);
+        take_offer(req, 1)?;
     }
     Ok(())
 }
@@ -112,9 +111,9 @@ fn reply_all<M: Proto>(rep: &mut M, alloc: Global, pipes: u32) -> Result<(), NoM
     for _ in 0..pipes {
         rep.fresh();
         receive(rep, 0, Ctx(0))?;
-        take_offer(rep, pipes);
+        take_offer(rep, pipes)?;
         send(rep, alloc, 1, Ctx(0), b"r")?;
-        take_offer(rep, pipes);
+        take_offer(rep, pipes)?;
     }
     Ok(())
 }
@@ -176,7 +175,7 @@ fn receive_all<M: Proto>(req: &mut M, contexts: u32) -> Result<(), NoMemory> {
 fn end_all<M: Proto>(req: &mut M, alloc: Global, contexts: u32) -> Result<(), NoMemory> {
     for i in 0..contexts {
         come(req, alloc, PipeId(1), &reply_to(contexts - 1 - i))?;
-        take_offer(req, 1);
+        take_offer(req, 1)?;
     }
     Ok(())
 }
@@ -204,16 +203,17 @@ fn waits<M: Proto, R: AllocGlobal + Clock + Eprint>(
 }
 
 // Pipes go down one after the other, from this number on, and what was out on each goes out again.
-fn down_some<M: Proto>(req: &mut M, first: u32, pipes: u32) {
+fn down_some<M: Proto>(req: &mut M, first: u32, pipes: u32) -> Result<(), NoMemory> {
     for i in 0..TIMES {
         req.fresh();
         req.down(PipeId(first.saturating_add(i)));
-        take_offer(req, pipes);
+        take_offer(req, pipes)?;
     }
+    Ok(())
 }
 
-// Requests of so many contexts are out, each on a pipe of its own. Pipes of the second half go down one after the other,
-// and what was out on each goes out again on one of the first, which stay.
+// Requests of so many contexts are out, each on a pipe of its own. Pipes of the second half go down one after the
+// other, and what was out on each goes out again on one of the first, which stay.
 fn downs<M: Proto, R: AllocGlobal + Clock + Eprint>(
     rt: &R,
     req: &mut M,
@@ -223,7 +223,7 @@ fn downs<M: Proto, R: AllocGlobal + Clock + Eprint>(
     ups(req, count)?;
     ask_all(req, rt.alloc(), count, count)?;
     let start = now(rt);
-    down_some(req, count / 2, count);
+    down_some(req, count / 2, count)?;
     row(
         rt,
         "a pipe of a req goes down, by live requests",
@@ -235,10 +235,11 @@ fn downs<M: Proto, R: AllocGlobal + Clock + Eprint>(
 }
 
 /// So many offers are taken, over one pipe.
-pub fn take_offers<M: Proto>(req: &mut M, count: u32) {
+pub fn take_offers<M: Proto>(req: &mut M, count: u32) -> Result<(), NoMemory> {
     for _ in 0..count {
-        take_offer(req, 1);
+        take_offer(req, 1)?;
     }
+    Ok(())
 }
 
 // Requests of so many contexts are out, and go out again when their time has come.
@@ -252,7 +253,7 @@ fn resends<M: Proto, R: AllocGlobal + Clock + Eprint>(
     ask_all(req, rt.alloc(), count, 1)?;
     let start = now(rt);
     req.clock(Tick(1_000_000));
-    take_offers(req, count);
+    take_offers(req, count)?;
     row(
         rt,
         "a request goes out again, by live requests",
@@ -280,7 +281,7 @@ fn shuts<M: Proto, R: AllocGlobal + Clock + Eprint>(
 }
 
 // All nine over so many.
-fn each<Q: Made, P: Made, R: AllocGlobal + Clock + Eprint>(
+fn each<Q: NewMachine, P: NewMachine, R: AllocGlobal + Clock + Eprint>(
     rt: &R,
     size: u32,
 ) -> Result<(), NoMemory> {
@@ -308,7 +309,9 @@ fn each<Q: Made, P: Made, R: AllocGlobal + Clock + Eprint>(
 }
 
 /// Each count of pipes, and of contexts, of a req and of a rep.
-pub fn requests<Q: Made, P: Made, R: AllocGlobal + Clock + Eprint>(rt: &R) -> Result<(), NoMemory> {
+pub fn requests<Q: NewMachine, P: NewMachine, R: AllocGlobal + Clock + Eprint>(
+    rt: &R,
+) -> Result<(), NoMemory> {
     each::<Q, P, R>(rt, 256)?;
     each::<Q, P, R>(rt, 1_024)?;
     each::<Q, P, R>(rt, 4_096)?;

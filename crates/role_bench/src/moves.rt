@@ -1,11 +1,12 @@
-//! What a benchmark does with a machine.
+//! What a benchmark does with a machine. Each step fails where it is refused, so that no row measures refusals: a frame
+//! that isn't fine, nothing to take, a copy that isn't there. A row of idle offers says that it wants them (`find_idle`).
 use sp_base::{Ctx, NoMemory, OpName, PipeId};
 use sp_msg::Message;
-use sp_proto::{Act, Offer, Proto};
+use sp_proto::{Act, Offer, Proto, Verdict};
 use std::alloc::Global;
 
 /// A machine that can be made. Rows are over any such machine: types of machines are dear to prove about.
-pub trait Made: Proto {
+pub trait NewMachine: Proto {
     /// One with the usual options of its role.
     fn made(alloc: Global) -> Result<Self, NoMemory>;
 }
@@ -61,33 +62,58 @@ pub fn receive<M: Proto>(m: &mut M, slot: u32, c: Ctx) -> Result<(), NoMemory> {
     }
 }
 
-/// A frame comes on the pipe.
+/// A frame comes on the pipe, and is fine.
 pub fn come<M: Proto>(m: &mut M, alloc: Global, p: PipeId, body: &[u8]) -> Result<(), NoMemory> {
     let message = Message::from_body(alloc, body)?;
-    let _ = m.frame(p, message);
+    if m.frame(p, message) != Verdict::Fine {
+        return Err(NoMemory);
+    }
     Ok(())
 }
 
-/// What is offered is done on the pipe, if anything is.
-pub fn take_offer<M: Proto>(m: &mut M, pipes: u32) {
+/// What is offered is done on the pipe. Something is.
+pub fn take_offer<M: Proto>(m: &mut M, pipes: u32) -> Result<(), NoMemory> {
     match m.offer() {
-        Offer::Give { op } => drop(m.won(op, None)),
-        Offer::Send { op, pipe } => drop(m.won(op, Some(pipe))),
+        Offer::Give { op } => is_there(m.won(op, None)),
+        Offer::Send { op, pipe } => is_there(m.won(op, Some(pipe))),
         Offer::Flood { op } => flood(m, op, pipes),
-        Offer::Drop { op } => drop(m.won(op, None)),
-        Offer::Finish { op, cause: _ } => drop(m.lost(op)),
-        Offer::Again { ctx, pipe } => drop(m.again(ctx, pipe)),
-        Offer::Idle => {}
+        Offer::Drop { op } => {
+            drop(m.won(op, None));
+            Ok(())
+        }
+        Offer::Finish { op, cause: _ } => {
+            drop(m.lost(op));
+            Ok(())
+        }
+        Offer::Again { ctx, pipe } => is_there(m.again(ctx, pipe)),
+        Offer::Idle => Err(NoMemory),
+    }
+}
+
+/// Nothing is offered.
+pub fn find_idle<M: Proto>(m: &mut M) -> Result<(), NoMemory> {
+    if m.offer() != Offer::Idle {
+        return Err(NoMemory);
+    }
+    Ok(())
+}
+
+// There is a message.
+fn is_there(message: Option<Message>) -> Result<(), NoMemory> {
+    match message {
+        None => Err(NoMemory),
+        Some(_) => Ok(()),
     }
 }
 
 // The send goes out on each of the pipes that it may go to.
-fn flood<M: Proto>(m: &mut M, op: OpName, pipes: u32) {
+fn flood<M: Proto>(m: &mut M, op: OpName, pipes: u32) -> Result<(), NoMemory> {
     for i in 0..pipes {
         let p = PipeId(i + 1);
         if m.goes_to(op, p) {
-            drop(m.flood(op, p));
+            is_there(m.flood(op, p))?;
         }
     }
     drop(m.won(op, None));
+    Ok(())
 }

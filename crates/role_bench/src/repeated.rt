@@ -1,6 +1,6 @@
 //! Requests and replies that come again, or find their pipes full or gone.
 use crate::asked::{ask_all, come_all, reply_to, take_offers};
-use crate::moves::{Made, come, opens, receive, send, take_offer, ups};
+use crate::moves::{NewMachine, come, opens, receive, send, take_offer, ups};
 use crate::timing::{now, row};
 use sp_base::{Ctx, NoMemory, PipeId};
 use sp_proto::{Offer, Proto};
@@ -71,7 +71,7 @@ fn rounds<M: Proto, R: AllocGlobal + Clock + Eprint>(
     req.fresh();
     come_up(req, PipeId(ROUNDS + 1))?;
     let start = now(rt);
-    take_offers(req, count);
+    take_offers(req, count)?;
     row(
         rt,
         "a request goes out again after some were replaced, by live requests",
@@ -117,41 +117,44 @@ fn few_free<M: Proto, R: AllocGlobal + Clock + Eprint>(
 fn reply_from_all<M: Proto>(rep: &mut M, alloc: Global, contexts: u32) -> Result<(), NoMemory> {
     for i in 0..contexts {
         receive(rep, i, Ctx(i))?;
-        take_offer(rep, 1);
+        take_offer(rep, 1)?;
         send(rep, alloc, i, Ctx(i), b"r")?;
     }
     Ok(())
 }
 
 // The pipe to which a reply may go is full.
-fn find_full<M: Proto>(rep: &mut M) {
+fn find_full<M: Proto>(rep: &mut M) -> Result<(), NoMemory> {
     match rep.offer() {
         Offer::Send { op: _, pipe } => rep.full(pipe),
-        _ => {}
+        _ => return Err(NoMemory),
     }
+    Ok(())
 }
 
 // The pipe to which a reply may go fails, and the reply goes nowhere.
-fn find_failed<M: Proto>(rep: &mut M) {
+fn find_failed<M: Proto>(rep: &mut M) -> Result<(), NoMemory> {
     match rep.offer() {
         Offer::Send { op: _, pipe } => rep.down(pipe),
-        _ => {}
+        _ => return Err(NoMemory),
     }
-    take_offer(rep, 1);
+    take_offer(rep, 1)
 }
 
 // So many replies find their pipes full.
-fn find_many_full<M: Proto>(rep: &mut M, count: u32) {
+fn find_many_full<M: Proto>(rep: &mut M, count: u32) -> Result<(), NoMemory> {
     for _ in 0..count {
-        find_full(rep);
+        find_full(rep)?;
     }
+    Ok(())
 }
 
 // The pipes of some replies fail.
-fn find_some_failed<M: Proto>(rep: &mut M) {
+fn find_some_failed<M: Proto>(rep: &mut M) -> Result<(), NoMemory> {
     for _ in 0..TIMES {
-        find_failed(rep);
+        find_failed(rep)?;
     }
+    Ok(())
 }
 
 // Replies of so many contexts wait at full pipes, and the pipes of others fail in the same turn.
@@ -164,9 +167,9 @@ fn fails<M: Proto, R: AllocGlobal + Clock + Eprint>(
     ups(rep, pipes)?;
     come_all(rep, rt.alloc(), pipes)?;
     reply_from_all(rep, rt.alloc(), pipes)?;
-    find_many_full(rep, pipes / 2);
+    find_many_full(rep, pipes / 2)?;
     let start = now(rt);
-    find_some_failed(rep);
+    find_some_failed(rep)?;
     row(
         rt,
         "a pipe of a rep fails, by replies that wait",
@@ -178,7 +181,7 @@ fn fails<M: Proto, R: AllocGlobal + Clock + Eprint>(
 }
 
 // All four over so many.
-fn each<Q: Made, P: Made, R: AllocGlobal + Clock + Eprint>(
+fn each<Q: NewMachine, P: NewMachine, R: AllocGlobal + Clock + Eprint>(
     rt: &R,
     size: u32,
 ) -> Result<(), NoMemory> {
@@ -190,7 +193,9 @@ fn each<Q: Made, P: Made, R: AllocGlobal + Clock + Eprint>(
 }
 
 /// Each count of pipes, and of contexts, of a req and of a rep.
-pub fn repeats<Q: Made, P: Made, R: AllocGlobal + Clock + Eprint>(rt: &R) -> Result<(), NoMemory> {
+pub fn repeats<Q: NewMachine, P: NewMachine, R: AllocGlobal + Clock + Eprint>(
+    rt: &R,
+) -> Result<(), NoMemory> {
     each::<Q, P, R>(rt, 256)?;
     each::<Q, P, R>(rt, 1_024)?;
     each::<Q, P, R>(rt, 4_096)?;

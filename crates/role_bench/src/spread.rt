@@ -1,5 +1,5 @@
 //! Frames at a sub, and sends of a pub.
-use crate::moves::{Made, come, opens, receive, send, take_offer, ups};
+use crate::moves::{NewMachine, come, find_idle, opens, receive, send, take_offer, ups};
 use crate::timing::{now, row};
 use proto_pubsub::{Publish, Subscribe};
 use sp_base::{Ctx, NoMemory, PipeId, Role};
@@ -35,7 +35,7 @@ impl Queued for Subscribe {
     }
 }
 
-impl Made for Publish {
+impl NewMachine for Publish {
     fn made(alloc: Global) -> Result<Publish, NoMemory> {
         Publish::new(alloc, Options::usual(Role::Pub, 0), false)
     }
@@ -154,16 +154,17 @@ fn with_contexts<M: Proto, R: AllocGlobal + Clock + Eprint>(
 fn receive_all<M: Proto>(sub: &mut M, contexts: u32) -> Result<(), NoMemory> {
     for i in 0..contexts {
         receive(sub, i, Ctx(i + 1))?;
-        take_offer(sub, 0);
+        find_idle(sub)?;
     }
     Ok(())
 }
 
-// A machine of no pipe is asked again and again what can be done.
-fn take_offers<M: Proto>(sub: &mut M) {
+// A machine is asked again and again what can be done, and nothing can.
+fn find_idle_often<M: Proto>(sub: &mut M) -> Result<(), NoMemory> {
     for _ in 0..OFFERS {
-        take_offer(sub, 0);
+        find_idle(sub)?;
     }
+    Ok(())
 }
 
 // A receive begins on each of so many contexts, and then nothing can be done.
@@ -177,7 +178,7 @@ fn with_receives<M: Proto, R: AllocGlobal + Clock + Eprint>(
     receive_all(sub, contexts)?;
     row(rt, "a receive begins at a sub", contexts, start, contexts);
     let start = now(rt);
-    take_offers(sub);
+    find_idle_often(sub)?;
     row(rt, "an idle offer of a sub", contexts, start, OFFERS);
     Ok(())
 }
@@ -238,7 +239,7 @@ fn to_pipes<M: Proto, R: AllocGlobal + Clock + Eprint>(
     let start = now(rt);
     for i in 0..SENDS {
         send(publisher, rt.alloc(), i, Ctx(0), b"x")?;
-        take_offer(publisher, pipes);
+        take_offer(publisher, pipes)?;
     }
     row(
         rt,
@@ -251,7 +252,7 @@ fn to_pipes<M: Proto, R: AllocGlobal + Clock + Eprint>(
 }
 
 /// Each count of pipes of a pub.
-pub fn sends<M: Made, R: AllocGlobal + Clock + Eprint>(rt: &R) -> Result<(), NoMemory> {
+pub fn sends<M: NewMachine, R: AllocGlobal + Clock + Eprint>(rt: &R) -> Result<(), NoMemory> {
     for pipes in [256, 1_024, 4_096] {
         to_pipes(rt, &mut M::made(rt.alloc())?, pipes)?;
     }

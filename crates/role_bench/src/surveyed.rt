@@ -1,5 +1,5 @@
 //! Surveys, to many respondents, and of many contexts.
-use crate::moves::{Made, come, opens, receive, send, take_offer, ups};
+use crate::moves::{NewMachine, come, opens, receive, send, take_offer, ups};
 use crate::timing::{now, row};
 use proto_survey::Survey;
 use sp_base::{Ctx, NoMemory, PipeId, Role};
@@ -9,7 +9,7 @@ use std::alloc::Global;
 use std::io::Eprint;
 use std::time::Clock;
 
-impl Made for Survey {
+impl NewMachine for Survey {
     fn made(alloc: Global) -> Result<Survey, NoMemory> {
         Survey::new(alloc, Options::usual(Role::Surveyor, 0), false)
     }
@@ -26,7 +26,7 @@ fn respond_all<M: Proto>(survey: &mut M, alloc: Global, pipes: u32) -> Result<()
     for i in 0..pipes {
         receive(survey, 1, Ctx(0))?;
         come(survey, alloc, PipeId(i + 1), &response_to(0))?;
-        take_offer(survey, pipes);
+        take_offer(survey, pipes)?;
     }
     Ok(())
 }
@@ -40,7 +40,7 @@ fn respondents<M: Proto, R: AllocGlobal + Clock + Eprint>(
     ups(survey, pipes)?;
     let start = now(rt);
     send(survey, rt.alloc(), 0, Ctx(0), b"q")?;
-    take_offer(survey, pipes);
+    take_offer(survey, pipes)?;
     respond_all(survey, rt.alloc(), pipes)?;
     row(rt, "a survey, a respondent", pipes, start, pipes);
     Ok(())
@@ -50,7 +50,7 @@ fn respondents<M: Proto, R: AllocGlobal + Clock + Eprint>(
 fn survey_all<M: Proto>(survey: &mut M, alloc: Global, contexts: u32) -> Result<(), NoMemory> {
     for i in 0..contexts {
         send(survey, alloc, i, Ctx(i), b"q")?;
-        take_offer(survey, 1);
+        take_offer(survey, 1)?;
     }
     Ok(())
 }
@@ -60,7 +60,7 @@ fn receive_all<M: Proto>(survey: &mut M, alloc: Global, contexts: u32) -> Result
     for i in 0..contexts {
         receive(survey, i, Ctx(i))?;
         come(survey, alloc, PipeId(1), &response_to(i))?;
-        take_offer(survey, 1);
+        take_offer(survey, 1)?;
     }
     Ok(())
 }
@@ -87,7 +87,7 @@ fn contexts<M: Proto, R: AllocGlobal + Clock + Eprint>(
 }
 
 /// Each count of respondents, and of contexts.
-pub fn surveys<M: Made, R: AllocGlobal + Clock + Eprint>(rt: &R) -> Result<(), NoMemory> {
+pub fn surveys<M: NewMachine, R: AllocGlobal + Clock + Eprint>(rt: &R) -> Result<(), NoMemory> {
     let alloc = rt.alloc();
     respondents(rt, &mut M::made(alloc)?, 100)?;
     respondents(rt, &mut M::made(alloc)?, 1_000)?;
