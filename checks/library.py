@@ -405,13 +405,23 @@ def round_trips(program, trips=20_000):
     return statistics.median(times) * 1e6, trips / sum(times)
 
 
-def measure():
-    """Round trips with ours and nng's as the server, one after the other, twice."""
-    for name, program in (("ours", OURS), ("nng 1.5.2", THEIRS)) * 2:
+def measure(pairs=5):
+    """Round trips with ours and nng's as the server, in turn, and the median over the runs of each. The status says how
+    often ours is worse: by the median of a trip, and by the trips a second."""
+    runs = {}
+    for name, program in (("ours", OURS), ("nng 1.5.2", THEIRS)) * pairs:
         if program:
             median, rate = round_trips(program)
+            runs.setdefault(name, []).append((median, rate))
             print(f"round trip of 8 bytes: {name} {median:.1f} microseconds, {rate:,.0f} a second", flush=True)
-    return 0
+    whole = {}
+    for name, measured in runs.items():
+        whole[name] = median, rate = tuple(statistics.median(values) for values in zip(*measured))
+        print(f"median of {len(measured)} runs: {name} {median:.1f} microseconds, {rate:,.0f} a second", flush=True)
+    if len(whole) < 2:
+        return 0
+    (our_median, our_rate), (their_median, their_rate) = whole.values()
+    return (our_median > their_median) + (our_rate < their_rate)
 
 
 def main():

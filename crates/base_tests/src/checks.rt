@@ -1,4 +1,4 @@
-//! What a test asks: it stops where an answer is another one. Calls cost less to prove than the macros written out.
+//! What a test asks: it stops where a result is another one. Calls cost less to prove than the macros written out.
 ghost use Rattle.std.specs.Prelude.{◌≡◌, Ok};
 
 use std::fmt::Debug;

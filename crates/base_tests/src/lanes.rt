@@ -92,7 +92,7 @@ fn lanes_give_in_order(rt: HostRuntime) {
     holds(&rt, matches!(output.take(&rt), Taken::End));
 }
 
-// The number of the answer, or 0.
+// The number of the result, or 0.
 fn number(answer: Result<LaneWire, InprocError>) -> u32 {
     match answer {
         Ok(_) => 0,

@@ -90,15 +90,15 @@ fn push_byte(text: &mut Vec<u8>, format: Format, byte: u8) -> Result<(), NoMemor
     }
 }
 
-/// What stands in `front`, and the text of the body behind it.
+/// What stands in `prefix`, and the text of the body behind it.
 pub fn text_of(
     alloc: Global,
     format: Format,
     body: &[u8],
-    front: &[u8],
+    prefix: &[u8],
 ) -> Result<Vec<u8>, NoMemory> {
     let is_quoted = format == Format::Quoted || format == Format::Hex;
-    let mut text = Vec::from_slice(alloc, front)?;
+    let mut text = Vec::from_slice(alloc, prefix)?;
     if format == Format::Msgpack {
         push_head(&mut text, body.len())?;
     }

@@ -379,9 +379,9 @@ fn pushed(list: &mut Vec<String>, alloc: Global, word: &str) -> Result<(), NoMem
 }
 
 /// The prefix with a value behind it, if one is under way.
-fn valued(alloc: Global, front: &[String], value: usize) -> Result<Vec<String>, NoMemory> {
+fn valued(alloc: Global, prefix: &[String], value: usize) -> Result<Vec<String>, NoMemory> {
     let mut list = Vec::new(alloc);
-    for word in front {
+    for word in prefix {
         pushed(&mut list, alloc, word.as_str())?;
     }
     if value > 0 && value <= VALUES.len() {
@@ -393,12 +393,12 @@ fn valued(alloc: Global, front: &[String], value: usize) -> Result<Vec<String>, 
 /// The list with a role, a body and an end behind it, each if it is asked for.
 fn followed(
     alloc: Global,
-    front: &[String],
+    prefix: &[String],
     role: usize,
     body: bool,
     end: bool,
 ) -> Result<Vec<String>, NoMemory> {
-    let mut list = valued(alloc, front, 0)?;
+    let mut list = valued(alloc, prefix, 0)?;
     if role > 0 && role <= ROLES.len() {
         pushed(&mut list, alloc, ROLES[role - 1].0)?;
     }
@@ -411,9 +411,9 @@ fn followed(
     Ok(list)
 }
 
-fn is_right_with_role(alloc: Global, front: &[String], role: usize) -> Result<bool, NoMemory> {
+fn is_right_with_role(alloc: Global, prefix: &[String], role: usize) -> Result<bool, NoMemory> {
     for more in 0..4u32 {
-        let list = followed(alloc, front, role, more % 2 == 1, more / 2 == 1)?;
+        let list = followed(alloc, prefix, role, more % 2 == 1, more / 2 == 1)?;
         if is_right(alloc, &list)? {
             return Ok(true);
         }
@@ -422,23 +422,23 @@ fn is_right_with_role(alloc: Global, front: &[String], role: usize) -> Result<bo
 }
 
 /// Whether something can follow these words, which are whole options.
-fn is_right_with_more(alloc: Global, front: &[String], has_role: bool) -> Result<bool, NoMemory> {
-    if is_right_with_role(alloc, front, 0)? {
+fn is_right_with_more(alloc: Global, prefix: &[String], has_role: bool) -> Result<bool, NoMemory> {
+    if is_right_with_role(alloc, prefix, 0)? {
         return Ok(true);
     }
     if has_role {
         return Ok(false);
     }
     for half in 0..10usize {
-        if is_right_with_role(alloc, front, 2 * half + 1)? {
+        if is_right_with_role(alloc, prefix, 2 * half + 1)? {
             return Ok(true);
         }
     }
     Ok(false)
 }
 
-fn is_right_with_value(alloc: Global, front: &[String], value: usize) -> Result<bool, NoMemory> {
-    let list = valued(alloc, front, value)?;
+fn is_right_with_value(alloc: Global, prefix: &[String], value: usize) -> Result<bool, NoMemory> {
+    let list = valued(alloc, prefix, value)?;
     if drill_of(&list).is_some() {
         return Ok(true);
     }
@@ -449,9 +449,9 @@ fn is_right_with_value(alloc: Global, front: &[String], value: usize) -> Result<
 }
 
 /// Whether the words are a prefix of some right list.
-pub fn is_front(alloc: Global, front: &[String]) -> Result<bool, NoMemory> {
+pub fn is_prefix(alloc: Global, prefix: &[String]) -> Result<bool, NoMemory> {
     for value in 0..5usize {
-        if is_right_with_value(alloc, front, value)? {
+        if is_right_with_value(alloc, prefix, value)? {
             return Ok(true);
         }
     }
@@ -462,7 +462,7 @@ pub fn is_front(alloc: Global, front: &[String]) -> Result<bool, NoMemory> {
 pub fn stop_of(alloc: Global, words: &[String]) -> Result<usize, NoMemory> {
     let mut most: usize = 0;
     for n in 0..words.len() {
-        if !is_front(alloc, &words[..n + 1])? {
+        if !is_prefix(alloc, &words[..n + 1])? {
             return Ok(most);
         }
         most = n + 1;

@@ -316,7 +316,7 @@ fn each_name_of_a_role_is_that_role(rt: HostRuntime) {
         ("--respondent", "--respondent0", "Respondent listen"),
         ("--bus", "--bus0", "Bus listen"),
     ];
-    for (name, longer, front) in names {
+    for (name, longer, prefix) in names {
         for word in [*name, *longer] {
             let takes_none = *name == "--pull" || *name == "--sub";
             let last = if takes_none {
@@ -325,7 +325,7 @@ fn each_name_of_a_role_is_that_role(rt: HostRuntime) {
                 "--data=x"
             };
             let shown = made(&rt, show(rt.alloc(), &[word, "--listen", A, last]));
-            holds(&rt, shown.as_str().starts_with(front));
+            holds(&rt, shown.as_str().starts_with(prefix));
         }
     }
 }

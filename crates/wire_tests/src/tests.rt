@@ -394,7 +394,7 @@ fn texts(rt: &impl Abort, alloc: Global, messages: &[Message]) -> Vec<u8> {
 
 // ---- what is put
 
-// Puts so many messages where there is room, and says what each room answered.
+// Puts so many messages where there is room, and says what each `room` returned.
 fn puts<W: Wire, R: Wait + Abort>(alloc: Global, rt: &R, wire: &mut W, times: u32) -> String
     requires { (W.shown wire.old).is_open ≡ true }
 {
@@ -470,7 +470,7 @@ fn frames_that_wait_go_out_in_one_write(rt: HostRuntime) {
     same(&rt, link.len(), 3 * 17);
 }
 
-// Puts a message, says what so many flushes answered, and shuts the wire.
+// Puts a message, says what so many flushes returned, and shuts the wire.
 fn flushes<W: Wire, R: Wait + Abort>(alloc: Global, rt: &R, wire: &mut W, times: u32) -> String
     requires { (W.shown wire.old).is_open ≡ true }
 {

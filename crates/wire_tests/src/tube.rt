@@ -29,7 +29,7 @@ pub struct Tube {
 }
 
 // Copies the first bytes of one piece over those of another; how many.
-fn copy_front(from: &[u8], to: &mut [u8]) -> usize
+fn copy_prefix(from: &[u8], to: &mut [u8]) -> usize
     ensures within { result ≤ length to.new }
     ensures most { result ≤ length from.now }
 {
@@ -88,7 +88,7 @@ impl Link for Tube {
 
     fn read(&mut self, buf: &mut [u8]) -> LinkRead {
         let n = match self.bytes.get(self.at..) {
-            Some(rest) => copy_front(rest, buf),
+            Some(rest) => copy_prefix(rest, buf),
             None => 0,
         };
         if n == 0 {

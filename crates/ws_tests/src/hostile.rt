@@ -1,5 +1,5 @@
-//! Wrong heads, each named by the first rule that it breaks (RFC 6455 section 4.2.1): more than 220 of them, and the sample with
-//! each of its bytes but the last four replaced by 0.
+//! Wrong heads, each named by the first rule that it breaks (RFC 6455 section 4.2.1): more than 220 of them, and the
+//! sample with each of its bytes but the last four replaced by 0.
 
 use crate::checks::{holds, made, same};
 use crate::opening::{H, fault, varied, with_lines, without_returns};

@@ -70,7 +70,8 @@ fn pings(rt: &impl Abort, alloc: Global, count: u32) -> Vec<u8> {
     bytes
 }
 
-// The most bytes that wait while pings come in so many pieces and the link takes nothing; 0 where one isn't passed over.
+// The most bytes that wait while pings come in so many pieces and the link takes nothing; 0 where one isn't passed
+// over.
 fn most_waiting(socket: &mut MemorySocket, pings: &[u8], pieces: u32) -> usize {
     let mut most = 0;
     for _ in 0..pieces {

@@ -73,7 +73,7 @@ fn nothing_is_written_after_a_close(rt: HostRuntime) {
     holds(&rt, w.into_link().written().is_empty());
 }
 
-// Puts messages `q` until there is no room; how many, and the answer then.
+// Puts messages `q` until there is no room; how many, and what was returned then.
 fn fills<R: Wait + Abort>(alloc: Global, rt: &R, wire: &mut WsWire<MemLink>) -> (u32, Room)
     requires { wire.old.wire.is_open ≡ true }
 {
