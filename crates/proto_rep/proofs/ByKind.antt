@@ -15,8 +15,9 @@ use Rattle.proto_rep.specs.declared.operations.Recipient.{Recipient}
 use Rattle.proto_rep.specs.declared.operations.ReplyOperation.{ReplyOperation}
 use Rattle.proto_rep.specs.declared.replies.WaitingReply.{WaitingReply}
 use Rattle.proto_rep.specs.declared.replies.PendingReply.{PendingReply}
-use Rattle.proto_rep.specs.Replies.{can_leave, reply_offer, is_reply_of, without_reply}
-use Rattle.proto_rep.specs.Operations.{Holds, count, places, without_first, begun_of, is_for, is_receive, is_reply, is_ready, receives_on, of_recipient, of_reply, can_go, send_offer}
+use Rattle.sp_proto.specs.declared.Offer.{Offer}
+use Rattle.proto_rep.specs.Replies.{is_reply_of, without_reply, OffersFirst}
+use Rattle.proto_rep.specs.Operations.{Holds, count, places, without_first, begun_of, is_for, is_receive, is_reply, is_ready, is_ready_to, receives_on, of_recipient, of_reply, can_go, can_go_to, SendsFirst}
 
 -- ---- Seen as operations of all kinds
 
@@ -78,19 +79,24 @@ receiving_on c rs ws h = sym (any_mapped of_recipient (receives_on c) rs) ∙ ap
     first None b k = refl
     first (Some r) b k = absurd cc
 
-pub reply_offered : (raw : Bool) (xs : List PortView) (rs : List WaitingReply) (ws : List ReplyOperation) → map of_reply rs ≡ filter is_reply ws → reply_offer raw xs (find (can_leave raw xs) rs) ≡ send_offer raw xs (find (is_ready raw xs) ws)
-reply_offered raw xs rs ws h = offers (find (can_leave raw xs) rs) ∙ ap (send_offer raw xs) (sym (find_mapped of_reply (is_ready raw xs) rs) ∙ ap (find (is_ready raw xs)) h ∙ find_kind (is_ready raw xs) is_reply ready ws)
+ready_reply : (raw : Bool) (xs : List PortView) (w : ReplyOperation) → is_ready raw xs w ≡ true → is_reply w ≡ true
+ready_reply raw xs w k = go w.answer k
   where
-    offers : (o : Option WaitingReply) → reply_offer raw xs o ≡ send_offer raw xs (option_map of_reply o)
-    offers None = refl
-    offers (Some w) = refl
+    go : (r : Option PendingReply) → can_go raw xs r ≡ true → is_some r ≡ true
+    go None h = absurd cc
+    go (Some r) h = refl
 
-    ready : (w : ReplyOperation) → is_ready raw xs w ≡ true → is_reply w ≡ true
-    ready w k = go w.answer k
-      where
-        go : (r : Option PendingReply) → can_go raw xs r ≡ true → is_some r ≡ true
-        go None h = absurd cc
-        go (Some r) h = refl
+ready_to_reply : (raw : Bool) (xs : List PortView) (k : ℕ) (w : ReplyOperation) → is_ready_to raw xs k w ≡ true → is_reply w ≡ true
+ready_to_reply raw xs k w h = go w.answer h
+  where
+    go : (r : Option PendingReply) → can_go_to raw xs k r ≡ true → is_some r ≡ true
+    go None h = absurd cc
+    go (Some r) h = refl
+
+pub reply_offered : (raw : Bool) (xs : List PortView) (rs : List WaitingReply) (ws : List ReplyOperation) (x : Offer) → map of_reply rs ≡ filter is_reply ws → OffersFirst raw xs rs x → SendsFirst raw xs ws x
+reply_offered raw xs rs ws x h (None, none, e) = (None, sym (find_kind (is_ready raw xs) is_reply (ready_reply raw xs) ws) ∙ ap (find (is_ready raw xs)) (sym h) ∙ find_mapped of_reply (is_ready raw xs) rs ∙ ap (option_map of_reply) none, e)
+reply_offered raw xs rs ws x h (Some w, (k, first), e) =
+    (Some (of_reply w), (k, sym (find_kind (is_ready_to raw xs k) is_reply (ready_to_reply raw xs k) ws) ∙ ap (find (is_ready_to raw xs k)) (sym h) ∙ find_mapped of_reply (is_ready_to raw xs k) rs ∙ ap (option_map of_reply) first), e)
 
 -- ---- By their names
 

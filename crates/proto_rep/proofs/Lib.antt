@@ -2,6 +2,8 @@ pub mod ListFronts
 pub mod OperationsLeft
 pub mod ByKind
 pub mod Stuck
+pub mod PassedReplies
+pub mod KeyedReplies
 pub mod Homes
 pub mod Replied
 pub mod RepEnds

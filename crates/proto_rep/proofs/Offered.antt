@@ -29,8 +29,8 @@ use Rattle.proto_requests.specs.Ports.{PortView, port_of}
 use Rattle.proto_requests.specs.declared.ports.Destination.{Destination}
 use Rattle.proto_requests.specs.declared.ports.Destination.TheVariants as ways
 use Rattle.proto_rep.specs.Reps.{Ties, item_of, origin_of, out_text, Routed, role_of}
-use Rattle.proto_rep.specs.Operations.{begun_of, act_of, is_receive, is_ready, can_go, send_offer, answer_offer}
-use Rattle.proto_rep.specs.Replies.{isnt_full, target_of, way_of, way_offer}
+use Rattle.proto_rep.specs.Operations.{begun_of, act_of, is_receive, is_ready, is_ready_to, can_go, can_go_to, answer_offer, SendsFirst}
+use Rattle.proto_rep.specs.Replies.{isnt_full, key_of, target_of, way_of, way_offer}
 use Rattle.proto_rep.proofs.OperationsLeft.{find_own}
 use Rattle.proto_requests.proofs.Piping.{goes_on, is_full_at, nowhere_up, has_number, all_full}
 use Rattle.std.proofs.Common.{inl, inr}
@@ -179,10 +179,22 @@ can_give m t k ks w h e f =
 
 -- ---- Send and Drop
 
+-- what goes to another pipe, or to none, doesn't go to this one
+has_other : (to : Option ℕ) (us : List ℕ) (p : ℕ) → (key_of to == key_of (Some p)) ≡ false → has (filter (is_number to) us) p ≡ false
+has_other None us p h = none us
+  where
+    none : (us : List ℕ) → has (filter (is_number None) us) p ≡ false
+    none [] = refl
+    none (u ∷ us) = none us
+has_other (Some q) us p h = has_number us q p ∙ ap (λ b. b && has us p) (differ h)
+  where
+    differ : (key_of (Some q) == key_of (Some p)) ≡ false → (q == p) ≡ false
+    differ e = grind (arith, nat_tests)
+
 no_earlier : (y : ReplyRole) (z : Setting) (before : List Entry) (full : ℕ → Bool) (raw : Bool) (ws : List ReplyOperation) (w : ReplyOperation) (p : ℕ) → z.role ≡ role_of y → z.raw ≡ raw → Routed (λ o. route z before o) ws
-    → find (is_ready raw (map (port_of full) (up before))) ws ≡ Some w → full p ≡ false → list_any (λ other. has (targets z before other) p) (begun_before w.op (map begun_of ws)) ≡ false
+    → find (is_ready_to raw (map (port_of full) (up before)) (key_of (Some p))) ws ≡ Some w → full p ≡ false → list_any (λ other. has (targets z before other) p) (begun_before w.op (map begun_of ws)) ≡ false
 no_earlier y z before full raw [] w p h k o f n = absurd cc
-no_earlier y z before full raw (v ∷ ws) w p h k o f n = go (is_ready raw (map (port_of full) (up before)) v) refl f (no_earlier y z before full raw ws w p h k o.1)
+no_earlier y z before full raw (v ∷ ws) w p h k o f n = go (is_ready_to raw (map (port_of full) (up before)) (key_of (Some p)) v) refl f (no_earlier y z before full raw ws w p h k o.1)
   where
     some_inj : Some v ≡ Some w → v ≡ w
     some_inj q = cc
@@ -194,19 +206,23 @@ no_earlier y z before full raw (v ∷ ws) w p h k o f n = go (is_ready raw (map 
     misses q e true f = let k : true ≡ false = sym e ∙ ap full (equal_of q p f) ∙ n in absurd cc
     misses q e false f = refl
 
-    hasnt : (x : Option PendingReply) → v.answer ≡ x → is_ready raw (map (port_of full) (up before)) v ≡ false → has (targets z before (begun_of v)) p ≡ false
-    hasnt None e g = ap (λ (x : Option PendingReply). has (targets_of z before v.op (act_of x)) p) e
-    hasnt (Some r) e g =
-        let at = full_targets y z before full raw v r h k e (o.0 r e) (sym (ap (λ (x : Option PendingReply). can_go raw (map (port_of full) (up before)) x) e) ∙ g) in
+    same_pipe : (r : PendingReply) → v.answer ≡ Some r → (b : Bool) → (key_of (target_of raw r) == key_of (Some p)) ≡ b → (b && isnt_full (way_of raw (map (port_of full) (up before)) r)) ≡ false → has (targets z before (begun_of v)) p ≡ false
+    same_pipe r e true i g =
+        let at = full_targets y z before full raw v r h k e (o.0 r e) g in
         ap (λ us. has us p) at.1 ∙ has_number (up before) at.0 p ∙ misses at.0 at.3 (at.0 == p) refl
+    same_pipe r e false i g = ap (λ us. has us p) (targets_are y z before raw v r h k e (o.0 r e)) ∙ has_other (target_of raw r) (up before) p i
+
+    hasnt : (x : Option PendingReply) → v.answer ≡ x → is_ready_to raw (map (port_of full) (up before)) (key_of (Some p)) v ≡ false → has (targets z before (begun_of v)) p ≡ false
+    hasnt None e g = ap (λ (x : Option PendingReply). has (targets_of z before v.op (act_of x)) p) e
+    hasnt (Some r) e g = same_pipe r e (key_of (target_of raw r) == key_of (Some p)) refl (sym (ap (λ (x : Option PendingReply). can_go_to raw (map (port_of full) (up before)) (key_of (Some p)) x) e) ∙ g)
 
     skip : (b : Bool) → has (targets z before (begun_of v)) p ≡ false → list_any (λ other. has (targets z before other) p) (begun_before w.op (map begun_of ws)) ≡ false
         → list_any (λ other. has (targets z before other) p) (cond b [] (begun_of v ∷ begun_before w.op (map begun_of ws))) ≡ false
     skip true e i = refl
     skip false e i = rw e i
 
-    go : (b : Bool) → is_ready raw (map (port_of full) (up before)) v ≡ b → cond b (Some v) (find (is_ready raw (map (port_of full) (up before))) ws) ≡ Some w
-        → (find (is_ready raw (map (port_of full) (up before))) ws ≡ Some w → full p ≡ false → list_any (λ other. has (targets z before other) p) (begun_before w.op (map begun_of ws)) ≡ false)
+    go : (b : Bool) → is_ready_to raw (map (port_of full) (up before)) (key_of (Some p)) v ≡ b → cond b (Some v) (find (is_ready_to raw (map (port_of full) (up before)) (key_of (Some p))) ws) ≡ Some w
+        → (find (is_ready_to raw (map (port_of full) (up before)) (key_of (Some p))) ws ≡ Some w → full p ≡ false → list_any (λ other. has (targets z before other) p) (begun_before w.op (map begun_of ws)) ≡ false)
         → list_any (λ other. has (targets z before other) p) (begun_before w.op (map begun_of (v ∷ ws))) ≡ false
     go true e f again =
         let is : v ≡ w = some_inj f in
@@ -217,16 +233,17 @@ no_earlier y z before full raw (v ∷ ws) w p h k o f n = go (is_ready raw (map 
 is_same : (n : ℕ) → (n == n) ≡ true
 is_same n = grind (arith, nat_tests)
 
-pub can_send : (m : Reply) (t : Moment) (w : ReplyOperation) (r : PendingReply) (p : ℕ) → (h : Ties m t) → find (is_ready m.raw m.ports.items) h.waits ≡ Some w → w.answer ≡ Some r → way_of m.raw m.ports.items r ≡ ways.To p → CanSend t w.op p (begun_of w) (out_text m.raw r)
-can_send m t w r p h f e g =
+pub can_send : (m : Reply) (t : Moment) (w : ReplyOperation) (r : PendingReply) (p k : ℕ) → (h : Ties m t) → find (is_ready_to m.raw m.ports.items k) h.waits ≡ Some w → key_of (target_of m.raw r) ≡ k → w.answer ≡ Some r → way_of m.raw m.ports.items r ≡ ways.To p → CanSend t w.op p (begun_of w) (out_text m.raw r)
+can_send m t w r p k h f i e g =
     let full : ℕ → Bool = λ q. has_full t.turn q in
     let apart = all_apart m t h in
     let way = goes_on full (up (past t)) (target_of m.raw r) p (ap (λ (xs : List PortView). way_of m.raw xs r) (sym h.pipes.ports) ∙ g) in
-    let from : option_map origin_of r.source ≡ route t.z (past t) w.op = route_of (λ o. route t.z (past t) o) (is_ready m.raw m.ports.items) h.waits w r h.routed f e in
-    let found : find (is_ready m.raw (map (port_of full) (up (past t)))) h.waits ≡ Some w = ap (λ (xs : List PortView). find (is_ready m.raw xs) h.waits) (sym h.pipes.ports) ∙ f in
+    let from : option_map origin_of r.source ≡ route t.z (past t) w.op = route_of (λ o. route t.z (past t) o) (is_ready_to m.raw m.ports.items k) h.waits w r h.routed f e in
+    let key : key_of (Some p) ≡ k = ap key_of (sym way.0) ∙ i in
+    let found : find (is_ready_to m.raw (map (port_of full) (up (past t))) (key_of (Some p))) h.waits ≡ Some w = ap (λ (xs : List PortView). find (is_ready_to m.raw xs (key_of (Some p))) h.waits) (sym h.pipes.ports) ∙ ap (λ (n : ℕ). find (is_ready_to m.raw m.ports.items n) h.waits) key ∙ f in
     let number : is_number (target_of m.raw r) p ≡ true = ap (λ (to : Option ℕ). is_number to p) way.0 ∙ is_same p in
     record {
-      pending = ap (find (is_of w.op)) (sym h.pending) ∙ find_own (is_ready m.raw m.ports.items) h.waits w f apart;
+      pending = ap (find (is_of w.op)) (sym h.pending) ∙ find_own (is_ready_to m.raw m.ports.items k) h.waits w f apart;
       is_up = way.1;
       target =
           ap (λ us. has us p) (targets_are m.role t.z (past t) m.raw w r (is_rep m t h) (is_raw m t h) e from) ∙ ap (λ (to : Option ℕ). has (filter (is_number to) (up (past t))) p) way.0
@@ -241,14 +258,14 @@ can_send m t w r p h f e g =
       one_target = no_floods m.role t.z (is_rep m t h);
     }
 
-pub can_drop : (m : Reply) (t : Moment) (w : ReplyOperation) (r : PendingReply) → Calm t.z (past t) → (h : Ties m t) → find (is_ready m.raw m.ports.items) h.waits ≡ Some w → w.answer ≡ Some r → way_of m.raw m.ports.items r ≡ ways.Nowhere → CanDrop t w.op (begun_of w)
-can_drop m t w r q h f e g =
+pub can_drop : (m : Reply) (t : Moment) (w : ReplyOperation) (r : PendingReply) (k : ℕ) → Calm t.z (past t) → (h : Ties m t) → find (is_ready_to m.raw m.ports.items k) h.waits ≡ Some w → w.answer ≡ Some r → way_of m.raw m.ports.items r ≡ ways.Nowhere → CanDrop t w.op (begun_of w)
+can_drop m t w r k q h f e g =
     let full : ℕ → Bool = λ q. has_full t.turn q in
     let apart = all_apart m t h in
     let none = nowhere_up full (up (past t)) (target_of m.raw r) (ap (λ (xs : List PortView). way_of m.raw xs r) (sym h.pipes.ports) ∙ g) in
-    let from : option_map origin_of r.source ≡ route t.z (past t) w.op = route_of (λ o. route t.z (past t) o) (is_ready m.raw m.ports.items) h.waits w r h.routed f e in
+    let from : option_map origin_of r.source ≡ route t.z (past t) w.op = route_of (λ o. route t.z (past t) o) (is_ready_to m.raw m.ports.items k) h.waits w r h.routed f e in
     record {
-      pending = ap (find (is_of w.op)) (sym h.pending) ∙ find_own (is_ready m.raw m.ports.items) h.waits w f apart;
+      pending = ap (find (is_of w.op)) (sym h.pending) ∙ find_own (is_ready_to m.raw m.ports.items k) h.waits w f apart;
       is_send = ap (λ (x : Option PendingReply). is_recv (act_of x)) e;
       nowhere = all (is_reply t.z.role) (targets t.z (past t) (begun_of w)) (unclaimed t.z (past t)) (replies m.role t.z (is_rep m t h)) (targets_are m.role t.z (past t) m.raw w r (is_rep m t h) (is_raw m t h) e from ∙ none) q.outs_claimed;
     }
@@ -257,29 +274,38 @@ can_drop m t w r q h f e g =
     all x us b h k n = rw (h, k, n) refl
 
 -- what is left to offer where no receive can be given anything
-pub sends_right : (m : Reply) (t : Moment) (x : Offer) → Calm t.z (past t) → (h : Ties m t) → (m.kept.items ≡ []) ⊎ (find is_receive h.waits ≡ None) → x ≡ send_offer m.raw m.ports.items (find (is_ready m.raw m.ports.items) h.waits) → IsOffered x t
-sends_right m t x q h r e = subst (λ (y : Offer). IsOffered y t) (sym e) (go (find (is_ready m.raw m.ports.items) h.waits) refl)
+pub sends_right : (m : Reply) (t : Moment) (x : Offer) → Calm t.z (past t) → (h : Ties m t) → (m.kept.items ≡ []) ⊎ (find is_receive h.waits ≡ None) → SendsFirst m.raw m.ports.items h.waits x → IsOffered x t
+sends_right m t x q h r (None, none, e) = subst (λ (y : Offer). IsOffered y t) (sym e) (idle m t h r none)
+sends_right m t x q h r (Some w, (k, first), e) = subst (λ (y : Offer). IsOffered y t) (sym e) (replies_right w.answer refl (ready h.waits first))
   where
-    ready : (w : ReplyOperation) (ws : List ReplyOperation) → find (is_ready m.raw m.ports.items) ws ≡ Some w → can_go m.raw m.ports.items w.answer ≡ true
-    ready w [] f = absurd cc
-    ready w (v ∷ ws) f = step (is_ready m.raw m.ports.items v) refl f (ready w ws)
+    equal_of : (m n : ℕ) → (m == n) ≡ true → m ≡ n
+    equal_of m n h = grind (arith, nat_tests)
+
+    left : (a b : Bool) → (a && b) ≡ true → a ≡ true
+    left true b n = refl
+    left false b n = absurd cc
+
+    right : (a b : Bool) → (a && b) ≡ true → b ≡ true
+    right true b n = n
+    right false b n = absurd cc
+
+    ready : (ws : List ReplyOperation) → find (is_ready_to m.raw m.ports.items k) ws ≡ Some w → can_go_to m.raw m.ports.items k w.answer ≡ true
+    ready [] f = absurd cc
+    ready (v ∷ ws) f = step (is_ready_to m.raw m.ports.items k v) refl f (ready ws)
       where
         some_inj : Some v ≡ Some w → v ≡ w
         some_inj q = cc
 
-        step : (b : Bool) → is_ready m.raw m.ports.items v ≡ b → cond b (Some v) (find (is_ready m.raw m.ports.items) ws) ≡ Some w → (find (is_ready m.raw m.ports.items) ws ≡ Some w → can_go m.raw m.ports.items w.answer ≡ true) → can_go m.raw m.ports.items w.answer ≡ true
-        step true k f again = ap (λ (u : ReplyOperation). can_go m.raw m.ports.items u.answer) (sym (some_inj f)) ∙ k
-        step false k f again = again f
+        step : (b : Bool) → is_ready_to m.raw m.ports.items k v ≡ b → cond b (Some v) (find (is_ready_to m.raw m.ports.items k) ws) ≡ Some w → (find (is_ready_to m.raw m.ports.items k) ws ≡ Some w → can_go_to m.raw m.ports.items k w.answer ≡ true) → can_go_to m.raw m.ports.items k w.answer ≡ true
+        step true i f again = ap (λ (u : ReplyOperation). can_go_to m.raw m.ports.items k u.answer) (sym (some_inj f)) ∙ i
+        step false i f again = again f
 
-    ways_right : (w : ReplyOperation) (p : PendingReply) (y : Destination) → find (is_ready m.raw m.ports.items) h.waits ≡ Some w → w.answer ≡ Some p → way_of m.raw m.ports.items p ≡ y → isnt_full y ≡ true → IsOffered (way_offer w.op y) t
-    ways_right w p ways.Full f g k n = absurd cc
-    ways_right w p ways.Nowhere f g k n = (begun_of w, can_drop m t w p q h f g k)
-    ways_right w p (ways.To u) f g k n = (begun_of w, out_text m.raw p, can_send m t w p u h f g k)
+    ways_right : (p : PendingReply) (y : Destination) → key_of (target_of m.raw p) ≡ k → w.answer ≡ Some p → way_of m.raw m.ports.items p ≡ y → isnt_full y ≡ true → IsOffered (way_offer w.op y) t
+    ways_right p ways.Full i g l n = absurd cc
+    ways_right p ways.Nowhere i g l n = (begun_of w, can_drop m t w p k q h first g l)
+    ways_right p (ways.To u) i g l n = (begun_of w, out_text m.raw p, can_send m t w p u k h first i g l)
 
-    replies_right : (w : ReplyOperation) (y : Option PendingReply) → find (is_ready m.raw m.ports.items) h.waits ≡ Some w → w.answer ≡ y → can_go m.raw m.ports.items y ≡ true → IsOffered (answer_offer m.raw m.ports.items w.op y) t
-    replies_right w None f g n = absurd cc
-    replies_right w (Some p) f g n = ways_right w p (way_of m.raw m.ports.items p) f g refl n
-
-    go : (o : Option ReplyOperation) → find (is_ready m.raw m.ports.items) h.waits ≡ o → IsOffered (send_offer m.raw m.ports.items o) t
-    go None f = idle m t h r f
-    go (Some w) f = replies_right w w.answer f refl (ready w h.waits f)
+    replies_right : (y : Option PendingReply) → w.answer ≡ y → can_go_to m.raw m.ports.items k y ≡ true → IsOffered (answer_offer m.raw m.ports.items w.op y) t
+    replies_right None g n = absurd cc
+    replies_right (Some p) g n =
+        ways_right p (way_of m.raw m.ports.items p) (equal_of _ _ (left (key_of (target_of m.raw p) == k) (isnt_full (way_of m.raw m.ports.items p)) n)) g refl (right (key_of (target_of m.raw p) == k) (isnt_full (way_of m.raw m.ports.items p)) n)

@@ -154,7 +154,7 @@ full_ties m n t p l h e f w g same =
       stuck = rw (same.0, e, w) (marked_stuck m.raw p m.ports.items m.waiting.replies h.stuck);
     }
 
-pub fresh_ties : (m n : Reply) (t : Moment) (k : ℕ) → Ties m t → n.ports.items ≡ map cleared m.ports.items → n.kept ≡ m.kept → ((ws : List ReplyOperation) → Holds m.waiting ws → Holds n.waiting ws) → n.waiting.replies.passed ≡ 0 → n.places ≡ m.places → (n.raw ≡ m.raw) × (n.options ≡ m.options) × (n.role ≡ m.role) → Ties n (next t k)
+pub fresh_ties : (m n : Reply) (t : Moment) (k : ℕ) → Ties m t → n.ports.items ≡ map cleared m.ports.items → n.kept ≡ m.kept → ((ws : List ReplyOperation) → Holds m.waiting ws → Holds n.waiting ws) → n.waiting.replies.passed ≡ [] → n.places ≡ m.places → (n.raw ≡ m.raw) × (n.options ≡ m.options) × (n.role ≡ m.role) → Ties n (next t k)
 fresh_ties m n t k h e f w x g same =
     record {
       kind = rw (same.0, same.1, same.2) h.kind;

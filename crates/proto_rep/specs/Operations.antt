@@ -1,5 +1,5 @@
 -- The operations of a rep that wait.
-use Rattle.std.specs.Prelude.{◌≡◌, ◌≤◌, ◌+◌, ◌-◌, ◌==◌, ◌&&◌, ℕ, Bool, false, not, min, List, map, filter, length, Option, Some, None, is_some}
+use Rattle.std.specs.Prelude.{◌≡◌, ◌≤◌, find, ◌+◌, ◌-◌, ◌==◌, ◌&&◌, ℕ, Bool, false, not, min, List, map, filter, length, Option, Some, None, is_some}
 use Rattle.sp_base.specs.declared.OpName.{OpName}
 use Rattle.sp_history.specs.declared.entry.RecordedAct.{RecordedAct}
 use Rattle.sp_history.specs.declared.entry.RecordedAct.TheVariants.{Recv, Send}
@@ -10,7 +10,7 @@ use Rattle.sp_proto.specs.declared.Offer.{Offer}
 use Rattle.sp_proto.specs.declared.Offer.TheVariants as offers
 use Rattle.proto_requests.specs.FirstFound.{without_found}
 use Rattle.proto_requests.specs.Ports.{PortView}
-use Rattle.proto_rep.specs.Replies.{isnt_full, way_of, way_offer}
+use Rattle.proto_rep.specs.Replies.{isnt_full, key_of, target_of, way_of, way_offer}
 use Rattle.proto_rep.specs.declared.replies.PendingReply.{PendingReply}
 use Rattle.proto_rep.specs.declared.replies.WaitingReply.{WaitingReply}
 use Rattle.proto_rep.specs.declared.operations.Recipient.{Recipient}
@@ -60,9 +60,26 @@ abbrev pub answer_offer : Bool → List PortView → OpName → Option PendingRe
 answer_offer raw xs op None = offers.Idle
 answer_offer raw xs op (Some r) = way_offer op (way_of raw xs r)
 
+abbrev pub can_go_to : Bool → List PortView → ℕ → Option PendingReply → Bool
+can_go_to raw xs k None = false
+can_go_to raw xs k (Some r) = (key_of (target_of raw r) == k) && isnt_full (way_of raw xs r)
+
+-- a reply to the pipe of this key, where that isn't up and full
+abbrev pub is_ready_to : Bool → List PortView → ℕ → ReplyOperation → Bool
+is_ready_to raw xs k w = can_go_to raw xs k w.answer
+
 abbrev pub send_offer : Bool → List PortView → Option ReplyOperation → Offer
 send_offer raw xs None = offers.Idle
 send_offer raw xs (Some w) = answer_offer raw xs w.op w.answer
+
+-- no reply can leave, or it is the first of those to its pipe
+abbrev pub IsFirstSend : Bool → List PortView → List ReplyOperation → Option ReplyOperation → Type 0
+IsFirstSend raw xs ws None = find (is_ready raw xs) ws ≡ None
+IsFirstSend raw xs ws (Some w) = (k : ℕ) × (find (is_ready_to raw xs k) ws ≡ Some w)
+
+-- such a one is offered
+abbrev pub SendsFirst : Bool → List PortView → List ReplyOperation → Offer → Type 0
+SendsFirst raw xs ws x = (o : Option ReplyOperation) × IsFirstSend raw xs ws o × (x ≡ send_offer raw xs o)
 
 -- ---- How many
 

@@ -2,20 +2,20 @@
 //!
 //! They are kept apart, so that a look at the replies passes no receive. Contracts see all of them in the order of
 //! their begins (`Holds`).
-ghost use Rattle.std.specs.Prelude.{◌≡◌, ◌≤◌, ◌<◌, ◌+◌, ◌++◌, ◌∷◌, ℕ, Bool, List, [], find, map, IfOk, IfSome, OnOk};
+ghost use Rattle.std.specs.Prelude.{◌≡◌, ◌≤◌, ◌<◌, ◌+◌, ◌++◌, ◌∷◌, ℕ, List, [], false, find, map, IfOk, IfSome, OnOk};
 ghost use Rattle.std.specs.Option.{option_map};
 ghost use Rattle.std.specs.List.{list_any};
 ghost use Rattle.sp_base.specs.declared.OpName.{OpName as Name};
 ghost use Rattle.sp_history.specs.Once.{AreApart};
 ghost use Rattle.sp_proto.specs.Machines.{Served};
 ghost use Rattle.proto_rep.specs.declared.operations.ReplyOperation.{ReplyOperation as ReplyOperationType};
-ghost use Rattle.proto_rep.specs.Replies.{AreStuck, StayPassed};
-ghost use Rattle.proto_rep.specs.Operations.{Holds, begun_of, is_for, is_receive, is_ready, receives_on, without_first, of_recipient, of_reply, send_offer, count, room};
+ghost use Rattle.proto_rep.specs.Replies.{AreStuck, StayPassed, is_to};
+ghost use Rattle.proto_rep.specs.Operations.{Holds, begun_of, is_for, is_receive, receives_on, without_first, of_recipient, of_reply, count, room, SendsFirst};
 
 use crate::replies::{PendingReply, WaitingReplies, WaitingReply};
 use proto_requests::ports::Ports;
 use proto_requests::waits::{Waiter, Waits};
-use sp_base::{Ctx, NoMemory, OpName};
+use sp_base::{Ctx, NoMemory, OpName, PipeId};
 use sp_proto::Offer;
 use std::alloc::Global;
 
@@ -119,13 +119,13 @@ fn beside(more: u32, others: usize) -> Result<u32, NoMemory>
 
 impl RepOperations {
     /// None waits.
-    pub fn new(alloc: Global) -> RepOperations
+    pub fn new(alloc: Global, raw: bool) -> RepOperations
         ensures none { Holds result [] }
-        ensures passed { result.replies.passed ≡ 0 }
+        ensures passed { result.replies.passed ≡ [] }
     {
         RepOperations {
             receives: Waits::new(alloc),
-            replies: WaitingReplies::new(alloc),
+            replies: WaitingReplies::new(alloc, raw),
         }
     }
 
@@ -143,13 +143,13 @@ impl RepOperations {
         self.receives.is_receiving(c)
     }
 
-    /// The first reply whose pipe isn't up and full goes out, or nowhere. Those before it are passed over.
+    /// The first of all replies to its pipe goes out, or nowhere, where that isn't up and full.
     pub fn next_reply(&mut self, raw: bool, ports: &Ports) -> Offer
         ensures same { (ws : List ReplyOperationType) → Holds self.old ws → Holds self.new ws }
         ensures count { count self.new ≡ count self.old }
         ensures room { room self.new ≡ room self.old }
         ensures stuck { AreStuck raw ports.now.items self.old.replies → AreStuck raw ports.now.items self.new.replies }
-        ensures offer { (ws : List ReplyOperationType) → Holds self.old ws → AreStuck raw ports.now.items self.old.replies → result ≡ send_offer raw ports.now.items (find (is_ready raw ports.now.items) ws) }
+        ensures offer { (ws : List ReplyOperationType) → Holds self.old ws → AreStuck raw ports.now.items self.old.replies → SendsFirst raw ports.now.items ws result }
     {
         self.replies.next(raw, ports)
     }
@@ -159,9 +159,20 @@ impl RepOperations {
         ensures same { (ws : List ReplyOperationType) → Holds self.old ws → Holds self.new ws }
         ensures count { count self.new ≡ count self.old }
         ensures room { room self.new ≡ room self.old }
-        ensures passed { self.new.replies.passed ≡ 0 }
+        ensures passed { self.new.replies.passed ≡ [] }
     {
         self.replies.pass_none();
+    }
+
+    /// No reply that may go to this pipe is passed over.
+    pub fn pass_below(&mut self, raw: bool, p: PipeId)
+        ensures same { (ws : List ReplyOperationType) → Holds self.old ws → Holds self.new ws }
+        ensures count { count self.new ≡ count self.old }
+        ensures room { room self.new ≡ room self.old }
+        ensures passed { StayPassed self.old.replies self.new.replies }
+        ensures none { list_any (is_to raw p) self.new.replies.passed ≡ false }
+    {
+        self.replies.pass_below(raw, p);
     }
 
     /// Takes the room for so many more.
@@ -194,7 +205,7 @@ impl RepOperations {
         let ReplyOperation { op, ctx, answer } = w;
         match answer {
             None => self.receives.push(Recipient { op, ctx }),
-            Some(answer) => self.replies.push(WaitingReply { op, ctx, answer }),
+            Some(answer) => self.replies.push(op, ctx, answer),
         }
     }
 

@@ -157,7 +157,7 @@ fn unused(alloc: Global, role: ReplyRole, options: Options, raw: bool) -> Result
             options,
             ports: Ports::new(alloc),
             kept: Backlog::new(alloc),
-            waiting: RepOperations::new(alloc),
+            waiting: RepOperations::new(alloc, raw),
             places,
         }),
     }
@@ -266,7 +266,7 @@ impl Proto for Reply {
         self.kept.forget(p);
         // Otherwise none of the replies that are passed over waits for it.
         if was_full {
-            self.waiting.pass_none();
+            self.waiting.pass_below(self.raw, p);
         }
     }
 

@@ -2,26 +2,31 @@
 //!
 //! They stand in the order of their begins, each at a spot that it leaves behind when it ends. Where nothing stands at
 //! half of the spots, the others are closed up, so that going over all of them costs no more than there are. By the
-//! slot of its name the number of a reply's spot is known, and by that the spot is found by halving. Those before a
-//! mark are passed over: each was found at a full pipe in this turn. A new turn sets the mark back, and so do a closing
-//! up, and a pipe that goes down and was full.
-ghost use Rattle.std.specs.Prelude.{◌≡◌, ◌≤◌, ◌<◌, ◌+◌, ◌++◌, ◌∷◌, Bool, [], Some, false, not, find, drop, take, length, option_to_list, OnOk};
+//! slot of its name the number of a reply's spot is known, and by that the spot is found by halving.
+//!
+//! An index has each of them by its pipe and its number. All whose pipes come before a mark are passed over: those
+//! pipes were found full in this turn. So a turn costs a look for each pipe at which replies wait, and not one for each
+//! reply. A new turn sets the mark back to the start. A reply that begins sets it back to its pipe, and so does a pipe
+//! that goes down and was full. The index takes memory. Where there is none, the replies are searched through, until
+//! one that begins finds memory for all.
+ghost use Rattle.std.specs.Prelude.{◌≡◌, ◌≤◌, ◌<◌, ◌+◌, ◌^◌, ◌++◌, ◌∷◌, ℕ, Bool, List, [], Some, true, false, not, find, filter, length, option_to_list, OnOk, IfSome};
 ghost use Rattle.std.specs.List.{position, list_any};
 ghost use Rattle.proto_requests.specs.Ports.{where_is};
-ghost use Rattle.proto_requests.specs.Spots.{holds, held};
+ghost use Rattle.proto_requests.specs.Spots.{holds, held, with_value};
 ghost use Rattle.proto_rep.specs.declared.replies.WaitingReply.{WaitingReply as WaitingReplyType};
-ghost use Rattle.proto_rep.specs.Replies.{way_of, can_leave, way_offer, reply_offer, is_reply_of, without_reply, isnt_full, StayPassed, AreStuck};
+ghost use Rattle.proto_rep.specs.Replies.{target_of, key_of, reply_key, way_of, can_leave, leaves_to, is_leaving, way_offer, reply_offer, is_reply_of, is_below, is_to, without_reply, isnt_full, has_key, AreFull, AreKeyed, AreRising, AreStuck, IsFullKey, IsLeast, IsPushed, OffersFirst, OffersIts, StayPassed};
 
 use crate::rep::Source;
 use proto_requests::numbers::Numbers;
 use proto_requests::ports::{Destination, Ports};
-use proto_requests::spots::{Spot, close_up_sparse, empty, rest, stays};
+use proto_requests::spots::{Spot, close_up_sparse, empty, hint};
 use proto_requests::trail::first_word;
 use proto_requests::waits::{Waiter, know, lose, make_spot, place_by};
 use sp_base::{Ctx, NoMemory, OpName, PipeId};
 use sp_msg::Message;
 use sp_proto::Offer;
 use std::alloc::Global;
+use std::collections::BTreeSet;
 use std::marker::Model;
 
 /// What a send is to send: its message, as it was begun, and, cooked, the request that it answers.
@@ -37,6 +42,8 @@ pub struct WaitingReply {
     pub op: OpName,
     pub ctx: Ctx,
     pub answer: PendingReply,
+    /// The number of its spot.
+    pub number: u64,
 }
 
 impl Waiter for WaitingReply {
@@ -83,31 +90,39 @@ impl Waiter for WaitingReply {
 /// Replies that wait.
 #[derive(Drop)]
 pub struct WaitingReplies {
+    /// Their pipes stand in their headers.
+    raw: bool,
     /// In the order of their begins.
     list: Vec<Spot<WaitingReply>>,
     /// The number of the next spot.
     next: u64,
+    /// The numbers rise.
+    in_order: bool,
     /// The numbers of their spots by their slots.
     by_slot: Numbers,
     /// All slots are known, and no two have one.
     slots_known: bool,
     /// So many wait.
     alive: usize,
-    /// Those before this spot are passed over.
-    looked: usize,
+    /// The key of the pipe of each, with its number.
+    index: BTreeSet<(u64, u64)>,
+    /// All are in the index.
+    is_indexed: bool,
+    /// Those whose keys are below this are passed over.
+    below: u64,
 }
 
 impl Model for WaitingReplies {
-    ghost use Rattle.std.specs.Prelude.{◌-◌, take, drop, length};
+    ghost use Rattle.std.specs.Prelude.{◌-◌, length, filter};
     ghost use Rattle.std.specs.Vec.{vec_capacity};
     ghost use Rattle.proto_requests.specs.Spots.{held};
-    ghost use Rattle.proto_rep.specs.Replies.{RepliesView, AreInRow};
+    ghost use Rattle.proto_rep.specs.Replies.{RepliesView, AreInRow, is_below};
 
     ghost Value = { RepliesView };
 
-    ghost view = { λ m. record { items = held m.list.items; passed = length (held (take m.looked m.list.items)); rest = drop m.looked m.list.items; room = vec_capacity m.list - length (held m.list.items) } };
+    ghost view = { λ m. record { items = held m.list.items; passed = filter (is_below m.raw m.below) (held m.list.items); room = vec_capacity m.list - length (held m.list.items) } };
 
-    ghost invariant = { λ m. AreInRow m.slots_known m.by_slot m.alive m.looked m.list.items };
+    ghost invariant = { λ m. AreInRow m.raw m.in_order m.next m.slots_known m.by_slot m.is_indexed m.index.keys m.alive (held m.list.items) };
 }
 
 // ---- Where one goes
@@ -119,20 +134,27 @@ pub fn is_full(ports: &Ports, p: PipeId) -> bool
     ports.way_to(Some(p)) == Destination::Full
 }
 
-// Where a send may go.
-fn way_of(raw: bool, ports: &Ports, answer: &PendingReply) -> Destination
-    ensures { result ≡ way_of raw ports.now.items answer.now }
+// The pipe to which a send may go.
+fn target_of(raw: bool, answer: &PendingReply) -> Option<PipeId>
+    ensures { result ≡ target_of raw answer.now }
 {
     if raw {
         return match first_word(answer.message.header()) {
-            None => ports.way_to(None),
-            Some(p) => ports.way_to(Some(PipeId(p))),
+            None => None,
+            Some(p) => Some(PipeId(p)),
         };
     }
     match &answer.source {
-        None => ports.way_to(None),
-        Some(s) => ports.way_to(Some(s.pipe)),
+        None => None,
+        Some(s) => Some(s.pipe),
     }
+}
+
+// Where it may go now.
+fn way_of(raw: bool, ports: &Ports, answer: &PendingReply) -> Destination
+    ensures { result ≡ way_of raw ports.now.items answer.now }
+{
+    ports.way_to(target_of(raw, answer))
 }
 
 // Whether its pipe isn't up and full.
@@ -188,19 +210,227 @@ fn offer_at(raw: bool, ports: &Ports, list: &[Spot<WaitingReply>], place: Option
     }
 }
 
+// ---- By their pipes
+
+// The pipe as a key.
+fn key_of(to: Option<PipeId>) -> u64
+    ensures { result ≡ key_of to }
+{
+    match to {
+        None => 0,
+        Some(p) => u64::from(p.0) + 1,
+    }
+}
+
+// The key of the pipe to which it may go.
+fn reply_key(raw: bool, answer: &PendingReply) -> u64
+    ensures { result ≡ key_of (target_of raw answer.now) }
+{
+    key_of(target_of(raw, answer))
+}
+
+// The pipe of this key is up, and was found full in this turn.
+fn is_full_key(ports: &Ports, k: u64) -> bool
+    ensures full { result ≡ true → IsFullKey ports.now.items k }
+    ensures small { result ≡ true → k ≤ 2 ^ 32 }
+{
+    if k == 0 {
+        return false;
+    }
+    match u32::try_from(k - 1) {
+        Err(_) => false,
+        Ok(p) => is_full(ports, PipeId(p)),
+    }
+}
+
+// The lower of the two.
+fn lower(a: u64, b: u64) -> u64
+    ensures one { result ≤ a }
+    ensures other { result ≤ b }
+{
+    if b < a { b } else { a }
+}
+
+// The number behind this one, and whether the numbers still rise.
+fn behind(n: u64, in_order: bool) -> (u64, bool)
+    ensures { result.1 ≡ true → (in_order ≡ true) × (result.0 ≡ n + 1) }
+{
+    match n.checked_add(1) {
+        None => (n, false),
+        Some(m) => (m, in_order),
+    }
+}
+
+// ---- The index
+
+// The pair is in it, and so are those that were. Out of memory it is empty.
+fn put(index: &mut BTreeSet<(u64, u64)>, key: u64, n: u64) -> bool
+    ensures it { result ≡ true → has_key key n index.new.keys ≡ true }
+    ensures others { result ≡ true → (k m : ℕ) → has_key k m index.old.keys ≡ true → has_key k m index.new.keys ≡ true }
+{
+    if index.insert((key, n)).is_err() {
+        index.clear();
+        return false;
+    }
+    true
+}
+
+// The pair is no longer in it.
+fn take_key(index: &mut BTreeSet<(u64, u64)>, key: u64, n: u64)
+    ensures { (k m : ℕ) → (m ≡ n → ⊥) → has_key k m index.old.keys ≡ true → has_key k m index.new.keys ≡ true }
+{
+    index.remove(&(key, n));
+}
+
+// The first from this key on.
+fn first_from(index: &BTreeSet<(u64, u64)>, from: u64) -> Option<(u64, u64)>
+    ensures { IsLeast from index.now.keys result }
+{
+    match index.range((from, 0)..).next() {
+        None => None,
+        Some(x) => Some(*x),
+    }
+}
+
+/// Where the keys of full pipes end, and the first from there on.
+struct Opening {
+    below: u64,
+    first: Option<(u64, u64)>,
+}
+
+// From this key on.
+fn first_open(index: &BTreeSet<(u64, u64)>, ports: &Ports, from: u64) -> Opening
+    ensures full { AreFull ports.now.items from result.below index.now.keys }
+    ensures first { IsLeast result.below index.now.keys result.first }
+{
+    let mut below = from;
+    while let Some((key, n)) = first_from(index, below) {
+        if !is_full_key(ports, key) {
+            return Opening {
+                below,
+                first: Some((key, n)),
+            };
+        }
+        below = key + 1;
+    }
+    Opening { below, first: None }
+}
+
+// What stands there is in the index, and so are those that were.
+fn put_spot(index: &mut BTreeSet<(u64, u64)>, raw: bool, s: &Spot<WaitingReply>) -> bool
+    ensures it { result ≡ true → AreKeyed raw index.new.keys (with_value s.now.value []) }
+    ensures others { result ≡ true → (k m : ℕ) → has_key k m index.old.keys ≡ true → has_key k m index.new.keys ≡ true }
+{
+    match &s.value {
+        None => true,
+        Some(w) => put(index, reply_key(raw, &w.answer), w.number),
+    }
+}
+
+// All are in the index.
+fn put_all(index: &mut BTreeSet<(u64, u64)>, raw: bool, list: &[Spot<WaitingReply>]) -> bool
+    ensures { result ≡ true → AreKeyed raw index.new.keys (held list.now) }
+{
+    index.clear();
+    for s in list {
+        if !put_spot(index, raw, s) {
+            return false;
+        }
+    }
+    true
+}
+
+// All are in the index, where all but the last are, if it is said. None are where their numbers don't rise.
+fn put_last(
+    index: &mut BTreeSet<(u64, u64)>,
+    raw: bool,
+    list: &[Spot<WaitingReply>],
+    in_order: bool,
+    is_indexed: bool,
+    key: u64,
+    n: u64,
+) -> bool
+    ensures order { result ≡ true → in_order ≡ true }
+    ensures keys { (ws : List WaitingReplyType) (w : WaitingReplyType) → (is_indexed ≡ true → AreKeyed raw index.old.keys ws) → held list.now ≡ ws ++ w ∷ [] → key ≡ reply_key raw w → n ≡ w.number → result ≡ true → AreKeyed raw index.new.keys (held list.now) }
+{
+    if !in_order {
+        index.clear();
+        return false;
+    }
+    if is_indexed {
+        return put(index, key, n);
+    }
+    put_all(index, raw, list)
+}
+
+// It has this number, may go to the pipe of this key, and that isn't up and full.
+fn is_leaving(raw: bool, ports: &Ports, w: &WaitingReply, key: u64, n: u64) -> bool
+    ensures { result ≡ is_leaving raw ports.now.items key n w.now }
+{
+    w.number == n && reply_key(raw, &w.answer) == key && can_leave(raw, ports, w)
+}
+
+// The same of a spot.
+fn is_leaving_at(raw: bool, ports: &Ports, s: &Spot<WaitingReply>, key: u64, n: u64) -> bool
+    ensures { result ≡ holds (is_leaving raw ports.now.items key n) s.now }
+{
+    match &s.value {
+        None => false,
+        Some(w) => is_leaving(raw, ports, w, key, n),
+    }
+}
+
+// The one of this number goes out, or nowhere, if it may go to the pipe of this key, and that isn't up and full.
+fn offer_by(
+    raw: bool,
+    ports: &Ports,
+    list: &[Spot<WaitingReply>],
+    key: u64,
+    n: u64,
+) -> Option<Offer>
+    ensures { (next : ℕ) → AreRising 0 next (held list.now) → IfSome result (OffersIts raw ports.now.items key n (held list.now)) }
+{
+    let i = hint(list, n);
+    if i < list.len() {
+        if is_leaving_at(raw, ports, &list[i], key, n) {
+            return Some(offer_at(raw, ports, list, Some(i)));
+        }
+    }
+    None
+}
+
+// The same of the first from a mark on. Where there is none, none can leave.
+fn offer_first(
+    raw: bool,
+    ports: &Ports,
+    list: &[Spot<WaitingReply>],
+    first: Option<(u64, u64)>,
+) -> Option<Offer>
+    ensures { (below next : ℕ) (ks : List (ℕ × ℕ)) → IsLeast below ks first → AreKeyed raw ks (held list.now) → AreRising 0 next (held list.now) → list_any (can_leave raw ports.now.items) (filter (is_below raw below) (held list.now)) ≡ false → IfSome result (OffersFirst raw ports.now.items (held list.now)) }
+{
+    match first {
+        None => Some(Offer::Idle),
+        Some((key, n)) => offer_by(raw, ports, list, key, n),
+    }
+}
+
 impl WaitingReplies {
     /// None waits, and none has room.
-    pub fn new(alloc: Global) -> WaitingReplies
+    pub fn new(alloc: Global, raw: bool) -> WaitingReplies
         ensures items { result.items ≡ [] }
-        ensures passed { result.passed ≡ 0 }
+        ensures passed { result.passed ≡ [] }
     {
         WaitingReplies {
+            raw,
             list: Vec::new(alloc),
             next: 0,
+            in_order: true,
             by_slot: Numbers::new(alloc),
             slots_known: true,
             alive: 0,
-            looked: 0,
+            index: BTreeSet::new(alloc),
+            is_indexed: true,
+            below: 0,
         }
     }
 
@@ -211,53 +441,70 @@ impl WaitingReplies {
         self.alive
     }
 
-    // Those that are not passed over, and the spots between them.
-    fn rest(&self) -> &[Spot<WaitingReply>]
-        ensures all { result.now ≡ self.now.rest }
-        ensures items { held self.now.rest ≡ drop self.now.passed self.now.items }
-    {
-        rest(&self.list, self.looked)
-    }
-
-    // Those before this place of the rest are passed over, or all.
-    fn pass(&mut self, place: Option<usize>)
-        ensures items { self.new.items ≡ self.old.items }
-        ensures room { self.new.room ≡ self.old.room }
-        ensures passed { (P : WaitingReplyType → Bool) → place ≡ position (holds P) self.old.rest → list_any P (take self.old.passed self.old.items) ≡ false → list_any P (take self.new.passed self.new.items) ≡ false }
-    {
-        let from = self.looked;
-        let len = self.list.len();
-        match place {
-            None => self.looked = len,
-            Some(i) => {
-                if i < len - from {
-                    self.looked = from + i;
-                }
-            }
-        }
-    }
-
     /// None is passed over.
     pub fn pass_none(&mut self)
         ensures items { self.new.items ≡ self.old.items }
         ensures room { self.new.room ≡ self.old.room }
-        ensures passed { self.new.passed ≡ 0 }
+        ensures passed { self.new.passed ≡ [] }
     {
-        self.looked = 0;
+        self.below = 0;
     }
 
-    /// The first reply whose pipe isn't up and full goes out, or nowhere. Those before it are passed over.
+    /// None that may go to this pipe is passed over.
+    pub fn pass_below(&mut self, raw: bool, p: PipeId)
+        ensures items { self.new.items ≡ self.old.items }
+        ensures room { self.new.room ≡ self.old.room }
+        ensures passed { StayPassed self.old self.new }
+        ensures none { list_any (is_to raw p) self.new.passed ≡ false }
+    {
+        if raw != self.raw {
+            self.below = 0;
+            return;
+        }
+        self.below = lower(self.below, key_of(Some(p)));
+    }
+
+    /// The first of all to its pipe goes out, or nowhere, where that isn't up and full.
     pub fn next(&mut self, raw: bool, ports: &Ports) -> Offer
         ensures items { self.new.items ≡ self.old.items }
         ensures room { self.new.room ≡ self.old.room }
         ensures stuck { AreStuck raw ports.now.items self.old → AreStuck raw ports.now.items self.new }
-        ensures offer { AreStuck raw ports.now.items self.old → result ≡ reply_offer raw ports.now.items (find (can_leave raw ports.now.items) self.old.items) }
+        ensures offer { AreStuck raw ports.now.items self.old → OffersFirst raw ports.now.items self.old.items result }
     {
-        let rest = self.rest();
-        let place = leaving_place(raw, ports, rest);
-        let offer = offer_at(raw, ports, rest, place);
-        self.pass(place);
-        offer
+        match self.next_by_key(raw, ports) {
+            Some(offer) => offer,
+            None => self.search(raw, ports),
+        }
+    }
+
+    // The same by the index, if all are there.
+    fn next_by_key(&mut self, raw: bool, ports: &Ports) -> Option<Offer>
+        ensures items { self.new.items ≡ self.old.items }
+        ensures room { self.new.room ≡ self.old.room }
+        ensures stuck { AreStuck raw ports.now.items self.old → AreStuck raw ports.now.items self.new }
+        ensures offer { AreStuck raw ports.now.items self.old → IfSome result (OffersFirst raw ports.now.items self.old.items) }
+    {
+        if raw != self.raw {
+            return None;
+        }
+        if !self.is_indexed {
+            return None;
+        }
+        let Opening { below, first } = first_open(&self.index, ports, self.below);
+        self.below = below;
+        offer_first(raw, ports, &self.list, first)
+    }
+
+    // The same by a search.
+    fn search(&self, raw: bool, ports: &Ports) -> Offer
+        ensures { OffersFirst raw ports.now.items self.now.items result }
+    {
+        offer_at(
+            raw,
+            ports,
+            &self.list,
+            leaving_place(raw, ports, &self.list),
+        )
     }
 
     /// Takes the room for so many more.
@@ -275,21 +522,39 @@ impl WaitingReplies {
     }
 
     /// One more waits, the last of all.
-    pub fn push(&mut self, x: WaitingReply)
+    pub fn push(&mut self, op: OpName, ctx: Ctx, answer: PendingReply)
         requires { 0 < self.old.room }
-        ensures items { self.new.items ≡ self.old.items ++ x ∷ [] }
+        ensures items { IsPushed op ctx answer self.old.items self.new.items }
         ensures passed { StayPassed self.old self.new }
         ensures room { self.new.room + 1 ≡ self.old.room }
     {
-        self.slots_known = know(self.slots_known, &mut self.by_slot, x.op.slot, self.next);
+        let n = self.next;
+        let key = reply_key(self.raw, &answer);
+        self.slots_known = know(self.slots_known, &mut self.by_slot, op.slot, n);
         self.alive = self.alive.saturating_add(1);
-        let moved = make_spot(&mut self.list);
-        self.looked = stays(moved, self.looked);
+        make_spot(&mut self.list);
         self.list.push_reserved(Spot {
-            number: self.next,
-            value: Some(x),
+            number: n,
+            value: Some(WaitingReply {
+                op,
+                ctx,
+                answer,
+                number: n,
+            }),
         });
-        self.next = self.next.wrapping_add(1);
+        self.below = lower(self.below, key);
+        let (next, in_order) = behind(n, self.in_order);
+        self.next = next;
+        self.in_order = in_order;
+        self.is_indexed = put_last(
+            &mut self.index,
+            self.raw,
+            &self.list,
+            in_order,
+            self.is_indexed,
+            key,
+            n,
+        );
     }
 
     // Takes the reply out.
@@ -306,6 +571,7 @@ impl WaitingReplies {
                 None => None,
                 Some(x) => {
                     lose(&mut self.by_slot, op.slot);
+                    take_key(&mut self.index, reply_key(self.raw, &x.answer), x.number);
                     self.alive = self.alive.saturating_sub(1);
                     Some(x)
                 }
@@ -319,8 +585,7 @@ impl WaitingReplies {
         ensures passed { StayPassed self.old self.new }
         ensures room { self.new.room ≡ self.old.room }
     {
-        let moved = close_up_sparse(&mut self.list, self.alive);
-        self.looked = stays(moved, self.looked);
+        close_up_sparse(&mut self.list, self.alive);
     }
 
     /// Takes the reply out.

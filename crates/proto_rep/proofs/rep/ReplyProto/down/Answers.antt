@@ -3,7 +3,7 @@ use Rattle.std.specs.Prelude.{not}
 use Rattle.proto_rep.specs.declared.rep.Reply.{Reply}
 use Rattle.proto_requests.specs.Ports.{free_count}
 use Rattle.proto_rep.proofs.Replied.{down_ties}
-use Rattle.proto_rep.proofs.Stuck.{less_stuck, none_stuck}
+use Rattle.proto_rep.proofs.Stuck.{less_stuck, other_stuck}
 use Rattle.proto_requests.proofs.KnownPipes.{down_free}
 use Rattle.proto_rep.proofs.rep.ReplyProto.down.Goals as goal
 
@@ -11,8 +11,8 @@ pub returns-then-was_full-clause-down : goal.returns-then-was_full-clause-down
 returns-then-was_full-clause-down c =
     λ t why l h.
     let was = c.args.self.now in
-    let is : Reply = record { alloc = was.alloc; role = was.role; raw = was.raw; options = was.options; ports = c.forget.new.self; kept = c.forget-2.new.self; waiting = c.pass_none.new.self; places = was.places } in
-    down_ties was is t c.args.p why h c.forget.ensures c.forget-2.ensures c.pass_none.ensures.same (λ s. none_stuck is.raw is.ports.items is.waiting.replies c.pass_none.ensures.passed) refl (refl, refl, refl)
+    let is : Reply = record { alloc = was.alloc; role = was.role; raw = was.raw; options = was.options; ports = c.forget.new.self; kept = c.forget-2.new.self; waiting = c.pass_below.new.self; places = was.places } in
+    down_ties was is t c.args.p why h c.forget.ensures c.forget-2.ensures c.pass_below.ensures.same (λ s. rw c.forget.ensures (other_stuck was.raw c.args.p was.ports.items was.waiting.replies is.waiting.replies c.pass_below.ensures.passed c.pass_below.ensures.none s)) refl (refl, refl, refl)
 
 -- it was not full
 isnt : (a b : Bool) → a ≡ not b → a ≡ false → b ≡ true
@@ -32,7 +32,7 @@ returns-then-was_full-clause-left c =
     λ t op s b l h k.
     let was = c.args.self.now in
     let less : free_count c.forget.new.self.items < free_count was.ports.items = down_free c.forget.new.self.items was.ports.items t c.args.p h.pipes c.forget.ensures k.not_full k.is_up in
-    let same = c.pass_none.ensures.count in
+    let same = c.pass_below.ensures.count in
     omega (arith, less, same)
 
 pub returns-else-was_full-clause-left : goal.returns-else-was_full-clause-left

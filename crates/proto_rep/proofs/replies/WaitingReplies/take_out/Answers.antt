@@ -1,4 +1,4 @@
-use Rattle.std.proofs.Common.{◌≡◌, ◌∙◌, sym, ap, subst, true, Some, None, List, arith, length, take, ◌+◌, cond, false}
+use Rattle.std.proofs.Common.{◌≡◌, ◌∙◌, sym, ap, subst, true, Some, None, List, arith, length, ◌+◌, cond, false}
 use Rattle.std.specs.Prelude.{find, ◌==◌}
 use Rattle.std.specs.Vec.{with_items}
 use Rattle.std.specs.List.{position, list_any}
@@ -10,9 +10,11 @@ use Rattle.proto_requests.specs.FirstFound.{without_found}
 use Rattle.proto_requests.proofs.NumberIndexes.{index_less}
 use Rattle.proto_requests.proofs.KnownOperations.{slot_is}
 use Rattle.proto_requests.proofs.Positions.{without_none}
-use Rattle.proto_requests.proofs.Spotted.{not_there, never, inside, fewer_one, held_few, items_are, none_before_is}
+use Rattle.proto_requests.proofs.Spotted.{not_there, never, inside, fewer_one, held_few, items_are}
 use Rattle.proto_rep.specs.declared.replies.WaitingReply.{WaitingReply}
 use Rattle.proto_rep.specs.Replies.{RepliesView, is_reply_of, reply_slot}
+use Rattle.proto_rep.proofs.KeyedReplies.{keyed_less, rising_less}
+use Rattle.proto_rep.proofs.PassedReplies.{less_passed}
 use Rattle.proto_rep.proofs.replies.WaitingReplies.take_out.Goals as goal
 
 pub empty-requires : goal.empty-requires
@@ -55,16 +57,17 @@ invariant_of-self-in-Some-empty c =
     let same : (with_items v ts).items ≡ ts = items_are v ts (c.empty.ensures.len ∙ ap length f) in
     let rest : held ts ≡ without_found P (held ss) = c.empty.ensures.rest P there ∙ ap (λ (xs : List (Spot WaitingReply)). without_found P (held xs)) f in
     let whole : held (with_items v ts).items ≡ without_found P (held ss) = ap held same ∙ rest in
-    let long = ap length same ∙ c.empty.ensures.len ∙ ap length f in
-    let bound = c.self.invariant.bound in
     let m = c.self.invariant.number in
     let alive = c.saturating_sub-self-inside.ensures in
     let fewer = fewer_one P (held ss) x found in
     let less = ap length whole in
     record {
+      order = λ h. rw whole (rising_less P 0 c.self.inside.next (held ss) (c.self.invariant.order h));
       by_slot = λ h. index_less reply_slot P (is_known c.self.inside.by_slot) (is_known c.lose.new.numbers) (held ss) (held (with_items v ts).items) x (c.self.invariant.by_slot h) found (λ q. c.lose.ensures q ∙ ap (λ n. cond (n == q) false (is_known c.self.inside.by_slot q)) (slot_is (λ (w : WaitingReply). w.op) c.args.op (held ss) x found)) whole;
+      by_key = λ h.
+          let k = c.self.invariant.by_key h in
+          (k.0, rw whole (keyed_less c.self.inside.raw P c.self.inside.index.keys c.take_key.new.index.keys 0 c.self.inside.next (held ss) x found c.take_key.ensures (c.self.invariant.order k.0) k.1));
       number = omega (arith, alive, m, fewer, less);
-      bound = omega (arith, long, bound);
     }
 
 pub returns-in-None-clause-found : goal.returns-in-None-clause-found
@@ -152,8 +155,7 @@ returns-in-Some-empty-clause-passed c =
     let same : (with_items v ts).items ≡ ts = items_are v ts (c.empty.ensures.len ∙ ap length f) in
     let rest : held ts ≡ without_found P (held ss) = c.empty.ensures.rest P there ∙ ap (λ (xs : List (Spot WaitingReply)). without_found P (held xs)) f in
     let whole : held (with_items v ts).items ≡ without_found P (held ss) = ap held same ∙ rest in
-    let n = c.self.inside.looked in
-    none_before_is Q n (with_items v ts).items ∙ ap (λ (xs : List (Spot WaitingReply)). list_any (holds Q) (take n xs)) same ∙ c.empty.ensures.none Q n (ap (λ (xs : List (Spot WaitingReply)). list_any (holds Q) (take n xs)) f ∙ sym (none_before_is Q n ss) ∙ ap (λ (w : RepliesView). list_any Q (take w.passed w.items)) c.self.view_is ∙ h)
+    less_passed c.self.inside.raw Q P c.self.inside.below (held ss) (held (with_items v ts).items) whole (ap (λ (w : RepliesView). list_any Q w.passed) c.self.view_is ∙ h)
 
 pub returns-in-Some-empty-clause-len : goal.returns-in-Some-empty-clause-len
 returns-in-Some-empty-clause-len c =
