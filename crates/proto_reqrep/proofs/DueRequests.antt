@@ -13,7 +13,7 @@ use Rattle.proto_reqrep.specs.declared.req.Live.{Live}
 use Rattle.proto_reqrep.specs.declared.req.KeptReply.{KeptReply}
 use Rattle.proto_reqrep.specs.declared.outs.SentOut.{SentOut}
 use Rattle.proto_reqrep.specs.Outs.{AreSince, IsOneLess, NoneOn, is_sent}
-use Rattle.proto_reqrep.specs.Dues.{DuesView, AreSeen, StayLate, awaited, is_at, is_seen, is_unseen, is_unseen_out}
+use Rattle.proto_reqrep.specs.Dues.{DuesView, AreSeen, StayLate, awaited, is_at, is_seen, is_unseen, is_unseen_out, waits_so}
 use Rattle.proto_reqrep.specs.Reqs.{is_live_on, live_ctx, sent_at}
 use Rattle.proto_requests.proofs.FirstPlaces.{none_as}
 use Rattle.proto_requests.proofs.KnownOperations.{any_less, any_more}
@@ -181,9 +181,18 @@ seen_late v late later dry now last next xs l d n h =
     above : (p : ℕ) → p ≤ last → nat_le p next ≡ true
     above p e = grind (arith, nat_tests)
 
+-- what went out of a context is of a live request
+pub live_at : (P : Live → Bool) (xs : List Live) (o : LastOut) → awaited (find P xs) ≡ Some o → list_any P xs ≡ true
+live_at P [] o z = absurd cc
+live_at P (x ∷ xs) o z = go (P x) (live_at P xs o) z
+  where
+    go : (b : Bool) → (awaited (find P xs) ≡ Some o → list_any P xs ≡ true) → awaited (cond b (Some x) (find P xs)) ≡ Some o → (b || list_any P xs) ≡ true
+    go true again z = refl
+    go false again z = again z
+
 -- more is late, and what is late by it is looked at
 pub seen_moved : (v w : DuesView) (late later T : LastOut → Bool) (dry now : ℕ → Bool) (last : ℕ) (xs : List Live) → AreDistinct (map live_ctx xs) → StayLate late later → ((o : LastOut) → later o ≡ true → (late o ≡ true) ⊎ (T o ≡ true)) → ((o : LastOut) → T o ≡ true → later o ≡ true)
-    → ((q : ℕ) → now q ≡ true → covers w.dry q ≡ true) → ((q : ℕ) → dry q ≡ true → (now q ≡ true) ⊎ (covers w.due q ≡ true)) → ((q : ℕ) → covers v.due q ≡ true → covers w.due q ≡ true)
+    → ((q : ℕ) → now q ≡ true → covers w.dry q ≡ true) → ((q : ℕ) → list_any (is_live_on q) xs ≡ true → dry q ≡ true → (now q ≡ true) ⊎ (covers w.due q ≡ true)) → ((q : ℕ) → list_any (is_live_on q) xs ≡ true → covers v.due q ≡ true → covers w.due q ≡ true)
     → ((c : ℕ) (o : LastOut) → T o ≡ false → covers_by v.outs (is_sent c o) ≡ true → covers_by w.outs (is_sent c o) ≡ true)
     → ((c : ℕ) (o : LastOut) → T o ≡ true → awaited (find (is_live_on c) xs) ≡ Some o → covers_by v.outs (is_sent c o) ≡ true → covers w.due c ≡ true)
     → AreSeen v late dry last xs → AreSeen w later now last xs
@@ -193,9 +202,9 @@ seen_moved v w late later T dry now last xs a s l t d f e g i h = seen_live v w 
     looked c (inl n) = ap (λ b. b || covers w.due c) n
     looked c (inr n) = or_right (now c) (covers w.due c) n
 
-    old : (c : ℕ) (b : Bool) → dry c ≡ b → (b || covers v.due c) ≡ true → (now c || covers w.due c) ≡ true
-    old c true n k = looked c (f c n)
-    old c false n k = looked c (inr (e c k))
+    old : (c : ℕ) (b : Bool) → dry c ≡ b → list_any (is_live_on c) xs ≡ true → (b || covers v.due c) ≡ true → (now c || covers w.due c) ≡ true
+    old c true n y k = looked c (f c y n)
+    old c false n y k = looked c (inr (e c y k))
 
     not_that : (o : LastOut) (b : Bool) → T o ≡ b → later o ≡ false → b ≡ false
     not_that o false m n = refl
@@ -205,7 +214,7 @@ seen_moved v w late later T dry now last xs a s l t d f e g i h = seen_live v w 
     at c o z true m k = step (late o) refl k (l o m)
       where
         step : (b : Bool) → late o ≡ b → cond b (dry c || covers v.due c) (covers_by v.outs (is_sent c o)) ≡ true → (late o ≡ true) ⊎ (T o ≡ true) → (now c || covers w.due c) ≡ true
-        step true n k y = old c (dry c) refl k
+        step true n k y = old c (dry c) refl (live_at (is_live_on c) xs o z) k
         step false n k (inl y) = let bad : true ≡ false = sym y ∙ n in absurd cc
         step false n k (inr y) = looked c (inr (i c o y z k))
     at c o z false m k = step (late o) refl k
@@ -447,15 +456,6 @@ pub on_pipe : (o : LastOut) (p : ℕ) (late : LastOut → Bool) → (late o ≡ 
 on_pipe o p late (inl e) = inl e
 on_pipe o p late (inr e) = inr (ap (λ n. n == p) e ∙ same_number p)
 
--- what went out of a context is of a live request
-live_at : (P : Live → Bool) (xs : List Live) (o : LastOut) → awaited (find P xs) ≡ Some o → list_any P xs ≡ true
-live_at P [] o z = absurd cc
-live_at P (x ∷ xs) o z = go (P x) (live_at P xs o) z
-  where
-    go : (b : Bool) → (awaited (find P xs) ≡ Some o → list_any P xs ≡ true) → awaited (cond b (Some x) (find P xs)) ≡ Some o → (b || list_any P xs) ≡ true
-    go true again z = refl
-    go false again z = again z
-
 -- the next is looked at, or one of the rest is still to be
 pub next_or : {A : Type 0} (P : A → Bool) (xs : List A) (i : ℕ) (x : A) (D : Type 0) → i < length xs → x ≡ get_or xs i x → (P x ≡ true → D) → (list_any P (drop i xs) ≡ true) ⊎ D → (list_any P (drop (i + 1) xs) ≡ true) ⊎ D
 next_or P xs i x D l e d (inr k) = inr k
@@ -469,6 +469,18 @@ next_or P xs i x D l e d (inl k) = go (P x) refl (ap (λ y. P y || list_any P (d
 pub none_behind : {A : Type 0} (P : A → Bool) (xs : List A) (i : ℕ) (D : Type 0) → length xs ≤ i → (list_any P (drop i xs) ≡ true) ⊎ D → D
 none_behind P xs i D l (inr k) = k
 none_behind P xs i D l (inl k) = let bad : true ≡ false = sym k ∙ ap (list_any P) (drop_all i xs l) in absurd cc
+
+-- what waits for a reply is that of a live request
+pub awaited_so : (c : ℕ) (o : LastOut) (xs : List Live) → awaited (find (is_live_on c) xs) ≡ Some o → list_any (waits_so c o) xs ≡ true
+awaited_so c o [] z = absurd cc
+awaited_so c o (x ∷ xs) z = go (x.ctx == c) z (awaited_so c o xs)
+  where
+    e : SentOut
+    e = record { ctx = c; pipe = o.pipe; when = o.when }
+
+    go : (b : Bool) → awaited (cond b (Some x) (find (is_live_on c) xs)) ≡ Some o → (awaited (find (is_live_on c) xs) ≡ Some o → list_any (waits_so c o) xs ≡ true) → (b && is_at e (awaited (Some x)) || list_any (waits_so c o) xs) ≡ true
+    go true z again = ap (λ y. is_at e y || list_any (waits_so c o) xs) z ∙ ap (λ b. b || list_any (waits_so c o) xs) (both _ _ (same_number o.pipe) (same_number o.when))
+    go false z again = again z
 
 -- more contexts of live requests are looked at, and what waits for no reply is dropped
 pub seen_reserved : (v : DuesView) (due dr : HintsView ℕ) (outs : HintsView SentOut) (xs : List Live) (late : LastOut → Bool) (dry : ℕ → Bool) (last : ℕ) → AreDistinct (map live_ctx xs) → ((q : ℕ) → list_any (is_live_on q) xs ≡ true → covers v.due q ≡ true → covers due q ≡ true) → ((q : ℕ) → covers v.dry q ≡ true → covers dr q ≡ true)

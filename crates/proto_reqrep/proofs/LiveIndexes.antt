@@ -1,7 +1,8 @@
 -- What is known of live requests by their contexts and ids, when one begins, ends or changes; and where one stands.
-use Rattle.std.proofs.Common.{◌≡◌, refl, ap, sym, ◌∙◌, List, [], ◌∷◌, ◌++◌, ℕ, Bool, true, false, cond, Option, Some, None, map, ◌<◌, length, slice_index_or}
-use Rattle.std.specs.Prelude.{not, find, is_some, ◌||◌, ◌&&◌, ◌==◌}
-use Rattle.std.specs.List.{list_any, position}
+use Rattle.std.proofs.Common.{◌≡◌, refl, ap, sym, ◌∙◌, List, [], ◌∷◌, ◌++◌, ℕ, suc, ◌+◌, Bool, true, false, cond, arith, Option, Some, None, map, ◌<◌, length, slice_index_or}
+use Rattle.std.specs.Prelude.{not, find, is_some, nat_lt, ◌||◌, ◌&&◌, ◌==◌}
+use Rattle.std.specs.List.{list_any, position, position_or_len}
+use Rattle.std.proofs.lemmas.Bool.Decides.{nat_tests}
 use Rattle.sp_history.specs.Lists.{has}
 use Rattle.sp_history.specs.Once.{AreDistinct}
 use Rattle.proto_requests.specs.Numbers.{number_at, is_known}
@@ -113,3 +114,28 @@ found_same P f cs ids xs ys s t h e =
       by_ctx = index_same live_ctx (is_known cs) xs ys h.by_ctx (ap (map live_ctx) e ∙ keys_with live_ctx P f xs s);
       by_id = index_same live_id (is_known ids) xs ys h.by_id (ap (map live_id) e ∙ keys_with live_id P f xs t);
     }
+
+-- ---- Whether one stands there
+
+-- one passes if there is a first that does
+pub placed : {A : Type 0} (P : A → Bool) (xs : List A) → is_some (position P xs) ≡ list_any P xs
+placed {A = A} P xs = bare (nat_lt (position_or_len P xs) (length xs)) (position_or_len P xs) ∙ go xs
+  where
+    bare : (b : Bool) (n : ℕ) → is_some (cond b (Some n) None) ≡ b
+    bare true n = refl
+    bare false n = refl
+
+    below : (n : ℕ) → nat_lt 0 (suc n) ≡ true
+    below n = grind (arith, nat_tests)
+
+    less : (n m : ℕ) (b : Bool) → nat_lt n m ≡ b → nat_lt (1 + n) (suc m) ≡ b
+    less n m true h = grind (arith, nat_tests)
+    less n m false h = grind (arith, nat_tests)
+
+    go : (xs : List A) → nat_lt (position_or_len P xs) (length xs) ≡ list_any P xs
+    go [] = refl
+    go (x ∷ xs) = step (P x) (go xs)
+      where
+        step : (b : Bool) → nat_lt (position_or_len P xs) (length xs) ≡ list_any P xs → nat_lt (cond (not b) (1 + position_or_len P xs) 0) (suc (length xs)) ≡ (b || list_any P xs)
+        step true h = below (length xs)
+        step false h = less (position_or_len P xs) (length xs) (list_any P xs) h

@@ -39,7 +39,7 @@ use Rattle.proto_reqrep.specs.declared.req.Live.{Live}
 use Rattle.proto_reqrep.specs.declared.req.Asking.{Asking}
 use Rattle.proto_requests.proofs.Spotted.{none_find, unmapped}
 use Rattle.sp_proto.specs.Kinds.{act_of}
-use Rattle.proto_reqrep.specs.Reqs.{gets, answers, IsReply, IsGift, is_receiving_on, Ties, IsNextPipe, begun_of, is_sending, is_live_on, live_ctx, request_of, is_due, due_in, IsOut, IsDueOn, IsSeen, AreReady, is_given, dry_at, HasLive}
+use Rattle.proto_reqrep.specs.Reqs.{gets, answers, IsGift, is_receiving_on, Ties, IsNextPipe, begun_of, is_sending, is_live_on, live_ctx, request_of, is_due, due_in, IsOut, IsDueOn, IsSeen, AreReady, is_given, dry_at, HasLive}
 use Rattle.proto_reqrep.proofs.DueRequests.{none_at}
 use Rattle.proto_reqrep.proofs.RequestLives.{found_ctx}
 use Rattle.proto_reqrep.proofs.Orphaned.{orphan_found, all_finished}

@@ -1,5 +1,5 @@
 -- What a req stands for when requests begin and go out, frames come, and contexts open and shut.
-use Rattle.std.proofs.Common.{◌≡◌, ◌≢◌, refl, ap, sym, ◌∙◌, subst, List, [], ◌∷◌, ◌++◌, ℕ, ◌+◌, ◌<◌, Bool, true, false, cond, arith, Option, Some, None, map}
+use Rattle.std.proofs.Common.{◌≡◌, ◌≢◌, refl, ap, sym, ◌∙◌, subst, List, [], ◌∷◌, ◌++◌, ℕ, ◌+◌, ◌<◌, Bool, true, false, cond, arith, Option, Some, None, map, rules}
 use Rattle.std.specs.Prelude.{find, filter, not, is_some, ◌&&◌, ◌||◌, ◌==◌}
 use Rattle.std.specs.List.{list_any, list_all}
 use Rattle.std.specs.Option.{option_map}
@@ -28,16 +28,19 @@ use Rattle.sp_history.specs.Sends.{bytes_of_act, bytes_for}
 use Rattle.sp_history.specs.Settled.{is_dry}
 use Rattle.sp_history.specs.Moments.{Moment, Lawful, past, also}
 use Rattle.sp_history.proofs.Requesting.{end_makes, out_makes, shut_makes}
-use Rattle.sp_proto.specs.Kinds.{text_of}
+use Rattle.sp_history.specs.declared.setting.Options.{Options}
+use Rattle.sp_proto.specs.Kinds.{text_of, start, setting_of}
+use Rattle.sp_proto.specs.Readings.{reading}
 use Rattle.sp_proto.specs.Machines.{CanSend, CanAgain}
 use Rattle.proto_reqrep.specs.declared.req.Request.{Request as Machine}
 use Rattle.proto_reqrep.specs.declared.req.Live.{Live}
 use Rattle.proto_reqrep.specs.declared.req.Asking.{Asking}
 use Rattle.sp_proto.specs.Kinds.{act_of}
-use Rattle.proto_reqrep.specs.Reqs.{Ties, Asked, begun_of, is_asked, is_sending, is_sending_on, without_first, without_live, live_ctx, is_live_on, request_of, sent_at, HaveLive, IsOf, Opened, dry_at, dried, wetted, seat_ctx}
+use Rattle.proto_reqrep.specs.Reqs.{Ties, Asked, req_kind, begun_of, is_asked, is_sending, is_sending_on, without_first, without_live, live_ctx, is_live_on, request_of, sent_at, HaveLive, IsOf, Opened, dry_at, dried, wetted, seat_ctx}
 use Rattle.proto_requests.specs.FirstFound.{with_found}
 use Rattle.proto_reqrep.proofs.OwnedRequests.{owned_at, only_send}
 use Rattle.proto_requests.specs.Ordered.{is_before}
+use Rattle.proto_requests.specs.Ports.{Knows}
 use Rattle.proto_requests.proofs.OpenContexts.{lawful_before, seen_before}
 use Rattle.proto_reqrep.proofs.Requested.{taken, ended_alone, gone_out}
 use Rattle.sp_history.specs.declared.parts.LastOut.{LastOut}
@@ -392,3 +395,18 @@ shut_asked m t c l h = go m.raw refl
         let bare = nothing_live m.live.items (h.3.live ∙ ap (λ (q : Requests). q.live) empty) in
         subst (λ (l : List Live). Asked m.raw l m.last_id m.waiting.items (pend (past t)) (requests t.z (Ctx c Shut ∷ past t))) bare
         (subst (λ (q : Requests). Asked m.raw m.live.items m.last_id m.waiting.items (pend (past t)) q) (raw_same t.z (past t) (Ctx c Shut ∷ past t) nothing) h.3)
+
+-- ---- The start
+
+-- nothing is asked
+pub none_asked : (raw : Bool) (o : Options) (slots callers caller : ℕ) → Asked raw [] None [] (reading (start (setting_of (req_kind raw o) slots callers) caller)).pend (reading (start (setting_of (req_kind raw o) slots callers) caller)).requests
+none_asked true o slots callers caller = record { live = refl; last_id = refl; ids = tt; places = tt; sound = tt; pending = refl; apart = λ op. omega arith; orphans = λ op. refl; causes = refl; single = λ r. tt; owned = λ r. tt }
+none_asked false o slots callers caller = record { live = refl; last_id = refl; ids = tt; places = tt; sound = tt; pending = refl; apart = λ op. omega arith; orphans = λ op. refl; causes = refl; single = λ r. tt; owned = λ r. tt }
+
+-- no context but the first is open
+pub none_opened : (raw : Bool) (o : Options) (slots callers caller : ℕ) → Opened [] (record { ctx = 0; is_dry = false } ∷ []) (reading (start (setting_of (req_kind raw o) slots callers) caller)).ctxs (reading (start (setting_of (req_kind raw o) slots callers) caller)).dry
+none_opened raw o slots callers caller = search rules
+
+-- no pipe is known
+pub none_known : (raw : Bool) (o : Options) (slots callers caller : ℕ) → Knows [] (reading (start (setting_of (req_kind raw o) slots callers) caller)).up (reading (start (setting_of (req_kind raw o) slots callers) caller)).ups (reading (start (setting_of (req_kind raw o) slots callers) caller)).full
+none_known raw o slots callers caller = search rules

@@ -1,8 +1,7 @@
 -- Which live requests of a req are looked at when they are due, after each call.
-use Rattle.std.proofs.Common.{◌≡◌, refl, ap, sym, ◌∙◌, subst, List, [], ◌∷◌, ◌++◌, ℕ, ◌+◌, ◌<◌, ◌≤◌, Bool, true, false, cond, arith, Option, Some, None, map, filter, inl, inr}
+use Rattle.std.proofs.Common.{◌≡◌, refl, ap, sym, ◌∙◌, subst, List, [], ◌∷◌, ◌++◌, ℕ, ◌+◌, ◌≤◌, Bool, true, false, cond, arith, Option, Some, None, map, filter, inl, inr}
 use Rattle.std.specs.Prelude.{◌⊎◌, find, not, is_some, nat_le, drop, ◌&&◌, ◌||◌, ◌==◌}
 use Rattle.std.specs.List.{list_any}
-use Rattle.std.specs.Option.{option_map}
 use Rattle.std.proofs.lemmas.Bool.Decides.{nat_tests}
 use Rattle.sp_history.specs.declared.parts.LastOut.{LastOut}
 use Rattle.sp_history.specs.Lists.{has, head_of}
@@ -15,13 +14,13 @@ use Rattle.proto_reqrep.specs.declared.req.Request.{Request as Machine}
 use Rattle.proto_reqrep.specs.declared.req.Live.{Live}
 use Rattle.proto_reqrep.specs.declared.req.KeptReply.{KeptReply}
 use Rattle.proto_reqrep.specs.ReqContexts.{ReqContextView}
-use Rattle.proto_reqrep.specs.Dues.{DuesView, AreSeen, StaySeen, StayLate, awaited, is_seen}
+use Rattle.proto_reqrep.specs.Dues.{DuesView, AreSeen, StaySeen, StayLate, awaited}
 use Rattle.proto_reqrep.specs.Outs.{is_sent}
-use Rattle.proto_reqrep.specs.Reqs.{Ties, Asks, IsSeen, IsDueOn, NotesOut, is_live_on, live_ctx, without_live, sent_at, is_late, is_late_in, due_in, late_in, dry_in, is_due_out, dry_at, dried, wetted}
-use Rattle.proto_requests.proofs.TestValues.{both_false, equal_of, same_number, some_inj}
+use Rattle.proto_reqrep.specs.Reqs.{Ties, Asks, IsSeen, IsDueOn, is_live_on, live_ctx, without_live, is_late, is_late_in, due_in, late_in, dry_in, is_due_out, dry_at, dried, wetted}
+use Rattle.proto_requests.proofs.TestValues.{both_false, equal_of, same_number}
 use Rattle.proto_reqrep.proofs.RequestLives.{found_ctx, gone_on}
 use Rattle.proto_reqrep.proofs.WorkLeft.{dry_more, up_is}
-use Rattle.proto_reqrep.proofs.DueRequests.{seen_all, seen_live, seen_late, seen_less, seen_more, seen_dropped, seen_cleared, none_unseen}
+use Rattle.proto_reqrep.proofs.DueRequests.{seen_live, seen_late, seen_less, seen_more, seen_dropped, seen_cleared, none_unseen}
 
 -- ---- What is due
 

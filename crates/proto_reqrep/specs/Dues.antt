@@ -44,6 +44,10 @@ abbrev pub is_at : SentOut → Option LastOut → Bool
 is_at e None = false
 is_at e (Some o) = (e.pipe == o.pipe) && (e.when == o.when)
 
+-- it is of the context, and waits for a reply since it went out so
+abbrev pub waits_so : ℕ → LastOut → Live → Bool
+waits_so c o x = (x.ctx == c) && is_at (record { ctx = c; pipe = o.pipe; when = o.when }) (awaited (Some x))
+
 -- what is late stays late
 abbrev pub StayLate : (LastOut → Bool) → (LastOut → Bool) → Type 0
 StayLate late later = (o : LastOut) → late o ≡ true → later o ≡ true

@@ -1,5 +1,5 @@
 -- What a req stands for.
-use Rattle.std.specs.Prelude.{◌≡◌, ◌≢◌, ◌≤◌, ◌<◌, ◌+◌, ◌*◌, ◌^◌, ◌==◌, ◌&&◌, ◌||◌, ℕ, zero, suc, Bool, true, false, not, ⊤, nat_le, if◌then◌else◌, List, [], ◌∷◌, ◌++◌, length, map, find, take, drop, Option, Some, None, is_some}
+use Rattle.std.specs.Prelude.{◌≡◌, ◌≢◌, ◌≤◌, ◌<◌, ◌+◌, ◌*◌, ◌^◌, ◌==◌, ◌&&◌, ◌||◌, ℕ, zero, suc, Bool, true, false, not, ⊤, nat_le, if◌then◌else◌, List, [], ◌∷◌, ◌++◌, length, map, find, drop, Option, Some, None, is_some}
 use Rattle.std.specs.List.{list_any, list_all}
 use Rattle.sp_base.specs.declared.OpName.{OpName}
 use Rattle.sp_base.specs.declared.role.Role.TheVariants as role
@@ -237,6 +237,10 @@ is_awaited xs e = is_at e (out_of xs e.ctx)
 -- what waits for a reply since it went out so is still among them
 abbrev pub KeepAwaited : List Live → HintsView SentOut → HintsView SentOut → Type 0
 KeepAwaited xs old new = (c : ℕ) (o : LastOut) → out_of xs c ≡ Some o → covers_by old (is_sent c o) ≡ true → covers_by new (is_sent c o) ≡ true
+
+-- the contexts of live requests that were looked at still are
+abbrev pub StayAmongLive : List Live → HintsView ℕ → HintsView ℕ → Type 0
+StayAmongLive xs old new = (q : ℕ) → list_any (is_live_on q) xs ≡ true → covers old q ≡ true → covers new q ≡ true
 
 -- of what is past and was among the Outs, each that waits for a reply is looked at
 abbrev pub LookAtPast : (LastOut → Bool) → List Live → HintsView SentOut → HintsView ℕ → Type 0

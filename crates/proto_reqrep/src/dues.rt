@@ -7,17 +7,24 @@
 //! and more; after it they are no more than those. The contexts that may be due give way to those of all live requests,
 //! once they are more than some twice the spots of these (`lives`), so that a pass over the spots costs no more than
 //! what it drops.
-ghost use Rattle.std.specs.Prelude.{◌≡◌, ◌==◌, ◌+◌, ℕ, List, [], true, false, nat_le, drop};
+//!
+//! Where there is no memory to note what goes out, all of it is forgotten, and the next begin of a send notes it anew:
+//! an entry for each live request that waits for a reply. If it finds no memory, as many begins go by before the next
+//! try as there are spots of live requests, so that a begin pays for one of them on the whole. Until one succeeds, a
+//! tick and a pipe that goes down have all live requests looked at, each of them once. Where the contexts that may be
+//! due are not known, since there was no room for one, a begin lists those of all live requests.
+ghost use Rattle.std.specs.Prelude.{◌≡◌, ◌==◌, ◌+◌, ℕ, List, [], Some, true, false, nat_le, drop};
 ghost use Rattle.std.specs.List.{list_any};
 ghost use Rattle.sp_history.specs.Lists.{head_of};
-ghost use Rattle.proto_requests.specs.Hints.{covers, StayAmong};
+ghost use Rattle.proto_requests.specs.Hints.{covers, covers_by, StayAmong};
 ghost use Rattle.proto_requests.specs.Spots.{holds};
 ghost use Rattle.proto_reqrep.specs.declared.req.Live.{Live as LiveType};
-ghost use Rattle.proto_reqrep.specs.Outs.{KeepOthers};
-ghost use Rattle.proto_reqrep.specs.Dues.{LookAtAll, StaySeen, NotesDry, is_past};
-ghost use Rattle.proto_reqrep.specs.Reqs.{OnePerContext, KeepAwaited, LookAtPast, NotesOut, SeeLater, is_awaited, is_live_on};
+ghost use Rattle.sp_history.specs.declared.parts.LastOut.{LastOut as LastOutType};
+ghost use Rattle.proto_reqrep.specs.Outs.{KeepOthers, StaySent, is_sent};
+ghost use Rattle.proto_reqrep.specs.Dues.{LookAtAll, StaySeen, NotesDry, is_past, waits_so};
+ghost use Rattle.proto_reqrep.specs.Reqs.{OnePerContext, KeepAwaited, LookAtPast, NotesOut, SeeLater, StayAmongLive, is_awaited, is_live_on, out_of};
 
-use crate::lives::Lives;
+use crate::lives::{Lives, out_awaited};
 use crate::outs::{Outs, SentOut, is_awaited};
 use crate::req::Live;
 use proto_requests::hints::Hints;
@@ -35,6 +42,8 @@ pub struct Dues {
     dry: Hints<u32>,
     /// What went out.
     outs: Outs,
+    /// So many begins go by before what went out is noted anew.
+    pause: usize,
 }
 
 impl Model for Dues {
@@ -60,6 +69,59 @@ fn shorten(outs: &mut Outs, live: &Lives, many: usize)
 {
     if outs.len() / 2 > many {
         outs.keep_awaited(live);
+    }
+}
+
+// The request that stands there is noted, if it waits for a reply.
+fn note_spot(outs: &mut Outs, s: &Spot<Live>)
+    ensures it { (c : ℕ) (o : LastOutType) → holds (waits_so c o) s.now ≡ true → covers_by outs.new (is_sent c o) ≡ true }
+    ensures more { StaySent outs.old outs.new }
+{
+    match &s.value {
+        None => {}
+        Some(x) => match out_awaited(x) {
+            None => {}
+            Some(out) => outs.add(SentOut {
+                ctx: x.ctx,
+                pipe: out.pipe,
+                when: out.when,
+            }),
+        },
+    }
+}
+
+// Those that stand there are noted, if they wait for a reply.
+fn note_spots(outs: &mut Outs, list: &[Spot<Live>])
+    ensures { (c : ℕ) (o : LastOutType) → list_any (holds (waits_so c o)) list.now ≡ true → covers_by outs.new (is_sent c o) ≡ true }
+{
+    for s in list {
+        note_spot(outs, s);
+    }
+}
+
+// What waits for a reply is noted, in place of what was before.
+fn note_live(outs: &mut Outs, live: &Lives)
+    ensures { (c : ℕ) (o : LastOutType) → out_of live.now.items c ≡ Some o → covers_by outs.new (is_sent c o) ≡ true }
+{
+    outs.clear();
+    note_spots(outs, live.spots());
+}
+
+// So it is where not all that went out is known. Where that finds no memory, as many begins go by before the next try as
+// there are spots.
+fn renew(outs: &mut Outs, pause: &mut usize, live: &Lives)
+    ensures { KeepAwaited live.now.items outs.old outs.new }
+{
+    if outs.is_whole() {
+        return;
+    }
+    if *pause > 0 {
+        *pause -= 1;
+        return;
+    }
+    note_live(outs, live);
+    if !outs.is_whole() {
+        *pause = live.spots().len();
     }
 }
 
@@ -94,25 +156,30 @@ fn look_at_spots(due: &mut Hints<u32>, list: &[Spot<Live>])
     }
 }
 
-// Where more are looked at than some twice the spots of the live requests, all of these take their place. There is room
-// for them.
-fn refill(due: &mut Hints<u32>, live: &Lives)
-    ensures { (q : ℕ) → list_any (is_live_on q) live.now.items ≡ true → covers due.old q ≡ true → covers due.new q ≡ true }
+// Those of all live requests are looked at, in place of those before. There is room for them.
+fn look_at_live(due: &mut Hints<u32>, live: &Lives)
+    ensures { (q : ℕ) → list_any (is_live_on q) live.now.items ≡ true → covers due.new q ≡ true }
 {
-    let list = live.spots();
-    if due.len() / 2 > list.len() {
-        due.clear();
-        look_at_spots(due, list);
+    due.clear();
+    look_at_spots(due, live.spots());
+}
+
+// So it is where all are looked at, or more than some twice the spots of the live requests.
+fn refill(due: &mut Hints<u32>, live: &Lives)
+    ensures { StayAmongLive live.now.items due.old due.new }
+{
+    if !due.is_whole() || due.len() / 2 > live.spots().len() {
+        look_at_live(due, live);
     }
 }
 
-// All are looked at, if not all that went out is known.
-fn look_at_all(due: &mut Hints<u32>, known: bool)
-    ensures all { known ≡ false → (q : ℕ) → covers due.new q ≡ true }
-    ensures more { StayAmong due.old due.new }
+// So it is where not all that went out is known.
+fn look_at_all(due: &mut Hints<u32>, live: &Lives, known: bool)
+    ensures all { known ≡ false → (q : ℕ) → list_any (is_live_on q) live.now.items ≡ true → covers due.new q ≡ true }
+    ensures more { StayAmongLive live.now.items due.old due.new }
 {
     if !known {
-        due.give_up();
+        look_at_live(due, live);
     }
 }
 
@@ -175,14 +242,16 @@ impl Dues {
             due: Hints::new(alloc),
             dry: Hints::new(alloc),
             outs: Outs::new(alloc),
+            pause: 0,
         }
     }
 
-    /// Takes the room for one live request more.
+    /// Takes the room for one live request more. Where not all that went out is known, it tries to note it anew.
     pub fn reserve(&mut self, live: &Lives) -> Result<(), NoMemory>
         ensures { OnePerContext live.now.items → StaySeen self.old self.new live.now.items }
     {
         let many = live.len();
+        renew(&mut self.outs, &mut self.pause, live);
         refill(&mut self.due, live);
         limit(&mut self.dry, many);
         let more = many.saturating_add(2);
@@ -196,7 +265,8 @@ impl Dues {
         shorten(&mut self.outs, live, live.len());
     }
 
-    /// The request of the context goes out. Where there is no memory to note it, all live requests are looked at later.
+    /// The request of the context goes out. Where there is no memory to note it, all live requests are looked at later,
+    /// until a begin notes what went out anew.
     pub fn note_out(&mut self, c: Ctx, pipe: PipeId, when: Tick)
         ensures { (xs : List LiveType) → NotesOut self.old self.new xs c (record { pipe = pipe; when = when }) }
     {
@@ -214,16 +284,16 @@ impl Dues {
     pub fn tick(&mut self, live: &Lives, now: Tick, resend: u64)
         ensures { SeeLater self.old self.new (λ o. is_past resend now o ≡ true) (λ dry q. false) live.now.items }
     {
-        look_at_all(&mut self.due, self.outs.is_whole());
-        look_at_late(&mut self.outs, &mut self.due, live, now, resend);
         self.due.take_over(&mut self.dry);
+        look_at_late(&mut self.outs, &mut self.due, live, now, resend);
+        look_at_all(&mut self.due, live, self.outs.is_whole());
     }
 
     /// The pipe is down: what went out on it is looked at.
-    pub fn down(&mut self, p: PipeId)
-        ensures { (xs : List LiveType) → SeeLater self.old self.new (λ o. o.pipe ≡ p) (λ dry. dry) xs }
+    pub fn down(&mut self, live: &Lives, p: PipeId)
+        ensures { SeeLater self.old self.new (λ o. o.pipe ≡ p) (λ dry. dry) live.now.items }
     {
-        look_at_all(&mut self.due, self.outs.is_whole());
+        look_at_all(&mut self.due, live, self.outs.is_whole());
         look_at_down(&mut self.outs, &mut self.due, p);
     }
 

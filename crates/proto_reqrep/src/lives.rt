@@ -112,13 +112,6 @@ fn waits_at(s: &Spot<Live>, id: u32) -> bool
     }
 }
 
-// One of the context is among them.
-fn any_on(list: &[Spot<Live>], c: Ctx) -> bool
-    ensures { result ≡ list_any (holds (is_live_on c)) list.now }
-{
-    list.iter().any(|s| stands_on(s, c))
-}
-
 // One of the context that keeps a reply is among them.
 fn any_reply_on(list: &[Spot<Live>], c: Ctx) -> bool
     ensures { result ≡ list_any (holds (keeps_reply c)) list.now }
@@ -242,8 +235,8 @@ pub fn ctx_at(list: &[Spot<Live>], place: Option<usize>) -> Option<Ctx>
     }
 }
 
-// How it went out, if it waits for a reply.
-fn out_awaited(x: &Live) -> Option<LastOut>
+/// How it went out, if it waits for a reply.
+pub fn out_awaited(x: &Live) -> Option<LastOut>
     ensures { result ≡ awaited (Some x.now) }
 {
     if x.reply.is_some() {
@@ -413,7 +406,7 @@ impl Lives {
         ensures { result ≡ list_any (is_live_on c) self.now.items }
     {
         if !self.is_indexed {
-            return any_on(&self.list, c);
+            return search_ctx(&self.list, c).is_some();
         }
         self.by_ctx.has(c.0)
     }

@@ -2,7 +2,8 @@
 //!
 //! The entries stand in a set in the order of their time, and in another by their pipes. So what went out first, and
 //! what went out on a pipe, is found and taken out by a logarithm of how many there are. Two that are alike are one
-//! entry.
+//! entry. Where one finds no memory, the sets are emptied, and nothing is noted until a `clear`; `dues` then notes anew
+//! what waits for a reply.
 ghost use Rattle.std.specs.Prelude.{◌≡◌, [], true, false, drop, length, map, IfNone, IfSome, OnOk};
 ghost use Rattle.std.specs.List.{filter, list_any};
 ghost use Rattle.sp_history.specs.Lists.{head_of};
@@ -25,7 +26,7 @@ pub struct SentOut {
 }
 
 /// What went out. An `add`, a `drop_first` and a `pop_on` cost a logarithm of how many they are. Where an `add` found
-/// no memory they are not all among these, until a `clear`.
+/// no memory, none is among these until a `clear`.
 #[derive(Drop)]
 pub struct Outs {
     /// When, on which pipe and for which context.
@@ -155,11 +156,15 @@ impl Outs {
         self.by_time.len()
     }
 
-    /// One that went out. It takes memory; where there is none, they are not all among these.
+    /// One that went out. It takes memory; where there is none, none is among these from then on. Where that was so
+    /// before, nothing is noted.
     pub fn add(&mut self, e: SentOut)
         ensures more { covers_by self.new (is_entry e) ≡ true }
         ensures same { StaySent self.old self.new }
     {
+        if !self.is_whole {
+            return;
+        }
         if put(&mut self.by_time, &mut self.by_pipe, &e).is_err() {
             self.by_time.clear();
             self.by_pipe.clear();

@@ -15,7 +15,8 @@ ghost use Rattle.sp_msg.specs.Views.{wire_text};
 ghost use Rattle.sp_proto.specs.Kinds.{Starts};
 ghost use Rattle.proto_reqrep.specs.declared.req.KeptReply.{KeptReply as KeptReplyType};
 ghost use Rattle.proto_reqrep.specs.declared.req.Asking.{Asking as AskingType};
-ghost use Rattle.proto_reqrep.specs.Reqs.{Ties, req_kind, is_live_on, without_live, orphaned, free_number, reply_in, gets, answers, with_reply, ready_on, AreReady, IsReply, Asks, KeepsRaw, NotesOut, ask_state, work_left, IsNextPipe, AsksNot, GivesRaw, GivesReply, IsLed, sent_now, with_out, is_raw, places_left};
+ghost use Rattle.proto_reqrep.specs.Dues.{StaySeen};
+ghost use Rattle.proto_reqrep.specs.Reqs.{OnePerContext, Ties, req_kind, is_live_on, without_live, orphaned, free_number, reply_in, gets, answers, with_reply, ready_on, AreReady, IsReply, Asks, KeepsRaw, NotesOut, ask_state, work_left, IsNextPipe, AsksNot, GivesRaw, GivesReply, IsLed, sent_now, with_out, is_raw, places_left};
 ghost use Rattle.proto_requests.specs.Ids.{number_after};
 
 use crate::dues::Dues;
@@ -166,6 +167,18 @@ fn leave_behind(waiting: &mut Waits<Asking>, c: Ctx)
 }
 
 // ---- Live requests
+
+// Takes the room for one more.
+fn make_room(live: &mut Lives, ready: &mut Hints<u32>, dues: &mut Dues) -> Result<(), NoMemory>
+    ensures items { live.new.items ≡ live.old.items }
+    ensures room { OnOk result (0 < live.new.room) }
+    ensures ready { ready.new ≡ ready.old }
+    ensures seen { OnePerContext live.old.items → StaySeen dues.old dues.new live.old.items }
+{
+    live.reserve()?;
+    ready.reserve(live.len().saturating_add(2))?;
+    dues.reserve(live)
+}
 
 // Takes the reply that is kept for the context, whose request it answers.
 fn answered(live: &mut Lives, c: Ctx) -> Option<Message>
@@ -336,24 +349,14 @@ impl Request {
         if self.live.len() >= MOST_LIVE {
             return Err(NoMemory);
         }
+        if make_room(&mut self.live, &mut self.ready, &mut self.dues).is_err() {
+            return Err(NoMemory);
+        }
         let mut copy = match m.copy() {
             Err(e) => return Err(e),
             Ok(copy) => copy,
         };
         copy.header_clear();
-        if self.live.reserve().is_err() {
-            return Err(NoMemory);
-        }
-        if self
-            .ready
-            .reserve(self.live.len().saturating_add(2))
-            .is_err()
-        {
-            return Err(NoMemory);
-        }
-        if self.dues.reserve(&self.live).is_err() {
-            return Err(NoMemory);
-        }
         let _ = self.live.take_live(c);
         leave_behind(&mut self.waiting, c);
         let id = next_id(&self.live, self.options.dice, self.last_id);
@@ -478,7 +481,7 @@ impl Proto for Request {
 
     fn down(&mut self, p: PipeId) {
         self.ports.forget(p);
-        self.dues.down(p);
+        self.dues.down(&self.live, p);
     }
 
     fn wants(&self, p: PipeId) -> bool {

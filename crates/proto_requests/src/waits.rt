@@ -3,9 +3,10 @@
 //! They stand in the order of their begins, each at a spot that it leaves behind when it ends, so that none of the
 //! others moves; once all spots are used, those that are left are closed up. By the slot of its name the number of its
 //! spot is known, and by that the spot is found by halving, where it is then looked at. The same is known by the
-//! context of a receive, and of a send whose request has not ended. Where the first send and the first receive stand is
-//! known, and those whose requests have ended stand in a queue. They are searched through only where two have one slot,
-//! or where two receives or two such sends are of one context, as those of a raw socket are.
+//! context of a receive, and of a send whose request has not ended. Where the first send and the first receive stand
+//! is known, and those whose requests have ended stand in a queue. They are searched through only where two have one
+//! slot, or where two receives or two such sends are of one context, as those of a raw socket are, or once there was
+//! no memory for such a number or for a place in the queue.
 ghost use Rattle.std.specs.Prelude.{◌≡◌, ◌≤◌, ◌<◌, ◌+◌, ◌==◌, ◌++◌, ◌∷◌, ◌&&◌, ℕ, Bool, [], Some, None, true, false, not, if◌then◌else◌, find, map, filter, take, length, option_to_list, OnOk, IfSome, IfNone};
 ghost use Rattle.std.specs.Vec.{vec_len, vec_capacity};
 ghost use Rattle.std.specs.Option.{option_map};

@@ -7,7 +7,7 @@ use Rattle.proto_reqrep.proofs.dues.Dues.reserve.Goals as goal
 
 pub returns : goal.returns
 returns c = λ a late dry last h.
-    seen_reserved c.args.self.now c.make_room.new.due c.make_room.new.dry c.self.inside.outs c.args.live.now.items late dry last a
+    seen_reserved c.args.self.now c.make_room.new.due c.make_room.new.dry c.renew.new.outs c.args.live.now.items late dry last a
     (λ q l k. ap (λ (v : HintsView ℕ). covers v q) c.make_room.ensures.due ∙ c.refill.ensures q l (ap (λ (v : DuesView). covers v.due q) c.self.view_is ∙ k))
     (λ q k. ap (λ (v : HintsView ℕ). covers v q) c.make_room.ensures.dry ∙ c.limit.ensures q (ap (λ (v : DuesView). covers v.dry q) c.self.view_is ∙ k))
-    (λ x o z k. ap (λ (v : DuesView). covers_by v.outs (is_sent x o)) c.self.view_is ∙ k) h
+    (λ x o z k. c.renew.ensures x o z (ap (λ (v : DuesView). covers_by v.outs (is_sent x o)) c.self.view_is ∙ k)) h

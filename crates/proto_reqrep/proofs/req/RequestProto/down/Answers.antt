@@ -17,7 +17,7 @@ returns-clause-down c = λ t why l h.
       λ r. down_items m t c.args.p why h r,
       h.3,
       h.4,
-      (c.down.ensures m.live.items h.3.places (late_in m) (λ o. is_late m.options.resend m.tick ps o) (dry_in m) (ups (past t)) (down_stays m c.args.p ps e, down_only m c.args.p ps e, down_late m c.args.p ps e) h.5.0, h.5.1),
+      (c.down.ensures h.3.places (late_in m) (λ o. is_late m.options.resend m.tick ps o) (dry_in m) (ups (past t)) (down_stays m c.args.p ps e, down_only m c.args.p ps e, down_late m c.args.p ps e) h.5.0, h.5.1),
     )
 
 pub returns-clause-left : goal.returns-clause-left
