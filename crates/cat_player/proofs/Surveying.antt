@@ -46,7 +46,7 @@ pub counts_by_last : (role : Role) → is_surveyor role ≡ false → (b r s : B
 counts_by_last roles.Surveyor h b r s last = cc
 counts_by_last _ h b r s last = refl
 
--- the same answer about the survey, where it is a surveyor's, leaves the table
+-- the same result about the survey, where it is a surveyor's, leaves the table
 abbrev pub SameSurvey : Role → Bool → Bool → Type 0
 SameSurvey role r s = is_surveyor role ≡ true → r ≡ s
 

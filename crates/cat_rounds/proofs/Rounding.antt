@@ -158,7 +158,7 @@ serve_along r s s' p out t took stands =
       at_new s s' took (λ z h. HasServed z h) (a_serve_serves s.setting s.seen took.turn (no_tick took.turn.entries linkless) took.said.0),
     )
 
--- ---- The answer of a serve
+-- ---- What a serve returns
 
 nil_is : (xs : List ℕ) (n : ℕ) → n ≡ length xs → is_nil xs ≡ not (nat_lt 0 n)
 nil_is [] n e = grind (arith, nat_tests)

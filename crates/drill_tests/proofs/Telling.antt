@@ -1,4 +1,4 @@
--- What an end can't answer after it was told.
+-- What an end can't return after it was told.
 use Rattle.std.proofs.Common.{◌≡◌, ◌+◌, ◌<◌, ℕ, List, [], ◌∷◌, ◌++◌, length, ap, ◌∙◌, subst, arith, length-append}
 use Rattle.sp_lane.specs.declared.item.LaneItem.{LaneItem}
 use Rattle.sp_spec.specs.Outside.{IsPrefix}

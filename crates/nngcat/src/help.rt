@@ -1,6 +1,6 @@
 //! What `--help` and `--version` print.
 
-/// The answer to `--help` alone.
+/// What is printed for `--help` alone.
 pub const HELP: &str = "\
 Usage: nngcat ROLE ENDPOINT.. [OPTION]..
 Sends or receives messages over a scalability protocol; prints what it receives.
@@ -64,5 +64,5 @@ Examples:
   nngcat --sub --dial ws://127.0.0.1:5558/news --subscribe ne --ascii
 ";
 
-/// The answer to `--version` alone.
+/// What is printed for `--version` alone.
 pub const VERSION: &str = "nngcat (Goshwelib) 0.1.0, with the behaviour of NNG 1.x\n";

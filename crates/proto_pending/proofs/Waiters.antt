@@ -181,7 +181,7 @@ is_a_send m ss op s w h k e = go (is_recv s.act) refl
         let no : Some w ≡ None = e ∙ none_left m.sends.items zero_left in
         absurd cc
 
--- ---- What is answered
+-- ---- What is returned
 
 pub act_message : (w : Waiting) (s : Begun) → begun_of w ≡ s → option_map text_of w.message ≡ message_of s.act
 act_message w s e = go w.message ∙ ap (λ (r : Begun). message_of r.act) e

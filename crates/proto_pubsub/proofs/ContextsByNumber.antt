@@ -155,7 +155,7 @@ removed p (x ∷ xs) (suc i) d o l t b =
 pub shut_at : (p : ℕ) (xs : List SubContextView) (i : ℕ) (d : SubContextView) → InOrder xs → position (is_home p) xs ≡ Some i → remove xs i ≡ filter (λ (x : SubContextView). not (is_home p x)) xs
 shut_at p xs i d o h = let at = position-Some (is_home p) xs i d h in removed p xs i d o at.0 at.1 at.2
 
--- the place that is answered of a list that is the same
+-- the place that is returned of a list that is the same
 pub here : (P : SubContextView → Bool) (xs ys : List SubContextView) (r : Option ℕ) → ys ≡ xs → InOrder xs → (InOrder ys → r ≡ position P ys) → position P xs ≡ r
 here P xs ys r e o h = sym (h (subst InOrder (sym e) o) ∙ ap (position P) e)
 

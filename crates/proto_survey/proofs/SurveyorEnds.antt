@@ -1,4 +1,4 @@
--- A surveyor stands for its history when messages go out and operations end; and what it offers and answers.
+-- A surveyor stands for its history when messages go out and operations end; and what it offers and returns.
 use Rattle.std.proofs.Common.{◌≡◌, refl, ap, sym, ◌∙◌, subst, List, [], ◌∷◌, ◌++◌, ℕ, Bool, true, false, cond, Option, Some, None, map, length, inl, inr}
 use Rattle.std.specs.Prelude.{find, filter, drop, not, is_some, ◌&&◌, ◌||◌, ◌==◌}
 use Rattle.std.specs.List.{list_any, list_all}

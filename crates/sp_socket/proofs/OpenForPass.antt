@@ -69,7 +69,7 @@ kept says t0 t1 t2 h k x label before is w same n =
     subst (λ (b : PassView). KeepsOpen b (pass_of t2 k)) (sym is)
     (keeps says (pass_of t0 h) (pass_of t2 k) (took_here says t0 t1 t2 h k x label w) (same ∙ ap (λ (b : PassView). b.number) is) n)
 
--- the same by what the core answered
+-- the same by what the core returned
 pub begun_open : (says : Setting → List (Turn Entry) → Turn Entry → Type 0) (r : Result OpName BeginError) (c : ℕ) (act : RecordedAct) (d : Option ℕ) (before after : PassView) → TookTurn says before after → ((z : Setting) (h : List (Turn Entry)) (t : Turn Entry) → says z h t → BeganBy r z h t before.number c act d) → after.number ≡ before.number → IfOk r (OpensFor before after)
 begun_open says (Err e) c act d before after t told same = tt
 begun_open says (Ok op) c act d before after t told same = opens says before after t same op c act d (told t.label.setting t.past t.turn t.said)
