@@ -1,10 +1,10 @@
 //! Receives with deadlines, ticks at which they are due, and cancels.
 ghost use Rattle.std.specs.Prelude.{◌<◌, ◌≤◌};
 
-use crate::calls::end;
-use crate::makers::{Made, Scripted, driver_of};
-use crate::timing::{now, report, since};
-use crate::wires::attach_all;
+use bench_base::timing::{now, row};
+use bench_calls::calls::end;
+use bench_calls::makers::{Made, Scripted, driver_of};
+use bench_calls::wires::attach_all;
 use core_driver::Driver;
 use sp_base::{Ctx, NoMemory, OpName, Tick};
 use sp_msg::Wire;
@@ -98,10 +98,10 @@ fn cancelled<P: Proto, W: Wire, R: AllocGlobal + Clock + Eprint + Wait>(
 ) {
     let start = now(rt);
     receive_due(rt, pull, n, due, names);
-    report(rt, begins_row(due), n, since(rt, start), n);
+    row(rt, begins_row(due), n, start, n);
     let start = now(rt);
     end_all(rt, pull, names, false);
-    report(rt, cancels_row(due), n, since(rt, start), n);
+    row(rt, cancels_row(due), n, start, n);
 }
 
 // n receives that wait are all due at one tick, and expire.
@@ -114,22 +114,22 @@ fn expired<P: Proto, W: Wire, R: AllocGlobal + Clock + Eprint + Wait>(
     receive_due(rt, pull, n, Due::Later, names);
     let start = now(rt);
     let due = pull.tick(rt, rt.alloc(), Tick(LAST));
-    report(
+    row(
         rt,
         "a tick at which n receives are due, a receive",
         n,
-        since(rt, start),
+        start,
         n,
     );
     let start = now(rt);
     if let Ok(due) = due {
         end_all(rt, pull, due.as_slice(), true);
     }
-    report(
+    row(
         rt,
         "n expires and collects of what is due, a receive",
         n,
-        since(rt, start),
+        start,
         n,
     );
 }

@@ -1,23 +1,16 @@
-//! What a call of the core costs at 64, 256, 1,024, 3,000 and 4,096 pipes and slots (of a surveyor at 16 to 1,000), over
-//! wires in memory that take no time of their own: nanoseconds for each pipe or operation that it touches, on standard
-//! error. On standard output it prints what each socket counted until its close, which is the same at any speed: so a row
-//! that measured refusals would be seen.
+//! What a call of the core costs a push and a pull, at 64, 256, 1,024, 3,000 and 4,096 pipes and slots, and a surveyor, at
+//! 16 to 1,000, over wires in memory that take no time of their own: nanoseconds for each pipe or operation that it
+//! touches, on standard error. On standard output it prints what each socket counted until its close, which is the same at
+//! any speed: so a row that measured refusals would be seen. `core_request_bench` has a req and a rep.
 #![tactic(auto)]
 
 ghost use Rattle.std.specs.Prelude.{◌<◌, ◌≤◌};
 
-mod calls;
 mod deadlines;
-mod makers;
 mod pipeline;
-mod replies;
-mod requests;
 mod surveys;
-mod timing;
-mod wires;
 
 use proto_pipeline::{Pull, Push};
-use proto_reqrep::{Reply, Request};
 use proto_survey::Survey;
 use sp_base::NoMemory;
 use sp_fakes::MemWire;
@@ -29,9 +22,7 @@ fn all<R: AllocGlobal + Clock + Eprint + Print + Wait>(rt: &R, n: u32) -> Result
     requires { (0 < n) × (n ≤ 4096) }
 {
     pipeline::measure::<Push, Pull, MemWire, R>(rt, n)?;
-    deadlines::measure::<Pull, MemWire, R>(rt, n)?;
-    requests::measure::<Request, MemWire, R>(rt, n)?;
-    replies::measure::<Reply, MemWire, R>(rt, n)
+    deadlines::measure::<Pull, MemWire, R>(rt, n)
 }
 
 // A queue that doubles its room has just enough at a power of 2: one size is none. The first size is small: what runs

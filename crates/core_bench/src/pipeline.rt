@@ -1,13 +1,13 @@
 //! Sends of a push, and receives of a pull.
 ghost use Rattle.std.specs.Prelude.{◌<◌, ◌≤◌};
 
-use crate::calls::{
+use bench_base::timing::{now, row};
+use bench_calls::calls::{
     begin_many, collect_all, collect_last, end, receive_kept, receive_many, send_many, serve_many,
     take_all_ended,
 };
-use crate::makers::{Made, Scripted, driver_of};
-use crate::timing::{now, report, since};
-use crate::wires::attach_all;
+use bench_calls::makers::{Made, Scripted, driver_of};
+use bench_calls::wires::attach_all;
 use core_driver::Driver;
 use sp_base::NoMemory;
 use sp_msg::Wire;
@@ -33,16 +33,16 @@ fn full_pipes<P: Proto, W: Scripted, R: AllocGlobal + Clock + Eprint + Print + W
     attach_all(rt, &mut push, n, 0, 0);
     let start = now(rt);
     begin_many(rt, &mut push, ROUNDS);
-    report(
+    row(
         rt,
         "begin_send over full pipes, a pipe",
         n,
-        since(rt, start),
+        start,
         ROUNDS * n,
     );
     let start = now(rt);
     push.close(rt);
-    report(rt, "close of a push, a pipe", n, since(rt, start), n);
+    row(rt, "close of a push, a pipe", n, start, n);
     end(rt, "a push over full pipes", n, push);
 }
 
@@ -55,11 +55,11 @@ fn free_pipes<P: Proto, W: Scripted, R: AllocGlobal + Clock + Eprint + Print + W
     attach_all(rt, &mut push, n, 0, 1_000);
     let start = now(rt);
     send_many(rt, &mut push, SENDS);
-    report(
+    row(
         rt,
         "begin_send over free pipes and collect",
         n,
-        since(rt, start),
+        start,
         SENDS,
     );
     end(rt, "a push over free pipes", n, push);
@@ -74,22 +74,10 @@ fn receives<P: Proto, W: Scripted, R: AllocGlobal + Clock + Eprint + Print + Wai
     attach_all(rt, pull, n, 1, 0);
     let start = now(rt);
     receive_many(rt, pull, n);
-    report(
-        rt,
-        "n begins of receives, a receive",
-        n,
-        since(rt, start),
-        n,
-    );
+    row(rt, "n begins of receives, a receive", n, start, n);
     let start = now(rt);
     pull.serve(rt);
-    report(
-        rt,
-        "serve that ends n receives, a pipe",
-        n,
-        since(rt, start),
-        n,
-    );
+    row(rt, "serve that ends n receives, a pipe", n, start, n);
 }
 
 // The same, collected from the first.
@@ -101,7 +89,7 @@ fn receives_from_first<P: Proto, W: Scripted, R: AllocGlobal + Clock + Eprint + 
     receives(rt, n, &mut pull);
     let start = now(rt);
     collect_all(rt, &mut pull, n);
-    report(rt, "n collects from the first", n, since(rt, start), n);
+    row(rt, "n collects from the first", n, start, n);
     end(rt, "receives of a pull, collected from the first", n, pull);
 }
 
@@ -114,7 +102,7 @@ fn receives_from_last<P: Proto, W: Scripted, R: AllocGlobal + Clock + Eprint + P
     receives(rt, n, &mut pull);
     let start = now(rt);
     collect_last(rt, &mut pull, n);
-    report(rt, "n collects from the last", n, since(rt, start), n);
+    row(rt, "n collects from the last", n, start, n);
     end(rt, "receives of a pull, collected from the last", n, pull);
 }
 
@@ -129,31 +117,25 @@ fn kept<P: Proto, W: Scripted, R: AllocGlobal + Clock + Eprint + Print + Wait>(
     attach_all(rt, &mut pull, n, 2, 0);
     let start = now(rt);
     pull.serve(rt);
-    report(
+    row(
         rt,
         "serve that keeps a message of each, a pipe",
         n,
-        since(rt, start),
+        start,
         n,
     );
     let start = now(rt);
     serve_many(rt, &mut pull, ROUNDS);
-    report(
+    row(
         rt,
         "serve over pipes that keep a message, a pipe",
         n,
-        since(rt, start),
+        start,
         ROUNDS * n,
     );
     let start = now(rt);
     receive_kept(rt, &mut pull, n);
-    report(
-        rt,
-        "begin_recv of what is kept and collect",
-        n,
-        since(rt, start),
-        n,
-    );
+    row(rt, "begin_recv of what is kept and collect", n, start, n);
     end(rt, "a pull that keeps messages", n, pull);
 }
 
@@ -168,13 +150,7 @@ fn idle<P: Proto, W: Scripted, R: AllocGlobal + Clock + Eprint + Print + Wait>(
     attach_all(rt, &mut pull, n, 0, 0);
     let start = now(rt);
     serve_many(rt, &mut pull, ROUNDS);
-    report(
-        rt,
-        "serve over idle pipes, a pipe",
-        n,
-        since(rt, start),
-        ROUNDS * n,
-    );
+    row(rt, "serve over idle pipes, a pipe", n, start, ROUNDS * n);
     receive_many(rt, &mut pull, n);
     closes(rt, n, pull);
 }
@@ -187,10 +163,10 @@ fn closes<P: Proto, W: Wire + Drop, R: AllocGlobal + Clock + Eprint + Print + Wa
 ) {
     let start = now(rt);
     pull.close(rt);
-    report(rt, "close with n receives, a pipe", n, since(rt, start), n);
+    row(rt, "close with n receives, a pipe", n, start, n);
     let start = now(rt);
     take_all_ended(rt, &mut pull, n);
-    report(rt, "take_ended, a pipe", n, since(rt, start), n);
+    row(rt, "take_ended, a pipe", n, start, n);
     end(rt, "a pull over idle pipes", n, pull);
 }
 

@@ -1,12 +1,12 @@
 //! Surveys through the core.
 ghost use Rattle.std.specs.Prelude.{◌<◌, ◌≤◌};
 
-use crate::calls::{
+use bench_base::timing::{now, row};
+use bench_calls::calls::{
     collect_all, end, open_all, receive_all, receive_kept, send, send_all, serve_many,
 };
-use crate::makers::{Made, Scripted, driver_of};
-use crate::timing::{now, report, since};
-use crate::wires::{MUCH, attach_numbered, attach_series};
+use bench_calls::makers::{Made, Scripted, driver_of};
+use bench_calls::wires::{MUCH, attach_numbered, attach_series};
 use core_driver::Driver;
 use sp_base::{Ctx, NoMemory};
 use sp_proto::Proto;
@@ -35,25 +35,13 @@ fn surveyed_wires<P: Proto, W: Scripted, R: AllocGlobal + Clock + Eprint + Print
     let start = now(rt);
     send(rt, &mut survey, Ctx(0));
     let _ = survey.collect_first(rt);
-    report(rt, "a survey, a wire", n, since(rt, start), n);
+    row(rt, "a survey, a wire", n, start, n);
     let start = now(rt);
     survey.serve(rt);
-    report(
-        rt,
-        "serve that keeps n responses, a wire",
-        n,
-        since(rt, start),
-        n,
-    );
+    row(rt, "serve that keeps n responses, a wire", n, start, n);
     let start = now(rt);
     receive_kept(rt, &mut survey, n);
-    report(
-        rt,
-        "begin_recv of a response and collect",
-        n,
-        since(rt, start),
-        n,
-    );
+    row(rt, "begin_recv of a response and collect", n, start, n);
     end(rt, "a survey of wires", n, survey);
 }
 
@@ -69,14 +57,14 @@ fn surveying_contexts<P: Proto, W: Scripted, R: AllocGlobal + Clock + Eprint + P
     attach_series(rt, &mut survey, 0, n, false);
     let start = now(rt);
     send_all(rt, &mut survey, n);
-    report(rt, "a survey, a context", n, since(rt, start), n);
+    row(rt, "a survey, a context", n, start, n);
     let start = now(rt);
     receive_all(rt, &mut survey, n);
-    report(
+    row(
         rt,
         "n begins of receives on n contexts of a surveyor, a receive",
         n,
-        since(rt, start),
+        start,
         n,
     );
     responses(rt, n, survey);
@@ -93,16 +81,10 @@ fn responses<P: Proto, W: Scripted, R: AllocGlobal + Clock + Eprint + Print + Wa
     let start = now(rt);
     // A serve takes 64 messages of a pipe.
     serve_many(rt, &mut survey, n / 64 + 1);
-    report(
-        rt,
-        "serves that end n receives, a response",
-        n,
-        since(rt, start),
-        n,
-    );
+    row(rt, "serves that end n receives, a response", n, start, n);
     let start = now(rt);
     collect_all(rt, &mut survey, n);
-    report(rt, "n collects of responses", n, since(rt, start), n);
+    row(rt, "n collects of responses", n, start, n);
     end(rt, "surveys of contexts", n, survey);
 }
 

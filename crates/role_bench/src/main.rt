@@ -1,16 +1,12 @@
-//! What the machines of pub, sub, req, rep and surveyor take for a call, as topics, contexts, pipes, live requests and
-//! what is kept grow: nanoseconds for each unit of work, on standard error. What is printed is the same at any speed.
+//! What the machines of pub, sub and surveyor take for a call, as topics, contexts and pipes grow: nanoseconds for each
+//! unit of work, on standard error. What is printed is the same at any speed. `role_request_bench` has req and rep.
 #![tactic(auto)]
 
-mod asked;
-mod moves;
-mod repeated;
+mod makers;
 mod spread;
 mod surveyed;
-mod timing;
 
 use proto_pubsub::{Publish, Subscribe};
-use proto_reqrep::{Reply, Request};
 use proto_survey::Survey;
 use sp_base::NoMemory;
 use std::io::{self, Eprint};
@@ -19,8 +15,6 @@ use std::time::Clock;
 fn all<R: AllocGlobal + Clock + Eprint>(rt: &R) -> Result<(), NoMemory> {
     spread::frames::<Subscribe, R>(rt)?;
     spread::sends::<Publish, R>(rt)?;
-    asked::requests::<Request, Reply, R>(rt)?;
-    repeated::repeats::<Request, Reply, R>(rt)?;
     surveyed::surveys::<Survey, R>(rt)
 }
 

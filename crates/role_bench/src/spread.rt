@@ -1,7 +1,7 @@
 //! Frames at a sub, and sends of a pub.
-use crate::moves::{NewMachine, come, find_idle, opens, receive, send, take_offer, ups};
-use crate::timing::{now, row};
-use proto_pubsub::{Publish, Subscribe};
+use crate::makers::{NewMachine, Queued};
+use bench_base::moves::{come, find_idle, opens, receive, send, take_offer, ups};
+use bench_base::timing::{now, row};
 use sp_base::{Ctx, NoMemory, PipeId, Role};
 use sp_history::setting::Options;
 use sp_proto::Proto;
@@ -20,26 +20,6 @@ const OFFERS: u32 = 1_000;
 
 /// How many sends begin.
 const SENDS: u32 = 16;
-
-/// A machine that can be made with queues of any room.
-pub trait Queued: Proto {
-    /// One of which the queue of each context has this room.
-    fn with_queue(alloc: Global, queue: u32) -> Result<Self, NoMemory>;
-}
-
-impl Queued for Subscribe {
-    fn with_queue(alloc: Global, queue: u32) -> Result<Subscribe, NoMemory> {
-        let mut options = Options::usual(Role::Sub, 0);
-        options.queue = queue;
-        Subscribe::new(alloc, options, false)
-    }
-}
-
-impl NewMachine for Publish {
-    fn made(alloc: Global) -> Result<Publish, NoMemory> {
-        Publish::new(alloc, Options::usual(Role::Pub, 0), false)
-    }
-}
 
 // The context has so many topics, of five bytes each.
 fn put_on<M: Proto>(sub: &mut M, c: Ctx, topics: u32) -> Result<(), NoMemory> {

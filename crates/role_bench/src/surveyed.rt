@@ -1,19 +1,12 @@
 //! Surveys, to many respondents, and of many contexts.
-use crate::moves::{NewMachine, come, opens, receive, send, take_offer, ups};
-use crate::timing::{now, row};
-use proto_survey::Survey;
-use sp_base::{Ctx, NoMemory, PipeId, Role};
-use sp_history::setting::Options;
+use crate::makers::NewMachine;
+use bench_base::moves::{come, opens, receive, send, take_offer, ups};
+use bench_base::timing::{now, row};
+use sp_base::{Ctx, NoMemory, PipeId};
 use sp_proto::Proto;
 use std::alloc::Global;
 use std::io::Eprint;
 use std::time::Clock;
-
-impl NewMachine for Survey {
-    fn made(alloc: Global) -> Result<Survey, NoMemory> {
-        Survey::new(alloc, Options::usual(Role::Surveyor, 0), false)
-    }
-}
 
 // The response to the survey with this id.
 fn response_to(id: u32) -> [u8; 5] {

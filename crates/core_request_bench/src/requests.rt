@@ -1,12 +1,12 @@
 //! Requests of a req through the core.
 ghost use Rattle.std.specs.Prelude.{◌<◌, ◌≤◌};
 
-use crate::calls::{
+use bench_base::timing::{now, report, row, since};
+use bench_calls::calls::{
     begin_recv, begin_sends, close_all, collect_all, end, open_all, receive_all, send, send_all,
 };
-use crate::makers::{Made, Scripted, driver_of};
-use crate::timing::{now, report, since};
-use crate::wires::{MUCH, attach_all, attach_all_numbered, attach_ending, attach_series};
+use bench_calls::makers::{Made, Scripted, driver_of};
+use bench_calls::wires::{MUCH, attach_all, attach_all_numbered, attach_ending, attach_series};
 use core_driver::Driver;
 use sp_base::{Ctx, NoMemory, Tick};
 use sp_msg::Wire;
@@ -147,13 +147,7 @@ fn trips_among_waiting<P: Proto, W: Scripted, R: AllocGlobal + Clock + Eprint + 
     wait_for_replies(rt, &mut req, n.saturating_sub(2), n);
     let start = now(rt);
     ask_often(rt, &mut req, n);
-    report(
-        rt,
-        "a trip of a req while n contexts wait",
-        n,
-        since(rt, start),
-        n,
-    );
+    row(rt, "a trip of a req while n contexts wait", n, start, n);
     end(rt, "trips of a req among waiting contexts", n, req);
 }
 
@@ -184,11 +178,11 @@ fn asked_anew<P: Proto, W: Scripted, R: AllocGlobal + Clock + Eprint + Print + W
     wait_for_replies(rt, &mut req, contexts, TRIPS);
     let start = now(rt);
     ask_all_anew(rt, &mut req, contexts);
-    report(
+    row(
         rt,
         "a request in place of one whose receive waits",
         n,
-        since(rt, start),
+        start,
         contexts,
     );
     end(rt, "requests in place of those whose receives wait", n, req);
@@ -206,20 +200,20 @@ fn each_context_asks<P: Proto, W: Scripted, R: AllocGlobal + Clock + Eprint + Pr
     attach_all_numbered(rt, &mut req, n, MUCH);
     let start = now(rt);
     send_all(rt, &mut req, n);
-    report(
+    row(
         rt,
         "begin_send of a req and collect, a context",
         n,
-        since(rt, start),
+        start,
         n,
     );
     let start = now(rt);
     receive_all(rt, &mut req, n);
-    report(
+    row(
         rt,
         "n begins of receives on n contexts, a receive",
         n,
-        since(rt, start),
+        start,
         n,
     );
     replies(rt, n, req);
@@ -233,16 +227,16 @@ fn replies<P: Proto, W: Wire + Drop, R: AllocGlobal + Clock + Eprint + Print + W
 ) {
     let start = now(rt);
     req.serve(rt);
-    report(
+    row(
         rt,
         "serve of a req that ends n receives, a pipe",
         n,
-        since(rt, start),
+        start,
         n,
     );
     let start = now(rt);
     collect_all(rt, &mut req, n);
-    report(rt, "n collects of replies", n, since(rt, start), n);
+    row(rt, "n collects of replies", n, start, n);
     end(rt, "requests of contexts", n, req);
 }
 
@@ -262,11 +256,11 @@ fn pipes_go_down<P: Proto, W: Scripted, R: AllocGlobal + Clock + Eprint + Print 
     send_all(rt, &mut req, n);
     let start = now(rt);
     req.serve(rt);
-    report(
+    row(
         rt,
         "a pipe of a req goes down, whose request goes out again",
         n,
-        since(rt, start),
+        start,
         half,
     );
     end(rt, "a req whose pipes go down", n, req);
@@ -282,11 +276,11 @@ fn idle_ticks<P: Proto, W: Wire, R: AllocGlobal + Clock + Eprint + Print + Wait>
     for i in 0..TICKS {
         let _ = req.tick(rt, rt.alloc(), Tick(u64::from(i)));
     }
-    report(
+    row(
         rt,
         "a tick at which nothing is due, by live requests",
         n,
-        since(rt, start),
+        start,
         TICKS,
     );
 }
@@ -305,11 +299,11 @@ fn resends<P: Proto, W: Scripted, R: AllocGlobal + Clock + Eprint + Print + Wait
     idle_ticks(rt, n, &mut req);
     let start = now(rt);
     let _ = req.tick(rt, rt.alloc(), Tick(1_000_000));
-    report(
+    row(
         rt,
         "a request goes out again at a tick, by live requests",
         n,
-        since(rt, start),
+        start,
         n,
     );
     end(rt, "requests that go out again at a tick", n, req);
@@ -325,22 +319,22 @@ fn shuts<P: Proto, W: Scripted, R: AllocGlobal + Clock + Eprint + Print + Wait>(
 {
     let start = now(rt);
     open_all(rt, &mut req, n - 1);
-    report(
+    row(
         rt,
         "a context of a req is opened, by contexts",
         n,
-        since(rt, start),
+        start,
         n - 1,
     );
     attach_all(rt, &mut req, 1, 0, MUCH);
     send_all(rt, &mut req, n);
     let start = now(rt);
     close_all(rt, &mut req, n - 1);
-    report(
+    row(
         rt,
         "a context of a req is shut, by contexts",
         n,
-        since(rt, start),
+        start,
         n - 1,
     );
     end(rt, "a req whose contexts are shut", n, req);
@@ -372,11 +366,11 @@ fn replaced<P: Proto, W: Scripted, R: AllocGlobal + Clock + Eprint + Print + Wai
     send_all(rt, &mut req, n);
     let start = now(rt);
     replace_all(rt, &mut req, n);
-    report(
+    row(
         rt,
         "a request is replaced, by live requests",
         n,
-        since(rt, start),
+        start,
         ROUNDS * n,
     );
     end(rt, "requests that are replaced", n, req);
@@ -393,11 +387,11 @@ fn full_pipes<P: Proto, W: Scripted, R: AllocGlobal + Clock + Eprint + Print + W
     attach_all(rt, &mut req, n, 0, 0);
     let start = now(rt);
     begin_sends(rt, &mut req, WAITING);
-    report(
+    row(
         rt,
         "begin_send of a req while all pipes are full, a call",
         n,
-        since(rt, start),
+        start,
         WAITING,
     );
     end(rt, "a req over full pipes", n, req);

@@ -1,12 +1,14 @@
 //! Replies of a rep, cooked and raw, through the core.
 ghost use Rattle.std.specs.Prelude.{◌<◌, ◌≤◌};
 
-use crate::calls::{
+use bench_base::timing::{now, row};
+use bench_calls::calls::{
     begin_recv, close_all, collect_all, end, open_all, receive_all, send, send_all,
 };
-use crate::makers::{Made, Scripted, driver_of, raw_driver_of};
-use crate::timing::{now, report, since};
-use crate::wires::{MUCH, attach_all_numbered, attach_ending, attach_numbered, attach_series};
+use bench_calls::makers::{Made, Scripted, driver_of, raw_driver_of};
+use bench_calls::wires::{
+    MUCH, attach_all_numbered, attach_ending, attach_numbered, attach_series,
+};
 use core_driver::Driver;
 use sp_base::{Ctx, NoMemory};
 use sp_core::Outcome;
@@ -27,22 +29,16 @@ fn each_pipe_asks<P: Proto, W: Scripted, R: AllocGlobal + Clock + Eprint + Print
     attach_all_numbered(rt, &mut rep, n, MUCH);
     let start = now(rt);
     rep.serve(rt);
-    report(
+    row(
         rt,
         "serve of a rep that keeps a request of each, a pipe",
         n,
-        since(rt, start),
+        start,
         n,
     );
     let start = now(rt);
     reply_often(rt, &mut rep, n);
-    report(
-        rt,
-        "a request that is kept, and its reply",
-        n,
-        since(rt, start),
-        n,
-    );
+    row(rt, "a request that is kept, and its reply", n, start, n);
     end(rt, "a rep that each pipe asks", n, rep);
 }
 
@@ -93,20 +89,20 @@ fn waiting_contexts<P: Proto, W: Scripted, R: AllocGlobal + Clock + Eprint + Pri
     attach_series(rt, &mut rep, 0, n, false);
     let start = now(rt);
     receive_all(rt, &mut rep, n);
-    report(
+    row(
         rt,
         "n begins of receives on n contexts of a rep, a receive",
         n,
-        since(rt, start),
+        start,
         n,
     );
     let start = now(rt);
     answer_all(rt, &mut rep, n);
-    report(
+    row(
         rt,
         "a request and its reply while n contexts wait",
         n,
-        since(rt, start),
+        start,
         n,
     );
     end(rt, "a rep whose contexts wait", n, rep);
@@ -131,11 +127,11 @@ fn waiting_beside_a_reply<P: Proto, W: Scripted, R: AllocGlobal + Clock + Eprint
     send(rt, &mut rep, Ctx(last));
     let start = now(rt);
     answer_all(rt, &mut rep, last);
-    report(
+    row(
         rt,
         "a request and its reply while n contexts wait, and a reply at a full pipe",
         n,
-        since(rt, start),
+        start,
         last,
     );
     end(rt, "a rep whose contexts wait beside a reply", n, rep);
@@ -157,20 +153,20 @@ fn replies_at_full_pipes<P: Proto, W: Scripted, R: AllocGlobal + Clock + Eprint 
     send_all(rt, &mut rep, n - 1);
     let start = now(rt);
     send(rt, &mut rep, Ctx(n - 1));
-    report(
+    row(
         rt,
         "begin_send of a rep while n replies wait at full pipes, a pipe",
         n,
-        since(rt, start),
+        start,
         n,
     );
     let start = now(rt);
     rep.serve(rt);
-    report(
+    row(
         rt,
         "serve while n replies wait at full pipes, a pipe",
         n,
-        since(rt, start),
+        start,
         n,
     );
     end(rt, "a rep whose replies wait", n, rep);
@@ -191,11 +187,11 @@ fn shuts<P: Proto, W: Scripted, R: AllocGlobal + Clock + Eprint + Print + Wait>(
     collect_all(rt, &mut rep, n);
     let start = now(rt);
     close_all(rt, &mut rep, n - 1);
-    report(
+    row(
         rt,
         "a context of a rep is shut, by contexts",
         n,
-        since(rt, start),
+        start,
         n - 1,
     );
     end(rt, "a rep whose contexts are shut", n, rep);
@@ -215,11 +211,11 @@ fn pipes_go_down<P: Proto, W: Scripted, R: AllocGlobal + Clock + Eprint + Print 
     rep.serve(rt);
     let start = now(rt);
     rep.serve(rt);
-    report(
+    row(
         rt,
         "a pipe of a rep goes down while requests of others are kept",
         n,
-        since(rt, start),
+        start,
         half,
     );
     end(rt, "a rep whose pipes go down", n, rep);
@@ -250,22 +246,16 @@ fn each_pipe_asks_raw<P: Proto, W: Scripted, R: AllocGlobal + Clock + Eprint + P
     attach_all_numbered(rt, &mut rep, n, MUCH);
     let start = now(rt);
     rep.serve(rt);
-    report(
+    row(
         rt,
         "serve of a raw rep that keeps a request of each, a pipe",
         n,
-        since(rt, start),
+        start,
         n,
     );
     let start = now(rt);
     reply_raw_often(rt, &mut rep, n);
-    report(
-        rt,
-        "a request that is kept raw, and its reply",
-        n,
-        since(rt, start),
-        n,
-    );
+    row(rt, "a request that is kept raw, and its reply", n, start, n);
     end(rt, "a raw rep that each pipe asks", n, rep);
 }
 

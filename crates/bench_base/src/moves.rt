@@ -5,12 +5,6 @@ use sp_msg::Message;
 use sp_proto::{Act, Offer, Proto, Verdict};
 use std::alloc::Global;
 
-/// A machine that can be made. Rows are over any such machine: types of machines are dear to prove about.
-pub trait NewMachine: Proto {
-    /// One with the usual options of its role.
-    fn made(alloc: Global) -> Result<Self, NoMemory>;
-}
-
 /// The operation of the slot.
 pub fn op(slot: u32) -> OpName {
     OpName {

@@ -1,9 +1,8 @@
 //! Requests and replies.
-use crate::moves::{NewMachine, come, opens, receive, send, take_offer, ups};
-use crate::timing::{now, row};
-use proto_reqrep::{Reply, Request};
-use sp_base::{Ctx, NoMemory, PipeId, Role, Tick};
-use sp_history::setting::Options;
+use crate::makers::NewMachine;
+use bench_base::moves::{come, opens, receive, send, take_offer, ups};
+use bench_base::timing::{now, row};
+use sp_base::{Ctx, NoMemory, PipeId, Tick};
 use sp_proto::Proto;
 use std::alloc::Global;
 use std::io::Eprint;
@@ -14,18 +13,6 @@ const TRIPS: u32 = 1_000;
 
 /// How many pipes go down, and how many contexts are shut.
 const TIMES: u32 = 100;
-
-impl NewMachine for Request {
-    fn made(alloc: Global) -> Result<Request, NoMemory> {
-        Request::new(alloc, Options::usual(Role::Req, 0), false)
-    }
-}
-
-impl NewMachine for Reply {
-    fn made(alloc: Global) -> Result<Reply, NoMemory> {
-        Reply::new(alloc, Options::usual(Role::Rep, 0), false)
-    }
-}
 
 /// The frame that answers the request with this id.
 pub fn reply_to(id: u32) -> [u8; 5] {

@@ -1,7 +1,8 @@
 //! Requests and replies that come again, or find their pipes full or gone.
 use crate::asked::{ask_all, come_all, reply_to, take_offers};
-use crate::moves::{NewMachine, come, opens, receive, send, take_offer, ups};
-use crate::timing::{now, row};
+use crate::makers::NewMachine;
+use bench_base::moves::{come, opens, receive, send, take_offer, ups};
+use bench_base::timing::{now, row};
 use sp_base::{Ctx, NoMemory, PipeId};
 use sp_proto::{Offer, Proto};
 use std::alloc::Global;
