@@ -1,8 +1,8 @@
-//! Calls of a req: trips of a raw one, and receives that end without a reply.
+//! Calls of a req: trips of a raw one, receives that end without a reply, and requests where few pipes have room.
 ghost use Rattle.std.specs.Prelude.{◌<◌, ◌≤◌};
 
-use bench_base::timing::{now, report, since};
-use bench_calls::calls::{begin_recv, end, open_all, receive_all, send, send_all};
+use bench_base::timing::{now, report, row, since};
+use bench_calls::calls::{begin_recv, end, open_all, receive_all, send, send_all, send_many};
 use bench_calls::makers::{Made, Scripted, driver_of, raw_driver_of};
 use bench_calls::wires::{MUCH, attach_all, attach_series};
 use core_driver::Driver;
@@ -15,6 +15,9 @@ use std::time::Clock;
 
 /// How many calls are timed, one like the other.
 const CALLS: u32 = 256;
+
+/// How many pipes have room where few have.
+const ROOMY: u32 = 4;
 
 // Begins a send of a raw request, whose id stands in its header, if there is memory for it.
 fn send_raw<P: Proto, W: Wire, R: AllocGlobal + Wait>(rt: &R, req: &mut Driver<P, W>) {
@@ -163,6 +166,29 @@ fn given_up<P: Proto, W: Scripted, R: AllocGlobal + Clock + Eprint + Print + Wai
     end(rt, "receives of a req that are given up", n, req);
 }
 
+// Requests of a req, of whose n pipes the last four have room. The first request asks all.
+fn few_roomy<P: Proto, W: Scripted, R: AllocGlobal + Clock + Eprint + Print + Wait>(
+    rt: &R,
+    n: u32,
+    mut req: Driver<P, W>,
+)
+    requires { (0 < n) × (n ≤ 4096) }
+{
+    attach_all(rt, &mut req, n.saturating_sub(ROOMY), 0, 0);
+    attach_all(rt, &mut req, ROOMY, 0, MUCH);
+    send_many(rt, &mut req, 1);
+    let start = now(rt);
+    send_many(rt, &mut req, CALLS);
+    row(
+        rt,
+        "a request that goes out and is collected, while four of n pipes have room",
+        n,
+        start,
+        CALLS,
+    );
+    end(rt, "a req, four of whose pipes have room", n, req);
+}
+
 /// Each row of a req alone at this size.
 pub fn measure<P: Made, W: Scripted, R: AllocGlobal + Clock + Eprint + Print + Wait>(
     rt: &R,
@@ -173,5 +199,6 @@ pub fn measure<P: Made, W: Scripted, R: AllocGlobal + Clock + Eprint + Print + W
     let alloc = rt.alloc();
     raw_trips(rt, n, raw_driver_of::<P, W>(alloc, n)?);
     given_up(rt, n, driver_of::<P, W>(alloc, n)?);
+    few_roomy(rt, n, driver_of::<P, W>(alloc, n)?);
     Ok(())
 }

@@ -1,4 +1,4 @@
-//! Requests go to the pipes in turn, and go out again where their pipe goes down.
+//! Requests go to the pipes in turn, first to those that had room, and go out again where their pipe goes down.
 use crate::checks::{holds, made, plays};
 use crate::moves::sends;
 use crate::steps::Call;
@@ -59,9 +59,9 @@ fn a_send_that_waits_goes_out_before_a_request_that_is_due(rt: HostRuntime) {
     req_plays(&rt, rt.alloc(), &steps);
 }
 
-// A send begins, and goes out where it is offered. The pipe on which it does.
-fn goes_out<M: Proto>(m: &mut M, alloc: Global, slot: u32) -> Option<u32> {
-    if m.reserve(1).is_err() || !sends(m, alloc, slot, Ctx(0), b"a") {
+// A send of the context begins, and goes out where it is offered. The pipe on which it does.
+fn goes_out<M: Proto>(m: &mut M, alloc: Global, slot: u32, c: u32) -> Option<u32> {
+    if m.reserve(1).is_err() || !sends(m, alloc, slot, Ctx(c), b"a") {
         return None;
     }
     match m.offer() {
@@ -80,13 +80,13 @@ fn take_turns<M: Proto>(m: &mut M, alloc: Global) -> bool {
     }
     for pipe in [1, 2, 1, 2, 1, 2] {
         m.fresh();
-        if goes_out(m, alloc, pipe) != Some(pipe) {
+        if goes_out(m, alloc, pipe, 0) != Some(pipe) {
             return false;
         }
     }
     m.fresh();
     m.full(PipeId(1));
-    goes_out(m, alloc, 0) == Some(2)
+    goes_out(m, alloc, 0, 0) == Some(2)
 }
 
 // The requests of a req do.
@@ -127,4 +127,189 @@ fn a_pipe_that_hangs_is_not_the_next_again(rt: HostRuntime) {
         Call::Idle,
     ];
     req_plays(&rt, rt.alloc(), &steps);
+}
+
+// With each turn one pipe more counts as roomy: pipe 1, then 2, then 3, and pipe 1 once more.
+#[test]
+fn a_full_pipe_is_asked_again_in_its_turn(rt: HostRuntime) {
+    let steps = [
+        Call::Up(1),
+        Call::Up(2),
+        Call::Up(3),
+        Call::Send(0, 0, &[], b"a"),
+        Call::CanSend(0, 1),
+        Call::Full(1),
+        Call::CanSend(0, 2),
+        Call::GoesOut(0, 2, &[128, 0, 0, 0], b"a"),
+        Call::Fresh,
+        Call::Send(1, 0, &[], b"a"),
+        Call::CanSend(1, 3),
+        Call::GoesOut(1, 3, &[128, 0, 0, 1], b"a"),
+        Call::Fresh,
+        Call::Send(2, 0, &[], b"a"),
+        Call::CanSend(2, 1),
+        Call::Full(1),
+        Call::CanSend(2, 2),
+        Call::GoesOut(2, 2, &[128, 0, 0, 2], b"a"),
+        Call::Fresh,
+        Call::Send(3, 0, &[], b"a"),
+        Call::CanSend(3, 3),
+        Call::GoesOut(3, 3, &[128, 0, 0, 3], b"a"),
+        Call::Send(4, 0, &[], b"a"),
+        Call::CanSend(4, 2),
+        Call::GoesOut(4, 2, &[128, 0, 0, 4], b"a"),
+        Call::Fresh,
+        Call::Send(5, 0, &[], b"a"),
+        Call::CanSend(5, 3),
+        Call::GoesOut(5, 3, &[128, 0, 0, 5], b"a"),
+        Call::Send(6, 0, &[], b"a"),
+        Call::CanSend(6, 1),
+        Call::GoesOut(6, 1, &[128, 0, 0, 6], b"a"),
+    ];
+    req_plays(&rt, rt.alloc(), &steps);
+}
+
+// All pipes are full. Pipe 1 is tried again, and where it is still full all are asked.
+#[test]
+fn a_pipe_on_which_a_request_went_out_is_asked_first(rt: HostRuntime) {
+    let steps = [
+        Call::Up(1),
+        Call::Up(2),
+        Call::Up(3),
+        Call::Send(0, 0, &[], b"a"),
+        Call::CanSend(0, 1),
+        Call::Full(1),
+        Call::CanSend(0, 2),
+        Call::Full(2),
+        Call::CanSend(0, 3),
+        Call::Full(3),
+        Call::Idle,
+        Call::Fresh,
+        Call::CanSend(0, 1),
+        Call::Full(1),
+        Call::CanSend(0, 2),
+        Call::Full(2),
+        Call::CanSend(0, 3),
+        Call::GoesOut(0, 3, &[128, 0, 0, 0], b"a"),
+        Call::Fresh,
+        Call::Send(1, 0, &[], b"a"),
+        Call::CanSend(1, 2),
+        Call::Full(2),
+        Call::CanSend(1, 3),
+        Call::GoesOut(1, 3, &[128, 0, 0, 1], b"a"),
+    ];
+    req_plays(&rt, rt.alloc(), &steps);
+}
+
+// The same of a request that is due.
+#[test]
+fn a_pipe_on_which_a_request_went_out_again_is_asked_first(rt: HostRuntime) {
+    let steps = [
+        Call::Up(1),
+        Call::Up(2),
+        Call::Up(3),
+        Call::Up(4),
+        Call::Send(0, 0, &[], b"a"),
+        Call::CanSend(0, 1),
+        Call::GoesOut(0, 1, &[128, 0, 0, 0], b"a"),
+        Call::Fresh,
+        Call::Clock(60_000),
+        Call::CanResend(0, 2),
+        Call::Full(2),
+        Call::CanResend(0, 3),
+        Call::Full(3),
+        Call::CanResend(0, 4),
+        Call::Full(4),
+        Call::CanResend(0, 1),
+        Call::Full(1),
+        Call::Idle,
+        Call::Fresh,
+        Call::CanResend(0, 2),
+        Call::Full(2),
+        Call::CanResend(0, 3),
+        Call::Full(3),
+        Call::CanResend(0, 4),
+        Call::Resend(0, 4, &[128, 0, 0, 0], b"a"),
+        Call::Fresh,
+        Call::Send(1, 0, &[], b"a"),
+        Call::CanSend(1, 3),
+        Call::Full(3),
+        Call::CanSend(1, 4),
+        Call::GoesOut(1, 4, &[128, 0, 0, 1], b"a"),
+    ];
+    req_plays(&rt, rt.alloc(), &steps);
+}
+
+// Nor does it hide one that has room.
+#[test]
+fn a_pipe_that_went_down_is_not_asked(rt: HostRuntime) {
+    let steps = [
+        Call::Up(1),
+        Call::Up(2),
+        Call::Up(3),
+        Call::Send(0, 0, &[], b"a"),
+        Call::CanSend(0, 1),
+        Call::Full(1),
+        Call::Down(2),
+        Call::CanSend(0, 3),
+        Call::GoesOut(0, 3, &[128, 0, 0, 0], b"a"),
+        Call::Fresh,
+        Call::Send(1, 0, &[], b"a"),
+        Call::CanSend(1, 1),
+        Call::Full(1),
+        Call::CanSend(1, 3),
+        Call::GoesOut(1, 3, &[128, 0, 0, 1], b"a"),
+        Call::Fresh,
+        Call::Send(2, 0, &[], b"a"),
+        Call::CanSend(2, 3),
+        Call::GoesOut(2, 3, &[128, 0, 0, 2], b"a"),
+    ];
+    req_plays(&rt, rt.alloc(), &steps);
+}
+
+// So many pipes come up, and as many requests in one turn go to one each.
+fn goes_to_each<M: Proto>(m: &mut M, alloc: Global, pipes: u32) -> bool {
+    for i in 0..pipes {
+        if m.up(PipeId(i.saturating_add(1))).is_err() {
+            return false;
+        }
+    }
+    for i in 0..pipes {
+        let pipe = i.saturating_add(1);
+        if goes_out(m, alloc, pipe, 0) != Some(pipe) {
+            return false;
+        }
+    }
+    true
+}
+
+#[test]
+fn eight_requests_in_one_turn_go_to_eight_pipes(rt: HostRuntime) {
+    let options = Options::usual(Role::Req, 0);
+    let mut req = made(&rt, Request::new(rt.alloc(), options, false));
+    holds(&rt, goes_to_each(&mut req, rt.alloc(), 8));
+}
+
+// Each of so many contexts has a request, which goes out on pipe 1.
+fn lives_on_each<M: Proto>(m: &mut M, alloc: Global, contexts: u32) -> bool {
+    if m.up(PipeId(1)).is_err() {
+        return false;
+    }
+    for c in 0..contexts {
+        if c != 0 && m.open_ctx(Ctx(c)).is_err() {
+            return false;
+        }
+        if goes_out(m, alloc, c, c) != Some(1) {
+            return false;
+        }
+    }
+    true
+}
+
+// One more than a socket may have, with its own.
+#[test]
+fn a_req_has_4097_live_requests(rt: HostRuntime) {
+    let options = Options::usual(Role::Req, 0);
+    let mut req = made(&rt, Request::new(rt.alloc(), options, false));
+    holds(&rt, lives_on_each(&mut req, rt.alloc(), 4_097));
 }

@@ -1,5 +1,5 @@
 -- What a req offers.
-use Rattle.std.proofs.Common.{◌≡◌, refl, ap, sym, ◌∙◌, subst, List, [], ◌∷◌, ℕ, ◌+◌, ◌≤◌, Bool, true, false, cond, arith, Option, Some, None, map, inl, inr, length, suc}
+use Rattle.std.proofs.Common.{◌≡◌, refl, ap, sym, ◌∙◌, subst, List, [], ◌∷◌, ℕ, ◌+◌, ◌≤◌, Bool, true, false, cond, arith, Option, Some, None, map, inl, inr, length, suc, nat_cmp, is_lt, Less, Equal, Greater}
 use Rattle.std.specs.Prelude.{IfSome, IfNone, find, filter, not, is_some, nat_lt, IsTrue, ◌⊎◌, ◌&&◌, ◌||◌, ◌==◌}
 use Rattle.std.specs.List.{list_any, list_all}
 use Rattle.std.specs.Option.{option_map}
@@ -33,13 +33,14 @@ use Rattle.sp_proto.specs.Machines.{CanGive, CanSend, CanFinish, CanAgain, IsIdl
 use Rattle.sp_proto.specs.Readings.{out_last}
 use Rattle.sp_proto.specs.declared.Offer.{Offer}
 use Rattle.sp_proto.specs.declared.Offer.TheVariants as offers
-use Rattle.proto_requests.specs.Ports.{port_of, is_free, is_free_behind, next_port, or_else, next_number as next_pipe, PortView}
+use Rattle.proto_requests.specs.Ports.{port_of, is_free, is_free_behind, is_pipe, next_port, or_else, way_at, where_is, next_number as next_pipe, PortView}
+use Rattle.proto_requests.specs.declared.ports.Destination.TheVariants as ways
 use Rattle.proto_reqrep.specs.declared.req.Request.{Request as Machine}
 use Rattle.proto_reqrep.specs.declared.req.Live.{Live}
 use Rattle.proto_reqrep.specs.declared.req.Asking.{Asking}
 use Rattle.proto_requests.proofs.Spotted.{none_find, unmapped}
 use Rattle.sp_proto.specs.Kinds.{act_of}
-use Rattle.proto_reqrep.specs.Reqs.{gets, answers, IsGift, is_receiving_on, Ties, IsNextPipe, begun_of, is_sending, is_live_on, live_ctx, request_of, is_due, due_in, IsOut, IsDueOn, IsSeen, AreReady, is_given, dry_at, HasLive}
+use Rattle.proto_reqrep.specs.Reqs.{gets, answers, IsGift, is_receiving_on, Ties, IsNextPipe, roomy_of, next_of, has_room, passing, way_of, roomy_port, chosen_port, begun_of, is_sending, is_live_on, live_ctx, request_of, is_due, due_in, IsOut, IsDueOn, IsSeen, AreReady, is_given, dry_at, HasLive}
 use Rattle.proto_reqrep.proofs.DueRequests.{none_at}
 use Rattle.proto_reqrep.proofs.RequestLives.{found_ctx}
 use Rattle.proto_reqrep.proofs.Orphaned.{orphan_found, all_finished}
@@ -340,13 +341,21 @@ idle m t h o g s d =
       no_flood = λ q. let k : false ≡ true = rw (is_req_role m t h) at q in absurd cc;
     }
 
+no_port : (o : Option PortView) → None ≡ option_map (λ (x : PortView). x.pipe) o → o ≡ None
+no_port None e = refl
+no_port (Some x) e = absurd cc
+
+some_port : (o : Option PortView) (p : ℕ) → Some p ≡ option_map (λ (x : PortView). x.pipe) o → (q : PortView) × (o ≡ Some q) × (q.pipe ≡ p)
+some_port None p e = absurd cc
+some_port (Some x) p e = (x, refl, sym (some_inj p x.pipe e))
+
 -- there is no other
 no_second : {A : Type 0} (x y : Option A) → or_else x y ≡ None → y ≡ None
 no_second None y e = e
 no_second (Some x) y e = absurd cc
 
-pub idle_full : (m : Machine) (t : Moment) → Ties m t → list_any (λ (v : Asking). v.is_orphan) m.waiting.items ≡ false → find (gets m) m.waiting.items ≡ None → next_port m.last_pipe m.ports.items ≡ None → IsIdle t
-idle_full m t h o g f = let full = all_full (λ q. has_full t.turn q) (up (past t)) (ap (find is_free) (sym h.1.ports) ∙ no_second _ _ f) in idle m t h o g (inl full) (inl full)
+pub idle_full : (m : Machine) (t : Moment) → Ties m t → list_any (λ (v : Asking). v.is_orphan) m.waiting.items ≡ false → find (gets m) m.waiting.items ≡ None → None ≡ chosen_port m → IsIdle t
+idle_full m t h o g f = let full = all_full (λ q. has_full t.turn q) (up (past t)) (ap (find is_free) (sym h.1.ports) ∙ no_second _ _ (no_port _ (sym (no_second _ _ (sym f))))) in idle m t h o g (inl full) (inl full)
 
 -- ---- Send and Again
 
@@ -406,16 +415,70 @@ next_mapped full last us =
     ap (λ (o : Option PortView). or_else o (find is_free (map (port_of full) us))) (find_mapped (is_free_behind last) full us)
     ∙ ap (or_else (option_map (port_of full) (find (λ q. is_free_behind last (port_of full q)) us))) (find_mapped is_free full us) ∙ or_mapped (port_of full) _ _
 
--- it is the next in the round
-pub is_next : (m : Machine) (t : Moment) (q : PortView) → Ties m t → next_port m.last_pipe m.ports.items ≡ Some q → IsNextPipe t q.pipe
-is_next m t q h f =
-    let full : ℕ → Bool = λ p. has_full t.turn p in
-    number (next_pipe (λ p. not (full p)) (out_last (past t)) (up (past t)))
-    (sym (next_mapped full (out_last (past t)) (up (past t))) ∙ ap (λ n. next_port n (map (port_of full) (up (past t)))) (sym h.0.outs) ∙ ap (next_port m.last_pipe) (sym h.1.ports) ∙ f)
+-- one can be taken if it is up and not full
+way_is : (full : ℕ → Bool) (p : ℕ) (us : List ℕ) → way_of (way_at p (find (is_pipe p) (map (port_of full) us))) ≡ passing (λ q. has us q && not (full q)) (Some p)
+way_is full p [] = refl
+way_is full p (u ∷ us) = go (u == p) refl (way_is full p us)
   where
-    number : (o : Option ℕ) → option_map (port_of (λ p. has_full t.turn p)) o ≡ Some q → o ≡ Some q.pipe
-    number None e = absurd cc
-    number (Some n) e = ap (λ (x : PortView). Some x.pipe) (some_inj (port_of (λ p. has_full t.turn p) n) q e)
+    here : (b : Bool) → way_of (cond b ways.Full (ways.To p)) ≡ cond (not b) (Some p) None
+    here true = refl
+    here false = refl
+
+    go : (b : Bool) → (u == p) ≡ b → way_of (way_at p (find (is_pipe p) (map (port_of full) us))) ≡ cond (has us p && not (full p)) (Some p) None
+        → way_of (way_at p (cond b (Some (port_of full u)) (find (is_pipe p) (map (port_of full) us)))) ≡ cond ((b || has us p) && not (full p)) (Some p) None
+    go true e again = here (full u) ∙ ap (λ n. cond (not (full n)) (Some p) None) (equal_of u p e)
+    go false e again = again
+
+ways_are : (full : ℕ → Bool) (us : List ℕ) (o : Option ℕ) → way_of (where_is (map (port_of full) us) o) ≡ passing (λ q. has us q && not (full q)) o
+ways_are full us None = refl
+ways_are full us (Some p) = way_is full p us
+
+-- the roomy one that is taken
+roomy_is : (m : Machine) (t : Moment) → Ties m t → roomy_port m ≡ passing (has_room t) (next_of (out_last (past t)) (roomy_of m))
+roomy_is m t h =
+    ap (λ (ps : List PortView). way_of (where_is ps (next_of m.last_pipe (roomy_of m)))) h.1.ports ∙ ways_are (λ q. has_full t.turn q) (up (past t)) (next_of m.last_pipe (roomy_of m))
+    ∙ ap (λ n. passing (has_room t) (next_of n (roomy_of m))) h.0.outs
+
+-- the next of all
+round_is : (m : Machine) (t : Moment) → Ties m t → option_map (λ (x : PortView). x.pipe) (next_port m.last_pipe m.ports.items) ≡ next_pipe (λ q. not (has_full t.turn q)) (out_last (past t)) (up (past t))
+round_is m t h =
+    ap (λ (o : Option PortView). option_map (λ (x : PortView). x.pipe) o)
+    (ap (next_port m.last_pipe) h.1.ports ∙ ap (λ n. next_port n (map (port_of (λ q. has_full t.turn q)) (up (past t)))) h.0.outs ∙ next_mapped (λ q. has_full t.turn q) (out_last (past t)) (up (past t)))
+    ∙ number (next_pipe (λ q. not (has_full t.turn q)) (out_last (past t)) (up (past t)))
+  where
+    number : (o : Option ℕ) → option_map (λ (x : PortView). x.pipe) (option_map (port_of (λ q. has_full t.turn q)) o) ≡ o
+    number None = refl
+    number (Some n) = refl
+
+-- it is the next in the round
+pub is_next : (m : Machine) (t : Moment) (p : ℕ) → Ties m t → Some p ≡ chosen_port m → IsNextPipe (roomy_of m) t p
+is_next m t p h f =
+    sym (f ∙ ap (λ (o : Option ℕ). or_else o (option_map (λ (x : PortView). x.pipe) (next_port m.last_pipe m.ports.items))) (roomy_is m t h) ∙ ap (or_else (passing (has_room t) (next_of (out_last (past t)) (roomy_of m)))) (round_is m t h))
+
+-- what is taken is up and not full
+chosen_free : (m : Machine) (t : Moment) (p : ℕ) → Ties m t → Some p ≡ chosen_port m → (has (up (past t)) p ≡ true) × (has_full t.turn p ≡ false)
+chosen_free m t p h f = go (roomy_port m) refl f
+  where
+    passed : (o : Option ℕ) → passing (has_room t) o ≡ Some p → has_room t p ≡ true
+    passed None e = absurd cc
+    passed (Some q) e = step (has_room t q) refl e
+      where
+        step : (b : Bool) → has_room t q ≡ b → cond b (Some q) None ≡ Some p → has_room t p ≡ true
+        step true k e = subst (λ n. has_room t n ≡ true) (some_inj q p e) k
+        step false k e = absurd cc
+
+    flip : (b : Bool) → not b ≡ true → b ≡ false
+    flip true q = absurd cc
+    flip false q = refl
+
+    go : (o : Option ℕ) → roomy_port m ≡ o → Some p ≡ or_else o (option_map (λ (x : PortView). x.pipe) (next_port m.last_pipe m.ports.items)) → (has (up (past t)) p ≡ true) × (has_full t.turn p ≡ false)
+    go (Some q) e f =
+        let room : has_room t p ≡ true = passed (next_of (out_last (past t)) (roomy_of m)) (sym (roomy_is m t h) ∙ e ∙ sym f) in
+        (first_of (has (up (past t)) p) (not (has_full t.turn p)) room, flip (has_full t.turn p) (second_of (has (up (past t)) p) (not (has_full t.turn p)) room))
+    go None e f =
+        let q = some_port (next_port m.last_pipe m.ports.items) p f in
+        let it = next_is (λ n. has_full t.turn n) m.last_pipe (up (past t)) q.0 (ap (next_port m.last_pipe) (sym h.1.ports) ∙ q.1) in
+        (subst (λ n. has (up (past t)) n ≡ true) q.2 it.0, subst (λ n. has_full t.turn n ≡ false) q.2 it.1)
 
 no_earlier : (z : Setting) (before : List Entry) (p : ℕ) (ws : List Asking) (w : Asking) → find is_sending ws ≡ Some w → list_any (λ other. has (targets z before other) p) (begun_before w.op (map begun_of ws)) ≡ false
 no_earlier z before p [] w f = absurd cc
@@ -556,32 +619,24 @@ can_again m t c p x h f it u n =
         nothing [] e k = absurd cc
         nothing (v ∷ vs) e k = absurd cc
 
-pub out_right : (m : Machine) (t : Moment) (q : PortView) (y : Offer) → Ties m t → list_any (λ (v : Asking). v.is_orphan) m.waiting.items ≡ false → find (gets m) m.waiting.items ≡ None → next_port m.last_pipe m.ports.items ≡ Some q → IsOut m q.pipe y → IsOffered y t
-out_right m t q y h o g f = go y
+pub out_right : (m : Machine) (t : Moment) (n : ℕ) (y : Offer) → Ties m t → list_any (λ (v : Asking). v.is_orphan) m.waiting.items ≡ false → find (gets m) m.waiting.items ≡ None → Some n ≡ chosen_port m → IsOut m n y → IsOffered y t
+out_right m t n y h o g f = go y
   where
-    free : (has (up (past t)) q.pipe ≡ true) × (has_full t.turn q.pipe ≡ false)
-    free = next_is (λ p. has_full t.turn p) m.last_pipe (up (past t)) q (ap (next_port m.last_pipe) (sym h.1.ports) ∙ f)
+    free : (has (up (past t)) n ≡ true) × (has_full t.turn n ≡ false)
+    free = chosen_free m t n h f
 
-    go : (y : Offer) → IsOut m q.pipe y → IsOffered y t
+    go : (y : Offer) → IsOut m n y → IsOffered y t
     go offers.Idle k = idle m t h o g (inr k.0) (inr k.1)
     go (offers.Send op p) k =
-        let z = can_send m t k.0 p h o k.1 (subst (λ n. has (up (past t)) n ≡ true) k.3 free.0) (subst (λ n. has_full t.turn n ≡ false) k.3 free.1) in
+        let z = can_send m t k.0 p h o k.1 (subst (λ v. has (up (past t)) v ≡ true) k.3 free.0) (subst (λ v. has_full t.turn v ≡ false) k.3 free.1) in
         (begun_of k.0, z.0, subst (λ (op : OpName). CanSend t op p (begun_of k.0) z.0) k.2 z.1)
     go (offers.Again c p) k =
         let x = k.0 in
-        (request_of x.0, subst (λ n. CanAgain t n p (request_of x.0)) (found_ctx c m.live.items x.0 x.1) (can_again m t c p x.0 h x.1 x.2 (subst (λ n. has (up (past t)) n ≡ true) k.1 free.0) (subst (λ n. has_full t.turn n ≡ false) k.1 free.1)))
+        (request_of x.0, subst (λ v. CanAgain t v p (request_of x.0)) (found_ctx c m.live.items x.0 x.1) (can_again m t c p x.0 h x.1 x.2 (subst (λ v. has (up (past t)) v ≡ true) k.1 free.0) (subst (λ v. has_full t.turn v ≡ false) k.1 free.1)))
     go (offers.Give op) k = absurd k
     go (offers.Flood op) k = absurd k
     go (offers.Drop op) k = absurd k
     go (offers.Finish op cause) k = absurd k
-
-pub no_port : (o : Option PortView) → None ≡ option_map (λ (x : PortView). x.pipe) o → o ≡ None
-no_port None e = refl
-no_port (Some x) e = absurd cc
-
-pub some_port : (o : Option PortView) (p : ℕ) → Some p ≡ option_map (λ (x : PortView). x.pipe) o → (q : PortView) × (o ≡ Some q) × (q.pipe ≡ p)
-some_port None p e = absurd cc
-some_port (Some x) p e = (x, refl, sym (some_inj p x.pipe e))
 
 -- ---- What was found
 
@@ -615,3 +670,27 @@ ties_ready m n t e k h = subst (λ (x : Machine). Ties x t) (sym e) (h.0, h.1, h
 
 pub ties_dues : (m n : Machine) (t : Moment) → n ≡ record m { dues = n.dues } → (IsSeen m (ups (past t)) → IsSeen n (ups (past t))) → Ties m t → Ties n t
 ties_dues m n t e k h = subst (λ (x : Machine). Ties x t) (sym e) (h.0, h.1, h.2, h.3, h.4, (subst (λ (x : Machine). IsSeen x (ups (past t))) e (k h.5.0), h.5.1))
+
+-- ---- The numbers behind one
+
+-- the first of the range behind a number
+pub first_behind : (last : ℕ) (ks : List ℕ) → head_of (filter (λ q. is_lt (nat_cmp last q) && not false) ks) ≡ find (nat_lt last) ks
+first_behind last [] = refl
+first_behind last (k ∷ ks) = step (nat_lt last k) (last == k) (first_behind last ks)
+  where
+    step : (a b : Bool) → head_of (filter (λ q. is_lt (nat_cmp last q) && not false) ks) ≡ find (nat_lt last) ks
+        → head_of (cond (is_lt (cond a Less (cond b Equal Greater)) && not false) (k ∷ filter (λ q. is_lt (nat_cmp last q) && not false) ks) (filter (λ q. is_lt (nat_cmp last q) && not false) ks)) ≡ cond a (Some k) (find (nat_lt last) ks)
+    step true b h = refl
+    step false true h = h
+    step false false h = h
+
+-- where none is behind the number, the first of all
+pub first_round : (last : ℕ) (o : Option ℕ) (ks : List ℕ) → None ≡ find (nat_lt last) ks → o ≡ head_of ks → o ≡ next_of last ks
+first_round last o ks e f = f ∙ head_is ks ∙ ap (λ (x : Option ℕ). or_else x (find (λ q. true) ks)) e
+  where
+    head_is : (us : List ℕ) → head_of us ≡ find (λ q. true) us
+    head_is [] = refl
+    head_is (u ∷ us) = refl
+
+pub first_onward : (last p : ℕ) (ks : List ℕ) → Some p ≡ find (nat_lt last) ks → Some p ≡ next_of last ks
+first_onward last p ks e = ap (λ (x : Option ℕ). or_else x (find (λ q. true) ks)) e

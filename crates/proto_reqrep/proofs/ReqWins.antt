@@ -61,9 +61,9 @@ set_out : {raw : Bool} {options : Options} {tick last t out p : ℕ} {k : Kind} 
 set_out h = record { kind = h.kind; resend = h.resend; moment = h.moment; outs = refl }
 
 module _ (m n : Machine) (ws : WaitsView Asking) (t : Moment) (op : OpName) (s : Begun) (w : Asking) (h : Ties m t) (f : Some w ≡ find (is_asked op) m.waiting.items) (e : ws.items ≡ without_first op m.waiting.items)
-    (same : n ≡ record { raw = m.raw; options = m.options; tick = m.tick; last_id = m.last_id; last_pipe = n.last_pipe; ports = m.ports; kept = n.kept; live = n.live; dues = n.dues; waiting = ws; ready = m.ready; seats = m.seats }) where
+    (same : n ≡ record { raw = m.raw; options = m.options; tick = m.tick; last_id = m.last_id; last_pipe = n.last_pipe; ports = m.ports; roomy = n.roomy; retried = m.retried; kept = n.kept; live = n.live; dues = n.dues; waiting = ws; ready = m.ready; seats = m.seats }) where
   abbrev is : Machine
-  is = record { raw = m.raw; options = m.options; tick = m.tick; last_id = m.last_id; last_pipe = n.last_pipe; ports = m.ports; kept = n.kept; live = n.live; dues = n.dues; waiting = ws; ready = m.ready; seats = m.seats }
+  is = record { raw = m.raw; options = m.options; tick = m.tick; last_id = m.last_id; last_pipe = n.last_pipe; ports = m.ports; roomy = n.roomy; retried = m.retried; kept = n.kept; live = n.live; dues = n.dues; waiting = ws; ready = m.ready; seats = m.seats }
 
   pub given_all : (text : RecordedMessage) (r : Option MessageView) → CanGive t op s text → w.message ≡ None → n.last_pipe ≡ m.last_pipe → n.dues ≡ m.dues
       → (m.raw ≡ true → (r ≡ option_map (λ (k : KeptReply). k.message) (head_of m.kept.items)) × (n.kept.items ≡ drop 1 m.kept.items) × (n.live ≡ m.live))

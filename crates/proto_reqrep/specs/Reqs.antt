@@ -26,7 +26,9 @@ use Rattle.sp_proto.specs.declared.Verb.{Verb}
 use Rattle.sp_proto.specs.declared.Verb.TheVariants as verbs
 use Rattle.sp_proto.specs.declared.Verdict.{Verdict}
 use Rattle.sp_proto.specs.declared.Verdict.TheVariants as verdict
-use Rattle.proto_requests.specs.Ports.{PortView, Knows, is_pipe, free_count, next_number as next_pipe}
+use Rattle.proto_requests.specs.Ports.{PortView, Knows, is_pipe, free_count, or_else, where_is, next_port, next_number as next_pipe}
+use Rattle.proto_requests.specs.declared.ports.Destination.{Destination}
+use Rattle.proto_requests.specs.declared.ports.Destination.TheVariants as ways
 use Rattle.proto_reqrep.specs.Dues.{DuesView, AreSeen, StaySeen, IsLater, awaited, is_at}
 use Rattle.proto_reqrep.specs.Outs.{is_sent}
 use Rattle.proto_reqrep.specs.declared.outs.SentOut.{SentOut}
@@ -377,10 +379,40 @@ AreSingle (w ∷ ws) =
 abbrev pub is_superseded : Orphan → Bool
 is_superseded o = was_superseded (Some o.how)
 
--- of the pipes that are up and were not found full in this turn, it is the next behind that of the last Out, in the
--- round of their numbers
-abbrev pub IsNextPipe : Moment → ℕ → Type 0
-IsNextPipe t p = next_pipe (λ q. not (has_full t.turn q)) (out_last (past t)) (up (past t)) ≡ Some p
+-- the pipes that had room when they were last asked, were not asked yet, or are to be tried again
+abbrev pub roomy_of : Machine → List ℕ
+roomy_of m = m.roomy.keys
+
+-- the first of the numbers behind this one, or else the first of all
+abbrev pub next_of : ℕ → List ℕ → Option ℕ
+next_of last us = next_pipe (λ q. true) last us
+
+-- the pipe is up, and was not found full in this turn
+abbrev pub has_room : Moment → ℕ → Bool
+has_room t q = has (up (past t)) q && not (has_full t.turn q)
+
+-- the number, if it passes the test
+abbrev pub passing : (ℕ → Bool) → Option ℕ → Option ℕ
+passing P None = None
+passing P (Some q) = if P q then Some q else None
+
+-- it is the next of the roomy pipes behind that of the last Out, in the round of their numbers, if that one is up and
+-- was not found full in this turn; else the next of all that are up and were not found full in this turn
+abbrev pub IsNextPipe : List ℕ → Moment → ℕ → Type 0
+IsNextPipe roomy t p = or_else (passing (has_room t) (next_of (out_last (past t)) roomy)) (next_pipe (λ q. not (has_full t.turn q)) (out_last (past t)) (up (past t))) ≡ Some p
+
+abbrev pub way_of : Destination → Option ℕ
+way_of (ways.To p) = Some p
+way_of ways.Full = None
+way_of ways.Nowhere = None
+
+-- the next of the roomy pipes, if it can be taken
+abbrev pub roomy_port : Machine → Option ℕ
+roomy_port m = way_of (where_is m.ports.items (next_of m.last_pipe (roomy_of m)))
+
+-- it, or else the next of all that can be taken
+abbrev pub chosen_port : Machine → Option ℕ
+chosen_port m = or_else (roomy_port m) (option_map (λ (x : PortView). x.pipe) (next_port m.last_pipe m.ports.items))
 
 -- what it is set to, the time, and the pipe of the last Out
 pub record SetTo (raw : Bool) (options : Options) (tick : ℕ) (last : ℕ) (k : Kind) (t : ℕ) (out : ℕ) : Type 0 where

@@ -2,24 +2,63 @@
 //!
 //! A look is at what its hints name first (`ready`, `dues`, and the ended operations of `waiting`); where those are not
 //! whole, all are searched through, which makes them whole again if nothing is found.
-ghost use Rattle.std.specs.Prelude.{◌≡◌, ◌<◌, ◌-◌, ◌&&◌, ◌||◌, ℕ, None, Some, IfSome, IfNone, false, true, not, find};
+//!
+//! What goes out is offered to a roomy pipe first: one that had room when it was last asked, was not asked yet, or is to
+//! be tried again. Where the next of these can't be taken, or none is roomy, it is offered to the next of all pipes.
+ghost use Rattle.std.specs.Prelude.{◌≡◌, ◌<◌, ◌-◌, ◌&&◌, ◌||◌, ℕ, None, Some, IfSome, IfNone, false, true, not, find, nat_lt};
 ghost use Rattle.std.specs.Option.{option_map};
 ghost use Rattle.std.specs.List.{position, list_any};
 ghost use Rattle.sp_base.specs.declared.OpName.{OpName};
+ghost use Rattle.sp_history.specs.Lists.{head_of};
 ghost use Rattle.proto_reqrep.specs.declared.req.Asking.{Asking as AskingType};
-ghost use Rattle.proto_requests.specs.Ports.{PortView, next_port};
 ghost use Rattle.proto_requests.specs.Spots.{holds};
 ghost use Rattle.proto_requests.specs.Waits.{IsOver};
-ghost use Rattle.proto_reqrep.specs.Reqs.{is_due, gets, ReadyAmong, NoneDue, IsGift, is_given, is_late, IsSeen, IsDueOn, IsOut, due_in, is_due_out, live_ctx, OnePerContext, out_of};
+ghost use Rattle.proto_reqrep.specs.Reqs.{is_due, gets, ReadyAmong, NoneDue, IsGift, is_given, is_late, IsSeen, IsDueOn, IsOut, due_in, is_due_out, live_ctx, OnePerContext, out_of, next_of, roomy_port, chosen_port};
 
 use crate::dues::is_past;
 use crate::lives::ctx_at;
 use crate::req::{Asking, Live, Request, next_ready};
+use proto_requests::ports::Destination;
 use proto_requests::spots::Spot;
 use proto_requests::waits::name_at;
 use sp_base::{Ctx, OpName, PipeId};
 use sp_history::parts::LastOut;
 use sp_proto::Offer;
+use std::collections::BTreeSet;
+use std::ops::Bound;
+
+// The first of the numbers behind this one.
+fn first_behind(roomy: &BTreeSet<u32>, last: PipeId) -> Option<PipeId>
+    ensures { result ≡ find (nat_lt last) roomy.now.keys }
+{
+    match roomy
+        .range((Bound::Excluded(last.0), Bound::Unbounded))
+        .next()
+    {
+        None => None,
+        Some(p) => Some(PipeId(*p)),
+    }
+}
+
+// The first of the numbers.
+fn first_of_all(roomy: &BTreeSet<u32>) -> Option<PipeId>
+    ensures { result ≡ head_of roomy.now.keys }
+{
+    match roomy.first() {
+        None => None,
+        Some(p) => Some(PipeId(*p)),
+    }
+}
+
+// The first of the numbers behind this one, or else the first of all.
+fn next_roomy(roomy: &BTreeSet<u32>, last: PipeId) -> Option<PipeId>
+    ensures { result ≡ next_of last roomy.now.keys }
+{
+    match first_behind(roomy, last) {
+        Some(p) => Some(p),
+        None => first_of_all(roomy),
+    }
+}
 
 impl Request {
     // A message can be given to a receive of the context.
@@ -58,12 +97,26 @@ impl Request {
         self.waiting.first_left()
     }
 
-    // The next pipe behind that of the last Out that is not full, in the round of their numbers.
+    // The next of the roomy pipes behind that of the last Out, in the round of their numbers, if it is up and not full.
+    fn roomy_port(&self) -> Option<PipeId>
+        ensures { result ≡ roomy_port self.now }
+    {
+        match self.ports.way_to(next_roomy(&self.roomy, self.last_pipe)) {
+            Destination::To(p) => Some(p),
+            Destination::Full => None,
+            Destination::Nowhere => None,
+        }
+    }
+
+    // It, or else the next of all pipes behind that of the last Out that is not full.
     pub(crate) fn next_port(&mut self) -> Option<PipeId>
         ensures same { self.new ≡ self.old }
-        ensures port { result ≡ option_map (λ (x : PortView). x.pipe) (next_port self.old.last_pipe self.old.ports.items) }
+        ensures port { result ≡ chosen_port self.old }
     {
-        self.ports.free_port(self.last_pipe)
+        match self.roomy_port() {
+            Some(p) => Some(p),
+            None => self.ports.free_port(self.last_pipe),
+        }
     }
 
     // A receive that can be given a message. They are searched through.

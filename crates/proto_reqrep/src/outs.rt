@@ -17,7 +17,7 @@ use std::alloc::Global;
 use std::collections::BTreeSet;
 use std::marker::Model;
 
-/// On which pipe the request of a context went out, and when.
+/// On which pipe the request of a context went out, and when (nng_req(7)).
 #[derive(Clone, Copy)]
 pub struct SentOut {
     pub ctx: Ctx,

@@ -16,7 +16,7 @@ ghost use Rattle.sp_proto.specs.Kinds.{Starts};
 ghost use Rattle.proto_reqrep.specs.declared.req.KeptReply.{KeptReply as KeptReplyType};
 ghost use Rattle.proto_reqrep.specs.declared.req.Asking.{Asking as AskingType};
 ghost use Rattle.proto_reqrep.specs.Dues.{StaySeen};
-ghost use Rattle.proto_reqrep.specs.Reqs.{OnePerContext, Ties, req_kind, is_live_on, without_live, orphaned, free_number, reply_in, gets, answers, with_reply, ready_on, AreReady, IsReply, Asks, KeepsRaw, NotesOut, ask_state, work_left, IsNextPipe, AsksNot, GivesRaw, GivesReply, IsLed, sent_now, with_out, is_raw, places_left};
+ghost use Rattle.proto_reqrep.specs.Reqs.{OnePerContext, Ties, req_kind, is_live_on, without_live, orphaned, free_number, reply_in, gets, answers, with_reply, ready_on, AreReady, IsReply, Asks, KeepsRaw, NotesOut, ask_state, work_left, IsNextPipe, roomy_of, AsksNot, GivesRaw, GivesReply, IsLed, sent_now, with_out, is_raw, places_left};
 ghost use Rattle.proto_requests.specs.Ids.{number_after};
 
 use crate::dues::Dues;
@@ -34,11 +34,12 @@ use sp_history::setting::Options;
 use sp_msg::Message;
 use sp_proto::{Act, CheckError, Offer, Proto, UpFault, Verb, Verdict};
 use std::alloc::Global;
+use std::collections::BTreeSet;
 
 /// So many requests can be live.
 const MOST_LIVE: usize = 2_147_483_647;
 
-/// A message that is kept, and the pipe that it came from.
+/// A message that is kept, and the pipe that it came from (nng_req(7)).
 #[derive(Drop)]
 pub struct KeptReply {
     pub pipe: PipeId,
@@ -65,7 +66,7 @@ pub struct Live {
     pub reply: Option<KeptReply>,
 }
 
-/// An operation that waits: a send has its message, as it was begun.
+/// An operation that waits: a send has its message, as it was begun (nng_req(7)).
 #[derive(Drop)]
 pub struct Asking {
     pub op: OpName,
@@ -128,6 +129,11 @@ pub struct Request {
     /// Of the last Out, or 0. The next goes to one behind it.
     pub(crate) last_pipe: PipeId,
     pub(crate) ports: Ports,
+    /// The roomy pipes: those that had room when they were last asked, were not asked yet, or are to be tried again. They
+    /// are asked first. One for which there was no memory is missing, and so may be one on which nothing went out.
+    pub(crate) roomy: BTreeSet<u32>,
+    /// The pipe that was tried again last, or 0.
+    retried: PipeId,
     /// Raw: replies.
     pub(crate) kept: Backlog<KeptReply>,
     /// Cooked: at most one of each context.
@@ -164,6 +170,21 @@ fn leave_behind(waiting: &mut Waits<Asking>, c: Ctx)
     ensures room { waiting.new.room ≡ waiting.old.room }
 {
     waiting.leave_on(c);
+}
+
+// ---- Pipes
+
+// The next pipe behind this one counts as roomy, if one is up.
+fn try_again(ports: &mut Ports, roomy: &mut BTreeSet<u32>, last: &mut PipeId)
+    ensures { ports.new ≡ ports.old }
+{
+    match ports.free_port(*last) {
+        None => {}
+        Some(p) => {
+            let _ = roomy.insert(p.0);
+            *last = p;
+        }
+    }
 }
 
 // ---- Live requests
@@ -335,6 +356,8 @@ impl Request {
                 dues: Dues::new(alloc),
                 waiting: Waits::new(alloc),
                 ready: Hints::new(alloc),
+                roomy: BTreeSet::new(alloc),
+                retried: PipeId(0),
                 seats,
             }),
         }
@@ -405,7 +428,7 @@ impl Request {
 
     // What goes out for a send of the context.
     fn send(&mut self, c: Ctx, m: Message, out: Option<PipeId>) -> Message
-        ensures same { self.new ≡ record self.old { live = self.new.live; dues = self.new.dues; last_pipe = self.new.last_pipe } }
+        ensures same { self.new ≡ record self.old { live = self.new.live; dues = self.new.dues; last_pipe = self.new.last_pipe; roomy = self.new.roomy } }
         ensures pipe { (p : ℕ) → out ≡ Some p → self.new.last_pipe ≡ p }
         ensures raw { self.old.raw ≡ true → (result ≡ m) × (self.new.live ≡ self.old.live) × (self.new.dues ≡ self.old.dues) }
         ensures cooked { self.old.raw ≡ false → (p : ℕ) → out ≡ Some p → self.new.live.items ≡ with_out c (sent_now self.old p) self.old.live.items }
@@ -416,6 +439,7 @@ impl Request {
             None => m,
             Some(pipe) => {
                 self.last_pipe = pipe;
+                let _ = self.roomy.insert(pipe.0);
                 if self.raw {
                     return m;
                 }
@@ -474,13 +498,17 @@ impl Proto for Request {
 
     fn up(&mut self, p: PipeId) -> Result<(), UpFault> {
         match self.ports.push(p) {
-            Ok(()) => Ok(()),
+            Ok(()) => {
+                let _ = self.roomy.insert(p.0);
+                Ok(())
+            }
             Err(_) => Err(UpFault::NoMemory),
         }
     }
 
     fn down(&mut self, p: PipeId) {
         self.ports.forget(p);
+        self.roomy.remove(&p.0);
         self.dues.down(&self.live, p);
     }
 
@@ -555,19 +583,22 @@ impl Proto for Request {
         }
     }
 
+    /// One pipe more counts as roomy, in their round, so that each is tried again now and then.
     fn fresh(&mut self) {
         self.ports.clear();
+        try_again(&mut self.ports, &mut self.roomy, &mut self.retried);
     }
 
-    /// What goes out goes to the next pipe behind that of the last Out, in the round of their numbers.
+    /// What goes out goes to the next roomy pipe behind that of the last Out, in the round of their numbers, if that one
+    /// is up and not full; else to the next of all such pipes.
     fn offer(&mut self) -> Offer
         ensures same { (t : Moment) → Ties self.old t → Ties self.new t }
         ensures offered { (t : Moment) → Lawful t → Calm t.z (past t) → Ties self.old t → IsOffered result t }
         ensures copies { (op : OpName) → result ≡ Offer.Flood op → (t : Moment) → Lawful t → Calm t.z (past t) → Ties self.old t → length (up (past t)) ≤ 0 }
         ensures left { work_left self.new ≤ work_left self.old }
         ensures room { places_left self.old ≤ places_left self.new }
-        ensures next { (op : OpName) (p : ℕ) → result ≡ Offer.Send op p → (t : Moment) → Ties self.old t → IsNextPipe t p }
-        ensures resend { (c p : ℕ) → result ≡ Offer.Again c p → (t : Moment) → Ties self.old t → IsNextPipe t p }
+        ensures next { (op : OpName) (p : ℕ) → result ≡ Offer.Send op p → (t : Moment) → Ties self.old t → IsNextPipe (roomy_of self.old) t p }
+        ensures resend { (c p : ℕ) → result ≡ Offer.Again c p → (t : Moment) → Ties self.old t → IsNextPipe (roomy_of self.old) t p }
     {
         if let Some(op) = self.next_left() {
             return Offer::Finish {
@@ -586,6 +617,7 @@ impl Proto for Request {
 
     fn full(&mut self, p: PipeId) {
         self.ports.mark(p);
+        self.roomy.remove(&p.0);
     }
 
     fn goes_to(&self, op: OpName, p: PipeId) -> bool {
@@ -609,6 +641,7 @@ impl Proto for Request {
             }
             Some(copy) => {
                 self.last_pipe = p;
+                let _ = self.roomy.insert(p.0);
                 self.dues.note_out(c, p, self.tick);
                 let out = LastOut {
                     pipe: p,

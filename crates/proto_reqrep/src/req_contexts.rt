@@ -13,7 +13,7 @@ use std::alloc::Global;
 use std::collections::BTreeMap;
 use std::marker::Model;
 
-/// The open contexts of a req.
+/// The open contexts of a req (nng_ctx(5)).
 #[derive(Drop)]
 pub struct ReqContexts {
     /// The tick in which a copy of a request of each context last found no memory, or 0, by the contexts' numbers.

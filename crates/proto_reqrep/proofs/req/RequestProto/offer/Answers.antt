@@ -1,16 +1,14 @@
 use Rattle.std.proofs.Common.{◌≡◌, ◌∙◌, sym, ap, subst, None, find, false}
 use Rattle.std.specs.List.{list_any}
-use Rattle.std.specs.Option.{option_map}
 use Rattle.sp_base.specs.declared.OpName.{OpName}
 use Rattle.sp_history.specs.declared.entry.Cause.TheVariants as causes
 use Rattle.sp_history.specs.Past.{ups}
 use Rattle.sp_history.specs.Moments.{past}
 use Rattle.sp_proto.specs.Machines.{CanFinish}
-use Rattle.proto_requests.specs.Ports.{PortView, next_port}
 use Rattle.proto_reqrep.specs.declared.req.Asking.{Asking}
 use Rattle.proto_reqrep.specs.declared.req.Request.{Request as Machine}
-use Rattle.proto_reqrep.specs.Reqs.{gets, Ties, IsOut, IsNextPipe, begun_of}
-use Rattle.proto_reqrep.proofs.Offering.{can_finish, gift_offered, ties_ready, ties_dues, is_next, out_right, idle_full, no_port, some_port}
+use Rattle.proto_reqrep.specs.Reqs.{gets, Ties, IsOut, IsNextPipe, chosen_port, roomy_of, begun_of}
+use Rattle.proto_reqrep.proofs.Offering.{can_finish, gift_offered, ties_ready, ties_dues, is_next, out_right, idle_full}
 use Rattle.proto_reqrep.proofs.req.RequestProto.offer.Goals as goal
 
 pub returns-in-Some-clause-offered : goal.returns-in-Some-clause-offered
@@ -34,7 +32,7 @@ returns-in-None-clause-offered c =
     let a = c.next_left.new.self in
     let ha : Ties a t = subst (λ (x : Machine). Ties x t) (sym c.next_left.ensures.same) h in
     let none : list_any (λ (v : Asking). v.is_orphan) a.waiting.items ≡ false = subst (λ (x : Machine). list_any (λ (v : Asking). v.is_orphan) x.waiting.items ≡ false) (sym c.next_left.ensures.same) c.in_default.ensures.none in
-    idle_full a t ha none (c.in_default-next_give.ensures.none ha.5.1) (no_port _ (c.in-None.ensures.port ∙ ap (λ (x : Machine). option_map (λ (y : PortView). y.pipe) (next_port x.last_pipe x.ports.items)) c.next_give.ensures.same))
+    idle_full a t ha none (c.in_default-next_give.ensures.none ha.5.1) (c.in-None.ensures.port ∙ ap (λ (x : Machine). chosen_port x) c.next_give.ensures.same)
 
 pub returns-in-Some-next_port-clause-same : goal.returns-in-Some-next_port-clause-same
 returns-in-Some-next_port-clause-same c =
@@ -58,11 +56,11 @@ returns-in-Some-next_port-clause-offered c =
     let ha : Ties a t = subst (λ (x : Machine). Ties x t) (sym c.next_left.ensures.same) h in
     let hb : Ties b t = ties_ready a b t c.next_give.ensures.same c.next_give.ensures.ready ha in
     let hd : Ties d t = subst (λ (x : Machine). Ties x t) (sym c.next_port.ensures.same) hb in
-    let port = some_port _ c.in-Some-next_port.pipe (c.in-Some-next_port.ensures.port ∙ sym (ap (λ (x : Machine). option_map (λ (y : PortView). y.pipe) (next_port x.last_pipe x.ports.items)) c.next_port.ensures.same)) in
+    let port = c.in-Some-next_port.ensures.port ∙ sym (ap (λ (x : Machine). chosen_port x) c.next_port.ensures.same) in
     let it : IsOut d c.in-Some-next_port.pipe c.next_out.result = c.next_out.ensures.offer (ups (past t)) hd.3.places hd.5.0 in
     let none : list_any (λ (v : Asking). v.is_orphan) d.waiting.items ≡ false = subst (λ (x : Machine). list_any (λ (v : Asking). v.is_orphan) x.waiting.items ≡ false) (sym c.next_port.ensures.same) (subst (λ (x : Machine). list_any (λ (v : Asking). v.is_orphan) x.waiting.items ≡ false) (sym c.next_give.ensures.same) (subst (λ (x : Machine). list_any (λ (v : Asking). v.is_orphan) x.waiting.items ≡ false) (sym c.next_left.ensures.same) c.in_default.ensures.none)) in
     let idle : find (gets d) d.waiting.items ≡ None = subst (λ (x : Machine). find (gets x) x.waiting.items ≡ None) (sym c.next_port.ensures.same) (subst (λ (x : Machine). find (gets x) x.waiting.items ≡ None) (sym c.next_give.ensures.same) (c.in_default-next_give.ensures.none ha.5.1)) in
-    out_right d t port.0 c.next_out.result hd none idle port.1 (subst (λ n. IsOut d n c.next_out.result) (sym port.2) it)
+    out_right d t c.in-Some-next_port.pipe c.next_out.result hd none idle port it
 
 pub returns-in-Some-next_port-clause-copies : goal.returns-in-Some-next_port-clause-copies
 returns-in-Some-next_port-clause-copies c =
@@ -87,10 +85,10 @@ returns-in-Some-next_port-clause-next c =
     let ha : Ties a t = subst (λ (x : Machine). Ties x t) (sym c.next_left.ensures.same) h in
     let hb : Ties b t = ties_ready a b t c.next_give.ensures.same c.next_give.ensures.ready ha in
     let hd : Ties d t = subst (λ (x : Machine). Ties x t) (sym c.next_port.ensures.same) hb in
-    let port = some_port _ c.in-Some-next_port.pipe (c.in-Some-next_port.ensures.port ∙ sym (ap (λ (x : Machine). option_map (λ (y : PortView). y.pipe) (next_port x.last_pipe x.ports.items)) c.next_port.ensures.same)) in
+    let port = c.in-Some-next_port.ensures.port ∙ sym (ap (λ (x : Machine). chosen_port x) c.next_port.ensures.same) in
     let it : IsOut d c.in-Some-next_port.pipe c.next_out.result = c.next_out.ensures.offer (ups (past t)) hd.3.places hd.5.0 in
     let k = subst (IsOut d c.in-Some-next_port.pipe) e it in
-    subst (IsNextPipe t) (port.2 ∙ k.3) (is_next d t port.0 hd port.1)
+    subst (λ (x : Machine). IsNextPipe (roomy_of x) t p) c.next_left.ensures.same (subst (λ (x : Machine). IsNextPipe (roomy_of x) t p) c.next_give.ensures.same (subst (λ (x : Machine). IsNextPipe (roomy_of x) t p) c.next_port.ensures.same (subst (IsNextPipe (roomy_of d) t) k.3 (is_next d t c.in-Some-next_port.pipe hd port))))
 
 pub returns-in-Some-next_port-clause-resend : goal.returns-in-Some-next_port-clause-resend
 returns-in-Some-next_port-clause-resend c =
@@ -102,7 +100,7 @@ returns-in-Some-next_port-clause-resend c =
     let ha : Ties a t = subst (λ (x : Machine). Ties x t) (sym c.next_left.ensures.same) h in
     let hb : Ties b t = ties_ready a b t c.next_give.ensures.same c.next_give.ensures.ready ha in
     let hd : Ties d t = subst (λ (x : Machine). Ties x t) (sym c.next_port.ensures.same) hb in
-    let port = some_port _ c.in-Some-next_port.pipe (c.in-Some-next_port.ensures.port ∙ sym (ap (λ (x : Machine). option_map (λ (y : PortView). y.pipe) (next_port x.last_pipe x.ports.items)) c.next_port.ensures.same)) in
+    let port = c.in-Some-next_port.ensures.port ∙ sym (ap (λ (x : Machine). chosen_port x) c.next_port.ensures.same) in
     let it : IsOut d c.in-Some-next_port.pipe c.next_out.result = c.next_out.ensures.offer (ups (past t)) hd.3.places hd.5.0 in
     let k = subst (IsOut d c.in-Some-next_port.pipe) e it in
-    subst (IsNextPipe t) (port.2 ∙ k.1) (is_next d t port.0 hd port.1)
+    subst (λ (x : Machine). IsNextPipe (roomy_of x) t p) c.next_left.ensures.same (subst (λ (x : Machine). IsNextPipe (roomy_of x) t p) c.next_give.ensures.same (subst (λ (x : Machine). IsNextPipe (roomy_of x) t p) c.next_port.ensures.same (subst (IsNextPipe (roomy_of d) t) k.1 (is_next d t c.in-Some-next_port.pipe hd port))))
