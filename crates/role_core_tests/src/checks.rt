@@ -9,8 +9,8 @@ use std::process::Abort;
 use std::sync::Wait;
 
 /// What was made; there is memory for it.
-pub fn made<T>(rt: &impl Abort, answer: Result<T, NoMemory>) -> T {
-    match answer {
+pub fn made<T>(rt: &impl Abort, returned: Result<T, NoMemory>) -> T {
+    match returned {
         Ok(it) => it,
         Err(_) => panic!(rt; "no memory"),
     }

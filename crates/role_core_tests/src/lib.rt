@@ -10,6 +10,8 @@ mod failing;
 #[cfg(test)]
 mod floods;
 #[cfg(test)]
+mod hops;
+#[cfg(test)]
 mod pairs;
 #[cfg(test)]
 mod races;
