@@ -133,7 +133,7 @@ closes_with p q t h l c s = record { early = q.seen; late = s.0; whole_is = s.1;
 
 -- the last turn of the pass closed the socket with these totals
 pub totals_seen : (t : Totals) (before after : PassView) → TookTurn (λ z h u. ClosedBy t z.callers h u) before after → closed_totals (past_of after.seen) ≡ Some t
-totals_seen t before after k = ap (λ (h : List (Turn Entry)). closed_totals (past_of h)) k.seen ∙ k.said.answer
+totals_seen t before after k = ap (λ (h : List (Turn Entry)). closed_totals (past_of h)) k.seen ∙ k.said.returned
 
 -- all passes are back, and one has seen the close
 pub record Returned (s : SocketName) (l : ListView) (p q r t : PassView) : Type 0 where

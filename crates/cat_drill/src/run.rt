@@ -159,28 +159,47 @@ fn conclude<S: Sink>(
     }
 }
 
-// The drill on a socket whose pipe is up.
-fn play<R: Wait + Threads + Sync, G: Gate + Sync, S: Sink>(
-    rt: &R,
-    alloc: Global,
+// A drill's socket, with all its passes in the list, and both ends of its lane.
+struct OpenedDrill {
+    socket: Socket<Pull, Feed>,
+    list: SocketPasses<Pull, Feed>,
+    source: DrillSource,
+    feed: Feed,
+}
+
+// The same once its pipe is up and its callers have their passes.
+struct JoinedDrill {
     socket: Socket<Pull, Feed>,
     list: SocketPasses<Pull, Feed>,
     crew: Crew<Pull, Feed>,
     source: DrillSource,
     pipe: PipeId,
+}
+
+// The drill on a socket whose pipe is up.
+fn play<R: AllocGlobal + Wait + Threads + Sync, G: Gate + Sync, S: Sink>(
+    rt: &R,
+    joined: JoinedDrill,
     count: u32,
     gate: &G,
     out: &mut S,
 ) -> DrillEnd
     requires count { count ≤ 1000000 }
-    requires list { IsOut socket list }
-    requires crew { IsCrew socket crew.main crew.two crew.three crew.four [] }
-    requires source { IsSource source }
-    requires fed { IsFedBy pipe source.lane.name crew.main.seen }
+    requires list { IsOut joined.socket joined.list }
+    requires crew { IsCrew joined.socket joined.crew.main joined.crew.two joined.crew.three joined.crew.four [] }
+    requires source { IsSource joined.source }
+    requires fed { IsFedBy joined.pipe joined.source.lane.name joined.crew.main.seen }
     ensures ends { EndsDrill result.status count (option_map (λ r. r.turns) result.record_) (S.seen out.old) (S.seen out.new) }
     ensures kept { result.record_ ≢ None }
 {
-    let mut source = source;
+    let JoinedDrill {
+        socket,
+        list,
+        crew,
+        mut source,
+        pipe,
+    } = joined;
+    let alloc = rt.alloc();
     let crew = rounds(rt, alloc, &socket, gate, crew, &mut source, count);
     let Closed {
         totals,
@@ -192,31 +211,40 @@ fn play<R: Wait + Threads + Sync, G: Gate + Sync, S: Sink>(
 }
 
 // The drill on a socket that was opened.
-fn drill_on<R: Wait + Threads + Sync, G: Gate + Sync, S: Sink>(
+fn drill_on<R: AllocGlobal + Wait + Threads + Sync, G: Gate + Sync, S: Sink>(
     rt: &R,
-    alloc: Global,
-    socket: Socket<Pull, Feed>,
-    mut list: SocketPasses<Pull, Feed>,
-    source: DrillSource,
-    feed: Feed,
+    opened: OpenedDrill,
     count: u32,
     gate: &G,
     out: &mut S,
 ) -> DrillEnd
     requires count { count ≤ 1000000 }
-    requires list { list ≡ new_list socket drill_setting }
-    requires words { (socket.words.slots ≡ 256) × (socket.words.callers ≡ 4) }
-    requires source { IsSource source }
-    requires unused { IsUnused feed }
-    requires name { (x : List ℕ) × (feed.name ≡ OverLanes x source.lane.name) }
+    requires list { opened.list ≡ new_list opened.socket drill_setting }
+    requires words { (opened.socket.words.slots ≡ 256) × (opened.socket.words.callers ≡ 4) }
+    requires source { IsSource opened.source }
+    requires unused { IsUnused opened.feed }
+    requires name { (x : List ℕ) × (opened.feed.name ≡ OverLanes x opened.source.lane.name) }
     ensures ends { EndsDrill result.status count (option_map (λ r. r.turns) result.record_) (S.seen out.old) (S.seen out.new) }
     ensures kept { result.record_ ≢ None }
 {
+    let OpenedDrill {
+        socket,
+        mut list,
+        source,
+        feed,
+    } = opened;
     let mut crew = crew_of(&mut list, &socket);
     match socket.attach(rt, &mut crew.main, feed, 0) {
-        Ok(pipe) => play(
-            rt, alloc, socket, list, crew, source, pipe, count, gate, out,
-        ),
+        Ok(pipe) => {
+            let joined = JoinedDrill {
+                socket,
+                list,
+                crew,
+                source,
+                pipe,
+            };
+            play(rt, joined, count, gate, out)
+        }
         Err(_) => {
             let Closed {
                 totals: _,
@@ -224,7 +252,7 @@ fn drill_on<R: Wait + Threads + Sync, G: Gate + Sync, S: Sink>(
                 record_,
             } = close_all(rt, socket, list, crew);
             drop_all(rt, wires);
-            conclude(alloc, out, count, record_, None)
+            conclude(rt.alloc(), out, count, record_, None)
         }
     }
 }
@@ -254,6 +282,14 @@ pub fn drill<R: AllocGlobal + Wait + Threads + Sync, G: Gate + Sync, S: Sink>(
     };
     match open(alloc, machine, config) {
         Err(_) => unopened(),
-        Ok((socket, list)) => drill_on(rt, alloc, socket, list, source, feed, count, gate, out),
+        Ok((socket, list)) => {
+            let opened = OpenedDrill {
+                socket,
+                list,
+                source,
+                feed,
+            };
+            drill_on(rt, opened, count, gate, out)
+        }
     }
 }
