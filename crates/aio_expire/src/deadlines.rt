@@ -7,7 +7,7 @@ use sp_base::{NoMemory, OpName, Tick};
 use std::alloc::Global;
 use std::marker::Model;
 
-/// When a slot's operation expires.
+/// When a slot's operation expires (nng_aio_set_timeout(3)).
 #[derive(Clone, Copy, Debug, PartialEq, Eq)]
 pub struct Deadline {
     /// It is due at this moment and at each later one.
@@ -17,6 +17,7 @@ pub struct Deadline {
 }
 
 /// The deadlines of the operations of some slots, at most one for each slot, in order of deadline, then of slot.
+/// See nng_aio_set_timeout(3).
 #[derive(Debug, Drop)]
 pub struct Deadlines {
     // Slots are the numbers below this.

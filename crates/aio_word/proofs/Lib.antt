@@ -6,7 +6,7 @@ pub mod Told
 pub mod Changes
 pub mod Steps
 pub mod Seating
-pub mod Answering
+pub mod CallResults
 pub mod Freshness
 pub mod Holds
 pub mod Winning

@@ -9,7 +9,7 @@ use Rattle.aio_word.specs.declared.rule.WordsView.{WordsView}
 use Rattle.aio_word.specs.Word.{is_decided, is_core_end, is_call_end}
 use Rattle.aio_word.specs.Views.{entry, times, Stands, Each}
 use Rattle.aio_word.specs.Rule.{Fate, Lawful, owns, IsEnd, IsRead, IsWins, IsOwner, IsCore, IsCaller}
-use Rattle.aio_word.specs.Answers.{IsBegun, Agrees, AgreesEnded, IsTold, IsFound, IsSeen}
+use Rattle.aio_word.specs.Results.{IsBegun, Agrees, AgreesEnded, IsTold, IsFound, IsSeen}
 use Rattle.aio_word.proofs.Entries.{Each-map, Each-at, some_named, owned}
 
 -- two entries of one operation that both say its fate are one

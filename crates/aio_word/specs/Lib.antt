@@ -5,5 +5,5 @@ pub mod Fresh
 pub mod Rule
 pub mod OneWinner
 pub mod Winners
-pub mod Answers
+pub mod Results
 pub mod Meanings

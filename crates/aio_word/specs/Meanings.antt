@@ -4,15 +4,15 @@ use Rattle.sp_base.specs.declared.OpName.{OpName}
 use Rattle.aio_word.specs.declared.phase.Phase.{Phase}
 use Rattle.aio_word.specs.declared.phase.Phase.TheVariants.{Pending}
 use Rattle.aio_word.specs.declared.rule.WordsView.{WordsView}
-use Rattle.aio_word.specs.declared.answers.Decided.{Decided}
-use Rattle.aio_word.specs.declared.answers.Decided.TheVariants.{Mine, Other}
-use Rattle.aio_word.specs.declared.answers.Raced.{Raced}
-use Rattle.aio_word.specs.declared.answers.Raced.TheVariants as raced
-use Rattle.aio_word.specs.declared.answers.Polled.{Polled}
-use Rattle.aio_word.specs.declared.answers.Polled.TheVariants as polled
+use Rattle.aio_word.specs.declared.results.Decided.{Decided}
+use Rattle.aio_word.specs.declared.results.Decided.TheVariants.{Mine, Other}
+use Rattle.aio_word.specs.declared.results.Raced.{Raced}
+use Rattle.aio_word.specs.declared.results.Raced.TheVariants as raced
+use Rattle.aio_word.specs.declared.results.Polled.{Polled}
+use Rattle.aio_word.specs.declared.results.Polled.TheVariants as polled
 use Rattle.aio_word.specs.Word.{is_decided}
 use Rattle.aio_word.specs.Views.{saw}
-use Rattle.aio_word.specs.Answers.{CoreSaw, CoreTook, CallTook, CallEnded, CallStale, of_op}
+use Rattle.aio_word.specs.Results.{CoreSaw, CoreTook, CallTook, CallEnded, CallStale, of_op}
 
 -- the next generation of the slot has begun
 abbrev pub BeganAt : WordsView → OpName → WordsView → Type 0

@@ -5,7 +5,7 @@ use Rattle.aio_word.specs.declared.rule.JoinedWins.{JoinedWins}
 use Rattle.aio_word.specs.declared.rule.WordsView.{WordsView}
 use Rattle.aio_word.specs.Word.{is_decided}
 use Rattle.aio_word.specs.Views.{Stands}
-use Rattle.aio_word.specs.Answers.{HasSeen}
+use Rattle.aio_word.specs.Results.{HasSeen}
 use Rattle.aio_word.specs.OneWinner.{IsSame}
 
 -- the seat of the number k was joined, with these wins

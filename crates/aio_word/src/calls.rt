@@ -5,13 +5,13 @@ ghost use Rattle.aio_word.specs.declared.phase.Phase.TheVariants.{Cancelled, Exp
 ghost use Rattle.aio_word.specs.Word.{is_core_end, is_call_end, is_decided};
 ghost use Rattle.aio_word.specs.Sight.{IsSameSeat};
 ghost use Rattle.aio_word.specs.Views.{learned, absorbed};
-ghost use Rattle.aio_word.specs.Answers.{HasSeen, IsName, CoreSaw, Agrees, of_op};
+ghost use Rattle.aio_word.specs.Results.{HasSeen, IsName, CoreSaw, Agrees, of_op};
 ghost use Rattle.aio_word.specs.OneWinner.{IsKnownCaller, IsKnownCore};
 ghost use Rattle.aio_word.specs.Winners.{HasOneWinner};
 ghost use Rattle.aio_word.specs.Meanings.{MatchDecided, MatchRaced, MatchPolled, BeganAt, IsNextName, IsWorn};
 
-use crate::answers::{Decided, Look, Polled, Raced, Worn};
 use crate::phase::Phase;
+use crate::results::{Decided, Look, Polled, Raced, Worn};
 use crate::rule::{
     Begins, Decides, Joined, Learns, Looks, Noted, Polls, Races, WordsRule, WordsView,
 };
@@ -24,7 +24,7 @@ use std::marker::Model;
 use std::sync::Arc;
 
 /// The words of some slots. Several values can be of the same words, and each seat of them fits each value. They may
-/// be used by several threads at once.
+/// be used by several threads at once (nng_aio(5)).
 #[derive(Drop)]
 pub struct Words {
     // The words, by slot, under the rule.
@@ -108,7 +108,7 @@ impl Words {
         requires own { core.old.words ≡ self.now.id }
         requires name { IsName core.old.view self.now.slots op }
         ensures own { core.new.words ≡ core.old.words }
-        ensures answer { CoreSaw core.old.view (of_op op result.phase result.by) core.new.view }
+        ensures returned { CoreSaw core.old.view (of_op op result.phase result.by) core.new.view }
         ensures seen { is_decided result.phase ≡ true → HasSeen core.new.view op.slot }
         ensures rule { IsKnownCore self.now.slots core.new.view }
     {
@@ -128,7 +128,7 @@ impl Words {
         requires name { IsName core.old.view self.now.slots op }
         requires end { is_core_end to ≡ true }
         ensures own { core.new.words ≡ core.old.words }
-        ensures answer { MatchDecided result core.old.view op to core.new.view }
+        ensures returned { MatchDecided result core.old.view op to core.new.view }
         ensures seen { HasSeen core.new.view op.slot }
         ensures rule { IsKnownCore self.now.slots core.new.view }
     {
@@ -153,7 +153,7 @@ impl Words {
     pub fn cancel(&self, seat: &mut CallSeat, op: OpName) -> Raced
         requires own { seat.old.words ≡ self.now.id }
         ensures own { IsSameSeat seat.old seat.new }
-        ensures answer { MatchRaced result seat.old.view self.now.slots op Cancelled seat.new.view }
+        ensures returned { MatchRaced result seat.old.view self.now.slots op Cancelled seat.new.view }
         ensures rule { op.slot < self.now.slots → IsKnownCaller self.now.slots seat.new.view }
     {
         self.race(seat, op, Phase::Cancelled)
@@ -163,7 +163,7 @@ impl Words {
     pub fn expire(&self, seat: &mut CallSeat, op: OpName) -> Raced
         requires own { seat.old.words ≡ self.now.id }
         ensures own { IsSameSeat seat.old seat.new }
-        ensures answer { MatchRaced result seat.old.view self.now.slots op Expired seat.new.view }
+        ensures returned { MatchRaced result seat.old.view self.now.slots op Expired seat.new.view }
         ensures rule { op.slot < self.now.slots → IsKnownCaller self.now.slots seat.new.view }
     {
         self.race(seat, op, Phase::Expired)
@@ -175,7 +175,7 @@ impl Words {
         requires own { seat.old.words ≡ self.now.id }
         requires end { is_call_end to ≡ true }
         ensures own { IsSameSeat seat.old seat.new }
-        ensures answer { MatchRaced result seat.old.view self.now.slots op to seat.new.view }
+        ensures returned { MatchRaced result seat.old.view self.now.slots op to seat.new.view }
         ensures rule { op.slot < self.now.slots → IsKnownCaller self.now.slots seat.new.view }
     {
         if op.slot >= self.slots {
@@ -209,7 +209,7 @@ impl Words {
     pub fn poll(&self, seat: &mut CallSeat, op: OpName) -> Polled
         requires own { seat.old.words ≡ self.now.id }
         ensures own { IsSameSeat seat.old seat.new }
-        ensures answer { MatchPolled result seat.old.view self.now.slots op seat.new.view }
+        ensures returned { MatchPolled result seat.old.view self.now.slots op seat.new.view }
         ensures rule { op.slot < self.now.slots → IsKnownCaller self.now.slots seat.new.view }
     {
         if op.slot >= self.slots {
@@ -239,7 +239,7 @@ impl Words {
         requires name { IsName core.old.view self.now.slots op }
         ensures core { core.new.words ≡ core.old.words }
         ensures own { (seat.new.words ≡ seat.old.words) × (seat.new.view ≡ seat.old.view) }
-        ensures answer { CoreSaw (learned core.old.view seat.old.view) (of_op op result.phase result.by) core.new.view }
+        ensures returned { CoreSaw (learned core.old.view seat.old.view) (of_op op result.phase result.by) core.new.view }
         ensures seen { is_decided result.phase ≡ true → HasSeen core.new.view op.slot }
         ensures rule { IsKnownCore self.now.slots core.new.view }
         ensures read { Agrees (of_op op result.phase result.by) seat.old.view.reads }

@@ -19,19 +19,19 @@
 //! only `words` and `Words::share` take memory.
 #![tactic(auto)]
 
-mod answers;
 mod calls;
 mod law;
 mod make;
 mod phase;
+mod results;
 mod rule;
 mod seats;
 mod word;
 
-pub use answers::{Decided, Look, Polled, Raced, Worn};
 pub use calls::Words;
 pub use law::{rule_gives_one_winner, wins_are_the_callers};
 pub use make::words;
 pub use phase::Phase;
+pub use results::{Decided, Look, Polled, Raced, Worn};
 pub use rule::{JoinedWins, SeatRole, ShownOperation, WordsRule, WordsView};
 pub use seats::{CallSeat, CoreSeat, SeatList};

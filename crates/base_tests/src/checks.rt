@@ -5,10 +5,10 @@ use std::fmt::Debug;
 use std::process::Abort;
 
 /// What was made.
-pub fn made<T, E: Debug + Drop>(rt: &impl Abort, answer: Result<T, E>) -> T
-    ensures { answer ≡ Ok result }
+pub fn made<T, E: Debug + Drop>(rt: &impl Abort, returned: Result<T, E>) -> T
+    ensures { returned ≡ Ok result }
 {
-    match answer {
+    match returned {
         Ok(it) => it,
         Err(e) => panic!(rt; "{e:?}"),
     }
@@ -25,11 +25,11 @@ pub fn holds(rt: &impl Abort, it: bool) {
 }
 
 /// It succeeded.
-pub fn is_ok<T: Drop, E: Drop>(rt: &impl Abort, answer: Result<T, E>) {
-    assert!(rt; answer.is_ok());
+pub fn is_ok<T: Drop, E: Drop>(rt: &impl Abort, returned: Result<T, E>) {
+    assert!(rt; returned.is_ok());
 }
 
 /// Nothing is there.
-pub fn is_none<T: Drop>(rt: &impl Abort, answer: Option<T>) {
-    assert!(rt; answer.is_none());
+pub fn is_none<T: Drop>(rt: &impl Abort, returned: Option<T>) {
+    assert!(rt; returned.is_none());
 }

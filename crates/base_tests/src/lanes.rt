@@ -93,8 +93,8 @@ fn lanes_give_in_order(rt: HostRuntime) {
 }
 
 // The number of the result, or 0.
-fn number(answer: Result<LaneWire, InprocError>) -> u32 {
-    match answer {
+fn number(returned: Result<LaneWire, InprocError>) -> u32 {
+    match returned {
         Ok(_) => 0,
         Err(InprocError::InUse) => 10,
         Err(InprocError::NoEntry) => 12,

@@ -1,7 +1,7 @@
 //! Words of operations: ends that race, and names that are worn.
 ghost use Rattle.std.specs.Prelude.{◌≡◌, ◌<◌, true};
 ghost use Rattle.aio_word.specs.Word.{is_core_end};
-ghost use Rattle.aio_word.specs.Answers.{HasSeen, IsName};
+ghost use Rattle.aio_word.specs.Results.{HasSeen, IsName};
 
 use crate::checks::{holds, is_none, made, same};
 use aio_word::{CallSeat, CoreSeat, Decided, Look, Phase, Polled, Raced, Words, words};

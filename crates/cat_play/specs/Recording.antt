@@ -112,8 +112,8 @@ pub record Carries (z : Setting) (past : List Entry) (p : ℕ) (link : LinkView)
   pub written : Told link.written (λ written. IsPrefix written (text (role_number z.role) (outs past p)))
 
 -- the last frame of the pipe is malformed
-abbrev pub fell_for_frame : Setting → List Entry → ℕ → Bool
-fell_for_frame z past p = last_is_malformed z past p
+abbrev pub went_down_for_frame : Setting → List Entry → ℕ → Bool
+went_down_for_frame z past p = last_is_malformed z past p
 
 -- all that the link shows was pulled
 abbrev pub IsDrained : Setting → ℕ → List Entry → ℕ → LinkView → Type 0
@@ -122,19 +122,19 @@ IsDrained z max past p link = Told link.came (λ came. frames past p ≡ shows (
 -- why a pipe over TCP went down: its link has ended, and all that it shows was pulled; its link has failed; its last frame
 -- is malformed, or the link shows a message above the limit, and all before it was pulled; never for a refusal; the
 -- close and out of memory are free
-abbrev pub FellFor : Setting → ℕ → List Entry → ℕ → Why → LinkView → Type 0
-FellFor z max past p whys.Ended link = (link.ended ≡ true) × IsDrained z max past p link
-FellFor z max past p whys.Failed link = 1 ≤ link.faults
-FellFor z max past p whys.Malformed link =
-    IsTrue (fell_for_frame z past p) ⊎ (Told link.came (IsOversize (peer_number z.role) max) × IsDrained z max past p link)
-FellFor z max past p whys.Refusal link = ⊥
-FellFor z max past p whys.Closed link = ⊤
-FellFor z max past p whys.NoMemory link = ⊤
+abbrev pub WentDownFor : Setting → ℕ → List Entry → ℕ → Why → LinkView → Type 0
+WentDownFor z max past p whys.Ended link = (link.ended ≡ true) × IsDrained z max past p link
+WentDownFor z max past p whys.Failed link = 1 ≤ link.faults
+WentDownFor z max past p whys.Malformed link =
+    IsTrue (went_down_for_frame z past p) ⊎ (Told link.came (IsOversize (peer_number z.role) max) × IsDrained z max past p link)
+WentDownFor z max past p whys.Refusal link = ⊥
+WentDownFor z max past p whys.Closed link = ⊤
+WentDownFor z max past p whys.NoMemory link = ⊤
 
 -- of a pipe over this link: over TCP its texts, and why it went down
 pub record IsLinkOf (z : Setting) (max : ℕ) (past : List Entry) (p : ℕ) (link : LinkView) : Type 0 where
   pub texts : link.scheme ≡ schemes.Tcp → Carries z past p link
-  pub fell : link.scheme ≡ schemes.Tcp → (why : Why) → down_for past p ≡ Some why → FellFor z max past p why link
+  pub went_down : link.scheme ≡ schemes.Tcp → (why : Why) → down_for past p ≡ Some why → WentDownFor z max past p why link
 
 -- a told link of TCP that holds all that was put on its pipe
 abbrev pub HoldsAll : Setting → List Entry → ℕ → LinkView → Type 0

@@ -27,7 +27,7 @@ pub const CTX: Ctx = Ctx(0);
 /// How long a survey is live, in milliseconds: what a socket has where nobody sets it.
 const SURVEY_TIME: u64 = 1_000;
 
-/// What the play is to be: the plan without its ends.
+/// What the play is to be: the plan without its ends (nngcat(1)).
 #[derive(Drop)]
 pub struct Script {
     /// The role of its socket.
@@ -48,7 +48,7 @@ pub struct Script {
     pub format: Format,
 }
 
-/// How a play ended.
+/// How a play ended (nngcat(1)).
 #[derive(Clone, Copy, Debug, PartialEq, Eq)]
 pub enum PlayEnd {
     /// It goes on.

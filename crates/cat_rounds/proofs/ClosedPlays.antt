@@ -39,15 +39,15 @@ none_ends f step callers [] es is = rw is refl
 none_ends f step callers (s ∷ ss) es (cause, by, rest, is, may, more) =
     rw (is, step s.op (Gone cause by)) (none_ends f step callers ss rest more)
 
-none_fall : (f : Entry → Bool) → ((p : ℕ) → f (Stall p) ≡ false) → ((p : ℕ) → f (Clear p) ≡ false) → ((p : ℕ) (why : Why) → f (Down p why) ≡ false) → (p : ℕ) (es : List Entry) → GoesDownAs p es → none_of f es ≡ true
-none_fall f stall clear down p es (inl is) = rw (is, stall p, down p whys.Closed) refl
-none_fall f stall clear down p es (inr (inl is)) = rw (is, clear p, down p whys.Closed) refl
-none_fall f stall clear down p es (inr (inr (why, other, is))) = rw (is, down p why) refl
+none_down : (f : Entry → Bool) → ((p : ℕ) → f (Stall p) ≡ false) → ((p : ℕ) → f (Clear p) ≡ false) → ((p : ℕ) (why : Why) → f (Down p why) ≡ false) → (p : ℕ) (es : List Entry) → GoesDownAs p es → none_of f es ≡ true
+none_down f stall clear down p es (inl is) = rw (is, stall p, down p whys.Closed) refl
+none_down f stall clear down p es (inr (inl is)) = rw (is, clear p, down p whys.Closed) refl
+none_down f stall clear down p es (inr (inr (why, other, is))) = rw (is, down p why) refl
 
-none_falls : (f : Entry → Bool) → ((p : ℕ) → f (Stall p) ≡ false) → ((p : ℕ) → f (Clear p) ≡ false) → ((p : ℕ) (why : Why) → f (Down p why) ≡ false) → (ps : List ℕ) (es : List Entry) → AreDownsOf ps es → none_of f es ≡ true
-none_falls f stall clear down [] es is = rw is refl
-none_falls f stall clear down (p ∷ ps) es (falls, rest, is, fell, more) =
-    rw is (none_both f falls rest (none_fall f stall clear down p falls fell) (none_falls f stall clear down ps rest more))
+none_downs : (f : Entry → Bool) → ((p : ℕ) → f (Stall p) ≡ false) → ((p : ℕ) → f (Clear p) ≡ false) → ((p : ℕ) (why : Why) → f (Down p why) ≡ false) → (ps : List ℕ) (es : List Entry) → AreDownsOf ps es → none_of f es ≡ true
+none_downs f stall clear down [] es is = rw is refl
+none_downs f stall clear down (p ∷ ps) es (downs, rest, is, went_down, more) =
+    rw is (none_both f downs rest (none_down f stall clear down p downs went_down) (none_downs f stall clear down ps rest more))
 
 -- what comes before its Close
 pub close_stands : (callers : ℕ) (past : List Entry) (t : Turn Entry) (c : ClosesSo callers past t) → t.entries ≡ (c.ends ++ c.down_entries) ++ Close c.totals ∷ []
@@ -56,7 +56,7 @@ close_stands callers past t c = c.entries ∙ sym (append_assoc c.ends c.down_en
 pub none_before_close : (f : Entry → Bool) → ((op : OpName) (x : Ending) → f (End op x) ≡ false) → ((p : ℕ) → f (Stall p) ≡ false) → ((p : ℕ) → f (Clear p) ≡ false) → ((p : ℕ) (why : Why) → f (Down p why) ≡ false)
     → (callers : ℕ) (past : List Entry) (t : Turn Entry) (c : ClosesSo callers past t) → none_of f (c.ends ++ c.down_entries) ≡ true
 none_before_close f end stall clear down callers past t c =
-    none_both f c.ends c.down_entries (none_ends f end callers (pend past) c.ends c.ended) (none_falls f stall clear down (up past) c.down_entries c.gone_down)
+    none_both f c.ends c.down_entries (none_ends f end callers (pend past) c.ends c.ended) (none_downs f stall clear down (up past) c.down_entries c.gone_down)
 
 pub silent_before_close : (callers : ℕ) (past : List Entry) (t : Turn Entry) (c : ClosesSo callers past t) → none_of moves_play (c.ends ++ c.down_entries) ≡ true
 silent_before_close = none_before_close moves_play (λ op x. refl) (λ p. refl) (λ p. refl) (λ p why. refl)

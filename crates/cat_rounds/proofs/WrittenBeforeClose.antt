@@ -63,28 +63,28 @@ down_here : (past : List Entry) (p : ℕ) (why : Why) (b : Bool) → (if b then 
 down_here past p why true h = inl refl
 down_here past p why false h = inr h
 
-one_fell : (q : ℕ) (es : List Entry) → GoesDownAs q es → (past : List Entry) (p : ℕ) → down_for (onto es past) p ≡ Some whys.Closed → ((q == p) ≡ true) ⊎ (down_for past p ≡ Some whys.Closed)
-one_fell q es (inl is) past p down =
+one_down : (q : ℕ) (es : List Entry) → GoesDownAs q es → (past : List Entry) (p : ℕ) → down_for (onto es past) p ≡ Some whys.Closed → ((q == p) ≡ true) ⊎ (down_for past p ≡ Some whys.Closed)
+one_down q es (inl is) past p down =
     down_here past p whys.Closed (q == p) (subst (λ (es : List Entry). down_for (onto es past) p ≡ Some whys.Closed) is down)
-one_fell q es (inr (inl is)) past p down =
+one_down q es (inr (inl is)) past p down =
     down_here past p whys.Closed (q == p) (subst (λ (es : List Entry). down_for (onto es past) p ≡ Some whys.Closed) is down)
-one_fell q es (inr (inr (why, other, is))) past p down =
+one_down q es (inr (inr (why, other, is))) past p down =
     down_here past p why (q == p) (subst (λ (es : List Entry). down_for (onto es past) p ≡ Some whys.Closed) is down)
 
 -- a pipe that went down with them was one of these, or was down before
-all_fell : (ps : List ℕ) (es : List Entry) → AreDownsOf ps es → (past : List Entry) (p : ℕ) → down_for (onto es past) p ≡ Some whys.Closed → (has ps p ≡ true) ⊎ (down_for past p ≡ Some whys.Closed)
-all_fell [] es is past p down =
+all_down : (ps : List ℕ) (es : List Entry) → AreDownsOf ps es → (past : List Entry) (p : ℕ) → down_for (onto es past) p ≡ Some whys.Closed → (has ps p ≡ true) ⊎ (down_for past p ≡ Some whys.Closed)
+all_down [] es is past p down =
     inr (subst (λ (es : List Entry). down_for (onto es past) p ≡ Some whys.Closed) is down)
-all_fell (q ∷ ps) es (falls, rest, is, fell, more) past p down =
-    later (all_fell ps rest more (onto falls past) p (sym (ap (λ (x : List Entry). down_for x p) (onto-append falls rest past)) ∙ subst (λ (es : List Entry). down_for (onto es past) p ≡ Some whys.Closed) is down))
+all_down (q ∷ ps) es (downs, rest, is, went_down, more) past p down =
+    later (all_down ps rest more (onto downs past) p (sym (ap (λ (x : List Entry). down_for x p) (onto-append downs rest past)) ∙ subst (λ (es : List Entry). down_for (onto es past) p ≡ Some whys.Closed) is down))
   where
     here : ((q == p) ≡ true) ⊎ (down_for past p ≡ Some whys.Closed) → (has (q ∷ ps) p ≡ true) ⊎ (down_for past p ≡ Some whys.Closed)
     here (inl e) = inl (rw e refl)
     here (inr d) = inr d
 
-    later : (has ps p ≡ true) ⊎ (down_for (onto falls past) p ≡ Some whys.Closed) → (has (q ∷ ps) p ≡ true) ⊎ (down_for past p ≡ Some whys.Closed)
+    later : (has ps p ≡ true) ⊎ (down_for (onto downs past) p ≡ Some whys.Closed) → (has (q ∷ ps) p ≡ true) ⊎ (down_for past p ≡ Some whys.Closed)
     later (inl e) = inl (rw e (or_true (q == p)))
-    later (inr d) = here (one_fell q falls fell past p d)
+    later (inr d) = here (one_down q downs went_down past p d)
 
 one_cleared : (q : ℕ) (es : List Entry) → GoesDownAs q es → (past : List Entry) (p : ℕ) → is_cleared past p ≡ true → is_cleared (onto es past) p ≡ true
 one_cleared q es (inl is) past p h = rw is h
@@ -93,8 +93,8 @@ one_cleared q es (inr (inr (why, other, is))) past p h = rw is h
 
 all_cleared : (ps : List ℕ) (es : List Entry) → AreDownsOf ps es → (past : List Entry) (p : ℕ) → is_cleared past p ≡ true → is_cleared (onto es past) p ≡ true
 all_cleared [] es is past p h = rw is h
-all_cleared (q ∷ ps) es (falls, rest, is, fell, more) past p h =
-    rw (is, onto-append falls rest past) (all_cleared ps rest more (onto falls past) p (one_cleared q falls fell past p h))
+all_cleared (q ∷ ps) es (downs, rest, is, went_down, more) past p h =
+    rw (is, onto-append downs rest past) (all_cleared ps rest more (onto downs past) p (one_cleared q downs went_down past p h))
 
 -- ---- The turns behind it
 
@@ -131,7 +131,7 @@ past_later past (t ∷ h) turns = past_later (onto t.entries past) h turns
 at_close : (z : Setting) (callers : ℕ) (h : List (Turn Entry)) (t : Turn Entry) → Legal z h → is_closed (past_of h) ≡ false → AreCleared (past_of h) → ClosesSo callers (past_of h) t → (p : ℕ) → down_for (past_of (h ++ t ∷ [])) p ≡ Some whys.Closed
     → is_cleared (past_of (h ++ t ∷ [])) p ≡ true
 at_close z callers h t legal open_ cleared c p down =
-    subst (λ (past : List Entry). is_cleared past p ≡ true) (sym is) (all_cleared (up (past_of h)) c.down_entries c.gone_down before p (go (all_fell (up (past_of h)) c.down_entries c.gone_down before p (subst (λ (past : List Entry). down_for past p ≡ Some whys.Closed) is down))))
+    subst (λ (past : List Entry). is_cleared past p ≡ true) (sym is) (all_cleared (up (past_of h)) c.down_entries c.gone_down before p (go (all_down (up (past_of h)) c.down_entries c.gone_down before p (subst (λ (past : List Entry). down_for past p ≡ Some whys.Closed) is down))))
   where
     before : List Entry
     before = onto c.ends (past_of h)

@@ -25,7 +25,7 @@ use std::sync::Wait;
 /// How many operations the socket of a run has at once.
 const SLOTS: u32 = 16;
 
-/// What a run returns.
+/// What a run returns (nngcat(1)).
 #[derive(Drop)]
 pub struct CatEnd {
     /// Why it ended.
@@ -45,7 +45,7 @@ fn unopened(status: Status) -> CatEnd
 }
 
 /// A plan that is to be played, with the runtime by which its run waits. `dice` is the number of which its socket is
-/// made; the keys of WebSocket openings are made from it too.
+/// made; the keys of WebSocket openings are made from it too (nngcat(1)).
 pub struct PlannedRun<'r, R> {
     /// The runtime.
     pub rt: &'r R,

@@ -5,10 +5,10 @@ use std::fmt::Debug;
 use std::process::Abort;
 
 /// What was made.
-pub fn made<T, E: Debug + Drop>(rt: &impl Abort, answer: Result<T, E>) -> T
-    ensures { answer ≡ Ok result }
+pub fn made<T, E: Debug + Drop>(rt: &impl Abort, returned: Result<T, E>) -> T
+    ensures { returned ≡ Ok result }
 {
-    match answer {
+    match returned {
         Ok(it) => it,
         Err(e) => panic!(rt; "{e:?}"),
     }
@@ -25,6 +25,6 @@ pub fn holds(rt: &impl Abort, it: bool) {
 }
 
 /// It succeeded, and holds.
-pub fn is_true<E: Drop>(rt: &impl Abort, answer: Result<bool, E>) {
-    assert!(rt; matches!(answer, Ok(true)));
+pub fn is_true<E: Drop>(rt: &impl Abort, returned: Result<bool, E>) {
+    assert!(rt; matches!(returned, Ok(true)));
 }

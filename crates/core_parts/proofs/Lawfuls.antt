@@ -17,7 +17,7 @@ use Rattle.sp_history.specs.Past.{is_of, without_begun, pend, pending, begins, e
 use Rattle.sp_history.specs.Once.{occurs, end_count}
 use Rattle.sp_history.specs.Legal.{Allowed, MayCome, Follows, LegalFrom, is_at}
 use Rattle.sp_history.proofs.OnceHolds.{Counted, counted_next, Closes, closes_next, same_op-eq, occurs-append, occurs-without, occurs-without_other, occurs-find}
-use Rattle.sp_history.specs.Moments.{Moment, past, also, Back, Lawful, starts_back, may_start}
+use Rattle.sp_history.specs.Moments.{Moment, past, also, AllowedBack, Lawful, starts_back, may_start}
 use Rattle.core_parts.specs.Ends.{decided, end_of}
 
 -- ---- Induction
@@ -31,7 +31,7 @@ module _ (z : Setting) (Q : List Entry → Type 0) (step : (k : ℕ) (before : L
   along before [] q l = q
   along before (t ∷ history) q l = along (onto t.entries before) history (along_turn t.number before t.entries q l.0.entries) l.1
 
-  along_back : (k : ℕ) (before turn : List Entry) → Q before → Back z k before turn → Q (turn ++ before)
+  along_back : (k : ℕ) (before turn : List Entry) → Q before → AllowedBack z k before turn → Q (turn ++ before)
   along_back k before [] q b = q
   along_back k before (e ∷ turn) q b = step k (turn ++ before) e (along_back k before turn q b.1) b.0
 

@@ -11,7 +11,7 @@ use Rattle.aio_word.specs.declared.rule.WordsView.{WordsView}
 use Rattle.aio_word.specs.Word.{is_decided}
 use Rattle.aio_word.specs.declared.rule.ShownOperation as words
 use Rattle.aio_word.specs.Views.{times, noted}
-use Rattle.aio_word.specs.Answers.{HasSeen, IsName, IsFound, CoreSaw, CoreTook, of_op}
+use Rattle.aio_word.specs.Results.{HasSeen, IsName, IsFound, CoreSaw, CoreTook, of_op}
 use Rattle.aio_word.specs.Meanings.{BeganAt}
 use Rattle.sp_history.specs.declared.entry.RecordedAct.{RecordedAct}
 use Rattle.sp_history.specs.declared.entry.Entry.{Entry}

@@ -205,9 +205,9 @@ module _ {W : Type 0} (shown : W → WireView) where
       }
 
   -- the pipe goes down, with a wire that shows why
-  fell : (l m : Pipes W) (t : Moment) (r : ℕ) (u : UpPipe W) (w : W) (why : Why) → Lawful t → PipesStand shown l t → r < length (up_pipes l) → u ≡ get_or (up_pipes l) r u → GoesDown t.z (past t) u.id why (shown w)
+  went_down : (l m : Pipes W) (t : Moment) (r : ℕ) (u : UpPipe W) (w : W) (why : Why) → Lawful t → PipesStand shown l t → r < length (up_pipes l) → u ≡ get_or (up_pipes l) r u → GoesDown t.z (past t) u.id why (shown w)
       → up_pipes m ≡ remove (up_pipes l) r → numbers m.places.items ≡ numbers l.places.items → m.count + 1 ≡ l.count → m.down.items ≡ l.down.items ++ record { id = u.id; why = why; wire = w } ∷ [] → deque_capacity m.down ≡ deque_capacity l.down → PipesStand shown m (also t (Down u.id why))
-  fell l m t r u w why lawful h inside at so us ns cs ds room =
+  went_down l m t r u w why lawful h inside at so us ns cs ds room =
       let apart : AreDistinct (ids (up_pipes l)) = rw h.up_is (ups_distinct t lawful) in
       let none = is_not_down l t u.id lawful h (is_up l t r u h inside at) in
       let itself : IsDownWire t.z (Down u.id why ∷ past t) u.id why (shown w) = record { agrees = so.0; why_is = rw (same_number u.id) refl; shows = shows_still t.z (past t) (Down u.id why ∷ past t) u.id why (shown w) refl (λ k. k) so.1 } in
@@ -272,7 +272,7 @@ module _ {W : Type 0} (shown : W → WireView) where
       let left : m.places.items ≡ set l.places.items i (record { id = x.id; wire = None }) = out.places y now ∙ ap (λ (xs : List (PipePlace W)). set xs i (record { id = x.id; wire = None })) us ∙ set_twice l.places.items i y (record { id = x.id; wire = None }) in
       let so : GoesDown t.z (past t) x.id why (shown w) = subst (λ (q : ℕ). GoesDown t.z (past t) q why (shown w)) (sym id) (goes (subst (λ (q : ℕ). IsUpWire (past t) q (shown v)) id (wire_at l t i x v h there.inside at holds))) in
       subst (λ (q : ℕ). PipesStand shown m (also t (Down q why))) id
-      (fell l m t r.rank (record { id = x.id; wire = v }) w why lawful h r.inside r.is so (ap held left ∙ r.emptied) (ap numbers left ∙ numbers_same l.places.items i x None at) (out.count ∙ cs) (out.down y w now refl ∙ ap (λ (d : _). d.items ++ record { id = x.id; why = why; wire = w } ∷ []) ds) (out.room ∙ ap deque_capacity ds))
+      (went_down l m t r.rank (record { id = x.id; wire = v }) w why lawful h r.inside r.is so (ap held left ∙ r.emptied) (ap numbers left ∙ numbers_same l.places.items i x None at) (out.count ∙ cs) (out.down y w now refl ∙ ap (λ (d : _). d.items ++ record { id = x.id; why = why; wire = w } ∷ []) ds) (out.room ∙ ap deque_capacity ds))
 
   -- ---- What the calls ask
 

@@ -9,7 +9,7 @@ use Rattle.aio_word.specs.declared.rule.WordsView.{WordsView}
 use Rattle.aio_word.specs.Sight.{Sight}
 use Rattle.aio_word.specs.Word.{is_decided}
 use Rattle.aio_word.specs.Views.{Each, learned, saw}
-use Rattle.aio_word.specs.Answers.{Agrees, CallStale, CoreSaw, of_op}
+use Rattle.aio_word.specs.Results.{Agrees, CallStale, CoreSaw, of_op}
 use Rattle.sp_history.specs.declared.parts.Begun.{Begun}
 use Rattle.sp_history.specs.Past.{pending}
 use Rattle.sp_history.specs.Moments.{Moment, past, Lawful}

@@ -5,7 +5,7 @@ use Rattle.sp_msg.specs.Views.{MessageView}
 use Rattle.aio_word.specs.declared.phase.Phase.{Phase}
 use Rattle.aio_word.specs.declared.phase.Phase.TheVariants as phase
 use Rattle.aio_word.specs.declared.rule.ShownOperation as word
-use Rattle.aio_word.specs.Answers.{of_op}
+use Rattle.aio_word.specs.Results.{of_op}
 use Rattle.sp_history.specs.declared.entry.RecordedMessage.{RecordedMessage}
 use Rattle.sp_history.specs.declared.entry.RecordedAct.{RecordedAct}
 use Rattle.sp_history.specs.declared.entry.RecordedAct.TheVariants.{Recv, Send}

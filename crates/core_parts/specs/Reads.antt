@@ -3,7 +3,7 @@ use Rattle.std.specs.Prelude.{◌≡◌, ◌⊎◌, ℕ, Bool, true, false, List
 use Rattle.sp_base.specs.declared.OpName.{OpName}
 use Rattle.aio_word.specs.declared.phase.Phase.TheVariants as phase
 use Rattle.aio_word.specs.declared.rule.ShownOperation as word
-use Rattle.aio_word.specs.Answers.{of_op}
+use Rattle.aio_word.specs.Results.{of_op}
 use Rattle.aio_word.specs.declared.phase.Phase.{Phase}
 use Rattle.aio_word.specs.declared.rule.WordsView.{WordsView}
 use Rattle.aio_word.specs.Word.{is_decided}

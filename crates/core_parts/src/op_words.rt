@@ -11,7 +11,7 @@ use aio_word::{CoreSeat, Decided, Phase, Words};
 use sp_base::OpName;
 use sp_history::entry::Cause;
 
-/// What a word was decided to.
+/// What a word was decided to (nng_aio_result(3)).
 #[derive(Clone, Copy, PartialEq, Eq, Debug)]
 pub enum Decision {
     /// The core's exchange took.
@@ -20,7 +20,7 @@ pub enum Decision {
     Gone { cause: Cause, by: u32 },
 }
 
-/// The words, with the one seat that begins and decides operations.
+/// The words, with the one seat that begins and decides operations (nng_aio(5)).
 #[derive(Drop)]
 pub struct OpWords {
     /// One word a slot.

@@ -22,7 +22,7 @@ pub struct EndedOperation {
     pub outcome: Outcome,
 }
 
-/// The operations of a socket.
+/// The operations of a socket (nng_aio(5)).
 #[derive(Drop)]
 pub struct Operations {
     /// Those that were begun and have not ended.

@@ -28,7 +28,7 @@ pub struct PipePlace<W> {
     pub wire: Option<W>,
 }
 
-/// A pipe that is down and whose wire was not taken.
+/// A pipe that is down and whose wire was not taken (nng_pipe_close(3)).
 #[derive(Drop)]
 pub struct DownPipe<W> {
     /// Its number.
@@ -167,7 +167,7 @@ impl<W: Wire> Pipes<W> {
     pub fn take_down(&mut self, i: usize, why: Why) -> Asked
         requires there { HasPlace self.old i }
         requires room { length self.old.down.items < deque_capacity self.old.down }
-        ensures answer { result ≡ Asked.Down why }
+        ensures returned { result ≡ Asked.Down why }
         ensures empties { EmptiesPlace i why self.old self.new }
     {
         let place = &mut self.places[i];

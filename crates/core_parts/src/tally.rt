@@ -13,7 +13,7 @@ ghost use Rattle.core_parts.specs.PartSteps.{CountsUp, CountsBegun, CountsWon, C
 use sp_base::Tick;
 use sp_history::entry::Totals;
 
-/// How many pipes came up, the totals, each of these up to 2^64 - 1, and the last tick.
+/// How many pipes came up, the totals, each of these up to 2^64 - 1, and the last tick (nng_stat(5)).
 #[derive(Clone, Copy, PartialEq, Eq, Debug)]
 pub struct Tally {
     /// How many pipes came up.

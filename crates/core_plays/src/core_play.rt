@@ -1,5 +1,5 @@
 //! A core plays a table.
-use crate::answers::{
+use crate::results::{
     back, is_down, is_gone, is_message, is_put, is_received, is_sent, is_worded, message, now_code,
     recv_code, shut_code, topic_code, totals,
 };

@@ -3,8 +3,8 @@
 //! A test written out call by call costs the prover a hundred times what its table costs.
 #![tactic(auto)]
 
-mod answers;
 mod core_play;
+mod results;
 mod steps;
 mod wires;
 

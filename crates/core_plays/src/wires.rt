@@ -133,16 +133,16 @@ impl Wire for PlayWire {
     ghost shown = { λ w. wire_view Nameless None None 0 false w.marks };
 
     fn pull<R: Wait>(&mut self, _rt: &R) -> WireIn {
-        let answer = self.next();
-        self.marks.pulled(&answer);
-        answer
+        let returned = self.next();
+        self.marks.pulled(&returned);
+        returned
     }
 
     fn room<R: Wait>(&mut self, _rt: &R) -> Room {
         self.asked = self.asked.saturating_add(1);
-        let answer = self.has_room();
-        self.marks.roomed(answer);
-        answer
+        let returned = self.has_room();
+        self.marks.roomed(returned);
+        returned
     }
 
     fn put<R: Wait>(&mut self, _rt: &R, m: Message) {

@@ -16,8 +16,8 @@ use std::process::Abort;
 use std::sync::Wait;
 
 /// What was made; there is memory for it.
-pub fn made<T>(rt: &impl Abort, answer: Result<T, NoMemory>) -> T {
-    match answer {
+pub fn made<T>(rt: &impl Abort, returned: Result<T, NoMemory>) -> T {
+    match returned {
         Ok(it) => it,
         Err(_) => panic!(rt; "no memory"),
     }
@@ -111,6 +111,6 @@ pub fn holds(rt: &impl Abort, it: bool) {
 }
 
 /// It succeeded.
-pub fn is_ok<T: Drop, E: Drop>(rt: &impl Abort, answer: Result<T, E>) {
-    assert!(rt; answer.is_ok());
+pub fn is_ok<T: Drop, E: Drop>(rt: &impl Abort, returned: Result<T, E>) {
+    assert!(rt; returned.is_ok());
 }

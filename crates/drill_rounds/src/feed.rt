@@ -30,10 +30,10 @@ impl Model for Feed {
     ghost invariant = { λ f. IsFeed f.wire f.lost };
 }
 
-fn is_lost(answer: &WireIn) -> bool
-    ensures { result ≡ is_lost answer.now }
+fn is_lost(returned: &WireIn) -> bool
+    ensures { result ≡ is_lost returned.now }
 {
-    match answer {
+    match returned {
         WireIn::NoMemory => true,
         WireIn::Message(_) => false,
         WireIn::NotYet => false,
@@ -82,9 +82,9 @@ impl Wire for Feed {
     ghost shown = { λ f. f };
 
     fn pull<R: Wait>(&mut self, rt: &R) -> WireIn {
-        let answer = self.wire.pull(rt);
-        self.lost = either(self.lost, is_lost(&answer));
-        answer
+        let returned = self.wire.pull(rt);
+        self.lost = either(self.lost, is_lost(&returned));
+        returned
     }
 
     fn room<R: Wait>(&mut self, rt: &R) -> Room {

@@ -13,7 +13,7 @@ use std::test::Fail;
 
 /// What a put of a text came to.
 #[derive(Clone, Copy, Debug, PartialEq, Eq)]
-enum PutAnswer {
+enum PutResult {
     Done,
     /// The same message came back.
     Full,
@@ -22,20 +22,20 @@ enum PutAnswer {
 }
 
 // Puts a message of this text.
-fn put<R: Wait>(rt: &R, alloc: Global, input: &mut LaneIn, text: &[u8]) -> Result<PutAnswer, Fail>
+fn put<R: Wait>(rt: &R, alloc: Global, input: &mut LaneIn, text: &[u8]) -> Result<PutResult, Fail>
     ensures { input.new.name ≡ input.old.name }
 {
     let m = Message::from_body(alloc, text)?;
     if input.is_ended() {
-        return Ok(PutAnswer::Wrong);
+        return Ok(PutResult::Wrong);
     }
     Ok(match input.put(rt, m) {
-        Put::Done => PutAnswer::Done,
+        Put::Done => PutResult::Done,
         Put::Full(back) => {
             if back.body() == text {
-                PutAnswer::Full
+                PutResult::Full
             } else {
-                PutAnswer::Wrong
+                PutResult::Wrong
             }
         }
     })
@@ -57,11 +57,11 @@ fn a_full_lane_takes_again_and_an_empty_one_gives_again(rt: HostRuntime) -> Resu
     let alloc = rt.alloc();
     let (mut input, mut output) = lane(alloc, 1)?;
     holds(&rt, matches!(output.take(&rt), Taken::Empty));
-    same(&rt, put(&rt, alloc, &mut input, b"a")?, PutAnswer::Done);
-    same(&rt, put(&rt, alloc, &mut input, b"b")?, PutAnswer::Full);
+    same(&rt, put(&rt, alloc, &mut input, b"a")?, PutResult::Done);
+    same(&rt, put(&rt, alloc, &mut input, b"b")?, PutResult::Full);
     holds(&rt, gives(&rt, &mut output, b"a"));
     holds(&rt, matches!(output.take(&rt), Taken::Empty));
-    same(&rt, put(&rt, alloc, &mut input, b"b")?, PutAnswer::Done);
+    same(&rt, put(&rt, alloc, &mut input, b"b")?, PutResult::Done);
     holds(&rt, gives(&rt, &mut output, b"b"));
     Ok(())
 }
@@ -71,7 +71,7 @@ fn fill<R: Wait>(rt: &R, alloc: Global, input: &mut LaneIn, most: u32) -> Result
     ensures { input.new.name ≡ input.old.name }
 {
     for n in 0..most {
-        if put(rt, alloc, input, b"x")? != PutAnswer::Done {
+        if put(rt, alloc, input, b"x")? != PutResult::Done {
             return Ok(n);
         }
     }
@@ -122,7 +122,7 @@ fn takes_what_is_left<R: Wait>(rt: &R, input: &mut LaneIn, output: &mut LaneOut)
 }
 
 #[test]
-fn ends_that_were_told_answer_by_it(rt: HostRuntime) {
+fn ends_that_were_told_go_by_it(rt: HostRuntime) {
     let (mut input, mut output) = made(&rt, lane(rt.alloc(), 1));
     let m = made(&rt, Message::from_body(rt.alloc(), b"a"));
     holds(

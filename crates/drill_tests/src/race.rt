@@ -205,12 +205,12 @@ fn waits_for<R: Wait>(
     let waits = is_nothing_due(rt, socket, &mut crew.four, Tick(0));
     let given = collect_all(rt, socket, &mut crew.main, &mut ops);
     ops.destroy_empty();
-    let answer = if begun && given == 0 {
+    let returned = if begun && given == 0 {
         Some(waits)
     } else {
         None
     };
-    (crew, answer)
+    (crew, returned)
 }
 
 // A round without messages and without tasks, as the first one. How many messages its receives got, where they waited

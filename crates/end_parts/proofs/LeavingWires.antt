@@ -36,7 +36,7 @@ use Rattle.end_wire.specs.EndWires.{shown, link_of, Stands, IsOverLanes}
 use Rattle.end_wire.specs.declared.wire.EndWire.{EndWire}
 use Rattle.end_wire.specs.declared.wire.EndWire.TheVariants as wires
 use Rattle.end_wire.proofs.WayNumbers.{one_way}
-use Rattle.cat_play.specs.Recording.{lane_place, place_of, greeting, Each, FellFor, IsDrained}
+use Rattle.cat_play.specs.Recording.{lane_place, place_of, greeting, Each, WentDownFor, IsDrained}
 use Rattle.cat_play.specs.Running.{max_body}
 use Rattle.cat_play.specs.Spending.{greeting_ticks, ticks_where, idle_turns, IsRead}
 use Rattle.end_parts.specs.RunLinks.{IsNoneOr, AreNumbers, name_number, IsNameOver, IsLaneName, IsNamed, HasCarried, IsAskedIn}
@@ -314,14 +314,14 @@ module _ (o : Origins) (z : Setting) (h : List (Turn Entry)) (p place : ℕ) (n 
     too_long : Told v.link.came (λ s. IsOversize (number_in s) v.max s) → Told v.link.came (IsOversize (peer_number z.role) max_body)
     too_long all = told_both _ _ _ v.link.came (λ s a b. subst (λ (m : ℕ). IsOversize (peer_number z.role) m s) over.max_is (subst (λ (k : ℕ). IsOversize k v.max s) b a)) all over.peer
 
-    fell_by : (why : Why) → ShowsWhy z past p why w → FellFor z max_body past p why v.link
-    fell_by whys.Ended s = let f = framed.ended (ap (λ (x : WireView). x.ended) after ∙ s) in (f.0, drained f.1)
-    fell_by whys.Failed s = let same = ap (λ (x : WireView). x.faults) after in omega (arith, s, same, framed.faults)
-    fell_by whys.Malformed (inl s) = inl s
-    fell_by whys.Malformed (inr s) = let f = framed.malformed (ap (λ (x : WireView). x.malformed) after ∙ s) in inr (too_long f.1, drained f.0)
-    fell_by whys.Refusal s = let same = ap (λ (x : WireView). x.refusals) after in absurd (omega (arith, s, same, framed.refusals))
-    fell_by whys.Closed s = tt
-    fell_by whys.NoMemory s = tt
+    went_down_by : (why : Why) → ShowsWhy z past p why w → WentDownFor z max_body past p why v.link
+    went_down_by whys.Ended s = let f = framed.ended (ap (λ (x : WireView). x.ended) after ∙ s) in (f.0, drained f.1)
+    went_down_by whys.Failed s = let same = ap (λ (x : WireView). x.faults) after in omega (arith, s, same, framed.faults)
+    went_down_by whys.Malformed (inl s) = inl s
+    went_down_by whys.Malformed (inr s) = let f = framed.malformed (ap (λ (x : WireView). x.malformed) after ∙ s) in inr (too_long f.1, drained f.0)
+    went_down_by whys.Refusal s = let same = ap (λ (x : WireView). x.refusals) after in absurd (omega (arith, s, same, framed.refusals))
+    went_down_by whys.Closed s = tt
+    went_down_by whys.NoMemory s = tt
 
     why_of : (other : Why) → down_for past p ≡ Some other → why ≡ other
     why_of other e = let same = down.why_is in cc
@@ -333,7 +333,7 @@ module _ (o : Origins) (z : Setting) (h : List (Turn Entry)) (p place : ℕ) (n 
       carried = record {
         opened = (ways.Greeting, (over.scheme, tt), opened);
         carries = λ tcp. record { came = came; written = told_so _ _ v.link.written (λ s a. a.prefix) written };
-        fell = λ tcp other e. subst (λ (y : Why). FellFor z max_body past p y v.link) (why_of other e) (fell_by why down.shows);
+        went_down = λ tcp other e. subst (λ (y : Why). WentDownFor z max_body past p y v.link) (why_of other e) (went_down_by why down.shows);
         read = read_by v.wire v.link after framed.idles;
         whole = λ tcp cleared. told_so _ _ v.link.written (λ s a. a.all (ap (λ (x : WireView). x.waits) after ∙ down.agrees.waits_is cleared)) written;
       };
@@ -370,7 +370,7 @@ module _ (o : Origins) (z : Setting) (h : List (Turn Entry)) (p place : ℕ) (n 
           carried = record {
             opened = (way, (scheme ∙ sym of_way, known), subst (λ (b : Way). HasOpened (run_ways z.role o) b web) same (subst (λ (r : Role). HasOpened (openings r (λ b. ⊤)) v.way web) role stands.begun));
             carries = λ tcp. not_both scheme tcp;
-            fell = λ tcp. not_both scheme tcp;
+            went_down = λ tcp. not_both scheme tcp;
             read = read_by v.wire web after (let t = stands.tied.idles in let i = ap (λ (x : WireView). x.idles) stands.wire in omega (arith, t, i));
             whole = λ tcp. not_both scheme tcp;
           };

@@ -24,7 +24,7 @@ use Rattle.sp_history.proofs.SilentPipes.{down_is_silent}
 use Rattle.cat_play.specs.Openings.{Ways, peer_number}
 use Rattle.link_opening.specs.Origins.{Origins, run_ways}
 use Rattle.cat_play.specs.Playing.{each}
-use Rattle.cat_play.specs.Recording.{place_of, met_at, greeting, keeps_places, Each, HasCause, MissedFor, WasRefused, FellFor}
+use Rattle.cat_play.specs.Recording.{place_of, met_at, greeting, keeps_places, Each, HasCause, MissedFor, WasRefused, WentDownFor}
 use Rattle.cat_play.specs.Running.{max_body}
 use Rattle.cat_play.specs.Spending.{greeting_ticks, IsAsked}
 use Rattle.end_parts.specs.EndViews.{Beginning}
@@ -80,14 +80,14 @@ rests_on place n _ past h r = r
 
 -- ---- A pipe that is back
 
-fell_over : (z : Setting) (max : ℕ) (old new : List Entry) (p : ℕ) (why : Why) (link : LinkView) → frames new p ≡ frames old p → last_is_malformed z new p ≡ last_is_malformed z old p → FellFor z max old p why link → FellFor z max new p why link
-fell_over z max old new p whys.Ended link f m x = (x.0, rw f x.1)
-fell_over z max old new p whys.Failed link f m x = x
-fell_over z max old new p whys.Malformed link f m (inl x) = inl (m ∙ x)
-fell_over z max old new p whys.Malformed link f m (inr x) = inr (x.0, rw f x.1)
-fell_over z max old new p whys.Refusal link f m x = x
-fell_over z max old new p whys.Closed link f m x = tt
-fell_over z max old new p whys.NoMemory link f m x = tt
+went_down_over : (z : Setting) (max : ℕ) (old new : List Entry) (p : ℕ) (why : Why) (link : LinkView) → frames new p ≡ frames old p → last_is_malformed z new p ≡ last_is_malformed z old p → WentDownFor z max old p why link → WentDownFor z max new p why link
+went_down_over z max old new p whys.Ended link f m x = (x.0, rw f x.1)
+went_down_over z max old new p whys.Failed link f m x = x
+went_down_over z max old new p whys.Malformed link f m (inl x) = inl (m ∙ x)
+went_down_over z max old new p whys.Malformed link f m (inr x) = inr (x.0, rw f x.1)
+went_down_over z max old new p whys.Refusal link f m x = x
+went_down_over z max old new p whys.Closed link f m x = tt
+went_down_over z max old new p whys.NoMemory link f m x = tt
 
 module _ (z : Setting) (h turns : List (Turn Entry)) where
   pub carried_over : (o : Origins) (p : ℕ) (link : LinkView) → SameOfPipe p (past_of h) (past_of (h ++ turns)) → last_is_malformed z (past_of (h ++ turns)) p ≡ last_is_malformed z (past_of h) p → is_cleared (past_of (h ++ turns)) p ≡ is_cleared (past_of h) p → HasCarried o z h p link → HasCarried o z (h ++ turns) p link
@@ -95,7 +95,7 @@ module _ (z : Setting) (h turns : List (Turn Entry)) where
       record {
         opened = c.opened;
         carries = λ tcp. let k = c.carries tcp in record { came = subst (λ (fs : List (List ℕ)). Told link.came (λ came. IsPrefix (text (peer_number z.role) fs) came)) (sym s.frames) k.came; written = subst (λ (os : List (List ℕ)). Told link.written (λ written. IsPrefix written (text (role_number z.role) os))) (sym s.outs) k.written };
-        fell = λ tcp why d. fell_over z max_body (past_of h) (past_of (h ++ turns)) p why link s.frames m (c.fell tcp why (sym s.cause ∙ d));
+        went_down = λ tcp why d. went_down_over z max_body (past_of h) (past_of (h ++ turns)) p why link s.frames m (c.went_down tcp why (sym s.cause ∙ d));
         whole = λ tcp e. subst (λ (os : List (List ℕ)). Told link.written (λ written. written ≡ text (role_number z.role) os)) (sym s.outs) (c.whole tcp (sym cl ∙ e));
         read = λ rises. let r = c.read rises in let i = idle_same p h turns s.quiets in let n = ap length s.frames in omega (arith, r, i, n);
       }

@@ -20,7 +20,7 @@ use Rattle.sp_history.specs.declared.entry.Why.{Why}
 use Rattle.sp_history.specs.declared.entry.Miss.{Miss}
 use Rattle.cat_play.specs.Openings.{peer_number, HasOpened, BeganSo}
 use Rattle.cat_play.specs.Playing.{each}
-use Rattle.cat_play.specs.Recording.{lane_place, place_of, met_at, greeting, keeps_places, Each, IsBack, HasCause, MissedFor, Carries, FellFor}
+use Rattle.cat_play.specs.Recording.{lane_place, place_of, met_at, greeting, keeps_places, Each, IsBack, HasCause, MissedFor, Carries, WentDownFor}
 use Rattle.cat_play.specs.Running.{KeepsOthers, max_body}
 use Rattle.cat_play.specs.Spending.{CanRise, greeting_ticks, IsAsked, IsRead, ticks_where, has_room}
 use Rattle.sp_history.specs.Found.{ticks}
@@ -118,7 +118,7 @@ IsNamed o z past _ = ⊤
 pub record HasCarried (o : Origins) (z : Setting) (h : List (Turn Entry)) (p : ℕ) (link : LinkView) : Type 0 where
   pub opened : BeganSo (run_ways z.role o) link (λ way. HasOpened (run_ways z.role o) way link)
   pub carries : link.scheme ≡ schemes.Tcp → Carries z (past_of h) p link
-  pub fell : link.scheme ≡ schemes.Tcp → (why : Why) → down_for (past_of h) p ≡ Some why → FellFor z max_body (past_of h) p why link
+  pub went_down : link.scheme ≡ schemes.Tcp → (why : Why) → down_for (past_of h) p ≡ Some why → WentDownFor z max_body (past_of h) p why link
   pub read : IsRead h p link
   -- over TCP, where all was cleared, all that was put is written
   pub whole : link.scheme ≡ schemes.Tcp → is_cleared (past_of h) p ≡ true → Told link.written (λ written. written ≡ text (role_number z.role) (outs (past_of h) p))

@@ -43,7 +43,7 @@ MayDrain (wires.Lane v) = v.wire.drains ≡ true
 
 -- a lane put what was in hand and its end, if there was room for it
 abbrev pub HangsUp : LaneWireView → LaneWireView → Type 0
-HangsUp old new = (answer : WireFlush) × LaneFlushed answer old new
+HangsUp old new = (returned : WireFlush) × LaneFlushed returned old new
 
 -- a wire within the process did; any other is the same
 abbrev pub TellsEnd : {L : Type 0} → EndWire L → EndWire L → Type 0

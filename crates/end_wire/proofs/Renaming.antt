@@ -13,7 +13,7 @@ use Rattle.link_opening.specs.declared.way.Way.{Way}
 use Rattle.end_wire.specs.Opened.{renamed}
 
 module _ (role : Role) (way : Way) (old new : WireView) where
-  pub pulls : (answer : WireIn) → AfterPull answer old new → AfterPull answer (renamed role way old) (renamed role way new)
+  pub pulls : (returned : WireIn) → AfterPull returned old new → AfterPull returned (renamed role way old) (renamed role way new)
   pulls (ins.Message m) x = (x.0, ap (renamed role way) x.1)
   pulls ins.NotYet x = ap (renamed role way) x
   pulls ins.Ended x = ap (renamed role way) x
@@ -22,28 +22,28 @@ module _ (role : Role) (way : Way) (old new : WireView) where
   pulls ins.Refused x = ap (renamed role way) x
   pulls ins.NoMemory x = ap (renamed role way) x
 
-  room_as : (answer : Room) → RoomAs answer old new → RoomAs answer (renamed role way old) (renamed role way new)
+  room_as : (returned : Room) → RoomAs returned old new → RoomAs returned (renamed role way old) (renamed role way new)
   room_as rooms.Yes x = ap (renamed role way) x
   room_as rooms.Full x = ap (renamed role way) x
   room_as rooms.Failed x = ap (renamed role way) x
   room_as rooms.Refused x = ap (renamed role way) x
   room_as rooms.NoMemory x = ap (renamed role way) x
 
-  pub asks_room : (answer : Room) → AfterRoom answer old new → AfterRoom answer (renamed role way old) (renamed role way new)
-  asks_room answer x = record { shows = room_as answer x.shows; waits = x.waits }
+  pub asks_room : (returned : Room) → AfterRoom returned old new → AfterRoom returned (renamed role way old) (renamed role way new)
+  asks_room returned x = record { shows = room_as returned x.shows; waits = x.waits }
 
   pub puts : (m : MessageView) → AfterPut m old new → AfterPut m (renamed role way old) (renamed role way new)
   puts m x = record { shows = ap (renamed role way) x.shows; low = x.low; high = x.high }
 
-  flushed_as : (answer : WireFlush) → FlushedAs answer old new → FlushedAs answer (renamed role way old) (renamed role way new)
+  flushed_as : (returned : WireFlush) → FlushedAs returned old new → FlushedAs returned (renamed role way old) (renamed role way new)
   flushed_as flushes.Empty x = (ap (renamed role way) x.0, x.1)
   flushed_as flushes.NotYet x = (ap (renamed role way) x.0, x.1)
   flushed_as flushes.Failed x = (ap (renamed role way) x.0, x.1)
   flushed_as flushes.Refused x = (ap (renamed role way) x.0, x.1)
   flushed_as flushes.NoMemory x = (ap (renamed role way) x.0, x.1)
 
-  pub flushes_on : (answer : WireFlush) → AfterFlush answer old new → AfterFlush answer (renamed role way old) (renamed role way new)
-  flushes_on answer x = record { shows = flushed_as answer x.shows; waits = x.waits }
+  pub flushes_on : (returned : WireFlush) → AfterFlush returned old new → AfterFlush returned (renamed role way old) (renamed role way new)
+  flushes_on returned x = record { shows = flushed_as returned x.shows; waits = x.waits }
 
   pub shuts : AfterShut old new → AfterShut (renamed role way old) (renamed role way new)
   shuts x = ap (renamed role way) x

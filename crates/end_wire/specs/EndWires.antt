@@ -49,22 +49,22 @@ IsLinkUnder seen w None = link_of w ≡ None
 -- ---- calls; a wire keeps its transport
 
 abbrev pub Pulled : {L : Type 0} → WireIn → EndWire L → EndWire L → Type 0
-Pulled answer (wires.Tcp old) (wires.Tcp new) = TcpPulled answer old new
-Pulled answer (wires.Ws old) (wires.Ws new) = WsPulled answer old.ws new.ws × IsSameWay old new
-Pulled answer (wires.Lane old) (wires.Lane new) = LanePulled answer old new
-Pulled answer _ _ = ⊥
+Pulled returned (wires.Tcp old) (wires.Tcp new) = TcpPulled returned old new
+Pulled returned (wires.Ws old) (wires.Ws new) = WsPulled returned old.ws new.ws × IsSameWay old new
+Pulled returned (wires.Lane old) (wires.Lane new) = LanePulled returned old new
+Pulled returned _ _ = ⊥
 
 abbrev pub Roomed : {L : Type 0} → Room → EndWire L → EndWire L → Type 0
-Roomed answer (wires.Tcp old) (wires.Tcp new) = TcpRoom answer old new × TcpWrote old new
-Roomed answer (wires.Ws old) (wires.Ws new) = WsRoom answer old.ws new.ws × WsWrote old.ws new.ws × IsSameWay old new
-Roomed answer (wires.Lane old) (wires.Lane new) = LaneRoomed answer old new
-Roomed answer _ _ = ⊥
+Roomed returned (wires.Tcp old) (wires.Tcp new) = TcpRoom returned old new × TcpWrote old new
+Roomed returned (wires.Ws old) (wires.Ws new) = WsRoom returned old.ws new.ws × WsWrote old.ws new.ws × IsSameWay old new
+Roomed returned (wires.Lane old) (wires.Lane new) = LaneRoomed returned old new
+Roomed returned _ _ = ⊥
 
 abbrev pub Flushed : {L : Type 0} → WireFlush → EndWire L → EndWire L → Type 0
-Flushed answer (wires.Tcp old) (wires.Tcp new) = TcpFlush answer old new × TcpWrote old new
-Flushed answer (wires.Ws old) (wires.Ws new) = WsFlush answer old.ws new.ws × WsWrote old.ws new.ws × IsSameWay old new
-Flushed answer (wires.Lane old) (wires.Lane new) = LaneFlushed answer old new
-Flushed answer _ _ = ⊥
+Flushed returned (wires.Tcp old) (wires.Tcp new) = TcpFlush returned old new × TcpWrote old new
+Flushed returned (wires.Ws old) (wires.Ws new) = WsFlush returned old.ws new.ws × WsWrote old.ws new.ws × IsSameWay old new
+Flushed returned (wires.Lane old) (wires.Lane new) = LaneFlushed returned old new
+Flushed returned _ _ = ⊥
 
 -- the link and what it carries stay; the message is in hand
 abbrev pub Puts : {L : Type 0} → MessageView → EndWire L → EndWire L → Type 0

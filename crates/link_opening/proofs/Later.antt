@@ -9,7 +9,7 @@ use Rattle.sp_upgrade.specs.Blanks.{most, IsBlankAt, HasNoBlank, EndsAt, HasHead
 use Rattle.sp_upgrade.specs.Opening.{Answers, ServerAnswers, GoodRequest, BadRequest, GoodResponse, BadResponse}
 use Rattle.sp_upgrade.specs.declared.head.Head.TheVariants as heads
 use Rattle.sp_upgrade.specs.declared.head.HeadFault.{HeadFault}
-use Rattle.sp_upgrade.proofs.OneAnswer.{one_server_answer, one_client_answer}
+use Rattle.sp_upgrade.proofs.OneResult.{one_server_answer, one_client_answer}
 use Rattle.cat_play.specs.Openings.{peer_number}
 use Rattle.link_opening.specs.declared.way.Way.{Way}
 use Rattle.link_opening.specs.declared.way.Way.TheVariants as ways

@@ -6,7 +6,7 @@ use Rattle.sp_base.specs.declared.addr.Addr.{Addr}
 use Rattle.sp_upgrade.specs.Opening.{ServerAnswers, ClientAnswers}
 use Rattle.sp_upgrade.specs.declared.head.Head.{Head}
 use Rattle.sp_upgrade.specs.declared.head.Head.TheVariants as heads
-use Rattle.sp_upgrade.proofs.OneAnswer.{one_server_answer, one_client_answer}
+use Rattle.sp_upgrade.proofs.OneResult.{one_server_answer, one_client_answer}
 use Rattle.cat_play.specs.Openings.{peer_number}
 use Rattle.link_opening.specs.declared.way.Way.{Way}
 use Rattle.link_opening.specs.declared.way.Way.TheVariants as ways

@@ -9,7 +9,7 @@ use crate::way::{Way, first_text, nothing};
 use sp_base::{Bytes, Link, LinkRead, LinkWrite, NoMemory, Role};
 use std::alloc::Global;
 
-/// A link that carries no messages yet.
+/// A link that carries no messages yet (nng_stream(5)).
 pub struct Opening<L: Link> {
     /// Open.
     pub link: L,

@@ -5,10 +5,10 @@ use std::fmt::Debug;
 use std::process::Abort;
 
 /// What was made.
-pub fn made<T, E: Debug + Drop>(rt: &impl Abort, answer: Result<T, E>) -> T
-    ensures { answer ≡ Ok result }
+pub fn made<T, E: Debug + Drop>(rt: &impl Abort, returned: Result<T, E>) -> T
+    ensures { returned ≡ Ok result }
 {
-    match answer {
+    match returned {
         Ok(it) => it,
         Err(e) => panic!(rt; "{e:?}"),
     }

@@ -12,7 +12,7 @@ use Rattle.sp_history.specs.Lists.{has, without}
 use Rattle.sp_history.specs.Past.{up, ups, onto, past_from}
 use Rattle.sp_history.specs.Once.{AreDistinct}
 use Rattle.sp_history.specs.Legal.{Allowed, Follows, LegalFrom}
-use Rattle.sp_history.specs.Moments.{Moment, Lawful, Back, past, also}
+use Rattle.sp_history.specs.Moments.{Moment, Lawful, AllowedBack, past, also}
 use Rattle.proto_floods.proofs.Copying.{lawful_before, no_longer}
 
 -- ---- Lists without a number twice
@@ -111,7 +111,7 @@ counted_all : (z : Setting) (before : List Entry) (history : List (Turn Entry)) 
 counted_all z before [] h l = h
 counted_all z before (t ∷ history) h l = counted_all z (onto t.entries before) history (counted_turn z t.number before t.entries h l.0.entries) l.1
 
-counted_back : (z : Setting) (k : ℕ) (before turn : List Entry) → Counted before → Back z k before turn → Counted (turn ++ before)
+counted_back : (z : Setting) (k : ℕ) (before turn : List Entry) → Counted before → AllowedBack z k before turn → Counted (turn ++ before)
 counted_back z k before [] h b = h
 counted_back z k before (e ∷ turn) h b = counted_next z k (turn ++ before) e (counted_back z k before turn h b.1) b.0
 

@@ -25,14 +25,14 @@ use Rattle.sp_history.specs.Kept.{pool, pool_keeping, pool_of, kept, keeps, take
 use Rattle.sp_history.specs.Frames.{item_of}
 use Rattle.sp_history.specs.Legal.{AreAllowed}
 use Rattle.sp_history.specs.Once.{AreApart}
-use Rattle.sp_history.specs.Moments.{Moment, Lawful, Back, past, also}
+use Rattle.sp_history.specs.Moments.{Moment, Lawful, AllowedBack, past, also}
 use Rattle.sp_history.proofs.Backing.{legal_allowed}
 use Rattle.sp_history.proofs.OnceHolds.{Counted, counted_next}
 use Rattle.sp_history.proofs.LiveRequests.{opened_low}
 
 -- ---- Each entry was allowed
 
-all_allowed : (z : Setting) (k : ℕ) (before turn : List Entry) → AreAllowed z before → Back z k before turn → AreAllowed z (turn ++ before)
+all_allowed : (z : Setting) (k : ℕ) (before turn : List Entry) → AreAllowed z before → AllowedBack z k before turn → AreAllowed z (turn ++ before)
 all_allowed z k before [] h b = h
 all_allowed z k before (e ∷ turn) h b = ((k, b.0), all_allowed z k before turn h b.1)
 

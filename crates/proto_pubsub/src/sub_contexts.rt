@@ -13,7 +13,7 @@ use std::alloc::Global;
 use std::collections::VecDeque;
 use std::marker::Model;
 
-/// An open context.
+/// An open context (nng_sub(7), nng_ctx(5)).
 #[derive(Drop)]
 pub struct SubContext {
     ctx: Ctx,

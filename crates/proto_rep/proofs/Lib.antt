@@ -1,4 +1,4 @@
-pub mod ListFronts
+pub mod FirstElements
 pub mod OperationsLeft
 pub mod ByKind
 pub mod Stuck

@@ -19,7 +19,7 @@ use sp_base::{Ctx, NoMemory, OpName, PipeId};
 use sp_proto::Offer;
 use std::alloc::Global;
 
-/// A receive that waits for a request.
+/// A receive that waits for a request (nng_rep(7)).
 #[derive(Drop)]
 pub struct Recipient {
     pub op: OpName,
@@ -67,7 +67,7 @@ impl Waiter for Recipient {
     fn leave(&mut self) {}
 }
 
-/// An operation: a send with its answer, or a receive.
+/// An operation: a send with its answer, or a receive (nng_rep(7)).
 #[derive(Drop)]
 pub struct ReplyOperation {
     pub op: OpName,

@@ -44,7 +44,7 @@ impl FromPipe for KeptRequest {
     }
 }
 
-/// Where a request came from.
+/// Where a request came from (nng_rep(7)).
 #[derive(Drop)]
 pub struct Source {
     pub pipe: PipeId,

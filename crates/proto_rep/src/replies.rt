@@ -29,14 +29,14 @@ use std::alloc::Global;
 use std::collections::BTreeSet;
 use std::marker::Model;
 
-/// What a send is to send: its message, as it was begun, and, cooked, the request that it answers.
+/// What a send is to send: its message, as it was begun, and, cooked, the request that it answers (nng_rep(7)).
 #[derive(Drop)]
 pub struct PendingReply {
     pub message: Message,
     pub source: Option<Source>,
 }
 
-/// A reply that waits for its pipe.
+/// A reply that waits for its pipe (nng_rep(7)).
 #[derive(Drop)]
 pub struct WaitingReply {
     pub op: OpName,
@@ -293,27 +293,27 @@ fn first_from(index: &BTreeSet<(u64, u64)>, from: u64) -> Option<(u64, u64)>
 }
 
 /// Where the keys of full pipes end, and the first from there on.
-struct Opening {
+struct FirstRoomy {
     below: u64,
     first: Option<(u64, u64)>,
 }
 
 // From this key on.
-fn first_open(index: &BTreeSet<(u64, u64)>, ports: &Ports, from: u64) -> Opening
+fn first_open(index: &BTreeSet<(u64, u64)>, ports: &Ports, from: u64) -> FirstRoomy
     ensures full { AreFull ports.now.items from result.below index.now.keys }
     ensures first { IsLeast result.below index.now.keys result.first }
 {
     let mut below = from;
     while let Some((key, n)) = first_from(index, below) {
         if !is_full_key(ports, key) {
-            return Opening {
+            return FirstRoomy {
                 below,
                 first: Some((key, n)),
             };
         }
         below = key + 1;
     }
-    Opening { below, first: None }
+    FirstRoomy { below, first: None }
 }
 
 // What stands there is in the index, and so are those that were.
@@ -490,7 +490,7 @@ impl WaitingReplies {
         if !self.is_indexed {
             return None;
         }
-        let Opening { below, first } = first_open(&self.index, ports, self.below);
+        let FirstRoomy { below, first } = first_open(&self.index, ports, self.below);
         self.below = below;
         offer_first(raw, ports, &self.list, first)
     }

@@ -10,7 +10,7 @@ use Rattle.sp_history.specs.declared.entry.ContextChange.TheVariants.{Open}
 use Rattle.sp_history.specs.Lists.{has}
 use Rattle.sp_history.specs.Past.{ctxs, opened}
 use Rattle.sp_history.specs.Legal.{AreAllowed}
-use Rattle.sp_history.specs.Moments.{Moment, Lawful, Back, past, also}
+use Rattle.sp_history.specs.Moments.{Moment, Lawful, AllowedBack, past, also}
 use Rattle.sp_history.proofs.Backing.{legal_allowed}
 use Rattle.sp_history.proofs.LiveRequests.{opened_low}
 use Rattle.proto_requests.specs.Ordered.{is_before}
@@ -18,7 +18,7 @@ use Rattle.proto_requests.proofs.TestValues.{same_number}
 
 -- ---- Each entry was allowed
 
-all_allowed : (z : Setting) (k : ℕ) (before turn : List Entry) → AreAllowed z before → Back z k before turn → AreAllowed z (turn ++ before)
+all_allowed : (z : Setting) (k : ℕ) (before turn : List Entry) → AreAllowed z before → AllowedBack z k before turn → AreAllowed z (turn ++ before)
 all_allowed z k before [] h b = h
 all_allowed z k before (e ∷ turn) h b = ((k, b.0), all_allowed z k before turn h b.1)
 

@@ -21,7 +21,7 @@ use std::marker::Model;
 /// All numbers of pipes are below this.
 const END: u64 = 4_294_967_296;
 
-/// The pipes that are up.
+/// The pipes that are up (nng_pipe(5)).
 #[derive(Drop)]
 pub struct Ports {
     /// By its number, the turn in which each was last found full, or 0.

@@ -10,7 +10,7 @@ use sp_msg::Message;
 use std::alloc::Global;
 use std::marker::Model;
 
-/// What stands at the head of a frame.
+/// What stands at the head of a frame (nng_req(7), Raw Mode).
 #[derive(Clone, Copy, PartialEq, Eq, Debug)]
 pub enum Trail {
     /// A whole backtrace.
@@ -83,7 +83,7 @@ fn put(m: &mut Message, words: &[u32])
     put(m, &words[1..]);
 }
 
-/// At most 15 words.
+/// At most 15 words (nng_req(7), Raw Mode).
 #[derive(Drop)]
 pub struct BacktraceWords {
     words: Vec<u32>,

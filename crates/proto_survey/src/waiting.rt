@@ -12,7 +12,7 @@ use sp_base::{Ctx, OpName, Tick};
 use sp_history::entry::Cause;
 use sp_msg::Message;
 
-/// How a survey ended before the receives that wait for it.
+/// How a survey ended before the receives that wait for it (nng_surveyor(7)).
 #[derive(Clone, Copy, PartialEq, Eq, Debug)]
 pub enum SurveyEnd {
     /// A newer one began on its context.
@@ -21,7 +21,7 @@ pub enum SurveyEnd {
     Over,
 }
 
-/// An operation that waits: a send has its message, as it was begun.
+/// An operation that waits: a send has its message, as it was begun (nng_surveyor(7)).
 #[derive(Drop)]
 pub struct SurveyOperation {
     /// Its name.

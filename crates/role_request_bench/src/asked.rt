@@ -1,5 +1,5 @@
 //! Requests and replies.
-use crate::makers::NewMachine;
+use crate::makers::UsualMachine;
 use bench_base::moves::{come, opens, receive, send, take_offer, ups};
 use bench_base::timing::{now, row};
 use sp_base::{Ctx, NoMemory, PipeId, Tick};
@@ -268,7 +268,7 @@ fn shuts<M: Proto, R: AllocGlobal + Clock + Eprint>(
 }
 
 // All nine over so many.
-fn each<Q: NewMachine, P: NewMachine, R: AllocGlobal + Clock + Eprint>(
+fn each<Q: UsualMachine, P: UsualMachine, R: AllocGlobal + Clock + Eprint>(
     rt: &R,
     size: u32,
 ) -> Result<(), NoMemory> {
@@ -296,7 +296,7 @@ fn each<Q: NewMachine, P: NewMachine, R: AllocGlobal + Clock + Eprint>(
 }
 
 /// Each count of pipes, and of contexts, of a req and of a rep.
-pub fn requests<Q: NewMachine, P: NewMachine, R: AllocGlobal + Clock + Eprint>(
+pub fn requests<Q: UsualMachine, P: UsualMachine, R: AllocGlobal + Clock + Eprint>(
     rt: &R,
 ) -> Result<(), NoMemory> {
     each::<Q, P, R>(rt, 256)?;

@@ -6,18 +6,18 @@ use sp_proto::Proto;
 use std::alloc::Global;
 
 /// A machine that can be made.
-pub trait NewMachine: Proto {
+pub trait UsualMachine: Proto {
     /// One with the usual options of its role.
     fn made(alloc: Global) -> Result<Self, NoMemory>;
 }
 
-impl NewMachine for Request {
+impl UsualMachine for Request {
     fn made(alloc: Global) -> Result<Request, NoMemory> {
         Request::new(alloc, Options::usual(Role::Req, 0), false)
     }
 }
 
-impl NewMachine for Reply {
+impl UsualMachine for Reply {
     fn made(alloc: Global) -> Result<Reply, NoMemory> {
         Reply::new(alloc, Options::usual(Role::Rep, 0), false)
     }

@@ -1,6 +1,6 @@
 //! Requests and replies that come again, or find their pipes full or gone.
 use crate::asked::{ask_all, come_all, reply_to, take_offers};
-use crate::makers::NewMachine;
+use crate::makers::UsualMachine;
 use bench_base::moves::{come, opens, receive, send, take_offer, ups};
 use bench_base::timing::{now, row};
 use sp_base::{Ctx, NoMemory, PipeId};
@@ -182,7 +182,7 @@ fn fails<M: Proto, R: AllocGlobal + Clock + Eprint>(
 }
 
 // All four over so many.
-fn each<Q: NewMachine, P: NewMachine, R: AllocGlobal + Clock + Eprint>(
+fn each<Q: UsualMachine, P: UsualMachine, R: AllocGlobal + Clock + Eprint>(
     rt: &R,
     size: u32,
 ) -> Result<(), NoMemory> {
@@ -194,7 +194,7 @@ fn each<Q: NewMachine, P: NewMachine, R: AllocGlobal + Clock + Eprint>(
 }
 
 /// Each count of pipes, and of contexts, of a req and of a rep.
-pub fn repeats<Q: NewMachine, P: NewMachine, R: AllocGlobal + Clock + Eprint>(
+pub fn repeats<Q: UsualMachine, P: UsualMachine, R: AllocGlobal + Clock + Eprint>(
     rt: &R,
 ) -> Result<(), NoMemory> {
     each::<Q, P, R>(rt, 256)?;

@@ -116,7 +116,7 @@ fn cancel_within_a_turn<P: Proto + Send, W: Wire + Send + Drop>(
 }
 
 #[test]
-fn a_cancel_is_answered_within_a_held_turn(rt: HostRuntime) {
+fn a_cancel_returns_within_a_held_turn(rt: HostRuntime) {
     let alloc = rt.alloc();
     let marks = unmarked(&rt, alloc);
     let wire = HeldWire {

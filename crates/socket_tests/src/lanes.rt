@@ -152,11 +152,11 @@ impl Wire for LateWire {
     }
 
     fn room<R: Wait>(&mut self, rt: &R) -> Room {
-        let answer = self.wire.room(rt);
-        if answer == Room::Full {
+        let returned = self.wire.room(rt);
+        if returned == Room::Full {
             self.was_full(rt);
         }
-        answer
+        returned
     }
 
     fn put<R: Wait>(&mut self, rt: &R, m: Message) {

@@ -90,7 +90,7 @@ impl ThreadMarks {
     }
 
     /// The cancel has returned.
-    pub fn answer(&self) {
+    pub fn returned(&self) {
         self.answered.store(1, Ordering::SeqCst)
     }
 

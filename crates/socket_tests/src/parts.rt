@@ -105,16 +105,16 @@ pub fn totals(begun: u64, won: u64, gone: u64, frames: u64) -> Totals {
 }
 
 /// The name of the receive that began.
-pub fn begun(rt: &impl Abort, answer: Result<OpName, BeginError>) -> OpName {
-    match answer {
+pub fn begun(rt: &impl Abort, returned: Result<OpName, BeginError>) -> OpName {
+    match returned {
         Ok(op) => op,
         Err(_) => panic!(rt; "no receive began"),
     }
 }
 
 /// The number of the error, 0 where a receive began.
-pub fn code(answer: Result<OpName, BeginError>) -> u32 {
-    match answer {
+pub fn code(returned: Result<OpName, BeginError>) -> u32 {
+    match returned {
         Ok(_) => 0,
         Err(e) => SpError::from(e).code(),
     }

@@ -158,8 +158,8 @@ fn a_tick_loses_what_was_cancelled(rt: HostRuntime) {
 }
 
 // The number of the error, 0 where the wire became a pipe.
-fn attach_code<W: Drop>(answer: Result<PipeId, (AttachError, W)>) -> u32 {
-    match answer {
+fn attach_code<W: Drop>(returned: Result<PipeId, (AttachError, W)>) -> u32 {
+    match returned {
         Ok(_) => 0,
         Err((e, _wire)) => SpError::from(e).code(),
     }
@@ -230,8 +230,8 @@ fn a_slot_is_busy_until_it_is_collected(rt: HostRuntime) {
 }
 
 // The number of the error, 0 where a send began; the message that comes back is `x`.
-fn send_code(rt: &impl Abort, answer: Result<OpName, (BeginError, Message)>) -> u32 {
-    match answer {
+fn send_code(rt: &impl Abort, returned: Result<OpName, (BeginError, Message)>) -> u32 {
+    match returned {
         Ok(_) => 0,
         Err((e, m)) => {
             same(rt, m.body(), b"x".as_slice());

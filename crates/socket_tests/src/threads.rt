@@ -232,7 +232,7 @@ fn close_by_two<P: Proto + Send, W: Wire + Send + Drop>(
 }
 
 #[test]
-fn two_threads_close_and_answer_the_same(rt: HostRuntime) {
+fn two_threads_close_and_return_the_same(rt: HostRuntime) {
     let alloc = rt.alloc();
     close_by_two(&rt, alloc, pull(&rt, alloc), counting(&rt, alloc, 0));
 }

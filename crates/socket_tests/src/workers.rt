@@ -214,7 +214,7 @@ fn cancel_when_held<P: Proto, W: Wire>(
         return 0;
     }
     let won = cancel_one(socket, pass, op);
-    marks.answer();
+    marks.returned();
     won as u64
 }
 

@@ -212,17 +212,17 @@ module _ {P W : Type 0} (ties : P → Moment → Type 0) (room : P → ℕ) (sho
       built c d t (also (also t (Frame p b)) (Dry x)) g (dry_lawful t p x b (frame_lawful t p b g.lawful g.calm h w) h s k) (record { condemned_gone = condemned_not t.z p b (past t) g.calm.condemned_gone m; outs_claimed = refl; unkept_gone = refl; all_shut = g.calm.all_shut; closed_all = g.calm.closed_all })
       pr ro (rw de g.op_words) g.operations sh (pipes_dry shown d.pipes (also t (Frame p b)) x li) (same_tally d.tally (also t (Frame p b)) (Dry x) refl refl refl refl refl refl ta) (g.closed ∙ sym cl)
 
-  -- it was malformed, and its pipe fell
-  pub fell_malformed : (c d : Core P W) (t : Moment) (p : ℕ) (b : List ℕ) → Owns ties room shown [] c t → has (up (past t)) p ≡ true → wanted t.z (past t) p ≡ true → malformed t.z (past t) p b ≡ true → ties d.proto (also (also t (Frame p b)) (Down p whys.Malformed)) → room c.proto ≤ room d.proto → PipesStand shown d.pipes (also (also t (Frame p b)) (Down p whys.Malformed)) → Tallies d.tally (also (also t (Frame p b)) (Down p whys.Malformed)) → d.op_words ≡ c.op_words → d.operations ≡ c.operations → d.closed ≡ c.closed
+  -- it was malformed, and its pipe went down
+  pub went_down_malformed : (c d : Core P W) (t : Moment) (p : ℕ) (b : List ℕ) → Owns ties room shown [] c t → has (up (past t)) p ≡ true → wanted t.z (past t) p ≡ true → malformed t.z (past t) p b ≡ true → ties d.proto (also (also t (Frame p b)) (Down p whys.Malformed)) → room c.proto ≤ room d.proto → PipesStand shown d.pipes (also (also t (Frame p b)) (Down p whys.Malformed)) → Tallies d.tally (also (also t (Frame p b)) (Down p whys.Malformed)) → d.op_words ≡ c.op_words → d.operations ≡ c.operations → d.closed ≡ c.closed
       → Owns ties room shown [] d (also (also t (Frame p b)) (Down p whys.Malformed))
-  fell_malformed c d t p b g h w m pr ro li ta de sh cl =
+  went_down_malformed c d t p b g h w m pr ro li ta de sh cl =
       built c d t (also (also t (Frame p b)) (Down p whys.Malformed)) g (malformed_lawful t p b (frame_lawful t p b g.lawful g.calm h w) h) (record { condemned_gone = condemned_gone t.z p b (past t) whys.Malformed g.calm.condemned_gone m; outs_claimed = no_claim (floods t.z.role); unkept_gone = refl; all_shut = g.calm.all_shut; closed_all = g.calm.closed_all })
       pr ro (rw de g.op_words) g.operations sh li ta (g.closed ∙ sym cl)
 
-  -- it was kept nowhere, and its pipe fell
-  pub fell_unkept : (c d : Core P W) (t : Moment) (p : ℕ) (b : List ℕ) → Owns ties room shown [] c t → has (up (past t)) p ≡ true → wanted t.z (past t) p ≡ true → malformed t.z (past t) p b ≡ false → ties d.proto (also (also (also t (Frame p b)) (Unkept p)) (Down p whys.NoMemory)) → room c.proto ≤ room d.proto → PipesStand shown d.pipes (also (also (also t (Frame p b)) (Unkept p)) (Down p whys.NoMemory)) → Tallies d.tally (also (also (also t (Frame p b)) (Unkept p)) (Down p whys.NoMemory)) → d.op_words ≡ c.op_words → d.operations ≡ c.operations → d.closed ≡ c.closed
+  -- it was kept nowhere, and its pipe went down
+  pub went_down_unkept : (c d : Core P W) (t : Moment) (p : ℕ) (b : List ℕ) → Owns ties room shown [] c t → has (up (past t)) p ≡ true → wanted t.z (past t) p ≡ true → malformed t.z (past t) p b ≡ false → ties d.proto (also (also (also t (Frame p b)) (Unkept p)) (Down p whys.NoMemory)) → room c.proto ≤ room d.proto → PipesStand shown d.pipes (also (also (also t (Frame p b)) (Unkept p)) (Down p whys.NoMemory)) → Tallies d.tally (also (also (also t (Frame p b)) (Unkept p)) (Down p whys.NoMemory)) → d.op_words ≡ c.op_words → d.operations ≡ c.operations → d.closed ≡ c.closed
       → Owns ties room shown [] d (also (also (also t (Frame p b)) (Unkept p)) (Down p whys.NoMemory))
-  fell_unkept c d t p b g h w m pr ro li ta de sh cl =
+  went_down_unkept c d t p b g h w m pr ro li ta de sh cl =
       let l = unkept_lawful t p b (frame_lawful t p b g.lawful g.calm h w) h m in
       built c d t (also (also (also t (Frame p b)) (Unkept p)) (Down p whys.NoMemory)) g (memory_lawful t p b l g.calm h m) (record { condemned_gone = ap (λ xs. without xs p) (condemned_not t.z p b (past t) g.calm.condemned_gone m); outs_claimed = no_claim (floods t.z.role); unkept_gone = refl; all_shut = g.calm.all_shut; closed_all = g.calm.closed_all })
       pr ro (rw de g.op_words) g.operations sh li ta (g.closed ∙ sym cl)

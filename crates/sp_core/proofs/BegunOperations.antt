@@ -75,7 +75,7 @@ module _ {P W : Type 0} (ties : P → Moment → Type 0) (room : P → ℕ) (sho
         room_is = omega (arith, g.room_is, f, d);
       }
 
--- the words' answer
+-- what the words return
 pub is_next : (t : Moment) (slot : ℕ) (op : OpName) → slot < t.z.slots → is_free (past t) slot ≡ true → op.slot ≡ slot → op.generation ≡ begins (past t) slot + 1 → op.generation < 2 ^ 40 → IsNext t op
 is_next t slot op l f s g n =
     record {

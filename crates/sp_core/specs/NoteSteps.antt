@@ -44,8 +44,8 @@ abbrev pub NotesFull : {P W : Type 0} → (P → Moment → Type 0) → (P → �
 NotesFull ties room left copies p old new = NotesPipe ties room left copies p (λ (_ : Unit {0}). Full p) old new
 
 -- the operation is pending
-abbrev pub MayNoteGone : {P W : Type 0} → OpName → Core P W → Type 0
-MayNoteGone op old = (t : Moment) × (s : Begun) × OperationsStand [] old.operations t × Lawful t × (pending (past t) op ≡ Some s)
+abbrev pub MayNoteEnd : {P W : Type 0} → OpName → Core P W → Type 0
+MayNoteEnd op old = (t : Moment) × (s : Begun) × OperationsStand [] old.operations t × Lawful t × (pending (past t) op ≡ Some s)
 
 -- the machine and the operations stand for this moment, and less is left to be done
 pub record GoesOnWithout {P W : Type 0} (ties : P → Moment → Type 0) (room left : P → ℕ) (old new : Core P W) (u : Moment) : Type 0 where
@@ -55,7 +55,7 @@ pub record GoesOnWithout {P W : Type 0} (ties : P → Moment → Type 0) (room l
   pub less : left new.proto < left old.proto
 
 -- the machine, the operations and the counts have this end, and nothing else has changed
-pub record NotesGone {P W : Type 0} (ties : P → Moment → Type 0) (room left : P → ℕ) (op : OpName) (cause : Cause) (by : ℕ) (old new : Core P W) : Type 0 where
+pub record NotesEnd {P W : Type 0} (ties : P → Moment → Type 0) (room left : P → ℕ) (op : OpName) (cause : Cause) (by : ℕ) (old new : Core P W) : Type 0 where
   pub ended : (t : Moment) (s : Begun) → Lawful t → Lawful (also t (End op (Gone cause by))) → ties old.proto t → OperationsStand [] old.operations t → pending (past t) op ≡ Some s → GoesOnWithout ties room left old new (also t (End op (Gone cause by)))
   pub tally : (t : Moment) → Tallies old.tally t → Tallies new.tally (also t (End op (Gone cause by)))
   pub op_words : new.op_words ≡ old.op_words

@@ -241,7 +241,7 @@ module _ {L : Type 0} (seen : L → LinkView) (z : Setting) (start : Beginning) 
     given_back = λ place a b. let r = right_at place a b in (r.0, r.1, r.2.0);
     missed = missed_still past missed_at kept.missed;
     left_ = undone_at;
-    came_up = λ p place e n lt. let c = carried_at p place e n in (c.0, c.1, (c.2.opened, record { texts = c.2.carries; fell = c.2.fell }));
+    came_up = λ p place e n lt. let c = carried_at p place e n in (c.0, c.1, (c.2.opened, record { texts = c.2.carries; went_down = c.2.went_down }));
     due = due;
   }
 

@@ -39,7 +39,7 @@ pub asked_on : {L : Type 0} (old mid new : LinkEndsView L) → SameEnds old mid 
 asked_on old mid new same is =
     ends_both old mid new same (record { role = ap (λ (e : LinkEndsView _). e.role) is; dice = ap (λ (e : LinkEndsView _). e.dice) is; listeners = ap (λ (e : LinkEndsView _). e.listeners) is; dials = ap (λ (e : LinkEndsView _). addrs_of e.dialers) is })
 
--- a link was handed out, and no answer was counted then
+-- a link was handed out, and no result was counted then
 pub asked_got : (link : LinkView) (wanted : Option Scheme) (a b c : NetView) → IsHandedOut link wanted a b → SameCounts b c → AsksNet a c
 asked_got link wanted a b c handed same =
     let opened = same.opened ∙ handed.opened in

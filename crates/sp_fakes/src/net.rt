@@ -211,7 +211,7 @@ impl MemNet {
     // Nobody is there.
     fn idle(&mut self) -> Linked<NetLink>
         ensures none { HasNone result (net_view self.old) (net_view self.new) }
-        ensures answer { result ≡ Linked.NotYet }
+        ensures returned { result ≡ Linked.NotYet }
         ensures script { net_script self.new ≡ net_script self.old }
         ensures faults { (net_view self.new).faults ≡ faults_linked result (net_view self.old).faults }
     {
@@ -222,7 +222,7 @@ impl MemNet {
     // A fault.
     fn fault(&mut self) -> Linked<NetLink>
         ensures none { HasNone result (net_view self.old) (net_view self.new) }
-        ensures answer { result ≡ Linked.Failed }
+        ensures returned { result ≡ Linked.Failed }
         ensures script { net_script self.new ≡ net_script self.old }
         ensures faults { (net_view self.new).faults ≡ faults_linked result (net_view self.old).faults }
     {
@@ -232,7 +232,7 @@ impl MemNet {
 
     // No listener was added.
     fn no_listener(&mut self) -> Listened
-        ensures answer { result ≡ Listened.Failed }
+        ensures returned { result ≡ Listened.Failed }
         ensures none { HasNoListener result (net_view self.old) (net_view self.new) }
         ensures script { net_script self.new ≡ net_script self.old }
         ensures faults { (net_view self.new).faults ≡ faults_listened result (net_view self.old).faults }

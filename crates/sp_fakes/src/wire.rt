@@ -144,9 +144,9 @@ impl Wire for MemWire {
         ensures after { AfterPull result self.old.wire self.new.wire }
         ensures gives { MemPulled result self.old self.new }
     {
-        let answer = self.next_step();
-        self.marks.pulled(&answer);
-        answer
+        let returned = self.next_step();
+        self.marks.pulled(&returned);
+        returned
     }
 
     fn room<R: Wait>(&mut self, _rt: &R) -> Room
@@ -155,9 +155,9 @@ impl Wire for MemWire {
         ensures has { HasRoom result self.old.room }
         ensures rest { OnlyWire self.old self.new }
     {
-        let answer = take_room(&mut self.kept, self.most);
-        self.marks.roomed(answer);
-        answer
+        let returned = take_room(&mut self.kept, self.most);
+        self.marks.roomed(returned);
+        returned
     }
 
     fn put<R: Wait>(&mut self, _rt: &R, m: Message)

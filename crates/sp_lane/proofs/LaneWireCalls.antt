@@ -112,8 +112,8 @@ flush_ready : (left : Option MessageView) (k : WireMarks) → (marks_flushed (fl
 flush_ready None k = refl
 flush_ready (Some m) k = refl
 
-pub roomed_stands : (answer : Room) (hand left : Option MessageView) (old new : InView) (lost s : Bool) (k k' : WireMarks) → IsLaneWire old hand lost s k → k.is_open ≡ true → Pushed hand left old new → answer ≡ room_of left → k' ≡ marks_roomed answer k → IsLaneWire new left lost s k'
-roomed_stands answer hand left old new lost s k k' h lawful p a e =
+pub roomed_stands : (returned : Room) (hand left : Option MessageView) (old new : InView) (lost s : Bool) (k k' : WireMarks) → IsLaneWire old hand lost s k → k.is_open ≡ true → Pushed hand left old new → returned ≡ room_of left → k' ≡ marks_roomed returned k → IsLaneWire new left lost s k'
+roomed_stands returned hand left old new lost s k k' h lawful p a e =
     let is : k' ≡ marks_roomed (room_of left) k = e ∙ ap (λ (r : Room). marks_roomed r k) a in
     let begun : has_end new.put ≡ false = pushed_begun hand left old new (h.begun lawful) p in
     subst (IsLaneWire new left lost s) (sym is) (record {
@@ -124,10 +124,10 @@ roomed_stands answer hand left old new lost s k k' h lawful p a e =
       ready = room_ready left k (λ r. pushed_ready hand left old new (h.ready r) p);
     })
 
-pub roomed : (answer : Room) (hand left : Option MessageView) (old new : InView) (inp : OutView) (lost s : Bool) (k k' : WireMarks) → Pushed hand left old new → answer ≡ room_of left → k' ≡ marks_roomed answer k → AfterRoom answer (lane_wire old inp hand lost s k) (lane_wire new inp left lost s k')
-roomed answer hand left old new inp lost s k k' p a e =
-    subst (λ (z : WireMarks). AfterRoom answer (lane_wire old inp hand lost s k) (lane_wire new inp left lost s z)) (sym e)
-    (after_room answer (OverLanes old.name inp.name) (OverLanes new.name inp.name) (Some (came_of lost inp.since)) (Some (came_of lost inp.since))
+pub roomed : (returned : Room) (hand left : Option MessageView) (old new : InView) (inp : OutView) (lost s : Bool) (k k' : WireMarks) → Pushed hand left old new → returned ≡ room_of left → k' ≡ marks_roomed returned k → AfterRoom returned (lane_wire old inp hand lost s k) (lane_wire new inp left lost s k')
+roomed returned hand left old new inp lost s k k' p a e =
+    subst (λ (z : WireMarks). AfterRoom returned (lane_wire old inp hand lost s k) (lane_wire new inp left lost s z)) (sym e)
+    (after_room returned (OverLanes old.name inp.name) (OverLanes new.name inp.name) (Some (came_of lost inp.since)) (Some (came_of lost inp.since))
     (Some (texts old.since ++ hand_texts hand)) (Some (texts new.since ++ hand_texts left)) (hand_count hand) (hand_count left) s k
     (ap (λ n. OverLanes n inp.name) (pushed_name hand left old new p)) refl (ap (λ (l : List (List ℕ)). Some l) (pushed_texts hand left old new p)) (pushed_count hand left old new p))
 
@@ -142,8 +142,8 @@ tried_unshut : (s : Bool) (b : Bool) (mid new : InView) → s ≡ false → Trie
 tried_unshut false b mid new e t = t
 tried_unshut true b mid new e t = absurd (true≢false e)
 
-pub flushed_stands : (answer : WireFlush) (hand left : Option MessageView) (old new : InView) (lost s : Bool) (k k' : WireMarks) → IsLaneWire old hand lost s k → Drained s hand left old new → answer ≡ flush_of left → k' ≡ marks_flushed answer k → IsLaneWire new left lost s k'
-flushed_stands answer hand left old new lost s k k' h d a e =
+pub flushed_stands : (returned : WireFlush) (hand left : Option MessageView) (old new : InView) (lost s : Bool) (k k' : WireMarks) → IsLaneWire old hand lost s k → Drained s hand left old new → returned ≡ flush_of left → k' ≡ marks_flushed returned k → IsLaneWire new left lost s k'
+flushed_stands returned hand left old new lost s k k' h d a e =
     let is : k' ≡ marks_flushed (flush_of left) k = e ∙ ap (λ (r : WireFlush). marks_flushed r k) a in
     subst (IsLaneWire new left lost s) (sym is) (record {
       lost = (λ o. h.lost (sym (flush_open left k) ∙ o));
@@ -155,11 +155,11 @@ flushed_stands answer hand left old new lost s k k' h d a e =
       ready = (λ r. pushed_ready hand left old d.mid (h.ready (sym (flush_ready left k) ∙ r)) d.pushed);
     })
 
-pub flushed : (answer : WireFlush) (hand left : Option MessageView) (old new : InView) (inp : OutView) (lost s : Bool) (k k' : WireMarks) → Drained s hand left old new → answer ≡ flush_of left → k' ≡ marks_flushed answer k → AfterFlush answer (lane_wire old inp hand lost s k) (lane_wire new inp left lost s k')
-flushed answer hand left old new inp lost s k k' d a e =
+pub flushed : (returned : WireFlush) (hand left : Option MessageView) (old new : InView) (inp : OutView) (lost s : Bool) (k k' : WireMarks) → Drained s hand left old new → returned ≡ flush_of left → k' ≡ marks_flushed returned k → AfterFlush returned (lane_wire old inp hand lost s k) (lane_wire new inp left lost s k')
+flushed returned hand left old new inp lost s k k' d a e =
     let b : Bool = s && (is_none left && not (has_end d.mid.put)) in
-    subst (λ (z : WireMarks). AfterFlush answer (lane_wire old inp hand lost s k) (lane_wire new inp left lost s z)) (sym e)
-    (after_flush answer (OverLanes old.name inp.name) (OverLanes new.name inp.name) (Some (came_of lost inp.since)) (Some (came_of lost inp.since))
+    subst (λ (z : WireMarks). AfterFlush returned (lane_wire old inp hand lost s k) (lane_wire new inp left lost s z)) (sym e)
+    (after_flush returned (OverLanes old.name inp.name) (OverLanes new.name inp.name) (Some (came_of lost inp.since)) (Some (came_of lost inp.since))
     (Some (texts old.since ++ hand_texts hand)) (Some (texts new.since ++ hand_texts left)) (hand_count hand) (hand_count left) s k
     (ap (λ n. OverLanes n inp.name) (tried_name b d.mid new d.ends ∙ pushed_name hand left old d.mid d.pushed)) refl
     (ap (λ (l : List (List ℕ)). Some l) (ap (λ t. t ++ hand_texts left) (tried_texts b d.mid new d.ends) ∙ pushed_texts hand left old d.mid d.pushed))

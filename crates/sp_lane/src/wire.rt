@@ -117,10 +117,10 @@ fn flush_of(hand: &Option<Message>) -> WireFlush
     }
 }
 
-fn is_lost(answer: &WireIn) -> bool
-    ensures { result ≡ is_lost answer.now }
+fn is_lost(returned: &WireIn) -> bool
+    ensures { result ≡ is_lost returned.now }
 {
-    match answer {
+    match returned {
         WireIn::NoMemory => true,
         WireIn::Message(_) => false,
         WireIn::NotYet => false,
@@ -190,10 +190,10 @@ impl Wire for LaneWire {
         ensures after { AfterPull result self.old.wire self.new.wire }
         ensures lane { LanePulled result self.old self.new }
     {
-        let answer = pull_from(&mut self.inp, rt);
-        self.marks.pulled(&answer);
-        self.lost = is_lost(&answer);
-        answer
+        let returned = pull_from(&mut self.inp, rt);
+        self.marks.pulled(&returned);
+        self.lost = is_lost(&returned);
+        returned
     }
 
     fn room<R: Wait>(&mut self, rt: &R) -> Room
@@ -203,9 +203,9 @@ impl Wire for LaneWire {
     {
         let hand = self.hand.take();
         self.hand = push_hand(&mut self.out, hand, rt);
-        let answer = room_of(&self.hand);
-        self.marks.roomed(answer);
-        answer
+        let returned = room_of(&self.hand);
+        self.marks.roomed(returned);
+        returned
     }
 
     fn put<R: Wait>(&mut self, _rt: &R, m: Message)
@@ -226,9 +226,9 @@ impl Wire for LaneWire {
     {
         let hand = self.hand.take();
         self.hand = drain(&mut self.out, hand, self.is_shut, rt);
-        let answer = flush_of(&self.hand);
-        self.marks.flushed(answer);
-        answer
+        let returned = flush_of(&self.hand);
+        self.marks.flushed(returned);
+        returned
     }
 
     fn shut(&mut self)

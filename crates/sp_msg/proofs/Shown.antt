@@ -35,7 +35,7 @@ room_as rooms.NoMemory n n' c c' o o' w w' d k ne ce oe = λ i. wire_view (ne i)
 pub after_room : (result : Room) (n n' : WireName) (c c' o o' : Option (List (List ℕ))) (w w' : ℕ) (d : Bool) (k : WireMarks) → n' ≡ n → c' ≡ c → o' ≡ o → w' ≤ w → AfterRoom result (wire_view n c o w d k) (wire_view n' c' o' w' d (marks_roomed result k))
 after_room result n n' c c' o o' w w' d k ne ce oe le = record { shows = room_as result n n' c c' o o' w w' d k ne ce oe; waits = le }
 
--- nothing waits exactly where the answer is Empty
+-- nothing waits exactly where the result is Empty
 abbrev pub WaitsAs : WireFlush → ℕ → Type 0
 WaitsAs flushes.Empty w = w ≡ 0
 WaitsAs flushes.NotYet w = 1 ≤ w

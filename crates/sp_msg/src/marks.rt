@@ -60,10 +60,10 @@ impl WireMarks {
     }
 
     /// After a pull that returned this.
-    pub fn pulled(&mut self, answer: &WireIn)
-        ensures { self.new ≡ marks_pulled answer.now self.old }
+    pub fn pulled(&mut self, returned: &WireIn)
+        ensures { self.new ≡ marks_pulled returned.now self.old }
     {
-        match answer {
+        match returned {
             WireIn::Message(_) => {}
             WireIn::NotYet => self.idles = self.idles.saturating_add(1),
             WireIn::Ended => {
@@ -81,10 +81,10 @@ impl WireMarks {
     }
 
     /// After `room` returned this.
-    pub fn roomed(&mut self, answer: Room)
-        ensures { self.new ≡ marks_roomed answer self.old }
+    pub fn roomed(&mut self, returned: Room)
+        ensures { self.new ≡ marks_roomed returned self.old }
     {
-        match answer {
+        match returned {
             Room::Yes => self.is_ready = true,
             Room::Full => self.fulls = self.fulls.saturating_add(1),
             Room::Failed => self.failed(),
@@ -101,10 +101,10 @@ impl WireMarks {
     }
 
     /// After a flush that returned this.
-    pub fn flushed(&mut self, answer: WireFlush)
-        ensures { self.new ≡ marks_flushed answer self.old }
+    pub fn flushed(&mut self, returned: WireFlush)
+        ensures { self.new ≡ marks_flushed returned self.old }
     {
-        match answer {
+        match returned {
             WireFlush::Empty => {}
             WireFlush::NotYet => self.stalls = self.stalls.saturating_add(1),
             WireFlush::Failed => self.failed(),

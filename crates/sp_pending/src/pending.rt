@@ -37,7 +37,7 @@ impl PendingOperation {
     }
 }
 
-/// The pending operations of some slots, at most one for each slot.
+/// The pending operations of some slots, at most one for each slot (nng_aio(5)).
 #[derive(Drop)]
 pub struct PendingOps {
     // Slots are the numbers below this.

@@ -1,11 +1,11 @@
 -- A caller ends by ticks alone what fell due.
 use Rattle.std.proofs.Common.{◌≡◌, refl, ap, sym, ◌∙◌, subst, List, [], ◌∷◌, ◌++◌, ℕ}
 use Rattle.sp_base.specs.declared.OpName.{OpName}
-use Rattle.aio_word.specs.declared.answers.Raced.{Raced}
-use Rattle.aio_word.specs.declared.answers.Raced.TheVariants as races
+use Rattle.aio_word.specs.declared.results.Raced.{Raced}
+use Rattle.aio_word.specs.declared.results.Raced.TheVariants as races
 use Rattle.aio_word.specs.declared.phase.Phase.TheVariants as phase
 use Rattle.aio_word.specs.declared.rule.ShownOperation as word
-use Rattle.aio_word.specs.Answers.{of_op}
+use Rattle.aio_word.specs.Results.{of_op}
 use Rattle.aio_word.specs.Views.{Each}
 use Rattle.sp_socket.specs.Expiring.{Hand, RacedAs, Tried, TriedAll}
 use Rattle.sp_socket.specs.declared.config.Ticked.{Ticked}
@@ -29,4 +29,4 @@ tried k slots [] [] a c t x = subst (λ (h : Hand). AllExpired h.0) (sym t) x
 tried k slots (op ∷ ops) (r ∷ rs) a c t x = tried k slots ops rs t.0 c t.2 (after_one r k slots op a t.0 t.1 x)
 
 pub all_expired : (k slots : ℕ) (names : List OpName) (result : Ticked) (a b : Hand) → TriedAll k slots names result a b → AllExpired a.0 → AllExpired b.0
-all_expired k slots names result a b t x = tried k slots names t.answers a b t.tried x
+all_expired k slots names result a b t x = tried k slots names t.results a b t.tried x

@@ -30,7 +30,7 @@ impl<P: Proto, W: Wire> Model for Single<P, W> {
     ghost invariant = { λ s. IsSingle s.socket s.passes s.pass };
 }
 
-/// What is left of a finished socket. The list of wires must be spent.
+/// What is left of a finished socket. The list of wires must be spent (nng_close(3)).
 pub struct SingleEnd<W> {
     /// The wires that were not taken.
     pub wires: WireList<W>,

@@ -86,14 +86,14 @@ none_ends : (op : OpName) (callers : ℕ) (ss : List Begun) (es : List Entry) �
 none_ends op callers [] es e = subst (NotTaken op) (sym e) refl
 none_ends op callers (s ∷ ss) es e = subst (NotTaken op) (sym e.3) (none_ends op callers ss e.2 e.5)
 
-none_fall : (op : OpName) (p : ℕ) (es : List Entry) → GoesDownAs p es → NotTaken op es
-none_fall op p es (inl e) = subst (NotTaken op) (sym e) refl
-none_fall op p es (inr (inl e)) = subst (NotTaken op) (sym e) refl
-none_fall op p es (inr (inr e)) = subst (NotTaken op) (sym e.2) refl
+none_down : (op : OpName) (p : ℕ) (es : List Entry) → GoesDownAs p es → NotTaken op es
+none_down op p es (inl e) = subst (NotTaken op) (sym e) refl
+none_down op p es (inr (inl e)) = subst (NotTaken op) (sym e) refl
+none_down op p es (inr (inr e)) = subst (NotTaken op) (sym e.2) refl
 
-none_falls : (op : OpName) (ps : List ℕ) (es : List Entry) → AreDownsOf ps es → NotTaken op es
-none_falls op [] es e = subst (NotTaken op) (sym e) refl
-none_falls op (p ∷ ps) es e = subst (NotTaken op) (sym e.2) (none_both op e.0 e.1 (none_fall op p e.0 e.3) (none_falls op ps e.1 e.4))
+none_downs : (op : OpName) (ps : List ℕ) (es : List Entry) → AreDownsOf ps es → NotTaken op es
+none_downs op [] es e = subst (NotTaken op) (sym e) refl
+none_downs op (p ∷ ps) es e = subst (NotTaken op) (sym e.2) (none_both op e.0 e.1 (none_down op p e.0 e.3) (none_downs op ps e.1 e.4))
 
 pub none_closed : (r : Totals) (callers : ℕ) (h : List (Turn Entry)) (t : Turn Entry) → ClosedBy r callers h t → NoneTaken t.entries
 none_closed r callers h t c = λ op. go op (is_closed (past_of h)) refl
@@ -102,7 +102,7 @@ none_closed r callers h t c = λ op. go op (is_closed (past_of h)) refl
     go op true e = subst (NotTaken op) (sym (c.second e)) refl
     go op false e =
         let f = c.first e in
-        subst (NotTaken op) (sym f.entries) (none_both op f.ends (f.down_entries ++ Close f.totals ∷ []) (none_ends op callers (pend (past_of h)) f.ends f.ended) (none_both op f.down_entries (Close f.totals ∷ []) (none_falls op (up (past_of h)) f.down_entries f.gone_down) refl))
+        subst (NotTaken op) (sym f.entries) (none_both op f.ends (f.down_entries ++ Close f.totals ∷ []) (none_ends op callers (pend (past_of h)) f.ends f.ended) (none_both op f.down_entries (Close f.totals ∷ []) (none_downs op (up (past_of h)) f.down_entries f.gone_down) refl))
 
 pub none_opened : (r : Result ℕ CtxError) (z : Setting) (h : List (Turn Entry)) (t : Turn Entry) → OpenedBy r z h t → NoneTaken t.entries
 none_opened (Ok c) z h t b = none_first (Ctx c Open) t (λ op. refl) b.1

@@ -7,7 +7,7 @@ use Rattle.turn_lock.specs.History.{turns_of}
 use Rattle.sp_base.specs.declared.OpName.{OpName}
 use Rattle.aio_word.specs.declared.rule.ShownOperation as word
 use Rattle.aio_word.specs.declared.phase.Phase.TheVariants.{Pending}
-use Rattle.aio_word.specs.Answers.{of_op}
+use Rattle.aio_word.specs.Results.{of_op}
 use Rattle.aio_word.specs.Views.{Each}
 use Rattle.sp_history.specs.declared.entry.Entry.{Entry}
 use Rattle.sp_history.specs.declared.entry.Entry.TheVariants.{End}
@@ -24,8 +24,8 @@ use Rattle.sp_core.specs.Collecting.{CollectedBy}
 use Rattle.sp_socket.specs.Passes.{PassView, SocketName, IsOf, IsSamePass}
 use Rattle.sp_socket.specs.Open.{KeepsOpen, TakesNoTurn}
 use Rattle.sp_socket.specs.Expiring.{Hand, IsOfAnother, PolledAs, hand}
-use Rattle.aio_word.specs.declared.answers.Polled.{Polled}
-use Rattle.aio_word.specs.declared.answers.Polled.TheVariants as polled
+use Rattle.aio_word.specs.declared.results.Polled.{Polled}
+use Rattle.aio_word.specs.declared.results.Polled.TheVariants as polled
 use Rattle.sp_socket.specs.Turns.{TookTurn, ReadsFor}
 use Rattle.sp_socket.specs.Waiting.{NotEnded, AreCollectings, Waits, WaitedFor, HasLookedOn}
 use Rattle.sp_socket.proofs.Acting.{own_more}

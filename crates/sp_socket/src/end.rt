@@ -25,7 +25,7 @@ impl<P: Proto, W: Wire> Told<TurnPass<BoxedCore<P, W>>> for Seen {
     ghost told = { λ p. p.seen };
 }
 
-/// What is left of a socket.
+/// What is left of a socket (nng_close(3)).
 pub struct Finished<W> {
     /// The wires that were not taken, as the core left them.
     pub wires: WireList<W>,

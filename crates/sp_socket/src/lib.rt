@@ -3,7 +3,7 @@
 //! A pass is a caller's right to take turns, its seat at the words of the operations, and room for the names that are
 //! due. Each call with a pass enters the lock, does one call of the core for the pass's number, and leaves: so it is
 //! one turn of that caller. What the call did and returns is said over the history that the pass has seen then. No call
-//! holds the lock while it waits for another caller's answer; what ends an operation from outside the lock is one
+//! holds the lock while it waits for another caller; what ends an operation from outside the lock is one
 //! exchange on its word.
 //!
 //! Who owns what: the lock owns the core, in a box, so that a turn moves one pointer; a pass owns its seat, alone.

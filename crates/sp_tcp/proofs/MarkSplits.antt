@@ -2,10 +2,10 @@
 use Rattle.std.proofs.Common.{◌≡◌, ◌≤◌, ◌<◌, ◌++◌, ℕ, List, length, take, drop, min, sym, ap, ◌∙◌, append_assoc, arith, inl, inr}
 use Rattle.std.proofs.lemmas.List.{take-append-drop, take_all, length-drop}
 use Rattle.sp_spec.specs.SpTcp.{frame}
-use Rattle.sp_tcp.specs.declared.reader.Front.{Front}
-use Rattle.sp_tcp.specs.declared.reader.Front.TheVariants as f
-use Rattle.sp_tcp.specs.Readings.{FrontIs}
-use Rattle.sp_tcp.specs.Marked.{IsMarkedPart, IsMarkedBad, MarkedFrontIs}
+use Rattle.sp_tcp.specs.declared.reader.Prefix.{Prefix}
+use Rattle.sp_tcp.specs.declared.reader.Prefix.TheVariants as f
+use Rattle.sp_tcp.specs.Readings.{PrefixIs}
+use Rattle.sp_tcp.specs.Marked.{IsMarkedPart, IsMarkedBad, MarkedPrefixIs}
 use Rattle.sp_tcp.proofs.PrefixPieces.{part_other}
 use Rattle.sp_tcp.proofs.MarkedFrames.{marked-is}
 
@@ -26,10 +26,10 @@ module _ (mark s : List ℕ) (n max : ℕ) (n_is : n ≡ min (length mark) (leng
   rest_is same long =
       sym (take-append-drop n s) ∙ ap (λ t. t ++ drop n s) (same ∙ take_all n mark long)
 
-  front_behind : (rest : List ℕ) (r : Front) → s ≡ mark ++ rest → FrontIs max rest r → MarkedFrontIs mark max s r
-  front_behind rest (f.Message body) e h = (h.0, (h.1.0, e ∙ ap (λ t. mark ++ t) h.1.1 ∙ sym (append_assoc mark (frame body.now) h.1.0) ∙ ap (λ t. t ++ h.1.0) (marked-is mark body.now)))
-  front_behind rest f.Part e h = inr (rest, e, h)
-  front_behind rest f.Oversize e h = inr (rest, e, h)
+  prefix_behind : (rest : List ℕ) (r : Prefix) → s ≡ mark ++ rest → PrefixIs max rest r → MarkedPrefixIs mark max s r
+  prefix_behind rest (f.Message body) e h = (h.0, (h.1.0, e ∙ ap (λ t. mark ++ t) h.1.1 ∙ sym (append_assoc mark (frame body.now) h.1.0) ∙ ap (λ t. t ++ h.1.0) (marked-is mark body.now)))
+  prefix_behind rest f.Part e h = inr (rest, e, h)
+  prefix_behind rest f.Oversize e h = inr (rest, e, h)
 
-  pub split_behind : (r : Front) → take n s ≡ take n mark → length mark ≤ n → FrontIs max (drop n s) r → MarkedFrontIs mark max s r
-  split_behind r same long h = front_behind (drop n s) r (rest_is same long) h
+  pub split_behind : (r : Prefix) → take n s ≡ take n mark → length mark ≤ n → PrefixIs max (drop n s) r → MarkedPrefixIs mark max s r
+  split_behind r same long h = prefix_behind (drop n s) r (rest_is same long) h

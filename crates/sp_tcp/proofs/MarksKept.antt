@@ -11,8 +11,8 @@ use Rattle.sp_msg.specs.declared.wire.Room.TheVariants as rooms
 use Rattle.sp_msg.specs.declared.wire.WireFlush.{WireFlush}
 use Rattle.sp_msg.specs.declared.wire.WireFlush.TheVariants as flushes
 use Rattle.sp_msg.specs.Links.{ReadCounts, WriteCounts}
-use Rattle.sp_tcp.specs.Inlets.{PullAnswer}
-use Rattle.sp_tcp.specs.Outlets.{FlushAnswer}
+use Rattle.sp_tcp.specs.Inlets.{PullResult}
+use Rattle.sp_tcp.specs.Outlets.{FlushResult}
 use Rattle.sp_tcp.specs.TcpWires.{MarksHold}
 use Rattle.sp_tcp.proofs.MarkedFrames.{plain_part, plain_bad}
 
@@ -24,7 +24,7 @@ never e = cc
 
 -- ---- pulls
 
-pub pulled_marks : (result : WireIn) (max : ℕ) (l l2 : LinkView) (u u2 all : List ℕ) (k : WireMarks) → k.is_open ≡ true → MarksHold max l u k → ReadCounts l l2 → l2.is_open ≡ l.is_open → PullAnswer [] max result all u2 l l2 → MarksHold max l2 u2 (marks_pulled result k)
+pub pulled_marks : (result : WireIn) (max : ℕ) (l l2 : LinkView) (u u2 all : List ℕ) (k : WireMarks) → k.is_open ≡ true → MarksHold max l u k → ReadCounts l l2 → l2.is_open ≡ l.is_open → PullResult [] max result all u2 l l2 → MarksHold max l2 u2 (marks_pulled result k)
 pulled_marks (ins.Message m) max l l2 u u2 all k o h c same a = record {
   link_open = (λ e. same ∙ h.link_open e);
   going = h.going;
@@ -98,7 +98,7 @@ ready_pulled ins.NoMemory k = refl
 
 -- ---- writes
 
--- after writes, with this room and this count of answers Full
+-- after writes, with this room and this count of results Full
 wrote_marks : (max : ℕ) (l l2 : LinkView) (u : List ℕ) (k : WireMarks) → MarksHold max l u k → WriteCounts l l2 → l2.is_open ≡ l.is_open → (is_ready : Bool) (fulls : ℕ) → MarksHold max l2 u (record k { is_ready = is_ready; fulls = fulls })
 wrote_marks max l l2 u k h c same is_ready fulls = record {
   link_open = (λ e. same ∙ h.link_open e);
@@ -135,7 +135,7 @@ stalled_marks max l l2 u k h c same rose = record {
   refusals = h.refusals;
 }
 
-pub flushed_marks : (result : WireFlush) (max : ℕ) (l l2 : LinkView) (u : List ℕ) (w : List (List ℕ)) (k : WireMarks) → MarksHold max l u k → WriteCounts l l2 → l2.is_open ≡ l.is_open → FlushAnswer result w l l2 → MarksHold max l2 u (marks_flushed result k)
+pub flushed_marks : (result : WireFlush) (max : ℕ) (l l2 : LinkView) (u : List ℕ) (w : List (List ℕ)) (k : WireMarks) → MarksHold max l u k → WriteCounts l l2 → l2.is_open ≡ l.is_open → FlushResult result w l l2 → MarksHold max l2 u (marks_flushed result k)
 flushed_marks flushes.Empty max l l2 u w k h c same a = wrote_marks max l l2 u k h c same k.is_ready k.fulls
 flushed_marks flushes.NotYet max l l2 u w k h c same a = stalled_marks max l l2 u k h c same a.1
 flushed_marks flushes.Failed max l l2 u w k h c same a = failed_marks max l l2 u k h c a.1
@@ -149,7 +149,7 @@ ready_flushed flushes.Failed k = refl
 ready_flushed flushes.Refused k = refl
 ready_flushed flushes.NoMemory k = refl
 
--- why room was answered so
+-- why room returned this
 abbrev pub RoomFacts : Room → ℕ → LinkView → LinkView → Type 0
 RoomFacts rooms.Yes waits l l2 = (waits < 16) × ((waits ≡ 0) ⊎ Rose l.stalls l2.stalls)
 RoomFacts rooms.Full waits l l2 = (16 ≤ waits) × Rose l.stalls l2.stalls

@@ -11,7 +11,7 @@ use Rattle.sp_msg.specs.Wires.{AfterPull, came_after, IsBare}
 use Rattle.sp_msg.specs.declared.wire.WireIn.{WireIn}
 use Rattle.sp_msg.specs.declared.wire.WireIn.TheVariants as ins
 use Rattle.sp_msg.proofs.Shown.{after_pull}
-use Rattle.sp_tcp.specs.Inlets.{PullAnswer, PulledFrom}
+use Rattle.sp_tcp.specs.Inlets.{PullResult, PulledFrom}
 use Rattle.sp_tcp.specs.TcpWires.{number_in, told_number, taken_in, put_in, WritesAs, TcpState, wire_name, wire_of, tcp_view, Holds, Framed, PullCause, TcpPulled}
 use Rattle.sp_tcp.proofs.Gathers.{frames-nil}
 use Rattle.sp_tcp.proofs.MarkedFrames.{plain_frame, plain_part, plain_bad}
@@ -19,7 +19,7 @@ use Rattle.sp_tcp.proofs.MarksKept.{pulled_marks, ready_pulled}
 use Rattle.sp_tcp.proofs.Framing.{with_texts, with_none, with_one, part_begins, long_begins, told_reads, taken_on, number_on}
 use Rattle.sp_tcp.proofs.Framed.{framed, all_shown, next_fits, next_long}
 
--- the state after a pull with this answer
+-- the state after a pull with this result
 abbrev pub pulled_state : WireIn → TcpState → LinkView → List ℕ → TcpState
 pulled_state result t l u = record { link = l; unread = u; waiting = t.waiting; sent = t.sent; max = t.max; spent = t.spent; marks = marks_pulled result t.marks }
 
@@ -47,7 +47,7 @@ one_taken max old u piece m le e = record {
   is = e ∙ ap (λ x. x ++ u) (sym (frames-cons m.body [] ∙ ap (λ x. frame m.body ++ x) (sym frames-nil) ∙ append-nil (frame m.body)));
 }
 
-step_of : (result : WireIn) (max : ℕ) (old u piece : List ℕ) (l l2 : LinkView) → PullAnswer [] max result (old ++ piece) u l l2 → Step max old u piece (taken result)
+step_of : (result : WireIn) (max : ℕ) (old u piece : List ℕ) (l l2 : LinkView) → PullResult [] max result (old ++ piece) u l l2 → Step max old u piece (taken result)
 step_of (ins.Message m) max old u piece l l2 a = one_taken max old u piece m a.1 (a.2 ∙ ap (λ x. x ++ u) (plain_frame m.body))
 step_of ins.NotYet max old u piece l l2 a = none_taken max old u piece a.0
 step_of ins.Ended max old u piece l l2 a = none_taken max old u piece a.0
@@ -56,7 +56,7 @@ step_of ins.Failed max old u piece l l2 a = none_taken max old u piece a.0
 step_of ins.Refused max old u piece l l2 a = absurd a
 step_of ins.NoMemory max old u piece l l2 a = none_taken max old u piece a
 
-bare_of : (result : WireIn) (max : ℕ) (all u : List ℕ) (l l2 : LinkView) → PullAnswer [] max result all u l l2 → IsBare result
+bare_of : (result : WireIn) (max : ℕ) (all u : List ℕ) (l l2 : LinkView) → PullResult [] max result all u l l2 → IsBare result
 bare_of (ins.Message m) max all u l l2 a = a.0
 bare_of ins.NotYet max all u l l2 a = tt
 bare_of ins.Ended max all u l l2 a = tt
@@ -74,7 +74,7 @@ came_is ins.Failed o = with_none o
 came_is ins.Refused o = with_none o
 came_is ins.NoMemory o = with_none o
 
-cause_of : (result : WireIn) (t : TcpState) (u all : List ℕ) (l : LinkView) → Holds (pulled_state result t l u) → PullAnswer [] t.max result all u t.link l → PullCause result (tcp_view t) (tcp_view (pulled_state result t l u))
+cause_of : (result : WireIn) (t : TcpState) (u all : List ℕ) (l : LinkView) → Holds (pulled_state result t l u) → PullResult [] t.max result all u t.link l → PullCause result (tcp_view t) (tcp_view (pulled_state result t l u))
 cause_of (ins.Message m) t u all l h a = a.1
 cause_of ins.NotYet t u all l h a = (all_shown (pulled_state ins.NotYet t l u) h (part_begins t.max u (plain_part t.max u a.1)), next_fits (pulled_state ins.NotYet t l u) h (plain_part t.max u a.1), a.2, a.3)
 cause_of ins.Ended t u all l h a = (all_shown (pulled_state ins.Ended t l u) h (part_begins t.max u (plain_part t.max u a.1)), next_fits (pulled_state ins.Ended t l u) h (plain_part t.max u a.1), a.2)
@@ -85,7 +85,7 @@ cause_of ins.NoMemory t u all l h a = tt
 
 pulled_holds : (result : WireIn) (t : TcpState) (u : List ℕ) (l : LinkView) → Holds t → t.marks.is_open ≡ true → PulledFrom [] t.max result t.unread u t.link l → Holds (pulled_state result t l u)
 pulled_holds result t u l h o p =
-    let s = step_of result t.max t.unread u p.piece t.link l p.answer in
+    let s = step_of result t.max t.unread u p.piece t.link l p.returned in
     record {
       reads = told_reads t.max t.unread u p.piece (taken result) t.link.came l.came s.fit s.is p.came.came h.reads;
       writes = subst (λ w. Told w (WritesAs t.waiting t.sent)) (sym p.came.written) h.writes;
@@ -95,12 +95,12 @@ pulled_holds result t u l h o p =
       most = h.most;
       room = (λ e. h.room (sym (ready_pulled result t.marks) ∙ e));
       waited = omega (arith, h.waited, p.counts.idles, p.counts.stalls);
-      marks = pulled_marks result t.max t.link l t.unread u (t.unread ++ p.piece) t.marks o h.marks p.counts p.came.is_open p.answer;
+      marks = pulled_marks result t.max t.link l t.unread u (t.unread ++ p.piece) t.marks o h.marks p.counts p.came.is_open p.returned;
     }
 
 pulled_shows : (result : WireIn) (t : TcpState) (u : List ℕ) (l : LinkView) → Holds t → PulledFrom [] t.max result t.unread u t.link l → AfterPull result (wire_of t) (wire_of (pulled_state result t l u))
 pulled_shows result t u l h p =
-    let s = step_of result t.max t.unread u p.piece t.link l p.answer in
+    let s = step_of result t.max t.unread u p.piece t.link l p.returned in
     let place : l.place ≡ t.link.place = p.came.place in
     let written : l.written ≡ t.link.written = p.came.written in
     let peer : told_number l.came ≡ told_number t.link.came = number_on t.max t.unread p.piece t.link.came l.came p.came.came h.reads in
@@ -108,11 +108,11 @@ pulled_shows result t u l h p =
     let name : wire_name l t.max t.spent ≡ wire_name t.link t.max t.spent = (λ i. OverLink (place i) t.max (scheme_number (scheme i)) t.spent (told_number (written i)) (peer i)) in
     let came : taken_in t.max u l.came ≡ came_after result (taken_in t.max t.unread t.link.came) = taken_on t.max t.unread u p.piece (taken result) t.link.came l.came h.small s.fit s.is p.came.came h.reads ∙ came_is result (taken_in t.max t.unread t.link.came) in
     let outs : put_in t.waiting t.sent l.written ≡ put_in t.waiting t.sent t.link.written = ap (put_in t.waiting t.sent) written in
-    after_pull result (wire_name t.link t.max t.spent) (wire_name l t.max t.spent) (taken_in t.max t.unread t.link.came) (taken_in t.max u l.came) (put_in t.waiting t.sent t.link.written) (put_in t.waiting t.sent l.written) (length t.waiting) (length t.waiting) false t.marks (bare_of result t.max (t.unread ++ p.piece) u t.link l p.answer) name came outs refl
+    after_pull result (wire_name t.link t.max t.spent) (wire_name l t.max t.spent) (taken_in t.max t.unread t.link.came) (taken_in t.max u l.came) (put_in t.waiting t.sent t.link.written) (put_in t.waiting t.sent l.written) (length t.waiting) (length t.waiting) false t.marks (bare_of result t.max (t.unread ++ p.piece) u t.link l p.returned) name came outs refl
 
 tcp_pulled : (result : WireIn) (t : TcpState) (u : List ℕ) (l : LinkView) → Holds t → Holds (pulled_state result t l u) → PulledFrom [] t.max result t.unread u t.link l → TcpPulled result (tcp_view t) (tcp_view (pulled_state result t l u))
 tcp_pulled result t u l h h2 p = record {
-  cause = cause_of result t u (t.unread ++ p.piece) l h2 p.answer;
+  cause = cause_of result t u (t.unread ++ p.piece) l h2 p.returned;
   piece = p.piece;
   came = p.came;
   counts = p.counts;

@@ -6,7 +6,7 @@ use Rattle.sp_base.specs.Views.{LinkView}
 use Rattle.sp_base.specs.Steps.{Came, Quiet}
 use Rattle.sp_msg.specs.declared.wire.WireIn.{WireIn}
 use Rattle.sp_msg.specs.Links.{ReadCounts}
-use Rattle.sp_tcp.specs.Inlets.{PullAnswer, PulledFrom}
+use Rattle.sp_tcp.specs.Inlets.{PullResult, PulledFrom}
 use Rattle.sp_tcp.specs.Marked.{head_of, IsMarkedPart}
 
 pub record PullGoing (mark : List ℕ) (max : ℕ) (old now : List ℕ) (link link' : LinkView) : Type 0 where
@@ -82,22 +82,22 @@ falls mark max now next piece part e some =
           elim b.2 [ inl x ↦ omega (arith, whole, long, some, x) | inr x ↦ omega (arith, whole, long, some, x) ])
     ]
 
--- an answer without a further byte
-pub pulled_here : (mark : List ℕ) (max : ℕ) (result : WireIn) (old now next : List ℕ) (l m : LinkView) → PullGoing mark max old now l m → PullAnswer mark max result now next l m → PulledFrom mark max result old next l m
-pulled_here mark max result old now next l m going answer = record {
+-- a result without a further byte
+pub pulled_here : (mark : List ℕ) (max : ℕ) (result : WireIn) (old now next : List ℕ) (l m : LinkView) → PullGoing mark max old now l m → PullResult mark max result now next l m → PulledFrom mark max result old next l m
+pulled_here mark max result old now next l m going returned = record {
   piece = going.piece;
   came = going.came;
   counts = going.counts;
-  answer = subst (λ t. PullAnswer mark max result t next l m) going.unread answer;
+  returned = subst (λ t. PullResult mark max result t next l m) going.unread returned;
   asked = (λ no. elim going.start [ inl e ↦ e.1 | inr p ↦ absurd (no p.0) ]);
 }
 
--- an answer that a read gave
-pub pulled_read : (mark : List ℕ) (max : ℕ) (result : WireIn) (old now next : List ℕ) (l m n : LinkView) → PullGoing mark max old now l m → IsMarkedPart mark max now → Quiet m n → ReadCounts m n → PullAnswer mark max result now next l n → PulledFrom mark max result old next l n
-pulled_read mark max result old now next l m n going part quiet counts answer = record {
+-- a result that a read gave
+pub pulled_read : (mark : List ℕ) (max : ℕ) (result : WireIn) (old now next : List ℕ) (l m n : LinkView) → PullGoing mark max old now l m → IsMarkedPart mark max now → Quiet m n → ReadCounts m n → PullResult mark max result now next l n → PulledFrom mark max result old next l n
+pulled_read mark max result old now next l m n going part quiet counts returned = record {
   piece = going.piece;
   came = came_quiet going.piece l m n going.came quiet;
   counts = counts_more l m n going.counts counts;
-  answer = subst (λ t. PullAnswer mark max result t next l n) going.unread answer;
+  returned = subst (λ t. PullResult mark max result t next l n) going.unread returned;
   asked = (λ no. absurd (no (began_part mark max old now l m going part)));
 }

@@ -4,9 +4,9 @@ use Rattle.std.proofs.lemmas.List.{drop_at}
 use Rattle.sp_spec.specs.Outside.{IsPrefix}
 use Rattle.sp_spec.specs.SpTcp.{hello, frame, frames, text, shows, Fit, size_of, IsOversize}
 use Rattle.sp_spec.proofs.Shows.{shows-prefix, shows-rest, begins-false, Fit-append, frames-append, frames-cons}
-use Rattle.sp_tcp.specs.declared.reader.Front.{Front}
-use Rattle.sp_tcp.specs.declared.reader.Front.TheVariants as f
-use Rattle.sp_tcp.specs.Readings.{FrontIs, ShownAs}
+use Rattle.sp_tcp.specs.declared.reader.Prefix.{Prefix}
+use Rattle.sp_tcp.specs.declared.reader.Prefix.TheVariants as f
+use Rattle.sp_tcp.specs.Readings.{PrefixIs, ShownAs}
 
 no_frames : frames [] ≡ []
 unfolding frames
@@ -32,7 +32,7 @@ module _ (role max : ℕ) (bodies : List (List ℕ)) (s : List ℕ) (lt : max < 
   is_oversize : 8 ≤ length s → max < size_of s → IsOversize role max (text role bodies ++ s)
   is_oversize long big = (s, ap (λ bs. text role bs ++ s) (sym all_shown), long, big)
 
-pub shown_as : (max : ℕ) (s : List ℕ) (front : Front) → max < 2 ^ 64 → FrontIs max s front → ShownAs max s front
+pub shown_as : (max : ℕ) (s : List ℕ) (front : Prefix) → max < 2 ^ 64 → PrefixIs max s front → ShownAs max s front
 shown_as max s (f.Message body) lt is = λ role bodies fit.
     let whole : text role bodies ++ s ≡ text role (bodies ++ body.now ∷ []) ++ is.1.0 = ap (λ t. text role bodies ++ t) is.1.1 ∙ one_more role bodies body.now is.1.0 in
     subst (λ t. IsPrefix (bodies ++ body.now ∷ []) (shows role max t)) (sym whole) (shows-prefix role max (bodies ++ body.now ∷ []) is.1.0 lt (Fit-append max bodies (body.now ∷ []) fit (is.0, tt)))

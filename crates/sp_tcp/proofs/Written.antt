@@ -17,7 +17,7 @@ use Rattle.sp_msg.specs.declared.wire.WireFlush.{WireFlush}
 use Rattle.sp_msg.specs.declared.wire.WireFlush.TheVariants as flushes
 use Rattle.sp_msg.proofs.Shown.{WaitsAs, after_room, after_flush, after_put}
 use Rattle.sp_tcp.specs.Views.{OutletView}
-use Rattle.sp_tcp.specs.Outlets.{SentWithin, Wrote, FlushAnswer, FlushedFrom}
+use Rattle.sp_tcp.specs.Outlets.{SentWithin, Wrote, FlushResult, FlushedFrom}
 use Rattle.sp_msg.specs.Wires.{RoomAfter}
 use Rattle.sp_tcp.specs.TcpWires.{greatest, told_number, taken_in, put_in, ReadsAs, WritesAs, MarksHold, TcpState, wire_name, wire_of, tcp_view, Holds, Framed, TcpWrote, RoomCause, FlushCause}
 use Rattle.sp_tcp.proofs.MarksKept.{RoomFacts, flushed_marks, roomed_marks, put_marks, shut_marks, ready_flushed, ready_roomed}
@@ -79,7 +79,7 @@ tcp_wrote t l o k w = record { piece = w.piece; went = w.went; counts = w.counts
 
 -- ---- room
 
-room_facts : (flush : WireFlush) (room : Room) (w : List (List ℕ)) (l l2 : LinkView) → FlushAnswer flush w l l2 → RoomAfter flush (length w) room → RoomFacts room (length w) l l2
+room_facts : (flush : WireFlush) (room : Room) (w : List (List ℕ)) (l l2 : LinkView) → FlushResult flush w l l2 → RoomAfter flush (length w) room → RoomFacts room (length w) l l2
 room_facts flushes.Empty room w l l2 a e =
     let none : length w ≡ 0 = ap (λ (x : List (List ℕ)). length x) a in
     subst (λ r. RoomFacts r (length w) l l2) (sym e) (omega (arith, none), inl none)
@@ -109,7 +109,7 @@ pub roomed : (flush : WireFlush) (room : Room) (t : TcpState) (o : OutletView) (
 roomed flush room t o l h p r =
     let w = p.wrote in
     let k : WireMarks = marks_roomed room t.marks in
-    let f = room_facts flush room o.waiting t.link l p.answer r in
+    let f = room_facts flush room o.waiting t.link l p.returned r in
     let marks = roomed_marks room t.max t.link l t.unread (length o.waiting) t.marks h.marks w.counts w.went.is_open f in
     let h2 : Holds (with_write t l o k) = write_holds t l o k h w p.within (ready_roomed room t.link l (length o.waiting) t.marks f (still_room t l o h w)) marks in
     let e = kept t l o h w p.within in
@@ -123,14 +123,14 @@ roomed flush room t o l h p r =
 
 -- ---- flush
 
-waits_as : (result : WireFlush) (w : List (List ℕ)) (l l2 : LinkView) → FlushAnswer result w l l2 → WaitsAs result (length w)
+waits_as : (result : WireFlush) (w : List (List ℕ)) (l l2 : LinkView) → FlushResult result w l l2 → WaitsAs result (length w)
 waits_as flushes.Empty w l l2 a = ap (λ (x : List (List ℕ)). length x) a
 waits_as flushes.NotYet w l l2 a = a.0
 waits_as flushes.Failed w l l2 a = a.0
 waits_as flushes.Refused w l l2 a = absurd a
 waits_as flushes.NoMemory w l l2 a = absurd a
 
-flush_cause : (result : WireFlush) (t : TcpState) (l : LinkView) (o : OutletView) (k : WireMarks) → FlushAnswer result o.waiting t.link l → FlushCause result (tcp_view t) (tcp_view (with_write t l o k))
+flush_cause : (result : WireFlush) (t : TcpState) (l : LinkView) (o : OutletView) (k : WireMarks) → FlushResult result o.waiting t.link l → FlushCause result (tcp_view t) (tcp_view (with_write t l o k))
 flush_cause flushes.Empty t l o k a = tt
 flush_cause flushes.NotYet t l o k a = a.1
 flush_cause flushes.Failed t l o k a = a.1
@@ -148,13 +148,13 @@ pub flushed : (result : WireFlush) (t : TcpState) (o : OutletView) (l : LinkView
 flushed result t o l h p =
     let w = p.wrote in
     let k : WireMarks = marks_flushed result t.marks in
-    let marks = flushed_marks result t.max t.link l t.unread o.waiting t.marks h.marks w.counts w.went.is_open p.answer in
+    let marks = flushed_marks result t.max t.link l t.unread o.waiting t.marks h.marks w.counts w.went.is_open p.returned in
     let h2 : Holds (with_write t l o k) = write_holds t l o k h w p.within (λ e. still_room t l o h w (sym (ready_flushed result t.marks) ∙ e)) marks in
     let e = kept t l o h w p.within in
     record {
       holds = h2;
-      after = after_flush result (wire_name t.link t.max t.spent) (wire_name l t.max t.spent) (taken_in t.max t.unread t.link.came) (taken_in t.max t.unread l.came) (put_in t.waiting t.sent t.link.written) (put_in o.waiting o.sent l.written) (length t.waiting) (length o.waiting) false t.marks e.name e.came e.outs (fewer t l o w) (waits_as result o.waiting t.link l p.answer);
-      cause = flush_cause result t l o k p.answer;
+      after = after_flush result (wire_name t.link t.max t.spent) (wire_name l t.max t.spent) (taken_in t.max t.unread t.link.came) (taken_in t.max t.unread l.came) (put_in t.waiting t.sent t.link.written) (put_in o.waiting o.sent l.written) (length t.waiting) (length o.waiting) false t.marks e.name e.came e.outs (fewer t l o w) (waits_as result o.waiting t.link l p.returned);
+      cause = flush_cause result t l o k p.returned;
       tcp = tcp_wrote t l o k w;
       is_framed = framed (with_write t l o k) h2;
     }

@@ -28,14 +28,14 @@ ReadInto (Ok reads.Failed) old new link link' = (new ≡ old) × Quiet link link
 ReadInto (Err _) old new link link' = (new ≡ old) × (link' ≡ link)
 
 -- what a pull returns, by the bytes that are left
-abbrev pub PullAnswer : List ℕ → ℕ → WireIn → List ℕ → List ℕ → LinkView → LinkView → Type 0
-PullAnswer mark max (ins.Message m) all left link link' = (m.header ≡ []) × (length m.body ≤ max) × (all ≡ marked mark m.body ++ left)
-PullAnswer mark max ins.NotYet all left link link' = (left ≡ all) × IsMarkedPart mark max left × Rose link.idles link'.idles × (link.ended ≡ false)
-PullAnswer mark max ins.Ended all left link link' = (left ≡ all) × IsMarkedPart mark max left × (link'.ended ≡ true)
-PullAnswer mark max ins.Malformed all left link link' = (left ≡ all) × IsMarkedBad mark max left
-PullAnswer mark max ins.Failed all left link link' = (left ≡ all) × IsMarkedPart mark max left × Rose link.faults link'.faults × (link.ended ≡ false)
-PullAnswer mark max ins.Refused all left link link' = ⊥
-PullAnswer mark max ins.NoMemory all left link link' = left ≡ all
+abbrev pub PullResult : List ℕ → ℕ → WireIn → List ℕ → List ℕ → LinkView → LinkView → Type 0
+PullResult mark max (ins.Message m) all left link link' = (m.header ≡ []) × (length m.body ≤ max) × (all ≡ marked mark m.body ++ left)
+PullResult mark max ins.NotYet all left link link' = (left ≡ all) × IsMarkedPart mark max left × Rose link.idles link'.idles × (link.ended ≡ false)
+PullResult mark max ins.Ended all left link link' = (left ≡ all) × IsMarkedPart mark max left × (link'.ended ≡ true)
+PullResult mark max ins.Malformed all left link link' = (left ≡ all) × IsMarkedBad mark max left
+PullResult mark max ins.Failed all left link link' = (left ≡ all) × IsMarkedPart mark max left × Rose link.faults link'.faults × (link.ended ≡ false)
+PullResult mark max ins.Refused all left link link' = ⊥
+PullResult mark max ins.NoMemory all left link link' = left ≡ all
 
 -- some bytes came, and a message was taken or not; nothing is asked of the link where a message or a size that is not
 -- allowed stands at the front already
@@ -43,5 +43,5 @@ pub record PulledFrom (mark : List ℕ) (max : ℕ) (result : WireIn) (old new :
   pub piece : List ℕ
   pub came : Came piece link link'
   pub counts : ReadCounts link link'
-  pub answer : PullAnswer mark max result (old ++ piece) new link link'
+  pub returned : PullResult mark max result (old ++ piece) new link link'
   pub asked : ¬ IsMarkedPart mark max old → link' ≡ link

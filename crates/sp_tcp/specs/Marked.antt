@@ -4,8 +4,8 @@ use Rattle.std.specs.List.{flat_map}
 use Rattle.sp_spec.specs.Outside.{IsPrefix}
 use Rattle.sp_spec.specs.SpTcp.{frame}
 use Rattle.sp_tcp.specs.Readings.{IsPart, IsTooLong}
-use Rattle.sp_tcp.specs.declared.reader.Front.{Front}
-use Rattle.sp_tcp.specs.declared.reader.Front.TheVariants as f
+use Rattle.sp_tcp.specs.declared.reader.Prefix.{Prefix}
+use Rattle.sp_tcp.specs.declared.reader.Prefix.TheVariants as f
 
 -- these bytes, the size of a message in 64 bits, and that many bytes
 unfoldable pub marked : List ℕ → List ℕ → List ℕ
@@ -31,7 +31,7 @@ abbrev pub IsMarkedBad : List ℕ → ℕ → List ℕ → Type 0
 IsMarkedBad mark max s = (¬ IsPrefix s mark × ¬ IsPrefix mark s) ⊎ ((rest : List ℕ) × (s ≡ mark ++ rest) × IsTooLong max rest)
 
 -- what stands at the front
-abbrev pub MarkedFrontIs : List ℕ → ℕ → List ℕ → Front → Type 0
-MarkedFrontIs mark max s (f.Message body) = (length body.now ≤ max) × ((rest : List ℕ) × (s ≡ marked mark body.now ++ rest))
-MarkedFrontIs mark max s f.Part = IsMarkedPart mark max s
-MarkedFrontIs mark max s f.Oversize = IsMarkedBad mark max s
+abbrev pub MarkedPrefixIs : List ℕ → ℕ → List ℕ → Prefix → Type 0
+MarkedPrefixIs mark max s (f.Message body) = (length body.now ≤ max) × ((rest : List ℕ) × (s ≡ marked mark body.now ++ rest))
+MarkedPrefixIs mark max s f.Part = IsMarkedPart mark max s
+MarkedPrefixIs mark max s f.Oversize = IsMarkedBad mark max s

@@ -49,14 +49,14 @@ WrotePiece mark (writes.Took n) old new link link' = SentWithin mark new.sent ne
 WrotePiece mark writes.NotYet old new link link' = (new ≡ old) × Quiet link link' × WriteCounts link link' × Rose link.stalls link'.stalls
 WrotePiece mark writes.Failed old new link link' = (new ≡ old) × Quiet link link' × WriteCounts link link' × Rose link.faults link'.faults
 
-abbrev pub FlushAnswer : WireFlush → List (List ℕ) → LinkView → LinkView → Type 0
-FlushAnswer flushes.Empty waiting link link' = waiting ≡ []
-FlushAnswer flushes.NotYet waiting link link' = (0 < length waiting) × Rose link.stalls link'.stalls
-FlushAnswer flushes.Failed waiting link link' = (0 < length waiting) × Rose link.faults link'.faults
-FlushAnswer flushes.Refused waiting link link' = ⊥
-FlushAnswer flushes.NoMemory waiting link link' = ⊥
+abbrev pub FlushResult : WireFlush → List (List ℕ) → LinkView → LinkView → Type 0
+FlushResult flushes.Empty waiting link link' = waiting ≡ []
+FlushResult flushes.NotYet waiting link link' = (0 < length waiting) × Rose link.stalls link'.stalls
+FlushResult flushes.Failed waiting link link' = (0 < length waiting) × Rose link.faults link'.faults
+FlushResult flushes.Refused waiting link link' = ⊥
+FlushResult flushes.NoMemory waiting link link' = ⊥
 
 pub record FlushedFrom (mark : List ℕ) (result : WireFlush) (old new : OutletView) (link link' : LinkView) : Type 0 where
   pub within : SentWithin mark new.sent new.waiting
   pub wrote : Wrote mark old new link link'
-  pub answer : FlushAnswer result new.waiting link link'
+  pub returned : FlushResult result new.waiting link link'

@@ -1,6 +1,6 @@
 //! SP over TCP (the nanomsg document "TCP mapping for scalability protocols"): greetings, and a stream of messages each
-//! way. Each message is its size in 64 bits, big-endian, and that many bytes. Where a size above the limit stands at
-//! the front as a pull begins, nothing is asked of the link. The read that brings such a size may bring bytes of the
+//! way. Each message is its size in 64 bits, big-endian, and that many bytes. Where what came begins with a size above
+//! the limit as a pull begins, nothing is asked of the link. The read that brings such a size may bring bytes of the
 //! body with it.
 //!
 //! `TcpWire` owns a link from the greetings on. Reading: the inlet reads what the link gives into one buffer, and takes
@@ -25,5 +25,5 @@ mod stage;
 mod wire;
 
 pub use greeting::{Greeted, Greeting};
-pub use reader::{Front, Reader};
+pub use reader::{Prefix, Reader};
 pub use wire::TcpWire;

@@ -136,9 +136,9 @@ impl<L: Link> Wire for TcpWire<L> {
         ensures tcp { TcpPulled result self.old self.new }
         ensures framed { Framed self.new }
     {
-        let answer = pull_from(&mut self.inlet, &mut self.link, &[], self.max);
-        self.marks.pulled(&answer);
-        answer
+        let returned = pull_from(&mut self.inlet, &mut self.link, &[], self.max);
+        self.marks.pulled(&returned);
+        returned
     }
 
     fn room<R: Wait>(&mut self, _rt: &R) -> Room
@@ -149,9 +149,9 @@ impl<L: Link> Wire for TcpWire<L> {
         ensures framed { Framed self.new }
     {
         let flushed = write_from(&mut self.outlet, &[], &mut self.link);
-        let answer = room_after(flushed, self.outlet.len());
-        self.marks.roomed(answer);
-        answer
+        let returned = room_after(flushed, self.outlet.len());
+        self.marks.roomed(returned);
+        returned
     }
 
     fn put<R: Wait>(&mut self, _rt: &R, m: Message)
@@ -172,9 +172,9 @@ impl<L: Link> Wire for TcpWire<L> {
         ensures tcp { TcpWrote self.old self.new }
         ensures framed { Framed self.new }
     {
-        let answer = write_from(&mut self.outlet, &[], &mut self.link);
-        self.marks.flushed(answer);
-        answer
+        let returned = write_from(&mut self.outlet, &[], &mut self.link);
+        self.marks.flushed(returned);
+        returned
     }
 
     fn shut(&mut self)

@@ -40,7 +40,7 @@ Answers IsGood IsBad (heads.Good used answer) came = (head : List ℕ) × HasHea
 Answers IsGood IsBad (heads.Bad fault) came = ((fault ≡ faults.TooLong) × IsTooLong came) ⊎ ((head : List ℕ) × HasHead came head × IsBad head fault)
 Answers IsGood IsBad heads.NoMemory came = (head : List ℕ) × HasHead came head × ((answer : List ℕ) × IsGood head answer)
 
--- all that are answered, except when out of memory, are one
+-- all results, except when out of memory, are one
 abbrev pub AreOne : (Head → Type 0) → Type 0
 AreOne IsAnswer = (a b : Head) → IsAnswer a → IsAnswer b → (a ≡ heads.NoMemory → ⊥) → (b ≡ heads.NoMemory → ⊥) → a ≡ b
 

@@ -52,7 +52,7 @@ pub enum Head {
 }
 
 impl Head {
-    /// The same bytes have one answer on each side, except when out of memory.
+    /// The same bytes have one result on each side, except when out of memory.
     pub fn is_one()
         ensures server { (role : Role) (path came : List ℕ) → AreOne (λ answer. ServerAnswers answer came role path) }
         ensures client { (role : Role) (key came : List ℕ) → AreOne (λ answer. ClientAnswers answer came key role) }

@@ -12,12 +12,12 @@ abbrev pub Told : Type 0
 Told = List (Result Message Error)
 
 -- what waits for the link and what was fed may change beside the reads
-pub reads_across : (answer : FrameIn) (old mid mid2 new : Told) (b c : Bool) → mid ≡ old → new ≡ mid2 → c ≡ b → ReadsTo answer mid mid2 b → ReadsTo answer old new c
-reads_across answer old mid mid2 new b c before after same t = record {
+pub reads_across : (returned : FrameIn) (old mid mid2 new : Told) (b c : Bool) → mid ≡ old → new ≡ mid2 → c ≡ b → ReadsTo returned mid mid2 b → ReadsTo returned old new c
+reads_across returned old mid mid2 new b c before after same t = record {
   passed = t.passed;
   are = t.are;
   last = elim t.last [
-    | inl x ↦ inl (x.0, after ∙ x.1 ∙ ap (λ (l : Told). l ++ (t.passed ++ x.0 ∷ [])) before, subst (λ (d : Bool). Names answer x.0 d) (sym same) x.2)
+    | inl x ↦ inl (x.0, after ∙ x.1 ∙ ap (λ (l : Told). l ++ (t.passed ++ x.0 ∷ [])) before, subst (λ (d : Bool). Names returned x.0 d) (sym same) x.2)
     | inr y ↦ inr (y.0, (y.1.0, after ∙ y.1.1 ∙ ap (λ (l : Told). l ++ y.1.0) before))
   ];
 }
@@ -26,9 +26,9 @@ reads_across answer old mid mid2 new b c before after same t = record {
 pub reads_none : (old new : Told) (c : Bool) → new ≡ old → ReadsTo ins.NoMemory old new c
 reads_none old new c same = record { passed = []; are = All-nil IsPassed; last = inr (refl, ([], same ∙ sym (append-nil old))) }
 
--- an answer that is lost
-pub reads_lost : (answer : FrameIn) (old mid mid2 new : Told) (b c : Bool) → mid ≡ old → new ≡ mid2 → ReadsTo answer mid mid2 b → ReadsTo ins.NoMemory old new c
-reads_lost answer old mid mid2 new b c before after t = record {
+-- a result that is lost
+pub reads_lost : (returned : FrameIn) (old mid mid2 new : Told) (b c : Bool) → mid ≡ old → new ≡ mid2 → ReadsTo returned mid mid2 b → ReadsTo ins.NoMemory old new c
+reads_lost returned old mid mid2 new b c before after t = record {
   passed = [];
   are = All-nil IsPassed;
   last = elim t.last [

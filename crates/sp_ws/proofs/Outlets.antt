@@ -15,7 +15,7 @@ use Rattle.websocket.specs.declared.protocol.frame.coding.Data.TheVariants as da
 use Rattle.websocket.specs.Frame.{encode_frame}
 use Rattle.websocket.specs.FrameHeader.{encode_header}
 use Rattle.websocket.specs.Connection.{whole_header}
-use Rattle.sp_ws.specs.Outlets.{passed, AreWithin, AreFrames, GaveOldest, Gave, Wrote, WroteAll, Written, FlushAnswer, FlushedFrom}
+use Rattle.sp_ws.specs.Outlets.{passed, AreWithin, AreFrames, GaveOldest, Gave, Wrote, WroteAll, Written, FlushResult, FlushedFrom}
 use Rattle.sp_msg.specs.declared.wire.WireFlush.{WireFlush}
 use Rattle.sp_msg.specs.declared.wire.WireFlush.TheVariants as flushes
 use Rattle.sp_ws.specs.declared.frames.FrameOut.TheVariants as outs
@@ -290,13 +290,13 @@ took o o2 f f2 l m n some fits fe oe went counts =
 
 -- ---- a whole flush
 
-pub flush_gave : (result : WireFlush) (o o2 : FrameOutletView) (f f2 : FramesView) (l : LinkView) → AreWithin (length f.waiting) o.ends → Gave o o2 f f2 → FlushAnswer result (count_of o2) f f2 l l → FlushedFrom result o o2 f f2 l l
+pub flush_gave : (result : WireFlush) (o o2 : FrameOutletView) (f f2 : FramesView) (l : LinkView) → AreWithin (length f.waiting) o.ends → Gave o o2 f f2 → FlushResult result (count_of o2) f f2 l l → FlushedFrom result o o2 f f2 l l
 flush_gave result o o2 f f2 l inside g a = record {
   mid = o2;
   framed = f2;
   gave = g;
   wrote = wrote_none o2 f2 l l (passed_zero o2.ends (length f2.waiting) (g.within inside)) (quiet_refl l) (counts_refl l);
-  answer = a;
+  returned = a;
 }
 
 all_gone : (mid o3 : FrameOutletView) (f f2 : FramesView) (l m : LinkView) → AreWithin (length f.waiting) mid.ends → mid.held ≡ [] → Wrote mid o3 f f2 l m → f2.waiting ≡ [] → count_of o3 ≡ 0
@@ -304,15 +304,15 @@ all_gone mid o3 f f2 l m inside none w dry =
     let ends : o3.ends ≡ [] = none_left o3 f2 (wrote_within mid o3 f f2 l m w inside) dry in
     omega (arith, ap length (w.held ∙ none), ap length ends)
 
-flush_answer : (result : WireFlush) (mid o3 : FrameOutletView) (f0 f f2 : FramesView) (l m : LinkView) → AreWithin (length f.waiting) mid.ends → mid.held ≡ [] → f.refusals ≡ f0.refusals → Wrote mid o3 f f2 l m → WroteAll result f2 l m → 0 < count_of o3 → FlushAnswer result (count_of o3) f0 f2 l m
-flush_answer flushes.Empty mid o3 f0 f f2 l m inside none r w a some = (all_gone mid o3 f f2 l m inside none w a, ap (λ (v : FramesView). v.refusals) w.frames ∙ r, inl a)
-flush_answer flushes.NotYet mid o3 f0 f f2 l m inside none r w a some = (some, a, ap (λ (v : FramesView). v.refusals) w.frames ∙ r)
-flush_answer flushes.Failed mid o3 f0 f f2 l m inside none r w a some = (some, a, ap (λ (v : FramesView). v.refusals) w.frames ∙ r)
-flush_answer flushes.Refused mid o3 f0 f f2 l m inside none r w a some = absurd a
-flush_answer flushes.NoMemory mid o3 f0 f f2 l m inside none r w a some = absurd a
+flush_result : (result : WireFlush) (mid o3 : FrameOutletView) (f0 f f2 : FramesView) (l m : LinkView) → AreWithin (length f.waiting) mid.ends → mid.held ≡ [] → f.refusals ≡ f0.refusals → Wrote mid o3 f f2 l m → WroteAll result f2 l m → 0 < count_of o3 → FlushResult result (count_of o3) f0 f2 l m
+flush_result flushes.Empty mid o3 f0 f f2 l m inside none r w a some = (all_gone mid o3 f f2 l m inside none w a, ap (λ (v : FramesView). v.refusals) w.frames ∙ r, inl a)
+flush_result flushes.NotYet mid o3 f0 f f2 l m inside none r w a some = (some, a, ap (λ (v : FramesView). v.refusals) w.frames ∙ r)
+flush_result flushes.Failed mid o3 f0 f f2 l m inside none r w a some = (some, a, ap (λ (v : FramesView). v.refusals) w.frames ∙ r)
+flush_result flushes.Refused mid o3 f0 f f2 l m inside none r w a some = absurd a
+flush_result flushes.NoMemory mid o3 f0 f f2 l m inside none r w a some = absurd a
 
 pub flush_wrote : (result : WireFlush) (o mid o3 : FrameOutletView) (f0 f f2 : FramesView) (l m : LinkView) → AreWithin (length f0.waiting) o.ends → Gave o mid f0 f → mid.held ≡ [] → f.refusals ≡ f0.refusals → Wrote mid o3 f f2 l m → WroteAll result f2 l m → 0 < count_of o3 → FlushedFrom result o o3 f0 f2 l m
-flush_wrote result o mid o3 f0 f f2 l m inside g none r w a some = record { mid = mid; framed = f; gave = g; wrote = w; answer = flush_answer result mid o3 f0 f f2 l m (g.within inside) none r w a some }
+flush_wrote result o mid o3 f0 f f2 l m inside g none r w a some = record { mid = mid; framed = f; gave = g; wrote = w; returned = flush_result result mid o3 f0 f f2 l m (g.within inside) none r w a some }
 
 -- how it ended, where nothing is left to send
 pub written : (result : WireFlush) (f : FramesView) (l m : LinkView) → WroteAll result f l m → Written f l m
@@ -323,4 +323,4 @@ written flushes.Refused f l m a = absurd a
 written flushes.NoMemory f l m a = absurd a
 
 pub flush_empty : (result : WireFlush) (o mid o3 : FrameOutletView) (f0 f f2 : FramesView) (l m : LinkView) → Gave o mid f0 f → f.refusals ≡ f0.refusals → Wrote mid o3 f f2 l m → WroteAll result f2 l m → count_of o3 ≡ 0 → FlushedFrom flushes.Empty o o3 f0 f2 l m
-flush_empty result o mid o3 f0 f f2 l m g r w a none = record { mid = mid; framed = f; gave = g; wrote = w; answer = (none, ap (λ (v : FramesView). v.refusals) w.frames ∙ r, written result f2 l m a) }
+flush_empty result o mid o3 f0 f f2 l m g r w a none = record { mid = mid; framed = f; gave = g; wrote = w; returned = (none, ap (λ (v : FramesView). v.refusals) w.frames ∙ r, written result f2 l m a) }

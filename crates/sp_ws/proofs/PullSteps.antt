@@ -14,7 +14,7 @@ use Rattle.sp_msg.specs.declared.wire.WireIn.TheVariants as ins
 use Rattle.sp_ws.specs.Views.{FramesView, all_fed, IsFed}
 use Rattle.sp_msg.specs.Links.{ReadCounts}
 use Rattle.sp_ws.specs.Frames.{IsPassed, Names, came_with, AfterNext}
-use Rattle.sp_ws.specs.Pulls.{IsIdle, PullAnswer, PullGoing, GoesOn, ReadOn, ReadLast, PullReads, WasFed, PulledFrom, IsTaken}
+use Rattle.sp_ws.specs.Pulls.{IsIdle, PullResult, PullGoing, GoesOn, ReadOn, ReadLast, PullReads, WasFed, PulledFrom, IsTaken}
 use Rattle.sp_ws.specs.declared.frames.FrameIn.{FrameIn}
 use Rattle.sp_ws.specs.declared.frames.FrameIn.TheVariants as frames
 use Rattle.sp_ws.proofs.Outlets.{grown-grown, grown-nil}
@@ -46,8 +46,8 @@ came_quiet p l m n a b = record { place = b.place ∙ a.place; scheme = b.scheme
 abbrev pub going_start : (f : FramesView) (l : LinkView) → PullGoing f f l l
 going_start f l = record { piece = []; came = came_none l; counts = counts_refl l; replies = []; waiting = sym (append-nil f.waiting); sent = refl; refusals = refl; role = refl }
 
-abbrev pub going_next : (answer : FrameIn) (f f2 f3 : FramesView) (l m : LinkView) → PullGoing f f2 l m → AfterNext answer f2 f3 → PullGoing f f3 l m
-going_next answer f f2 f3 l m g a = record {
+abbrev pub going_next : (returned : FrameIn) (f f2 f3 : FramesView) (l m : LinkView) → PullGoing f f2 l m → AfterNext returned f2 f3 → PullGoing f f3 l m
+going_next returned f f2 f3 l m g a = record {
   piece = g.piece;
   came = g.came;
   counts = g.counts;
@@ -100,8 +100,8 @@ going_quiet f f2 f3 l m n g e q counts = record {
 pub fed_start : (f : FramesView) → IsFed [] f f
 fed_start f = sym (append-nil (all_fed f))
 
-pub fed_next : (answer : FrameIn) (piece : List ℕ) (f f2 f3 : FramesView) → IsFed piece f f2 → AfterNext answer f2 f3 → IsFed piece f f3
-fed_next answer piece f f2 f3 h a = a.fed ∙ h
+pub fed_next : (returned : FrameIn) (piece : List ℕ) (f f2 f3 : FramesView) → IsFed piece f f2 → AfterNext returned f2 f3 → IsFed piece f f3
+fed_next returned piece f f2 f3 h a = a.fed ∙ h
 
 pub fed_same : (piece : List ℕ) (f f2 f3 : FramesView) → IsFed piece f f2 → f3 ≡ f2 → IsFed piece f f3
 fed_same piece f f2 f3 h e = ap all_fed e ∙ h
@@ -162,24 +162,24 @@ pub read_on_same : (f f2 f3 : FramesView) → ReadOn f f2 → f3.reads ≡ f2.re
 read_on_same f f2 f3 g e = record { before = g.before; are = g.are; reads = e ∙ g.reads }
 
 -- the last read of a pull
-pub read_last : (answer : FrameIn) (f f2 f3 : FramesView) → ReadOn f f2 → f2.came ≡ f.came → AfterNext answer f2 f3 → (answer ≡ frames.NoMemory → ⊥) → ReadLast f f3
-read_last answer f f2 f3 g c a other = elim a.reads.last [
+pub read_last : (returned : FrameIn) (f f2 f3 : FramesView) → ReadOn f f2 → f2.came ≡ f.came → AfterNext returned f2 f3 → (returned ≡ frames.NoMemory → ⊥) → ReadLast f f3
+read_last returned f f2 f3 g c a other = elim a.reads.last [
   | inl x ↦ record {
     before = g.before ++ a.reads.passed;
     are = All-append GoesOn g.before a.reads.passed g.are (all_go a.reads.passed a.reads.are);
     r = x.0;
     reads = behind g.before (a.reads.passed ++ x.0 ∷ []) f.reads f2.reads f3.reads g.reads x.1 ∙ ap (λ (l : List (Result Message Error)). f.reads ++ l) (sym (append_assoc g.before a.reads.passed (x.0 ∷ [])));
-    answer = answer;
+    returned = returned;
     named = x.2;
     last = a.last;
-    came = a.came ∙ ap (came_with answer) c;
+    came = a.came ∙ ap (came_with returned) c;
   }
   | inr y ↦ absurd (other y.0)
 ]
 
 -- whatever was read is behind what was
-pub read_more : (answer : FrameIn) (f f2 f3 : FramesView) → ReadOn f f2 → AfterNext answer f2 f3 → (more : List (Result Message Error)) × (f3.reads ≡ f.reads ++ more)
-read_more answer f f2 f3 g a = elim a.reads.last [
+pub read_more : (returned : FrameIn) (f f2 f3 : FramesView) → ReadOn f f2 → AfterNext returned f2 f3 → (more : List (Result Message Error)) × (f3.reads ≡ f.reads ++ more)
+read_more returned f f2 f3 g a = elim a.reads.last [
   | inl x ↦ (g.before ++ (a.reads.passed ++ x.0 ∷ []), behind g.before (a.reads.passed ++ x.0 ∷ []) f.reads f2.reads f3.reads g.reads x.1)
   | inr y ↦ (g.before ++ y.1.0, behind g.before y.1.0 f.reads f2.reads f3.reads g.reads y.1.1)
 ]
@@ -212,19 +212,19 @@ body_fed max ins.NoMemory lost body piece f f2 h t = all_of_it piece f f2 h
 
 -- ---- a body that came
 
-taken_answer : (max : ℕ) (result : WireIn) (lost : Bool) (came : List (List ℕ)) (f : FramesView) (l m : LinkView) (body : List ℕ) → f.came ≡ came ++ body ∷ [] → IsTaken max result lost body → PullAnswer max result lost came f l m
-taken_answer max (ins.Message msg) lost came f l m body e t = (t.0, subst (λ (b : List ℕ). length b ≤ max) (sym t.1) t.2, e ∙ ap (λ (b : List ℕ). came ++ b ∷ []) (sym t.1), t.3)
-taken_answer max ins.NotYet lost came f l m body e t = absurd t
-taken_answer max ins.Ended lost came f l m body e t = absurd t
-taken_answer max ins.Malformed lost came f l m body e t = inr (body, (e, t.1), t.0)
-taken_answer max ins.Failed lost came f l m body e t = absurd t
-taken_answer max ins.Refused lost came f l m body e t = absurd t
-taken_answer max ins.NoMemory lost came f l m body e t = inr (body, (e, t))
+taken_result : (max : ℕ) (result : WireIn) (lost : Bool) (came : List (List ℕ)) (f : FramesView) (l m : LinkView) (body : List ℕ) → f.came ≡ came ++ body ∷ [] → IsTaken max result lost body → PullResult max result lost came f l m
+taken_result max (ins.Message msg) lost came f l m body e t = (t.0, subst (λ (b : List ℕ). length b ≤ max) (sym t.1) t.2, e ∙ ap (λ (b : List ℕ). came ++ b ∷ []) (sym t.1), t.3)
+taken_result max ins.NotYet lost came f l m body e t = absurd t
+taken_result max ins.Ended lost came f l m body e t = absurd t
+taken_result max ins.Malformed lost came f l m body e t = inr (body, (e, t.1), t.0)
+taken_result max ins.Failed lost came f l m body e t = absurd t
+taken_result max ins.Refused lost came f l m body e t = absurd t
+taken_result max ins.NoMemory lost came f l m body e t = inr (body, (e, t))
 
 pub pulled_body : (max : ℕ) (result : WireIn) (lost : Bool) (body : List ℕ) (f f2 f3 : FramesView) (l m : LinkView) (g : PullGoing f f2 l m) → ReadOn f f2 → f2.came ≡ f.came → IsFed g.piece f f2 → AfterNext (frames.Binary body) f2 f3 → IsTaken max result lost body → PulledFrom max result lost f f3 l m
 pulled_body max result lost body f f2 f3 l m g on c h a t = record {
   going = going_next (frames.Binary body) f f2 f3 l m g a;
-  answer = taken_answer max result lost f.came f3 l m body (a.came ∙ ap (λ (x : List (List ℕ)). x ++ body ∷ []) c) t;
+  returned = taken_result max result lost f.came f3 l m body (a.came ∙ ap (λ (x : List (List ℕ)). x ++ body ∷ []) c) t;
   reads = body_reads max result lost body f f2 f3 on c a t;
   fed = body_fed max result lost body g.piece f f3 (fed_next (frames.Binary body) g.piece f f2 f3 h a) t;
 }
@@ -235,8 +235,8 @@ idle_still f f2 a f3 e = subst IsIdle (sym e) (a.last, a.read.0, a.read.1)
 
 -- ---- pulls that end the wire, or find nothing
 
-came_none_of : (answer : FrameIn) (f f2 f3 : FramesView) → came_with answer f2.came ≡ f2.came → f2.came ≡ f.came → AfterNext answer f2 f3 → f3.came ≡ f.came
-came_none_of answer f f2 f3 same c a = a.came ∙ same ∙ c
+came_none_of : (returned : FrameIn) (f f2 f3 : FramesView) → came_with returned f2.came ≡ f2.came → f2.came ≡ f.came → AfterNext returned f2 f3 → f3.came ≡ f.came
+came_none_of returned f f2 f3 same c a = a.came ∙ same ∙ c
 
 not_text : frames.Text ≡ frames.NoMemory → ⊥
 not_text e = cc e
@@ -250,7 +250,7 @@ not_closed e = cc e
 pub pulled_text : (max : ℕ) (f f2 f3 : FramesView) (l m : LinkView) (g : PullGoing f f2 l m) → ReadOn f f2 → f2.came ≡ f.came → IsFed g.piece f f2 → AfterNext frames.Text f2 f3 → PulledFrom max ins.Malformed false f f3 l m
 pulled_text max f f2 f3 l m g on c h a = record {
   going = going_next frames.Text f f2 f3 l m g a;
-  answer = inl ((came_none_of frames.Text f f2 f3 refl c a, refl), inl a.last);
+  returned = inl ((came_none_of frames.Text f f2 f3 refl c a, refl), inl a.last);
   reads = read_last frames.Text f f2 f3 on c a not_text;
   fed = fed_next frames.Text g.piece f f2 f3 h a;
 }
@@ -258,7 +258,7 @@ pulled_text max f f2 f3 l m g on c h a = record {
 pub pulled_broken : (max : ℕ) (f f2 f3 : FramesView) (l m : LinkView) (g : PullGoing f f2 l m) → ReadOn f f2 → f2.came ≡ f.came → IsFed g.piece f f2 → AfterNext frames.Broken f2 f3 → PulledFrom max ins.Malformed false f f3 l m
 pulled_broken max f f2 f3 l m g on c h a = record {
   going = going_next frames.Broken f f2 f3 l m g a;
-  answer = inl ((came_none_of frames.Broken f f2 f3 refl c a, refl), inr a.last);
+  returned = inl ((came_none_of frames.Broken f f2 f3 refl c a, refl), inr a.last);
   reads = read_last frames.Broken f f2 f3 on c a not_broken;
   fed = fed_next frames.Broken g.piece f f2 f3 h a;
 }
@@ -266,7 +266,7 @@ pulled_broken max f f2 f3 l m g on c h a = record {
 pub pulled_closed : (max : ℕ) (f f2 f3 : FramesView) (l m : LinkView) (g : PullGoing f f2 l m) → ReadOn f f2 → f2.came ≡ f.came → IsFed g.piece f f2 → AfterNext frames.Closed f2 f3 → PulledFrom max ins.Ended false f f3 l m
 pulled_closed max f f2 f3 l m g on c h a = record {
   going = going_next frames.Closed f f2 f3 l m g a;
-  answer = ((came_none_of frames.Closed f f2 f3 refl c a, refl), inl a.last);
+  returned = ((came_none_of frames.Closed f f2 f3 refl c a, refl), inl a.last);
   reads = read_last frames.Closed f f2 f3 on c a not_closed;
   fed = fed_next frames.Closed g.piece f f2 f3 h a;
 }
@@ -280,7 +280,7 @@ idle_came f f2 f3 f4 c a e = ap (λ (v : FramesView). v.came) e ∙ came_none_of
 pub pulled_not_yet : (max : ℕ) (f f2 f3 f4 : FramesView) (l m n : LinkView) (g : PullGoing f f2 l m) → ReadOn f f2 → f2.came ≡ f.came → IsFed g.piece f f2 → AfterNext frames.Idle f2 f3 → f4 ≡ f3 → Quiet m n → ReadCounts m n → Rose m.idles n.idles → PulledFrom max ins.NotYet false f f4 l n
 pulled_not_yet max f f2 f3 f4 l m n g on c h a e q counts rose = record {
   going = going_quiet f f3 f4 l m n (going_next frames.Idle f f2 f3 l m g a) e q counts;
-  answer = ((idle_came f f2 f3 f4 c a e, refl), idle_still f2 f3 a f4 e, rose_later l.idles m.idles n.idles g.counts.idles rose);
+  returned = ((idle_came f f2 f3 f4 c a e, refl), idle_still f2 f3 a f4 e, rose_later l.idles m.idles n.idles g.counts.idles rose);
   reads = idle_last f f2 f3 f4 on c a e;
   fed = fed_same g.piece f f3 f4 (fed_next frames.Idle g.piece f f2 f3 h a) e;
 }
@@ -288,7 +288,7 @@ pulled_not_yet max f f2 f3 f4 l m n g on c h a e q counts rose = record {
 pub pulled_ended : (max : ℕ) (f f2 f3 f4 : FramesView) (l m n : LinkView) (g : PullGoing f f2 l m) → ReadOn f f2 → f2.came ≡ f.came → IsFed g.piece f f2 → AfterNext frames.Idle f2 f3 → f4 ≡ f3 → Quiet m n → ReadCounts m n → n.ended ≡ true → PulledFrom max ins.Ended false f f4 l n
 pulled_ended max f f2 f3 f4 l m n g on c h a e q counts ended = record {
   going = going_quiet f f3 f4 l m n (going_next frames.Idle f f2 f3 l m g a) e q counts;
-  answer = ((idle_came f f2 f3 f4 c a e, refl), inr (ended, idle_still f2 f3 a f4 e));
+  returned = ((idle_came f f2 f3 f4 c a e, refl), inr (ended, idle_still f2 f3 a f4 e));
   reads = idle_last f f2 f3 f4 on c a e;
   fed = fed_same g.piece f f3 f4 (fed_next frames.Idle g.piece f f2 f3 h a) e;
 }
@@ -296,7 +296,7 @@ pulled_ended max f f2 f3 f4 l m n g on c h a e q counts ended = record {
 pub pulled_failed : (max : ℕ) (f f2 f3 f4 : FramesView) (l m n : LinkView) (g : PullGoing f f2 l m) → ReadOn f f2 → f2.came ≡ f.came → IsFed g.piece f f2 → AfterNext frames.Idle f2 f3 → f4 ≡ f3 → Quiet m n → ReadCounts m n → Rose m.faults n.faults → PulledFrom max ins.Failed false f f4 l n
 pulled_failed max f f2 f3 f4 l m n g on c h a e q counts rose = record {
   going = going_quiet f f3 f4 l m n (going_next frames.Idle f f2 f3 l m g a) e q counts;
-  answer = ((idle_came f f2 f3 f4 c a e, refl), idle_still f2 f3 a f4 e, rose_later l.faults m.faults n.faults g.counts.faults rose);
+  returned = ((idle_came f f2 f3 f4 c a e, refl), idle_still f2 f3 a f4 e, rose_later l.faults m.faults n.faults g.counts.faults rose);
   reads = idle_last f f2 f3 f4 on c a e;
   fed = fed_same g.piece f f3 f4 (fed_next frames.Idle g.piece f f2 f3 h a) e;
 }
@@ -307,7 +307,7 @@ pulled_failed max f f2 f3 f4 l m n g on c h a e q counts rose = record {
 pub pulled_unfed : (max : ℕ) (piece : List ℕ) (f f2 f3 f4 : FramesView) (l m n : LinkView) (g : PullGoing f f2 l m) → ReadOn f f2 → f2.came ≡ f.came → IsFed g.piece f f2 → AfterNext frames.Idle f2 f3 → f4 ≡ f3 → Came piece m n → ReadCounts m n → PulledFrom max ins.NoMemory false f f4 l n
 pulled_unfed max piece f f2 f3 f4 l m n g on c h a e came counts = record {
   going = going_lost piece f f3 f4 l m n (going_next frames.Idle f f2 f3 l m g a) came e counts;
-  answer = inl (idle_came f f2 f3 f4 c a e, refl);
+  returned = inl (idle_came f f2 f3 f4 c a e, refl);
   reads = more_same f f3 f4 (read_more frames.Idle f f2 f3 on a) e;
   fed = (g.piece, piece, refl, fed_same g.piece f f3 f4 (fed_next frames.Idle g.piece f f2 f3 h a) e);
 }
@@ -315,11 +315,11 @@ pulled_unfed max piece f f2 f3 f4 l m n g on c h a e came counts = record {
 pub pulled_short : (max : ℕ) (f f2 f3 : FramesView) (l m : LinkView) (g : PullGoing f f2 l m) → ReadOn f f2 → f2.came ≡ f.came → IsFed g.piece f f2 → AfterNext frames.NoMemory f2 f3 → PulledFrom max ins.NoMemory false f f3 l m
 pulled_short max f f2 f3 l m g on c h a = record {
   going = going_next frames.NoMemory f f2 f3 l m g a;
-  answer = inl (came_none_of frames.NoMemory f f2 f3 refl c a, refl);
+  returned = inl (came_none_of frames.NoMemory f f2 f3 refl c a, refl);
   reads = read_more frames.NoMemory f f2 f3 on a;
   fed = all_of_it g.piece f f3 (fed_next frames.NoMemory g.piece f f2 f3 h a);
 }
 
 -- it went on for too long
 pub pulled_long : (max : ℕ) (f f2 : FramesView) (l m : LinkView) (g : PullGoing f f2 l m) → ReadOn f f2 → f2.came ≡ f.came → IsFed g.piece f f2 → PulledFrom max ins.NoMemory false f f2 l m
-pulled_long max f f2 l m g on c h = record { going = g; answer = inl (c, refl); reads = (on.before, on.reads); fed = all_of_it g.piece f f2 h }
+pulled_long max f f2 l m g on c h = record { going = g; returned = inl (c, refl); reads = (on.before, on.reads); fed = all_of_it g.piece f f2 h }

@@ -20,8 +20,8 @@ use Rattle.sp_ws.specs.Views.{FramesView, FrameOutletView, count_of, fresh_frame
 use Rattle.sp_ws.specs.Sides.{role_of}
 use Rattle.websocket.specs.declared.protocol.config.WebSocketConfig.{WebSocketConfig}
 use Rattle.sp_ws.specs.declared.side.Side.{Side}
-use Rattle.sp_ws.specs.Outlets.{AreWithin, passed, FlushAnswer, FlushedFrom}
-use Rattle.sp_ws.specs.Pulls.{NoneCame, OneLost, PullAnswer, PulledFrom}
+use Rattle.sp_ws.specs.Outlets.{AreWithin, passed, FlushResult, FlushedFrom}
+use Rattle.sp_ws.specs.Pulls.{NoneCame, OneLost, PullResult, PulledFrom}
 use Rattle.sp_msg.specs.Wires.{RoomAfter}
 use Rattle.sp_ws.specs.Wires.{came_in, wire_name, WsState, ws_state, wire_of, ws_view, MarksHold, Holds, Tied, PullCause, WsPulled, WsWrote, RoomCause, FlushCause, IsNewWire}
 use Rattle.sp_ws.proofs.Outlets.{within_more, wrote_within, fewer}
@@ -54,7 +54,7 @@ name_at t l place scheme = λ i. OverLink (place i) t.max (scheme_number (scheme
 abbrev pub pulled_state : WireIn → Bool → WsState → LinkView → FramesView → WsState
 pulled_state result lost t l f = ws_state l f t.outlet lost t.max t.spent (marks_pulled result t.marks)
 
-bare_of : (result : WireIn) (max : ℕ) (lost : Bool) (came : List (List ℕ)) (f : FramesView) (l l2 : LinkView) → PullAnswer max result lost came f l l2 → IsBare result
+bare_of : (result : WireIn) (max : ℕ) (lost : Bool) (came : List (List ℕ)) (f : FramesView) (l l2 : LinkView) → PullResult max result lost came f l l2 → IsBare result
 bare_of (ins.Message m) max lost came f l l2 a = a.0
 bare_of ins.NotYet max lost came f l l2 a = tt
 bare_of ins.Ended max lost came f l l2 a = tt
@@ -74,7 +74,7 @@ lost_is lost came f body n =
     ∙ ap (λ (j : ℕ). Some (take j (came ++ body ∷ []))) k
     ∙ ap (λ (x : List (List ℕ)). Some x) (take_at came (body ∷ []) (length came) refl)
 
-came_is : (result : WireIn) (max : ℕ) (lost : Bool) (came : List (List ℕ)) (f : FramesView) (l l2 : LinkView) → PullAnswer max result lost came f l l2 → Some (came_in lost f.came) ≡ came_after result (Some came)
+came_is : (result : WireIn) (max : ℕ) (lost : Bool) (came : List (List ℕ)) (f : FramesView) (l l2 : LinkView) → PullResult max result lost came f l l2 → Some (came_in lost f.came) ≡ came_after result (Some came)
 came_is (ins.Message m) max lost came f l l2 a = ap (λ (b : Bool). Some (came_in b f.came)) a.3 ∙ ap (λ (x : List (List ℕ)). Some x) a.2
 came_is ins.NotYet max lost came f l l2 a = none_is lost came f a.0
 came_is ins.Ended max lost came f l l2 a = none_is lost came f a.0
@@ -83,7 +83,7 @@ came_is ins.Failed max lost came f l l2 a = none_is lost came f a.0
 came_is ins.Refused max lost came f l l2 a = absurd a
 came_is ins.NoMemory max lost came f l l2 a = elim a [ inl x ↦ none_is lost came f x | inr y ↦ lost_is lost came f y.0 y.1 ]
 
-pull_cause : (result : WireIn) (lost : Bool) (t : WsState) (l : LinkView) (f : FramesView) → PullAnswer t.max result lost t.frames.came f t.link l → PullCause result (ws_view t) (ws_view (pulled_state result lost t l f))
+pull_cause : (result : WireIn) (lost : Bool) (t : WsState) (l : LinkView) (f : FramesView) → PullResult t.max result lost t.frames.came f t.link l → PullCause result (ws_view t) (ws_view (pulled_state result lost t l f))
 pull_cause (ins.Message m) lost t l f a = (a.1, a.2)
 pull_cause ins.NotYet lost t l f a = (a.1, a.2)
 pull_cause ins.Ended lost t l f a = a.1
@@ -108,15 +108,15 @@ pulled result lost t l f h o p =
       most = h.most;
       room = (λ e. h.room (sym (ready_pulled result t.marks) ∙ e));
       waited = omega (arith, h.waited, g.counts.idles, g.counts.stalls);
-      marks = pulled_marks result t.max t.link l t.frames f t.lost lost t.frames.came t.marks o h.marks g.counts g.came.is_open few p.answer;
+      marks = pulled_marks result t.max t.link l t.frames f t.lost lost t.frames.came t.marks o h.marks g.counts g.came.is_open few p.returned;
     } in
     let before : Some (came_in t.lost t.frames.came) ≡ Some t.frames.came = ap (λ (b : Bool). Some (came_in b t.frames.came)) (h.marks.going o).2 in
-    let came : Some (came_in lost f.came) ≡ came_after result (Some (came_in t.lost t.frames.came)) = came_is result t.max lost t.frames.came f t.link l p.answer ∙ ap (came_after result) (sym before) in
+    let came : Some (came_in lost f.came) ≡ came_after result (Some (came_in t.lost t.frames.came)) = came_is result t.max lost t.frames.came f t.link l p.returned ∙ ap (came_after result) (sym before) in
     let outs : Some (f.sent ++ t.outlet.held) ≡ Some (t.frames.sent ++ t.outlet.held) = ap (λ (x : List (List ℕ)). Some (x ++ t.outlet.held)) g.sent in
     record {
       holds = h2;
-      after = after_pull result (wire_name t.link t.max t.spent) (wire_name l t.max t.spent) (Some (came_in t.lost t.frames.came)) (Some (came_in lost f.came)) (Some (t.frames.sent ++ t.outlet.held)) (Some (f.sent ++ t.outlet.held)) (count_of t.outlet) (count_of t.outlet) false t.marks (bare_of result t.max lost t.frames.came f t.link l p.answer) (name_at t l g.came.place g.came.scheme) came outs refl;
-      ws = record { cause = pull_cause result lost t l f p.answer; piece = g.piece; came = g.came; fed = p.fed; counts = g.counts; replies = g.replies; waiting = g.waiting; sent = g.sent; outlet = refl; max = refl; reads = p.reads; role = g.role };
+      after = after_pull result (wire_name t.link t.max t.spent) (wire_name l t.max t.spent) (Some (came_in t.lost t.frames.came)) (Some (came_in lost f.came)) (Some (t.frames.sent ++ t.outlet.held)) (Some (f.sent ++ t.outlet.held)) (count_of t.outlet) (count_of t.outlet) false t.marks (bare_of result t.max lost t.frames.came f t.link l p.returned) (name_at t l g.came.place g.came.scheme) came outs refl;
+      ws = record { cause = pull_cause result lost t l f p.returned; piece = g.piece; came = g.came; fed = p.fed; counts = g.counts; replies = g.replies; waiting = g.waiting; sent = g.sent; outlet = refl; max = refl; reads = p.reads; role = g.role };
       is_tied = tied (pulled_state result lost t l f) h2;
     }
 
@@ -179,7 +179,7 @@ came_kept t f e = ap (λ (x : List (List ℕ)). Some (came_in t.lost x)) e
 
 -- ---- room
 
-room_facts : (flush : WireFlush) (room : Room) (waits : ℕ) (f f2 : FramesView) (l l2 : LinkView) → FlushAnswer flush waits f f2 l l2 → RoomAfter flush waits room → RoomFacts room waits f f2 l l2
+room_facts : (flush : WireFlush) (room : Room) (waits : ℕ) (f f2 : FramesView) (l l2 : LinkView) → FlushResult flush waits f f2 l l2 → RoomAfter flush waits room → RoomFacts room waits f f2 l l2
 room_facts flushes.Empty room waits f f2 l l2 a e = subst (λ r. RoomFacts r waits f f2 l l2) (sym e) (omega (arith, a.0), inl (a.0, a.2), a.1)
 room_facts flushes.NotYet room waits f f2 l l2 a e = elim e [
   | inl x ↦ subst (λ r. RoomFacts r waits f f2 l l2) (sym x.1) (x.0, inr a.1, a.2)
@@ -207,7 +207,7 @@ pub roomed : (flush : WireFlush) (room : Room) (t : WsState) (l : LinkView) (f :
 roomed flush room t l f o h open_is p r =
     let k : WireMarks = marks_roomed room t.marks in
     let e = kept flush t l f o h p in
-    let a = room_facts flush room (count_of o) t.frames f t.link l p.answer r in
+    let a = room_facts flush room (count_of o) t.frames f t.link l p.returned r in
     let marks = roomed_marks room t.max t.link l t.frames f t.lost (count_of o) t.marks open_is h.marks p.wrote.counts p.wrote.went.is_open a in
     let h2 : Holds (with_write t l f o k) = write_holds t l f o k h e (ready_roomed room t.frames f t.link l (count_of o) t.marks a (still_room t l f o h e)) p.wrote.counts marks in
     record {
@@ -220,14 +220,14 @@ roomed flush room t l f o h open_is p r =
 
 -- ---- flush
 
-waits_as : (result : WireFlush) (waits : ℕ) (f f2 : FramesView) (l l2 : LinkView) → FlushAnswer result waits f f2 l l2 → WaitsAs result waits
+waits_as : (result : WireFlush) (waits : ℕ) (f f2 : FramesView) (l l2 : LinkView) → FlushResult result waits f f2 l l2 → WaitsAs result waits
 waits_as flushes.Empty waits f f2 l l2 a = a.0
 waits_as flushes.NotYet waits f f2 l l2 a = a.0
 waits_as flushes.Failed waits f f2 l l2 a = a.0
 waits_as flushes.Refused waits f f2 l l2 a = absurd a
 waits_as flushes.NoMemory waits f f2 l l2 a = a.0
 
-flush_cause : (result : WireFlush) (t : WsState) (l : LinkView) (f : FramesView) (o : FrameOutletView) (k : WireMarks) → FlushAnswer result (count_of o) t.frames f t.link l → FlushCause result (ws_view t) (ws_view (with_write t l f o k))
+flush_cause : (result : WireFlush) (t : WsState) (l : LinkView) (f : FramesView) (o : FrameOutletView) (k : WireMarks) → FlushResult result (count_of o) t.frames f t.link l → FlushCause result (ws_view t) (ws_view (with_write t l f o k))
 flush_cause flushes.Empty t l f o k a = a.2
 flush_cause flushes.NotYet t l f o k a = a.1
 flush_cause flushes.Failed t l f o k a = a.1
@@ -245,12 +245,12 @@ pub flushed : (result : WireFlush) (t : WsState) (l : LinkView) (f : FramesView)
 flushed result t l f o h open_is p =
     let k : WireMarks = marks_flushed result t.marks in
     let e = kept result t l f o h p in
-    let marks = flushed_marks result t.max t.link l t.frames f t.lost (count_of o) t.marks open_is h.marks p.wrote.counts p.wrote.went.is_open p.answer in
+    let marks = flushed_marks result t.max t.link l t.frames f t.lost (count_of o) t.marks open_is h.marks p.wrote.counts p.wrote.went.is_open p.returned in
     let h2 : Holds (with_write t l f o k) = write_holds t l f o k h e (λ r. still_room t l f o h e (sym (ready_flushed result t.marks) ∙ r)) p.wrote.counts marks in
     record {
       holds = h2;
-      after = after_flush result (wire_name t.link t.max t.spent) (wire_name l t.max t.spent) (Some (came_in t.lost t.frames.came)) (Some (came_in t.lost f.came)) (Some (t.frames.sent ++ t.outlet.held)) (Some (f.sent ++ o.held)) (count_of t.outlet) (count_of o) false t.marks (name_at t l p.wrote.went.place p.wrote.went.scheme) (came_kept t f e.came) e.outs e.few (waits_as result (count_of o) t.frames f t.link l p.answer);
-      cause = flush_cause result t l f o k p.answer;
+      after = after_flush result (wire_name t.link t.max t.spent) (wire_name l t.max t.spent) (Some (came_in t.lost t.frames.came)) (Some (came_in t.lost f.came)) (Some (t.frames.sent ++ t.outlet.held)) (Some (f.sent ++ o.held)) (count_of t.outlet) (count_of o) false t.marks (name_at t l p.wrote.went.place p.wrote.went.scheme) (came_kept t f e.came) e.outs e.few (waits_as result (count_of o) t.frames f t.link l p.returned);
+      cause = flush_cause result t l f o k p.returned;
       ws = ws_wrote result t l f o k p;
       is_tied = tied (with_write t l f o k) h2;
     }

@@ -21,8 +21,8 @@ use Rattle.sp_ws.specs.declared.frames.FrameIn.{FrameIn}
 use Rattle.sp_ws.specs.declared.frames.FrameIn.TheVariants as ins
 use Rattle.sp_ws.specs.declared.frames.FrameOut.{FrameOut}
 use Rattle.sp_ws.specs.declared.frames.FrameOut.TheVariants as outs
-use Rattle.sp_ws.specs.declared.frames.LastAnswer.{LastAnswer}
-use Rattle.sp_ws.specs.declared.frames.LastAnswer.TheVariants as lasts
+use Rattle.sp_ws.specs.declared.frames.LastResult.{LastResult}
+use Rattle.sp_ws.specs.declared.frames.LastResult.TheVariants as lasts
 
 abbrev pub AfterFeed : Result Unit NoMemory → List ℕ → FramesView → FramesView → Type 0
 AfterFeed (Ok _) b old new = new ≡ record old { fed = old.fed ++ b }
@@ -81,18 +81,18 @@ Fails ins.NoMemory e is_empty = IsOutside e ⊎ (IsEnd e × (is_empty ≡ true))
 
 -- what a read's result is called
 abbrev pub Names : FrameIn → Result Message Error → Bool → Type 0
-Names answer (Ok (messages.Text s)) is_empty = answer ≡ ins.Text
-Names answer (Ok (messages.Binary s)) is_empty = IsCopied answer s
-Names answer (Ok (messages.Ping s)) is_empty = ⊥
-Names answer (Ok (messages.Pong s)) is_empty = ⊥
-Names answer (Ok (messages.Close frame)) is_empty = answer ≡ ins.Closed
-Names answer (Err e) is_empty = Fails answer e is_empty
+Names returned (Ok (messages.Text s)) is_empty = returned ≡ ins.Text
+Names returned (Ok (messages.Binary s)) is_empty = IsCopied returned s
+Names returned (Ok (messages.Ping s)) is_empty = ⊥
+Names returned (Ok (messages.Pong s)) is_empty = ⊥
+Names returned (Ok (messages.Close frame)) is_empty = returned ≡ ins.Closed
+Names returned (Err e) is_empty = Fails returned e is_empty
 
 -- the reads of one call: pings and pongs, and then the one that is returned; or out of memory
-pub record ReadsTo (answer : FrameIn) (old new : List (Result Message Error)) (is_empty : Bool) : Type 0 where
+pub record ReadsTo (returned : FrameIn) (old new : List (Result Message Error)) (is_empty : Bool) : Type 0 where
   pub passed : List (Result Message Error)
   pub are : All IsPassed passed
-  pub last : ((r : Result Message Error) × (new ≡ old ++ (passed ++ r ∷ [])) × Names answer r is_empty) ⊎ ((answer ≡ ins.NoMemory) × ((more : List (Result Message Error)) × (new ≡ old ++ more)))
+  pub last : ((r : Result Message Error) × (new ≡ old ++ (passed ++ r ∷ [])) × Names returned r is_empty) ⊎ ((returned ≡ ins.NoMemory) × ((more : List (Result Message Error)) × (new ≡ old ++ more)))
 
 -- ---- calls
 
@@ -105,7 +105,7 @@ came_with ins.Closed came = came
 came_with ins.Broken came = came
 came_with ins.NoMemory came = came
 
-abbrev pub last_of : FrameIn → LastAnswer
+abbrev pub last_of : FrameIn → LastResult
 last_of (ins.Binary b) = lasts.Binary
 last_of ins.Text = lasts.Text
 last_of ins.Idle = lasts.Idle
@@ -131,18 +131,18 @@ AllRead ins.Broken new = Unit {0}
 AllRead ins.NoMemory new = Unit {0}
 
 -- more may wait than before: what the rules of frames answer by themselves; nothing that was fed is lost
-pub record AfterNext (answer : FrameIn) (old new : FramesView) : Type 0 where
+pub record AfterNext (returned : FrameIn) (old new : FramesView) : Type 0 where
   pub replies : List ℕ
   pub waiting : new.waiting ≡ old.waiting ++ replies
-  pub came : new.came ≡ came_with answer old.came
+  pub came : new.came ≡ came_with returned old.came
   pub sent : new.sent ≡ old.sent
-  pub last : new.last ≡ last_of answer
+  pub last : new.last ≡ last_of returned
   pub refusals : new.refusals ≡ old.refusals
-  pub breaks : new.breaks ≡ breaks_with answer old.breaks
-  pub read : AllRead answer new
+  pub breaks : new.breaks ≡ breaks_with returned old.breaks
+  pub read : AllRead returned new
   pub fed : all_fed new ≡ all_fed old
   pub role : new.role ≡ old.role
-  pub reads : ReadsTo answer old.reads new.reads (new.left == 0)
+  pub reads : ReadsTo returned old.reads new.reads (new.left == 0)
 
 -- the bytes are one binary frame of this body, masked where a client sends it
 pub record IsFrame (role : Role) (bytes body : List ℕ) : Type 0 where

@@ -84,12 +84,12 @@ WroteAll flushes.Failed f' link link' = Rose link.faults link'.faults
 WroteAll flushes.Refused f' link link' = ⊥
 WroteAll flushes.NoMemory f' link link' = ⊥
 
-abbrev pub FlushAnswer : WireFlush → ℕ → FramesView → FramesView → LinkView → LinkView → Type 0
-FlushAnswer flushes.Empty waits f f' link link' = (waits ≡ 0) × (f'.refusals ≡ f.refusals) × Written f' link link'
-FlushAnswer flushes.NotYet waits f f' link link' = (0 < waits) × Rose link.stalls link'.stalls × (f'.refusals ≡ f.refusals)
-FlushAnswer flushes.Failed waits f f' link link' = (0 < waits) × Rose link.faults link'.faults × (f'.refusals ≡ f.refusals)
-FlushAnswer flushes.Refused waits f f' link link' = ⊥
-FlushAnswer flushes.NoMemory waits f f' link link' = (0 < waits) × (f'.refusals ≡ f.refusals)
+abbrev pub FlushResult : WireFlush → ℕ → FramesView → FramesView → LinkView → LinkView → Type 0
+FlushResult flushes.Empty waits f f' link link' = (waits ≡ 0) × (f'.refusals ≡ f.refusals) × Written f' link link'
+FlushResult flushes.NotYet waits f f' link link' = (0 < waits) × Rose link.stalls link'.stalls × (f'.refusals ≡ f.refusals)
+FlushResult flushes.Failed waits f f' link link' = (0 < waits) × Rose link.faults link'.faults × (f'.refusals ≡ f.refusals)
+FlushResult flushes.Refused waits f f' link link' = ⊥
+FlushResult flushes.NoMemory waits f f' link link' = (0 < waits) × (f'.refusals ≡ f.refusals)
 
 -- what was in hand was sent, and then what the link takes was written
 pub record FlushedFrom (result : WireFlush) (old new : FrameOutletView) (f f' : FramesView) (link link' : LinkView) : Type 0 where
@@ -97,4 +97,4 @@ pub record FlushedFrom (result : WireFlush) (old new : FrameOutletView) (f f' : 
   pub framed : FramesView
   pub gave : Gave old mid f framed
   pub wrote : Wrote mid new framed f' link link'
-  pub answer : FlushAnswer result (count_of new) f f' link link'
+  pub returned : FlushResult result (count_of new) f f' link link'

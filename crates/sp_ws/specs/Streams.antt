@@ -9,7 +9,7 @@ use Rattle.sp_ws.specs.declared.memory.Memory.{Memory}
 use Rattle.sp_ws.specs.declared.stream.Stream.{Stream}
 use Rattle.sp_ws.specs.declared.frames.FrameIn.{FrameIn}
 use Rattle.sp_ws.specs.declared.frames.FrameIn.TheVariants as ins
-use Rattle.sp_ws.specs.declared.frames.LastAnswer.{LastAnswer}
+use Rattle.sp_ws.specs.declared.frames.LastResult.{LastResult}
 use Rattle.sp_ws.specs.Views.{FramesView}
 use Rattle.sp_ws.specs.Frames.{IsPassed, Names, ReadsTo, IsFrame}
 
@@ -28,7 +28,7 @@ abbrev pub unread_of : Stream → ℕ
 unread_of s = length (unread_in s.socket.stream)
 
 -- what a socket shows of its stream and of what it counts beside it; it refuses nothing
-abbrev pub frames_view : Stream → List (List ℕ) → List (List ℕ) → LastAnswer → ℕ → FramesView
+abbrev pub frames_view : Stream → List (List ℕ) → List (List ℕ) → LastResult → ℕ → FramesView
 frames_view s came sent last breaks =
     record { role = s.role; handed = handed_in s; fed = s.fed.items; left = unread_of s; waiting = s.out.items; came = came; sent = sent; last = last; refusals = 0; breaks = breaks; reads = s.reads.all; config = s.socket.conn.config }
 
@@ -58,7 +58,7 @@ Passed (suc n) old new = (mid : Socket Memory) × Passed n old mid × ((r : Resu
 
 abbrev pub IsNamed : Option FrameIn → Result Message Error → Bool → Type 0
 IsNamed None r empty = IsPassed r
-IsNamed (Some answer) r empty = Names answer r empty
+IsNamed (Some returned) r empty = Names returned r empty
 
 -- the stream has nothing left
 abbrev pub is_dry : Socket Memory → Bool
@@ -66,9 +66,9 @@ is_dry s = length (unread_in s.stream) == 0
 
 -- the socket's read returned that, after messages that were passed over; or there was no end to these
 abbrev pub ReadTo : FrameIn → Socket Memory → Socket Memory → Type 0
-ReadTo answer old new =
-    ((count : ℕ) × (mid : Socket Memory) × Passed count old mid × ((r : Result Message Error) × Reads remaining_in mid new r × Names answer r (is_dry new)))
-    ⊎ (answer ≡ ins.NoMemory)
+ReadTo returned old new =
+    ((count : ℕ) × (mid : Socket Memory) × Passed count old mid × ((r : Result Message Error) × Reads remaining_in mid new r × Names returned r (is_dry new)))
+    ⊎ (returned ≡ ins.NoMemory)
 
 -- all that was fed was read
 abbrev pub IdleWhen : FrameIn → Stream → Type 0
@@ -81,12 +81,12 @@ IdleWhen ins.NoMemory s = Unit {0}
 
 -- the reads that a call noted
 abbrev pub Noted : FrameIn → Stream → Stream → Type 0
-Noted answer old new = ReadsTo answer old.reads.all new.reads.all (unread_of new == 0)
+Noted returned old new = ReadsTo returned old.reads.all new.reads.all (unread_of new == 0)
 
-pub record NextIs (answer : FrameIn) (old new : Stream) : Type 0 where
+pub record NextIs (returned : FrameIn) (old new : Stream) : Type 0 where
   pub replies : List ℕ
   pub waiting : new.out.items ≡ old.out.items ++ replies
-  pub idle : IdleWhen answer new
+  pub idle : IdleWhen returned new
   pub role : new.role ≡ old.role
   pub fed : handed_in new ++ new.fed.items ≡ handed_in old ++ old.fed.items
 

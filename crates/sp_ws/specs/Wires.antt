@@ -19,7 +19,7 @@ use Rattle.sp_ws.specs.Outlets.{AreWithin, AreFrames, passed, Written}
 use Rattle.sp_ws.specs.Sides.{role_of}
 use Rattle.sp_ws.specs.declared.side.Side.{Side}
 use Rattle.sp_ws.specs.Pulls.{IsIdle, PullReads, WasFed}
-use Rattle.sp_ws.specs.declared.frames.LastAnswer.TheVariants as lasts
+use Rattle.sp_ws.specs.declared.frames.LastResult.TheVariants as lasts
 
 -- the bodies that were pulled: all that came, but for the last one where it was lost
 abbrev pub came_in : Bool → List (List ℕ) → List (List ℕ)

@@ -35,7 +35,7 @@ pub enum FrameOut {
 
 /// The kind of the last result of `next`.
 #[derive(Clone, Copy, Debug, PartialEq, Eq)]
-pub enum LastAnswer {
+pub enum LastResult {
     /// None yet.
     Nothing,
     /// A binary message.

@@ -24,7 +24,7 @@ mod socket;
 mod stream;
 mod wire;
 
-pub use frames::{FrameIn, FrameOut, Frames, LastAnswer};
+pub use frames::{FrameIn, FrameOut, Frames, LastResult};
 pub use side::Side;
 pub use socket::MemorySocket;
 pub use wire::WsWire;

@@ -26,7 +26,7 @@ unsafe impl Sync for ReadLog {}
 /// The next read's result.
 #[derive(Clone, Copy, Drop)]
 pub(crate) struct Given<'a> {
-    pub answer: &'a Result<Message, Error>,
+    pub returned: &'a Result<Message, Error>,
 }
 
 impl ReadLog {
@@ -39,7 +39,7 @@ impl ReadLog {
 
     /// One read more.
     pub(crate) fn and(&self, _given: &Given<'_>) -> ReadLog
-        ensures { result.all ≡ self.now.all ++ _given.now.answer.now ∷ [] }
+        ensures { result.all ≡ self.now.all ++ _given.now.returned.now ∷ [] }
     {
         ReadLog {}
     }

@@ -5,7 +5,7 @@ ghost use Rattle.sp_ws.specs.Views.{fresh_frames, HasLimits};
 ghost use Rattle.sp_ws.specs.declared.frames.FrameOut.TheVariants as outs;
 ghost use Rattle.sp_ws.specs.Frames.{AfterFeed, AfterNext, AfterSend, last_of, came_with, breaks_with};
 
-use crate::frames::{FrameIn, FrameOut, Frames, LastAnswer};
+use crate::frames::{FrameIn, FrameOut, Frames, LastResult};
 use crate::log::{Log, NextBody};
 use crate::side::Side;
 use crate::stream::Stream;
@@ -20,7 +20,7 @@ pub struct MemorySocket {
     /// The bodies that came and those that were sent. They take no memory.
     came: Log,
     sent: Log,
-    last: LastAnswer,
+    last: LastResult,
     breaks: u64,
 }
 
@@ -33,34 +33,34 @@ impl Model for MemorySocket {
     ghost view = { λ s. frames_view s.stream s.came.texts s.sent.texts s.last s.breaks };
 }
 
-fn kind(answer: &FrameIn) -> LastAnswer
-    ensures { result ≡ last_of answer.now }
+fn kind(returned: &FrameIn) -> LastResult
+    ensures { result ≡ last_of returned.now }
 {
-    match answer {
-        FrameIn::Binary(_) => LastAnswer::Binary,
-        FrameIn::Text => LastAnswer::Text,
-        FrameIn::Idle => LastAnswer::Idle,
-        FrameIn::Closed => LastAnswer::Closed,
-        FrameIn::Broken => LastAnswer::Broken,
-        FrameIn::NoMemory => LastAnswer::NoMemory,
+    match returned {
+        FrameIn::Binary(_) => LastResult::Binary,
+        FrameIn::Text => LastResult::Text,
+        FrameIn::Idle => LastResult::Idle,
+        FrameIn::Closed => LastResult::Closed,
+        FrameIn::Broken => LastResult::Broken,
+        FrameIn::NoMemory => LastResult::NoMemory,
     }
 }
 
 // Notes the body that came with this result.
-fn note(came: &mut Log, answer: &FrameIn)
-    ensures { came.new.texts ≡ came_with answer.now came.old.texts }
+fn note(came: &mut Log, returned: &FrameIn)
+    ensures { came.new.texts ≡ came_with returned.now came.old.texts }
 {
-    if let FrameIn::Binary(body) = answer {
+    if let FrameIn::Binary(body) = returned {
         *came = came.and(&NextBody {
             bytes: body.as_slice(),
         });
     }
 }
 
-fn broke(breaks: u64, answer: &FrameIn) -> u64
-    ensures { result ≡ breaks_with answer.now breaks }
+fn broke(breaks: u64, returned: &FrameIn) -> u64
+    ensures { result ≡ breaks_with returned.now breaks }
 {
-    match answer {
+    match returned {
         FrameIn::Broken => breaks.saturating_add(1),
         _ => breaks,
     }
@@ -76,7 +76,7 @@ impl MemorySocket {
             stream: Stream::new(alloc, side.role(), side.seed(), max),
             came: Log::none(),
             sent: Log::none(),
-            last: LastAnswer::Nothing,
+            last: LastResult::Nothing,
             breaks: 0,
         }
     }
@@ -95,11 +95,11 @@ impl Frames for MemorySocket {
     fn next(&mut self) -> FrameIn
         ensures { AfterNext result self.old self.new }
     {
-        let answer = self.stream.next();
-        self.last = kind(&answer);
-        note(&mut self.came, &answer);
-        self.breaks = broke(self.breaks, &answer);
-        answer
+        let returned = self.stream.next();
+        self.last = kind(&returned);
+        note(&mut self.came, &returned);
+        self.breaks = broke(self.breaks, &returned);
+        returned
     }
 
     fn send(&mut self, b: &[u8]) -> FrameOut

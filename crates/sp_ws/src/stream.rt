@@ -103,10 +103,10 @@ fn framed(alloc: Global, role: Role, seed: u64, b: &[u8]) -> Result<Vec<u8>, NoM
 }
 
 // What a read's result is called, if it isn't passed over.
-fn name(alloc: Global, answer: Result<Message, Error>, is_empty: bool) -> Option<FrameIn>
-    ensures { IsNamed result answer is_empty }
+fn name(alloc: Global, returned: Result<Message, Error>, is_empty: bool) -> Option<FrameIn>
+    ensures { IsNamed result returned is_empty }
 {
-    match answer {
+    match returned {
         Ok(Message::Binary(b)) => Some(copied(alloc, &b)),
         Ok(Message::Text(_)) => Some(FrameIn::Text),
         Ok(Message::Close(_)) => Some(FrameIn::Closed),
@@ -216,9 +216,11 @@ impl Stream {
         ensures out { self.new.out ≡ self.old.out }
         ensures role { self.new.role ≡ self.old.role }
     {
-        let answer = self.socket.read();
-        self.reads = self.reads.and(&Given { answer: &answer });
-        answer
+        let returned = self.socket.read();
+        self.reads = self.reads.and(&Given {
+            returned: &returned,
+        });
+        returned
     }
 
     /// What the socket's next message is, past pings and pongs.
@@ -231,9 +233,9 @@ impl Stream {
         ensures role { self.new.role ≡ self.old.role }
     {
         'reads: for _ in 0..u64::MAX {
-            let answer = self.read_once();
+            let returned = self.read_once();
             let is_empty = self.socket.get_ref().unread() == 0;
-            if let Some(named) = name(self.alloc, answer, is_empty) {
+            if let Some(named) = name(self.alloc, returned, is_empty) {
                 return named;
             }
         }
@@ -249,11 +251,11 @@ impl Stream {
             return FrameIn::NoMemory;
         }
         let late = self.socket.get_ref().out.len();
-        let answer = self.read_next();
+        let returned = self.read_next();
         if !self.fetch(late) {
             return FrameIn::NoMemory;
         }
-        answer
+        returned
     }
 
     /// Frames one binary message. Refused only when out of memory.

@@ -160,7 +160,7 @@ impl<L: Link> Wire for WsWire<L> {
         ensures ws { WsPulled result self.old self.new }
         ensures tied { Tied self.new }
     {
-        let (answer, lost) = pull_from(
+        let (returned, lost) = pull_from(
             self.alloc,
             &mut self.frames,
             &mut self.link,
@@ -168,8 +168,8 @@ impl<L: Link> Wire for WsWire<L> {
             self.max,
         );
         self.lost = lost;
-        self.marks.pulled(&answer);
-        answer
+        self.marks.pulled(&returned);
+        returned
     }
 
     fn room<R: Wait>(&mut self, _rt: &R) -> Room
@@ -180,9 +180,9 @@ impl<L: Link> Wire for WsWire<L> {
         ensures tied { Tied self.new }
     {
         let flushed = flush_from(&mut self.outlet, &mut self.frames, &mut self.link);
-        let answer = room_after(flushed, self.outlet.len());
-        self.marks.roomed(answer);
-        answer
+        let returned = room_after(flushed, self.outlet.len());
+        self.marks.roomed(returned);
+        returned
     }
 
     fn put<R: Wait>(&mut self, _rt: &R, m: Message)
@@ -205,9 +205,9 @@ impl<L: Link> Wire for WsWire<L> {
         ensures ws { WsWrote self.old self.new }
         ensures tied { Tied self.new }
     {
-        let answer = flush_from(&mut self.outlet, &mut self.frames, &mut self.link);
-        self.marks.flushed(answer);
-        answer
+        let returned = flush_from(&mut self.outlet, &mut self.frames, &mut self.link);
+        self.marks.flushed(returned);
+        returned
     }
 
     fn shut(&mut self)

@@ -12,7 +12,7 @@ use Rattle.turn_lock_uses.specs.Acts.{RepliesTo, Acted}
 use Rattle.turn_lock_uses.specs.Logs.{writes_of, counted, Replies, IsLogOfThree}
 use Rattle.turn_lock_uses.specs.Totals.{total, Adds, IsByTwo}
 use Rattle.turn_lock_uses.proofs.WriteLemmas.{writes_of-append}
-use Rattle.turn_lock_uses.proofs.Callers.{AllAnswer, replies_made, turns_made, three_answer, both_answer}
+use Rattle.turn_lock_uses.proofs.Callers.{AllReturn, replies_made, turns_made, three_return, both_return}
 
 module _ {A : Type 0} where
   take_full : (n : ℕ) (xs : List A) (w : A) → length (take n xs) ≡ n → take n (xs ++ w ∷ []) ≡ take n xs
@@ -48,12 +48,12 @@ step room prefix t (Some before) r so_far = let w : Write = record { by = t.numb
     let one : map (λ (w : Written). record { by = t.number; value = w.0 }) t.entries ≡ w ∷ [] = ap (map (λ (w : Written). record { by = t.number; value = w.0 })) r.2 in
     writes_of-push prefix t ∙ (ap (λ (l : List Write). writes_of prefix ++ l) one ∙ (ap (λ (l : List Write). l ++ w ∷ []) so_far ∙ (sym (take_more room (counted [] prefix) w low) ∙ ap (take room) (sym (counted-push [] prefix t)))))
 
-follow : (room : ℕ) (past prefix rest : List (Turn Written)) → past ≡ prefix ++ rest → AllAnswer (λ value before t. (reply : Option ℕ) × Replies room value reply before t) past → writes_of prefix ≡ take room (counted [] prefix) → writes_of past ≡ take room (counted [] past)
+follow : (room : ℕ) (past prefix rest : List (Turn Written)) → past ≡ prefix ++ rest → AllReturn (λ value before t. (reply : Option ℕ) × Replies room value reply before t) past → writes_of prefix ≡ take room (counted [] prefix) → writes_of past ≡ take room (counted [] past)
 follow room past prefix [] is all so_far = let same : past ≡ prefix = is ∙ append-nil prefix in subst (λ (l : List (Turn Written)). writes_of l ≡ take room (counted [] l)) (sym same) so_far
 follow room past prefix (t ∷ ts) is all so_far = let r = all prefix t ts is in follow room past (prefix ++ t ∷ []) ts (is ∙ sym (append_assoc prefix (t ∷ []) ts)) all (step room prefix t r.0 r.1 so_far)
 
--- where every turn answers, the log is what the turns write in their order, as far as the room goes
-pub log_of : (setting : MachineLabel) (label : Option MachineLabel) (past : List (Turn Written)) → label ≡ Some setting → AllAnswer (RepliesTo Replies label) past → writes_of past ≡ take setting.room (counted [] past)
+-- where every turn returns, the log is what the turns write in their order, as far as the room goes
+pub log_of : (setting : MachineLabel) (label : Option MachineLabel) (past : List (Turn Written)) → label ≡ Some setting → AllReturn (RepliesTo Replies label) past → writes_of past ≡ take setting.room (counted [] past)
 log_of setting label past is all = follow setting.room past [] past refl
     (λ prefix t rest e. let r = all prefix t rest e in let same : r.0 ≡ setting = some_same r.0 setting (sym r.1 ∙ is) in (r.2, subst (λ (z : MachineLabel). Replies z.room (length (turns_of t.number prefix)) r.2 prefix t) same r.3))
     (sym (take_none setting.room))
@@ -75,19 +75,19 @@ whole_log lock lock' z label times past log p q p' q' p'' q'' is by new acted fi
     let second = replies_made Replies lock lock' (Some z) label 2 times past p' q' new' acted' fits' in
     let third = replies_made Replies lock lock' (Some z) label 3 times past p'' q'' new'' acted'' fits'' in record {
       past = past;
-      log_is = is ∙ log_of z (Some z) past refl (three_answer (RepliesTo Replies (Some z)) past by first.1 second.1 third.1);
+      log_is = is ∙ log_of z (Some z) past refl (three_return (RepliesTo Replies (Some z)) past by first.1 second.1 third.1);
       callers = by;
       first = first.0;
       second = second.0;
       third = third.0;
     }
 
-added : (past prefix rest : List (Turn Added)) → past ≡ prefix ++ rest → AllAnswer (λ _. Adds 1) past → total prefix ≡ min (length prefix) (2 ^ 64 - 1) → total past ≡ min (length past) (2 ^ 64 - 1)
+added : (past prefix rest : List (Turn Added)) → past ≡ prefix ++ rest → AllReturn (λ _. Adds 1) past → total prefix ≡ min (length prefix) (2 ^ 64 - 1) → total past ≡ min (length past) (2 ^ 64 - 1)
 added past prefix [] is all so_far = let same : past ≡ prefix = is ∙ append-nil prefix in subst (λ (l : List (Turn Added)). total l ≡ min (length l) (2 ^ 64 - 1)) (sym same) so_far
 added past prefix (t ∷ ts) is all so_far = let more = all prefix t ts is in let longer = length-append prefix (t ∷ []) in added past (prefix ++ t ∷ []) ts (is ∙ sym (append_assoc prefix (t ∷ []) ts)) all (omega arith)
 
 -- where every turn adds 1, the sum is the number of turns, up to the greatest count
-pub count_of : (past : List (Turn Added)) → AllAnswer (λ _. Adds 1) past → total past ≡ min (length past) (2 ^ 64 - 1)
+pub count_of : (past : List (Turn Added)) → AllReturn (λ _. Adds 1) past → total past ≡ min (length past) (2 ^ 64 - 1)
 count_of past all = added past [] past refl all refl
 
 -- what two callers that acted added
@@ -97,4 +97,4 @@ pub whole_count : {L : Type 0} (lock lock' : TableId) (z label : Option L) (time
 whole_count lock lock' z label times past p q p' q' by new acted fits new' acted' fits' =
     let first = turns_made (λ _. Adds 1) lock lock' z label 1 times past p q new acted fits in
     let second = turns_made (λ _. Adds 1) lock lock' z label 2 times past p' q' new' acted' fits' in
-    (record { callers = by; first = first.0; second = second.0 }, count_of past (both_answer (λ _. Adds 1) past by first.1 second.1))
+    (record { callers = by; first = first.0; second = second.0 }, count_of past (both_return (λ _. Adds 1) past by first.1 second.1))

@@ -7,17 +7,17 @@ use Rattle.turn_lock.specs.Passes.{TurnPassView, IsReady, IsSameCaller}
 use Rattle.turn_lock_uses.specs.declared.setting.MachineLabel.{MachineLabel}
 
 module _ {E : Type 0} where
-  -- the turn is an answer of a machine with the label's room
+  -- the turn is what a machine with the label's room returns
   abbrev pub RepliesTo : (ℕ → ℕ → Option ℕ → List (Turn E) → Turn E → Type 0) → Option MachineLabel → ℕ → List (Turn E) → Turn E → Type 0
   RepliesTo replies label value past t = (z : MachineLabel) × (label ≡ Some z) × (reply : Option ℕ) × replies z.room value reply past t
 
-  -- each turn of this number in the part of the history behind `before` answers over all that stood before it, the first to the value 0, the next to 1, and so on
-  abbrev pub AnswersInOrder : (ℕ → List (Turn E) → Turn E → Type 0) → ℕ → List (Turn E) → List (Turn E) → Type 0
-  AnswersInOrder answers n before past = (prefix : List (Turn E)) (t : Turn E) (rest : List (Turn E)) → past ≡ prefix ++ t ∷ rest → t.number ≡ n → answers (length (turns_of n prefix)) (before ++ prefix) t
+  -- each turn of this number in the part of the history behind `before` returns what follows from all that stood before it, the first to the value 0, the next to 1, and so on
+  abbrev pub ReturnsInOrder : (ℕ → List (Turn E) → Turn E → Type 0) → ℕ → List (Turn E) → List (Turn E) → Type 0
+  ReturnsInOrder says n before past = (prefix : List (Turn E)) (t : Turn E) (rest : List (Turn E)) → past ≡ prefix ++ t ∷ rest → t.number ≡ n → says (length (turns_of n prefix)) (before ++ prefix) t
 
   module _ {L : Type 0} where
     -- the caller has taken so many turns, one for each value from 0 on, and is ready again
-    pub record Acted (answers : ℕ → List (Turn E) → Turn E → Type 0) (lock : TableId) (before : TurnPassView E L) (count : ℕ) (after : TurnPassView E L) : Type 0 where
+    pub record Acted (says : ℕ → List (Turn E) → Turn E → Type 0) (lock : TableId) (before : TurnPassView E L) (count : ℕ) (after : TurnPassView E L) : Type 0 where
       pub ready : IsReady lock after
       pub same : IsSameCaller before after
       -- what was seen since
@@ -25,4 +25,4 @@ module _ {E : Type 0} where
       pub seen : after.seen ≡ before.seen ++ past
       pub mine : after.mine ≡ before.mine ++ turns_of before.number past
       pub turns : length (turns_of before.number past) ≡ count
-      pub answered : AnswersInOrder answers before.number before.seen past
+      pub returned : ReturnsInOrder says before.number before.seen past

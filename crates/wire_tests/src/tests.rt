@@ -6,7 +6,7 @@ use crate::checks::{holds, made, same};
 use sp_base::{Bytes, SpError};
 use sp_fakes::{LinkStep, MemLink, MemWire, WireStep};
 use sp_msg::{HeaderFull, Message, Room, Short, Wire, WireFlush, WireIn};
-use sp_tcp::{Front, Reader, TcpWire};
+use sp_tcp::{Prefix, Reader, TcpWire};
 use std::alloc::Global;
 use std::process::Abort;
 use std::sync::Wait;
@@ -31,15 +31,15 @@ fn edited(rt: &impl Abort, alloc: Global) -> Message {
 }
 
 // The number of the error, or 0.
-fn short_code(answer: Result<(), Short>) -> u32 {
-    match answer {
+fn short_code(returned: Result<(), Short>) -> u32 {
+    match returned {
         Ok(()) => 0,
         Err(e) => SpError::from(e).code(),
     }
 }
 
-fn full_code(answer: Result<(), HeaderFull>) -> u32 {
-    match answer {
+fn full_code(returned: Result<(), HeaderFull>) -> u32 {
+    match returned {
         Ok(()) => 0,
         Err(e) => SpError::from(e).code(),
     }
@@ -198,18 +198,18 @@ fn plainly(rt: &impl Abort, alloc: Global, bytes: &[u8], max: u32) -> Vec<u8> {
     made(rt, reader.append(bytes));
     for _ in 0..200 {
         match reader.front(max) {
-            Front::Message(body) => {
+            Prefix::Message(body) => {
                 made(rt, said.push(b'['));
                 made(rt, said.extend_from_slice(body));
                 made(rt, said.push(b']'));
                 let size = body.len();
                 reader.pass(size);
             }
-            Front::Part => {
+            Prefix::Part => {
                 made(rt, said.push(b'e'));
                 return said;
             }
-            Front::Oversize => {
+            Prefix::Oversize => {
                 made(rt, said.push(b'x'));
                 return said;
             }

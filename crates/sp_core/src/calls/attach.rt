@@ -82,9 +82,9 @@ impl<P: Proto, W: Wire> Core<P, W> {
         ensures handed_back { IfErr result (λ e. e.1 ≡ w) }
     {
         self.begin_turn();
-        let answer = self.bring_up(w);
+        let returned = self.bring_up(w);
         self.settle(rt);
-        answer
+        returned
     }
 
     /// The net handed out the link with this place. Also after the close. Doesn't fail when out of memory.

@@ -21,8 +21,8 @@ use std::sync::Wait;
 use turn_lock::Stands;
 
 impl<P: Proto, W: Wire> Core<P, W> {
-    /// Begins a receive on the context, with a deadline or none. It is answered by a message, or ends without one; its
-    /// caller collects it. Refused by the first of these causes: the socket is closed; the role doesn't receive, or has
+    /// Begins a receive on the context, with a deadline or none. It ends with a message, or without one; its caller
+    /// collects it. Refused by the first of these causes: the socket is closed; the role doesn't receive, or has
     /// no such contexts; the context isn't open; the protocol's state; every slot is taken. Doesn't fail when out of
     /// memory.
     pub fn begin_recv<R: Wait>(
@@ -111,7 +111,7 @@ impl<P: Proto, W: Wire> Core<P, W> {
         match self.op_words.look(op) {
             None => (),
             Some(Decision::Won) => unreachable!(),
-            Some(Decision::Gone { cause, by }) => self.note_gone(op, cause, by),
+            Some(Decision::Gone { cause, by }) => self.note_end(op, cause, by),
         }
     }
 

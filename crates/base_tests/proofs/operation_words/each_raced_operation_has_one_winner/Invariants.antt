@@ -1,5 +1,5 @@
 use Rattle.std.proofs.Common.{◌≡◌, ◌<◌, ◌≤◌}
-use Rattle.aio_word.specs.Answers.{HasSeen}
+use Rattle.aio_word.specs.Results.{HasSeen}
 use Rattle.base_tests.proofs.operation_words.each_raced_operation_has_one_winner.Given as goal
 
 abbrev pub invariant-loop : goal.invariant-loop

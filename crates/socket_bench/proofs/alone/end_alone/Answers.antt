@@ -10,4 +10,4 @@ pub into_wires-requires : goal.into_wires-requires
 into_wires-requires g c =
     let p = c.requires in
     let t = c.close.ensures.turn p.history p.stands in
-    (p.history ++ t.0 ∷ [], t.2, closed_of (past_of (p.history ++ t.0 ∷ [])) c.close.result t.3.answer)
+    (p.history ++ t.0 ∷ [], t.2, closed_of (past_of (p.history ++ t.0 ∷ [])) c.close.result t.3.returned)

@@ -1,7 +1,7 @@
 use Rattle.std.proofs.Common.{◌≡◌, ℕ, List, refl, sym, subst, ◌∙◌, true, false}
 use Rattle.std.specs.Bool.{IsTrue}
 use Rattle.std.proofs.lemmas.List.{take_rest}
-use Rattle.sp_tcp.specs.Readings.{FrontIs}
+use Rattle.sp_tcp.specs.Readings.{PrefixIs}
 use Rattle.sp_tcp.proofs.MarkSplits.{split_short, split_wrong, split_behind}
 use Rattle.sp_tcp.proofs.reader.split_marked.Goals as goal
 
@@ -15,4 +15,4 @@ returns-then-not-is_same c =
 
 pub returns : goal.returns
 returns c =
-    split_behind c.args.mark.now c.args.s.now c.min-count.result c.args.max c.min-count.ensures c.split_front.result (c.is_same.ensures.0 (subst IsTrue (sym c.if-not-is_same.false) refl)) c.if-count-mark.false (subst (λ (x : List ℕ). FrontIs c.args.max x c.split_front.result) (take_rest c.args.s.now c.min-count.result) c.split_front.ensures)
+    split_behind c.args.mark.now c.args.s.now c.min-count.result c.args.max c.min-count.ensures c.split_prefix.result (c.is_same.ensures.0 (subst IsTrue (sym c.if-not-is_same.false) refl)) c.if-count-mark.false (subst (λ (x : List ℕ). PrefixIs c.args.max x c.split_prefix.result) (take_rest c.args.s.now c.min-count.result) c.split_prefix.ensures)

@@ -1,6 +1,6 @@
 use Rattle.std.proofs.Common.{◌≡◌, ℕ, List, ◌+◌, ◌<◌, get_or, length, arith, rules, ap, ◌∙◌, sym, subst, refl}
 use Rattle.aio_word.specs.declared.rule.WordsView.{WordsView}
-use Rattle.aio_word.specs.Answers.{HasSeen}
+use Rattle.aio_word.specs.Results.{HasSeen}
 use Rattle.aio_word.proofs.Entries.{get_or_any}
 use Rattle.aio_word.proofs.Steps.{begins_ok}
 use Rattle.aio_word.proofs.calls.Words.begin.Goals as goal

@@ -1,9 +1,9 @@
 use Rattle.std.proofs.Common.{arith, rules, ap, ◌∙◌, sym}
 use Rattle.aio_word.proofs.Steps.{races_ok, polls_ok}
-use Rattle.aio_word.proofs.Answering.{call_missed, call_unraced}
+use Rattle.aio_word.proofs.CallResults.{call_missed, call_unraced}
 use Rattle.std.proofs.Common.{subst}
 use Rattle.aio_word.specs.Sight.{Sight}
-use Rattle.aio_word.specs.Answers.{CallEnded}
+use Rattle.aio_word.specs.Results.{CallEnded}
 use Rattle.aio_word.proofs.calls.Words.race.Goals as goal
 
 pub load-requires : goal.load-requires
@@ -25,8 +25,8 @@ compare_exchange-found-requires c =
     let number = caller.2 in
     (search rules, omega arith, races_ok _ _ _ _ c.args.op.slot c.args.op.generation c.args.to _ _ caller.1 (omega arith) (omega arith) (omega arith) c.requires.end (omega arith) (omega arith))
 
-pub returns-clause-answer : goal.returns-clause-answer
-returns-clause-answer c =
+pub returns-clause-returned : goal.returns-clause-returned
+returns-clause-returned c =
     let x = c.compare_exchange-found.ensures.2 in
     let v = c.seat.inside.seat.me.0 in
     let g = c.args.op.generation in

@@ -15,4 +15,4 @@ pub into_wires-requires : goal.into_wires-requires
 into_wires-requires g c =
     let p = c.self.invariant in
     let t = c.close.ensures.turn p.history (c.join.ensures.stands p.history p.stands) in
-    (p.history ++ t.0 ∷ [], t.2, totals_closed (past_of (p.history ++ t.0 ∷ [])) c.close.result t.3.answer)
+    (p.history ++ t.0 ∷ [], t.2, totals_closed (past_of (p.history ++ t.0 ∷ [])) c.close.result t.3.returned)

@@ -42,14 +42,14 @@ returns-in-Full g c = λ t p lawful h there.
 pub returns-in-Failed : goal.returns-in-Failed
 returns-in-Failed g c = λ t p lawful h there.
     let after = subst (λ (r : Room). AfterRoom r (g.W.Wire.shown c.in-Some.wire) (g.W.Wire.shown c.room.new.self)) c.in-Failed.is c.room.ensures in
-    rw c.take_down.ensures.answer (λ q. cc, emptied g.W.Wire.shown c.args.self.now _ c.take_down.new.self t c.args.i p c.index_mut.result.now c.in-Some.wire c.room.new.self whys.Failed lawful h there c.index_mut.ensures.value c.in-Some.is (λ was. failed t.z (past t) p _ _ was.agrees after) refl refl refl c.take_down.ensures.empties)
+    rw c.take_down.ensures.returned (λ q. cc, emptied g.W.Wire.shown c.args.self.now _ c.take_down.new.self t c.args.i p c.index_mut.result.now c.in-Some.wire c.room.new.self whys.Failed lawful h there c.index_mut.ensures.value c.in-Some.is (λ was. failed t.z (past t) p _ _ was.agrees after) refl refl refl c.take_down.ensures.empties)
 
 pub returns-in-Refused : goal.returns-in-Refused
 returns-in-Refused g c = λ t p lawful h there.
     let after = subst (λ (r : Room). AfterRoom r (g.W.Wire.shown c.in-Some.wire) (g.W.Wire.shown c.room.new.self)) c.in-Refused.is c.room.ensures in
-    rw c.take_down-in-Refused.ensures.answer (λ q. cc, emptied g.W.Wire.shown c.args.self.now _ c.take_down-in-Refused.new.self t c.args.i p c.index_mut.result.now c.in-Some.wire c.room.new.self whys.Refusal lawful h there c.index_mut.ensures.value c.in-Some.is (λ was. refused t.z (past t) p _ _ was.agrees after) refl refl refl c.take_down-in-Refused.ensures.empties)
+    rw c.take_down-in-Refused.ensures.returned (λ q. cc, emptied g.W.Wire.shown c.args.self.now _ c.take_down-in-Refused.new.self t c.args.i p c.index_mut.result.now c.in-Some.wire c.room.new.self whys.Refusal lawful h there c.index_mut.ensures.value c.in-Some.is (λ was. refused t.z (past t) p _ _ was.agrees after) refl refl refl c.take_down-in-Refused.ensures.empties)
 
 pub returns-in-NoMemory : goal.returns-in-NoMemory
 returns-in-NoMemory g c = λ t p lawful h there.
     let after = subst (λ (r : Room). AfterRoom r (g.W.Wire.shown c.in-Some.wire) (g.W.Wire.shown c.room.new.self)) c.in-NoMemory.is c.room.ensures in
-    rw c.take_down-in-NoMemory.ensures.answer (λ q. cc, emptied g.W.Wire.shown c.args.self.now _ c.take_down-in-NoMemory.new.self t c.args.i p c.index_mut.result.now c.in-Some.wire c.room.new.self whys.NoMemory lawful h there c.index_mut.ensures.value c.in-Some.is (λ was. without_memory t.z (past t) p _ _ was.agrees after) refl refl refl c.take_down-in-NoMemory.ensures.empties)
+    rw c.take_down-in-NoMemory.ensures.returned (λ q. cc, emptied g.W.Wire.shown c.args.self.now _ c.take_down-in-NoMemory.new.self t c.args.i p c.index_mut.result.now c.in-Some.wire c.room.new.self whys.NoMemory lawful h there c.index_mut.ensures.value c.in-Some.is (λ was. without_memory t.z (past t) p _ _ was.agrees after) refl refl refl c.take_down-in-NoMemory.ensures.empties)

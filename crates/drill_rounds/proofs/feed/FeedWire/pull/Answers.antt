@@ -6,5 +6,5 @@ use Rattle.drill_rounds.proofs.feed.FeedWire.pull.Goals as goal
 
 pub invariant_of-self : goal.invariant_of-self
 invariant_of-self g c =
-    subst (IsFeed c.pull-answer.new.self) (sym (c.either-self-inside.ensures ∙ ap (λ (b : Bool). c.self.inside.lost || b) c.is_lost.ensures))
-    (pulled c.pull-answer.result c.self.inside.wire c.pull-answer.new.self c.self.inside.lost c.pull-answer.ensures.after c.pull-answer.ensures.lane c.self.invariant)
+    subst (IsFeed c.pull-returned.new.self) (sym (c.either-self-inside.ensures ∙ ap (λ (b : Bool). c.self.inside.lost || b) c.is_lost.ensures))
+    (pulled c.pull-returned.result c.self.inside.wire c.pull-returned.new.self c.self.inside.lost c.pull-returned.ensures.after c.pull-returned.ensures.lane c.self.invariant)

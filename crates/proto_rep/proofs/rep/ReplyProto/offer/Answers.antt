@@ -3,7 +3,7 @@ use Rattle.sp_base.specs.declared.OpName.{OpName}
 use Rattle.sp_proto.specs.Kinds.{text_of}
 use Rattle.sp_proto.specs.Machines.{CanGive}
 use Rattle.proto_rep.specs.Operations.{is_receive, begun_of}
-use Rattle.proto_rep.proofs.ListFronts.{some_front, is_empty, not_empty}
+use Rattle.proto_rep.proofs.FirstElements.{some_first, is_empty, not_empty}
 use Rattle.proto_requests.proofs.Spotted.{mapped, unmapped}
 use Rattle.proto_rep.proofs.Offered.{can_give, sends_right}
 use Rattle.proto_rep.proofs.Replied.{waiting_ties}
@@ -15,7 +15,7 @@ pub returns-in-Some-clause-offered : goal.returns-in-Some-clause-offered
 returns-in-Some-clause-offered c =
     λ t l q h.
     let m = c.args.self.now in
-    let ks = some_front m.kept.items (not_empty _ m.kept.items _ refl c.is_empty.ensures c.if-not-is_empty.true) in
+    let ks = some_first m.kept.items (not_empty _ m.kept.items _ refl c.is_empty.ensures c.if-not-is_empty.true) in
     let w = mapped _ (find is_receive h.waits) c.in-Some.op (c.in-Some.ensures h.waits h.holds) in
     (begun_of w.0, text_of ks.0.message, subst (λ (op : OpName). CanGive t op (begun_of w.0) (text_of ks.0.message)) w.2 (can_give m t ks.0 ks.1 w.0 h ks.2 w.1))
 

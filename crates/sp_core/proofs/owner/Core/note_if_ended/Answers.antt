@@ -2,7 +2,7 @@ use Rattle.std.proofs.Common.{refl, ap, sym, ◌∙◌, subst, List, [], ◌∷�
 use Rattle.sp_base.specs.declared.OpName.{OpName}
 use Rattle.aio_word.specs.declared.phase.Phase.TheVariants.{Pending as PendingPhase}
 use Rattle.aio_word.specs.declared.rule.ShownOperation as word
-use Rattle.aio_word.specs.Answers.{of_op}
+use Rattle.aio_word.specs.Results.{of_op}
 use Rattle.sp_history.specs.declared.entry.Ending.{Ending}
 use Rattle.sp_history.specs.declared.entry.Ending.TheVariants.{Gone}
 use Rattle.sp_history.specs.declared.entry.Entry.TheVariants.{End}
@@ -30,8 +30,8 @@ unreachable-requires g c =
     let f = pending_there c.args.self.now.operations r.0 c.args.x.now r.1.operations r.1.lawful r.2 in
     (c.in-Some-Won.ensures.looked r.0 f.0 r.1.lawful r.1.op_words (ap (pending (past r.0)) c.name-op.ensures ∙ f.1)).0 c.in-Some-Won.field-0-is
 
-pub note_gone-requires : goal.note_gone-requires
-note_gone-requires g c =
+pub note_end-requires : goal.note_end-requires
+note_end-requires g c =
     let r = c.requires in
     let f = pending_there c.args.self.now.operations r.0 c.args.x.now r.1.operations r.1.lawful r.2 in
     let p = ap (pending (past r.0)) c.name-op.ensures ∙ f.1 in
@@ -72,12 +72,12 @@ returns-in-Some-Gone g c = record {
       let e = End c.name-op.result ending in (
         also t e,
         later-one t e tt,
-        (owns_decided g.P.Proto.ties g.P.Proto.room g.P.Proto.left g.W.Wire.shown c.args.self.now c.note_gone.new.self c.look.new.self t c.name-op.result f.0 c.in-Some-Gone.cause c.in-Some-Gone.by h p (is_gone c.in-Some-Gone.field-0 c.in-Some-Gone.cause c.in-Some-Gone.by c.name-op.result t c.look.new.self c.in-Some-Gone.field-0-is k.1) c.note_gone.ensures).0,
+        (owns_decided g.P.Proto.ties g.P.Proto.room g.P.Proto.left g.W.Wire.shown c.args.self.now c.note_end.new.self c.look.new.self t c.name-op.result f.0 c.in-Some-Gone.cause c.in-Some-Gone.by h p (is_gone c.in-Some-Gone.field-0 c.in-Some-Gone.cause c.in-Some-Gone.by c.name-op.result t c.look.new.self c.in-Some-Gone.field-0-is k.1) c.note_end.ensures).0,
         inr (
-          subst (λ (o : OpName). LeavesPending o c.args.self.now.operations c.note_gone.new.self.operations) c.name-op.ensures c.note_gone.ensures.leaves,
-          subst (λ (xs : List word.ShownOperation). Grows (reads_of c.args.self.now) xs) (sym (ap (λ (x : OpWords). x.seat.view.reads) c.note_gone.ensures.op_words)) c.in-Some-Gone.ensures.reads.1,
+          subst (λ (o : OpName). LeavesPending o c.args.self.now.operations c.note_end.new.self.operations) c.name-op.ensures c.note_end.ensures.leaves,
+          subst (λ (xs : List word.ShownOperation). Grows (reads_of c.args.self.now) xs) (sym (ap (λ (x : OpWords). x.seat.view.reads) c.note_end.ensures.op_words)) c.in-Some-Gone.ensures.reads.1,
           (ending, ap (λ (o : OpName). also t (End o ending)) c.name-op.ensures),
         ),
       );
-  words = ap (λ (x : OpWords). x.words) c.note_gone.ensures.op_words ∙ c.look.ensures.reads.0;
+  words = ap (λ (x : OpWords). x.words) c.note_end.ensures.op_words ∙ c.look.ensures.reads.0;
 }

@@ -40,5 +40,5 @@ returns-in-Err-clause-by c =
       accepts = ap (λ (s : NetScript). s.accepts) script;
       dials = ap (λ (s : NetScript). s.dials) script;
     } in
-    subst (λ r. ListenBy r (net_script c.args.self.now) (net_script c.no_listener-in-Err.new.self)) (sym c.no_listener-in-Err.ensures.answer)
+    subst (λ r. ListenBy r (net_script c.args.self.now) (net_script c.no_listener-in-Err.new.self)) (sym c.no_listener-in-Err.ensures.returned)
     (subst (λ s. ListenBy listened.Failed (net_script c.args.self.now) s) (sym c.no_listener-in-Err.ensures.script) by)

@@ -7,5 +7,5 @@ pub returns-clause-after : goal.returns-clause-after
 returns-clause-after g c =
     let w = c.self.inside in
     rw (← c.self.view_is)
-    (pulled c.pull_from-answer.result w.out w.inp c.pull_from-answer.new.inp w.hand w.lost c.is_lost-self-inside.result w.is_shut w.marks c.pulled.new.self
-    c.pull_from-answer.ensures (c.self.invariant.lost (ap (λ (v : LaneWireView). v.wire.is_open) c.self.view_is ∙ c.requires)) c.is_lost-self-inside.ensures c.pulled.ensures)
+    (pulled c.pull_from-returned.result w.out w.inp c.pull_from-returned.new.inp w.hand w.lost c.is_lost-self-inside.result w.is_shut w.marks c.pulled.new.self
+    c.pull_from-returned.ensures (c.self.invariant.lost (ap (λ (v : LaneWireView). v.wire.is_open) c.self.view_is ∙ c.requires)) c.is_lost-self-inside.ensures c.pulled.ensures)

@@ -8,7 +8,7 @@ pub returns-in-Got : goal.returns-in-Got
 returns-in-Got g c =
     let r = c.in-Got.ensures.read in
     let s = c.self.inside.buffer.items in
-    let s2 : List ℕ = c.read_at-answer.new.buffer.items in
+    let s2 : List ℕ = c.read_at-returned.new.buffer.items in
     let f : ℕ = c.self.inside.filled in
     let unread = ap (λ (v : InletView). v.unread) c.self.view_is ∙ c.in_ok-make_room.ensures.same in
     let piece : List ℕ = take c.in-Got.n (drop f s2) in
@@ -22,16 +22,16 @@ pub returns-in-NotYet : goal.returns-in-NotYet
 returns-in-NotYet g c =
     let r = c.in-NotYet.ensures.read in
     let unread = ap (λ (v : InletView). v.unread) c.self.view_is ∙ c.in_ok-make_room.ensures.same in
-    (part_same c.self.inside.taken c.self.inside.filled c.self.inside.buffer.items c.read_at-answer.new.buffer.items c.self.invariant.0 c.in-NotYet.ensures.prefix ∙ unread, r.shows.0, record { faults = r.faults; idles = r.idles; stalls = r.stalls }, r.shows.1, r.shows.2)
+    (part_same c.self.inside.taken c.self.inside.filled c.self.inside.buffer.items c.read_at-returned.new.buffer.items c.self.invariant.0 c.in-NotYet.ensures.prefix ∙ unread, r.shows.0, record { faults = r.faults; idles = r.idles; stalls = r.stalls }, r.shows.1, r.shows.2)
 
 pub returns-in-Ended : goal.returns-in-Ended
 returns-in-Ended g c =
     let r = c.in-Ended.ensures.read in
     let unread = ap (λ (v : InletView). v.unread) c.self.view_is ∙ c.in_ok-make_room.ensures.same in
-    (part_same c.self.inside.taken c.self.inside.filled c.self.inside.buffer.items c.read_at-answer.new.buffer.items c.self.invariant.0 c.in-Ended.ensures.prefix ∙ unread, r.shows.0, record { faults = r.faults; idles = r.idles; stalls = r.stalls }, r.shows.1)
+    (part_same c.self.inside.taken c.self.inside.filled c.self.inside.buffer.items c.read_at-returned.new.buffer.items c.self.invariant.0 c.in-Ended.ensures.prefix ∙ unread, r.shows.0, record { faults = r.faults; idles = r.idles; stalls = r.stalls }, r.shows.1)
 
 pub returns-in-Failed : goal.returns-in-Failed
 returns-in-Failed g c =
     let r = c.in-Failed.ensures.read in
     let unread = ap (λ (v : InletView). v.unread) c.self.view_is ∙ c.in_ok-make_room.ensures.same in
-    (part_same c.self.inside.taken c.self.inside.filled c.self.inside.buffer.items c.read_at-answer.new.buffer.items c.self.invariant.0 c.in-Failed.ensures.prefix ∙ unread, r.shows.0, record { faults = r.faults; idles = r.idles; stalls = r.stalls }, r.shows.1, r.shows.2)
+    (part_same c.self.inside.taken c.self.inside.filled c.self.inside.buffer.items c.read_at-returned.new.buffer.items c.self.invariant.0 c.in-Failed.ensures.prefix ∙ unread, r.shows.0, record { faults = r.faults; idles = r.idles; stalls = r.stalls }, r.shows.1, r.shows.2)

@@ -11,10 +11,10 @@ invariant_of-self g c =
     let seen = g.L.Link.seen in
     let t : TcpState = tcp_state (seen w.link) w.inlet w.outlet w.max w.spent.ticks w.marks in
     let is_open : w.marks.is_open ≡ true = ap (λ (v : TcpView). v.wire.is_open) c.self.view_is ∙ c.requires in
-    let l = seen c.pull_from-answer.new.link in
-    let u = c.pull_from-answer.new.inlet in
-    let p = pulled c.pull_from-answer.result t u.unread l c.self.invariant is_open c.pull_from-answer.ensures in
-    let q = subst (λ (k : WireMarks). Pulled c.pull_from-answer.result t (tcp_state l u w.outlet w.max w.spent.ticks k)) (sym c.pulled.ensures) p in
+    let l = seen c.pull_from-returned.new.link in
+    let u = c.pull_from-returned.new.inlet in
+    let p = pulled c.pull_from-returned.result t u.unread l c.self.invariant is_open c.pull_from-returned.ensures in
+    let q = subst (λ (k : WireMarks). Pulled c.pull_from-returned.result t (tcp_state l u w.outlet w.max w.spent.ticks k)) (sym c.pulled.ensures) p in
     q.holds
 
 pub returns : goal.returns
@@ -23,8 +23,8 @@ returns g c =
     let seen = g.L.Link.seen in
     let t : TcpState = tcp_state (seen w.link) w.inlet w.outlet w.max w.spent.ticks w.marks in
     let is_open : w.marks.is_open ≡ true = ap (λ (v : TcpView). v.wire.is_open) c.self.view_is ∙ c.requires in
-    let l = seen c.pull_from-answer.new.link in
-    let u = c.pull_from-answer.new.inlet in
-    let p = pulled c.pull_from-answer.result t u.unread l c.self.invariant is_open c.pull_from-answer.ensures in
-    let q = subst (λ (k : WireMarks). Pulled c.pull_from-answer.result t (tcp_state l u w.outlet w.max w.spent.ticks k)) (sym c.pulled.ensures) p in
+    let l = seen c.pull_from-returned.new.link in
+    let u = c.pull_from-returned.new.inlet in
+    let p = pulled c.pull_from-returned.result t u.unread l c.self.invariant is_open c.pull_from-returned.ensures in
+    let q = subst (λ (k : WireMarks). Pulled c.pull_from-returned.result t (tcp_state l u w.outlet w.max w.spent.ticks k)) (sym c.pulled.ensures) p in
     rw (← c.self.view_is) (record { after = q.after; tcp = q.tcp; framed = q.is_framed })

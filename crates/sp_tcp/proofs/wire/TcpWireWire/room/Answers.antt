@@ -13,8 +13,8 @@ invariant_of-self g c =
     let t : TcpState = tcp_state (seen w.link) w.inlet w.outlet w.max w.spent.ticks w.marks in
     let l = seen c.write_from-flushed.new.link in
     let o = c.write_from-flushed.new.outlet in
-    let room = c.room_after-answer.result in
-    let after : RoomAfter c.write_from-flushed.result (length o.waiting) room = subst (λ (n : ℕ). RoomAfter c.write_from-flushed.result n room) c.len.ensures c.room_after-answer.ensures in
+    let room = c.room_after-returned.result in
+    let after : RoomAfter c.write_from-flushed.result (length o.waiting) room = subst (λ (n : ℕ). RoomAfter c.write_from-flushed.result n room) c.len.ensures c.room_after-returned.ensures in
     let p = roomed c.write_from-flushed.result room t o l c.self.invariant c.write_from-flushed.ensures after in
     let q = subst (λ (k : WireMarks). Roomed room t (tcp_state l w.inlet o w.max w.spent.ticks k)) (sym c.roomed.ensures) p in
     q.holds
@@ -26,8 +26,8 @@ returns g c =
     let t : TcpState = tcp_state (seen w.link) w.inlet w.outlet w.max w.spent.ticks w.marks in
     let l = seen c.write_from-flushed.new.link in
     let o = c.write_from-flushed.new.outlet in
-    let room = c.room_after-answer.result in
-    let after : RoomAfter c.write_from-flushed.result (length o.waiting) room = subst (λ (n : ℕ). RoomAfter c.write_from-flushed.result n room) c.len.ensures c.room_after-answer.ensures in
+    let room = c.room_after-returned.result in
+    let after : RoomAfter c.write_from-flushed.result (length o.waiting) room = subst (λ (n : ℕ). RoomAfter c.write_from-flushed.result n room) c.len.ensures c.room_after-returned.ensures in
     let p = roomed c.write_from-flushed.result room t o l c.self.invariant c.write_from-flushed.ensures after in
     let q = subst (λ (k : WireMarks). Roomed room t (tcp_state l w.inlet o w.max w.spent.ticks k)) (sym c.roomed.ensures) p in
     rw (← c.self.view_is) (record { after = q.after; cause = q.cause; tcp = q.tcp; framed = q.is_framed })

@@ -1,4 +1,4 @@
-use Rattle.sp_upgrade.proofs.OneAnswer.{one_server_answer, one_client_answer}
+use Rattle.sp_upgrade.proofs.OneResult.{one_server_answer, one_client_answer}
 use Rattle.sp_upgrade.proofs.head.Head.is_one.Goals as goal
 
 pub returns-clause-server : goal.returns-clause-server

@@ -1,4 +1,4 @@
--- `none` picks no answers. Assumes `Logic`.
+-- `none` picks no results. Assumes `Logic`.
 use Rattle.std.proofs.Common.{[], ◌∷◌, refl}
 use seplogic.Ra.Ura.{Ura}
 use mir.Syntax.{Fn}

@@ -10,17 +10,17 @@ use Rattle.sp_ws.proofs.stream.Stream.read_next.Goals as goal
 
 pub returns-in-Some-clause-read : goal.returns-in-Some-clause-read
 returns-in-Some-clause-read c =
-    let dry : (c.unread-is_empty.result == 0) ≡ is_dry c.read_once-answer.new.self.socket = ap (λ n. n == 0) (c.unread-is_empty.ensures ∙ ap (λ (m : Memory). length (unread_in m)) c.get_ref.ensures) in
-    inl (c.reads.invariant.0.0, c.reads.self.socket, c.reads.invariant.0.1, (c.read_once-answer.result, c.read_once-answer.ensures.read, subst (λ (b : Bool). Names c.in-Some.named c.read_once-answer.result b) dry c.in-Some.ensures))
+    let dry : (c.unread-is_empty.result == 0) ≡ is_dry c.read_once-returned.new.self.socket = ap (λ n. n == 0) (c.unread-is_empty.ensures ∙ ap (λ (m : Memory). length (unread_in m)) c.get_ref.ensures) in
+    inl (c.reads.invariant.0.0, c.reads.self.socket, c.reads.invariant.0.1, (c.read_once-returned.result, c.read_once-returned.ensures.read, subst (λ (b : Bool). Names c.in-Some.named c.read_once-returned.result b) dry c.in-Some.ensures))
 
 pub returns-in-Some-clause-noted : goal.returns-in-Some-clause-noted
 returns-in-Some-clause-noted c =
-    let dry : (c.unread-is_empty.result == 0) ≡ is_dry c.read_once-answer.new.self.socket = ap (λ n. n == 0) (c.unread-is_empty.ensures ∙ ap (λ (m : Memory). length (unread_in m)) c.get_ref.ensures) in
+    let dry : (c.unread-is_empty.result == 0) ≡ is_dry c.read_once-returned.new.self.socket = ap (λ n. n == 0) (c.unread-is_empty.ensures ∙ ap (λ (m : Memory). length (unread_in m)) c.get_ref.ensures) in
     let inv = c.reads.invariant.5 in
     record {
       passed = inv.0;
       are = inv.1;
-      last = inl (c.read_once-answer.result, one_more_read _ _ _ inv.0 c.read_once-answer.result inv.2 c.read_once-answer.ensures.noted, subst (λ (b : Bool). Names c.in-Some.named c.read_once-answer.result b) dry c.in-Some.ensures);
+      last = inl (c.read_once-returned.result, one_more_read _ _ _ inv.0 c.read_once-returned.result inv.2 c.read_once-returned.ensures.noted, subst (λ (b : Bool). Names c.in-Some.named c.read_once-returned.result b) dry c.in-Some.ensures);
     }
 
 pub returns-clause-noted : goal.returns-clause-noted
@@ -34,12 +34,12 @@ reads-init c = ((0, refl), refl, refl, refl, refl, ([], All-nil IsPassed, sym (a
 pub reads-preserved : goal.reads-preserved
 reads-preserved c =
     let none = none_of c.name.result c.in_default.not-Some in
-    let is : IsPassed c.read_once-answer.result = subst (λ (o : Option FrameIn). IsNamed o c.read_once-answer.result (c.unread-is_empty.result == 0)) none c.name.ensures in
+    let is : IsPassed c.read_once-returned.result = subst (λ (o : Option FrameIn). IsNamed o c.read_once-returned.result (c.unread-is_empty.result == 0)) none c.name.ensures in
     let inv = c.reads.invariant.5 in (
-      (suc c.reads.invariant.0.0, (c.reads.self.socket, c.reads.invariant.0.1, (c.read_once-answer.result, is, c.read_once-answer.ensures.read))),
-      c.read_once-answer.ensures.fed ∙ c.reads.invariant.1,
-      c.read_once-answer.ensures.out ∙ c.reads.invariant.2,
-      c.read_once-answer.ensures.role ∙ c.reads.invariant.3,
-      c.read_once-answer.ensures.handed ∙ c.reads.invariant.4,
-      (inv.0 ++ c.read_once-answer.result ∷ [], All-push IsPassed inv.0 c.read_once-answer.result inv.1 is, one_more_read _ _ _ inv.0 c.read_once-answer.result inv.2 c.read_once-answer.ensures.noted),
+      (suc c.reads.invariant.0.0, (c.reads.self.socket, c.reads.invariant.0.1, (c.read_once-returned.result, is, c.read_once-returned.ensures.read))),
+      c.read_once-returned.ensures.fed ∙ c.reads.invariant.1,
+      c.read_once-returned.ensures.out ∙ c.reads.invariant.2,
+      c.read_once-returned.ensures.role ∙ c.reads.invariant.3,
+      c.read_once-returned.ensures.handed ∙ c.reads.invariant.4,
+      (inv.0 ++ c.read_once-returned.result ∷ [], All-push IsPassed inv.0 c.read_once-returned.result inv.1 is, one_more_read _ _ _ inv.0 c.read_once-returned.result inv.2 c.read_once-returned.ensures.noted),
     )

@@ -11,11 +11,11 @@ invariant_of-self g c =
     let seen = g.L.Link.seen in
     let t : WsState = ws_state (seen w.link) w.frames w.outlet w.lost w.max w.spent.ticks w.marks in
     let is_open : w.marks.is_open ≡ true = ap (λ (v : WsView). may_flush v.wire) c.self.view_is ∙ c.requires in
-    let l = seen c.flush_from-answer.new.link in
-    let f = c.flush_from-answer.new.frames in
-    let o = c.flush_from-answer.new.outlet in
-    let p = flushed c.flush_from-answer.result t l f o c.self.invariant.0 is_open c.flush_from-answer.ensures in
-    let q = subst (λ (k : WireMarks). Flushed c.flush_from-answer.result t (ws_state l f o w.lost w.max w.spent.ticks k)) (sym c.flushed.ensures) p in
+    let l = seen c.flush_from-returned.new.link in
+    let f = c.flush_from-returned.new.frames in
+    let o = c.flush_from-returned.new.outlet in
+    let p = flushed c.flush_from-returned.result t l f o c.self.invariant.0 is_open c.flush_from-returned.ensures in
+    let q = subst (λ (k : WireMarks). Flushed c.flush_from-returned.result t (ws_state l f o w.lost w.max w.spent.ticks k)) (sym c.flushed.ensures) p in
     (q.holds, c.self.invariant.1)
 
 pub returns : goal.returns
@@ -24,15 +24,15 @@ returns g c =
     let seen = g.L.Link.seen in
     let t : WsState = ws_state (seen w.link) w.frames w.outlet w.lost w.max w.spent.ticks w.marks in
     let is_open : w.marks.is_open ≡ true = ap (λ (v : WsView). may_flush v.wire) c.self.view_is ∙ c.requires in
-    let l = seen c.flush_from-answer.new.link in
-    let f = c.flush_from-answer.new.frames in
-    let o = c.flush_from-answer.new.outlet in
-    let p = flushed c.flush_from-answer.result t l f o c.self.invariant.0 is_open c.flush_from-answer.ensures in
-    let q = subst (λ (k : WireMarks). Flushed c.flush_from-answer.result t (ws_state l f o w.lost w.max w.spent.ticks k)) (sym c.flushed.ensures) p in
+    let l = seen c.flush_from-returned.new.link in
+    let f = c.flush_from-returned.new.frames in
+    let o = c.flush_from-returned.new.outlet in
+    let p = flushed c.flush_from-returned.result t l f o c.self.invariant.0 is_open c.flush_from-returned.ensures in
+    let q = subst (λ (k : WireMarks). Flushed c.flush_from-returned.result t (ws_state l f o w.lost w.max w.spent.ticks k)) (sym c.flushed.ensures) p in
     rw (← c.self.view_is) (record { after = q.after; cause = q.cause; ws = q.ws; tied = q.is_tied })
 
-pub flush_from-answer-requires-clause-is_open : goal.flush_from-answer-requires-clause-is_open
-flush_from-answer-requires-clause-is_open g c = c.self.invariant.0.marks.link_open (ap (λ (v : WsView). may_flush v.wire) c.self.view_is ∙ c.requires)
+pub flush_from-returned-requires-clause-is_open : goal.flush_from-returned-requires-clause-is_open
+flush_from-returned-requires-clause-is_open g c = c.self.invariant.0.marks.link_open (ap (λ (v : WsView). may_flush v.wire) c.self.view_is ∙ c.requires)
 
-pub flush_from-answer-requires-clause-within : goal.flush_from-answer-requires-clause-within
-flush_from-answer-requires-clause-within g c = c.self.invariant.0.within
+pub flush_from-returned-requires-clause-within : goal.flush_from-returned-requires-clause-within
+flush_from-returned-requires-clause-within g c = c.self.invariant.0.within

@@ -10,12 +10,12 @@ invariant_of-self g c =
     let seen = g.L.Link.seen in
     let t : WsState = ws_state (seen w.link) w.frames w.outlet w.lost w.max w.spent.ticks w.marks in
     let is_open : w.marks.is_open ≡ true = ap (λ (v : WsView). v.wire.is_open) c.self.view_is ∙ c.requires in
-    let l = seen c.pull_from-answer.new.link in
-    let f = c.pull_from-answer.new.frames in
-    let answer = c.pull_from-answer.result.0 in
-    let lost = c.pull_from-answer.result.1 in
-    let p = pulled answer lost t l f c.self.invariant.0 is_open c.pull_from-answer.ensures.pulled in
-    let q = subst (λ (k : WireMarks). Pulled answer t (ws_state l f w.outlet lost w.max w.spent.ticks k)) (sym c.pulled.ensures) p in
+    let l = seen c.pull_from-returned.new.link in
+    let f = c.pull_from-returned.new.frames in
+    let returned = c.pull_from-returned.result.0 in
+    let lost = c.pull_from-returned.result.1 in
+    let p = pulled returned lost t l f c.self.invariant.0 is_open c.pull_from-returned.ensures.pulled in
+    let q = subst (λ (k : WireMarks). Pulled returned t (ws_state l f w.outlet lost w.max w.spent.ticks k)) (sym c.pulled.ensures) p in
     (q.holds, omega arith)
 
 pub returns : goal.returns
@@ -24,10 +24,10 @@ returns g c =
     let seen = g.L.Link.seen in
     let t : WsState = ws_state (seen w.link) w.frames w.outlet w.lost w.max w.spent.ticks w.marks in
     let is_open : w.marks.is_open ≡ true = ap (λ (v : WsView). v.wire.is_open) c.self.view_is ∙ c.requires in
-    let l = seen c.pull_from-answer.new.link in
-    let f = c.pull_from-answer.new.frames in
-    let answer = c.pull_from-answer.result.0 in
-    let lost = c.pull_from-answer.result.1 in
-    let p = pulled answer lost t l f c.self.invariant.0 is_open c.pull_from-answer.ensures.pulled in
-    let q = subst (λ (k : WireMarks). Pulled answer t (ws_state l f w.outlet lost w.max w.spent.ticks k)) (sym c.pulled.ensures) p in
+    let l = seen c.pull_from-returned.new.link in
+    let f = c.pull_from-returned.new.frames in
+    let returned = c.pull_from-returned.result.0 in
+    let lost = c.pull_from-returned.result.1 in
+    let p = pulled returned lost t l f c.self.invariant.0 is_open c.pull_from-returned.ensures.pulled in
+    let q = subst (λ (k : WireMarks). Pulled returned t (ws_state l f w.outlet lost w.max w.spent.ticks k)) (sym c.pulled.ensures) p in
     rw (← c.self.view_is) (record { after = q.after; ws = q.ws; tied = q.is_tied })

@@ -15,8 +15,8 @@ invariant_of-self g c =
     let l = seen c.flush_from-flushed.new.link in
     let f = c.flush_from-flushed.new.frames in
     let o = c.flush_from-flushed.new.outlet in
-    let room = c.room_after-answer.result in
-    let after : RoomAfter c.flush_from-flushed.result (count_of o) room = subst (λ (n : ℕ). RoomAfter c.flush_from-flushed.result n room) c.len.ensures.count c.room_after-answer.ensures in
+    let room = c.room_after-returned.result in
+    let after : RoomAfter c.flush_from-flushed.result (count_of o) room = subst (λ (n : ℕ). RoomAfter c.flush_from-flushed.result n room) c.len.ensures.count c.room_after-returned.ensures in
     let p = roomed c.flush_from-flushed.result room t l f o c.self.invariant.0 is_open c.flush_from-flushed.ensures after in
     let q = subst (λ (k : WireMarks). Roomed room t (ws_state l f o w.lost w.max w.spent.ticks k)) (sym c.roomed.ensures) p in
     (q.holds, c.self.invariant.1)
@@ -30,8 +30,8 @@ returns g c =
     let l = seen c.flush_from-flushed.new.link in
     let f = c.flush_from-flushed.new.frames in
     let o = c.flush_from-flushed.new.outlet in
-    let room = c.room_after-answer.result in
-    let after : RoomAfter c.flush_from-flushed.result (count_of o) room = subst (λ (n : ℕ). RoomAfter c.flush_from-flushed.result n room) c.len.ensures.count c.room_after-answer.ensures in
+    let room = c.room_after-returned.result in
+    let after : RoomAfter c.flush_from-flushed.result (count_of o) room = subst (λ (n : ℕ). RoomAfter c.flush_from-flushed.result n room) c.len.ensures.count c.room_after-returned.ensures in
     let p = roomed c.flush_from-flushed.result room t l f o c.self.invariant.0 is_open c.flush_from-flushed.ensures after in
     let q = subst (λ (k : WireMarks). Roomed room t (ws_state l f o w.lost w.max w.spent.ticks k)) (sym c.roomed.ensures) p in
     rw (← c.self.view_is) (record { after = q.after; cause = q.cause; ws = q.ws; tied = q.is_tied })

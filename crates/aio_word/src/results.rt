@@ -5,7 +5,7 @@ use crate::phase::Phase;
 #[derive(Clone, Copy, PartialEq, Eq, Debug)]
 pub struct Worn;
 
-/// What the core's exchange came to.
+/// What the core's exchange came to (nng_aio_finish(3)).
 #[derive(Clone, Copy, PartialEq, Eq, Debug)]
 pub enum Decided {
     /// It took: the core has ended the operation.
@@ -23,7 +23,7 @@ pub struct Look {
     pub by: u32,
 }
 
-/// What a caller's exchange came to.
+/// What a caller's exchange came to (nng_aio_cancel(3)).
 #[derive(Clone, Copy, PartialEq, Eq, Debug)]
 pub enum Raced {
     /// It took: the caller has ended the operation.
@@ -34,7 +34,7 @@ pub enum Raced {
     Stale,
 }
 
-/// What a caller's look found.
+/// What a caller's look found (nng_aio_result(3)).
 #[derive(Clone, Copy, PartialEq, Eq, Debug)]
 pub enum Polled {
     /// It has not ended.

@@ -1,4 +1,4 @@
--- There is one answer to the bytes that came, except when out of memory.
+-- There is one result for the bytes that came, except when out of memory.
 use Rattle.std.proofs.Common.{◌≡◌, ℕ, List, [], length, take, Option, Some, None, refl, sym, ap, subst, ◌∙◌, inl, inr, arith}
 use Rattle.std.proofs.lemmas.List.{take_all}
 use Rattle.std.proofs.lemmas.Bool.Decides.{leb_tells}
@@ -40,9 +40,9 @@ not_short came h x s =
 short_long : (came : List ℕ) → IsShort came → IsTooLong came → ⊥
 short_long came s l = omega (arith, s.0, l.0)
 
--- ---- one answer
+-- ---- one result
 
--- what is good of a head is one answer, and never bad; what is bad of it is one fault
+-- what is good of a head is one result, and never bad; what is bad of it is one fault
 pub record IsOneAnswer (IsGood : List ℕ → List ℕ → Type 0) (IsBad : List ℕ → HeadFault → Type 0) : Type 0 where
   pub good : (head a b : List ℕ) → IsGood head a → IsGood head b → a ≡ b
   pub apart : (head a : List ℕ) (f : HeadFault) → IsGood head a → IsBad head f → ⊥

@@ -107,32 +107,32 @@ pub fn totals(counts: [u64; 6]) -> Totals {
 }
 
 /// The number of the error, 0 where it succeeded.
-pub fn topic_code(answer: Result<(), TopicError>) -> u32 {
-    match answer {
+pub fn topic_code(returned: Result<(), TopicError>) -> u32 {
+    match returned {
         Ok(()) => 0,
         Err(e) => SpError::from(e).code(),
     }
 }
 
 /// The same of a context that is shut.
-pub fn shut_code(answer: Result<(), CtxError>) -> u32 {
-    match answer {
+pub fn shut_code(returned: Result<(), CtxError>) -> u32 {
+    match returned {
         Ok(()) => 0,
         Err(e) => SpError::from(e).code(),
     }
 }
 
 /// The same of a receive that begins.
-pub fn recv_code(answer: Result<OpName, BeginError>) -> u32 {
-    match answer {
+pub fn recv_code(returned: Result<OpName, BeginError>) -> u32 {
+    match returned {
         Ok(_) => 0,
         Err(e) => SpError::from(e).code(),
     }
 }
 
 /// The same of a receive at once.
-pub fn now_code(answer: Result<Message, NowError>) -> u32 {
-    match answer {
+pub fn now_code(returned: Result<Message, NowError>) -> u32 {
+    match returned {
         Ok(_) => 0,
         Err(e) => SpError::from(e).code(),
     }
