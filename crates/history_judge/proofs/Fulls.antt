@@ -6,8 +6,9 @@ use Rattle.sp_history.specs.declared.entry.Entry.TheVariants.{Full}
 use Rattle.sp_history.specs.Lists.{has}
 use Rattle.sp_history.specs.declared.setting.Setting.{Setting}
 use Rattle.sp_history.specs.Settled.{has_full, SettledWith, SettledBy}
-use Rattle.history_judge.specs.declared.faults.Fault.{Fault}
-use Rattle.history_judge.specs.Faults.{Finds, full_pipes}
+use Rattle.history_judge_rules.specs.declared.faults.Fault.{Fault}
+use Rattle.history_judge_rules.specs.Faults.{Finds}
+use Rattle.history_judge.specs.Judgements.{full_pipes}
 
 full_at : (turn : List Entry) (p : ℕ) → has (full_pipes turn) p ≡ has_full turn p
 full_at [] p = refl

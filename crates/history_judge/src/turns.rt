@@ -13,13 +13,10 @@ ghost use Rattle.sp_history.specs.Requests.{requests};
 ghost use Rattle.sp_history.specs.Legal.{IsUp, condemned, is_pending_on, has_topic, is_uncollected, is_after_frame, may_dry, MayCome, Allowed, Follows, starts_well, LegalTurn};
 ghost use Rattle.sp_history.specs.Settled.{is_dry, receive_settled, send_settled, request_settled, SettledWith, SettledBy};
 ghost use Rattle.history_judge_past.specs.Story.{entries_of};
-ghost use Rattle.history_judge.specs.Faults.{Finds, Judges, JudgesFrom, full_pipes, verdict_of};
+ghost use Rattle.history_judge.specs.Judgements.{Judges, JudgesFrom, full_pipes, verdict_of};
+ghost use Rattle.history_judge_rules.specs.Faults.{Finds};
 
-use crate::faults::{Fault, Judgement};
-use crate::rules::{
-    comes_after_close, condemned, goes_on, has_topic, is_after_frame, is_pending_on, is_recv,
-    is_uncollected, is_up, may_begin, may_dry, may_end, may_finish,
-};
+use crate::judgement::Judgement;
 use history_judge_past::entries::Past;
 use history_judge_past::frames::{has_contexts, has_topics, is_pair, is_reply, is_sub, resends};
 use history_judge_past::lists::{has_ctx, has_pipe, is_empty};
@@ -29,7 +26,12 @@ use history_judge_past::past::{
 };
 use history_judge_requests::kept::{kept, wanted};
 use history_judge_requests::requests::requests;
-use history_judge_requests::sends::{is_due_again, targets};
+use history_judge_rules::faults::Fault;
+use history_judge_rules::rules::{
+    comes_after_close, condemned, goes_on, has_topic, is_after_frame, is_pending_on, is_recv,
+    is_uncollected, is_up, may_begin, may_dry, may_end, may_finish,
+};
+use history_judge_rules::sends::{is_due_again, targets};
 use sp_base::{Bytes, Ctx, NoMemory, OpName, PipeId, Tick};
 use sp_history::entry::{ContextChange, Entry, Switch, Totals, Why};
 use sp_history::parts::{Begun, LiveRequest, Orphan};

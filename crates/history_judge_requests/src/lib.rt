@@ -1,6 +1,5 @@
-//! What a past holds of requests, of kept messages and of sends, computed by a plain program. That is: which requests
-//! are live, what is kept of frames and for which context, which replies are due, where a send goes and when a request
-//! goes out again.
+//! What a past holds of requests and of kept messages, computed by a plain program. That is: which requests are live,
+//! what is kept of frames and for which context, and which replies are due.
 //!
 //! It goes by the definitions of `sp_history` word by word, over what `history_judge_past` computes of pipes and
 //! operations, and so is slow: each notion is computed anew from the past. Its contract is the definition.
@@ -9,4 +8,3 @@
 pub mod kept;
 pub mod one_request;
 pub mod requests;
-pub mod sends;

@@ -9,7 +9,7 @@
 mod text;
 
 use anyhow::Result;
-use history_judge::faults::Judgement;
+use history_judge::judgement::Judgement;
 use history_judge::turns::judge;
 use sp_history::entry::Entry;
 use sp_history::setting::Setting;

@@ -9,15 +9,15 @@ ghost use Rattle.sp_history.specs.Kept.{kept, route};
 ghost use Rattle.sp_history.specs.Sends.{is_origin, may_go, targets, traced, bytes_for, bytes_of, are_bytes, is_lost, is_due_again, is_resend, unclaimed, is_answered_by, flooded, is_flooded, begun_before, is_first_for, follows_out, goes_nowhere, is_sent};
 ghost use Rattle.history_judge_past.specs.Story.{entries_of};
 
-use crate::kept::route;
-use crate::one_request::wire_of;
-use crate::requests::{request_of, requests};
 use history_judge_past::entries::{Past, copy_bytes};
 use history_judge_past::frames::{after_word, floods, is_reply, resends};
 use history_judge_past::lists::{
     all_in, first_word, has_pipe, is_empty, is_number, same_bytes, same_op,
 };
 use history_judge_past::past::{now, pend, up};
+use history_judge_requests::kept::route;
+use history_judge_requests::one_request::wire_of;
+use history_judge_requests::requests::{request_of, requests};
 use sp_base::{Bytes, NoMemory, OpName, PipeId, Role};
 use sp_history::entry::{Entry, RecordedAct, RecordedMessage};
 use sp_history::parts::{Begun, LastOut, LiveRequest, Origin};

@@ -1,4 +1,4 @@
--- What it means that a test finds a fault, and what a verdict says.
+-- What a verdict says.
 use Rattle.std.specs.Prelude.{ℕ, List, [], ◌∷◌, Option, Some, None}
 use Rattle.turn_lock.specs.declared.turn.Turn.{Turn}
 use Rattle.sp_history.specs.declared.entry.Entry.{Entry}
@@ -6,14 +6,9 @@ use Rattle.sp_history.specs.declared.entry.Entry.TheVariants.{Full}
 use Rattle.sp_history.specs.declared.setting.Setting.{Setting}
 use Rattle.sp_history.specs.Legal.{LegalFrom}
 use Rattle.sp_history.specs.Settled.{SettledFrom}
-use Rattle.history_judge.specs.declared.faults.Fault.{Fault}
-use Rattle.history_judge.specs.declared.faults.Judgement.{Judgement}
-use Rattle.history_judge.specs.declared.faults.Judgement.TheVariants.{Right, Illegal, Unsettled}
-
--- no fault where the fact holds, and one where it doesn't
-abbrev pub Finds : Option Fault → Type 0 → Type 0
-Finds None P = P
-Finds (Some f) P = P → ⊥
+use Rattle.history_judge_rules.specs.declared.faults.Fault.{Fault}
+use Rattle.history_judge.specs.declared.judgement.Judgement.{Judgement}
+use Rattle.history_judge.specs.declared.judgement.Judgement.TheVariants.{Right, Illegal, Unsettled}
 
 -- what the verdict says, where these are the facts that the history is legal and that it is settled
 abbrev pub JudgesAs : Judgement → Type 0 → Type 0 → Type 0

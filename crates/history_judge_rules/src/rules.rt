@@ -8,9 +8,10 @@ ghost use Rattle.sp_history.specs.Past.{pending, totals};
 ghost use Rattle.sp_history.specs.Requests.{how_ended};
 ghost use Rattle.sp_history.specs.Legal.{is_recv, is_recv_on, is_at, is_free, is_pending_on, has_topic, does, state_for, is_state, condemned, ctx_of, unshut, is_closing, is_unkept, sending, MayEnd, is_memory_down, is_part_of_send, goes_on, is_after_frame, is_after_any_frame, is_due_on, may_dry, MayBegin, MayReceive, was_superseded, was_over, MayGo, MayEndAs, is_uncollected, IsUp, comes_after_close};
 ghost use Rattle.history_judge_past.specs.Story.{entries_of};
-ghost use Rattle.history_judge.specs.Faults.{Finds};
+ghost use Rattle.history_judge_rules.specs.Faults.{Finds};
 
 use crate::faults::Fault;
+use crate::sends::{is_due_again, is_sent, unclaimed};
 use history_judge_past::entries::Past;
 use history_judge_past::frames::{floods, has_requests, is_sub, malformed, resends};
 use history_judge_past::lists::{
@@ -19,7 +20,6 @@ use history_judge_past::lists::{
 use history_judge_past::past::{begins, ctxs, one_more, pend, pending, uncollected, up};
 use history_judge_requests::kept::{kept, stored};
 use history_judge_requests::requests::{how_ended, live_on, request_of};
-use history_judge_requests::sends::{is_due_again, is_sent, unclaimed};
 use sp_base::{Bytes, Ctx, NoMemory, OpName, PipeId, Role};
 use sp_history::entry::{
     Cause, Completion, ContextChange, Ending, Entry, RecordedAct, RecordedMessage, Why,
