@@ -5,13 +5,14 @@ use Rattle.std.specs.List.{list_any}
 use Rattle.std.specs.Option.{option_map}
 use Rattle.sp_base.specs.declared.OpName.{OpName}
 use Rattle.sp_history.specs.Lists.{has, head_of}
-use Rattle.proto_reqrep.specs.declared.req.Live.{Live}
+use Rattle.proto_live_requests.specs.declared.live.Live.{Live}
 use Rattle.proto_reqrep.specs.declared.req.Asking.{Asking}
-use Rattle.proto_reqrep.specs.declared.req.KeptReply.{KeptReply}
+use Rattle.proto_live_requests.specs.declared.live.KeptReply.{KeptReply}
 use Rattle.sp_msg.specs.Views.{MessageView}
 use Rattle.proto_reqrep.specs.declared.req.Request.{Request as Machine}
 use Rattle.proto_requests.specs.Hints.{HintsView, covers}
-use Rattle.proto_reqrep.specs.Reqs.{Asks, without_live, is_live_on, answers, is_missed, AreReady, IsReply, ready_on, keeps_reply, is_sending, is_receiving_on, orphaned, with_reply, with_kept, waits_for, live_ctx}
+use Rattle.proto_live_requests.specs.LiveRequests.{without_live, is_live_on, keeps_reply, with_reply, with_kept, waits_for, live_ctx}
+use Rattle.proto_reqrep.specs.Reqs.{Asks, answers, is_missed, AreReady, IsReply, ready_on, is_sending, is_receiving_on, orphaned}
 use Rattle.proto_requests.specs.FirstFound.{without_found, with_found}
 use Rattle.proto_requests.proofs.FirstPlaces.{none_as}
 use Rattle.proto_requests.proofs.KnownOperations.{any_less, any_more}

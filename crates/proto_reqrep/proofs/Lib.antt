@@ -1,13 +1,7 @@
 pub mod Orphaned
-pub mod RequestLives
-pub mod Seated
-pub mod Outgoing
 pub mod OwnedRequests
 pub mod Requested
-pub mod LiveIndexes
 pub mod WorkLeft
-pub mod KeyedOuts
-pub mod DueRequests
 pub mod RequestsDue
 pub mod Hinted
 pub mod ReqStands

@@ -36,13 +36,14 @@ use Rattle.sp_proto.specs.declared.Offer.TheVariants as offers
 use Rattle.proto_requests.specs.Ports.{port_of, is_free, is_free_behind, is_pipe, next_port, or_else, way_at, where_is, next_number as next_pipe, PortView}
 use Rattle.proto_requests.specs.declared.ports.Destination.TheVariants as ways
 use Rattle.proto_reqrep.specs.declared.req.Request.{Request as Machine}
-use Rattle.proto_reqrep.specs.declared.req.Live.{Live}
+use Rattle.proto_live_requests.specs.declared.live.Live.{Live}
 use Rattle.proto_reqrep.specs.declared.req.Asking.{Asking}
 use Rattle.proto_requests.proofs.Spotted.{none_find, unmapped}
 use Rattle.sp_proto.specs.Kinds.{act_of}
-use Rattle.proto_reqrep.specs.Reqs.{gets, answers, IsGift, is_receiving_on, Ties, IsNextPipe, roomy_of, next_of, has_room, passing, way_of, roomy_port, chosen_port, begun_of, is_sending, is_live_on, live_ctx, request_of, is_due, due_in, IsOut, IsDueOn, IsSeen, AreReady, is_given, dry_at, HasLive}
-use Rattle.proto_reqrep.proofs.DueRequests.{none_at}
-use Rattle.proto_reqrep.proofs.RequestLives.{found_ctx}
+use Rattle.proto_live_requests.specs.LiveRequests.{is_live_on, live_ctx, request_of, dry_at}
+use Rattle.proto_reqrep.specs.Reqs.{gets, answers, IsGift, is_receiving_on, Ties, IsNextPipe, roomy_of, next_of, has_room, passing, way_of, roomy_port, chosen_port, begun_of, is_sending, is_due, due_in, IsOut, IsDueOn, IsSeen, AreReady, is_given, HasLive}
+use Rattle.proto_live_requests.proofs.DueRequests.{none_at}
+use Rattle.proto_live_requests.proofs.RequestLives.{found_ctx}
 use Rattle.proto_reqrep.proofs.Orphaned.{orphan_found, all_finished}
 use Rattle.proto_reqrep.proofs.OwnedRequests.{owned_at}
 use Rattle.proto_reqrep.proofs.ReqStands.{is_req_role, is_raw, flag, live_is, kept_is}

@@ -7,12 +7,13 @@ use Rattle.std.proofs.lemmas.Bool.Decides.{nat_tests}
 use Rattle.sp_base.specs.declared.OpName.{OpName}
 use Rattle.sp_msg.specs.Views.{MessageView}
 use Rattle.sp_history.specs.declared.parts.LastOut.{LastOut}
-use Rattle.proto_reqrep.specs.declared.req.Live.{Live}
-use Rattle.proto_reqrep.specs.declared.req.KeptReply.{KeptReply}
+use Rattle.proto_live_requests.specs.declared.live.Live.{Live}
+use Rattle.proto_live_requests.specs.declared.live.KeptReply.{KeptReply}
 use Rattle.proto_reqrep.specs.declared.req.Asking.{Asking}
-use Rattle.proto_reqrep.specs.Reqs.{live_ctx, is_live_on, without_live, is_asked, is_sending, without_first, orphaned, IsOf, HasLive, HaveLive, is_sending_on, is_receiving_on, AreSingle, with_out_on, with_reply, with_kept, waits_for}
-use Rattle.proto_reqrep.proofs.RequestLives.{find_less, find_first}
-use Rattle.proto_reqrep.proofs.Outgoing.{find_out}
+use Rattle.proto_live_requests.specs.LiveRequests.{live_ctx, is_live_on, without_live, with_out_on, with_reply, with_kept, waits_for}
+use Rattle.proto_reqrep.specs.Reqs.{is_asked, is_sending, without_first, orphaned, IsOf, HasLive, HaveLive, is_sending_on, is_receiving_on, AreSingle}
+use Rattle.proto_live_requests.proofs.RequestLives.{find_less, find_first}
+use Rattle.proto_live_requests.proofs.Outgoing.{find_out}
 use Rattle.proto_requests.proofs.TestValues.{equal_of, same_number, some_inj, turned}
 
 -- ---- One more, one less

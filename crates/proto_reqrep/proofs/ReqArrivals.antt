@@ -41,24 +41,25 @@ use Rattle.sp_history.specs.Moments.{Moment, Lawful, past, also}
 use Rattle.sp_history.proofs.Requesting.{frame_makes, begun_makes, tick_makes, close_makes}
 use Rattle.sp_proto.specs.Kinds.{Kind, text_of}
 use Rattle.proto_reqrep.specs.declared.req.Request.{Request as Machine}
-use Rattle.proto_reqrep.specs.declared.req.Live.{Live}
-use Rattle.proto_reqrep.specs.declared.req.KeptReply.{KeptReply}
+use Rattle.proto_live_requests.specs.declared.live.Live.{Live}
+use Rattle.proto_live_requests.specs.declared.live.KeptReply.{KeptReply}
 use Rattle.proto_reqrep.specs.declared.req.Asking.{Asking}
 use Rattle.sp_proto.specs.Kinds.{act_of}
-use Rattle.proto_reqrep.specs.Reqs.{Ties, IsSeen, AreReady, Asked, begun_of, is_receiving_on, orphaned, without_live, live_ctx, is_live_on, request_of, with_reply, item_of, HasLive, HaveLive, Opened, SetTo, seat_ctx, ask_state, Keeps, live_id, free_number, keeps_reply, is_given, Asks, KeepsRaw}
+use Rattle.proto_live_requests.specs.LiveRequests.{without_live, live_ctx, is_live_on, request_of, with_reply, item_of, seat_ctx, live_id, keeps_reply}
+use Rattle.proto_reqrep.specs.Reqs.{Ties, IsSeen, AreReady, Asked, begun_of, is_receiving_on, orphaned, HasLive, HaveLive, Opened, SetTo, ask_state, Keeps, free_number, is_given, Asks, KeepsRaw}
 use Rattle.proto_requests.specs.FirstFound.{with_found}
 use Rattle.proto_requests.specs.Ids.{raw_item, number_after}
 use Rattle.proto_reqrep.proofs.Requested.{ended, reply_came, begun_one, begun_new}
 use Rattle.sp_history.specs.Legal.{is_recv_on, is_state}
 use Rattle.proto_requests.specs.Ports.{Knows}
-use Rattle.proto_reqrep.specs.ReqContexts.{ReqContextView}
-use Rattle.proto_reqrep.proofs.RequestLives.{ctx_less, gone_on}
+use Rattle.proto_live_requests.specs.ReqContexts.{ReqContextView}
+use Rattle.proto_live_requests.proofs.RequestLives.{ctx_less, gone_on}
 use Rattle.proto_reqrep.proofs.ReqStands.{is_req_role, is_raw, asks, asks_nothing, req_is, raw_same, live_is, kept_is, kept_raw}
 use Rattle.proto_reqrep.proofs.OwnedRequests.{all_marked}
-use Rattle.proto_reqrep.proofs.WorkLeft.{length_same}
+use Rattle.proto_live_requests.proofs.LiveIndexes.{length_same}
 use Rattle.proto_reqrep.proofs.RequestsDue.{begun_seen}
 use Rattle.proto_reqrep.proofs.Hinted.{asked_ready}
-use Rattle.proto_reqrep.proofs.Outgoing.{ctxs_kept}
+use Rattle.proto_live_requests.proofs.Outgoing.{ctxs_kept}
 use Rattle.sp_history.proofs.LiveRequests.{next_is_new}
 use Rattle.sp_history.specs.Requests.{has_id, next_number, free_from}
 use Rattle.sp_history.specs.Legal.{does, state_for}

@@ -31,13 +31,14 @@ use Rattle.sp_history.proofs.Requesting.{end_makes}
 use Rattle.sp_proto.specs.Kinds.{Kind, text_of}
 use Rattle.sp_proto.specs.Machines.{CanGive, CanSend, CanDrop, message_of}
 use Rattle.proto_reqrep.specs.declared.req.Request.{Request as Machine}
-use Rattle.proto_reqrep.specs.declared.req.Live.{Live}
-use Rattle.proto_reqrep.specs.declared.req.KeptReply.{KeptReply}
+use Rattle.proto_live_requests.specs.declared.live.Live.{Live}
+use Rattle.proto_live_requests.specs.declared.live.KeptReply.{KeptReply}
 use Rattle.proto_reqrep.specs.declared.req.Asking.{Asking}
 use Rattle.sp_proto.specs.Kinds.{act_of}
-use Rattle.proto_reqrep.specs.Reqs.{Ties, Asked, begun_of, is_asked, is_sending, orphaned, without_first, without_live, is_live_on, request_of, item_of, items_of, reply_in, message_in}
+use Rattle.proto_live_requests.specs.LiveRequests.{without_live, is_live_on, request_of, item_of, items_of, reply_in, message_in}
+use Rattle.proto_reqrep.specs.Reqs.{Ties, Asked, begun_of, is_asked, is_sending, orphaned, without_first}
 use Rattle.proto_reqrep.proofs.Orphaned.{flag_of}
-use Rattle.proto_reqrep.proofs.RequestLives.{find_request, sound_at}
+use Rattle.proto_live_requests.proofs.RequestLives.{find_request, sound_at}
 use Rattle.proto_reqrep.proofs.OwnedRequests.{owned_taken, only_receive, none_beside}
 use Rattle.proto_reqrep.proofs.Requested.{taken, taken_own, no_such, ended, ended_alone}
 

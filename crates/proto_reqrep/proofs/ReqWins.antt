@@ -2,9 +2,9 @@
 use Rattle.std.proofs.Common.{◌≡◌, refl, ap, sym, ◌∙◌, subst, List, ◌∷◌, ◌++◌, ℕ, ◌<◌, Bool, true, false, arith, Option, Some, None, map, length}
 use Rattle.std.specs.Prelude.{find, drop, not, is_some, nat_le, ◌+◌, ◌*◌, ◌&&◌, ◌||◌, ◌==◌}
 use Rattle.proto_requests.specs.Backlogs.{BacklogView}
-use Rattle.proto_reqrep.specs.Lives.{LivesView}
-use Rattle.proto_reqrep.specs.Dues.{DuesView, AreSeen}
-use Rattle.proto_reqrep.proofs.DueRequests.{seen_less}
+use Rattle.proto_live_requests.specs.Lives.{LivesView}
+use Rattle.proto_live_requests.specs.Dues.{DuesView, AreSeen}
+use Rattle.proto_live_requests.proofs.DueRequests.{seen_less}
 use Rattle.proto_reqrep.proofs.RequestsDue.{out_now}
 use Rattle.proto_reqrep.proofs.Hinted.{ready_live, ready_fewer, keeps_less, keeps_same}
 use Rattle.std.specs.List.{list_any}
@@ -31,18 +31,20 @@ use Rattle.sp_proto.specs.Machines.{CanGive, CanSend, CanAgain}
 use Rattle.sp_proto.specs.Readings.{out_last}
 use Rattle.proto_requests.specs.Ports.{is_pipe, free_count, PortView, Knows}
 use Rattle.proto_reqrep.specs.declared.req.Request.{Request as Machine}
-use Rattle.proto_reqrep.specs.declared.req.Live.{Live}
-use Rattle.proto_reqrep.specs.declared.req.KeptReply.{KeptReply}
+use Rattle.proto_live_requests.specs.declared.live.Live.{Live}
+use Rattle.proto_live_requests.specs.declared.live.KeptReply.{KeptReply}
 use Rattle.proto_reqrep.specs.declared.req.Asking.{Asking}
 use Rattle.proto_requests.specs.Waits.{WaitsView}
-use Rattle.proto_reqrep.specs.ReqContexts.{ReqContextView}
-use Rattle.proto_reqrep.specs.Reqs.{Ties, NotesOut, late_in, dry_in, AreReady, item_of, is_asked, is_live_on, without_first, without_live, sent_at, reply_in, work_left, is_due, live_ctx, request_of, dried, dry_at, items_of, is_late_in, due_count, SetTo, Keeps, Asked, Opened}
+use Rattle.proto_live_requests.specs.ReqContexts.{ReqContextView}
+use Rattle.proto_live_requests.specs.LiveRequests.{NotesOut, item_of, is_live_on, without_live, sent_at, reply_in, live_ctx, request_of, dried, dry_at, items_of}
+use Rattle.proto_reqrep.specs.Reqs.{Ties, late_in, dry_in, AreReady, is_asked, without_first, work_left, is_due, is_late_in, due_count, SetTo, Keeps, Asked, Opened}
 use Rattle.proto_requests.specs.FirstFound.{with_found}
 use Rattle.proto_reqrep.proofs.ReqStands.{given_raw, given_cooked, given_items, given_oldest, given_message}
 use Rattle.proto_reqrep.proofs.RequestMoments.{sent_raw, sent_raw_bytes, sent_cooked, sent_bytes, ctxs_sent, opened_as, opened_less, again_asked, again_live, again_cooked, dried_opened}
 use Rattle.proto_reqrep.proofs.ReqArrivals.{asked_live, asked_ops, opened_live, opened_seats}
-use Rattle.proto_reqrep.proofs.WorkLeft.{less_waiting, fewer_live, fewer_due, fewer_ops, same_live, none_due, not_due, up_is, less_due, count_falls, count_narrowed, due_before, dry_not_due, length_same}
-use Rattle.proto_reqrep.proofs.RequestLives.{found_ctx}
+use Rattle.proto_live_requests.proofs.LiveIndexes.{length_same}
+use Rattle.proto_reqrep.proofs.WorkLeft.{less_waiting, fewer_live, fewer_due, fewer_ops, same_live, none_due, not_due, up_is, less_due, count_falls, count_narrowed, due_before, dry_not_due}
+use Rattle.proto_live_requests.proofs.RequestLives.{found_ctx}
 use Rattle.proto_requests.proofs.TestValues.{not_both, same_number}
 
 -- what went out on a pipe that is up is not due

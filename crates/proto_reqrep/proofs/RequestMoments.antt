@@ -33,10 +33,11 @@ use Rattle.sp_proto.specs.Kinds.{text_of, start, setting_of}
 use Rattle.sp_proto.specs.Readings.{reading}
 use Rattle.sp_proto.specs.Machines.{CanSend, CanAgain}
 use Rattle.proto_reqrep.specs.declared.req.Request.{Request as Machine}
-use Rattle.proto_reqrep.specs.declared.req.Live.{Live}
+use Rattle.proto_live_requests.specs.declared.live.Live.{Live}
 use Rattle.proto_reqrep.specs.declared.req.Asking.{Asking}
 use Rattle.sp_proto.specs.Kinds.{act_of}
-use Rattle.proto_reqrep.specs.Reqs.{Ties, Asked, req_kind, begun_of, is_asked, is_sending, is_sending_on, without_first, without_live, live_ctx, is_live_on, request_of, sent_at, HaveLive, IsOf, Opened, dry_at, dried, wetted, seat_ctx}
+use Rattle.proto_live_requests.specs.LiveRequests.{without_live, live_ctx, is_live_on, request_of, sent_at, dry_at, dried, wetted, seat_ctx}
+use Rattle.proto_reqrep.specs.Reqs.{Ties, Asked, req_kind, begun_of, is_asked, is_sending, is_sending_on, without_first, HaveLive, IsOf, Opened}
 use Rattle.proto_requests.specs.FirstFound.{with_found}
 use Rattle.proto_reqrep.proofs.OwnedRequests.{owned_at, only_send}
 use Rattle.proto_requests.specs.Ordered.{is_before}
@@ -44,8 +45,8 @@ use Rattle.proto_requests.specs.Ports.{Knows}
 use Rattle.proto_requests.proofs.OpenContexts.{lawful_before, seen_before}
 use Rattle.proto_reqrep.proofs.Requested.{taken, ended_alone, gone_out}
 use Rattle.sp_history.specs.declared.parts.LastOut.{LastOut}
-use Rattle.proto_reqrep.specs.ReqContexts.{ReqContextView}
-use Rattle.proto_reqrep.proofs.RequestLives.{ctx_less, gone_on}
+use Rattle.proto_live_requests.specs.ReqContexts.{ReqContextView}
+use Rattle.proto_live_requests.proofs.RequestLives.{ctx_less, gone_on}
 use Rattle.proto_requests.proofs.NumbersIn.{has_still, has_first}
 use Rattle.proto_reqrep.proofs.ReqStands.{is_req_role, is_raw, asks, asks_nothing, raw_same, raw_end, live_is, flag, is_begun}
 use Rattle.sp_history.proofs.LiveRequests.{next_not_dry}

@@ -19,15 +19,16 @@ use Rattle.sp_history.specs.Past.{without_begun}
 use Rattle.sp_history.specs.Once.{AreApart, AreDistinct, occurs}
 use Rattle.sp_history.specs.Requests.{is_orphan, orphan_of, is_bereft, end_on, without_orphan, change_live, with_out, with_frame, wire_of, next_id, begin_on}
 use Rattle.sp_history.specs.Legal.{was_superseded, is_at}
-use Rattle.proto_reqrep.specs.declared.req.Live.{Live}
-use Rattle.proto_reqrep.specs.declared.req.KeptReply.{KeptReply}
+use Rattle.proto_live_requests.specs.declared.live.Live.{Live}
+use Rattle.proto_live_requests.specs.declared.live.KeptReply.{KeptReply}
 use Rattle.proto_reqrep.specs.declared.req.Asking.{Asking}
-use Rattle.proto_reqrep.specs.Reqs.{Asked, begun_of, is_asked, is_left, is_sending, is_sending_on, is_receiving_on, orphaned, without_first, without_live, live_ctx, live_id, is_live_on, request_of, is_superseded, sent_at, with_reply, HasLive, IsOf, item_of}
+use Rattle.proto_live_requests.specs.LiveRequests.{without_live, live_ctx, live_id, is_live_on, request_of, sent_at, with_reply, item_of}
+use Rattle.proto_reqrep.specs.Reqs.{Asked, begun_of, is_asked, is_left, is_sending, is_sending_on, is_receiving_on, orphaned, without_first, is_superseded, HasLive, IsOf}
 use Rattle.proto_requests.specs.FirstFound.{with_found}
 use Rattle.proto_requests.proofs.NamesApart.{apart_without, apart_more}
 use Rattle.proto_reqrep.proofs.Orphaned.{any_either, all_both, all_kept, left_more, none_more, caused, without_map, left_less}
-use Rattle.proto_reqrep.proofs.RequestLives.{live_less, distinct_less, distinct_more, sound_less, sound_more, find_last}
-use Rattle.proto_reqrep.proofs.Outgoing.{out_is, out_alone, ids_out, ctxs_out, sound_out, ids_kept, ctxs_kept, sound_kept, frame_is}
+use Rattle.proto_live_requests.proofs.RequestLives.{live_less, distinct_less, distinct_more, sound_less, sound_more, find_last}
+use Rattle.proto_live_requests.proofs.Outgoing.{out_is, out_alone, ids_out, ctxs_out, sound_out, ids_kept, ctxs_kept, sound_kept, frame_is}
 use Rattle.proto_reqrep.proofs.OwnedRequests.{owned_more, owned_taken, owned_marked, owned_longer, owned_less, owned_out, owned_kept, single_more, single_taken, single_marked}
 
 marked_begun : (c : ℕ) (ws : List Asking) → map begun_of (map (orphaned c) ws) ≡ map begun_of ws

@@ -11,16 +11,17 @@ use Rattle.sp_history.specs.Moments.{Moment, past}
 use Rattle.proto_requests.specs.Ports.{PortView, is_pipe}
 use Rattle.proto_requests.specs.Hints.{covers, covers_by}
 use Rattle.proto_reqrep.specs.declared.req.Request.{Request as Machine}
-use Rattle.proto_reqrep.specs.declared.req.Live.{Live}
-use Rattle.proto_reqrep.specs.declared.req.KeptReply.{KeptReply}
-use Rattle.proto_reqrep.specs.ReqContexts.{ReqContextView}
-use Rattle.proto_reqrep.specs.Dues.{DuesView, AreSeen, StaySeen, StayLate, awaited}
-use Rattle.proto_reqrep.specs.Outs.{is_sent}
-use Rattle.proto_reqrep.specs.Reqs.{Ties, Asks, IsSeen, IsDueOn, is_live_on, live_ctx, without_live, is_late, is_late_in, due_in, late_in, dry_in, is_due_out, dry_at, dried, wetted}
+use Rattle.proto_live_requests.specs.declared.live.Live.{Live}
+use Rattle.proto_live_requests.specs.declared.live.KeptReply.{KeptReply}
+use Rattle.proto_live_requests.specs.ReqContexts.{ReqContextView}
+use Rattle.proto_live_requests.specs.Dues.{DuesView, AreSeen, StaySeen, StayLate, awaited}
+use Rattle.proto_live_requests.specs.Outs.{is_sent}
+use Rattle.proto_live_requests.specs.LiveRequests.{is_live_on, live_ctx, without_live, dry_at, dried, wetted}
+use Rattle.proto_reqrep.specs.Reqs.{Ties, Asks, IsSeen, IsDueOn, is_late, is_late_in, due_in, late_in, dry_in, is_due_out}
 use Rattle.proto_requests.proofs.TestValues.{both_false, equal_of, same_number}
-use Rattle.proto_reqrep.proofs.RequestLives.{found_ctx, gone_on}
+use Rattle.proto_live_requests.proofs.RequestLives.{found_ctx, gone_on}
 use Rattle.proto_reqrep.proofs.WorkLeft.{dry_more, up_is}
-use Rattle.proto_reqrep.proofs.DueRequests.{seen_live, seen_late, seen_less, seen_more, seen_dropped, seen_cleared, none_unseen}
+use Rattle.proto_live_requests.proofs.DueRequests.{seen_live, seen_late, seen_less, seen_more, seen_dropped, seen_cleared, none_unseen}
 
 -- ---- What is due
 

@@ -6,12 +6,14 @@ use Rattle.std.proofs.lemmas.Bool.Decides.{nat_tests}
 use Rattle.std.proofs.lemmas.Nat.{row_fits, mul-le}
 use Rattle.sp_history.specs.Lists.{has}
 use Rattle.proto_requests.specs.Ports.{PortView, is_pipe, port_of}
-use Rattle.proto_reqrep.specs.declared.req.Live.{Live}
+use Rattle.proto_live_requests.specs.declared.live.Live.{Live}
 use Rattle.proto_reqrep.specs.declared.req.Asking.{Asking}
 use Rattle.std.proofs.lemmas.List.{length-map}
-use Rattle.proto_reqrep.specs.ReqContexts.{ReqContextView}
-use Rattle.proto_reqrep.specs.Reqs.{is_live_on, without_live, sent_at, is_late_in, is_due, due_count, dry_at, dried}
+use Rattle.proto_live_requests.specs.ReqContexts.{ReqContextView}
+use Rattle.proto_live_requests.specs.LiveRequests.{is_live_on, without_live, sent_at, dry_at, dried}
+use Rattle.proto_reqrep.specs.Reqs.{is_late_in, is_due, due_count}
 use Rattle.proto_requests.specs.FirstFound.{without_found, with_found}
+use Rattle.proto_live_requests.proofs.LiveIndexes.{length_same}
 
 pub count_most : (due : Live → Bool) (xs : List Live) → due_count due xs ≤ length xs
 count_most due [] = omega arith
@@ -39,14 +41,6 @@ length_less c (x ∷ xs) = go (is_live_on c x) (length_less c xs)
   where
     go : (b : Bool) → length (without_live c xs) ≤ length xs → length (cond b xs (x ∷ without_live c xs)) ≤ length (x ∷ xs)
     go true h = omega arith
-    go false h = omega (arith, h)
-
-pub length_same : (P : Live → Bool) (f : Live → Live) (xs : List Live) → length (with_found P f xs) ≡ length xs
-length_same P f [] = refl
-length_same P f (x ∷ xs) = go (P x) (length_same P f xs)
-  where
-    go : (b : Bool) → length (with_found P f xs) ≡ length xs → length (cond b (f x ∷ xs) (x ∷ with_found P f xs)) ≡ length (x ∷ xs)
-    go true h = refl
     go false h = omega (arith, h)
 
 pub count_less : (due : Live → Bool) (c : ℕ) (xs : List Live) → due_count due (without_live c xs) ≤ due_count due xs

@@ -3,8 +3,8 @@
 //! A look is at what its hints name first (`ready`, `dues`, and the ended operations of `waiting`); where those are not
 //! whole, all are searched through, which makes them whole again if nothing is found.
 //!
-//! What goes out is offered to a roomy pipe first: one that had room when it was last asked, was not asked yet, or is to
-//! be tried again. Where the next of these can't be taken, or none is roomy, it is offered to the next of all pipes.
+//! What goes out is offered to a roomy pipe first: one that had room when it was last asked, was not asked yet, or is
+//! to be tried again. Where the next of these can't be taken, or none is roomy, it is offered to the next of all pipes.
 ghost use Rattle.std.specs.Prelude.{◌≡◌, ◌<◌, ◌-◌, ◌&&◌, ◌||◌, ℕ, None, Some, IfSome, IfNone, false, true, not, find, nat_lt};
 ghost use Rattle.std.specs.Option.{option_map};
 ghost use Rattle.std.specs.List.{position, list_any};
@@ -13,11 +13,13 @@ ghost use Rattle.sp_history.specs.Lists.{head_of};
 ghost use Rattle.proto_reqrep.specs.declared.req.Asking.{Asking as AskingType};
 ghost use Rattle.proto_requests.specs.Spots.{holds};
 ghost use Rattle.proto_requests.specs.Waits.{IsOver};
-ghost use Rattle.proto_reqrep.specs.Reqs.{is_due, gets, ReadyAmong, NoneDue, IsGift, is_given, is_late, IsSeen, IsDueOn, IsOut, due_in, is_due_out, live_ctx, OnePerContext, out_of, next_of, roomy_port, chosen_port};
+ghost use Rattle.proto_live_requests.specs.LiveRequests.{live_ctx, OnePerContext, out_of};
+ghost use Rattle.proto_reqrep.specs.Reqs.{is_due, gets, ReadyAmong, NoneDue, IsGift, is_given, is_late, IsSeen, IsDueOn, IsOut, due_in, is_due_out, next_of, roomy_port, chosen_port};
 
-use crate::dues::is_past;
-use crate::lives::ctx_at;
-use crate::req::{Asking, Live, Request, next_ready};
+use crate::req::{Asking, Request, next_ready};
+use proto_live_requests::dues::is_past;
+use proto_live_requests::live::Live;
+use proto_live_requests::lives::ctx_at;
 use proto_requests::ports::Destination;
 use proto_requests::spots::Spot;
 use proto_requests::waits::name_at;

@@ -13,16 +13,18 @@ ghost use Rattle.sp_history.specs.Lists.{word, head_of};
 ghost use Rattle.sp_history.specs.Requests.{next_number};
 ghost use Rattle.sp_msg.specs.Views.{wire_text};
 ghost use Rattle.sp_proto.specs.Kinds.{Starts};
-ghost use Rattle.proto_reqrep.specs.declared.req.KeptReply.{KeptReply as KeptReplyType};
+ghost use Rattle.proto_live_requests.specs.declared.live.KeptReply.{KeptReply as KeptReplyType};
 ghost use Rattle.proto_reqrep.specs.declared.req.Asking.{Asking as AskingType};
-ghost use Rattle.proto_reqrep.specs.Dues.{StaySeen};
-ghost use Rattle.proto_reqrep.specs.Reqs.{OnePerContext, Ties, req_kind, is_live_on, without_live, orphaned, free_number, reply_in, gets, answers, with_reply, ready_on, AreReady, IsReply, Asks, KeepsRaw, NotesOut, ask_state, work_left, IsNextPipe, roomy_of, AsksNot, GivesRaw, GivesReply, IsLed, sent_now, with_out, is_raw, places_left};
+ghost use Rattle.proto_live_requests.specs.Dues.{StaySeen};
+ghost use Rattle.proto_live_requests.specs.LiveRequests.{OnePerContext, is_live_on, without_live, reply_in, with_reply, NotesOut, with_out};
+ghost use Rattle.proto_reqrep.specs.Reqs.{Ties, req_kind, orphaned, free_number, gets, answers, ready_on, AreReady, IsReply, Asks, KeepsRaw, ask_state, work_left, IsNextPipe, roomy_of, AsksNot, GivesRaw, GivesReply, IsLed, sent_now, is_raw, places_left};
 ghost use Rattle.proto_requests.specs.Ids.{number_after};
 
-use crate::dues::Dues;
-use crate::lives::Lives;
-use crate::req_contexts::ReqContexts;
-use proto_requests::backlog::{Backlog, FromPipe};
+use proto_live_requests::dues::Dues;
+use proto_live_requests::live::{KeptReply, Live};
+use proto_live_requests::lives::Lives;
+use proto_live_requests::req_contexts::ReqContexts;
+use proto_requests::backlog::Backlog;
 use proto_requests::hints::Hints;
 use proto_requests::ports::Ports;
 use proto_requests::trail::first_word;
@@ -38,33 +40,6 @@ use std::collections::BTreeSet;
 
 /// So many requests can be live.
 const MOST_LIVE: usize = 2_147_483_647;
-
-/// A message that is kept, and the pipe that it came from (nng_req(7)).
-#[derive(Drop)]
-pub struct KeptReply {
-    pub pipe: PipeId,
-    pub message: Message,
-}
-
-impl FromPipe for KeptReply {
-    ghost pipe_of = { λ k. k.pipe };
-
-    fn pipe(&self) -> PipeId {
-        self.pipe
-    }
-}
-
-/// A live request (nng_req(7)).
-#[derive(Drop)]
-pub struct Live {
-    pub ctx: Ctx,
-    pub id: u32,
-    /// What goes out behind the id, with an empty header.
-    pub copy: Message,
-    pub birth: Tick,
-    pub last_out: Option<LastOut>,
-    pub reply: Option<KeptReply>,
-}
 
 /// An operation that waits: a send has its message, as it was begun (nng_req(7)).
 #[derive(Drop)]
@@ -129,8 +104,8 @@ pub struct Request {
     /// Of the last Out, or 0. The next goes to one behind it.
     pub(crate) last_pipe: PipeId,
     pub(crate) ports: Ports,
-    /// The roomy pipes: those that had room when they were last asked, were not asked yet, or are to be tried again. They
-    /// are asked first. One for which there was no memory is missing, and so may be one on which nothing went out.
+    /// The roomy pipes: those that had room when they were last asked, were not asked yet, or are to be tried again.
+    /// They are asked first. One for which there was no memory is missing, and so may be one on which nothing went out.
     pub(crate) roomy: BTreeSet<u32>,
     /// The pipe that was tried again last, or 0.
     retried: PipeId,
@@ -589,8 +564,8 @@ impl Proto for Request {
         try_again(&mut self.ports, &mut self.roomy, &mut self.retried);
     }
 
-    /// What goes out goes to the next roomy pipe behind that of the last Out, in the round of their numbers, if that one
-    /// is up and not full; else to the next of all such pipes.
+    /// What goes out goes to the next roomy pipe behind that of the last Out, in the round of their numbers, if that
+    /// one is up and not full; else to the next of all such pipes.
     fn offer(&mut self) -> Offer
         ensures same { (t : Moment) → Ties self.old t → Ties self.new t }
         ensures offered { (t : Moment) → Lawful t → Calm t.z (past t) → Ties self.old t → IsOffered result t }

@@ -1,7 +1,7 @@
 use Rattle.std.proofs.Common.{◌≡◌, ◌∙◌, ap, Some, None, ◌++◌}
 use Rattle.std.specs.Prelude.{option_map}
 use Rattle.sp_history.specs.Lists.{word}
-use Rattle.proto_reqrep.specs.Reqs.{live_id}
+use Rattle.proto_live_requests.specs.LiveRequests.{live_id}
 use Rattle.proto_reqrep.proofs.req.asked.Goals as goal
 
 pub returns-in-None-clause-message : goal.returns-in-None-clause-message

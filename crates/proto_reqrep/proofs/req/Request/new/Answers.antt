@@ -1,7 +1,8 @@
 use Rattle.std.proofs.Common.{rules}
 use Rattle.proto_requests.proofs.TestValues.{not_both}
-use Rattle.proto_reqrep.specs.Reqs.{is_late, dry_at}
-use Rattle.proto_reqrep.proofs.DueRequests.{seen_none}
+use Rattle.proto_live_requests.specs.LiveRequests.{dry_at}
+use Rattle.proto_reqrep.specs.Reqs.{is_late}
+use Rattle.proto_live_requests.proofs.DueRequests.{seen_none}
 use Rattle.proto_reqrep.proofs.RequestMoments.{none_asked, none_known, none_opened}
 use Rattle.proto_reqrep.proofs.RequestsDue.{none_dry}
 use Rattle.proto_reqrep.proofs.Hinted.{ready_none}

@@ -3,8 +3,9 @@ use Rattle.std.specs.Prelude.{find}
 use Rattle.sp_history.specs.Lists.{head_of}
 use Rattle.proto_requests.proofs.EndedOperations.{shorter, no_head}
 use Rattle.proto_reqrep.specs.declared.req.Request.{Request as Machine}
-use Rattle.proto_reqrep.specs.Dues.{DuesView, AreSeen, awaited}
-use Rattle.proto_reqrep.specs.Reqs.{is_live_on, is_due_out, late_in, dry_in}
+use Rattle.proto_live_requests.specs.Dues.{DuesView, AreSeen, awaited}
+use Rattle.proto_live_requests.specs.LiveRequests.{is_live_on}
+use Rattle.proto_reqrep.specs.Reqs.{is_due_out, late_in, dry_in}
 use Rattle.proto_reqrep.proofs.RequestsDue.{looked_past, none_looked}
 use Rattle.proto_reqrep.proofs.req.Request.next_looked.Goals as goal
 

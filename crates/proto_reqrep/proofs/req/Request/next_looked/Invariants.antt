@@ -1,7 +1,8 @@
 use Rattle.std.proofs.Common.{◌≡◌, ℕ, length, map}
 use Rattle.sp_history.specs.Once.{AreDistinct}
-use Rattle.proto_reqrep.specs.Dues.{AreSeen}
-use Rattle.proto_reqrep.specs.Reqs.{IsSeen, live_ctx, late_in, dry_in}
+use Rattle.proto_live_requests.specs.Dues.{AreSeen}
+use Rattle.proto_live_requests.specs.LiveRequests.{live_ctx}
+use Rattle.proto_reqrep.specs.Reqs.{IsSeen, late_in, dry_in}
 use Rattle.proto_reqrep.proofs.req.Request.next_looked.Given as goal
 
 -- those that may be due are still looked at

@@ -3,9 +3,10 @@ use Rattle.std.specs.Prelude.{find}
 use Rattle.std.specs.List.{list_any}
 use Rattle.std.specs.Option.{option_map}
 use Rattle.proto_requests.proofs.Spotted.{unmapped}
-use Rattle.proto_reqrep.specs.declared.req.Live.{Live}
-use Rattle.proto_reqrep.specs.Dues.{DuesView, AreSeen}
-use Rattle.proto_reqrep.specs.Reqs.{due_in, late_in, dry_in, live_ctx}
+use Rattle.proto_live_requests.specs.declared.live.Live.{Live}
+use Rattle.proto_live_requests.specs.Dues.{DuesView, AreSeen}
+use Rattle.proto_live_requests.specs.LiveRequests.{live_ctx}
+use Rattle.proto_reqrep.specs.Reqs.{due_in, late_in, dry_in}
 use Rattle.proto_reqrep.proofs.Offering.{none_any}
 use Rattle.proto_reqrep.proofs.RequestsDue.{none_searched}
 use Rattle.proto_reqrep.proofs.req.Request.search_due.Goals as goal

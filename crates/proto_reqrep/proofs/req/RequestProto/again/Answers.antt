@@ -4,7 +4,8 @@ use Rattle.sp_history.specs.Lists.{word}
 use Rattle.proto_reqrep.proofs.ReqWins.{again_dry, again_out, dry_less, out_less}
 use Rattle.sp_history.specs.Past.{ups}
 use Rattle.sp_history.specs.Moments.{past}
-use Rattle.proto_reqrep.specs.Reqs.{late_in, dry_in, dry_at}
+use Rattle.proto_live_requests.specs.LiveRequests.{dry_at}
+use Rattle.proto_reqrep.specs.Reqs.{late_in, dry_in}
 use Rattle.proto_reqrep.proofs.RequestsDue.{dry_others, dry_itself}
 use Rattle.proto_reqrep.proofs.req.RequestProto.again.Goals as goal
 

@@ -2,9 +2,10 @@ use Rattle.std.proofs.Common.{rules, ◌≡◌, ◌∙◌, [], ap, map}
 use Rattle.sp_history.specs.Past.{ups}
 use Rattle.sp_history.specs.Moments.{past}
 use Rattle.proto_requests.specs.Hints.{HintsView, covers}
-use Rattle.proto_reqrep.specs.Reqs.{item_of, late_in, dry_in}
+use Rattle.proto_live_requests.specs.LiveRequests.{item_of}
+use Rattle.proto_reqrep.specs.Reqs.{late_in, dry_in}
 use Rattle.proto_reqrep.proofs.ReqArrivals.{closed_asked, closed_opened, asked_live, opened_live}
-use Rattle.proto_reqrep.proofs.DueRequests.{seen_none}
+use Rattle.proto_live_requests.proofs.DueRequests.{seen_none}
 use Rattle.proto_reqrep.proofs.Hinted.{ready_none}
 use Rattle.proto_reqrep.proofs.req.RequestProto.close.Goals as goal
 

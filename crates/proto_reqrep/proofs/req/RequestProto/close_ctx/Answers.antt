@@ -1,7 +1,7 @@
 use Rattle.proto_reqrep.proofs.RequestMoments.{shut_asked, shut_opened}
 use Rattle.proto_reqrep.proofs.ReqArrivals.{shut_items, asked_live, opened_live}
-use Rattle.proto_reqrep.specs.Reqs.{is_live_on, live_ctx}
-use Rattle.proto_reqrep.proofs.RequestLives.{distinct_less}
+use Rattle.proto_live_requests.specs.LiveRequests.{is_live_on, live_ctx}
+use Rattle.proto_live_requests.proofs.RequestLives.{distinct_less}
 use Rattle.proto_reqrep.proofs.Hinted.{ready_live, keeps_less}
 use Rattle.sp_history.specs.Past.{ups}
 use Rattle.sp_history.specs.Moments.{past}

@@ -1,13 +1,14 @@
 use Rattle.std.proofs.Common.{◌≡◌, ◌∙◌, refl, sym, ap, None, Some}
 use Rattle.sp_history.specs.Lists.{first_word}
-use Rattle.proto_reqrep.specs.declared.req.KeptReply.{KeptReply}
+use Rattle.proto_live_requests.specs.declared.live.KeptReply.{KeptReply}
 use Rattle.proto_reqrep.proofs.ReqArrivals.{none_kept, raw_frames, short_frame, long_frame, short_asked, reply_asked, asked_live, ctxs_replied, some_word, trimmed_is}
 use Rattle.proto_requests.proofs.TestValues.{not_both}
 use Rattle.proto_reqrep.proofs.RequestMoments.{opened_as}
-use Rattle.proto_reqrep.specs.Reqs.{late_in, dry_in, waits_for, with_kept}
+use Rattle.proto_live_requests.specs.LiveRequests.{waits_for, with_kept}
+use Rattle.proto_reqrep.specs.Reqs.{late_in, dry_in}
 use Rattle.sp_history.specs.Past.{ups}
 use Rattle.sp_history.specs.Moments.{past}
-use Rattle.proto_reqrep.proofs.DueRequests.{seen_kept}
+use Rattle.proto_live_requests.proofs.DueRequests.{seen_kept}
 use Rattle.proto_reqrep.proofs.req.RequestProto.frame.Goals as goal
 
 pub returns-then-self-clause-kept : goal.returns-then-self-clause-kept

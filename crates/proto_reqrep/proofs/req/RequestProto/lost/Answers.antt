@@ -1,5 +1,6 @@
 use Rattle.std.proofs.Common.{◌∙◌, arith, ap, map}
-use Rattle.proto_reqrep.specs.Reqs.{is_live_on, is_asked, late_in, dry_in, orphaned}
+use Rattle.proto_live_requests.specs.LiveRequests.{is_live_on}
+use Rattle.proto_reqrep.specs.Reqs.{is_asked, late_in, dry_in, orphaned}
 use Rattle.proto_reqrep.proofs.ReqStands.{none_taken, is_begun, lost_raw, lost_orphan, lost_live, its_lost}
 use Rattle.proto_reqrep.proofs.ReqArrivals.{asked_live, asked_ops, opened_live}
 use Rattle.proto_reqrep.proofs.RequestMoments.{opened_less}
@@ -8,7 +9,7 @@ use Rattle.proto_reqrep.proofs.WorkLeft.{less_waiting, fewer_live, fewer_due, fe
 use Rattle.proto_reqrep.proofs.req.RequestProto.lost.Goals.{else-not-self-via-then-not-self+else-not-w, else-not-self-via-else-not-self}
 use Rattle.sp_history.specs.Past.{ups}
 use Rattle.sp_history.specs.Moments.{past}
-use Rattle.proto_reqrep.proofs.DueRequests.{seen_less}
+use Rattle.proto_live_requests.proofs.DueRequests.{seen_less}
 use Rattle.proto_reqrep.proofs.req.RequestProto.lost.Goals as goal
 
 pub returns-in-None-clause-lost : goal.returns-in-None-clause-lost

@@ -1,0 +1,13 @@
+use Rattle.std.proofs.Common.{◌∙◌, ap, ℕ}
+use Rattle.proto_requests.specs.Hints.{HintsView, covers, covers_by}
+use Rattle.proto_live_requests.specs.Outs.{is_sent}
+use Rattle.proto_live_requests.specs.Dues.{DuesView}
+use Rattle.proto_live_requests.proofs.DueRequests.{seen_reserved}
+use Rattle.proto_live_requests.proofs.dues.Dues.reserve.Goals as goal
+
+pub returns : goal.returns
+returns c = λ a late dry last h.
+    seen_reserved c.args.self.now c.make_room.new.due c.make_room.new.dry c.renew.new.outs c.args.live.now.items late dry last a
+    (λ q l k. ap (λ (v : HintsView ℕ). covers v q) c.make_room.ensures.due ∙ c.refill.ensures q l (ap (λ (v : DuesView). covers v.due q) c.self.view_is ∙ k))
+    (λ q k. ap (λ (v : HintsView ℕ). covers v q) c.make_room.ensures.dry ∙ c.limit.ensures q (ap (λ (v : DuesView). covers v.dry q) c.self.view_is ∙ k))
+    (λ x o z k. c.renew.ensures x o z (ap (λ (v : DuesView). covers_by v.outs (is_sent x o)) c.self.view_is ∙ k)) h

@@ -1,0 +1,5 @@
+pub mod ReqContexts
+pub mod Lives
+pub mod Outs
+pub mod Dues
+pub mod LiveRequests
