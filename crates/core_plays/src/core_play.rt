@@ -1,13 +1,15 @@
-//! A core plays a table.
+//! A core plays a text.
+use crate::line::{Line, call_of};
 use crate::results::{
-    back, is_down, is_gone, is_message, is_put, is_received, is_sent, is_worded, message, now_code,
+    down, is_asked, is_back, is_gone, is_message, is_put, is_received, is_sent, message, now_code,
     recv_code, shut_code, topic_code, totals,
 };
-use crate::steps::{Give, Out, Step};
 use crate::wires::{Fails, PlayWire, wire};
+use crate::words::{is_polled, is_raced, miss_of, now_word};
 use core_driver::Driver;
 use sp_base::{Ctx, OpName, PipeId, SpError, Tick};
 use sp_core::{AttachError, Served};
+use sp_msg::Message;
 use sp_proto::Proto;
 use std::alloc::Global;
 use std::sync::Wait;
@@ -27,31 +29,29 @@ impl<P: Proto> CorePlay<P> {
         }
     }
 
-    /// Goes on with these steps. The number of the first one that returns something else, from 0 on.
-    pub fn wrong_step<R: Wait>(
-        &mut self,
-        rt: &R,
-        alloc: Global,
-        steps: &[Step<'_>],
-    ) -> Option<usize> {
-        for (at, step) in steps.iter().enumerate() {
-            if !self.is_right(rt, alloc, *step) {
-                return Some(at);
+    /// Goes on with the calls of this text. The number of the first line that is wrong, or whose call returns something
+    /// else, from 1 on.
+    pub fn wrong_line<R: Wait>(&mut self, rt: &R, alloc: Global, calls: &str) -> Option<usize> {
+        for (at, line) in calls.lines().enumerate() {
+            if let Some(call) = call_of(line)
+                && !self.is_right(rt, alloc, call)
+            {
+                return Some(at.saturating_add(1));
             }
         }
         None
     }
 
-    /// A wire that gives this is refused at the first place for this cause. After these steps it becomes this pipe at
+    /// A wire that gives this is refused at the first place for this cause. After these calls it becomes this pipe at
     /// the second one.
     pub fn comes_again<R: Wait>(
         &mut self,
         rt: &R,
         alloc: Global,
-        gives: &[Give<'_>],
+        gives: &str,
         places: [u32; 2],
         why: AttachError,
-        steps: &[Step<'_>],
+        calls: &str,
         pipe: u32,
     ) -> bool {
         let Some(wire) = wire(alloc, 0, gives, Fails::Nowhere) else {
@@ -60,7 +60,7 @@ impl<P: Proto> CorePlay<P> {
         match self.driver.attach(rt, wire, places[0]) {
             Ok(_) => false,
             Err((e, wire)) => {
-                let is_right = e == why && self.wrong_step(rt, alloc, steps).is_none();
+                let is_right = e == why && self.wrong_line(rt, alloc, calls).is_none();
                 match self.driver.attach(rt, wire, places[1]) {
                     Ok(number) => is_right && number.0 == pipe,
                     Err(_) => false,
@@ -69,104 +69,127 @@ impl<P: Proto> CorePlay<P> {
         }
     }
 
-    /// Ends the core, of which no operation is open. Whether the wires that were not taken are these, in the order of
-    /// their pipes.
-    pub fn ends<R: Wait>(self, rt: &R, alloc: Global, outs: &[Out<'_>]) -> bool {
+    /// Ends the core. The wires that were not taken are those of this text, in the order of their pipes: the number of
+    /// the first line that is wrong, from 1 on, or 0 where an operation is open or there is no memory.
+    pub fn wrong_wire<R: Wait>(self, rt: &R, alloc: Global, wires: &str) -> Option<usize> {
         let CorePlay { driver, names: _ } = self;
         let is_done = driver.open_count() == 0;
         match driver.finish(rt, alloc) {
-            Err(_) => false,
-            Ok(wires) => is_done && are_out(wires, outs),
+            Ok(left) => {
+                if is_done {
+                    first_wrong(alloc, left, wires)
+                } else {
+                    Some(0)
+                }
+            }
+            Err(_) => Some(0),
         }
     }
 
-    // The step returns what it says. Each part knows some of the steps, and finds none of the others right.
-    fn is_right<R: Wait>(&mut self, rt: &R, alloc: Global, step: Step<'_>) -> bool {
-        self.joins(rt, alloc, step)
-            || self.serves(rt, step)
-            || self.begins(rt, alloc, step)
-            || self.receives_now(rt, step)
-            || self.is_refused(rt, alloc, step)
-            || self.collects(rt, alloc, step)
-            || self.races(step)
-            || self.is_due(rt, alloc, step)
-            || self.is_right_of_contexts(rt, step)
+    // The line is right, and its call returns what it says. Each part knows some of the calls, and finds none of the
+    // others right.
+    fn is_right<R: Wait>(&mut self, rt: &R, alloc: Global, call: &str) -> bool {
+        let mut line = Line::new(alloc, call);
+        let name = line.word();
+        let is_right = self.joins(rt, alloc, name, &mut line)
+            || self.serves(rt, name, &mut line)
+            || self.begins(rt, alloc, name, &mut line)
+            || self.receives_now(rt, name, &mut line)
+            || self.is_refused(rt, alloc, name, &mut line)
+            || self.collects(rt, name, &mut line)
+            || self.races(name, &mut line)
+            || self.is_due(rt, alloc, name, &mut line)
+            || self.is_right_of_contexts(rt, name, &mut line)
+            || self.is_right_of_topics(rt, alloc, name, &mut line);
+        is_right && line.is_read()
     }
 
-    // A wire that takes so many messages and gives this becomes a pipe. Its number.
+    // A wire that takes so many messages and gives the rest of the line becomes a pipe. Its number.
     fn attach<R: Wait>(
         &mut self,
         rt: &R,
         alloc: Global,
         place: u32,
         most: u64,
-        gives: &[Give<'_>],
+        line: &mut Line<'_>,
         fails: Fails,
     ) -> Result<u32, u32> {
-        match wire(alloc, most, gives, fails) {
-            None => Err(2),
-            Some(wire) => match self.driver.attach(rt, wire, place) {
-                Ok(pipe) => Ok(pipe.0),
-                Err((e, _)) => Err(SpError::from(e).code()),
-            },
+        let Some(wire) = wire(alloc, most, line.rest(), fails) else {
+            line.mark_wrong();
+            return Err(0);
+        };
+        match self.driver.attach(rt, wire, place) {
+            Ok(pipe) => Ok(pipe.0),
+            Err((e, _)) => Err(SpError::from(e).code()),
         }
     }
 
     // Pipes that come up, and links that become none.
-    fn joins<R: Wait>(&mut self, rt: &R, alloc: Global, step: Step<'_>) -> bool {
-        match step {
-            Step::Joins(place, most, gives, pipe) => {
-                self.attach(rt, alloc, place, most, gives, Fails::Nowhere) == Ok(pipe)
+    fn joins<R: Wait>(&mut self, rt: &R, alloc: Global, name: &str, line: &mut Line<'_>) -> bool {
+        match name {
+            "joins" => {
+                let (place, most, pipe) = (line.number(), line.long(), line.number());
+                self.attach(rt, alloc, place, most, line, Fails::Nowhere) == Ok(pipe)
             }
-            Step::JoinsFailing(place, most, gives, pull, pipe) => {
-                self.attach(rt, alloc, place, most, gives, Fails::AtPull(pull)) == Ok(pipe)
+            "joins_failing" => {
+                let (place, most, pipe) = (line.number(), line.long(), line.number());
+                let fails = Fails::AtPull(line.long());
+                self.attach(rt, alloc, place, most, line, fails) == Ok(pipe)
             }
-            Step::JoinsBroken(place, gives, pipe) => {
-                self.attach(rt, alloc, place, 0, gives, Fails::AtRoom) == Ok(pipe)
+            "joins_broken" => {
+                let (place, pipe) = (line.number(), line.number());
+                self.attach(rt, alloc, place, 0, line, Fails::AtRoom) == Ok(pipe)
             }
-            Step::NoPipe(place, gives, code) => {
-                self.attach(rt, alloc, place, 0, gives, Fails::Nowhere) == Err(code)
+            "no_pipe" => {
+                let (place, code) = (line.number(), line.number());
+                self.attach(rt, alloc, place, 0, line, Fails::Nowhere) == Err(code)
             }
-            Step::Met(place) => {
-                self.driver.met(rt, place);
+            "met" => {
+                self.driver.met(rt, line.number());
                 true
             }
-            Step::Missed(place, miss) => {
-                self.driver.missed(rt, place, miss);
-                true
+            "missed" => {
+                let place = line.number();
+                match miss_of(line.word()) {
+                    None => false,
+                    Some(miss) => {
+                        self.driver.missed(rt, place, miss);
+                        true
+                    }
+                }
             }
             _ => false,
         }
     }
 
     // Pipes that are served, and that are down.
-    fn serves<R: Wait>(&mut self, rt: &R, step: Step<'_>) -> bool {
-        match step {
-            Step::Serve => {
+    fn serves<R: Wait>(&mut self, rt: &R, name: &str, line: &mut Line<'_>) -> bool {
+        match name {
+            "serve" => {
                 self.driver.serve(rt);
                 true
             }
-            Step::Serves(moved, ended, waiting, up) => {
+            "serves" => {
                 let served = Served {
-                    moved,
-                    ended,
-                    waiting,
-                    up,
+                    moved: line.flag(),
+                    ended: line.number(),
+                    waiting: line.number(),
+                    up: line.number(),
                 };
                 self.driver.serve(rt) == served
             }
-            Step::Down(pipe, why) => is_down(self.driver.take_ended(rt), pipe, why).is_some(),
-            Step::DownWith(pipe, why, asked, texts) => {
-                match is_down(self.driver.take_ended(rt), pipe, why) {
-                    None => false,
-                    Some(wire) => {
-                        (asked.is_none() || asked == Some(wire.asked())) && is_put(&wire, texts)
-                    }
-                }
-            }
-            Step::NoneDown => self.driver.take_ended(rt).is_none(),
-            Step::Close(counts) => self.driver.close(rt) == totals(counts),
-            Step::Closed => {
+            "down" => down(self.driver.take_ended(rt), line).is_some(),
+            "down_with" => match down(self.driver.take_ended(rt), line) {
+                None => false,
+                Some(wire) => is_put(&wire, line),
+            },
+            "down_asked" => match down(self.driver.take_ended(rt), line) {
+                None => false,
+                Some(wire) => is_asked(&wire, line),
+            },
+            "none_down" => self.driver.take_ended(rt).is_none(),
+            "close" => self.driver.close(rt) == totals(line),
+            "closed" => {
                 self.driver.close(rt);
                 true
             }
@@ -182,17 +205,15 @@ impl<P: Proto> CorePlay<P> {
         }
     }
 
-    // A send begins, and its name is noted.
+    // A send of the message begins, and its name is noted.
     fn send<R: Wait>(
         &mut self,
         rt: &R,
-        alloc: Global,
         c: u32,
-        words: &[u32],
-        body: &[u8],
+        m: Option<Message>,
         deadline: Option<Tick>,
     ) -> bool {
-        let Some(m) = message(alloc, words, body) else {
+        let Some(m) = m else {
             return false;
         };
         match self.driver.begin_send(rt, Ctx(c), m, deadline) {
@@ -202,71 +223,93 @@ impl<P: Proto> CorePlay<P> {
     }
 
     // Operations that begin.
-    fn begins<R: Wait>(&mut self, rt: &R, alloc: Global, step: Step<'_>) -> bool {
-        match step {
-            Step::Receive(c) => self.receive(rt, c, None),
-            Step::ReceiveBy(c, tick) => self.receive(rt, c, Some(Tick(tick))),
-            Step::Send(c, words, body) => self.send(rt, alloc, c, words, body, None),
-            Step::SendBy(c, words, body, tick) => {
-                self.send(rt, alloc, c, words, body, Some(Tick(tick)))
+    fn begins<R: Wait>(&mut self, rt: &R, alloc: Global, name: &str, line: &mut Line<'_>) -> bool {
+        match name {
+            "receive" => self.receive(rt, line.number(), None),
+            "receive_by" => {
+                let (c, tick) = (line.number(), line.long());
+                self.receive(rt, c, Some(Tick(tick)))
             }
-            Step::IsNamed(nth, slot, generation) => {
-                self.name(nth) == Some(OpName { slot, generation })
+            "send" => {
+                let (c, m) = (line.number(), message(alloc, line));
+                self.send(rt, c, m, None)
+            }
+            "send_by" => {
+                let (c, m, tick) = (line.number(), message(alloc, line), line.long());
+                self.send(rt, c, m, Some(Tick(tick)))
+            }
+            "is_named" => {
+                let named = self.name(line);
+                let (slot, generation) = (line.number(), line.long());
+                named == Some(OpName { slot, generation })
             }
             _ => false,
         }
     }
 
-    // The name of the operation that began as this one.
-    fn name(&self, nth: usize) -> Option<OpName> {
-        self.names.get(nth).copied()
+    // The name of the operation that began as the one that the line says.
+    fn name(&self, line: &mut Line<'_>) -> Option<OpName> {
+        self.names.get(line.number() as usize).copied()
     }
 
-    // A message is received at once, and sent on.
-    fn passes_on<R: Wait>(&mut self, rt: &R, c: u32, header: &[u8], body: &[u8]) -> bool {
-        match self.driver.try_recv(rt, Ctx(c)) {
+    // The message is what the line says, and a send of it begins.
+    fn passes_on<R: Wait>(&mut self, rt: &R, c: u32, m: Message, line: &mut Line<'_>) -> bool {
+        let is_right = is_message(&m, line);
+        match self.driver.begin_send(rt, Ctx(c), m, None) {
+            Ok(name) => is_right && self.names.push(name).is_ok(),
             Err(_) => false,
-            Ok(m) => {
-                let is_right = is_message(&m, header, body);
-                match self.driver.begin_send(rt, Ctx(c), m, None) {
-                    Ok(name) => is_right && self.names.push(name).is_ok(),
-                    Err(_) => false,
-                }
-            }
         }
     }
 
     // Receives at once.
-    fn receives_now<R: Wait>(&mut self, rt: &R, step: Step<'_>) -> bool {
-        match step {
-            Step::Now(c, header, body) => match self.driver.try_recv(rt, Ctx(c)) {
+    fn receives_now<R: Wait>(&mut self, rt: &R, name: &str, line: &mut Line<'_>) -> bool {
+        match name {
+            "now" => match self.driver.try_recv(rt, Ctx(line.number())) {
                 Err(_) => false,
-                Ok(m) => is_message(&m, header, body),
+                Ok(m) => is_message(&m, line),
             },
-            Step::NotNow(c, code) => now_code(self.driver.try_recv(rt, Ctx(c))) == code,
-            Step::NotNowFor(c, why) => match self.driver.try_recv(rt, Ctx(c)) {
-                Err(e) => e == why,
+            "not_now" => {
+                let returned = self.driver.try_recv(rt, Ctx(line.number()));
+                now_code(returned) == line.number()
+            }
+            "not_now_for" => match self.driver.try_recv(rt, Ctx(line.number())) {
+                Err(e) => line.says(now_word(e)),
                 Ok(_) => false,
             },
-            Step::PassesOn(c, header, body) => self.passes_on(rt, c, header, body),
+            "passes_on" => {
+                let c = line.number();
+                match self.driver.try_recv(rt, Ctx(c)) {
+                    Err(_) => false,
+                    Ok(m) => self.passes_on(rt, c, m, line),
+                }
+            }
             _ => false,
         }
     }
 
     // Operations that don't begin.
-    fn is_refused<R: Wait>(&mut self, rt: &R, alloc: Global, step: Step<'_>) -> bool {
-        match step {
-            Step::NoReceive(c, code) => {
-                recv_code(self.driver.begin_recv(rt, Ctx(c), None)) == code
+    fn is_refused<R: Wait>(
+        &mut self,
+        rt: &R,
+        alloc: Global,
+        name: &str,
+        line: &mut Line<'_>,
+    ) -> bool {
+        match name {
+            "no_receive" => {
+                let returned = self.driver.begin_recv(rt, Ctx(line.number()), None);
+                recv_code(returned) == line.number()
             }
-            Step::NoSend(c, words, body, code) => {
-                let Some(m) = message(alloc, words, body) else {
+            "no_send" => {
+                let c = line.number();
+                let mut sent = *line;
+                let Some(m) = message(alloc, &mut sent) else {
                     return false;
                 };
                 match self.driver.begin_send(rt, Ctx(c), m, None) {
                     Ok(_) => false,
                     Err((e, m)) => {
-                        SpError::from(e).code() == code && is_worded(alloc, &m, words, body)
+                        is_message(&m, line) && line.number() == SpError::from(e).code()
                     }
                 }
             }
@@ -275,111 +318,134 @@ impl<P: Proto> CorePlay<P> {
     }
 
     // Operations that are collected.
-    fn collects<R: Wait>(&mut self, rt: &R, alloc: Global, step: Step<'_>) -> bool {
-        match step {
-            Step::Swap => {
+    fn collects<R: Wait>(&mut self, rt: &R, name: &str, line: &mut Line<'_>) -> bool {
+        match name {
+            "swap" => {
                 self.driver.swap();
                 true
             }
-            Step::NotYet => self.driver.collect(rt).is_none(),
-            Step::Collected => self.driver.collect(rt).is_some(),
-            Step::Sent => is_sent(self.driver.collect(rt)),
-            Step::Received(header, body) => is_received(self.driver.collect(rt), header, body),
-            Step::Gone(why, who) => is_gone(self.driver.collect(rt), why, who),
-            Step::Back(why, who, words, body) => match back(self.driver.collect(rt), why, who) {
-                None => false,
-                Some(m) => is_worded(alloc, &m, words, body),
-            },
+            "not_yet" => self.driver.collect(rt).is_none(),
+            "collected" => self.driver.collect(rt).is_some(),
+            "sent" => is_sent(self.driver.collect(rt)),
+            "received" => is_received(self.driver.collect(rt), line),
+            "gone" => is_gone(self.driver.collect(rt), line),
+            "back" => is_back(self.driver.collect(rt), line),
             _ => false,
         }
     }
 
     // Operations that are cancelled, expire and are looked at.
-    fn races(&mut self, step: Step<'_>) -> bool {
-        match step {
-            Step::Cancel(nth, raced) => match self.name(nth) {
-                None => false,
-                Some(name) => self.driver.cancel(name) == Some(raced),
-            },
-            Step::CancelByOther(nth, raced) => match self.name(nth) {
-                None => false,
-                Some(name) => self.driver.cancel_by_other(name) == Some(raced),
-            },
-            Step::Expire(nth, raced) => match self.name(nth) {
-                None => false,
-                Some(name) => self.driver.expire(name) == Some(raced),
-            },
-            Step::Poll(nth, polled) => match self.name(nth) {
-                None => false,
-                Some(name) => self.driver.poll(name) == Some(polled),
-            },
-            _ => false,
+    fn races(&mut self, name: &str, line: &mut Line<'_>) -> bool {
+        if !matches!(name, "cancel" | "cancel_by_other" | "expire" | "poll") {
+            return false;
+        }
+        let Some(op) = self.name(line) else {
+            return false;
+        };
+        match name {
+            "cancel" => is_raced(line, self.driver.cancel(op)),
+            "cancel_by_other" => is_raced(line, self.driver.cancel_by_other(op)),
+            "expire" => is_raced(line, self.driver.expire(op)),
+            _ => is_polled(line, self.driver.poll(op)),
         }
     }
 
     // Ticks.
-    fn is_due<R: Wait>(&mut self, rt: &R, alloc: Global, step: Step<'_>) -> bool {
-        match step {
-            Step::Due(tick, count) => match self.driver.tick(rt, alloc, Tick(tick)) {
-                Err(_) => false,
-                Ok(names) => names.as_slice().len() == count,
-            },
-            Step::DueIs(tick, nth) => match self.driver.tick(rt, alloc, Tick(tick)) {
-                Err(_) => false,
-                Ok(names) => {
-                    names.as_slice().len() == 1
-                        && names.as_slice().first().copied() == self.name(nth)
-                }
-            },
-            _ => false,
+    fn is_due<R: Wait>(&mut self, rt: &R, alloc: Global, name: &str, line: &mut Line<'_>) -> bool {
+        if !matches!(name, "due" | "due_is") {
+            return false;
+        }
+        let Ok(due) = self.driver.tick(rt, alloc, Tick(line.long())) else {
+            return false;
+        };
+        match due.as_slice() {
+            [op] if name == "due_is" => Some(*op) == self.name(line),
+            ops => name == "due" && ops.len() == line.number() as usize,
         }
     }
 
-    // Contexts and topics.
-    fn is_right_of_contexts<R: Wait>(&mut self, rt: &R, step: Step<'_>) -> bool {
-        match step {
-            Step::Opens(c) => match self.driver.open_ctx(rt) {
-                Ok(opened) => opened.0 == c,
+    // Contexts.
+    fn is_right_of_contexts<R: Wait>(&mut self, rt: &R, name: &str, line: &mut Line<'_>) -> bool {
+        match name {
+            "opens" => match self.driver.open_ctx(rt) {
+                Ok(opened) => opened.0 == line.number(),
                 Err(_) => false,
             },
-            Step::NoContext(code) => match self.driver.open_ctx(rt) {
+            "no_context" => match self.driver.open_ctx(rt) {
                 Ok(_) => false,
-                Err(e) => SpError::from(e).code() == code,
+                Err(e) => SpError::from(e).code() == line.number(),
             },
-            Step::Shuts(c, code) => shut_code(self.driver.close_ctx(rt, Ctx(c))) == code,
-            Step::Subscribes(c, topic, code) => {
-                topic_code(self.driver.subscribe(rt, Ctx(c), topic)) == code
+            "shuts" => {
+                let returned = self.driver.close_ctx(rt, Ctx(line.number()));
+                shut_code(returned) == line.number()
             }
-            Step::Unsubscribes(c, topic, code) => {
-                topic_code(self.driver.unsubscribe(rt, Ctx(c), topic)) == code
+            _ => false,
+        }
+    }
+
+    // Topics.
+    fn is_right_of_topics<R: Wait>(
+        &mut self,
+        rt: &R,
+        alloc: Global,
+        name: &str,
+        line: &mut Line<'_>,
+    ) -> bool {
+        match name {
+            "subscribes" => {
+                let (c, topic) = (Ctx(line.number()), line.bytes());
+                let returned = self.driver.subscribe(rt, c, topic.as_slice());
+                topic_code(returned) == line.number()
+            }
+            "unsubscribes" => {
+                let (c, topic) = (Ctx(line.number()), line.bytes());
+                let returned = self.driver.unsubscribe(rt, c, topic.as_slice());
+                topic_code(returned) == line.number()
+            }
+            "subscribes_zeros" => {
+                let (c, topic) = (Ctx(line.number()), line.zeros());
+                let returned = self.driver.subscribe(rt, c, topic.as_slice());
+                topic_code(returned) == line.number()
+            }
+            "unsubscribes_zeros" => {
+                let (c, topic) = (Ctx(line.number()), line.zeros());
+                let returned = self.driver.unsubscribe(rt, c, topic.as_slice());
+                topic_code(returned) == line.number()
             }
             _ => false,
         }
     }
 }
 
-// The wires are these, the last one first, and each is as it is to be.
-fn are_out(wires: Vec<(PipeId, PlayWire)>, outs: &[Out<'_>]) -> bool {
-    let mut wires = wires;
-    for out in outs {
-        match wires.pop() {
-            None => return false,
-            Some((pipe, wire)) => {
-                if !is_out(pipe.0, &wire, *out) {
-                    return false;
-                }
+// The number of the first line that isn't right for its wire, from 1 on; the last wire is that of the first line.
+fn first_wrong(alloc: Global, left: Vec<(PipeId, PlayWire)>, wires: &str) -> Option<usize> {
+    let mut left = left;
+    let mut count = 0usize;
+    for (at, text) in wires.lines().enumerate() {
+        count = at.saturating_add(1);
+        if let Some(call) = call_of(text) {
+            let is_right = match left.pop() {
+                Some((pipe, wire)) => is_right_wire(alloc, pipe.0, &wire, call),
+                None => false,
+            };
+            if !is_right {
+                return Some(count);
             }
         }
     }
-    wires.is_empty()
+    if left.is_empty() {
+        None
+    } else {
+        Some(count.saturating_add(1))
+    }
 }
 
-// The pipe has this number, and its wire is as it is to be.
-fn is_out(pipe: u32, wire: &PlayWire, out: Out<'_>) -> bool {
-    match out {
-        Out::Put(number, texts) => pipe == number && is_put(wire, texts),
-        Out::Asked(number, asked, texts) => {
-            pipe == number && wire.asked() == asked && is_put(wire, texts)
-        }
+// The pipe has the number that the line says, and its wire is as it says.
+fn is_right_wire(alloc: Global, pipe: u32, wire: &PlayWire, call: &str) -> bool {
+    let mut line = Line::new(alloc, call);
+    match line.word() {
+        "put" => line.number() == pipe && is_put(wire, &mut line),
+        "asked" => line.number() == pipe && is_asked(wire, &mut line),
+        _ => false,
     }
 }

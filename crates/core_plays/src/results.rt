@@ -1,41 +1,40 @@
 //! What is compared of a result.
+use crate::line::Line;
 use crate::wires::PlayWire;
+use crate::words::{cause_word, why_word};
 use sp_base::{OpName, SpError};
 use sp_core::{BeginError, CtxError, Gone, NowError, Outcome, TopicError};
-use sp_history::entry::{Cause, Totals, Why};
+use sp_history::entry::Totals;
 use sp_msg::Message;
 use std::alloc::Global;
 
-/// A message with a header of these words, if there is memory for it.
-pub fn message(alloc: Global, words: &[u32], body: &[u8]) -> Option<Message> {
-    let Ok(mut m) = Message::from_body(alloc, body) else {
+/// The message that the line says, if its header is whole words and there is memory for it.
+pub fn message(alloc: Global, line: &mut Line<'_>) -> Option<Message> {
+    let header = line.bytes();
+    let Ok(mut m) = Message::from_body(alloc, line.bytes().as_slice()) else {
         return None;
     };
-    for word in words {
-        if m.header_append_u32(*word).is_err() {
+    for word in header.as_slice().chunks(4) {
+        let [a, b, c, d] = word else {
+            return None;
+        };
+        let word = u32::from_be_bytes([*a, *b, *c, *d]);
+        if m.header_append_u32(word).is_err() {
             return None;
         }
     }
     Some(m)
 }
 
-/// The message has this header and this body.
-pub fn is_message(m: &Message, header: &[u8], body: &[u8]) -> bool {
-    m.header() == header && m.body() == body
+/// The message is what the line says.
+pub fn is_message(m: &Message, line: &mut Line<'_>) -> bool {
+    m.header() == line.bytes().as_slice() && m.body() == line.bytes().as_slice()
 }
 
-/// The same, with the words of the header.
-pub fn is_worded(alloc: Global, m: &Message, words: &[u32], body: &[u8]) -> bool {
-    match message(alloc, words, body) {
-        None => false,
-        Some(other) => is_message(m, other.header(), body),
-    }
-}
-
-/// It received this message.
-pub fn is_received(outcome: Option<Outcome>, header: &[u8], body: &[u8]) -> bool {
+/// It received what the line says.
+pub fn is_received(outcome: Option<Outcome>, line: &mut Line<'_>) -> bool {
     match outcome {
-        Some(Outcome::Received(m)) => is_message(&m, header, body),
+        Some(Outcome::Received(m)) => is_message(&m, line),
         _ => false,
     }
 }
@@ -45,24 +44,26 @@ pub fn is_sent(outcome: Option<Outcome>) -> bool {
     matches!(outcome, Some(Outcome::Sent))
 }
 
-/// It is gone so, and nothing comes back.
-pub fn is_gone(outcome: Option<Outcome>, why: Cause, who: u32) -> bool {
+/// It is gone as the line says, and nothing comes back.
+pub fn is_gone(outcome: Option<Outcome>, line: &mut Line<'_>) -> bool {
     match outcome {
-        Some(Outcome::Gone { cause, by, back }) => cause == why && by == who && back.is_none(),
+        Some(Outcome::Gone { cause, by, back }) => {
+            line.says(cause_word(cause)) && line.number() == by && back.is_none()
+        }
         _ => false,
     }
 }
 
-/// It is gone so. The message that comes back.
-pub fn back(outcome: Option<Outcome>, why: Cause, who: u32) -> Option<Message> {
+/// The same, and the message that the line says comes back.
+pub fn is_back(outcome: Option<Outcome>, line: &mut Line<'_>) -> bool {
     match outcome {
-        Some(Outcome::Gone { cause, by, back }) => {
-            if cause == why && by == who {
-                return back;
+        Some(Outcome::Gone { cause, by, back }) => match back {
+            Some(m) => {
+                line.says(cause_word(cause)) && line.number() == by && is_message(&m, line)
             }
-            None
-        }
-        _ => None,
+            None => false,
+        },
+        _ => false,
     }
 }
 
@@ -72,37 +73,40 @@ fn is_wire(m: &Message, bytes: &[u8]) -> bool {
     n <= bytes.len() && m.header() == &bytes[..n] && m.body() == &bytes[n..]
 }
 
-/// These messages were put on the wire.
-pub fn is_put(wire: &PlayWire, texts: &[&[u8]]) -> bool {
-    let outs = wire.outs();
-    for (m, bytes) in outs.iter().zip(texts.iter()) {
-        if !is_wire(m, bytes) {
+/// What was put on the wire is the rest of the line.
+pub fn is_put(wire: &PlayWire, line: &mut Line<'_>) -> bool {
+    for m in wire.outs() {
+        if !is_wire(m, line.bytes().as_slice()) {
             return false;
         }
     }
-    outs.len() == texts.len()
+    line.is_read()
 }
 
-/// The pipe that went down is this one, and went down so. Its wire.
-pub fn is_down(gone: Option<Gone<PlayWire>>, pipe: u32, why: Why) -> Option<PlayWire> {
+/// The wire was asked for room as often as the line says, and what was put on it is the rest.
+pub fn is_asked(wire: &PlayWire, line: &mut Line<'_>) -> bool {
+    line.number() == wire.asked() && is_put(wire, line)
+}
+
+/// The pipe that went down is the one that the line says, and went down so. Its wire.
+pub fn down(gone: Option<Gone<PlayWire>>, line: &mut Line<'_>) -> Option<PlayWire> {
     let gone = gone?;
-    if gone.pipe.0 == pipe && gone.why == why {
+    if line.number() == gone.pipe.0 && line.says(why_word(gone.why)) {
         Some(gone.wire)
     } else {
         None
     }
 }
 
-/// What a core counts, in the order begun, won, gone, frames, outs, fulls.
-pub fn totals(counts: [u64; 6]) -> Totals {
-    let [begun, won, gone, frames, outs, fulls] = counts;
+/// What a core counts.
+pub fn totals(line: &mut Line<'_>) -> Totals {
     Totals {
-        begun,
-        won,
-        gone,
-        frames,
-        outs,
-        fulls,
+        begun: line.long(),
+        won: line.long(),
+        gone: line.long(),
+        frames: line.long(),
+        outs: line.long(),
+        fulls: line.long(),
     }
 }
 

@@ -5,7 +5,7 @@ ghost use Rattle.sp_msg.specs.Views.{Nameless};
 ghost use Rattle.sp_msg.specs.Wires.{IsBare};
 ghost use Rattle.sp_msg.specs.Marks.{wire_view};
 
-use crate::steps::Give;
+use crate::line::bytes_of;
 use sp_base::Bytes;
 use sp_fakes::WireStep;
 use sp_msg::{Message, Room, Wire, WireFlush, WireIn, WireMarks};
@@ -40,20 +40,27 @@ pub struct PlayWire {
     marks: WireMarks,
 }
 
-// What the steps of a script are in memory; none where there is no memory for them.
-fn script_of(alloc: Global, gives: &[Give<'_>]) -> Option<Vec<WireStep>> {
+// What the word is as a step; none where it is no word for one, or there is no memory for it.
+fn step_of(alloc: Global, word: &str) -> Option<WireStep> {
+    match word {
+        "pause" => Some(WireStep::NotYet),
+        "end" => Some(WireStep::End),
+        "malformed" => Some(WireStep::Malformed),
+        _ => {
+            let frame = bytes_of(alloc, word)?;
+            match Bytes::from_slice(alloc, frame.as_slice()) {
+                Ok(bytes) => Some(WireStep::Bytes(bytes)),
+                Err(_) => None,
+            }
+        }
+    }
+}
+
+// The steps of a script, of which there is one at least.
+fn script_of(alloc: Global, gives: &str) -> Option<Vec<WireStep>> {
     let mut script = Vec::new(alloc);
-    for give in gives {
-        let step = match give {
-            Give::Pause => WireStep::NotYet,
-            Give::End => WireStep::End,
-            Give::Malformed => WireStep::Malformed,
-            Give::Frame(body) => match Bytes::from_slice(alloc, body) {
-                Ok(bytes) => WireStep::Bytes(bytes),
-                Err(_) => return None,
-            },
-        };
-        if script.push(step).is_err() {
+    for word in gives.split(' ') {
+        if script.push(step_of(alloc, word)?).is_err() {
             return None;
         }
     }
@@ -160,8 +167,9 @@ impl Wire for PlayWire {
     }
 }
 
-/// A wire that takes so many messages, gives this, and fails there; none where there is no memory for it.
-pub fn wire(alloc: Global, most: u64, gives: &[Give<'_>], fails: Fails) -> Option<PlayWire>
+/// A wire that takes so many messages, gives what these words say, and fails there; none where a word says nothing, or
+/// there is no memory for it.
+pub fn wire(alloc: Global, most: u64, gives: &str, fails: Fails) -> Option<PlayWire>
     ensures { IfSome result (λ w. IsUnused (wire_view Nameless None None 0 false w.marks)) }
 {
     match script_of(alloc, gives) {

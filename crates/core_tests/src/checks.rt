@@ -5,7 +5,7 @@ ghost use Rattle.proto_pipeline.specs.Pulls.{Ties as PullTies};
 ghost use Rattle.proto_pipeline.specs.Pushes.{Ties as PushTies};
 
 use core_driver::Driver;
-use core_plays::{CorePlay, Out, PlayWire, Step};
+use core_plays::{CorePlay, PlayWire};
 use proto_pipeline::{Pull, Push};
 use sp_base::{NoMemory, Role};
 use sp_history::setting::Options;
@@ -56,31 +56,31 @@ fn pushing(rt: &impl Abort, alloc: Global, raw: bool, slots: u32) -> Driver<Push
     made(rt, Driver::new(alloc, push(rt, alloc, raw), slots))
 }
 
-// The core returns at each step what it says, and ends with these wires.
+// The core returns at each line what it says, and ends with these wires.
 fn plays<P: Proto, R: Wait + Abort>(
     rt: &R,
     alloc: Global,
     driver: Driver<P, PlayWire>,
-    steps: &[Step<'_>],
-    outs: &[Out<'_>],
+    calls: &str,
+    wires: &str,
 ) {
     let mut play = CorePlay::new(alloc, driver);
-    assert_eq!(rt; play.wrong_step(rt, alloc, steps), None);
-    assert!(rt; play.ends(rt, alloc, outs));
+    assert_eq!(rt; play.wrong_line(rt, alloc, calls), None);
+    assert_eq!(rt; play.wrong_wire(rt, alloc, wires), None);
 }
 
-/// A core over a pull, raw or not, of so many slots returns at each step what it says, and ends with these wires.
+/// A core over a pull, raw or not, of so many slots returns at each line what it says, and ends with these wires.
 pub fn pull_plays<R: Wait + Abort>(
     rt: &R,
     alloc: Global,
     raw: bool,
     slots: u32,
-    steps: &[Step<'_>],
-    outs: &[Out<'_>],
+    calls: &str,
+    wires: &str,
 )
     requires slots { (0 < slots) × (slots ≤ 4096) }
 {
-    plays(rt, alloc, pulling(rt, alloc, raw, slots), steps, outs);
+    plays(rt, alloc, pulling(rt, alloc, raw, slots), calls, wires);
 }
 
 /// The same of a push.
@@ -89,16 +89,16 @@ pub fn push_plays<R: Wait + Abort>(
     alloc: Global,
     raw: bool,
     slots: u32,
-    steps: &[Step<'_>],
-    outs: &[Out<'_>],
+    calls: &str,
+    wires: &str,
 )
     requires slots { (0 < slots) × (slots ≤ 4096) }
 {
-    plays(rt, alloc, pushing(rt, alloc, raw, slots), steps, outs);
+    plays(rt, alloc, pushing(rt, alloc, raw, slots), calls, wires);
 }
 
 /// Nothing was put on the first pipe, which is the only one.
-pub const NOTHING: [Out<'static>; 1] = [Out::Put(1, &[])];
+pub const NOTHING: &str = "put 1";
 
 /// Both are the same.
 pub fn same<T: PartialEq + Debug + Drop>(rt: &impl Abort, left: T, right: T) {

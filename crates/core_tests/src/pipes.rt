@@ -4,11 +4,10 @@ ghost use Rattle.core_parts.specs.Wires.{IsUnused};
 
 use crate::checks::{holds, is_ok, made, pull, pull_plays, pulling, push_plays, same};
 use core_driver::Driver;
-use core_plays::{Fails, Give, Out, PlayWire, Step, wire};
+use core_plays::{Fails, PlayWire, wire};
 use proto_pipeline::Pull;
 use sp_base::{Ctx, SpError};
 use sp_core::{Core, Outcome};
-use sp_history::entry::{Miss, Why};
 use sp_msg::Wire;
 use sp_proto::Proto;
 use std::alloc::Global;
@@ -16,96 +15,112 @@ use std::process::Abort;
 use std::sync::Wait;
 use turn_lock::Stands;
 
-// Of two pipes the first goes down so, and the second gives `x`.
-fn goes_down_alone<R: Wait + Abort>(rt: &R, alloc: Global, first: Step<'_>, why: Why) {
-    let steps = [
-        first,
-        Step::Joins(1, 0, &[Give::Frame(b"x")], 2),
-        Step::Receive(0),
-        Step::Serves(true, 1, 0, 1),
-        Step::Down(1, why),
-        Step::NoneDown,
-        Step::Received(b"", b"x"),
-        Step::Close([1, 1, 0, 1, 0, 0]),
-    ];
-    pull_plays(rt, alloc, false, 2, &steps, &[Out::Put(2, &[])]);
-}
-
 #[test]
 fn a_wire_that_fails_goes_down_alone(rt: HostRuntime) {
-    let fails = Step::JoinsFailing(0, 0, &[Give::Frame(b"y")], 0, 1);
-    goes_down_alone(&rt, rt.alloc(), fails, Why::Failed);
+    let calls = "
+        joins_failing 0 0 1 0 'y
+        joins 1 0 2 'x
+        receive 0
+        serves true 1 0 1
+        down 1 failed
+        none_down
+        received ' 'x
+        close 1 1 0 1 0 0
+    ";
+    pull_plays(&rt, rt.alloc(), false, 2, calls, "put 2");
 }
 
 #[test]
 fn a_malformed_wire_goes_down_alone(rt: HostRuntime) {
-    let malformed = Step::Joins(0, 0, &[Give::Malformed], 1);
-    goes_down_alone(&rt, rt.alloc(), malformed, Why::Malformed);
+    let calls = "
+        joins 0 0 1 malformed
+        joins 1 0 2 'x
+        receive 0
+        serves true 1 0 1
+        down 1 malformed
+        none_down
+        received ' 'x
+        close 1 1 0 1 0 0
+    ";
+    pull_plays(&rt, rt.alloc(), false, 2, calls, "put 2");
 }
 
 #[test]
 fn a_wire_that_ends_goes_down_alone(rt: HostRuntime) {
-    let ends = Step::Joins(0, 0, &[Give::End], 1);
-    goes_down_alone(&rt, rt.alloc(), ends, Why::Ended);
+    let calls = "
+        joins 0 0 1 end
+        joins 1 0 2 'x
+        receive 0
+        serves true 1 0 1
+        down 1 ended
+        none_down
+        received ' 'x
+        close 1 1 0 1 0 0
+    ";
+    pull_plays(&rt, rt.alloc(), false, 2, calls, "put 2");
 }
 
 #[test]
 fn a_wire_that_failed_is_handed_out_with_what_was_put(rt: HostRuntime) {
-    let steps = [
-        Step::JoinsFailing(0, 1, &[Give::Pause], 0, 1),
-        Step::Send(0, &[7], b"x"),
-        Step::Sent,
-        Step::Joins(1, 0, &[Give::Pause], 2),
-        Step::Serves(true, 1, 0, 1),
-        Step::DownWith(1, Why::Failed, None, &[b"x"]),
-        Step::Close([1, 1, 0, 0, 1, 0]),
-    ];
-    push_plays(&rt, rt.alloc(), false, 1, &steps, &[Out::Put(2, &[])]);
+    let calls = "
+        joins_failing 0 1 1 0 pause
+        send 0 00000007' 'x
+        sent
+        joins 1 0 2 pause
+        serves true 1 0 1
+        down_with 1 failed 'x
+        close 1 1 0 0 1 0
+    ";
+    push_plays(&rt, rt.alloc(), false, 1, calls, "put 2");
 }
 
 #[test]
 fn pipes_are_numbered_from_one(rt: HostRuntime) {
-    let steps = [
-        Step::Met(6),
-        Step::Missed(6, Miss::Bad),
-        Step::Met(7),
-        Step::Joins(7, 0, &[Give::Pause], 1),
-        Step::Joins(8, 0, &[Give::Pause], 2),
-        Step::Joins(9, 0, &[Give::Pause], 3),
-        Step::Close([0, 0, 0, 0, 0, 0]),
-        Step::Missed(10, Miss::Refused),
-    ];
-    let outs = [Out::Put(1, &[]), Out::Put(2, &[]), Out::Put(3, &[])];
-    push_plays(&rt, rt.alloc(), false, 1, &steps, &outs);
+    let calls = "
+        met 6
+        missed 6 bad
+        met 7
+        joins 7 0 1 pause
+        joins 8 0 2 pause
+        joins 9 0 3 pause
+        close 0 0 0 0 0 0
+        missed 10 refused
+    ";
+    let wires = "
+        put 1
+        put 2
+        put 3
+    ";
+    push_plays(&rt, rt.alloc(), false, 1, calls, wires);
 }
 
 #[test]
 fn a_quiet_wire_is_asked_once_a_turn(rt: HostRuntime) {
     // Its second pull fails.
-    let steps = [
-        Step::JoinsFailing(0, 0, &[Give::Pause], 1, 1),
-        Step::Serves(false, 0, 0, 1),
-        Step::Serves(true, 1, 0, 0),
-    ];
-    pull_plays(&rt, rt.alloc(), false, 1, &steps, &[Out::Put(1, &[])]);
+    let calls = "
+        joins_failing 0 0 1 1 pause
+        serves false 0 0 1
+        serves true 1 0 0
+    ";
+    pull_plays(&rt, rt.alloc(), false, 1, calls, "put 1");
 }
 
 #[test]
 fn a_close_takes_its_pipes_down(rt: HostRuntime) {
-    let steps = [
-        Step::Joins(0, 0, &[Give::Frame(b"x")], 1),
-        Step::Close([0, 0, 0, 0, 0, 0]),
-        Step::Down(1, Why::Closed),
-        Step::NoneDown,
-    ];
-    pull_plays(&rt, rt.alloc(), false, 1, &steps, &[]);
+    let calls = "
+        joins 0 0 1 'x
+        close 0 0 0 0 0 0
+        down 1 closed
+        none_down
+    ";
+    pull_plays(&rt, rt.alloc(), false, 1, calls, "");
 }
 
 // A wire that gives `x`.
 fn giving(rt: &impl Abort, alloc: Global) -> PlayWire
     ensures { IsUnused (⟦<PlayWire as Wire>⟧.shown result) }
 {
-    match wire(alloc, 0, &[Give::Frame(b"x")], Fails::Nowhere) {
+    match wire(alloc, 0, "'x", Fails::Nowhere) {
         Some(wire) => wire,
         None => panic!(rt; "no memory for a wire"),
     }

@@ -1,129 +1,124 @@
 //! Receives that wait, that are cancelled, and that take what is kept.
 use crate::checks::{NOTHING, pull_plays, push_plays, same};
-use aio_word::{Phase, Raced};
-use core_plays::{Give, Out, Step};
 use sp_base::SpError;
-use sp_core::{BeginError, NowError};
-use sp_history::entry::Cause;
+use sp_core::NowError;
 
 #[test]
 fn a_pull_core_gives_what_came(rt: HostRuntime) {
-    let steps = [
-        Step::Joins(0, 0, &[Give::Frame(b"x")], 1),
-        Step::Receive(0),
-        Step::IsNamed(0, 0, 1),
-        Step::Serves(true, 0, 0, 1),
-        Step::Received(b"", b"x"),
-        Step::Close([1, 1, 0, 1, 0, 0]),
-    ];
-    pull_plays(&rt, rt.alloc(), false, 2, &steps, &NOTHING);
+    let calls = "
+        joins 0 0 1 'x
+        receive 0
+        is_named 0 0 1
+        serves true 0 0 1
+        received ' 'x
+        close 1 1 0 1 0 0
+    ";
+    pull_plays(&rt, rt.alloc(), false, 2, calls, NOTHING);
 }
 
 #[test]
 fn a_pull_has_no_other_context(rt: HostRuntime) {
-    pull_plays(&rt, rt.alloc(), false, 1, &[Step::NoReceive(5, 9)], &[]);
+    pull_plays(&rt, rt.alloc(), false, 1, "no_receive 5 9", "");
 }
 
 #[test]
 fn a_receive_that_is_cancelled_before_the_frame(rt: HostRuntime) {
-    let by_one = Raced::Ended {
-        phase: Phase::Cancelled,
-        by: 1,
-    };
-    let steps = [
-        Step::Joins(0, 0, &[Give::Frame(b"x")], 1),
-        Step::Receive(0),
-        Step::Cancel(0, Raced::Won),
-        Step::Cancel(0, by_one),
-        Step::Serve,
-        Step::Gone(Cause::Cancelled, 1),
+    let calls = "
+        joins 0 0 1 'x
+        receive 0
+        cancel 0 won
+        cancel 0 ended cancelled 1
+        serve
+        gone cancelled 1
         // The message stayed for the next receive, which has the slot anew.
-        Step::Receive(0),
-        Step::IsNamed(1, 0, 2),
-        Step::Cancel(0, Raced::Stale),
-        Step::Received(b"", b"x"),
-        Step::Close([2, 1, 1, 1, 0, 0]),
-    ];
-    pull_plays(&rt, rt.alloc(), false, 2, &steps, &NOTHING);
+        receive 0
+        is_named 1 0 2
+        cancel 0 stale
+        received ' 'x
+        close 2 1 1 1 0 0
+    ";
+    pull_plays(&rt, rt.alloc(), false, 2, calls, NOTHING);
 }
 
 #[test]
 fn a_receive_that_is_cancelled_after_the_frame(rt: HostRuntime) {
-    let won = Raced::Ended {
-        phase: Phase::Won,
-        by: 0,
-    };
-    let steps = [
-        Step::Joins(0, 0, &[Give::Frame(b"x")], 1),
-        Step::Receive(0),
-        Step::Serve,
-        Step::Cancel(0, won),
-        Step::Received(b"", b"x"),
-        Step::Close([1, 1, 0, 1, 0, 0]),
-    ];
-    pull_plays(&rt, rt.alloc(), false, 1, &steps, &NOTHING);
+    let calls = "
+        joins 0 0 1 'x
+        receive 0
+        serve
+        cancel 0 ended won 0
+        received ' 'x
+        close 1 1 0 1 0 0
+    ";
+    pull_plays(&rt, rt.alloc(), false, 1, calls, NOTHING);
 }
 
 #[test]
 fn another_caller_cancels_before_the_frame(rt: HostRuntime) {
-    let steps = [
-        Step::Joins(0, 0, &[Give::Frame(b"x")], 1),
-        Step::Receive(0),
-        Step::CancelByOther(0, Raced::Won),
-        Step::Receive(0),
-        Step::IsNamed(1, 1, 1),
-        Step::Serve,
-        Step::Received(b"", b"x"),
-        Step::Gone(Cause::Cancelled, 2),
-        Step::Close([2, 1, 1, 1, 0, 0]),
-    ];
-    pull_plays(&rt, rt.alloc(), false, 2, &steps, &NOTHING);
+    let calls = "
+        joins 0 0 1 'x
+        receive 0
+        cancel_by_other 0 won
+        receive 0
+        is_named 1 1 1
+        serve
+        received ' 'x
+        gone cancelled 2
+        close 2 1 1 1 0 0
+    ";
+    pull_plays(&rt, rt.alloc(), false, 2, calls, NOTHING);
 }
 
 #[test]
 fn a_frame_stays_for_the_next_receive(rt: HostRuntime) {
-    let steps = [
-        Step::Joins(0, 0, &[Give::Frame(b"x")], 1),
-        Step::Joins(1, 0, &[Give::Frame(b"y")], 2),
-        Step::Receive(0),
-        Step::Serves(true, 0, 0, 2),
-        Step::Received(b"", b"x"),
-        Step::Receive(0),
-        Step::Received(b"", b"y"),
-        Step::Close([2, 2, 0, 2, 0, 0]),
-    ];
-    let outs = [Out::Put(1, &[]), Out::Put(2, &[])];
-    pull_plays(&rt, rt.alloc(), false, 2, &steps, &outs);
+    let calls = "
+        joins 0 0 1 'x
+        joins 1 0 2 'y
+        receive 0
+        serves true 0 0 2
+        received ' 'x
+        receive 0
+        received ' 'y
+        close 2 2 0 2 0 0
+    ";
+    let wires = "
+        put 1
+        put 2
+    ";
+    pull_plays(&rt, rt.alloc(), false, 2, calls, wires);
 }
 
 #[test]
 fn what_is_kept_is_received_at_once(rt: HostRuntime) {
-    let steps = [
-        Step::Joins(0, 0, &[Give::Frame(b"x")], 1),
-        Step::Joins(1, 0, &[Give::Frame(b"y")], 2),
-        Step::NotNowFor(0, NowError::Again),
-        Step::Serve,
-        Step::Now(0, b"", b"x"),
-        Step::Now(0, b"", b"y"),
-        Step::NotNowFor(0, NowError::Again),
-        Step::NotNowFor(5, NowError::Begin(BeginError::NotSupported)),
+    let calls = "
+        joins 0 0 1 'x
+        joins 1 0 2 'y
+        not_now_for 0 again
+        serve
+        now 0 ' 'x
+        now 0 ' 'y
+        not_now_for 0 again
+        not_now_for 5 notsupported
         // The one slot has an operation that was not collected.
-        Step::Receive(0),
-        Step::NotNowFor(0, NowError::Begin(BeginError::Busy)),
-        Step::Close([3, 2, 1, 2, 0, 0]),
-        Step::NotNowFor(0, NowError::Begin(BeginError::Closed)),
-        Step::Gone(Cause::Closed, 0),
-    ];
-    let outs = [Out::Put(1, &[]), Out::Put(2, &[])];
-    pull_plays(&rt, rt.alloc(), false, 1, &steps, &outs);
+        receive 0
+        not_now_for 0 busy
+        close 3 2 1 2 0 0
+        not_now_for 0 closed
+        gone closed 0
+    ";
+    let wires = "
+        put 1
+        put 2
+    ";
+    pull_plays(&rt, rt.alloc(), false, 1, calls, wires);
     same(&rt, SpError::from(NowError::Again), SpError::Again);
 }
 
 #[test]
 fn a_push_receives_nothing_at_once(rt: HostRuntime) {
-    let steps = [
-        Step::NotNowFor(0, NowError::Begin(BeginError::NotSupported)),
-        Step::Closed,
-    ];
-    push_plays(&rt, rt.alloc(), false, 1, &steps, &[]);
+    let calls = "
+        not_now_for 0 notsupported
+        closed
+    ";
+    push_plays(&rt, rt.alloc(), false, 1, calls, "");
 }

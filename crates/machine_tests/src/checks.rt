@@ -1,5 +1,5 @@
 //! What a test asks of a machine.
-use crate::steps::{Call, first_wrong};
+use crate::plays::wrong_line;
 use sp_base::NoMemory;
 use sp_proto::Proto;
 use std::alloc::Global;
@@ -13,20 +13,17 @@ pub fn made<M: Proto>(rt: &impl Abort, machine: Result<M, NoMemory>) -> M {
     }
 }
 
-/// The machine returns at each step what it says.
-pub fn goes_on<M: Proto>(rt: &impl Abort, alloc: Global, m: &mut M, steps: &[Call<'_>]) {
-    assert_eq!(rt; first_wrong(m, alloc, steps), None);
+/// The machine returns at each line of the play what it says.
+pub fn goes_on<M: Proto>(rt: &impl Abort, alloc: Global, m: &mut M, play: &str) {
+    if let Some(line) = wrong_line(m, alloc, play) {
+        panic!(rt; "line {line} of the play");
+    }
 }
 
 /// The machine that was made does.
-pub fn plays<M: Proto>(
-    rt: &impl Abort,
-    alloc: Global,
-    machine: Result<M, NoMemory>,
-    steps: &[Call<'_>],
-) {
+pub fn plays<M: Proto>(rt: &impl Abort, alloc: Global, machine: Result<M, NoMemory>, play: &str) {
     let mut m = made(rt, machine);
-    goes_on(rt, alloc, &mut m, steps);
+    goes_on(rt, alloc, &mut m, play);
 }
 
 /// It holds.

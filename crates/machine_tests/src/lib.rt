@@ -19,6 +19,8 @@ mod pair;
 #[cfg(test)]
 mod pipeline;
 #[cfg(test)]
+mod plays;
+#[cfg(test)]
 mod publishers;
 #[cfg(test)]
 mod replies;
@@ -27,8 +29,8 @@ mod requests;
 #[cfg(test)]
 mod resends;
 #[cfg(test)]
-mod steps;
-#[cfg(test)]
 mod subs;
 #[cfg(test)]
 mod surveys;
+#[cfg(test)]
+mod words;

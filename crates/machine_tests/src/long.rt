@@ -2,7 +2,6 @@
 //! at each tick. And two settings at the ends of their ranges.
 use crate::checks::{holds, made, plays};
 use crate::moves::{comes, is_wire, wins};
-use crate::steps::Call;
 use proto_reqrep::{Reply, Request};
 use sp_base::{Ctx, NoMemory, OpName, PipeId, Role, Tick};
 use sp_history::setting::Options;
@@ -16,13 +15,6 @@ const TRIPS: u32 = 120_000;
 
 // So many pipes come up and go down, and so many contexts are opened and shut.
 const TIMES: u32 = 10_000;
-
-// Fifteen hops, a request's id, and `q`.
-const SIXTEEN_WORDS: [u8; 65] = [
-    0, 0, 0, 1, 0, 0, 0, 2, 0, 0, 0, 3, 0, 0, 0, 4, 0, 0, 0, 5, 0, 0, 0, 6, 0, 0, 0, 7, 0, 0, 0, 8,
-    0, 0, 0, 9, 0, 0, 0, 10, 0, 0, 0, 11, 0, 0, 0, 12, 0, 0, 0, 13, 0, 0, 0, 14, 0, 0, 0, 15, 128,
-    0, 0, 5, 113,
-];
 
 // What the request with this number is on a wire, and its reply: the number as a word with the top bit set, and a byte.
 fn wire(n: u32) -> [u8; 5] {
@@ -248,20 +240,24 @@ fn each_of_many_requests_goes_out_again_in_its_time(rt: HostRuntime) {
 fn fifteen_words_are_not_too_far_where_the_limit_is_fifteen(rt: HostRuntime) {
     let mut options = Options::usual(Role::Rep, 0);
     options.ttl = 15;
-    let steps = [
-        Call::Reserve(2),
-        Call::Up(1),
-        Call::Frame(1, &SIXTEEN_WORDS),
-        Call::Wants(1, true),
-        Call::Frame(1, &SIXTEEN_WORDS[4..]),
-        Call::Wants(1, false),
-        Call::Receive(0, 0),
-        Call::CanGive(0),
-        Call::Gets(0, b"", b"q"),
-        Call::Send(1, 0, &[], b"r"),
-        Call::CanSend(1, 1),
-        Call::GoesOut(1, 1, &SIXTEEN_WORDS[4..64], b"r"),
-    ];
+    // Fifteen hops, a request's id, and `q`; then a hop less.
+    let play = "
+        reserve 2
+        up 1
+        frame 1 000000010000000200000003000000040000000500000006000000070000000800000009\
+            0000000a0000000b0000000c0000000d0000000e0000000f80000005'q
+        wants 1 yes
+        frame 1 00000002000000030000000400000005000000060000000700000008000000090000000a\
+            0000000b0000000c0000000d0000000e0000000f80000005'q
+        wants 1 no
+        receive 0 0
+        can_give 0
+        gets 0 ' 'q
+        send 1 0 ' 'r
+        can_send 1 1
+        goes_out 1 1 00000002000000030000000400000005000000060000000700000008000000090000000a\
+            0000000b0000000c0000000d0000000e0000000f80000005' 'r
+    ";
     let rep = Reply::new(rt.alloc(), options, false);
-    plays(&rt, rt.alloc(), rep, &steps);
+    plays(&rt, rt.alloc(), rep, play);
 }

@@ -1,10 +1,8 @@
 //! A pair: one peer, and what waits for it.
 use crate::checks::plays;
-use crate::steps::Call;
 use proto_pair::Pair;
 use sp_base::{NoMemory, Role};
 use sp_history::setting::Options;
-use sp_proto::{CheckError, Verb};
 use std::alloc::Global;
 use std::process::Abort;
 
@@ -12,61 +10,61 @@ fn pair(alloc: Global, raw: bool) -> Result<Pair, NoMemory> {
     Pair::new(alloc, Options::usual(Role::Pair0, 0), raw)
 }
 
-// A pair returns at each step what it says.
-fn pair_plays(rt: &impl Abort, alloc: Global, raw: bool, steps: &[Call<'_>]) {
-    plays(rt, alloc, pair(alloc, raw), steps);
+// A pair returns at each line what it says.
+fn pair_plays(rt: &impl Abort, alloc: Global, raw: bool, play: &str) {
+    plays(rt, alloc, pair(alloc, raw), play);
 }
 
 #[test]
 fn a_pair_has_one_peer(rt: HostRuntime) {
-    let steps = [
-        Call::Reserve(2),
-        Call::Is(Role::Pair0, false),
-        Call::Up(1),
-        Call::Refused(2),
-        Call::Wants(1, true),
-        Call::Frame(1, b"abc"),
-        Call::Wants(1, false),
-        Call::Keeps(0, true),
-        Call::Down(1),
-        Call::Up(2),
-        Call::Wants(2, false),
-        Call::Receive(0, 0),
-        Call::Receive(1, 0),
-        Call::Loses(0),
-        Call::CanGive(1),
-        Call::Gets(1, b"", b"abc"),
-        Call::Idle,
-        Call::Keeps(0, false),
-    ];
-    pair_plays(&rt, rt.alloc(), false, &steps);
+    let play = "
+        reserve 2
+        is pair cooked
+        up 1
+        refused 2
+        wants 1 yes
+        frame 1 'abc
+        wants 1 no
+        keeps 0 yes
+        down 1
+        up 2
+        wants 2 no
+        receive 0 0
+        receive 1 0
+        loses 0
+        can_give 1
+        gets 1 ' 'abc
+        idle
+        keeps 0 no
+    ";
+    pair_plays(&rt, rt.alloc(), false, play);
 }
 
 #[test]
 fn sends_wait_for_the_peer_in_order(rt: HostRuntime) {
-    let steps = [
-        Call::Reserve(2),
-        Call::Send(0, 0, &[5], b"x"),
-        Call::Send(1, 0, &[5], b"y"),
-        Call::Idle,
-        Call::Up(1),
-        Call::CanSend(0, 1),
-        Call::GoesOut(0, 1, b"", b"x"),
-        Call::Full(1),
-        Call::Idle,
-        Call::Fresh,
-        Call::HandsBack(1, &[0, 0, 0, 5], b"y"),
-        Call::Idle,
-    ];
-    pair_plays(&rt, rt.alloc(), true, &steps);
+    let play = "
+        reserve 2
+        send 0 0 00000005' 'x
+        send 1 0 00000005' 'y
+        idle
+        up 1
+        can_send 0 1
+        goes_out 0 1 ' 'x
+        full 1
+        idle
+        fresh
+        hands_back 1 00000005' 'y
+        idle
+    ";
+    pair_plays(&rt, rt.alloc(), true, play);
 }
 
 #[test]
 fn a_pair_has_no_contexts(rt: HostRuntime) {
-    let steps = [
-        Call::Check(0, Verb::Send, Ok(())),
-        Call::Check(0, Verb::Recv, Ok(())),
-        Call::Check(5, Verb::Recv, Err(CheckError::NotSupported)),
-    ];
-    pair_plays(&rt, rt.alloc(), false, &steps);
+    let play = "
+        check 0 send ok
+        check 0 receive ok
+        check 5 receive not_supported
+    ";
+    pair_plays(&rt, rt.alloc(), false, play);
 }

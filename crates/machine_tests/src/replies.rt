@@ -1,304 +1,269 @@
 //! A rep answers whom it was asked by, and bounds how far a request came. A respondent is a rep in all of this.
 use crate::checks::plays;
-use crate::steps::Call;
 use proto_reqrep::{Reply, Respond};
 use sp_base::Role;
 use sp_history::setting::Options;
-use sp_proto::{CheckError, Verb};
 use std::alloc::Global;
 use std::process::Abort;
 
-// Seven hops, a request's id, and `q`.
-const SEVEN_HOPS: [u8; 33] = [
-    0, 0, 0, 1, 0, 0, 0, 1, 0, 0, 0, 1, 0, 0, 0, 1, 0, 0, 0, 1, 0, 0, 0, 1, 0, 0, 0, 1, 128, 0, 0,
-    5, 113,
-];
-
-// Eight hops and a request's id.
-const EIGHT_HOPS: [u8; 36] = [
-    0, 0, 0, 1, 0, 0, 0, 1, 0, 0, 0, 1, 0, 0, 0, 1, 0, 0, 0, 1, 0, 0, 0, 1, 0, 0, 0, 1, 0, 0, 0, 1,
-    128, 0, 0, 5,
-];
-
-// Fourteen hops, a request's id, and `q`.
-const FIFTEEN_WORDS: [u8; 61] = [
-    0, 0, 0, 1, 0, 0, 0, 2, 0, 0, 0, 3, 0, 0, 0, 4, 0, 0, 0, 5, 0, 0, 0, 6, 0, 0, 0, 7, 0, 0, 0, 8,
-    0, 0, 0, 9, 0, 0, 0, 10, 0, 0, 0, 11, 0, 0, 0, 12, 0, 0, 0, 13, 0, 0, 0, 14, 128, 0, 0, 5, 113,
-];
-
-// The number of the pipe, and these words.
-const LONGEST_HEADER: [u8; 64] = [
-    0, 0, 0, 1, 0, 0, 0, 1, 0, 0, 0, 2, 0, 0, 0, 3, 0, 0, 0, 4, 0, 0, 0, 5, 0, 0, 0, 6, 0, 0, 0, 7,
-    0, 0, 0, 8, 0, 0, 0, 9, 0, 0, 0, 10, 0, 0, 0, 11, 0, 0, 0, 12, 0, 0, 0, 13, 0, 0, 0, 14, 128,
-    0, 0, 5,
-];
-
-// Nine hops and no id.
-const NINE_HOPS: [u8; 36] = [
-    0, 0, 0, 1, 0, 0, 0, 1, 0, 0, 0, 1, 0, 0, 0, 1, 0, 0, 0, 1, 0, 0, 0, 1, 0, 0, 0, 1, 0, 0, 0, 1,
-    0, 0, 0, 1,
-];
-
-// Eight hops and no id.
-const EIGHT_WORDS: [u8; 32] = [
-    0, 0, 0, 1, 0, 0, 0, 1, 0, 0, 0, 1, 0, 0, 0, 1, 0, 0, 0, 1, 0, 0, 0, 1, 0, 0, 0, 1, 0, 0, 0, 1,
-];
-
-// A rep and a respondent both return at each step what it says.
-fn both_play(rt: &impl Abort, alloc: Global, raw: bool, steps: &[Call<'_>]) {
+// A rep and a respondent both return at each line what it says.
+fn both_play(rt: &impl Abort, alloc: Global, raw: bool, play: &str) {
     let options = Options::usual(Role::Rep, 0);
-    plays(rt, alloc, Reply::new(alloc, options, raw), steps);
-    respondent_plays(rt, alloc, raw, steps);
+    plays(rt, alloc, Reply::new(alloc, options, raw), play);
+    respondent_plays(rt, alloc, raw, play);
 }
 
-fn respondent_plays(rt: &impl Abort, alloc: Global, raw: bool, steps: &[Call<'_>]) {
+fn respondent_plays(rt: &impl Abort, alloc: Global, raw: bool, play: &str) {
     let options = Options::usual(Role::Respondent, 0);
-    plays(rt, alloc, Respond::new(alloc, options, raw), steps);
+    plays(rt, alloc, Respond::new(alloc, options, raw), play);
 }
 
 // Both do, where a request may come over one hop.
-fn both_play_near(rt: &impl Abort, alloc: Global, steps: &[Call<'_>]) {
+fn both_play_near(rt: &impl Abort, alloc: Global, play: &str) {
     let mut options = Options::usual(Role::Rep, 0);
     options.ttl = 1;
-    plays(rt, alloc, Reply::new(alloc, options, false), steps);
+    plays(rt, alloc, Reply::new(alloc, options, false), play);
     let mut options = Options::usual(Role::Respondent, 0);
     options.ttl = 1;
-    plays(rt, alloc, Respond::new(alloc, options, false), steps);
+    plays(rt, alloc, Respond::new(alloc, options, false), play);
 }
 
 // Both do, raw, where a request may come over fifteen hops.
-fn both_play_far(rt: &impl Abort, alloc: Global, steps: &[Call<'_>]) {
+fn both_play_far(rt: &impl Abort, alloc: Global, play: &str) {
     let mut options = Options::usual(Role::Rep, 0);
     options.ttl = 15;
-    plays(rt, alloc, Reply::new(alloc, options, true), steps);
+    plays(rt, alloc, Reply::new(alloc, options, true), play);
     let mut options = Options::usual(Role::Respondent, 0);
     options.ttl = 15;
-    plays(rt, alloc, Respond::new(alloc, options, true), steps);
+    plays(rt, alloc, Respond::new(alloc, options, true), play);
 }
 
 #[test]
 fn a_reply_goes_back_by_its_backtrace(rt: HostRuntime) {
-    let steps = [
-        Call::Reserve(2),
-        Call::Up(1),
-        Call::Frame(1, &[0, 0, 0, 7, 128, 0, 0, 42, 113]),
-        Call::Wants(1, false),
-        Call::Check(0, Verb::Send, Err(CheckError::State)),
-        Call::Receive(0, 0),
-        Call::CanGive(0),
-        Call::Gets(0, b"", b"q"),
-        Call::Check(0, Verb::Send, Ok(())),
-        Call::Send(1, 0, &[], b"a"),
-        Call::Check(0, Verb::Send, Err(CheckError::State)),
-        Call::CanSend(1, 1),
-        Call::Full(1),
-        Call::Idle,
-        Call::Fresh,
-        Call::GoesOut(1, 1, &[0, 0, 0, 7, 128, 0, 0, 42], b"a"),
-    ];
-    both_play(&rt, rt.alloc(), false, &steps);
+    let play = "
+        reserve 2
+        up 1
+        frame 1 000000078000002a'q
+        wants 1 no
+        check 0 send state
+        receive 0 0
+        can_give 0
+        gets 0 ' 'q
+        check 0 send ok
+        send 1 0 ' 'a
+        check 0 send state
+        can_send 1 1
+        full 1
+        idle
+        fresh
+        goes_out 1 1 000000078000002a' 'a
+    ";
+    both_play(&rt, rt.alloc(), false, play);
 }
 
 #[test]
 fn a_frame_that_is_cut_short_is_malformed(rt: HostRuntime) {
-    let steps = [
-        Call::Reserve(1),
-        Call::Up(1),
-        Call::Up(2),
-        Call::Malformed(1, &[0, 0, 0, 1]),
-        Call::Malformed(1, b""),
-        Call::Malformed(1, &[128, 0, 0]),
-        Call::Frame(2, &NINE_HOPS),
-        Call::Frame(2, &EIGHT_WORDS),
-        Call::Wants(2, true),
-        Call::Frame(2, &[128, 0, 0, 5, 113]),
-        Call::Wants(2, false),
-        Call::Receive(0, 0),
-        Call::CanGive(0),
-        Call::Gets(0, b"", b"q"),
-    ];
-    both_play(&rt, rt.alloc(), false, &steps);
+    // Nine hops and no id, and eight.
+    let play = "
+        reserve 1
+        up 1
+        up 2
+        malformed 1 00000001'
+        malformed 1 '
+        malformed 1 800000'
+        frame 2 000000010000000100000001000000010000000100000001000000010000000100000001'
+        frame 2 0000000100000001000000010000000100000001000000010000000100000001'
+        wants 2 yes
+        frame 2 80000005'q
+        wants 2 no
+        receive 0 0
+        can_give 0
+        gets 0 ' 'q
+    ";
+    both_play(&rt, rt.alloc(), false, play);
 }
 
 #[test]
 fn seven_hops_are_not_too_far_and_eight_are(rt: HostRuntime) {
-    let steps = [
-        Call::Reserve(2),
-        Call::Up(1),
-        Call::Frame(1, &SEVEN_HOPS),
-        Call::Receive(0, 0),
-        Call::CanGive(0),
-        Call::Gets(0, b"", b"q"),
-        Call::Send(1, 0, &[], b"q"),
-        Call::GoesOut(1, 1, &SEVEN_HOPS[..32], b"q"),
-        Call::Frame(1, &EIGHT_HOPS),
-        Call::Wants(1, true),
-    ];
-    both_play(&rt, rt.alloc(), false, &steps);
+    // Seven hops, a request's id, and `q`; then eight hops and an id.
+    let play = "
+        reserve 2
+        up 1
+        frame 1 0000000100000001000000010000000100000001000000010000000180000005'q
+        receive 0 0
+        can_give 0
+        gets 0 ' 'q
+        send 1 0 ' 'q
+        goes_out 1 1 0000000100000001000000010000000100000001000000010000000180000005' 'q
+        frame 1 000000010000000100000001000000010000000100000001000000010000000180000005'
+        wants 1 yes
+    ";
+    both_play(&rt, rt.alloc(), false, play);
 }
 
 #[test]
 fn one_hop_is_all_where_the_limit_is_one(rt: HostRuntime) {
-    let steps = [
-        Call::Reserve(1),
-        Call::Up(1),
-        Call::Frame(1, &[0, 0, 0, 1, 128, 0, 0, 5]),
-        Call::Wants(1, true),
-        Call::Frame(1, &[128, 0, 0, 5]),
-        Call::Receive(0, 0),
-        Call::CanGive(0),
-        Call::Gets(0, b"", b""),
-    ];
-    both_play_near(&rt, rt.alloc(), &steps);
+    let play = "
+        reserve 1
+        up 1
+        frame 1 0000000180000005'
+        wants 1 yes
+        frame 1 80000005'
+        receive 0 0
+        can_give 0
+        gets 0 ' '
+    ";
+    both_play_near(&rt, rt.alloc(), play);
 }
 
 #[test]
 fn requests_of_a_pipe_that_is_down_are_gone(rt: HostRuntime) {
-    let steps = [
-        Call::Reserve(3),
-        Call::Up(1),
-        Call::Up(2),
-        Call::Frame(1, &[128, 0, 0, 1, 97]),
-        Call::Frame(2, &[128, 0, 0, 2, 98]),
-        Call::Down(1),
-        Call::Receive(0, 0),
-        Call::CanGive(0),
-        Call::Gets(0, b"", b"b"),
-        Call::Receive(1, 0),
-        Call::Idle,
-        Call::Check(0, Verb::Send, Err(CheckError::State)),
-    ];
-    both_play(&rt, rt.alloc(), false, &steps);
+    let play = "
+        reserve 3
+        up 1
+        up 2
+        frame 1 80000001'a
+        frame 2 80000002'b
+        down 1
+        receive 0 0
+        can_give 0
+        gets 0 ' 'b
+        receive 1 0
+        idle
+        check 0 send state
+    ";
+    both_play(&rt, rt.alloc(), false, play);
 }
 
 #[test]
 fn a_close_drops_the_request_that_is_to_be_answered(rt: HostRuntime) {
-    let steps = [
-        Call::Reserve(2),
-        Call::Up(1),
-        Call::Frame(1, &[128, 0, 0, 1, 97]),
-        Call::Receive(0, 0),
-        Call::CanGive(0),
-        Call::Gets(0, b"", b"a"),
-        Call::Check(0, Verb::Send, Ok(())),
-        Call::Close,
-        Call::Check(0, Verb::Send, Err(CheckError::State)),
-    ];
-    both_play(&rt, rt.alloc(), false, &steps);
+    let play = "
+        reserve 2
+        up 1
+        frame 1 80000001'a
+        receive 0 0
+        can_give 0
+        gets 0 ' 'a
+        check 0 send ok
+        close
+        check 0 send state
+    ";
+    both_play(&rt, rt.alloc(), false, play);
 }
 
 #[test]
 fn a_reply_to_a_pipe_that_is_down_goes_nowhere(rt: HostRuntime) {
-    let steps = [
-        Call::Reserve(2),
-        Call::Up(1),
-        Call::Frame(1, &[128, 0, 0, 1, 97]),
-        Call::Receive(0, 0),
-        Call::CanGive(0),
-        Call::Gets(0, b"", b"a"),
-        Call::Down(1),
-        Call::Send(1, 0, &[], b"x"),
-        Call::CanDrop(1),
-        Call::EndsNowhere(1),
-        Call::Idle,
-    ];
-    both_play(&rt, rt.alloc(), false, &steps);
+    let play = "
+        reserve 2
+        up 1
+        frame 1 80000001'a
+        receive 0 0
+        can_give 0
+        gets 0 ' 'a
+        down 1
+        send 1 0 ' 'x
+        can_drop 1
+        ends_nowhere 1
+        idle
+    ";
+    both_play(&rt, rt.alloc(), false, play);
 }
 
 #[test]
 fn two_contexts_answer_their_own(rt: HostRuntime) {
-    let steps = [
-        Call::Reserve(4),
-        Call::Open(1),
-        Call::Up(1),
-        Call::Up(2),
-        Call::Frame(1, &[128, 0, 0, 1, 97]),
-        Call::Frame(2, &[128, 0, 0, 2, 98]),
-        Call::Receive(0, 1),
-        Call::CanGive(0),
-        Call::Gets(0, b"", b"a"),
-        Call::Receive(1, 0),
-        Call::CanGive(1),
-        Call::Gets(1, b"", b"b"),
-        Call::Send(2, 0, &[], b"B"),
-        Call::GoesOut(2, 2, &[128, 0, 0, 2], b"B"),
-        Call::Send(3, 1, &[], b"A"),
-        Call::GoesOut(3, 1, &[128, 0, 0, 1], b"A"),
-    ];
-    both_play(&rt, rt.alloc(), false, &steps);
+    let play = "
+        reserve 4
+        open 1
+        up 1
+        up 2
+        frame 1 80000001'a
+        frame 2 80000002'b
+        receive 0 1
+        can_give 0
+        gets 0 ' 'a
+        receive 1 0
+        can_give 1
+        gets 1 ' 'b
+        send 2 0 ' 'B
+        goes_out 2 2 80000002' 'B
+        send 3 1 ' 'A
+        goes_out 3 1 80000001' 'A
+    ";
+    both_play(&rt, rt.alloc(), false, play);
 }
 
 #[test]
 fn a_raw_replier_shows_its_pipe_and_the_backtrace(rt: HostRuntime) {
-    let steps = [
-        Call::Reserve(3),
-        Call::Up(1),
-        Call::Frame(1, &[128, 0, 0, 42, 113]),
-        Call::Receive(0, 0),
-        Call::CanGive(0),
-        Call::PassesOn(0, 1, &[0, 0, 0, 1, 128, 0, 0, 42], b"q"),
-        Call::GoesOut(1, 1, &[128, 0, 0, 42], b"q"),
-        Call::Send(2, 0, &[9, 2_147_483_690], b"q"),
-        Call::CanDrop(2),
-    ];
-    both_play(&rt, rt.alloc(), true, &steps);
+    let play = "
+        reserve 3
+        up 1
+        frame 1 8000002a'q
+        receive 0 0
+        can_give 0
+        passes_on 0 1 000000018000002a' 'q
+        goes_out 1 1 8000002a' 'q
+        send 2 0 000000098000002a' 'q
+        can_drop 2
+    ";
+    both_play(&rt, rt.alloc(), true, play);
 }
 
 #[test]
 fn fifteen_words_make_a_header_of_64_bytes(rt: HostRuntime) {
-    let steps = [
-        Call::Reserve(2),
-        Call::Up(1),
-        Call::Frame(1, &FIFTEEN_WORDS),
-        Call::Receive(0, 0),
-        Call::CanGive(0),
-        Call::PassesOn(0, 1, &LONGEST_HEADER, b"q"),
-        Call::GoesOut(1, 1, &FIFTEEN_WORDS[..60], b"q"),
-    ];
-    both_play_far(&rt, rt.alloc(), &steps);
+    // Fourteen hops, a request's id, and `q`. Received, the number of the pipe stands before them.
+    let play = "
+        reserve 2
+        up 1
+        frame 1 000000010000000200000003000000040000000500000006000000070000000800000009\
+            0000000a0000000b0000000c0000000d0000000e80000005'q
+        receive 0 0
+        can_give 0
+        passes_on 0 1 000000010000000100000002000000030000000400000005000000060000000700000008\
+            000000090000000a0000000b0000000c0000000d0000000e80000005' 'q
+        goes_out 1 1 000000010000000200000003000000040000000500000006000000070000000800000009\
+            0000000a0000000b0000000c0000000d0000000e80000005' 'q
+    ";
+    both_play_far(&rt, rt.alloc(), play);
 }
 
 #[test]
 fn the_ninth_word_is_too_far_for_a_respondent(rt: HostRuntime) {
-    let steps = [
-        Call::Reserve(2),
-        Call::Up(1),
-        Call::Frame(1, &NINE_HOPS),
-        Call::Wants(1, true),
-        Call::Malformed(1, &[127, 0, 0, 1]),
-        Call::Frame(1, &[255, 0, 0, 5, 113]),
-        Call::Receive(0, 0),
-        Call::CanGive(0),
-        Call::Gets(0, b"", b"q"),
-        Call::Send(1, 0, &[], b"r"),
-        Call::GoesOut(1, 1, &[255, 0, 0, 5], b"r"),
-    ];
-    respondent_plays(&rt, rt.alloc(), false, &steps);
+    // Nine hops and no id.
+    let play = "
+        reserve 2
+        up 1
+        frame 1 000000010000000100000001000000010000000100000001000000010000000100000001'
+        wants 1 yes
+        malformed 1 7f000001'
+        frame 1 ff000005'q
+        receive 0 0
+        can_give 0
+        gets 0 ' 'q
+        send 1 0 ' 'r
+        goes_out 1 1 ff000005' 'r
+    ";
+    respondent_plays(&rt, rt.alloc(), false, play);
 }
 
 #[test]
 fn the_ninth_word_is_too_far_for_a_raw_respondent(rt: HostRuntime) {
-    let steps = [
-        Call::Is(Role::Respondent, true),
-        Call::Reserve(1),
-        Call::Up(2),
-        Call::Frame(2, &EIGHT_WORDS),
-        Call::Wants(2, true),
-        Call::Frame(2, &[128, 0, 0, 42, 113]),
-        Call::Receive(0, 0),
-        Call::Gets(0, &[0, 0, 0, 2, 128, 0, 0, 42], b"q"),
-    ];
-    respondent_plays(&rt, rt.alloc(), true, &steps);
+    // Eight hops and no id.
+    let play = "
+        is respondent raw
+        reserve 1
+        up 2
+        frame 2 0000000100000001000000010000000100000001000000010000000100000001'
+        wants 2 yes
+        frame 2 8000002a'q
+        receive 0 0
+        gets 0 000000028000002a' 'q
+    ";
+    respondent_plays(&rt, rt.alloc(), true, play);
 }
 
 #[test]
 fn a_respondent_stands_for_its_role(rt: HostRuntime) {
     let options = Options::usual(Role::Respondent, 0);
     let respondent = proto_survey::Respond::new(rt.alloc(), options, false);
-    plays(
-        &rt,
-        rt.alloc(),
-        respondent,
-        &[Call::Is(Role::Respondent, false)],
-    );
+    plays(&rt, rt.alloc(), respondent, "is respondent cooked");
 }

@@ -1,7 +1,6 @@
 //! Requests go to the pipes in turn, first to those that had room, and go out again where their pipe goes down.
 use crate::checks::{holds, made, plays};
 use crate::moves::sends;
-use crate::steps::Call;
 use proto_reqrep::Request;
 use sp_base::{Ctx, PipeId, Role};
 use sp_history::setting::Options;
@@ -9,54 +8,54 @@ use sp_proto::{Offer, Proto};
 use std::alloc::Global;
 use std::process::Abort;
 
-// A req returns at each step what it says.
-fn req_plays(rt: &impl Abort, alloc: Global, steps: &[Call<'_>]) {
+// A req returns at each line what it says.
+fn req_plays(rt: &impl Abort, alloc: Global, play: &str) {
     let req = Request::new(alloc, Options::usual(Role::Req, 0), false);
-    plays(rt, alloc, req, steps);
+    plays(rt, alloc, req, play);
 }
 
 #[test]
 fn a_request_goes_out_again(rt: HostRuntime) {
-    let steps = [
-        Call::Reserve(1),
-        Call::Up(1),
-        Call::Send(0, 0, &[], b"a"),
-        Call::GoesOut(0, 1, &[128, 0, 0, 0], b"a"),
-        Call::Up(2),
-        Call::Clock(1_000),
-        Call::Idle,
-        Call::Down(1),
-        Call::CanResend(0, 2),
-        Call::Resend(0, 2, &[128, 0, 0, 0], b"a"),
-        Call::Idle,
-        Call::Clock(60_999),
-        Call::Idle,
-        Call::Clock(61_000),
-        Call::CanResend(0, 2),
-        Call::Full(2),
-        Call::Idle,
-    ];
-    req_plays(&rt, rt.alloc(), &steps);
+    let play = "
+        reserve 1
+        up 1
+        send 0 0 ' 'a
+        goes_out 0 1 80000000' 'a
+        up 2
+        clock 1000ms
+        idle
+        down 1
+        can_resend 0 2
+        resend 0 2 80000000' 'a
+        idle
+        clock 60999ms
+        idle
+        clock 61000ms
+        can_resend 0 2
+        full 2
+        idle
+    ";
+    req_plays(&rt, rt.alloc(), play);
 }
 
 #[test]
 fn a_send_that_waits_goes_out_before_a_request_that_is_due(rt: HostRuntime) {
-    let steps = [
-        Call::Reserve(2),
-        Call::Open(1),
-        Call::Up(1),
-        Call::Send(0, 0, &[], b"a"),
-        Call::GoesOut(0, 1, &[128, 0, 0, 0], b"a"),
-        Call::Down(1),
-        Call::Send(1, 1, &[], b"b"),
-        Call::Up(2),
-        Call::CanSend(1, 2),
-        Call::GoesOut(1, 2, &[128, 0, 0, 1], b"b"),
-        Call::CanResend(0, 2),
-        Call::Resend(0, 2, &[128, 0, 0, 0], b"a"),
-        Call::Idle,
-    ];
-    req_plays(&rt, rt.alloc(), &steps);
+    let play = "
+        reserve 2
+        open 1
+        up 1
+        send 0 0 ' 'a
+        goes_out 0 1 80000000' 'a
+        down 1
+        send 1 1 ' 'b
+        up 2
+        can_send 1 2
+        goes_out 1 2 80000001' 'b
+        can_resend 0 2
+        resend 0 2 80000000' 'a
+        idle
+    ";
+    req_plays(&rt, rt.alloc(), play);
 }
 
 // A send of the context begins, and goes out where it is offered. The pipe on which it does.
@@ -104,167 +103,167 @@ fn six_requests_go_to_two_pipes_in_turn(rt: HostRuntime) {
 
 #[test]
 fn a_pipe_that_hangs_is_not_the_next_again(rt: HostRuntime) {
-    let steps = [
-        Call::Up(1),
-        Call::Up(2),
-        Call::Send(0, 0, &[], b"a"),
-        Call::CanSend(0, 1),
-        Call::GoesOut(0, 1, &[128, 0, 0, 0], b"a"),
-        Call::Fresh,
-        Call::Clock(60_000),
-        Call::CanResend(0, 2),
-        Call::Resend(0, 2, &[128, 0, 0, 0], b"a"),
-        Call::Idle,
-        Call::Fresh,
-        Call::Clock(120_000),
-        Call::CanResend(0, 1),
-        Call::Resend(0, 1, &[128, 0, 0, 0], b"a"),
-        Call::Idle,
-        Call::Fresh,
-        Call::Clock(180_000),
-        Call::CanResend(0, 2),
-        Call::Resend(0, 2, &[128, 0, 0, 0], b"a"),
-        Call::Idle,
-    ];
-    req_plays(&rt, rt.alloc(), &steps);
+    let play = "
+        up 1
+        up 2
+        send 0 0 ' 'a
+        can_send 0 1
+        goes_out 0 1 80000000' 'a
+        fresh
+        clock 60000ms
+        can_resend 0 2
+        resend 0 2 80000000' 'a
+        idle
+        fresh
+        clock 120000ms
+        can_resend 0 1
+        resend 0 1 80000000' 'a
+        idle
+        fresh
+        clock 180000ms
+        can_resend 0 2
+        resend 0 2 80000000' 'a
+        idle
+    ";
+    req_plays(&rt, rt.alloc(), play);
 }
 
 // With each turn one pipe more counts as roomy: pipe 1, then 2, then 3, and pipe 1 once more.
 #[test]
 fn a_full_pipe_is_asked_again_in_its_turn(rt: HostRuntime) {
-    let steps = [
-        Call::Up(1),
-        Call::Up(2),
-        Call::Up(3),
-        Call::Send(0, 0, &[], b"a"),
-        Call::CanSend(0, 1),
-        Call::Full(1),
-        Call::CanSend(0, 2),
-        Call::GoesOut(0, 2, &[128, 0, 0, 0], b"a"),
-        Call::Fresh,
-        Call::Send(1, 0, &[], b"a"),
-        Call::CanSend(1, 3),
-        Call::GoesOut(1, 3, &[128, 0, 0, 1], b"a"),
-        Call::Fresh,
-        Call::Send(2, 0, &[], b"a"),
-        Call::CanSend(2, 1),
-        Call::Full(1),
-        Call::CanSend(2, 2),
-        Call::GoesOut(2, 2, &[128, 0, 0, 2], b"a"),
-        Call::Fresh,
-        Call::Send(3, 0, &[], b"a"),
-        Call::CanSend(3, 3),
-        Call::GoesOut(3, 3, &[128, 0, 0, 3], b"a"),
-        Call::Send(4, 0, &[], b"a"),
-        Call::CanSend(4, 2),
-        Call::GoesOut(4, 2, &[128, 0, 0, 4], b"a"),
-        Call::Fresh,
-        Call::Send(5, 0, &[], b"a"),
-        Call::CanSend(5, 3),
-        Call::GoesOut(5, 3, &[128, 0, 0, 5], b"a"),
-        Call::Send(6, 0, &[], b"a"),
-        Call::CanSend(6, 1),
-        Call::GoesOut(6, 1, &[128, 0, 0, 6], b"a"),
-    ];
-    req_plays(&rt, rt.alloc(), &steps);
+    let play = "
+        up 1
+        up 2
+        up 3
+        send 0 0 ' 'a
+        can_send 0 1
+        full 1
+        can_send 0 2
+        goes_out 0 2 80000000' 'a
+        fresh
+        send 1 0 ' 'a
+        can_send 1 3
+        goes_out 1 3 80000001' 'a
+        fresh
+        send 2 0 ' 'a
+        can_send 2 1
+        full 1
+        can_send 2 2
+        goes_out 2 2 80000002' 'a
+        fresh
+        send 3 0 ' 'a
+        can_send 3 3
+        goes_out 3 3 80000003' 'a
+        send 4 0 ' 'a
+        can_send 4 2
+        goes_out 4 2 80000004' 'a
+        fresh
+        send 5 0 ' 'a
+        can_send 5 3
+        goes_out 5 3 80000005' 'a
+        send 6 0 ' 'a
+        can_send 6 1
+        goes_out 6 1 80000006' 'a
+    ";
+    req_plays(&rt, rt.alloc(), play);
 }
 
 // All pipes are full. Pipe 1 is tried again, and where it is still full all are asked.
 #[test]
 fn a_pipe_on_which_a_request_went_out_is_asked_first(rt: HostRuntime) {
-    let steps = [
-        Call::Up(1),
-        Call::Up(2),
-        Call::Up(3),
-        Call::Send(0, 0, &[], b"a"),
-        Call::CanSend(0, 1),
-        Call::Full(1),
-        Call::CanSend(0, 2),
-        Call::Full(2),
-        Call::CanSend(0, 3),
-        Call::Full(3),
-        Call::Idle,
-        Call::Fresh,
-        Call::CanSend(0, 1),
-        Call::Full(1),
-        Call::CanSend(0, 2),
-        Call::Full(2),
-        Call::CanSend(0, 3),
-        Call::GoesOut(0, 3, &[128, 0, 0, 0], b"a"),
-        Call::Fresh,
-        Call::Send(1, 0, &[], b"a"),
-        Call::CanSend(1, 2),
-        Call::Full(2),
-        Call::CanSend(1, 3),
-        Call::GoesOut(1, 3, &[128, 0, 0, 1], b"a"),
-    ];
-    req_plays(&rt, rt.alloc(), &steps);
+    let play = "
+        up 1
+        up 2
+        up 3
+        send 0 0 ' 'a
+        can_send 0 1
+        full 1
+        can_send 0 2
+        full 2
+        can_send 0 3
+        full 3
+        idle
+        fresh
+        can_send 0 1
+        full 1
+        can_send 0 2
+        full 2
+        can_send 0 3
+        goes_out 0 3 80000000' 'a
+        fresh
+        send 1 0 ' 'a
+        can_send 1 2
+        full 2
+        can_send 1 3
+        goes_out 1 3 80000001' 'a
+    ";
+    req_plays(&rt, rt.alloc(), play);
 }
 
 // The same of a request that is due.
 #[test]
 fn a_pipe_on_which_a_request_went_out_again_is_asked_first(rt: HostRuntime) {
-    let steps = [
-        Call::Up(1),
-        Call::Up(2),
-        Call::Up(3),
-        Call::Up(4),
-        Call::Send(0, 0, &[], b"a"),
-        Call::CanSend(0, 1),
-        Call::GoesOut(0, 1, &[128, 0, 0, 0], b"a"),
-        Call::Fresh,
-        Call::Clock(60_000),
-        Call::CanResend(0, 2),
-        Call::Full(2),
-        Call::CanResend(0, 3),
-        Call::Full(3),
-        Call::CanResend(0, 4),
-        Call::Full(4),
-        Call::CanResend(0, 1),
-        Call::Full(1),
-        Call::Idle,
-        Call::Fresh,
-        Call::CanResend(0, 2),
-        Call::Full(2),
-        Call::CanResend(0, 3),
-        Call::Full(3),
-        Call::CanResend(0, 4),
-        Call::Resend(0, 4, &[128, 0, 0, 0], b"a"),
-        Call::Fresh,
-        Call::Send(1, 0, &[], b"a"),
-        Call::CanSend(1, 3),
-        Call::Full(3),
-        Call::CanSend(1, 4),
-        Call::GoesOut(1, 4, &[128, 0, 0, 1], b"a"),
-    ];
-    req_plays(&rt, rt.alloc(), &steps);
+    let play = "
+        up 1
+        up 2
+        up 3
+        up 4
+        send 0 0 ' 'a
+        can_send 0 1
+        goes_out 0 1 80000000' 'a
+        fresh
+        clock 60000ms
+        can_resend 0 2
+        full 2
+        can_resend 0 3
+        full 3
+        can_resend 0 4
+        full 4
+        can_resend 0 1
+        full 1
+        idle
+        fresh
+        can_resend 0 2
+        full 2
+        can_resend 0 3
+        full 3
+        can_resend 0 4
+        resend 0 4 80000000' 'a
+        fresh
+        send 1 0 ' 'a
+        can_send 1 3
+        full 3
+        can_send 1 4
+        goes_out 1 4 80000001' 'a
+    ";
+    req_plays(&rt, rt.alloc(), play);
 }
 
 // Nor does it hide one that has room.
 #[test]
 fn a_pipe_that_went_down_is_not_asked(rt: HostRuntime) {
-    let steps = [
-        Call::Up(1),
-        Call::Up(2),
-        Call::Up(3),
-        Call::Send(0, 0, &[], b"a"),
-        Call::CanSend(0, 1),
-        Call::Full(1),
-        Call::Down(2),
-        Call::CanSend(0, 3),
-        Call::GoesOut(0, 3, &[128, 0, 0, 0], b"a"),
-        Call::Fresh,
-        Call::Send(1, 0, &[], b"a"),
-        Call::CanSend(1, 1),
-        Call::Full(1),
-        Call::CanSend(1, 3),
-        Call::GoesOut(1, 3, &[128, 0, 0, 1], b"a"),
-        Call::Fresh,
-        Call::Send(2, 0, &[], b"a"),
-        Call::CanSend(2, 3),
-        Call::GoesOut(2, 3, &[128, 0, 0, 2], b"a"),
-    ];
-    req_plays(&rt, rt.alloc(), &steps);
+    let play = "
+        up 1
+        up 2
+        up 3
+        send 0 0 ' 'a
+        can_send 0 1
+        full 1
+        down 2
+        can_send 0 3
+        goes_out 0 3 80000000' 'a
+        fresh
+        send 1 0 ' 'a
+        can_send 1 1
+        full 1
+        can_send 1 3
+        goes_out 1 3 80000001' 'a
+        fresh
+        send 2 0 ' 'a
+        can_send 2 3
+        goes_out 2 3 80000002' 'a
+    ";
+    req_plays(&rt, rt.alloc(), play);
 }
 
 // So many pipes come up, and as many requests in one turn go to one each.

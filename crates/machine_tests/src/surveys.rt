@@ -1,11 +1,8 @@
 //! Surveys: their responses, until they are over or replaced.
 use crate::checks::plays;
-use crate::steps::Call;
 use proto_survey::Survey;
 use sp_base::{NoMemory, Role};
-use sp_history::entry::Cause;
 use sp_history::setting::Options;
-use sp_proto::{CheckError, Verb};
 use std::alloc::Global;
 use std::process::Abort;
 
@@ -13,9 +10,9 @@ fn survey(alloc: Global, raw: bool) -> Result<Survey, NoMemory> {
     Survey::new(alloc, Options::usual(Role::Surveyor, 0), raw)
 }
 
-// A surveyor returns at each step what it says.
-fn survey_plays(rt: &impl Abort, alloc: Global, raw: bool, steps: &[Call<'_>]) {
-    plays(rt, alloc, survey(alloc, raw), steps);
+// A surveyor returns at each line what it says.
+fn survey_plays(rt: &impl Abort, alloc: Global, raw: bool, play: &str) {
+    plays(rt, alloc, survey(alloc, raw), play);
 }
 
 // A surveyor that keeps one response for a survey.
@@ -25,181 +22,181 @@ fn narrow(alloc: Global) -> Result<Survey, NoMemory> {
     Survey::new(alloc, options, false)
 }
 
-// A surveyor that keeps one response for a survey returns at each step what it says.
-fn narrow_plays(rt: &impl Abort, alloc: Global, steps: &[Call<'_>]) {
-    plays(rt, alloc, narrow(alloc), steps);
+// A surveyor that keeps one response for a survey returns at each line what it says.
+fn narrow_plays(rt: &impl Abort, alloc: Global, play: &str) {
+    plays(rt, alloc, narrow(alloc), play);
 }
 
 #[test]
 fn a_survey_gives_its_responses_until_it_is_over(rt: HostRuntime) {
-    let steps = [
-        Call::Reserve(8),
-        Call::Is(Role::Surveyor, false),
-        Call::Check(0, Verb::Recv, Err(CheckError::State)),
-        Call::Check(1, Verb::Recv, Err(CheckError::NoEntry)),
-        Call::Check(0, Verb::Send, Ok(())),
-        Call::Up(1),
-        Call::Up(2),
-        Call::Send(0, 0, &[], b"s"),
-        Call::CanFlood(0),
-        Call::GoesTo(0, 1, true),
-        Call::GoesTo(0, 2, true),
-        Call::Copy(0, 1, &[128, 0, 0, 0], b"s"),
-        Call::Copy(0, 2, &[128, 0, 0, 0], b"s"),
-        Call::Ends(0),
-        Call::Frame(1, &[128, 0, 0, 0, 97]),
-        Call::Wants(2, true),
-        Call::Frame(2, &[128, 0, 0, 0, 98]),
-        Call::Down(2),
-        Call::Check(0, Verb::Recv, Ok(())),
-        Call::Receive(1, 0),
-        Call::CanGive(1),
-        Call::Gets(1, b"", b"a"),
-        Call::Receive(2, 0),
-        Call::CanGive(2),
-        Call::Gets(2, b"", b"b"),
-        Call::Receive(3, 0),
-        Call::Clock(999),
-        Call::Idle,
-        Call::Clock(1_000),
-        Call::CanFinish(3, Cause::SurveyOver),
-        Call::Loses(3),
-        Call::Frame(1, &[128, 0, 0, 0, 99]),
-        Call::Keeps(0, false),
-        Call::Check(0, Verb::Recv, Err(CheckError::State)),
-    ];
-    survey_plays(&rt, rt.alloc(), false, &steps);
+    let play = "
+        reserve 8
+        is surveyor cooked
+        check 0 receive state
+        check 1 receive no_entry
+        check 0 send ok
+        up 1
+        up 2
+        send 0 0 ' 's
+        can_flood 0
+        goes_to 0 1 yes
+        goes_to 0 2 yes
+        copy 0 1 80000000' 's
+        copy 0 2 80000000' 's
+        ends 0
+        frame 1 80000000'a
+        wants 2 yes
+        frame 2 80000000'b
+        down 2
+        check 0 receive ok
+        receive 1 0
+        can_give 1
+        gets 1 ' 'a
+        receive 2 0
+        can_give 2
+        gets 2 ' 'b
+        receive 3 0
+        clock 999ms
+        idle
+        clock 1000ms
+        can_finish 3 survey_over
+        loses 3
+        frame 1 80000000'c
+        keeps 0 no
+        check 0 receive state
+    ";
+    survey_plays(&rt, rt.alloc(), false, play);
 }
 
 #[test]
 fn a_newer_survey_replaces_the_older(rt: HostRuntime) {
-    let steps = [
-        Call::Reserve(8),
-        Call::Up(1),
-        Call::Send(0, 0, &[], b"s"),
-        Call::CanFlood(0),
-        Call::Copy(0, 1, &[128, 0, 0, 0], b"s"),
-        Call::Ends(0),
-        Call::Receive(1, 0),
-        Call::Receive(2, 0),
-        Call::Send(3, 0, &[], b"t"),
-        Call::CanFlood(3),
-        Call::Copy(3, 1, &[128, 0, 0, 1], b"t"),
-        Call::Ends(3),
-        Call::CanFinish(1, Cause::Superseded),
-        Call::Loses(1),
-        Call::CanFinish(2, Cause::Superseded),
-        Call::Loses(2),
-        Call::Idle,
-        // A receive that is cancelled leaves the survey live; a queue of one keeps the first response.
-        Call::Receive(4, 0),
-        Call::Loses(4),
-        Call::Frame(1, &[128, 0, 0, 0, 120]),
-        Call::Frame(1, &[128, 0, 0, 1, 97]),
-        Call::Frame(1, &[128, 0, 0, 1, 98]),
-        Call::Receive(5, 0),
-        Call::CanGive(5),
-        Call::Gets(5, b"", b"a"),
-        Call::Keeps(0, false),
-        Call::Malformed(1, &[128, 0, 0]),
-    ];
-    narrow_plays(&rt, rt.alloc(), &steps);
+    // A receive that is cancelled leaves the survey live; a queue of one keeps the first response.
+    let play = "
+        reserve 8
+        up 1
+        send 0 0 ' 's
+        can_flood 0
+        copy 0 1 80000000' 's
+        ends 0
+        receive 1 0
+        receive 2 0
+        send 3 0 ' 't
+        can_flood 3
+        copy 3 1 80000001' 't
+        ends 3
+        can_finish 1 superseded
+        loses 1
+        can_finish 2 superseded
+        loses 2
+        idle
+        receive 4 0
+        loses 4
+        frame 1 80000000'x
+        frame 1 80000001'a
+        frame 1 80000001'b
+        receive 5 0
+        can_give 5
+        gets 5 ' 'a
+        keeps 0 no
+        malformed 1 800000'
+    ";
+    narrow_plays(&rt, rt.alloc(), play);
 }
 
 #[test]
 fn each_context_has_its_survey(rt: HostRuntime) {
-    let steps = [
-        Call::Reserve(8),
-        Call::Up(1),
-        Call::Open(1),
-        Call::Send(0, 0, &[], b"s"),
-        Call::CanFlood(0),
-        Call::Copy(0, 1, &[128, 0, 0, 0], b"s"),
-        Call::Ends(0),
-        Call::Clock(600),
-        Call::Send(3, 1, &[], b"t"),
-        Call::CanFlood(3),
-        Call::Copy(3, 1, &[128, 0, 0, 1], b"t"),
-        Call::Ends(3),
-        Call::Frame(1, &[128, 0, 0, 1, 98]),
-        Call::Receive(1, 0),
-        Call::Receive(2, 1),
-        Call::CanGive(2),
-        Call::Gets(2, b"", b"b"),
-        Call::Clock(1_000),
-        Call::CanFinish(1, Cause::SurveyOver),
-        Call::Loses(1),
-        Call::Check(1, Verb::Recv, Ok(())),
-        Call::Shut(1),
-        Call::Check(1, Verb::Recv, Err(CheckError::NoEntry)),
-    ];
-    survey_plays(&rt, rt.alloc(), false, &steps);
+    let play = "
+        reserve 8
+        up 1
+        open 1
+        send 0 0 ' 's
+        can_flood 0
+        copy 0 1 80000000' 's
+        ends 0
+        clock 600ms
+        send 3 1 ' 't
+        can_flood 3
+        copy 3 1 80000001' 't
+        ends 3
+        frame 1 80000001'b
+        receive 1 0
+        receive 2 1
+        can_give 2
+        gets 2 ' 'b
+        clock 1000ms
+        can_finish 1 survey_over
+        loses 1
+        check 1 receive ok
+        shut 1
+        check 1 receive no_entry
+    ";
+    survey_plays(&rt, rt.alloc(), false, play);
 }
 
 #[test]
 fn a_response_goes_to_the_first_receive_of_its_context(rt: HostRuntime) {
-    let steps = [
-        Call::Reserve(8),
-        Call::Up(1),
-        Call::Open(1),
-        Call::Send(0, 0, &[], b"s"),
-        Call::CanFlood(0),
-        Call::Copy(0, 1, &[128, 0, 0, 0], b"s"),
-        Call::Ends(0),
-        Call::Send(3, 1, &[], b"t"),
-        Call::CanFlood(3),
-        Call::Copy(3, 1, &[128, 0, 0, 1], b"t"),
-        Call::Ends(3),
-        Call::Receive(1, 1),
-        Call::Receive(2, 1),
-        // No receive waits for this one.
-        Call::Frame(1, &[128, 0, 0, 0, 97]),
-        Call::Idle,
-        Call::Frame(1, &[128, 0, 0, 1, 98]),
-        Call::CanGive(1),
-        Call::Gets(1, b"", b"b"),
-        Call::Idle,
-        Call::Receive(4, 0),
-        Call::CanGive(4),
-        Call::Gets(4, b"", b"a"),
-        Call::Frame(1, &[128, 0, 0, 1, 99]),
-        Call::CanGive(2),
-        Call::Gets(2, b"", b"c"),
-    ];
-    survey_plays(&rt, rt.alloc(), false, &steps);
+    // No receive waits for the first response.
+    let play = "
+        reserve 8
+        up 1
+        open 1
+        send 0 0 ' 's
+        can_flood 0
+        copy 0 1 80000000' 's
+        ends 0
+        send 3 1 ' 't
+        can_flood 3
+        copy 3 1 80000001' 't
+        ends 3
+        receive 1 1
+        receive 2 1
+        frame 1 80000000'a
+        idle
+        frame 1 80000001'b
+        can_give 1
+        gets 1 ' 'b
+        idle
+        receive 4 0
+        can_give 4
+        gets 4 ' 'a
+        frame 1 80000001'c
+        can_give 2
+        gets 2 ' 'c
+    ";
+    survey_plays(&rt, rt.alloc(), false, play);
 }
 
 #[test]
 fn a_survey_has_a_copy_for_each_pipe_that_is_up(rt: HostRuntime) {
-    let steps = [
-        Call::Reserve(2),
-        Call::Up(1),
-        Call::Up(2),
-        Call::Down(2),
-        Call::Send(0, 0, &[], b"s"),
-        Call::Copy(0, 1, &[128, 0, 0, 0], b"s"),
-        Call::NoCopy(0, 2),
-    ];
-    survey_plays(&rt, rt.alloc(), false, &steps);
+    let play = "
+        reserve 2
+        up 1
+        up 2
+        down 2
+        send 0 0 ' 's
+        copy 0 1 80000000' 's
+        no_copy 0 2
+    ";
+    survey_plays(&rt, rt.alloc(), false, play);
 }
 
 #[test]
 fn a_raw_surveyor_keeps_its_header(rt: HostRuntime) {
-    let steps = [
-        Call::Reserve(2),
-        Call::Up(1),
-        Call::Send(0, 0, &[0x8000_002a], b"q"),
-        Call::CanFlood(0),
-        Call::Copy(0, 1, &[128, 0, 0, 42], b"q"),
-        Call::Ends(0),
-        Call::Check(0, Verb::Recv, Ok(())),
-        Call::Check(3, Verb::Send, Err(CheckError::NotSupported)),
-        Call::Frame(1, &[128, 0, 0, 42, 97]),
-        Call::Wants(1, false),
-        Call::Wants(2, true),
-        Call::Receive(3, 0),
-        Call::Gets(3, &[128, 0, 0, 42], b"a"),
-        Call::Malformed(1, &[128, 0, 0]),
-    ];
-    survey_plays(&rt, rt.alloc(), true, &steps);
+    let play = "
+        reserve 2
+        up 1
+        send 0 0 8000002a' 'q
+        can_flood 0
+        copy 0 1 8000002a' 'q
+        ends 0
+        check 0 receive ok
+        check 3 send not_supported
+        frame 1 8000002a'a
+        wants 1 no
+        wants 2 yes
+        receive 3 0
+        gets 3 8000002a' 'a
+        malformed 1 800000'
+    ";
+    survey_plays(&rt, rt.alloc(), true, play);
 }

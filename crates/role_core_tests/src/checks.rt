@@ -1,6 +1,6 @@
 //! What a test makes for a core, and what it asks of it.
 use core_driver::Driver;
-use core_plays::{CorePlay, Out, PlayWire, Step};
+use core_plays::{CorePlay, PlayWire};
 use sp_base::NoMemory;
 use sp_proto::Proto;
 use std::alloc::Global;
@@ -16,17 +16,17 @@ pub fn made<T>(rt: &impl Abort, returned: Result<T, NoMemory>) -> T {
     }
 }
 
-/// The core returns at each step what it says, and ends with these wires.
+/// The core returns at each line what it says, and ends with these wires.
 pub fn plays<P: Proto, R: Wait + Abort>(
     rt: &R,
     alloc: Global,
     driver: Driver<P, PlayWire>,
-    steps: &[Step<'_>],
-    outs: &[Out<'_>],
+    calls: &str,
+    wires: &str,
 ) {
     let mut play = CorePlay::new(alloc, driver);
-    assert_eq!(rt; play.wrong_step(rt, alloc, steps), None);
-    assert!(rt; play.ends(rt, alloc, outs));
+    assert_eq!(rt; play.wrong_line(rt, alloc, calls), None);
+    assert_eq!(rt; play.wrong_wire(rt, alloc, wires), None);
 }
 
 /// Both are the same.

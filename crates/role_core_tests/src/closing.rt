@@ -1,10 +1,9 @@
 //! A close ends what is pending once, and refuses what comes after it.
 use crate::checks::{made, plays};
 use core_driver::Driver;
-use core_plays::{Give, PlayWire, Step};
+use core_plays::PlayWire;
 use proto_pubsub::Subscribe;
 use sp_base::Role;
-use sp_history::entry::Cause;
 use sp_history::setting::Options;
 use std::alloc::Global;
 use std::process::Abort;
@@ -18,23 +17,23 @@ fn sub(rt: &impl Abort, alloc: Global) -> Driver<Subscribe, PlayWire> {
 
 #[test]
 fn a_close_ends_what_is_pending_once(rt: HostRuntime) {
-    let steps = [
-        Step::Opens(1),
-        Step::Receive(0),
-        Step::Receive(1),
-        Step::Receive(0),
-        Step::Close([3, 0, 3, 0, 0, 0]),
-        Step::Close([3, 0, 3, 0, 0, 0]),
-        Step::Gone(Cause::Closed, 0),
-        Step::Gone(Cause::Closed, 0),
-        Step::Gone(Cause::Closed, 0),
-        Step::NoReceive(0, 7),
-        Step::NotNow(0, 7),
-        Step::NoContext(7),
-        Step::Shuts(1, 7),
-        Step::Subscribes(0, b"a", 7),
-        Step::Unsubscribes(0, b"a", 7),
-        Step::NoPipe(0, &[Give::End], 7),
-    ];
-    plays(&rt, rt.alloc(), sub(&rt, rt.alloc()), &steps, &[]);
+    let calls = "
+        opens 1
+        receive 0
+        receive 1
+        receive 0
+        close 3 0 3 0 0 0
+        close 3 0 3 0 0 0
+        gone closed 0
+        gone closed 0
+        gone closed 0
+        no_receive 0 7
+        not_now 0 7
+        no_context 7
+        shuts 1 7
+        subscribes 0 'a 7
+        unsubscribes 0 'a 7
+        no_pipe 0 7 end
+    ";
+    plays(&rt, rt.alloc(), sub(&rt, rt.alloc()), calls, "");
 }

@@ -1,137 +1,129 @@
 //! What a race that is lost, a deadline and a context that is shut do to a request.
 use crate::replies::rep_plays;
 use crate::requests::req_plays;
-use aio_word::{Phase, Polled, Raced};
-use core_plays::{Give, Out, Step};
-use sp_history::entry::Cause;
 
 #[test]
 fn a_reply_that_meets_a_cancelled_receive_is_gone_with_its_request(rt: HostRuntime) {
-    let steps = [
-        Step::Joins(0, 8, &[Give::Frame(b"\x80\0\0\0a")], 1),
-        Step::Send(0, &[], b"q"),
-        Step::Sent,
-        Step::Receive(0),
-        Step::Cancel(1, Raced::Won),
-        Step::Serve,
-        Step::Gone(Cause::Cancelled, 1),
-        Step::NoReceive(0, 11),
-        Step::Close([2, 1, 1, 1, 1, 0]),
-    ];
-    let outs = [Out::Put(1, &[b"\x80\0\0\0q"])];
-    req_plays(&rt, rt.alloc(), false, 0, &steps, &outs);
+    let calls = "
+        joins 0 8 1 80000000'a
+        send 0 ' 'q
+        sent
+        receive 0
+        cancel 1 won
+        serve
+        gone cancelled 1
+        no_receive 0 11
+        close 2 1 1 1 1 0
+    ";
+    let wires = "put 1 80000000'q";
+    req_plays(&rt, rt.alloc(), false, 0, calls, wires);
 }
 
 #[test]
 fn the_reply_to_a_cancelled_request_does_not_reach_the_next_one(rt: HostRuntime) {
-    let gives = [Give::Frame(b"\x80\0\0\0a"), Give::Frame(b"\x80\0\0\x01b")];
-    let steps = [
-        Step::Joins(0, 8, &gives, 1),
-        Step::Send(0, &[], b"q"),
-        Step::Sent,
-        Step::Receive(0),
-        Step::Cancel(1, Raced::Won),
-        Step::Send(0, &[], b"r"),
-        Step::Sent,
-        Step::Gone(Cause::Cancelled, 1),
-        Step::Receive(0),
-        Step::Serve,
-        Step::Received(b"", b"b"),
-        Step::Close([4, 3, 1, 2, 2, 0]),
-    ];
-    let outs = [Out::Put(1, &[b"\x80\0\0\0q", b"\x80\0\0\x01r"])];
-    req_plays(&rt, rt.alloc(), false, 0, &steps, &outs);
+    let calls = "
+        joins 0 8 1 80000000'a 80000001'b
+        send 0 ' 'q
+        sent
+        receive 0
+        cancel 1 won
+        send 0 ' 'r
+        sent
+        gone cancelled 1
+        receive 0
+        serve
+        received ' 'b
+        close 4 3 1 2 2 0
+    ";
+    let wires = "put 1 80000000'q 80000001'r";
+    req_plays(&rt, rt.alloc(), false, 0, calls, wires);
 }
 
 #[test]
 fn a_request_that_meets_a_cancelled_receive_stays_for_the_next_one(rt: HostRuntime) {
-    let steps = [
-        Step::Joins(0, 8, &[Give::Frame(b"\x80\0\0\x01q")], 1),
-        Step::Receive(0),
-        Step::Cancel(0, Raced::Won),
-        Step::Serve,
-        Step::Gone(Cause::Cancelled, 1),
+    let calls = "
+        joins 0 8 1 80000001'q
+        receive 0
+        cancel 0 won
+        serve
+        gone cancelled 1
         // It has stored nothing that a send could answer.
-        Step::NoSend(0, &[7], b"a", 11),
-        Step::Receive(0),
-        Step::Received(b"", b"q"),
-        Step::Close([2, 1, 1, 1, 0, 0]),
-    ];
-    let outs = [Out::Put(1, &[])];
-    rep_plays(&rt, rt.alloc(), false, &steps, &outs);
+        no_send 0 00000007' 'a 11
+        receive 0
+        received ' 'q
+        close 2 1 1 1 0 0
+    ";
+    let wires = "put 1";
+    rep_plays(&rt, rt.alloc(), false, calls, wires);
 }
 
 #[test]
 fn a_begin_finds_the_receive_that_was_cancelled_ended(rt: HostRuntime) {
     // Of a req it has given its request up, of a rep it has left its place.
-    let req = [
-        Step::Joins(0, 8, &[Give::Pause], 1),
-        Step::Send(0, &[], b"q"),
-        Step::Sent,
-        Step::Receive(0),
-        Step::Cancel(1, Raced::Won),
-        Step::NoReceive(0, 11),
-        Step::Gone(Cause::Cancelled, 1),
-        Step::Close([2, 1, 1, 0, 1, 0]),
-    ];
-    let outs = [Out::Put(1, &[b"\x80\0\0\0q"])];
-    req_plays(&rt, rt.alloc(), false, 0, &req, &outs);
-    let rep = [
-        Step::Joins(0, 8, &[Give::Frame(b"\x80\0\0\x01q")], 1),
-        Step::Receive(0),
-        Step::Cancel(0, Raced::Won),
-        Step::Receive(0),
-        Step::Swap,
-        Step::Gone(Cause::Cancelled, 1),
-        Step::Serve,
-        Step::Received(b"", b"q"),
-        Step::Close([2, 1, 1, 1, 0, 0]),
-    ];
-    rep_plays(&rt, rt.alloc(), false, &rep, &[Out::Put(1, &[])]);
+    let req = "
+        joins 0 8 1 pause
+        send 0 ' 'q
+        sent
+        receive 0
+        cancel 1 won
+        no_receive 0 11
+        gone cancelled 1
+        close 2 1 1 0 1 0
+    ";
+    let wires = "put 1 80000000'q";
+    req_plays(&rt, rt.alloc(), false, 0, req, wires);
+    let rep = "
+        joins 0 8 1 80000001'q
+        receive 0
+        cancel 0 won
+        receive 0
+        swap
+        gone cancelled 1
+        serve
+        received ' 'q
+        close 2 1 1 1 0 0
+    ";
+    rep_plays(&rt, rt.alloc(), false, rep, "put 1");
 }
 
 #[test]
 fn a_send_that_times_out_gives_its_request_up(rt: HostRuntime) {
-    let superseded = Polled::Ended {
-        phase: Phase::Superseded,
-        by: 0,
-    };
-    let steps = [
-        Step::SendBy(0, &[7], b"a", 5),
-        Step::Receive(0),
-        Step::Due(5, 1),
-        Step::Expire(0, Raced::Won),
+    let calls = "
+        send_by 0 00000007' 'a 5
+        receive 0
+        due 5 1
+        expire 0 won
         // The receive waits until the send is collected, and ends in that turn.
-        Step::Poll(1, Polled::Pending),
-        Step::Swap,
-        Step::Back(Cause::TimedOut, 1, &[7], b"a"),
-        Step::Poll(1, superseded),
-        Step::Gone(Cause::Superseded, 0),
+        poll 1 pending
+        swap
+        back timedout 1 00000007' 'a
+        poll 1 ended superseded 0
+        gone superseded 0
         // Nothing is left to go out, and nothing to be received.
-        Step::Joins(0, 8, &[Give::Pause], 1),
-        Step::NoReceive(0, 11),
-        Step::Close([2, 0, 2, 0, 0, 0]),
-    ];
-    req_plays(&rt, rt.alloc(), false, 0, &steps, &[Out::Put(1, &[])]);
+        joins 0 8 1 pause
+        no_receive 0 11
+        close 2 0 2 0 0 0
+    ";
+    req_plays(&rt, rt.alloc(), false, 0, calls, "put 1");
 }
 
 #[test]
 fn a_context_that_is_shut_ends_its_request(rt: HostRuntime) {
-    let steps = [
-        Step::Opens(1),
-        Step::Send(0, &[], b"o"),
-        Step::Send(1, &[7], b"a"),
-        Step::Receive(1),
-        Step::Shuts(1, 0),
-        Step::Gone(Cause::Closed, 0),
-        Step::Back(Cause::Closed, 0, &[7], b"a"),
-        Step::NoReceive(1, 12),
-        Step::NoReceive(5, 12),
+    let calls = "
+        opens 1
+        send 0 ' 'o
+        send 1 00000007' 'a
+        receive 1
+        shuts 1 0
+        gone closed 0
+        back closed 0 00000007' 'a
+        no_receive 1 12
+        no_receive 5 12
         // The request of the other context goes out.
-        Step::Joins(0, 8, &[Give::Pause], 1),
-        Step::Sent,
-        Step::Close([3, 1, 2, 0, 1, 0]),
-    ];
-    let outs = [Out::Put(1, &[b"\x80\0\0\0o"])];
-    req_plays(&rt, rt.alloc(), false, 0, &steps, &outs);
+        joins 0 8 1 pause
+        sent
+        close 3 1 2 0 1 0
+    ";
+    let wires = "put 1 80000000'o";
+    req_plays(&rt, rt.alloc(), false, 0, calls, wires);
 }

@@ -1,11 +1,9 @@
 //! Subs: topics, contexts, and what a full queue discards.
 use crate::checks::{made, plays};
-use aio_word::Raced;
 use core_driver::Driver;
-use core_plays::{Give, Out, PlayWire, Step};
+use core_plays::PlayWire;
 use proto_pubsub::Subscribe;
 use sp_base::Role;
-use sp_history::entry::Cause;
 use sp_history::setting::Options;
 use std::alloc::Global;
 use std::process::Abort;
@@ -22,148 +20,130 @@ fn sub(rt: &impl Abort, alloc: Global, raw: bool, prefer_new: bool) -> Driver<Su
     }
 }
 
-// A core over a sub returns at each step what it says, and ends with these wires.
+// A core over a sub returns at each line what it says, and ends with these wires.
 fn sub_plays<R: Wait + Abort>(
     rt: &R,
     alloc: Global,
     raw: bool,
     prefer_new: bool,
-    steps: &[Step<'_>],
-    outs: &[Out<'_>],
+    calls: &str,
+    wires: &str,
 ) {
-    plays(rt, alloc, sub(rt, alloc, raw, prefer_new), steps, outs);
+    plays(rt, alloc, sub(rt, alloc, raw, prefer_new), calls, wires);
 }
 
 // Nothing was put on the one pipe.
-const NOTHING: [Out<'static>; 1] = [Out::Put(1, &[])];
+const NOTHING: &str = "put 1";
 
 #[test]
 fn a_subscriber_keeps_what_its_topics_match(rt: HostRuntime) {
-    let gives = [
-        Give::Frame(b"abc"),
-        Give::Pause,
-        Give::Frame(b"abc"),
-        Give::Frame(b"a"),
-        Give::Frame(b"abd"),
-        Give::Frame(b"abe"),
-    ];
-    let steps = [
-        Step::Joins(0, 0, &gives, 1),
-        Step::Serve,
-        Step::NotNow(0, 8),
-        Step::Subscribes(0, b"ab", 0),
+    let calls = "
+        joins 0 0 1 'abc pause 'abc 'a 'abd 'abe
+        serve
+        not_now 0 8
+        subscribes 0 'ab 0
         // A topic that is there stays once, and what came before isn't kept.
-        Step::Subscribes(0, b"ab", 0),
-        Step::NotNow(0, 8),
-        Step::Serve,
-        Step::Now(0, b"", b"abd"),
-        Step::Now(0, b"", b"abe"),
-        Step::NotNow(0, 8),
-        Step::Unsubscribes(0, b"ab", 0),
-        Step::Unsubscribes(0, b"ab", 12),
-        Step::Close([2, 2, 0, 5, 0, 0]),
-    ];
-    sub_plays(&rt, rt.alloc(), false, true, &steps, &NOTHING);
+        subscribes 0 'ab 0
+        not_now 0 8
+        serve
+        now 0 ' 'abd
+        now 0 ' 'abe
+        not_now 0 8
+        unsubscribes 0 'ab 0
+        unsubscribes 0 'ab 12
+        close 2 2 0 5 0 0
+    ";
+    sub_plays(&rt, rt.alloc(), false, true, calls, NOTHING);
 }
 
 #[test]
 fn a_subscriber_that_prefers_the_older_discards_the_new_one(rt: HostRuntime) {
-    let gives = [
-        Give::Frame(b"abc"),
-        Give::Frame(b"abd"),
-        Give::Frame(b"abe"),
-    ];
-    let steps = [
-        Step::Joins(0, 0, &gives, 1),
-        Step::Subscribes(0, b"", 0),
-        Step::Serve,
-        Step::Now(0, b"", b"abc"),
-        Step::Now(0, b"", b"abd"),
-        Step::NotNow(0, 8),
-        Step::Close([2, 2, 0, 3, 0, 0]),
-    ];
-    sub_plays(&rt, rt.alloc(), false, false, &steps, &NOTHING);
+    let calls = "
+        joins 0 0 1 'abc 'abd 'abe
+        subscribes 0 ' 0
+        serve
+        now 0 ' 'abc
+        now 0 ' 'abd
+        not_now 0 8
+        close 2 2 0 3 0 0
+    ";
+    sub_plays(&rt, rt.alloc(), false, false, calls, NOTHING);
 }
 
 #[test]
 fn contexts_keep_apart(rt: HostRuntime) {
-    let steps = [
-        Step::Opens(1),
-        Step::Opens(2),
-        Step::Subscribes(0, b"a", 0),
-        Step::Subscribes(1, b"ab", 0),
-        Step::Subscribes(2, b"a", 0),
-        Step::Joins(0, 0, &[Give::Frame(b"abc"), Give::Frame(b"ax")], 1),
-        Step::Serve,
-        Step::Unsubscribes(2, b"a", 0),
-        Step::NotNow(2, 8),
-        Step::Now(1, b"", b"abc"),
-        Step::NotNow(1, 8),
-        Step::Now(0, b"", b"abc"),
-        Step::Now(0, b"", b"ax"),
-        Step::NotNow(0, 8),
-        Step::Close([3, 3, 0, 2, 0, 0]),
-    ];
-    sub_plays(&rt, rt.alloc(), false, true, &steps, &NOTHING);
+    let calls = "
+        opens 1
+        opens 2
+        subscribes 0 'a 0
+        subscribes 1 'ab 0
+        subscribes 2 'a 0
+        joins 0 0 1 'abc 'ax
+        serve
+        unsubscribes 2 'a 0
+        not_now 2 8
+        now 1 ' 'abc
+        not_now 1 8
+        now 0 ' 'abc
+        now 0 ' 'ax
+        not_now 0 8
+        close 3 3 0 2 0 0
+    ";
+    sub_plays(&rt, rt.alloc(), false, true, calls, NOTHING);
 }
 
 #[test]
 fn a_context_that_is_shut_ends_its_receives(rt: HostRuntime) {
-    let steps = [
-        Step::Opens(1),
-        Step::Receive(0),
-        Step::Receive(1),
-        Step::Receive(1),
-        Step::CancelByOther(1, Raced::Won),
-        Step::Shuts(1, 0),
-        Step::Gone(Cause::Closed, 0),
-        Step::Gone(Cause::Cancelled, 2),
+    let calls = "
+        opens 1
+        receive 0
+        receive 1
+        receive 1
+        cancel_by_other 1 won
+        shuts 1 0
+        gone closed 0
+        gone cancelled 2
         // The receive of the other context waits on.
-        Step::NotYet,
-        Step::Shuts(1, 12),
-        Step::Opens(2),
-        Step::Close([3, 0, 3, 0, 0, 0]),
-        Step::Gone(Cause::Closed, 0),
-    ];
-    sub_plays(&rt, rt.alloc(), false, true, &steps, &[]);
+        not_yet
+        shuts 1 12
+        opens 2
+        close 3 0 3 0 0 0
+        gone closed 0
+    ";
+    sub_plays(&rt, rt.alloc(), false, true, calls, "");
 }
-
-// The longest topic, and one that is longer.
-const LONGEST: [u8; 1_024] = [0; 1_024];
-
-const TOO_LONG: [u8; 1_025] = [0; 1_025];
 
 #[test]
 fn a_subscriber_refuses_what_it_does_not_do(rt: HostRuntime) {
-    let steps = [
-        Step::Subscribes(0, &LONGEST, 0),
-        Step::Subscribes(0, &TOO_LONG, 17),
-        Step::Unsubscribes(0, &TOO_LONG, 12),
-        Step::Subscribes(7, b"a", 12),
-        Step::Unsubscribes(7, b"a", 12),
-        Step::Shuts(0, 12),
-        Step::NotNow(5, 12),
-        Step::NoReceive(5, 12),
-        Step::NoSend(0, &[7], b"m", 9),
-        Step::Close([0, 0, 0, 0, 0, 0]),
-    ];
-    sub_plays(&rt, rt.alloc(), false, true, &steps, &[]);
+    let calls = "
+        // The longest topic, and one that is longer.
+        subscribes_zeros 0 1024 0
+        subscribes_zeros 0 1025 17
+        unsubscribes_zeros 0 1025 12
+        subscribes 7 'a 12
+        unsubscribes 7 'a 12
+        shuts 0 12
+        not_now 5 12
+        no_receive 5 12
+        no_send 0 00000007' 'm 9
+        close 0 0 0 0 0 0
+    ";
+    sub_plays(&rt, rt.alloc(), false, true, calls, "");
 }
 
 #[test]
 fn a_raw_subscriber_keeps_every_frame(rt: HostRuntime) {
-    let gives = [Give::Frame(b"a"), Give::Frame(b"b"), Give::Frame(b"")];
-    let steps = [
-        Step::Joins(0, 0, &gives, 1),
-        Step::Serve,
-        Step::Now(0, b"", b"b"),
-        Step::Now(0, b"", b""),
-        Step::NotNow(0, 8),
-        Step::NoContext(9),
-        Step::Subscribes(0, b"a", 9),
-        Step::Unsubscribes(0, b"a", 9),
-        Step::NotNow(1, 9),
-        Step::Close([2, 2, 0, 3, 0, 0]),
-    ];
-    sub_plays(&rt, rt.alloc(), true, true, &steps, &NOTHING);
+    let calls = "
+        joins 0 0 1 'a 'b '
+        serve
+        now 0 ' 'b
+        now 0 ' '
+        not_now 0 8
+        no_context 9
+        subscribes 0 'a 9
+        unsubscribes 0 'a 9
+        not_now 1 9
+        close 2 2 0 3 0 0
+    ";
+    sub_plays(&rt, rt.alloc(), true, true, calls, NOTHING);
 }

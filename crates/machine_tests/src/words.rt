@@ -1,0 +1,112 @@
+//! The words of a play: results as words, and bytes. `None` where it is no such word, or memory is short.
+use sp_history::entry::Cause;
+use sp_msg::Message;
+use sp_proto::CheckError;
+use std::alloc::Global;
+
+pub fn number(word: &str) -> Option<u32> {
+    word.parse::<u32>().ok()
+}
+
+/// Milliseconds: `10ms`.
+pub fn milliseconds(word: &str) -> Option<u64> {
+    word.strip_suffix("ms")?.parse::<u64>().ok()
+}
+
+pub fn yes_or_no(it: bool) -> &'static str {
+    if it { "yes" } else { "no" }
+}
+
+pub fn raw_or_cooked(raw: bool) -> &'static str {
+    if raw { "raw" } else { "cooked" }
+}
+
+pub fn cause(why: Cause) -> &'static str {
+    match why {
+        Cause::Cancelled => "cancelled",
+        Cause::TimedOut => "timed_out",
+        Cause::Closed => "closed",
+        Cause::Superseded => "superseded",
+        Cause::SurveyOver => "survey_over",
+    }
+}
+
+pub fn answer(returned: Result<(), CheckError>) -> &'static str {
+    match returned {
+        Ok(()) => "ok",
+        Err(CheckError::NotSupported) => "not_supported",
+        Err(CheckError::NoEntry) => "no_entry",
+        Err(CheckError::State) => "state",
+    }
+}
+
+fn digit(b: u8) -> Option<u8> {
+    match b {
+        b'0'..=b'9' => Some(b - b'0'),
+        b'a'..=b'f' => Some(b - b'a' + 10),
+        _ => None,
+    }
+}
+
+// The bytes of hexadecimal digits.
+fn from_hex(alloc: Global, hex: &[u8]) -> Option<Vec<u8>> {
+    let mut bytes = Vec::new(alloc);
+    for pair in hex.chunks(2) {
+        let [high, low] = pair else {
+            return None;
+        };
+        bytes.push((digit(*high)? << 4) | digit(*low)?).ok()?;
+    }
+    Some(bytes)
+}
+
+/// Hexadecimal digits of the first bytes, an apostrophe, and the others as text: `80000000'a`.
+pub fn bytes(alloc: Global, word: &str) -> Option<Vec<u8>> {
+    let (hex, text) = word.split_once('\'')?;
+    let mut bytes = from_hex(alloc, hex.as_bytes())?;
+    bytes.extend_from_slice(text.as_bytes()).ok()?;
+    Some(bytes)
+}
+
+// Appends these words to the header.
+fn heads(m: &mut Message, header: &[u8]) -> bool {
+    for word in header.chunks(4) {
+        let [a, b, c, d] = word else {
+            return false;
+        };
+        if m.header_append_u32(u32::from_be_bytes([*a, *b, *c, *d]))
+            .is_err()
+        {
+            return false;
+        }
+    }
+    true
+}
+
+/// A message with this header and this body.
+pub fn message(alloc: Global, header: &str, body: &str) -> Option<Message> {
+    let header = bytes(alloc, header)?;
+    let body = bytes(alloc, body)?;
+    let mut m = Message::from_body(alloc, &body).ok()?;
+    if heads(&mut m, &header) {
+        Some(m)
+    } else {
+        None
+    }
+}
+
+/// The message has this header and this body.
+pub fn is_message(alloc: Global, m: &Message, header: &str, body: &str) -> bool {
+    match (bytes(alloc, header), bytes(alloc, body)) {
+        (Some(header), Some(body)) => m.header() == &header[..] && m.body() == &body[..],
+        _ => false,
+    }
+}
+
+/// There is a message, with this header and this body.
+pub fn is_this(alloc: Global, m: Option<Message>, header: &str, body: &str) -> bool {
+    match m {
+        None => false,
+        Some(m) => is_message(alloc, &m, header, body),
+    }
+}
