@@ -1,145 +1,142 @@
 //! Addresses of each transport, right and wrong, with the place of each fault.
 use crate::checks::{holds, made, same};
-use sp_base::{Addr, AddrError, Host};
+use sp_base::{Addr, Host};
 use std::alloc::Global;
+use std::process::Abort;
 
-// The host and the port of an address of TCP.
-fn endpoint_of(alloc: Global, text: &str) -> Result<(Host, u16), AddrError> {
+// What a text is read as: the transport with the parts of the address, or the fault.
+fn shown(rt: &impl Abort, alloc: Global, text: &str) -> String {
     match Addr::read(alloc, text) {
-        Ok(Addr::Tcp { host, port }) => Ok((host, port)),
-        Ok(_) => Err(AddrError::NoMemory),
-        Err(why) => Err(why),
+        Ok(Addr::Tcp { host, port }) => made(rt, format!(in alloc; "tcp {host:?} {port}")),
+        Ok(Addr::Ws { host, port, path }) => web(rt, alloc, host, port, path.as_slice()),
+        Ok(Addr::Inproc { name }) => {
+            let name = made(rt, std::str::from_utf8(name.as_slice()));
+            made(rt, format!(in alloc; "inproc {name}"))
+        }
+        Err(why) => made(rt, format!(in alloc; "{why:?}")),
     }
 }
+
+fn web(rt: &impl Abort, alloc: Global, host: Host, port: u16, path: &[u8]) -> String {
+    let path = made(rt, std::str::from_utf8(path));
+    made(rt, format!(in alloc; "ws {host:?} {port} {path}"))
+}
+
+// The text and what it is read as, with ` | ` between them.
+fn row_of(rt: &impl Abort, alloc: Global, text: &str) -> String {
+    let shown = shown(rt, alloc, text);
+    made(rt, format!(in alloc; "{text} | {shown}"))
+}
+
+// The text before the bar of a row, without the space before the bar.
+fn text_of<'a>(rt: &impl Abort, row: &'a [u8]) -> &'a str {
+    let Some(at) = row.iter().position(|byte| *byte == b'|') else {
+        panic!(rt; "a row without a bar")
+    };
+    let text = row.get(..at).unwrap_or(b"");
+    let Some(text) = text.strip_suffix(b" ") else {
+        panic!(rt; "no space before a bar")
+    };
+    made(rt, std::str::from_utf8(text))
+}
+
+// The text of each row is read as what stands behind its bar.
+fn check_rows(rt: &impl Abort, alloc: Global, rows: &str) {
+    for row in rows.as_bytes().split(|byte| *byte == b'\n') {
+        let found = row_of(rt, alloc, text_of(rt, row));
+        same(rt, found.as_str(), made(rt, std::str::from_utf8(row)));
+    }
+}
+
+const READ: &str = "\
+tcp://127.0.0.1:5555 | tcp V4(127, 0, 0, 1) 5555
+tcp://*:0 | tcp Any 0
+tcp://localhost:80 | tcp V4(127, 0, 0, 1) 80
+tcp://255.255.255.255:65535 | tcp V4(255, 255, 255, 255) 65535";
+
+const REFUSED: &str = "\
+inproc:// | Fault { at: 9 }
+inproc:/x | Fault { at: 8 }
+inproc://a b | Fault { at: 10 }
+inproc://\u{7f} | Fault { at: 9 }
+inproc | Fault { at: 6 }
+inproc:x | Fault { at: 7 }
+tcp://256.0.0.1:1 | Fault { at: 8 }
+tcp://127.0.0.1 | Fault { at: 15 }
+tcp://1.2.3.4:65536 | Fault { at: 18 }
+ | Fault { at: 0 }
+tcp://1.2.3.4: | Fault { at: 14 }
+tcp://00.0.0.0:1 | Fault { at: 7 }
+TCP://1.2.3.4:1 | Fault { at: 0 }
+tcp://1.2.3:1 | Fault { at: 11 }
+tcp://local:1 | Fault { at: 11 }
+tcp://1.2.3.4:1  | Fault { at: 15 }
+tcp:/1.2.3.4:1 | Fault { at: 5 }
+ws://1.2.3.4:80/a b | Fault { at: 17 }
+ws://1.2.3.4:80? | Fault { at: 15 }
+ws://1.2.3.4:80/a? | Fault { at: 17 }
+ws:// | Fault { at: 5 }
+wss://a | Fault { at: 2 }
+WS://1.2.3.4:80 | Fault { at: 0 }
+ws://1.2.3.4 | Fault { at: 12 }
+ws://1.2.3.4:65536/ | Fault { at: 17 }
+ws://1.2.3.4:080 | Fault { at: 14 }";
 
 #[test]
 fn addresses_are_read(rt: HostRuntime) {
-    const LOCAL: Host = Host::V4(127, 0, 0, 1);
-    let read: &[(&str, Host, u16)] = &[
-        ("tcp://127.0.0.1:5555", LOCAL, 5555),
-        ("tcp://*:0", Host::Any, 0),
-        ("tcp://localhost:80", LOCAL, 80),
-        (
-            "tcp://255.255.255.255:65535",
-            Host::V4(255, 255, 255, 255),
-            65_535,
-        ),
-    ];
-    for (text, host, port) in read {
-        same(&rt, endpoint_of(rt.alloc(), text), Ok((*host, *port)));
-    }
-    let refused: &[(&str, u32)] = &[
-        ("inproc://", 9),
-        ("inproc:/x", 8),
-        ("inproc://a b", 10),
-        ("inproc://\u{7f}", 9),
-        ("inproc", 6),
-        ("inproc:x", 7),
-        ("tcp://256.0.0.1:1", 8),
-        ("tcp://127.0.0.1", 15),
-        ("tcp://1.2.3.4:65536", 18),
-        ("", 0),
-        ("tcp://1.2.3.4:", 14),
-        ("tcp://00.0.0.0:1", 7),
-        ("TCP://1.2.3.4:1", 0),
-        ("tcp://1.2.3:1", 11),
-        ("tcp://local:1", 11),
-        ("tcp://1.2.3.4:1 ", 15),
-        ("tcp:/1.2.3.4:1", 5),
-        ("ws://1.2.3.4:80/a b", 17),
-        ("ws://1.2.3.4:80?", 15),
-        ("ws://1.2.3.4:80/a?", 17),
-        ("ws://", 5),
-        ("wss://a", 2),
-        ("WS://1.2.3.4:80", 0),
-        ("ws://1.2.3.4", 12),
-        ("ws://1.2.3.4:65536/", 17),
-        ("ws://1.2.3.4:080", 14),
-    ];
-    for (text, at) in refused {
-        same(
-            &rt,
-            endpoint_of(rt.alloc(), text),
-            Err(AddrError::Fault { at: *at }),
-        );
-    }
-}
-
-// The name of an address within the process, or where its text goes wrong.
-fn name_is(alloc: Global, text: &str, wanted: &[u8]) -> bool {
-    match Addr::read(alloc, text) {
-        Ok(Addr::Inproc { name }) => name.as_slice() == wanted,
-        _ => false,
-    }
+    check_rows(&rt, rt.alloc(), READ);
+    check_rows(&rt, rt.alloc(), REFUSED);
 }
 
 #[test]
 fn names_within_the_process_are_read(rt: HostRuntime) {
-    const LONGEST: &str =
-        "inproc://0123456789012345678901234567890123456789012345678901234567890123456789012345678901234567890123456789012345678901234567890123456789";
-    holds(&rt, name_is(rt.alloc(), "inproc://x", b"x"));
-    holds(&rt, name_is(rt.alloc(), "inproc://!~", b"!~"));
-    let name = LONGEST.as_bytes();
-    holds(&rt, name.len() > 137);
+    const LONGEST: &str = "inproc://\
+        0123456789012345678901234567890123456789012345678901234567890123456789\
+        012345678901234567890123456789012345678901234567890123456789";
+    check_rows(&rt, rt.alloc(), "inproc://x | inproc x");
+    check_rows(&rt, rt.alloc(), "inproc://!~ | inproc !~");
+    holds(&rt, LONGEST.as_bytes().len() > 137);
     same(
         &rt,
-        endpoint_of(rt.alloc(), LONGEST),
-        Err(AddrError::Fault { at: 137 }),
+        shown(&rt, rt.alloc(), LONGEST).as_str(),
+        "Fault { at: 137 }",
     );
 }
 
-// Whether the address is one of WebSocket with this host, this port and this path.
-fn web_is(alloc: Global, text: &str, host: Host, port: u16, path: &[u8]) -> bool {
-    match Addr::read(alloc, text) {
-        Ok(
-            Addr::Ws {
-                host: its_host,
-                port: its_port,
-                path: its_path,
-            },
-        ) => its_host == host && its_port == port && its_path.as_slice() == path,
-        _ => false,
-    }
-}
+const OF_WEBSOCKET: &str = "\
+ws://localhost:80/a | ws V4(127, 0, 0, 1) 80 /a
+ws://1.2.3.4:80 | ws V4(1, 2, 3, 4) 80 /
+ws://1.2.3.4:80/ | ws V4(1, 2, 3, 4) 80 /
+ws://*:0/ | ws Any 0 /
+ws://1.2.3.4:0//aZ09-._~/ | ws V4(1, 2, 3, 4) 0 //aZ09-._~/";
 
 #[test]
 fn addresses_of_websocket_are_read(rt: HostRuntime) {
-    const LOCAL: Host = Host::V4(127, 0, 0, 1);
-    const FOUR: Host = Host::V4(1, 2, 3, 4);
-    let read: &[(&str, Host, u16, &[u8])] = &[
-        ("ws://localhost:80/a", LOCAL, 80, b"/a"),
-        ("ws://1.2.3.4:80", FOUR, 80, b"/"),
-        ("ws://1.2.3.4:80/", FOUR, 80, b"/"),
-        ("ws://*:0/", Host::Any, 0, b"/"),
-        ("ws://1.2.3.4:0//aZ09-._~/", FOUR, 0, b"//aZ09-._~/"),
-    ];
-    for (text, host, port, path) in read {
-        holds(&rt, web_is(rt.alloc(), text, *host, *port, path));
+    check_rows(&rt, rt.alloc(), OF_WEBSOCKET);
+}
+
+// A text, and behind it so many letters `a`.
+fn longer(rt: &impl Abort, alloc: Global, begin: &str, times: u32) -> String {
+    let mut text = made(rt, String::from_str(alloc, begin));
+    for _ in 0..times {
+        made(rt, text.push_str("a"));
     }
+    text
 }
 
 #[test]
 fn a_path_has_at_most_128_bytes(rt: HostRuntime) {
-    let mut text = made(&rt, String::from_str(rt.alloc(), "ws://1.2.3.4:80/"));
-    for _ in 0..127u32 {
-        made(&rt, text.push_str("a"));
-    }
-    let path = made(&rt, text.as_bytes().to_vec(rt.alloc()));
-    assert!(rt; path.len() == 143);
-    holds(
-        &rt,
-        web_is(
-            rt.alloc(),
-            text.as_str(),
-            Host::V4(1, 2, 3, 4),
-            80,
-            &path[15..],
-        ),
-    );
-    made(&rt, text.push_str("a"));
+    let text = longer(&rt, rt.alloc(), "ws://1.2.3.4:80/", 127);
+    let wanted = longer(&rt, rt.alloc(), "ws V4(1, 2, 3, 4) 80 /", 127);
     same(
         &rt,
-        endpoint_of(rt.alloc(), text.as_str()),
-        Err(AddrError::Fault { at: 143 }),
+        shown(&rt, rt.alloc(), text.as_str()).as_str(),
+        wanted.as_str(),
+    );
+    let text = longer(&rt, rt.alloc(), "ws://1.2.3.4:80/", 128);
+    same(
+        &rt,
+        shown(&rt, rt.alloc(), text.as_str()).as_str(),
+        "Fault { at: 143 }",
     );
 }

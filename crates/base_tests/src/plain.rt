@@ -6,28 +6,48 @@ use crate::checks::{holds, made, same};
 use sp_base::{Addr, Bytes, Files, Host, Link, LinkRead, Linked, Net, Role, Whole, next_value};
 use sp_fakes::{LinkStep, MemFiles, MemLink, MemNet, Returned};
 use sp_tcp::Greeting;
+use std::alloc::Global;
+use std::process::Abort;
+
+// The role of the number that a row begins with.
+fn role_of(rt: &impl Abort, row: &[u8]) -> Role {
+    let word = row.split(|byte| *byte == b' ').next().unwrap_or(b"");
+    let number = made(rt, made(rt, std::str::from_utf8(word)).parse::<u16>());
+    match Role::from_number(number) {
+        Some(role) => role,
+        None => panic!(rt; "no role has the number {number}"),
+    }
+}
+
+// A role as a row: its number, the role, its peer's number, its name, and whether it sends, receives and has contexts.
+fn role_row(rt: &impl Abort, alloc: Global, role: Role) -> String {
+    let number = role.number();
+    let peer = role.peer().number();
+    let name = role.name();
+    let (sends, receives, contexts) = (role.sends(), role.receives(), role.contexts());
+    made(
+        rt,
+        format!(in alloc; "{number} {role:?} {peer} {name} {sends} {receives} {contexts}"),
+    )
+}
+
+const ROLES: &str = "\
+16 Pair0 16 pair true true false
+32 Pub 33 pub true false false
+33 Sub 32 sub false true true
+48 Req 49 req true true true
+49 Rep 48 rep true true true
+80 Push 81 push true false false
+81 Pull 80 pull false true false
+98 Surveyor 99 surveyor true true true
+99 Respondent 98 respondent true true true
+112 Bus 112 bus true true false";
 
 #[test]
 fn roles_have_their_numbers(rt: HostRuntime) {
-    // Each with its number, its peer's, its name, and whether it sends, receives and has contexts.
-    let roles: &[(Role, u16, u16, &str, [bool; 3])] = &[
-        (Role::Pair0, 16, 16, "pair", [true, true, false]),
-        (Role::Pub, 32, 33, "pub", [true, false, false]),
-        (Role::Sub, 33, 32, "sub", [false, true, true]),
-        (Role::Req, 48, 49, "req", [true, true, true]),
-        (Role::Rep, 49, 48, "rep", [true, true, true]),
-        (Role::Push, 80, 81, "push", [true, false, false]),
-        (Role::Pull, 81, 80, "pull", [false, true, false]),
-        (Role::Surveyor, 98, 99, "surveyor", [true, true, true]),
-        (Role::Respondent, 99, 98, "respondent", [true, true, true]),
-        (Role::Bus, 112, 112, "bus", [true, true, false]),
-    ];
-    for (role, number, peer, name, can) in roles {
-        same(&rt, role.number(), *number);
-        same(&rt, role.peer().number(), *peer);
-        same(&rt, role.name(), *name);
-        same(&rt, [role.sends(), role.receives(), role.contexts()], *can);
-        same(&rt, Role::from_number(*number), Some(*role));
+    for row in ROLES.as_bytes().split(|byte| *byte == b'\n') {
+        let shown = role_row(&rt, rt.alloc(), role_of(&rt, row));
+        same(&rt, shown.as_str(), made(&rt, std::str::from_utf8(row)));
     }
     for number in [0, 17, 34, 65_535] {
         same(&rt, Role::from_number(number), None);
@@ -73,23 +93,33 @@ fn files_in_memory_are_read_by_their_names(rt: HostRuntime) {
     holds(&rt, matches!(&missing, Whole::Failed));
 }
 
+// The number of each role, the role and its greeting.
+const GREETINGS: &str = "\
+16 Pair0 [0, 83, 80, 0, 0, 16, 0, 0]
+32 Pub [0, 83, 80, 0, 0, 32, 0, 0]
+33 Sub [0, 83, 80, 0, 0, 33, 0, 0]
+48 Req [0, 83, 80, 0, 0, 48, 0, 0]
+49 Rep [0, 83, 80, 0, 0, 49, 0, 0]
+80 Push [0, 83, 80, 0, 0, 80, 0, 0]
+81 Pull [0, 83, 80, 0, 0, 81, 0, 0]
+98 Surveyor [0, 83, 80, 0, 0, 98, 0, 0]
+99 Respondent [0, 83, 80, 0, 0, 99, 0, 0]
+112 Bus [0, 83, 80, 0, 0, 112, 0, 0]";
+
+fn greeting_row(rt: &impl Abort, alloc: Global, role: Role) -> String {
+    let number = role.number();
+    let greeting = Greeting::new(role);
+    made(
+        rt,
+        format!(in alloc; "{number} {role:?} {:?}", greeting.hello()),
+    )
+}
+
 #[test]
 fn greetings_of_all_roles(rt: HostRuntime) {
-    let greetings: &[(Role, &[u8])] = &[
-        (Role::Pair0, b"\x00SP\x00\x00\x10\x00\x00"),
-        (Role::Pub, b"\x00SP\x00\x00\x20\x00\x00"),
-        (Role::Sub, b"\x00SP\x00\x00\x21\x00\x00"),
-        (Role::Req, b"\x00SP\x00\x00\x30\x00\x00"),
-        (Role::Rep, b"\x00SP\x00\x00\x31\x00\x00"),
-        (Role::Push, b"\x00SP\x00\x00\x50\x00\x00"),
-        (Role::Pull, b"\x00SP\x00\x00\x51\x00\x00"),
-        (Role::Surveyor, b"\x00SP\x00\x00\x62\x00\x00"),
-        (Role::Respondent, b"\x00SP\x00\x00\x63\x00\x00"),
-        (Role::Bus, b"\x00SP\x00\x00\x70\x00\x00"),
-    ];
-    for (role, bytes) in greetings {
-        let greeting = Greeting::new(*role);
-        same(&rt, greeting.hello(), *bytes);
+    for row in GREETINGS.as_bytes().split(|byte| *byte == b'\n') {
+        let shown = greeting_row(&rt, rt.alloc(), role_of(&rt, row));
+        same(&rt, shown.as_str(), made(&rt, std::str::from_utf8(row)));
     }
 }
 

@@ -19,6 +19,11 @@ pub fn same<T: PartialEq + Debug + Drop>(rt: &impl Abort, left: T, right: T) {
     assert_eq!(rt; left, right);
 }
 
+/// Both are the same in the row of this number.
+pub fn same_at<T: PartialEq + Debug + Drop>(rt: &impl Abort, number: u32, left: T, right: T) {
+    assert_eq!(rt; left, right, "row {number}");
+}
+
 /// It holds.
 pub fn holds(rt: &impl Abort, it: bool) {
     assert!(rt; it);

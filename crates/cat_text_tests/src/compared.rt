@@ -157,17 +157,20 @@ fn is_same_address(a: &Addr, b: &Addr) -> bool {
     }
 }
 
+/// Whether the value is this address.
+fn is_address(alloc: Global, addr: &Addr, value: &[u8]) -> Result<bool, NoMemory> {
+    match address_of(alloc, value)? {
+        Some(wanted) => Ok(is_same_address(addr, &wanted)),
+        None => Ok(false),
+    }
+}
+
 /// Whether the end is the one that an option of this number says.
 fn is_end(alloc: Global, end: Option<&End>, n: usize, value: &[u8]) -> Result<bool, NoMemory> {
-    let Some(end) = end else {
-        return Ok(false);
-    };
-    let Some(wanted) = address_of(alloc, value)? else {
-        return Ok(false);
-    };
-    match end {
-        End::Dial(addr) => Ok(n == 0 && is_same_address(addr, &wanted)),
-        End::Listen(addr) => Ok(n == 1 && is_same_address(addr, &wanted)),
+    match (end, n) {
+        (Some(End::Dial(addr)), 0) => is_address(alloc, addr, value),
+        (Some(End::Listen(addr)), 1) => is_address(alloc, addr, value),
+        _ => Ok(false),
     }
 }
 
@@ -336,21 +339,23 @@ fn any_body(alloc: Global, seed: &mut u32, len: usize) -> Result<Vec<u8>, NoMemo
     Ok(body)
 }
 
-const FORMATS: [Format; 6] = [
-    Format::None,
-    Format::Ascii,
-    Format::Raw,
-    Format::Quoted,
-    Format::Hex,
-    Format::Msgpack,
-];
+fn format_of(n: usize) -> Format {
+    match n % 6 {
+        0 => Format::None,
+        1 => Format::Ascii,
+        2 => Format::Raw,
+        3 => Format::Quoted,
+        4 => Format::Hex,
+        _ => Format::Msgpack,
+    }
+}
 
 #[test]
 fn bodies_are_printed_as_the_plain_printing_prints_them(rt: HostRuntime) {
     let mut seed: u32 = 13;
     for n in 0..6_000usize {
         let body = made(&rt, any_body(rt.alloc(), &mut seed, n % 97));
-        let format = FORMATS[n % 6];
+        let format = format_of(n);
         let mut out = made(&rt, Bytes::from_slice(rt.alloc(), b"ab"));
         made(&rt, print(rt.alloc(), format, &body, &mut out));
         let wanted = made(&rt, text_of(rt.alloc(), format, &body, b"ab"));

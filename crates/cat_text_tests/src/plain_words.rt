@@ -171,14 +171,7 @@ pub fn options_of(alloc: Global, words: &[String]) -> Result<Option<Vec<ListedOp
 /// The value of an option.
 pub fn value_of(words: &[String], said: ListedOption) -> &[u8] {
     match words.get(said.word) {
-        Some(word) => {
-            let bytes = word.as_bytes();
-            if said.from <= bytes.len() {
-                &bytes[said.from..]
-            } else {
-                b""
-            }
-        }
+        Some(word) => word.as_bytes().get(said.from..).unwrap_or(b""),
         None => b"",
     }
 }

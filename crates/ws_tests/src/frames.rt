@@ -2,7 +2,8 @@
 ghost use Rattle.std.specs.Prelude.{◌≡◌, true};
 ghost use Rattle.sp_fakes.specs.MemLinks.{link_view};
 
-use crate::checks::{holds, made, same};
+use crate::checks::{holds, made, same, same_at};
+use crate::rows::{bytes_of, cut};
 use sp_base::Bytes;
 use sp_fakes::{LinkStep, MemLink};
 use sp_msg::{Room, Wire, WireFlush, WireIn};
@@ -135,138 +136,111 @@ fn gives_both<R: Wait + Abort>(
     slow && quick
 }
 
+// A wire on this side pulls what stands behind the bar of each row.
+fn check_rows<R: Wait + Abort>(alloc: Global, rt: &R, side: Side, rows: &str) {
+    let mut number: u32 = 0;
+    for row in rows.as_bytes().split(|byte| *byte == b'\n') {
+        number = number.saturating_add(1);
+        let Some((bytes, wanted)) = cut(row) else {
+            panic!(rt; "row {number} has no bar")
+        };
+        let bytes = bytes_of(rt, alloc, bytes);
+        let wanted = bytes_of(rt, alloc, wanted);
+        same_at(
+            rt,
+            number,
+            gives_both(alloc, rt, side, &bytes, &wanted),
+            true,
+        );
+    }
+}
+
 const HELLO: &[u8] = b"\x82\x85\x37\xfa\x21\x3d\x7f\x9f\x4d\x51\x58";
+
+// Frames of a client and what a server pulls of them. The last is the masked pong of RFC 6455 section 5.7.
+const PULLED: &str = "\
+828537fa213d7f9f'MQX | '[Hello]e
+828000000000' | '[]e
+02830000000080000080820000000005'q | 5b80000005'q]e
+028000000000808000000000' | '[]e
+82810000000061898000000000828100000000'b | '[a][b]e
+0281000000006189810000000070808100000000'b | '[ab]e
+028100000000618a800000000000810000000062808000000000' | '[ab]e
+82810000000061888000000000' | '[a]e
+02810000000061888000000000' | 'e
+88820000000003e8' | 'e
+828537fa213d7f' | 'e
+82' | 'e
+' | 'e
+8a8537fa213d7f9f4d5158828000000000' | '[]e";
 
 #[test]
 fn a_server_pulls_binary_messages(rt: HostRuntime) {
-    let rows: &[(&[u8], &[u8])] = &[
-        (HELLO, b"[Hello]e"),
-        (b"\x82\x80\x00\x00\x00\x00", b"[]e"),
-        (
-            b"\x02\x83\x00\x00\x00\x00\x80\x00\x00\x80\x82\x00\x00\x00\x00\x05\x71",
-            b"[\x80\x00\x00\x05\x71]e",
-        ),
-        (b"\x02\x80\x00\x00\x00\x00\x80\x80\x00\x00\x00\x00", b"[]e"),
-        (
-            b"\x82\x81\x00\x00\x00\x00a\x89\x80\x00\x00\x00\x00\x82\x81\x00\x00\x00\x00b",
-            b"[a][b]e",
-        ),
-        (
-            b"\x02\x81\x00\x00\x00\x00a\x89\x81\x00\x00\x00\x00p\x80\x81\x00\x00\x00\x00b",
-            b"[ab]e",
-        ),
-        (
-            b"\x02\x81\x00\x00\x00\x00a\x8a\x80\x00\x00\x00\x00\x00\x81\x00\x00\x00\x00b\x80\x80\x00\x00\x00\x00",
-            b"[ab]e",
-        ),
-        (
-            b"\x82\x81\x00\x00\x00\x00a\x88\x80\x00\x00\x00\x00",
-            b"[a]e",
-        ),
-        (b"\x02\x81\x00\x00\x00\x00a\x88\x80\x00\x00\x00\x00", b"e"),
-        (b"\x88\x82\x00\x00\x00\x00\x03\xe8", b"e"),
-        (b"\x82\x85\x37\xfa\x21\x3d\x7f", b"e"),
-        (b"\x82", b"e"),
-        (b"", b"e"),
-        // the masked pong of RFC 6455 section 5.7
-        (
-            b"\x8a\x85\x37\xfa\x21\x3d\x7f\x9f\x4d\x51\x58\x82\x80\x00\x00\x00\x00",
-            b"[]e",
-        ),
-    ];
-    for (bytes, wanted) in rows {
-        holds(
-            &rt,
-            gives_both(rt.alloc(), &rt, Side::Server, bytes, wanted),
-        );
-    }
+    check_rows(rt.alloc(), &rt, Side::Server, PULLED);
 }
+
+const REFUSED: &str = "\
+818537fa213d7f9f'MQX | 'x
+8201'q | 'x
+8900' | 'x
+c28100000000'a | 'x
+a28100000000'a | 'x
+928100000000'a | 'x
+838000000000' | 'x
+878000000000' | 'x
+8b8000000000' | 'x
+8f8000000000' | 'x
+808100000000'a | 'x
+098000000000' | 'x
+088000000000' | 'x
+02810000000061828100000000'b | 'x
+88810000000003' | 'x
+82ff000000000010000100000000' | 'x
+82ff7fffffffffffffff00000000' | 'x
+82ffffffffffffffffff00000000' | 'x
+82810000000061818100000000'b | '[a]x";
 
 #[test]
 fn a_server_refuses_what_is_no_binary_message(rt: HostRuntime) {
-    let rows: &[(&[u8], &[u8])] = &[
-        (b"\x81\x85\x37\xfa\x21\x3d\x7f\x9f\x4d\x51\x58", b"x"),
-        (b"\x82\x01\x71", b"x"),
-        (b"\x89\x00", b"x"),
-        (b"\xc2\x81\x00\x00\x00\x00a", b"x"),
-        (b"\xa2\x81\x00\x00\x00\x00a", b"x"),
-        (b"\x92\x81\x00\x00\x00\x00a", b"x"),
-        (b"\x83\x80\x00\x00\x00\x00", b"x"),
-        (b"\x87\x80\x00\x00\x00\x00", b"x"),
-        (b"\x8b\x80\x00\x00\x00\x00", b"x"),
-        (b"\x8f\x80\x00\x00\x00\x00", b"x"),
-        (b"\x80\x81\x00\x00\x00\x00a", b"x"),
-        (b"\x09\x80\x00\x00\x00\x00", b"x"),
-        (b"\x08\x80\x00\x00\x00\x00", b"x"),
-        (b"\x02\x81\x00\x00\x00\x00a\x82\x81\x00\x00\x00\x00b", b"x"),
-        (b"\x88\x81\x00\x00\x00\x00\x03", b"x"),
-        (
-            b"\x82\xff\x00\x00\x00\x00\x00\x10\x00\x01\x00\x00\x00\x00",
-            b"x",
-        ),
-        (
-            b"\x82\xff\x7f\xff\xff\xff\xff\xff\xff\xff\x00\x00\x00\x00",
-            b"x",
-        ),
-        (
-            b"\x82\xff\xff\xff\xff\xff\xff\xff\xff\xff\x00\x00\x00\x00",
-            b"x",
-        ),
-        (
-            b"\x82\x81\x00\x00\x00\x00a\x81\x81\x00\x00\x00\x00b",
-            b"[a]x",
-        ),
-    ];
-    for (bytes, wanted) in rows {
-        holds(
-            &rt,
-            gives_both(rt.alloc(), &rt, Side::Server, bytes, wanted),
-        );
-    }
+    check_rows(rt.alloc(), &rt, Side::Server, REFUSED);
 }
+
+const UNMASKED: &str = "\
+8205'Hello | '[Hello]e
+020348656c8002'lo | '[Hello]e
+890548656c6c6f8200' | '[]e
+8105'Hello | 'x
+010348656c8002'lo | 'x
+828537fa213d7f9f'MQX | 'x
+8800' | 'e";
 
 #[test]
 fn a_client_pulls_unmasked_messages(rt: HostRuntime) {
-    let client = Side::Client { seed: 7 };
-    let rows: &[(&[u8], &[u8])] = &[
-        (b"\x82\x05Hello", b"[Hello]e"),
-        (b"\x02\x03Hel\x80\x02lo", b"[Hello]e"),
-        (b"\x89\x05Hello\x82\x00", b"[]e"),
-        (b"\x81\x05Hello", b"x"),
-        (b"\x01\x03Hel\x80\x02lo", b"x"),
-        (HELLO, b"x"),
-        (b"\x88\x00", b"e"),
-    ];
-    for (bytes, wanted) in rows {
-        holds(&rt, gives_both(rt.alloc(), &rt, client, bytes, wanted));
-    }
+    check_rows(rt.alloc(), &rt, Side::Client { seed: 7 }, UNMASKED);
+}
+
+// Whether a server pulls what is wanted of these bytes, where a message may have so many bytes.
+fn gives_up_to<R: Wait + Abort>(
+    alloc: Global,
+    rt: &R,
+    bytes: &[u8],
+    max: u32,
+    wanted: &[u8],
+) -> bool {
+    gives(alloc, rt, Side::Server, bytes, 100, max, wanted)
 }
 
 #[test]
 fn a_message_has_at_most_max_bytes(rt: HostRuntime) {
+    let alloc = rt.alloc();
     let five: &[u8] = b"\x02\x83\x00\x00\x00\x00abc\x80\x82\x00\x00\x00\x00de";
-    holds(
-        &rt,
-        gives(rt.alloc(), &rt, Side::Server, five, 100, 5, b"[abcde]e"),
-    );
-    holds(
-        &rt,
-        gives(rt.alloc(), &rt, Side::Server, five, 100, 4, b"x"),
-    );
-    holds(
-        &rt,
-        gives(rt.alloc(), &rt, Side::Server, HELLO, 100, 5, b"[Hello]e"),
-    );
-    holds(
-        &rt,
-        gives(rt.alloc(), &rt, Side::Server, HELLO, 100, 4, b"x"),
-    );
+    holds(&rt, gives_up_to(alloc, &rt, five, 5, b"[abcde]e"));
+    holds(&rt, gives_up_to(alloc, &rt, five, 4, b"x"));
+    holds(&rt, gives_up_to(alloc, &rt, HELLO, 5, b"[Hello]e"));
+    holds(&rt, gives_up_to(alloc, &rt, HELLO, 4, b"x"));
     // the second fragment passes the limit, and no fragment is the last
     let begun: &[u8] = b"\x02\x83\x00\x00\x00\x00abc\x00\x82\x00\x00\x00\x00de";
-    holds(
-        &rt,
-        gives(rt.alloc(), &rt, Side::Server, begun, 100, 4, b"x"),
-    );
+    holds(&rt, gives_up_to(alloc, &rt, begun, 4, b"x"));
 }
 
 // A masked frame of so many bytes 0, with its length in eight bytes.
@@ -310,22 +284,20 @@ fn a_mebibyte_is_pulled_and_no_byte_more(rt: HostRuntime) {
     same(&rt, first, (0, true));
 }
 
+// Whether a client pulls a message of so many bytes behind this header.
+fn pulls_length<R: Wait + Abort>(alloc: Global, rt: &R, header: &[u8], length: usize) -> bool {
+    let mut frame = made(rt, Vec::from_slice(alloc, header));
+    made(rt, frame.resize(header.len().saturating_add(length), b'a'));
+    first_length(alloc, rt, Side::Client { seed: 7 }, &frame) == (length, false)
+}
+
 #[test]
 fn a_client_pulls_frames_of_each_length(rt: HostRuntime) {
-    let rows: &[(&[u8], usize)] = &[
-        (b"\x82\x7d", 125),
-        (b"\x82\x7e\x01\x00", 256),
-        (b"\x82\x7f\x00\x00\x00\x00\x00\x01\x00\x00", 65_536),
-    ];
-    for (header, length) in rows {
-        let mut frame = made(&rt, Vec::from_slice(rt.alloc(), header));
-        made(
-            &rt,
-            frame.resize(header.len().saturating_add(*length), b'a'),
-        );
-        let first = first_length(rt.alloc(), &rt, Side::Client { seed: 7 }, &frame);
-        same(&rt, first, (*length, false));
-    }
+    let alloc = rt.alloc();
+    holds(&rt, pulls_length(alloc, &rt, b"\x82\x7d", 125));
+    holds(&rt, pulls_length(alloc, &rt, b"\x82\x7e\x01\x00", 256));
+    let header = b"\x82\x7f\x00\x00\x00\x00\x00\x01\x00\x00";
+    holds(&rt, pulls_length(alloc, &rt, header, 65_536));
 }
 
 #[test]

@@ -10,6 +10,8 @@ mod hostile;
 #[cfg(test)]
 mod opening;
 #[cfg(test)]
+mod rows;
+#[cfg(test)]
 mod sockets;
 #[cfg(test)]
 mod writes;

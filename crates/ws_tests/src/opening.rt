@@ -1,18 +1,30 @@
 //! Worked openings: the sample of RFC 6455 section 1.3 with the subprotocol of SP, and heads near it.
 
-use crate::checks::{holds, made, same};
+use crate::checks::{holds, made, same, same_at};
 use sp_base::{Addr, Bytes, Host, Role};
 use sp_upgrade::{Head, HeadFault, client_answer, client_head, server_head};
 use std::alloc::Global;
 use std::process::Abort;
 
 /// A client's head.
-pub(crate) const H: &[u8] =
-    b"GET / HTTP/1.1\r\nHost: 127.0.0.1:5555\r\nUpgrade: websocket\r\nConnection: Upgrade\r\nSec-WebSocket-Key: dGhlIHNhbXBsZSBub25jZQ==\r\nSec-WebSocket-Version: 13\r\nSec-WebSocket-Protocol: rep.sp.nanomsg.org\r\n\r\n";
+pub(crate) const H: &[u8] = b"\
+    GET / HTTP/1.1\r\n\
+    Host: 127.0.0.1:5555\r\n\
+    Upgrade: websocket\r\n\
+    Connection: Upgrade\r\n\
+    Sec-WebSocket-Key: dGhlIHNhbXBsZSBub25jZQ==\r\n\
+    Sec-WebSocket-Version: 13\r\n\
+    Sec-WebSocket-Protocol: rep.sp.nanomsg.org\r\n\
+    \r\n";
 
 /// Its answer.
-pub(crate) const R: &[u8] =
-    b"HTTP/1.1 101 Switching Protocols\r\nUpgrade: websocket\r\nConnection: Upgrade\r\nSec-WebSocket-Accept: s3pPLMBiTxaQ9kYGzzhZRbK+xOo=\r\nSec-WebSocket-Protocol: rep.sp.nanomsg.org\r\n\r\n";
+pub(crate) const R: &[u8] = b"\
+    HTTP/1.1 101 Switching Protocols\r\n\
+    Upgrade: websocket\r\n\
+    Connection: Upgrade\r\n\
+    Sec-WebSocket-Accept: s3pPLMBiTxaQ9kYGzzhZRbK+xOo=\r\n\
+    Sec-WebSocket-Protocol: rep.sp.nanomsg.org\r\n\
+    \r\n";
 
 const NONCE: &[u8] = b"the sample nonce";
 
@@ -197,6 +209,53 @@ fn a_client_writes_its_head(rt: HostRuntime) {
     same(&rt, head.as_slice(), H);
 }
 
+// A fault, the text in the sample that is replaced, and what stands there; bars stand between the rows.
+const ANSWERS: &[u8] = b"\
+    Status^101 Switching Protocols^200 OK|\
+    Status^101 Switching^100 Switching|\
+    Version^HTTP/1.1^HTTP/1.0|\
+    NotHttp^HTTP/1.1^HTTP/1.2|\
+    Accept^s3p^t3p|\
+    Accept^s3p^S3P|\
+    Accept^Sec-WebSocket-Accept: s3pPLMBiTxaQ9kYGzzhZRbK+xOo=\r\n^|\
+    Accept^Sec-WebSocket-Accept: s3pPLMBiTxaQ9kYGzzhZRbK+xOo=\r\n\
+    ^Sec-WebSocket-Accept: s3pPLMBiTxaQ9kYGzzhZRbK+xOo=\r\n\
+    Sec-WebSocket-Accept: s3pPLMBiTxaQ9kYGzzhZRbK+xOo=\r\n|\
+    Protocol^rep.sp^x, rep.sp|\
+    Protocol^rep.sp^req.sp|\
+    Protocol^Sec-WebSocket-Protocol: rep.sp.nanomsg.org\r\n^|\
+    Protocol^org\r\n^org\r\nSec-WebSocket-Protocol: rep.sp.nanomsg.org\r\n|\
+    Upgrade^Upgrade: websocket\r\n^|\
+    Connection^Connection: Upgrade\r\n^";
+
+// The three parts of a row.
+fn parts(row: &[u8]) -> Option<(&[u8], &[u8], &[u8])> {
+    let mut parts = row.split(|byte| *byte == b'^');
+    Some((parts.next()?, parts.next()?, parts.next()?))
+}
+
+// Each row's answer has its fault at a dialing req.
+fn check_answers(rt: &impl Abort, alloc: Global, rows: &[u8]) {
+    let mut number: u32 = 0;
+    for row in rows.split(|byte| *byte == b'|') {
+        number = number.saturating_add(1);
+        let Some((wanted, old, new)) = parts(row) else {
+            panic!(rt; "row {number} is short")
+        };
+        let came = varied(rt, alloc, R, old, new);
+        let Some(found) = client_fault(alloc, &came) else {
+            panic!(rt; "row {number} has no fault")
+        };
+        let found = made(rt, format!(in alloc; "{found:?}"));
+        same_at(
+            rt,
+            number,
+            found.as_str(),
+            made(rt, std::str::from_utf8(wanted)),
+        );
+    }
+}
+
 #[test]
 fn a_client_checks_the_answer(rt: HostRuntime) {
     match client_answer(rt.alloc(), R, NONCE, Role::Req) {
@@ -210,37 +269,5 @@ fn a_client_checks_the_answer(rt: HostRuntime) {
         Head::More => {}
         _ => assert!(rt; false),
     }
-    let accept = b"Sec-WebSocket-Accept: s3pPLMBiTxaQ9kYGzzhZRbK+xOo=\r\n";
-    let rows: &[(&[u8], &[u8], HeadFault)] = &[
-        (b"101 Switching Protocols", b"200 OK", HeadFault::Status),
-        (b"101 Switching", b"100 Switching", HeadFault::Status),
-        (b"HTTP/1.1", b"HTTP/1.0", HeadFault::Version),
-        (b"HTTP/1.1", b"HTTP/1.2", HeadFault::NotHttp),
-        (b"s3p", b"t3p", HeadFault::Accept),
-        (b"s3p", b"S3P", HeadFault::Accept),
-        (accept, b"", HeadFault::Accept),
-        (
-            accept,
-            b"Sec-WebSocket-Accept: s3pPLMBiTxaQ9kYGzzhZRbK+xOo=\r\nSec-WebSocket-Accept: s3pPLMBiTxaQ9kYGzzhZRbK+xOo=\r\n",
-            HeadFault::Accept,
-        ),
-        (b"rep.sp", b"x, rep.sp", HeadFault::Protocol),
-        (b"rep.sp", b"req.sp", HeadFault::Protocol),
-        (
-            b"Sec-WebSocket-Protocol: rep.sp.nanomsg.org\r\n",
-            b"",
-            HeadFault::Protocol,
-        ),
-        (
-            b"org\r\n",
-            b"org\r\nSec-WebSocket-Protocol: rep.sp.nanomsg.org\r\n",
-            HeadFault::Protocol,
-        ),
-        (b"Upgrade: websocket\r\n", b"", HeadFault::Upgrade),
-        (b"Connection: Upgrade\r\n", b"", HeadFault::Connection),
-    ];
-    for (old, new, wanted) in rows {
-        let came = varied(&rt, rt.alloc(), R, old, new);
-        same(&rt, client_fault(rt.alloc(), &came), Some(*wanted));
-    }
+    check_answers(&rt, rt.alloc(), ANSWERS);
 }

@@ -191,28 +191,27 @@ fn each_frame_has_its_own_mask(rt: HostRuntime) {
     same(&rt, w.into_link().written(), wanted);
 }
 
+// Whether a server writes a message of so many bytes behind this header.
+fn writes_length<R: Wait + Abort>(alloc: Global, rt: &R, length: usize, header: &[u8]) -> bool {
+    let mut body = Vec::new(alloc);
+    made(rt, body.resize(length, b'a'));
+    let mut w = quiet(rt, alloc, Side::Server, 100_000, Vec::new(alloc));
+    if puts(alloc, rt, &mut w, &body) {
+        let _ = w.flush(rt);
+    }
+    let link = w.into_link();
+    let written = link.written();
+    written.len() == header.len().saturating_add(length)
+        && written.starts_with(header)
+        && written.ends_with(&body)
+}
+
 #[test]
 fn a_server_writes_frames_of_each_length(rt: HostRuntime) {
-    let rows: &[(usize, &[u8])] = &[
-        (125, b"\x82\x7d"),
-        (126, b"\x82\x7e\x00\x7e"),
-        (65_535, b"\x82\x7e\xff\xff"),
-        (65_536, b"\x82\x7f\x00\x00\x00\x00\x00\x01\x00\x00"),
-    ];
-    for (length, header) in rows {
-        let mut body = Vec::new(rt.alloc());
-        made(&rt, body.resize(*length, b'a'));
-        let mut w = quiet(&rt, rt.alloc(), Side::Server, 100_000, Vec::new(rt.alloc()));
-        if puts(rt.alloc(), &rt, &mut w, &body) {
-            let _ = w.flush(&rt);
-        }
-        let link = w.into_link();
-        holds(&rt, link.written().starts_with(header));
-        holds(&rt, link.written().ends_with(&body));
-        same(
-            &rt,
-            link.written().len(),
-            header.len().saturating_add(*length),
-        );
-    }
+    let alloc = rt.alloc();
+    holds(&rt, writes_length(alloc, &rt, 125, b"\x82\x7d"));
+    holds(&rt, writes_length(alloc, &rt, 126, b"\x82\x7e\x00\x7e"));
+    holds(&rt, writes_length(alloc, &rt, 65_535, b"\x82\x7e\xff\xff"));
+    let header = b"\x82\x7f\x00\x00\x00\x00\x00\x01\x00\x00";
+    holds(&rt, writes_length(alloc, &rt, 65_536, header));
 }
