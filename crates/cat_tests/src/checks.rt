@@ -2,10 +2,6 @@
 //! macros written out.
 ghost use Rattle.std.specs.Prelude.{◌≡◌, Ok, true};
 
-use cat_fakes::{ALL, link_of};
-use sp_base::Bytes;
-use sp_fakes::{LinkStep, MemLink};
-use std::alloc::Global;
 use std::fmt::Debug;
 use std::process::Abort;
 
@@ -29,21 +25,4 @@ pub fn holds(rt: &impl Abort, it: bool)
     ensures { it ≡ true }
 {
     assert!(rt; it);
-}
-
-/// A link gives these bytes at once.
-pub fn says(rt: &impl Abort, alloc: Global, text: &[u8]) -> LinkStep {
-    LinkStep::Bytes(made(rt, Bytes::from_slice(alloc, text)))
-}
-
-/// One link more comes: it gives these pieces, and then nothing for ever, or the end.
-pub fn comes(
-    rt: &impl Abort,
-    alloc: Global,
-    links: &mut Vec<MemLink>,
-    pieces: &[&[u8]],
-    ends: bool,
-) {
-    let link = made(rt, link_of(alloc, pieces, ends, ALL));
-    made(rt, links.push(link));
 }

@@ -2,8 +2,9 @@
 //! ticks.
 ghost use Rattle.sp_fakes.specs.Nets.{net_view};
 
-use crate::checks::{comes, made, same};
-use cat_fakes::{HELLO_80, words};
+use crate::checks::{holds, made, same};
+use crate::lines::{arrange, bare};
+use cat_fakes::words;
 use cat_run::{Status, run};
 use sp_base::{Addr, Link, LinkRead, LinkWrite, Linked, Listened, Net};
 use sp_fakes::{MemFiles, MemNet, MemPace, MemSink, NetLink};
@@ -110,12 +111,9 @@ fn calls_of<R: AllocGlobal + Wait + Threads + Sync + Abort>(
     turns: u64,
 ) -> CountedCalls {
     let alloc = rt.alloc();
-    let mut links = Vec::new(alloc);
-    for _ in 0..3 {
-        comes(rt, alloc, &mut links, &[HELLO_80], false);
-    }
-    let mut lists = Vec::new(alloc);
-    made(rt, lists.push(links));
+    let mut outside = bare(rt, alloc);
+    holds(rt, arrange(rt, alloc, &mut outside, "links 3 greets_push"));
+    let lists = outside.incoming;
     let mut net = CountedNet {
         net: made(
             rt,

@@ -1,186 +1,169 @@
 //! Names within the process: one command that listens on them and dials them, alone and beside TCP.
-use crate::checks::{holds, made, same};
-use crate::refusals::hello;
-use cat_fakes::{TURNS, play, unlinked};
-use cat_run::{Status, exit_code};
-
-const A: &str = "tcp://127.0.0.1:5555";
-
-const X: &str = "inproc://x";
-
-const Y: &str = "inproc://y";
+use crate::lines::runs;
 
 // The net isn't asked for a link, and no turn is used.
 #[test]
 fn a_name_that_is_listened_on_twice_is_a_fault(rt: HostRuntime) {
-    let rows: &[&[&str]] = &[
-        &["--pull", "--listen", X, "--listen", X, "--count", "1"],
-        &["--bus", "--listen", X, "--dial", X, "--listen", X],
-        &[
-            "--pull", "--listen", Y, "--listen", X, "--listen", A, "--dial", A, "--listen", X,
-        ],
-        &[
-            "--push", "--data", "m", "--listen", A, "--listen", X, "--listen", Y, "--listen", Y,
-        ],
-    ];
-    for texts in rows {
-        let came = made(&rt, unlinked(&rt, texts));
-        same(&rt, came.status, Status::NetFault);
-        same(&rt, exit_code(came.status), 4);
-        holds(&rt, came.has_record);
-        same(&rt, came.left, TURNS);
-        same(&rt, came.opened, 0);
-    }
+    runs(
+        &rt,
+        "words --pull --listen inproc://x --listen inproc://x --count 1
+        comes net_fault
+        exit 4
+        record yes
+        left 200
+        opened 0
+        words --bus --listen inproc://x --dial inproc://x --listen inproc://x
+        comes net_fault
+        exit 4
+        record yes
+        left 200
+        opened 0
+        words --pull --listen inproc://y --listen inproc://x --listen tcp://127.0.0.1:5555 --dial \
+            tcp://127.0.0.1:5555 --listen inproc://x
+        comes net_fault
+        exit 4
+        record yes
+        left 200
+        opened 0
+        words --push --data m --listen tcp://127.0.0.1:5555 --listen inproc://x --listen inproc://y --listen inproc://y
+        comes net_fault
+        exit 4
+        record yes
+        left 200
+        opened 0",
+    );
 }
 
-// A bus has two pipes to itself over one name, and its message goes out on both.
+// A bus has two pipes to itself over one name, and its message goes out on both. A hundred messages are more than a
+// lane holds: each pipe is read while the other one is written. In the last but one row the second name of each is the
+// one that meets.
 #[test]
 fn a_bus_talks_to_itself(rt: HostRuntime) {
-    let rows: &[&[&str]] = &[
-        &[
-            "--bus", "--listen", X, "--dial", X, "--data", "m", "--count", "1",
-        ],
-        &[
-            "--bus", "--dial", X, "--listen", X, "--data", "m", "--count", "3",
-        ],
-        // More than a lane holds: each pipe is read while the other one is written.
-        &[
-            "--bus", "--listen", X, "--dial", X, "--data", "m", "--count", "100",
-        ],
-        &[
-            "--bus", "--listen", X, "--listen", Y, "--dial", Y, "--dial", X, "--data", "m",
-        ],
-        // The second name of each is the one that meets.
-        &[
-            "--bus",
-            "--listen",
-            Y,
-            "--listen",
-            X,
-            "--dial",
-            "inproc://z",
-            "--dial",
-            X,
-            "--data",
-            "m",
-        ],
-        &[
-            "--bus", "--listen", A, "--dial", X, "--listen", X, "--data", "m",
-        ],
-    ];
-    for texts in rows {
-        let came = made(&rt, unlinked(&rt, texts));
-        same(&rt, came.status, Status::Done);
-        same(&rt, came.opened, 0);
-    }
+    runs(
+        &rt,
+        "words --bus --listen inproc://x --dial inproc://x --data m --count 1
+        comes done
+        opened 0
+        words --bus --dial inproc://x --listen inproc://x --data m --count 3
+        comes done
+        opened 0
+        words --bus --listen inproc://x --dial inproc://x --data m --count 100
+        comes done
+        opened 0
+        words --bus --listen inproc://x --listen inproc://y --dial inproc://y --dial inproc://x --data m
+        comes done
+        opened 0
+        words --bus --listen inproc://y --listen inproc://x --dial inproc://z --dial inproc://x --data m
+        comes done
+        opened 0
+        words --bus --listen tcp://127.0.0.1:5555 --dial inproc://x --listen inproc://x --data m
+        comes done
+        opened 0",
+    );
 }
 
 // A pair has one pipe: it refuses the other half of the lane that it dialed, and tells the half that it has of the end.
 // So its pipe goes down before it sends, and its message goes out on the pipe of its next dial, 100 turns after.
 #[test]
 fn a_lane_that_is_left_is_told_its_end(rt: HostRuntime) {
-    let came = made(
+    runs(
         &rt,
-        unlinked(
-            &rt,
-            &[
-                "--pair", "--listen", X, "--dial", X, "--data", "m", "--count", "1",
-            ],
-        ),
+        "words --pair --listen inproc://x --dial inproc://x --data m --count 1
+        comes done
+        below 100",
     );
-    same(&rt, came.status, Status::Done);
-    holds(&rt, came.left < TURNS - 100);
 }
 
 // Nobody whom a role talks to is there: a name that nobody listens on, or one that the own role listens on.
 #[test]
 fn a_name_without_a_peer_waits(rt: HostRuntime) {
-    let rows: &[&[&str]] = &[
-        &["--pull", "--listen", X, "--count", "1"],
-        &["--pull", "--dial", X, "--count", "1"],
-        &["--pull", "--dial", X, "--dial", Y, "--listen", "inproc://z"],
-        &["--push", "--dial", X, "--data", "m", "--count", "1"],
-        &[
-            "--push", "--listen", X, "--dial", X, "--data", "m", "--count", "1",
-        ],
-        &[
-            "--bus", "--listen", X, "--dial", Y, "--data", "m", "--count", "1",
-        ],
-        &["--req", "--listen", X, "--dial", X, "--data", "m"],
-    ];
-    for texts in rows {
-        let came = made(&rt, unlinked(&rt, texts));
-        same(&rt, came.status, Status::Over);
-        same(&rt, exit_code(came.status), 3);
-        same(&rt, came.left, 0);
-        same(&rt, came.opened, 0);
-    }
+    runs(
+        &rt,
+        "words --pull --listen inproc://x --count 1
+        comes over
+        exit 3
+        left 0
+        opened 0
+        words --pull --dial inproc://x --count 1
+        comes over
+        exit 3
+        left 0
+        opened 0
+        words --pull --dial inproc://x --dial inproc://y --listen inproc://z
+        comes over
+        exit 3
+        left 0
+        opened 0
+        words --push --dial inproc://x --data m --count 1
+        comes over
+        exit 3
+        left 0
+        opened 0
+        words --push --listen inproc://x --dial inproc://x --data m --count 1
+        comes over
+        exit 3
+        left 0
+        opened 0
+        words --bus --listen inproc://x --dial inproc://y --data m --count 1
+        comes over
+        exit 3
+        left 0
+        opened 0
+        words --req --listen inproc://x --dial inproc://x --data m
+        comes over
+        exit 3
+        left 0
+        opened 0",
+    );
 }
 
 #[test]
 fn a_name_without_a_peer_times_out(rt: HostRuntime) {
-    let came = made(
+    runs(
         &rt,
-        unlinked(&rt, &["--pull", "--dial", X, "--recv-timeout", "0"]),
+        "words --pull --dial inproc://x --recv-timeout 0
+        comes done
+        above 0
+        words --push --listen inproc://x --data m --send-timeout 0
+        comes send_timed_out
+        above 0",
     );
-    same(&rt, came.status, Status::Done);
-    holds(&rt, came.left > 0);
-    let came = made(
-        &rt,
-        unlinked(
-            &rt,
-            &[
-                "--push",
-                "--listen",
-                X,
-                "--data",
-                "m",
-                "--send-timeout",
-                "0",
-            ],
-        ),
-    );
-    same(&rt, came.status, Status::SendTimedOut);
-    holds(&rt, came.left > 0);
 }
 
 // Names stand before, between and behind the address of TCP.
 #[test]
 fn names_stand_beside_tcp(rt: HostRuntime) {
-    let rows: &[&[&str]] = &[
-        &[
-            "--pull", "--listen", X, "--listen", A, "--ascii", "--count", "1",
-        ],
-        &[
-            "--pull", "--listen", A, "--dial", X, "--ascii", "--count", "1",
-        ],
-        &[
-            "--pull", "--dial", X, "--listen", Y, "--listen", A, "--listen", X, "--ascii",
-            "--count", "1",
-        ],
-    ];
-    for texts in rows {
-        let came = made(&rt, play(&rt, texts, hello(&rt, rt.alloc())));
-        same(&rt, came.status, Status::Done);
-        same(&rt, came.opened, 1);
-        same(&rt, came.printed.as_slice(), b"hello\n".as_slice());
-    }
+    runs(
+        &rt,
+        "words --pull --listen inproc://x --listen tcp://127.0.0.1:5555 --ascii --count 1
+        link greets_push 0000000000000005'hello
+        comes done
+        opened 1
+        prints 'hello 0a'
+        words --pull --listen tcp://127.0.0.1:5555 --dial inproc://x --ascii --count 1
+        link greets_push 0000000000000005'hello
+        comes done
+        opened 1
+        prints 'hello 0a'
+        words --pull --dial inproc://x --listen inproc://y --listen tcp://127.0.0.1:5555 --listen inproc://x \
+            --ascii --count 1
+        link greets_push 0000000000000005'hello
+        comes done
+        opened 1
+        prints 'hello 0a'",
+    );
 }
 
 // A listen that fails ends the run, whatever names come before it.
 #[test]
 fn a_failing_listen_behind_a_name_is_a_fault(rt: HostRuntime) {
-    let mut outside = hello(&rt, rt.alloc());
-    made(&rt, outside.net_fails.push(0));
-    let came = made(
+    runs(
         &rt,
-        play(
-            &rt,
-            &["--pull", "--listen", X, "--dial", Y, "--listen", A],
-            outside,
-        ),
+        "words --pull --listen inproc://x --dial inproc://y --listen tcp://127.0.0.1:5555
+        link greets_push 0000000000000005'hello
+        net_fails 0
+        comes net_fault
+        left 200
+        opened 0",
     );
-    same(&rt, came.status, Status::NetFault);
-    same(&rt, came.left, TURNS);
-    same(&rt, came.opened, 0);
 }

@@ -1,6 +1,8 @@
-//! Tests of nngcat's top call over the outside in memory, with exact bytes.
+//! Tests of nngcat's top call over the outside in memory, with exact bytes: what each role sends and prints, and when.
 #![tactic(auto)]
 
+#[cfg(test)]
+mod asking;
 #[cfg(test)]
 mod checks;
 #[cfg(test)]
@@ -12,11 +14,23 @@ mod first_path;
 #[cfg(test)]
 mod inproc;
 #[cfg(test)]
+mod intervals;
+#[cfg(test)]
+mod lines;
+#[cfg(test)]
 mod nets;
 #[cfg(test)]
 mod refusals;
 #[cfg(test)]
+mod roles;
+#[cfg(test)]
 mod rounds;
+#[cfg(test)]
+mod spreading;
+#[cfg(test)]
+mod surveys;
+#[cfg(test)]
+mod texts;
 #[cfg(test)]
 mod websocket;
 #[cfg(test)]

@@ -1,9 +1,12 @@
 //! A net in memory by itself, and runs whose links are lost, refused or given back.
-use crate::checks::{comes, holds, made, same};
-use cat_fakes::{HELLO_80, HELLO_81, PULL, TURNS, link_of, outgoing, play, words};
+use crate::checks::{holds, made, same};
+use crate::lines::{link, runs};
+use cat_fakes::{PULL, words};
 use cat_run::{Status, run};
 use sp_base::{Addr, Host, Link, LinkRead, Linked, Listened, Net};
-use sp_fakes::{MemFiles, MemNet, MemPace, MemSink};
+use sp_fakes::{MemFiles, MemLink, MemNet, MemPace, MemSink};
+use std::alloc::Global;
+use std::process::Abort;
 
 // Listens at a port, accepts there, and returns the listener's number and how many bytes came of the link at once.
 fn first_read(net: &mut MemNet, port: u16) -> Option<(u32, usize)> {
@@ -28,17 +31,24 @@ fn first_read(net: &mut MemNet, port: u16) -> Option<(u32, usize)> {
     came
 }
 
+// A link of each of these words, which stand between commas.
+fn links_of(rt: &impl Abort, alloc: Global, text: &str) -> Vec<MemLink> {
+    let mut links = Vec::new(alloc);
+    for words in text.split(',') {
+        match link(rt, alloc, words) {
+            Some(link) => made(rt, links.push(link)),
+            None => panic!(rt; "no link: {words}"),
+        }
+    }
+    links
+}
+
 #[test]
 fn each_listener_has_links_of_its_own(rt: HostRuntime) {
     let alloc = rt.alloc();
     let mut incoming = Vec::new(alloc);
-    for text in [b"a".as_slice(), b"bb".as_slice(), b"ccc".as_slice()] {
-        let mut links = Vec::new(alloc);
-        made(
-            &rt,
-            links.push(made(&rt, link_of(alloc, &[text], false, 1_000_000))),
-        );
-        made(&rt, incoming.push(links));
+    for text in "'a 'bb 'ccc".split_whitespace() {
+        made(&rt, incoming.push(links_of(&rt, alloc, text)));
     }
     let mut net = made(
         &rt,
@@ -53,67 +63,50 @@ fn each_listener_has_links_of_its_own(rt: HostRuntime) {
 // The first link brings a message and ends, the second another one. Between them lie a hundred milliseconds.
 #[test]
 fn a_pipe_that_is_lost_is_dialed_again(rt: HostRuntime) {
-    const DIALS: &[&str] = &[
-        "--pull",
-        "--dial",
-        "tcp://127.0.0.1:5555",
-        "--ascii",
-        "--count",
-        "2",
-    ];
-    let alloc = rt.alloc();
-    let mut links = Vec::new(alloc);
-    comes(
+    runs(
         &rt,
-        alloc,
-        &mut links,
-        &[HELLO_80, b"\x00\x00\x00\x00\x00\x00\x00\x01a"],
-        true,
+        "words --pull --dial tcp://127.0.0.1:5555 --ascii --count 2
+        dials 5555
+        link greets_push 0000000000000001'a end
+        link greets_push 0000000000000001'b
+        comes done
+        opened 2
+        prints 'a 0a'b 0a'
+        writes greets_pull
+        second greets_pull
+        below 100",
     );
-    comes(
-        &rt,
-        alloc,
-        &mut links,
-        &[HELLO_80, b"\x00\x00\x00\x00\x00\x00\x00\x01b"],
-        false,
-    );
-    let came = made(&rt, play(&rt, DIALS, made(&rt, outgoing(alloc, links))));
-    same(&rt, came.status, Status::Done);
-    same(&rt, came.opened, 2);
-    same(&rt, came.printed.as_slice(), b"a\nb\n".as_slice());
-    same(&rt, came.written.as_slice(), HELLO_81);
-    same(&rt, came.second.as_slice(), HELLO_81);
-    holds(&rt, came.left < TURNS - 100);
 }
 
-// A dial that fails is tried again 100 milliseconds after.
+// A dial that fails is tried again 100 milliseconds after. A link on which nobody greets is given back after ten
+// seconds, and the address is dialed again.
 #[test]
 fn a_dial_that_fails_is_tried_again(rt: HostRuntime) {
-    const DIALS: &[&str] = &["--pull", "--dial", "tcp://127.0.0.1:5555", "--count", "1"];
-    const HELLO: &[u8] = b"\x00\x00\x00\x00\x00\x00\x00\x05hello";
-    let alloc = rt.alloc();
-    let mut links = Vec::new(alloc);
-    comes(&rt, alloc, &mut links, &[HELLO_80, HELLO], false);
-    let mut outside = made(&rt, outgoing(alloc, links));
-    made(&rt, outside.net_fails.push(0));
-    let came = made(&rt, play(&rt, DIALS, outside));
-    same(&rt, came.status, Status::Done);
-    same(&rt, came.opened, 1);
-    holds(&rt, came.left < TURNS - 100);
-    // A link on which nobody greets is given back after ten seconds, and the address is dialed again.
-    let rows: &[(u64, u32)] = &[(95, 1), (195, 2), (215, 3)];
-    for (turns, opened) in rows {
-        let mut links = Vec::new(alloc);
-        for _ in 0..3 {
-            comes(&rt, alloc, &mut links, &[], false);
-        }
-        let mut outside = made(&rt, outgoing(alloc, links));
-        outside.turns = *turns;
-        outside.step = 100;
-        let came = made(&rt, play(&rt, DIALS, outside));
-        same(&rt, came.status, Status::Over);
-        same(&rt, came.opened, *opened);
-    }
+    runs(
+        &rt,
+        "words --pull --dial tcp://127.0.0.1:5555 --count 1
+        dials 5555
+        link greets_push 0000000000000005'hello
+        net_fails 0
+        comes done
+        opened 1
+        below 100
+        dials 5555
+        links 3
+        pace 95 100
+        comes over
+        opened 1
+        dials 5555
+        links 3
+        pace 195 100
+        comes over
+        opened 2
+        dials 5555
+        links 3
+        pace 215 100
+        comes over
+        opened 3",
+    );
 }
 
 // Whether the link with this place came back, and was shut.
@@ -128,11 +121,8 @@ fn is_back(net: &MemNet, place: u32) -> bool {
 #[test]
 fn every_link_comes_back(rt: HostRuntime) {
     let alloc = rt.alloc();
-    let mut links = Vec::new(alloc);
-    comes(&rt, alloc, &mut links, &[HELLO_80], false);
-    comes(&rt, alloc, &mut links, &[b"\x00SP"], false);
-    comes(&rt, alloc, &mut links, &[HELLO_80], true);
     let mut incoming = Vec::new(alloc);
+    let links = links_of(&rt, alloc, "greets_push,00'SP,greets_push end");
     made(&rt, incoming.push(links));
     let mut net = made(
         &rt,

@@ -1,11 +1,12 @@
 //! What a round asks of links and listeners, how far it goes, and what the pace is told of it.
 ghost use Rattle.sp_fakes.specs.Paces.{pace_view};
 
-use crate::checks::{comes, holds, made, same, says};
+use crate::checks::{holds, made, same};
+use crate::lines::runs;
 use cat_fakes::{ALL, HELLO_80, Outside, incoming, link_of, play, words};
 use cat_run::{Status, run};
 use sp_base::{Pace, Paced};
-use sp_fakes::{LinkStep, MemFiles, MemLink, MemNet, MemPace, MemSink};
+use sp_fakes::{MemFiles, MemLink, MemNet, MemPace, MemSink};
 use std::alloc::Global;
 use std::process::Abort;
 
@@ -92,115 +93,111 @@ fn a_round_prints_some_messages(rt: HostRuntime) {
     holds(&rt, came.printed.len() <= 64 * 65);
 }
 
-// So many links that give this at once, and then nothing for ever.
-fn all_giving(rt: &impl Abort, alloc: Global, count: u32, text: &[u8]) -> Vec<MemLink> {
-    let mut links = Vec::new(alloc);
-    for _ in 0..count {
-        comes(rt, alloc, &mut links, &[text], false);
-    }
-    links
-}
-
 // Each listener is asked until it has no link, or has brought 16 in this turn: 40 links come at one, or 20 at each of
 // two.
 #[test]
 fn each_listener_brings_16_links_a_turn(rt: HostRuntime) {
-    const BOTH: &[&str] = &[
-        "--pull",
-        "--listen",
-        "tcp://127.0.0.1:5555",
-        "--listen",
-        "tcp://127.0.0.1:5556",
-    ];
-    let alloc = rt.alloc();
-    let rows: &[(u32, u64, u32)] = &[
-        (1, 1, 16),
-        (1, 2, 32),
-        (1, 3, 40),
-        (1, 30, 40),
-        (2, 1, 32),
-        (2, 2, 40),
-    ];
-    for (listeners, turns, opened) in rows {
-        let is_one = *listeners == 1;
-        let each = if is_one { 40 } else { 20 };
-        let mut outside = within(&rt, alloc, all_giving(&rt, alloc, each, HELLO_80), *turns);
-        made(
-            &rt,
-            outside
-                .incoming
-                .push(all_giving(&rt, alloc, each, HELLO_80)),
-        );
-        let came = made(&rt, play(&rt, if is_one { PULL } else { BOTH }, outside));
-        same(&rt, came.status, Status::Over);
-        same(&rt, came.opened, *opened);
-    }
+    runs(
+        &rt,
+        "words --pull --listen tcp://127.0.0.1:5555 --raw
+        links 40 greets_push
+        listener
+        links 40 greets_push
+        pace 1 1
+        comes over
+        opened 16
+        words --pull --listen tcp://127.0.0.1:5555 --raw
+        links 40 greets_push
+        listener
+        links 40 greets_push
+        pace 2 1
+        comes over
+        opened 32
+        words --pull --listen tcp://127.0.0.1:5555 --raw
+        links 40 greets_push
+        listener
+        links 40 greets_push
+        pace 3 1
+        comes over
+        opened 40
+        words --pull --listen tcp://127.0.0.1:5555 --raw
+        links 40 greets_push
+        listener
+        links 40 greets_push
+        pace 30 1
+        comes over
+        opened 40
+        words --pull --listen tcp://127.0.0.1:5555 --listen tcp://127.0.0.1:5556
+        links 20 greets_push
+        listener
+        links 20 greets_push
+        pace 1 1
+        comes over
+        opened 32
+        words --pull --listen tcp://127.0.0.1:5555 --listen tcp://127.0.0.1:5556
+        links 20 greets_push
+        listener
+        links 20 greets_push
+        pace 2 1
+        comes over
+        opened 40",
+    );
 }
 
 // While 256 links are in their greetings nobody is accepted.
 #[test]
 fn nothing_is_accepted_behind_256_greetings(rt: HostRuntime) {
-    let alloc = rt.alloc();
-    let links = all_giving(&rt, alloc, 300, b"\x00SP");
-    let came = made(&rt, play(&rt, PULL, within(&rt, alloc, links, 60)));
-    same(&rt, came.status, Status::Over);
-    same(&rt, came.opened, 256);
+    runs(
+        &rt,
+        "words --pull --listen tcp://127.0.0.1:5555 --raw
+        links 300 00'SP
+        pace 60 1
+        comes over
+        opened 256",
+    );
 }
 
 // A link whose greeting is wrong is in its greetings no more: behind 300 of them one that is right comes up.
 #[test]
 fn wrong_greetings_keep_nobody_out(rt: HostRuntime) {
-    const ONE: &[&str] = &[
-        "--pull",
-        "--listen",
-        "tcp://127.0.0.1:5555",
-        "--raw",
-        "--count",
-        "1",
-    ];
-    let alloc = rt.alloc();
-    let mut links = all_giving(&rt, alloc, 300, b"\x00SQ");
-    made(&rt, links.push(talker(&rt, alloc, 1)));
-    let came = made(&rt, play(&rt, ONE, within(&rt, alloc, links, 60)));
-    same(&rt, came.status, Status::Done);
-    same(&rt, came.opened, 301);
-    same(&rt, came.printed.as_slice(), b"x".as_slice());
-}
-
-// A link that greets, has nothing so many times, and then gives a message.
-fn late(rt: &impl Abort, alloc: Global, idles: u32) -> MemLink {
-    let mut script = Vec::new(alloc);
-    made(rt, script.push(says(rt, alloc, HELLO_80)));
-    for _ in 0..idles {
-        made(rt, script.push(LinkStep::NotYet));
-    }
-    made(rt, script.push(says(rt, alloc, X)));
-    MemLink::new(alloc, script, ALL, Vec::new(alloc))
+    runs(
+        &rt,
+        "words --pull --listen tcp://127.0.0.1:5555 --raw --count 1
+        links 300 00'SQ
+        link greets_push 0000000000000001'x
+        pace 60 1
+        comes done
+        opened 301
+        prints 'x",
+    );
 }
 
 // In 100 turns each of three silent links is read some 100 times.
 #[test]
 fn a_silent_link_is_read_once_a_round(rt: HostRuntime) {
-    let alloc = rt.alloc();
-    let rows: &[(u32, usize)] = &[(95, 3), (101, 0)];
-    for (idles, printed) in rows {
-        let mut links = Vec::new(alloc);
-        for _ in 0..3 {
-            made(&rt, links.push(late(&rt, alloc, *idles)));
-        }
-        let came = made(&rt, play(&rt, PULL, within(&rt, alloc, links, 100)));
-        same(&rt, came.opened, 3);
-        same(&rt, came.printed.len(), *printed);
-    }
+    runs(
+        &rt,
+        "words --pull --listen tcp://127.0.0.1:5555 --raw
+        links 3 greets_push wait:95 0000000000000001'x
+        pace 100 1
+        comes over
+        opened 3
+        prints 'xxx
+        links 3 greets_push wait:101 0000000000000001'x
+        pace 100 1
+        comes over
+        opened 3
+        prints '",
+    );
 }
 
 #[test]
 fn a_run_goes_on_for_many_rounds(rt: HostRuntime) {
-    let alloc = rt.alloc();
-    let came = made(
+    runs(
         &rt,
-        play(&rt, PULL, within(&rt, alloc, Vec::new(alloc), 200_000)),
+        "words --pull --listen tcp://127.0.0.1:5555 --raw
+        pace 200000 1
+        comes over
+        left 0",
     );
-    same(&rt, came.status, Status::Over);
-    same(&rt, came.left, 0);
 }
