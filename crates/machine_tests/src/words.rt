@@ -4,6 +4,7 @@ use sp_msg::Message;
 use sp_proto::CheckError;
 use std::alloc::Global;
 
+/// A whole number of 32 bits, in decimal digits.
 pub fn number(word: &str) -> Option<u32> {
     word.parse::<u32>().ok()
 }
@@ -13,14 +14,17 @@ pub fn milliseconds(word: &str) -> Option<u64> {
     word.strip_suffix("ms")?.parse::<u64>().ok()
 }
 
+/// The word for whether it holds.
 pub fn yes_or_no(it: bool) -> &'static str {
     if it { "yes" } else { "no" }
 }
 
+/// The word for whether a machine is raw.
 pub fn raw_or_cooked(raw: bool) -> &'static str {
     if raw { "raw" } else { "cooked" }
 }
 
+/// The word for why an operation is to end.
 pub fn cause(why: Cause) -> &'static str {
     match why {
         Cause::Cancelled => "cancelled",
@@ -31,6 +35,7 @@ pub fn cause(why: Cause) -> &'static str {
     }
 }
 
+/// The word for what a check of an operation returned.
 pub fn answer(returned: Result<(), CheckError>) -> &'static str {
     match returned {
         Ok(()) => "ok",
