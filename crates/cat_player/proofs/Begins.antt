@@ -21,8 +21,8 @@ use Rattle.sp_history.specs.Found.{is_taken, has_no_slot}
 use Rattle.sp_history.specs.Past.{past_of, is_closed, ctxs, now, begins}
 use Rattle.sp_history.proofs.Appending.{past_of-append}
 use Rattle.sp_history.proofs.Slots.{no_slot_where}
-use Rattle.sp_core.specs.declared.ops.BeginError.{BeginError}
-use Rattle.sp_core.specs.declared.ops.BeginError.TheVariants as error
+use Rattle.core_parts.specs.declared.causes.BeginError.{BeginError}
+use Rattle.core_parts.specs.declared.causes.BeginError.TheVariants as error
 use Rattle.sp_core.specs.Moving.{AreSettling}
 use Rattle.core_parts.specs.OperationsStand.{AllTaken}
 use Rattle.sp_core.specs.Standing.{HasBegin, RefusedFor}

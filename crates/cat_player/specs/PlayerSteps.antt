@@ -11,8 +11,8 @@ use Rattle.sp_history.specs.Lists.{is_nil}
 use Rattle.sp_history.specs.Setting.{is_req, floods}
 use Rattle.sp_history.specs.Past.{past_of, up}
 use Rattle.sp_msg.specs.Views.{MessageView}
-use Rattle.sp_core.specs.declared.ops.BeginError.{BeginError}
-use Rattle.sp_core.specs.declared.ops.BeginError.TheVariants as error
+use Rattle.core_parts.specs.declared.causes.BeginError.{BeginError}
+use Rattle.core_parts.specs.declared.causes.BeginError.TheVariants as error
 use Rattle.core_parts.specs.declared.outcome.Outcome.{Outcome}
 use Rattle.core_parts.specs.declared.outcome.Outcome.TheVariants as outcomes
 use Rattle.sp_single.specs.Singles.{SingleView, IsSound, IsNow}

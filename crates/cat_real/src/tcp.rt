@@ -33,7 +33,7 @@ const DIALS: usize = 64;
 /// How often a connection that was begun is asked for before another one is begun in its place.
 const ASKS: u32 = 50;
 
-/// A connection that doesn't wait.
+/// A connection that doesn't wait (nng_stream(5)).
 pub struct TcpLink {
     stream: TcpStream,
     mark: Mark,
@@ -128,7 +128,7 @@ struct Dialing {
     asks: u32,
 }
 
-/// TCP. Listeners, links and dials don't wait. A dial that isn't made yet is kept by its address until the next one
+/// TCP (nng_tcp(7)). Listeners, links and dials don't wait. A dial that isn't made yet is kept by its address until the next one
 /// asks for it.
 #[derive(Drop)]
 pub struct TcpNet<R: std::net::Net + Drop> {

@@ -13,7 +13,7 @@ use Rattle.sp_history.specs.declared.setting.Setting.{Setting}
 use Rattle.sp_history.specs.Changes.{none_of}
 use Rattle.sp_history.specs.Past.{onto, past_of}
 use Rattle.sp_history.proofs.Appending.{past_of-append}
-use Rattle.sp_core.specs.declared.calls.serve.Served.{Served}
+use Rattle.core_parts.specs.declared.served.Served.{Served}
 use Rattle.sp_core.specs.Serving.{stalls_in}
 use Rattle.sp_single.specs.Singles.{SingleView, TookOne, Ticks}
 use Rattle.end_parts.specs.SocketSteps.{Quietly}

@@ -7,7 +7,7 @@ use Rattle.sp_history.specs.declared.entry.Entry.{Entry}
 use Rattle.sp_history.specs.declared.setting.Setting.{Setting}
 use Rattle.sp_history.specs.Past.{past_of}
 use Rattle.sp_history.specs.Swept.{IsSwept}
-use Rattle.sp_core.specs.declared.calls.serve.Served.{Served}
+use Rattle.core_parts.specs.declared.served.Served.{Served}
 use Rattle.sp_single.specs.Singles.{SingleView, TookOne, Ticks}
 use Rattle.end_parts.specs.SocketSteps.{Quietly}
 use Rattle.cat_play.specs.Scripts.{under_way}

@@ -15,7 +15,7 @@ use Rattle.sp_single.specs.Singles.{SingleView, TookOne}
 use Rattle.cat_play.specs.Scripts.{has_ticked, under_way, over, texts, joined}
 use Rattle.cat_play.specs.Playing.{each, alternates, is_tick, may_rest}
 use Rattle.sp_history.specs.Swept.{IsSwept, AreFlushed}
-use Rattle.sp_core.specs.declared.calls.serve.Served.{Served}
+use Rattle.core_parts.specs.declared.served.Served.{Served}
 use Rattle.sp_core.specs.Serving.{IsServing, AreServing, IsServeTurn, ServedBy, stalls_in}
 use Rattle.sp_spec.specs.Outside.{grown}
 use Rattle.cat_play.specs.Steps.{moves_ends, moves_play}

@@ -18,8 +18,8 @@ use Rattle.sp_history.specs.Lists.{has, same_bytes}
 use Rattle.sp_history.specs.Past.{onto, past_of, topics, ctxs, is_closed}
 use Rattle.sp_history.specs.Setting.{has_topics}
 use Rattle.sp_history.proofs.Appending.{past_of-append}
-use Rattle.sp_core.specs.declared.calls.contexts.TopicError.{TopicError}
-use Rattle.sp_core.specs.declared.calls.contexts.TopicError.TheVariants as topic
+use Rattle.core_parts.specs.declared.causes.TopicError.{TopicError}
+use Rattle.core_parts.specs.declared.causes.TopicError.TheVariants as topic
 use Rattle.sp_core.specs.Contexts.{SubscribedBy, RefusedTopic}
 use Rattle.sp_core.specs.Moving.{AreSettling}
 use Rattle.sp_core.specs.Standing.{HasFirst}

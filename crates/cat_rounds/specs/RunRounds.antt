@@ -5,7 +5,7 @@ use Rattle.sp_base.specs.Views.{LinkView, NetView, PaceView, SinkView}
 use Rattle.sp_history.specs.declared.entry.Entry.{Entry}
 use Rattle.sp_history.specs.Past.{past_of, up, now, is_cleared}
 use Rattle.sp_history.specs.Lists.{has}
-use Rattle.sp_core.specs.declared.calls.serve.Served.{Served}
+use Rattle.core_parts.specs.declared.served.Served.{Served}
 use Rattle.sp_single.specs.Singles.{SingleView, IsSound}
 use Rattle.sp_lane.specs.Registry.{Registry}
 use Rattle.sp_ends.specs.NameTurns.{TurnsLanes}

@@ -7,8 +7,8 @@ use Rattle.sp_history.specs.declared.entry.ContextChange.TheVariants.{Open, Shut
 use Rattle.sp_history.specs.declared.entry.Switch.TheVariants.{On, Off}
 use Rattle.sp_history.specs.declared.setting.Setting.{Setting}
 use Rattle.sp_history.specs.Past.{past_of}
-use Rattle.sp_core.specs.declared.calls.contexts.CtxError.{CtxError}
-use Rattle.sp_core.specs.declared.calls.contexts.TopicError.{TopicError}
+use Rattle.core_parts.specs.declared.causes.CtxError.{CtxError}
+use Rattle.core_parts.specs.declared.causes.TopicError.{TopicError}
 use Rattle.sp_core.specs.Contexts.{OpenedBy, ShutBy, SubscribedBy, UnsubscribedBy, PutOn, IsCtxEnd, AreCtxEnds}
 use Rattle.core_driver.proofs.Driving.{IsPlain, ArePlain, plain-append, first_plain, settling_plain}
 

@@ -19,8 +19,8 @@ use Rattle.sp_history.proofs.Appending.{onto-append, past_of-append}
 use Rattle.sp_history.proofs.OnceHolds.{same_op-refl, ends_once}
 use Rattle.aio_word.specs.Sight.{Named, Sight, IsSameSeat}
 use Rattle.sp_core.specs.declared.owner.Core.{Core}
-use Rattle.sp_core.specs.declared.ops.BeginError.{BeginError}
-use Rattle.sp_core.specs.declared.calls.attach.AttachError.{AttachError}
+use Rattle.core_parts.specs.declared.causes.BeginError.{BeginError}
+use Rattle.core_parts.specs.declared.causes.AttachError.{AttachError}
 use Rattle.sp_core.specs.declared.calls.attach.Gone.{Gone}
 use Rattle.sp_core.specs.Moving.{IsSettling, AreSettling}
 use Rattle.sp_core.specs.Standing.{StandsFor, HasBegin, HasFirst, BeganBy}
@@ -30,7 +30,7 @@ use Rattle.sp_history.specs.declared.entry.RecordedAct.TheVariants.{Recv}
 use Rattle.sp_history.specs.declared.entry.Ending.{Ending}
 use Rattle.sp_history.specs.declared.entry.Ending.TheVariants.{Won, Gone as GoneEnd}
 use Rattle.sp_history.specs.declared.entry.Completion.TheVariants.{Received}
-use Rattle.sp_core.specs.declared.calls.immediate.NowError.{NowError}
+use Rattle.core_parts.specs.declared.causes.NowError.{NowError}
 use Rattle.sp_core.specs.Immediate.{AreLost, HasLost, ReceivedNow}
 use Rattle.sp_core.specs.Attaching.{AttachedBy, TookWire}
 use Rattle.sp_core.specs.Collecting.{IsOpen, IsOpenBefore, HasTook, DueFrom, DueBy}

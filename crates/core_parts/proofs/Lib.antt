@@ -22,3 +22,5 @@ pub mod FinishedOperations
 pub mod Pulling
 pub mod ReadEnds
 pub mod DueOperations
+pub mod WantedPipes
+pub mod MachineAnswers

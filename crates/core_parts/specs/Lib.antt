@@ -6,3 +6,4 @@ pub mod Wires
 pub mod Pipes
 pub mod Tallies
 pub mod PartSteps
+pub mod Errors

@@ -28,7 +28,9 @@ use Rattle.sp_history.specs.declared.entry.Entry.TheVariants.{Begin, End, Out, T
 use Rattle.sp_history.specs.declared.entry.Why.{Why}
 use Rattle.sp_history.specs.declared.parts.Begun.{Begun}
 use Rattle.sp_history.specs.declared.parts.OperationEnd.{OperationEnd}
+use Rattle.sp_history.specs.Sends.{targets}
 use Rattle.sp_pending.specs.Pendings.{others_than}
+use Rattle.sp_proto.specs.Machines.{CanFlood}
 use Rattle.sp_msg.specs.Views.{MessageView, WireView, wire_text}
 use Rattle.std.specs.VecDeque.{deque_capacity}
 use Rattle.std.specs.Prelude.{Bool, List, MatchOption, None, Option, Some, [], false, length, set, slice_index_or, true, ℕ, ◌++◌, ◌+◌, ◌<◌, ◌≤◌, ◌^◌, ◌∷◌, ◌≡◌, ◌≢◌}
@@ -199,3 +201,10 @@ CountsShut old new =
 abbrev pub CountsTick : ℕ → Tally → Tally → Type 0
 CountsTick at old new =
     (t : Moment) (due : List OpName) → old.latest ≤ at → Tallies old t → Tallies new (also t (entries.Tick at due))
+
+-- ---- Machines
+
+-- this is the copy of the send for the pipe
+abbrev pub CopiesFor : {P : Type 0} → (P → Moment → Type 0) → MessageView → P → P → OpName → ℕ → Type 0
+CopiesFor ties r m n op p =
+    (t : Moment) (s : Begun) (b : List ℕ) → Lawful (also t (Out p b)) → ties m t → CanFlood t op s b → has (targets t.z (past t) s) p ≡ true → (wire_text r ≡ b) × ties n (also t (Out p b))

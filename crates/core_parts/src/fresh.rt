@@ -1,4 +1,4 @@
-//! What a new core has beside its machine and its pipes.
+//! What a new core has beside its machine and its pipes, and the end of that.
 ghost use Rattle.std.specs.Prelude.{◌≡◌, ◌≤◌, ◌<◌, [], length, IfOk};
 ghost use Rattle.sp_history.specs.Moments.{Moment, past};
 ghost use Rattle.aio_word.specs.Fresh.{AreFresh};
@@ -28,4 +28,10 @@ pub fn fresh_parts(
     let (words, seat, seats) = words(alloc, slots, callers)?;
     let operations = Operations::with_slots(alloc, slots)?;
     Ok((OpWords { words, seat }, operations, seats))
+}
+
+/// The words, with the core's seat, and the lists of operations end.
+pub fn drop_parts(op_words: OpWords, operations: Operations) {
+    drop(op_words);
+    drop(operations);
 }

@@ -12,9 +12,12 @@
 //!
 //! The order to read: `op_words`, with `reading` for what callers' seats show; `operations`, with `leaving` for what
 //! goes out of the lists and `outcome` for what an operation came to; `pipes`, with `wire_list` for what a closed core
-//! leaves; `tally`; and last `fresh`, which makes a new core's parts.
+//! leaves; `tally`; `fresh`, which makes a new core's parts; and last `asks`, what a machine is asked, with `causes`
+//! and `served`, what calls of a core return.
 #![tactic(auto)]
 
+mod asks;
+mod causes;
 mod fresh;
 mod leaving;
 mod op_words;
@@ -22,13 +25,17 @@ mod operations;
 mod outcome;
 mod pipes;
 mod reading;
+mod served;
 mod tally;
 mod wire_list;
 
-pub use fresh::fresh_parts;
+pub use asks::{copy_of, has_ctxs, has_its_one, has_tops, is_ctx_open};
+pub use causes::{AttachError, BeginError, CtxError, NowError, TopicError};
+pub use fresh::{drop_parts, fresh_parts};
 pub use op_words::{Decision, OpWords};
 pub use operations::{EndedOperation, Operations};
 pub use outcome::Outcome;
 pub use pipes::{Asked, DownPipe, Flushed, PipePlace, Pipes, Pulled};
+pub use served::Served;
 pub use tally::Tally;
 pub use wire_list::WireList;

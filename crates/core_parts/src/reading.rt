@@ -1,20 +1,24 @@
 //! What a caller's seat reads of an operation's word.
-ghost use Rattle.std.specs.Prelude.{◌≡◌, ◌≢◌, ◌<◌, true};
+ghost use Rattle.std.specs.Prelude.{◌≡◌, ◌≢◌, ◌<◌, [], true, false};
 ghost use Rattle.aio_word.specs.Sight.{IsSameSeat};
+ghost use Rattle.sp_history.specs.Legal.{is_uncollected};
+ghost use Rattle.sp_history.specs.Moments.{Moment, past};
+ghost use Rattle.core_parts.specs.OperationsStand.{OperationsStand};
 ghost use Rattle.core_parts.specs.OpWordsStand.{DecidedAs};
 ghost use Rattle.core_parts.specs.Reads.{ReadSo, HasReadEnd};
 ghost use Rattle.core_parts.specs.PartSteps.{HasPending, WherePending};
 
 use crate::op_words::{Decision, OpWords, gone};
+use crate::operations::Operations;
 use aio_word::{CallSeat, Polled};
 use sp_base::OpName;
 use std::sync::Wait;
 use std::thread;
 
 impl OpWords {
-    /// Reads the word by the caller's seat until it shows the operation, and returns whether that has ended. Where the
-    /// core knows that it has, it reads until the word shows that.
-    pub fn read_end<R: Wait>(&self, rt: &R, seat: &mut CallSeat, op: OpName, known: bool) -> bool
+    // Reads the word by the caller's seat until it shows the operation, and returns whether that has ended. Where the
+    // core knows that it has, it reads until the word shows that.
+    fn read_end<R: Wait>(&self, rt: &R, seat: &mut CallSeat, op: OpName, known: bool) -> bool
         requires own { seat.old.words ≡ self.now.words.id }
         requires name { (op.slot < self.now.words.slots) × (0 < op.generation) }
         ensures own { IsSameSeat seat.old seat.new }
@@ -34,6 +38,25 @@ impl OpWords {
             }
         }
         unreachable!()
+    }
+
+    /// Reads the operation's word by the caller's seat, and returns whether that shows its end. It does where the end
+    /// is recorded among these operations.
+    pub fn reads_end<R: Wait>(
+        &self,
+        rt: &R,
+        operations: &Operations,
+        seat: &mut CallSeat,
+        op: OpName,
+    ) -> bool
+        requires own { seat.old.words ≡ self.now.words.id }
+        requires name { (op.slot < self.now.words.slots) × (0 < op.generation) }
+        ensures own { IsSameSeat seat.old seat.new }
+        ensures read { ReadSo result op seat.old.view seat.new.view }
+        ensures pending { result ≡ false → (t : Moment) → OperationsStand [] operations.now t → is_uncollected (past t) op ≡ false }
+    {
+        let known = operations.has_ended(op);
+        self.read_end(rt, seat, op, known)
     }
 
     /// How a caller ended the pending operation, whose end the caller's seat has read.

@@ -23,8 +23,8 @@ use Rattle.sp_core.specs.Moving.{AreSettling}
 use Rattle.sp_core.specs.Standing.{HasFirst}
 use Rattle.sp_core.specs.Attaching.{RefusedAttach}
 use Rattle.core_parts.specs.Wires.{IsUnused}
-use Rattle.sp_core.specs.declared.calls.attach.AttachError.{AttachError}
-use Rattle.sp_core.specs.declared.calls.attach.AttachError.TheVariants as refused
+use Rattle.core_parts.specs.declared.causes.AttachError.{AttachError}
+use Rattle.core_parts.specs.declared.causes.AttachError.TheVariants as refused
 use Rattle.sp_single.specs.Singles.{SingleView, TookOne}
 use Rattle.cat_play.specs.Openings.{peer_number}
 use Rattle.cat_play.specs.Recording.{lane_place, greeting, WasRefused}

@@ -15,7 +15,7 @@ use Rattle.sp_history.proofs.Appending.{past_of-append}
 use Rattle.sp_history.proofs.Backing.{legal_allowed}
 use Rattle.sp_core.specs.Standing.{HasFirst}
 use Rattle.sp_core.specs.Moving.{AreSettling}
-use Rattle.sp_core.specs.declared.calls.attach.AttachError.{AttachError}
+use Rattle.core_parts.specs.declared.causes.AttachError.{AttachError}
 use Rattle.sp_core.specs.Attaching.{RefusedAttach}
 use Rattle.sp_single.specs.Singles.{SingleView, TookOne}
 use Rattle.sp_lane.specs.LaneWires.{LaneWireView}

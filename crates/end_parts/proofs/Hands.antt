@@ -19,8 +19,8 @@ use Rattle.sp_history.specs.Past.{past_of, up, ups, untaken, now}
 use Rattle.sp_core.specs.Moving.{AreSettling}
 use Rattle.sp_core.specs.Standing.{HasFirst}
 use Rattle.sp_core.specs.Attaching.{RefusedAttach}
-use Rattle.sp_core.specs.declared.calls.attach.AttachError.{AttachError}
-use Rattle.sp_core.specs.declared.calls.attach.AttachError.TheVariants as refused
+use Rattle.core_parts.specs.declared.causes.AttachError.{AttachError}
+use Rattle.core_parts.specs.declared.causes.AttachError.TheVariants as refused
 use Rattle.cat_play.specs.Recording.{met_at, greeting, keeps_places, refuses}
 use Rattle.cat_play.specs.Playing.{each}
 use Rattle.sp_history.specs.Once.{AreDistinct}

@@ -11,7 +11,7 @@ use Rattle.cat_play.specs.Running.{has_dry_miss}
 use Rattle.end_parts.specs.declared.name_dialer.NameDialer.{NameDialer}
 use Rattle.sp_single.specs.Singles.{SingleView, IsSound}
 use Rattle.sp_lane.specs.LaneWires.{LaneWireView}
-use Rattle.sp_core.specs.declared.calls.attach.AttachError.{AttachError}
+use Rattle.core_parts.specs.declared.causes.AttachError.{AttachError}
 use Rattle.end_parts.specs.DialMoments.{moment, IsDueAt}
 use Rattle.end_parts.specs.EndViews.{LinkEndsView, Beginning}
 use Rattle.end_parts.specs.RunLinks.{EndsStand, places}

@@ -18,8 +18,8 @@ use Rattle.link_opening.specs.declared.opening.Progress.{Progress}
 use Rattle.link_opening.specs.declared.opening.Progress.TheVariants as progress
 use Rattle.end_parts.specs.declared.greeting.NewcomerDecision.{NewcomerDecision}
 use Rattle.end_parts.specs.declared.greeting.NewcomerDecision.TheVariants as decisions
-use Rattle.sp_core.specs.declared.calls.attach.AttachError.{AttachError}
-use Rattle.sp_core.specs.declared.calls.attach.AttachError.TheVariants as refused
+use Rattle.core_parts.specs.declared.causes.AttachError.{AttachError}
+use Rattle.core_parts.specs.declared.causes.AttachError.TheVariants as refused
 use Rattle.end_parts.specs.declared.greeting.NewcomerFate.{NewcomerFate}
 use Rattle.end_parts.specs.declared.greeting.NewcomerFate.TheVariants as fates
 use Rattle.end_parts.specs.EndViews.{Beginning}

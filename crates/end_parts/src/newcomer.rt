@@ -9,7 +9,7 @@ use link_opening::{Opening, Way};
 use sp_base::{Link, NoMemory, Role, Tick};
 use std::alloc::Global;
 
-/// A link that is being opened.
+/// A link that is being opened (nng_stream(5)).
 pub struct Newcomer<L: Link> {
     pub opening: Opening<L>,
     /// The tick at which it was handed out.

@@ -1,6 +1,6 @@
 -- An operation begins: the protocol lets it, a slot is drawn for it, and the core records it.
 use Rattle.std.proofs.Common.{◌≡◌, refl, ap, sym, ◌∙◌, subst, List, [], ◌∷◌, ℕ, ◌+◌, ◌^◌, ◌<◌, ◌≤◌, Bool, true, false, arith, Ok, Option, length, inr}
-use Rattle.std.specs.Prelude.{◌&&◌, ◌||◌, ◌==◌, ◌⊎◌, Result, Err, OnOk}
+use Rattle.std.specs.Prelude.{◌&&◌, ◌||◌, ◌==◌, ◌⊎◌, Result, Err, OnErr, OnOk}
 use Rattle.std.specs.Result.{is_err}
 use Rattle.std.proofs.lemmas.List.Elements.{All-nil}
 use Rattle.std.proofs.lemmas.Bool.Decides.{nat_tests}
@@ -138,6 +138,11 @@ module _ {P W : Type 0} (ties : P → Moment → Type 0) (room : P → ℕ) (sho
 pub was_ok : {A E : Type 0} (r : Result A E) (Q : Type 0) → false ≡ is_err r → OnOk r Q → Q
 was_ok (Ok x) Q e h = h
 was_ok (Err x) Q e h = absurd cc
+
+-- what an Err told
+pub was_err : {A E : Type 0} (r : Result A E) (Q : Type 0) → true ≡ is_err r → OnErr r Q → Q
+was_err (Ok x) Q e h = absurd cc
+was_err (Err x) Q e h = h
 
 module _ {P W : Type 0} (ties : P → Moment → Type 0) (room : P → ℕ) (shown : W → WireView) where
   pub made : (c : Core P W) (z : Setting) → ties c.proto (start z 1) → OpWordsStand c.op_words (start z 1) → OperationsStand [] c.operations (start z 1) → PipesStand shown c.pipes (start z 1) → Tallies c.tally (start z 1) → c.closed ≡ false → length c.operations.free.items + done_count c.operations ≤ room c.proto → StandsFor ties room shown c []

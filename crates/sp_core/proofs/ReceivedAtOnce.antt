@@ -49,7 +49,7 @@ use Rattle.sp_core.specs.Moving.{AreSettling, Later}
 use Rattle.aio_word.specs.declared.phase.Phase.TheVariants as phase
 use Rattle.aio_word.specs.declared.rule.ShownOperation as word
 use Rattle.aio_word.specs.Results.{of_op}
-use Rattle.sp_core.specs.declared.calls.immediate.NowError.{NowError}
+use Rattle.core_parts.specs.declared.causes.NowError.{NowError}
 use Rattle.sp_core.specs.Looking.{HasLooked, ends_in}
 use Rattle.core_parts.specs.Reads.{Grows}
 use Rattle.sp_core.specs.Owning.{Owns, CanBegin}

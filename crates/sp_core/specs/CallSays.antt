@@ -9,14 +9,14 @@ use Rattle.sp_history.specs.Moments.{Moment}
 use Rattle.sp_history.specs.Past.{past_of, is_closed, up}
 use Rattle.sp_history.specs.Swept.{IsSwept, AreFlushed}
 use Rattle.sp_proto.specs.Kinds.{Kind, text_of}
-use Rattle.sp_core.specs.declared.calls.contexts.CtxError.{CtxError}
-use Rattle.sp_core.specs.declared.calls.contexts.TopicError.{TopicError}
-use Rattle.sp_core.specs.declared.calls.immediate.NowError.{NowError}
+use Rattle.core_parts.specs.declared.causes.CtxError.{CtxError}
+use Rattle.core_parts.specs.declared.causes.TopicError.{TopicError}
+use Rattle.core_parts.specs.declared.causes.NowError.{NowError}
 use Rattle.core_parts.specs.declared.pipes.DownPipe.{DownPipe}
-use Rattle.sp_core.specs.declared.ops.BeginError.{BeginError}
+use Rattle.core_parts.specs.declared.causes.BeginError.{BeginError}
 use Rattle.sp_core.specs.declared.owner.Core.{Core}
-use Rattle.sp_core.specs.declared.calls.attach.AttachError.{AttachError}
-use Rattle.sp_core.specs.declared.calls.serve.Served.{Served}
+use Rattle.core_parts.specs.declared.causes.AttachError.{AttachError}
+use Rattle.core_parts.specs.declared.served.Served.{Served}
 use Rattle.sp_core.specs.Attaching.{AttachedBy, attached}
 use Rattle.sp_core.specs.Collecting.{IsOpen}
 use Rattle.sp_core.specs.Contexts.{ShutBy, SubscribedBy, UnsubscribedBy}
@@ -55,8 +55,8 @@ abbrev pub core_label : {P W : Type 0} → (P → Kind) → Core P W → CoreLab
 core_label kind c = record { setting = core_setting kind c; words = (words_of c).id }
 
 -- the call is one turn of this caller, of which this is said
-pub record TakesOneTurn {P W : Type 0} (ties : P → Moment → Type 0) (room : P → ℕ) (kind : P → Kind) (shown : W → WireView) (old new : Core P W) (k : ℕ) (says : Setting → List (Turn Entry) → Turn Entry → Type 0) : Type 0 where
-  pub turn : TakesTurn (StandsFor ties room shown) old new k (says (core_setting kind old))
+pub record TakesOneTurn {P W : Type 0} (stands : Core P W → List (Turn Entry) → Type 0) (kind : P → Kind) (old new : Core P W) (k : ℕ) (says : Setting → List (Turn Entry) → Turn Entry → Type 0) : Type 0 where
+  pub turn : TakesTurn stands old new k (says (core_setting kind old))
   pub label : core_label kind new ≡ core_label kind old
 
 -- ---- What a call says of its turn, by the setting and after the history before it

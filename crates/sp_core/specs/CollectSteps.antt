@@ -8,7 +8,7 @@ use Rattle.sp_core.specs.Moving.{Later}
 use Rattle.sp_core.specs.Owning.{CanBegin, Owns}
 use Rattle.core_parts.specs.OpWordsStand.{IsNext}
 use Rattle.sp_core.specs.Standing.{IsSettled}
-use Rattle.sp_core.specs.declared.calls.immediate.NowError.{NowError}
+use Rattle.core_parts.specs.declared.causes.NowError.{NowError}
 use Rattle.core_parts.specs.declared.outcome.Outcome.{Outcome}
 use Rattle.sp_core.specs.declared.owner.Core.{Core}
 use Rattle.sp_history.specs.Kept.{kept}

@@ -3,17 +3,15 @@ use Rattle.sp_core.specs.KeptWords.{KeepsWords}
 use Rattle.sp_core.specs.Closing.{ClosesAt, after}
 use Rattle.sp_core.specs.Contexts.{AreCtxEnds, IsShutting, MayOpen, MayShut, MaySwitch, RefusedOpen, RefusedShut, RefusedTopic, ShutOne, SwitchedTo}
 use Rattle.sp_core.specs.Owning.{Owns}
-use Rattle.sp_core.specs.declared.calls.contexts.CtxError.{CtxError}
-use Rattle.sp_core.specs.declared.calls.contexts.TopicError.{TopicError}
+use Rattle.core_parts.specs.declared.causes.CtxError.{CtxError}
+use Rattle.core_parts.specs.declared.causes.TopicError.{TopicError}
 use Rattle.sp_core.specs.declared.owner.Core.{Core}
 use Rattle.sp_history.specs.Legal.{is_pending_on}
-use Rattle.sp_history.specs.Lists.{has}
 use Rattle.sp_history.specs.Moments.{Moment, also, past}
-use Rattle.sp_history.specs.Past.{ctxs, opened}
-use Rattle.sp_history.specs.Setting.{has_contexts}
+use Rattle.sp_history.specs.Past.{opened}
 use Rattle.sp_history.specs.declared.entry.Entry.{Entry}
 use Rattle.sp_msg.specs.Views.{WireView}
-use Rattle.std.specs.Prelude.{Bool, List, MatchOption, MatchResult, Option, Result, [], false, true, ℕ, ◌+◌, ◌≡◌}
+use Rattle.std.specs.Prelude.{Bool, List, MatchOption, MatchResult, Option, Result, [], false, ℕ, ◌+◌, ◌≡◌}
 use Rattle.sp_history.specs.declared.entry.Entry.TheVariants as entries
 use Rattle.sp_history.specs.declared.entry.ContextChange.TheVariants as gate
 
@@ -56,8 +54,3 @@ TellsMaySwitch ties room shown r c x =
 abbrev pub SwitchesTopic : {P W : Type 0} → (P → Moment → Type 0) → (P → ℕ) → (W → WireView) → Result Bool TopicError → ℕ → List ℕ → Bool → Core P W → Core P W → Type 0
 SwitchesTopic ties room shown r c b on old new =
     KeepsWords old new ((t : Moment) → Owns ties room shown [] old t → SwitchedTo (Owns ties room shown [] new) r t c b on)
-
--- whether the context is open, of a socket that has contexts
-abbrev pub TellsOpen : {P W : Type 0} → (P → Moment → Type 0) → (P → ℕ) → (W → WireView) → Bool → ℕ → Core P W → Type 0
-TellsOpen ties room shown r c x =
-    (t : Moment) → Owns ties room shown [] x t → has_contexts t.z ≡ true → r ≡ has (ctxs (past t)) c

@@ -18,9 +18,9 @@ use Rattle.sp_history.specs.Kept.{kept}
 use Rattle.sp_history.specs.Moments.{Moment, past, also}
 use Rattle.sp_proto.specs.Kinds.{text_of}
 use Rattle.sp_proto.specs.Machines.{ChecksAct}
-use Rattle.sp_core.specs.declared.calls.immediate.NowError.{NowError}
-use Rattle.sp_core.specs.declared.calls.immediate.NowError.TheVariants as now_error
-use Rattle.sp_core.specs.declared.ops.BeginError.TheVariants as error
+use Rattle.core_parts.specs.declared.causes.NowError.{NowError}
+use Rattle.core_parts.specs.declared.causes.NowError.TheVariants as now_error
+use Rattle.core_parts.specs.declared.causes.BeginError.TheVariants as error
 use Rattle.core_parts.specs.Ends.{IsCallers}
 use Rattle.sp_core.specs.Moving.{AreSettling, Later}
 use Rattle.core_parts.specs.OperationsStand.{AllTaken}

@@ -10,15 +10,15 @@ use Rattle.sp_core.specs.Moving.{Later}
 use Rattle.sp_core.specs.Owning.{Owns}
 use Rattle.sp_core.specs.declared.owner.Core.{Core}
 use Rattle.sp_history.specs.Lists.{has}
-use Rattle.sp_history.specs.Moments.{Lawful, Moment, also, past}
+use Rattle.sp_history.specs.Moments.{Moment, also, past}
 use Rattle.sp_history.specs.Past.{up}
 use Rattle.sp_history.specs.Sends.{targets}
 use Rattle.sp_history.specs.declared.entry.Ending.{Ending}
-use Rattle.sp_history.specs.declared.entry.Entry.TheVariants.{End, Out}
+use Rattle.sp_history.specs.declared.entry.Entry.TheVariants.{End}
 use Rattle.sp_history.specs.declared.entry.RecordedMessage.{RecordedMessage as Text}
 use Rattle.sp_history.specs.declared.parts.Begun.{Begun}
 use Rattle.sp_history.specs.declared.parts.LiveRequest.{LiveRequest}
-use Rattle.sp_msg.specs.Views.{MessageView, WireView, wire_text}
+use Rattle.sp_msg.specs.Views.{WireView}
 use Rattle.sp_proto.specs.Machines.{CanAgain, CanFlood, CanGive, CanSend}
 use Rattle.std.specs.Prelude.{List, [], length, true, ℕ, ◌<◌, ◌≡◌, ◌≤◌}
 
@@ -48,11 +48,6 @@ pub record SendsAgainAt {P W : Type 0} (ties : P → Moment → Type 0) (room me
   pub left : measure new.proto < measure old.proto
   pub words : words_of new ≡ words_of old
   pub reads : reads_of new ≡ reads_of old
-
--- this is the copy of the send for the pipe
-abbrev pub CopiesFor : {P : Type 0} → (P → Moment → Type 0) → MessageView → P → P → OpName → ℕ → Type 0
-CopiesFor ties r m n op p =
-    (t : Moment) (s : Begun) (b : List ℕ) → Lawful (also t (Out p b)) → ties m t → CanFlood t op s b → has (targets t.z (past t) s) p ≡ true → (wire_text r ≡ b) × ties n (also t (Out p b))
 
 -- the send may go out on many pipes, with a copy for each
 abbrev pub MayFlood : {P W : Type 0} → (P → Moment → Type 0) → (P → ℕ) → (W → WireView) → (P → OpName → ℕ) → OpName → Core P W → Type 0

@@ -9,7 +9,7 @@ use Rattle.core_parts.specs.declared.pipes.Flushed.{Flushed}
 use Rattle.core_parts.specs.declared.pipes.Flushed.TheVariants as flushed
 use Rattle.core_parts.specs.declared.pipes.Pipes.{Pipes as PipesType}
 use Rattle.sp_core.specs.declared.owner.Core.{Core}
-use Rattle.sp_core.specs.declared.calls.attach.AttachError.{AttachError}
+use Rattle.core_parts.specs.declared.causes.AttachError.{AttachError}
 use Rattle.sp_core.specs.declared.calls.serve.Got.{Got}
 use Rattle.sp_core.specs.declared.calls.serve.Got.TheVariants as got
 use Rattle.sp_core.specs.declared.calls.serve.Visit.{Visit}

@@ -59,10 +59,10 @@ impl EndsTurn {
 }
 
 impl<L: Link> Ends<L> {
-    /// One turn of the ends, at this tick, which is that of the history: takes the wires whose pipes are down and gives
-    /// their links back, goes on with the greetings, asks each listener for at most 16 links and dials each address
-    /// that is due; then it does the same with names within the process. Where there is no memory for a link this is
-    /// given back and the turn says so; the other links have their turn all the same.
+    /// One turn of the ends, at this tick, which is that of the history. It takes the wires whose pipes are down and
+    /// gives their links back. It goes on with the greetings, asks each listener for at most 16 links, and dials each
+    /// address that is due. Then it does the same with names within the process. Where there is no memory for a link
+    /// this is given back and the turn says so; the other links have their turn all the same.
     pub fn turn<R: Wait, N: Net<L = L>, P: Proto>(
         &mut self,
         rt: &R,
@@ -392,7 +392,7 @@ impl<L: Link> LinkEnds<L> {
             Linked::Failed => false,
             Linked::Got(link) => {
                 let way = self.serving(i);
-                self.welcome(rt, net, single, link, way, now, turn);
+                self.meet_newcomer(rt, net, single, link, way, now, turn);
                 true
             }
         }
@@ -474,7 +474,7 @@ impl<L: Link> LinkEnds<L> {
             Linked::Got(link) => {
                 self.dialers[i].dialed(now, Some(link.place()));
                 let way = self.asking(i);
-                self.welcome(rt, net, single, link, way, now, turn);
+                self.meet_newcomer(rt, net, single, link, way, now, turn);
             }
         }
     }
@@ -504,7 +504,7 @@ impl<L: Link> LinkEnds<L> {
     }
 
     // A link that was handed out just now is met, and greeted. Its way is missing when out of memory.
-    fn welcome<R: Wait, N: Net<L = L>, P: Proto>(
+    fn meet_newcomer<R: Wait, N: Net<L = L>, P: Proto>(
         &mut self,
         rt: &R,
         net: &mut N,

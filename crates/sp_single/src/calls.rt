@@ -4,7 +4,7 @@ ghost use Rattle.sp_proto.specs.Kinds.{text_of};
 ghost use Rattle.sp_history.specs.declared.entry.RecordedAct.TheVariants as acts;
 ghost use Rattle.sp_history.specs.declared.entry.Entry.TheVariants as entries;
 ghost use Rattle.sp_history.specs.Past.{past_of, is_closed};
-ghost use Rattle.sp_core.specs.declared.ops.BeginError.TheVariants as error;
+ghost use Rattle.core_parts.specs.declared.causes.BeginError.TheVariants as error;
 ghost use Rattle.sp_core.specs.CallSays.{ServesPipes};
 ghost use Rattle.sp_core.specs.Standing.{BeganBy, began, HasFirst};
 ghost use Rattle.sp_core.specs.Collecting.{CollectedBy, DueBy, IsOpen};

@@ -23,7 +23,7 @@ use Rattle.sp_core.specs.declared.calls.collect.Collected.TheVariants as collect
 use Rattle.sp_core.specs.Collecting.{CollectedBy}
 use Rattle.sp_socket.specs.Passes.{PassView, SocketName, IsOf, IsSamePass}
 use Rattle.sp_socket.specs.Open.{KeepsOpen, TakesNoTurn}
-use Rattle.sp_socket.specs.Expiring.{Hand, IsOfAnother, PolledAs, hand}
+use Rattle.sp_socket.specs.Expiring.{WinsAndReads, IsOfAnother, PolledAs, wins_and_reads}
 use Rattle.aio_word.specs.declared.results.Polled.{Polled}
 use Rattle.aio_word.specs.declared.results.Polled.TheVariants as polled
 use Rattle.sp_socket.specs.Turns.{TookTurn, ReadsFor}
@@ -161,7 +161,7 @@ looked_more op before mid after w l =
 pub no_look : (p : PassView) → HasLookedOn p p
 no_look p = record { still = record { same = (refl, refl, refl); seen = refl; mine = refl; open_ = λ o h. h }; wins = refl; more = []; reads = plus_none p.reads }
 
-look_grows : (r : Polled) (k slots : ℕ) (op : OpName) (a b : Hand) → PolledAs r k slots op a b → (b.0 ≡ a.0) × ((more : List word.ShownOperation) × (b.1 ≡ a.1 ++ more))
+look_grows : (r : Polled) (k slots : ℕ) (op : OpName) (a b : WinsAndReads) → PolledAs r k slots op a b → (b.0 ≡ a.0) × ((more : List word.ShownOperation) × (b.1 ≡ a.1 ++ more))
 look_grows polled.Pending k slots op a b h = (h.0, (of_op op Pending 0 ∷ [], h.1))
 look_grows (polled.Ended p by) k slots op a b h = (h.1, (of_op op p by ∷ [], h.2))
 look_grows polled.Stale k slots op a b h = (h.0, found h.1)
@@ -170,9 +170,9 @@ look_grows polled.Stale k slots op a b h = (h.0, found h.1)
     found (inl x) = ([], x.1 ∙ plus_none a.1)
     found (inr x) = (x.1.0 ∷ [], x.1.2)
 
-pub look_more : (r : Polled) (k slots : ℕ) (op : OpName) (before mid after : PassView) → HasLookedOn before mid → TakesNoTurn mid after → PolledAs r k slots op (hand mid) (hand after) → HasLookedOn before after
+pub look_more : (r : Polled) (k slots : ℕ) (op : OpName) (before mid after : PassView) → HasLookedOn before mid → TakesNoTurn mid after → PolledAs r k slots op (wins_and_reads mid) (wins_and_reads after) → HasLookedOn before after
 look_more r k slots op before mid after l t p =
-    let g = look_grows r k slots op (hand mid) (hand after) p in
+    let g = look_grows r k slots op (wins_and_reads mid) (wins_and_reads after) p in
     record {
       still = record { same = same_twice before mid after l.still.same t.same; seen = t.seen ∙ l.still.seen; mine = t.mine ∙ l.still.mine; open_ = λ x h. t.open_ x (l.still.open_ x h) };
       wins = g.0 ∙ l.wins;

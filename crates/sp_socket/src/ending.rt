@@ -4,7 +4,7 @@ ghost use Rattle.std.specs.Prelude.{◌<◌};
 ghost use Rattle.aio_word.specs.declared.phase.Phase.TheVariants as phase;
 ghost use Rattle.sp_socket.specs.Passes.{IsOf};
 ghost use Rattle.sp_socket.specs.Open.{TakesNoTurn};
-ghost use Rattle.sp_socket.specs.Expiring.{RacedAs, PolledAs, IsKnownPass, hand};
+ghost use Rattle.sp_socket.specs.Expiring.{RacedAs, PolledAs, IsKnownPass, wins_and_reads};
 
 use crate::pass::Pass;
 use crate::socket::Socket;
@@ -19,7 +19,7 @@ impl<P: Proto, W: Wire> Socket<P, W> {
     pub fn cancel(&self, pass: &mut Pass<P, W>, op: OpName) -> Raced
         requires own { IsOf self.now pass.old }
         ensures still { TakesNoTurn pass.old pass.new }
-        ensures raced { RacedAs phase.Cancelled result pass.old.number self.now.words.slots op (hand pass.old) (hand pass.new) }
+        ensures raced { RacedAs phase.Cancelled result pass.old.number self.now.words.slots op (wins_and_reads pass.old) (wins_and_reads pass.new) }
         ensures rule { op.slot < self.now.words.slots → IsKnownPass self.now.words.slots pass.new }
     {
         self.words.cancel(&mut pass.parts.seat, op)
@@ -29,7 +29,7 @@ impl<P: Proto, W: Wire> Socket<P, W> {
     pub fn poll(&self, pass: &mut Pass<P, W>, op: OpName) -> Polled
         requires own { IsOf self.now pass.old }
         ensures still { TakesNoTurn pass.old pass.new }
-        ensures polled { PolledAs result pass.old.number self.now.words.slots op (hand pass.old) (hand pass.new) }
+        ensures polled { PolledAs result pass.old.number self.now.words.slots op (wins_and_reads pass.old) (wins_and_reads pass.new) }
         ensures rule { op.slot < self.now.words.slots → IsKnownPass self.now.words.slots pass.new }
     {
         self.words.poll(&mut pass.parts.seat, op)

@@ -1,13 +1,10 @@
 //! The calls of the pipes: a wire becomes a pipe, a link is met or given back, and the wire of a pipe that went down is
 //! taken.
-ghost use Rattle.std.specs.Prelude.{◌≡◌, ◌≢◌, [], true, false, IsTrue, IfErr};
+ghost use Rattle.std.specs.Prelude.{◌≡◌, [], IfErr};
 ghost use Rattle.sp_history.specs.declared.entry.Entry.TheVariants.{Met, NoUp};
-ghost use Rattle.sp_history.specs.Setting.{is_pair};
-ghost use Rattle.sp_history.specs.Past.{up};
-ghost use Rattle.sp_history.specs.Moments.{Moment, past};
+ghost use Rattle.sp_history.specs.Moments.{Moment};
 ghost use Rattle.sp_proto.specs.Machines.{NoFlood};
 ghost use Rattle.core_parts.specs.Wires.{IsUnused};
-ghost use Rattle.sp_core.specs.Errors.{attach_number};
 ghost use Rattle.sp_core.specs.Owning.{Owns};
 ghost use Rattle.sp_core.specs.Standing.{HasFirst};
 ghost use Rattle.sp_core.specs.Attaching.{NotesLink, TookWire};
@@ -15,8 +12,8 @@ ghost use Rattle.sp_core.specs.ServeSteps.{BringsUp, TellsMayAttach, LeavesNumbe
 ghost use Rattle.sp_core.specs.CallSays.{MayTakeTurn, AttachesWire, TakesOneTurn};
 
 use crate::owner::Core;
-use core_parts::DownPipe;
-use sp_base::{PipeId, Role, SpError};
+use core_parts::{AttachError, DownPipe, has_its_one};
+use sp_base::PipeId;
 use sp_history::entry::{Miss, Why};
 use sp_msg::Wire;
 use sp_proto::Proto;
@@ -28,31 +25,6 @@ const MOST_PIPES: usize = 4_096;
 
 // The greatest number of a pipe.
 const LAST_NUMBER: u32 = 2_147_483_647;
-
-/// Why a wire became no pipe (nng_pipe(5)), the first cause that stands.
-#[derive(Clone, Copy, PartialEq, Eq, Debug)]
-pub enum AttachError {
-    /// The socket is closed.
-    Closed,
-    /// The role has one pipe at a time, and one is up.
-    Refused,
-    /// 4,096 pipes are up or wait to be taken, or 2^31 - 1 came up.
-    Many,
-    /// Out of memory.
-    NoMemory,
-}
-
-impl From<AttachError> for SpError {
-    ghost from_gives = { λ why r. r ≡ attach_number why };
-
-    fn from(why: AttachError) -> SpError {
-        match why {
-            AttachError::Closed => SpError::Closed,
-            AttachError::Refused | AttachError::Many => SpError::Busy,
-            AttachError::NoMemory => SpError::NoMemory,
-        }
-    }
-}
 
 /// A pipe (nng_pipe(5)) that went down, with its wire.
 #[derive(Drop)]
@@ -78,7 +50,7 @@ impl<P: Proto, W: Wire> Core<P, W> {
     ) -> Result<PipeId, (AttachError, W)>
         requires turn { MayTakeTurn ⟦<Core<P, W> as Stands>⟧.stands self.old k }
         requires unused { IsUnused (W.shown w) }
-        ensures turn { TakesOneTurn P.ties P.room P.kind W.shown self.old self.new k (AttachesWire W.shown result w place) }
+        ensures turn { TakesOneTurn ⟦<Core<P, W> as Stands>⟧.stands P.kind self.old self.new k (AttachesWire W.shown result w place) }
         ensures handed_back { IfErr result (λ e. e.1 ≡ w) }
     {
         self.begin_turn();
@@ -90,7 +62,7 @@ impl<P: Proto, W: Wire> Core<P, W> {
     /// The net handed out the link with this place. Also after the close. Doesn't fail when out of memory.
     pub fn met<R: Wait>(&mut self, rt: &R, k: u32, place: u32)
         requires turn { MayTakeTurn ⟦<Core<P, W> as Stands>⟧.stands self.old k }
-        ensures { TakesOneTurn P.ties P.room P.kind W.shown self.old self.new k (λ z h t. HasFirst (Met place) t) }
+        ensures { TakesOneTurn ⟦<Core<P, W> as Stands>⟧.stands P.kind self.old self.new k (λ z h t. HasFirst (Met place) t) }
     {
         self.note_link(rt, k);
     }
@@ -99,7 +71,7 @@ impl<P: Proto, W: Wire> Core<P, W> {
     /// out of memory.
     pub fn missed<R: Wait>(&mut self, rt: &R, k: u32, place: u32, miss: Miss)
         requires turn { MayTakeTurn ⟦<Core<P, W> as Stands>⟧.stands self.old k }
-        ensures { TakesOneTurn P.ties P.room P.kind W.shown self.old self.new k (λ z h t. HasFirst (NoUp place miss) t) }
+        ensures { TakesOneTurn ⟦<Core<P, W> as Stands>⟧.stands P.kind self.old self.new k (λ z h t. HasFirst (NoUp place miss) t) }
     {
         self.note_link(rt, k);
     }
@@ -118,7 +90,7 @@ impl<P: Proto, W: Wire> Core<P, W> {
     /// after the close. Doesn't fail when out of memory.
     pub fn take_ended<R: Wait>(&mut self, rt: &R, k: u32) -> Option<Gone<W>>
         requires turn { MayTakeTurn ⟦<Core<P, W> as Stands>⟧.stands self.old k }
-        ensures { TakesOneTurn P.ties P.room P.kind W.shown self.old self.new k (TookWire W.shown result) }
+        ensures { TakesOneTurn ⟦<Core<P, W> as Stands>⟧.stands P.kind self.old self.new k (TookWire W.shown result) }
     {
         self.begin_turn();
         let taken = self.pipes.take_first();
@@ -163,7 +135,7 @@ impl<P: Proto, W: Wire> Core<P, W> {
         if self.closed {
             return Some(AttachError::Closed);
         }
-        if self.has_its_one() {
+        if has_its_one(&self.proto, self.pipes.count) {
             return Some(AttachError::Refused);
         }
         if self.pipes.count.saturating_add(self.pipes.down.len()) >= MOST_PIPES {
@@ -173,16 +145,5 @@ impl<P: Proto, W: Wire> Core<P, W> {
             return Some(AttachError::Many);
         }
         None
-    }
-
-    // Whether the role has one pipe at a time, and one is up.
-    fn has_its_one(&self) -> bool
-        ensures one { result ≡ true → (t : Moment) → Owns P.ties P.room W.shown [] self.now t → IsTrue (is_pair t.z.role) × (up (past t) ≢ []) }
-        ensures none { result ≡ false → (t : Moment) → Owns P.ties P.room W.shown [] self.now t → IsTrue (is_pair t.z.role) → up (past t) ≡ [] }
-    {
-        match self.proto.role() {
-            Role::Pair0 => self.pipes.count > 0,
-            _ => false,
-        }
     }
 }

@@ -9,9 +9,9 @@ ghost use Rattle.sp_core.specs.BeginSteps.{OpensTurn, TellsMayBegin, MayDraw, Dr
 ghost use Rattle.sp_core.specs.SettleSteps.{SettlesTo, LooksOn, FindsOf};
 ghost use Rattle.sp_core.specs.CallSays.{MayTakeTurn, BeginsRecv, BeginsSend, TakesOneTurn};
 
-use crate::ops::{BeginError, Op};
+use crate::ops::Op;
 use crate::owner::Core;
-use core_parts::Decision;
+use core_parts::{BeginError, Decision};
 use sp_base::{Ctx, OpName, Tick};
 use sp_history::entry::Entry;
 use sp_msg::{Message, Wire};
@@ -33,7 +33,7 @@ impl<P: Proto, W: Wire> Core<P, W> {
         deadline: Option<Tick>,
     ) -> Result<Op, BeginError>
         requires turn { MayTakeTurn ⟦<Core<P, W> as Stands>⟧.stands self.old k }
-        ensures turn { TakesOneTurn P.ties P.room P.kind W.shown self.old self.new k (BeginsRecv result k c deadline self.old self.new) }
+        ensures turn { TakesOneTurn ⟦<Core<P, W> as Stands>⟧.stands P.kind self.old self.new k (BeginsRecv result k c deadline self.old self.new) }
         ensures memory { result ≢ Err BeginError.NoMemory }
     {
         self.open_turn(rt, k, c);
@@ -60,7 +60,7 @@ impl<P: Proto, W: Wire> Core<P, W> {
         deadline: Option<Tick>,
     ) -> Result<Op, (BeginError, Message)>
         requires turn { MayTakeTurn ⟦<Core<P, W> as Stands>⟧.stands self.old k }
-        ensures turn { TakesOneTurn P.ties P.room P.kind W.shown self.old self.new k (BeginsSend result k c m deadline self.old self.new) }
+        ensures turn { TakesOneTurn ⟦<Core<P, W> as Stands>⟧.stands P.kind self.old self.new k (BeginsSend result k c m deadline self.old self.new) }
         ensures handed_back { IfErr result (λ e. e.1 ≡ m) }
     {
         self.open_turn(rt, k, c);

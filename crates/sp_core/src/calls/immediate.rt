@@ -2,44 +2,22 @@
 //!
 //! Nothing is begun where nothing is kept. A caller that guessed the name of the operation may end it first; then the
 //! message stays, and the next try has another name.
-ghost use Rattle.std.specs.Prelude.{◌≡◌, []};
+ghost use Rattle.std.specs.Prelude.{[]};
 ghost use Rattle.sp_history.specs.Moments.{Moment};
-ghost use Rattle.sp_core.specs.Errors.{now_number};
 ghost use Rattle.sp_core.specs.Owning.{Owns};
 ghost use Rattle.sp_core.specs.Standing.{IsSettled};
 ghost use Rattle.sp_core.specs.BeginSteps.{MayDraw};
 ghost use Rattle.sp_core.specs.CollectSteps.{DrawsToReceive, ReceivesAtOnce, TriesOnce};
 ghost use Rattle.sp_core.specs.CallSays.{MayTakeTurn, ReceivesNow, TakesOneTurn};
 
-use crate::ops::BeginError;
 use crate::owner::Core;
-use core_parts::Outcome;
-use sp_base::{Ctx, OpName, SpError};
+use core_parts::{NowError, Outcome};
+use sp_base::{Ctx, OpName};
 use sp_history::entry::Entry;
 use sp_msg::{Message, Wire};
 use sp_proto::{Act, Proto, Verb};
 use std::sync::Wait;
 use turn_lock::Stands;
-
-/// Why nothing was received at once (nng_recvmsg(3)), the first cause that stands.
-#[derive(Clone, Copy, PartialEq, Eq, Debug)]
-pub enum NowError {
-    /// As no receive begins. Never for being out of memory.
-    Begin(BeginError),
-    /// Nothing is kept for the context.
-    Again,
-}
-
-impl From<NowError> for SpError {
-    ghost from_gives = { λ why r. r ≡ now_number why };
-
-    fn from(why: NowError) -> SpError {
-        match why {
-            NowError::Begin(e) => SpError::from(e),
-            NowError::Again => SpError::Again,
-        }
-    }
-}
 
 impl<P: Proto, W: Wire> Core<P, W> {
     /// Receives the oldest message that is kept for the context, if there is one: an operation is begun, won and
@@ -47,7 +25,7 @@ impl<P: Proto, W: Wire> Core<P, W> {
     /// memory.
     pub fn try_recv<R: Wait>(&mut self, rt: &R, k: u32, c: Ctx) -> Result<Message, NowError>
         requires turn { MayTakeTurn ⟦<Core<P, W> as Stands>⟧.stands self.old k }
-        ensures { TakesOneTurn P.ties P.room P.kind W.shown self.old self.new k (ReceivesNow result k c self.old self.new) }
+        ensures { TakesOneTurn ⟦<Core<P, W> as Stands>⟧.stands P.kind self.old self.new k (ReceivesNow result k c self.old self.new) }
     {
         self.open_turn(rt, k, c);
         self.receive_now(rt, c)

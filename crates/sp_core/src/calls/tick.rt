@@ -23,7 +23,7 @@ impl<P: Proto, W: Wire> Core<P, W> {
     pub fn due<R: Wait>(&mut self, rt: &R, k: u32, now: Tick, out: &mut NameList)
         requires turn { MayTakeTurn ⟦<Core<P, W> as Stands>⟧.stands self.old k }
         requires room { slots_of self.old ≤ out.old.spare }
-        ensures turn { TakesOneTurn P.ties P.room P.kind W.shown self.old self.new k (λ z h t. DueBy h t now out.old.names out.new.names) }
+        ensures turn { TakesOneTurn ⟦<Core<P, W> as Stands>⟧.stands P.kind self.old self.new k (λ z h t. DueBy h t now out.old.names out.new.names) }
         ensures spare { out.new.spare + length out.new.names ≡ out.old.spare + length out.old.names }
     {
         self.begin_turn();

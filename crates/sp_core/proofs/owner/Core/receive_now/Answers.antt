@@ -1,10 +1,10 @@
-use Rattle.std.proofs.Common.{◌∙◌, subst, rules}
+use Rattle.std.proofs.Common.{◌∙◌, refl, subst, rules}
 use Rattle.std.specs.Prelude.{Option, Result, Ok}
 use Rattle.sp_msg.specs.Views.{MessageView}
-use Rattle.sp_core.specs.declared.calls.immediate.NowError.{NowError}
+use Rattle.core_parts.specs.declared.causes.NowError.{NowError}
 use Rattle.sp_core.specs.Immediate.{TriedTo}
-use Rattle.sp_core.proofs.ContextLooks.{grows_trans}
-use Rattle.sp_core.proofs.ReceivedAtOnce.{lost_more}
+use Rattle.sp_core.proofs.ContextLooks.{grows_none, grows_trans}
+use Rattle.sp_core.proofs.ReceivedAtOnce.{lost_more, lost_none}
 use Rattle.sp_core.proofs.owner.Core.receive_now.Goals as goal
 
 pub returns-in-Err : goal.returns-in-Err
@@ -42,3 +42,19 @@ loop-preserved g c = record {
   words = c.in-Ok-None.ensures.words ∙ c.loop.invariant.words;
   reads = grows_trans _ _ _ c.loop.invariant.reads c.in-Ok-None.ensures.reads;
 }
+
+pub loop-init : goal.loop-init
+loop-init g c = record {
+  can = tt;
+  finite = tt;
+  standing = c.requires;
+  reached = λ t h settled. (t, lost_none c.args.c t, h, settled);
+  words = refl;
+  reads = grows_none _;
+}
+
+pub try_once-requires : goal.try_once-requires
+try_once-requires g c = c.loop.invariant.standing
+
+pub unreachable-requires : goal.unreachable-requires
+unreachable-requires g c = let steps = c.in-None.ensures.steps in absurd cc

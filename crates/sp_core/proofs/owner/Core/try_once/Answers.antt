@@ -1,4 +1,4 @@
-use Rattle.std.proofs.Common.{◌∙◌, sym, subst, List}
+use Rattle.std.proofs.Common.{◌∙◌, refl, sym, subst, List}
 use Rattle.aio_word.specs.declared.rule.ShownOperation as word
 use Rattle.sp_history.specs.declared.entry.Entry.TheVariants.{End}
 use Rattle.sp_history.specs.Moments.{also}
@@ -6,12 +6,26 @@ use Rattle.sp_core.specs.Immediate.{tried}
 use Rattle.sp_core.specs.Looking.{reads_of}
 use Rattle.core_parts.specs.Reads.{Grows}
 use Rattle.sp_core.proofs.ContextLooks.{grows_trans}
+use Rattle.sp_core.proofs.MoreReads.{grows_same}
 use Rattle.sp_core.proofs.ReceivedAtOnce.{now_begun, got, missed, never_sent}
 use Rattle.sp_core.proofs.TriedOnce.{begun, begun_now, given_now, took_now}
 use Rattle.sp_core.proofs.owner.Core.try_once.Goals as goal
 
 pub draw_to_receive-requires : goal.draw_to_receive-requires
 draw_to_receive-requires g c = let r = c.requires in (r.0, r.1.op_words, r.1.operations)
+
+pub returns-in-Err : goal.returns-in-Err
+returns-in-Err g c = record {
+  does = λ t h settled. let r = c.in-Err.ensures.does t h in (t, r.0, settled, (refl, r.1));
+  words = c.draw_to_receive.ensures.words;
+  reads = grows_same _ _ c.draw_to_receive.ensures.reads;
+}
+
+pub begin_drawn-requires : goal.begin_drawn-requires
+begin_drawn-requires g c = let r = c.requires in let d = c.in-Ok.ensures.does r.0 r.1 in (r.0, d.0, d.1, d.2, r.2.no_flood)
+
+pub unreachable-requires : goal.unreachable-requires
+unreachable-requires g c = let other = c.in-Err-begin_drawn.ensures.handed_back in absurd cc
 
 pub give-requires : goal.give-requires
 give-requires g c =

@@ -7,8 +7,8 @@ use Rattle.sp_ends.proofs.Arriving.{arrives_served}
 use Rattle.sp_ends.proofs.FreedDialers.{frees_none, frees_both}
 use Rattle.sp_ends.proofs.links.LinkEnds.accept_one.Goals as goal
 
-pub welcome-requires-clause-fresh : goal.welcome-requires-clause-fresh
-welcome-requires-clause-fresh g c =
+pub meet_newcomer-requires-clause-fresh : goal.meet_newcomer-requires-clause-fresh
+meet_newcomer-requires-clause-fresh g c =
     let net = g.N.Net.seen c.args.net.now in
     let at : slice_get c.args.self.now.listeners c.args.i ≡ Some c.index.result.now = at_index c.self.inside.listeners.items c.args.self.now.listeners c.args.i c.index.result.now (ap (λ (e : LinkEndsView g.row.L.Denot). e.listeners) c.self.view_is) c.requires.inside c.index.ensures in
     let i = c.requires.in_turn in
@@ -30,7 +30,7 @@ pub returns-in-Got-clause-in_turn : goal.returns-in-Got-clause-in_turn
 returns-in-Got-clause-in_turn g c start i =
     let net = g.N.Net.seen c.args.net.now in
     let at : slice_get c.args.self.now.listeners c.args.i ≡ Some c.index.result.now = at_index c.self.inside.listeners.items c.args.self.now.listeners c.args.i c.index.result.now (ap (λ (e : LinkEndsView g.row.L.Denot). e.listeners) c.self.view_is) c.requires.inside c.index.ensures in
-    c.welcome.ensures.in_turn start net i (arrives_served start.origins c.args.self.now c.args.i c.index.result.now (g.L.Link.seen c.in-Got.link) c.serving-way.result net (g.N.Net.seen c.accept.new.self) i.of_run at (c.serving-way.ensures c.index.result.now at) (c.requires.listens c.index.result.now at) c.in-Got.ensures.shows)
+    c.meet_newcomer.ensures.in_turn start net i (arrives_served start.origins c.args.self.now c.args.i c.index.result.now (g.L.Link.seen c.in-Got.link) c.serving-way.result net (g.N.Net.seen c.accept.new.self) i.of_run at (c.serving-way.ensures c.index.result.now at) (c.requires.listens c.index.result.now at) c.in-Got.ensures.shows)
 
 pub returns-in-NotYet-clause-frees : goal.returns-in-NotYet-clause-frees
 returns-in-NotYet-clause-frees g c =
@@ -45,7 +45,7 @@ returns-in-Failed-clause-frees g c =
 pub returns-in-Got-clause-frees : goal.returns-in-Got-clause-frees
 returns-in-Got-clause-frees g c =
     let h = c.in-Got.ensures.shows in
-    frees_both c.args.now (g.N.Net.seen c.args.net.now) (g.N.Net.seen c.accept.new.self) (g.N.Net.seen c.welcome.new.net) c.args.self.now.dialers c.args.self.now.dialers c.welcome.new.self.dialers (frees_none c.args.now (g.N.Net.seen c.args.net.now) (g.N.Net.seen c.accept.new.self) c.args.self.now.dialers c.args.self.now.dialers (let o = h.opened in omega (arith, o)) h.back refl) c.welcome.ensures.frees
+    frees_both c.args.now (g.N.Net.seen c.args.net.now) (g.N.Net.seen c.accept.new.self) (g.N.Net.seen c.meet_newcomer.new.net) c.args.self.now.dialers c.args.self.now.dialers c.meet_newcomer.new.self.dialers (frees_none c.args.now (g.N.Net.seen c.args.net.now) (g.N.Net.seen c.accept.new.self) c.args.self.now.dialers c.args.self.now.dialers (let o = h.opened in omega (arith, o)) h.back refl) c.meet_newcomer.ensures.frees
 
 pub returns-in-NotYet-clause-handed : goal.returns-in-NotYet-clause-handed
 returns-in-NotYet-clause-handed g c = let o = c.in-NotYet.ensures.shows.0.opened in omega (arith, o)
@@ -66,10 +66,10 @@ returns-in-Failed-clause-none g c = λ no i f.
 pub returns-in-Got-clause-handed : goal.returns-in-Got-clause-handed
 returns-in-Got-clause-handed g c =
     let o = c.in-Got.ensures.shows.opened in
-    let same = c.welcome.ensures.serves.counts.opened in omega (arith, o, same)
+    let same = c.meet_newcomer.ensures.serves.counts.opened in omega (arith, o, same)
 
 pub returns-in-Got-clause-young : goal.returns-in-Got-clause-young
-returns-in-Got-clause-young g c = λ a. c.welcome.ensures.young a
+returns-in-Got-clause-young g c = λ a. c.meet_newcomer.ensures.young a
 
 pub returns-in-NotYet-clause-few : goal.returns-in-NotYet-clause-few
 returns-in-NotYet-clause-few g c = let o = c.in-NotYet.ensures.shows.0.opened in omega (arith, o)
@@ -80,7 +80,7 @@ returns-in-Failed-clause-few g c = let o = c.in-Failed.ensures.shows.0.opened in
 pub returns-in-Got-clause-few : goal.returns-in-Got-clause-few
 returns-in-Got-clause-few g c =
     let o = c.in-Got.ensures.shows.opened in
-    let same = c.welcome.ensures.serves.counts.opened in omega (arith, o, same, c.welcome.ensures.few)
+    let same = c.meet_newcomer.ensures.serves.counts.opened in omega (arith, o, same, c.meet_newcomer.ensures.few)
 
 pub returns-in-NotYet-clause-waited : goal.returns-in-NotYet-clause-waited
 returns-in-NotYet-clause-waited g c = λ first opened le a. a
@@ -90,4 +90,4 @@ returns-in-Failed-clause-waited g c = λ first opened le a. a
 
 pub returns-in-Got-clause-waited : goal.returns-in-Got-clause-waited
 returns-in-Got-clause-waited g c = λ first opened le a.
-    let place = c.in-Got.ensures.shows.fresh.place in c.welcome.ensures.waited first opened (omega (arith, place, le)) a
+    let place = c.in-Got.ensures.shows.fresh.place in c.meet_newcomer.ensures.waited first opened (omega (arith, place, le)) a

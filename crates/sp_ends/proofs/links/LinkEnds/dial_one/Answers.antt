@@ -19,8 +19,8 @@ use Rattle.sp_ends.proofs.links.LinkEnds.dial_one.Goals as goal
 some_dialer : {a b : Dialer} → Some a ≡ Some b → a ≡ b
 some_dialer e = cc
 
-pub welcome-requires-clause-fresh : goal.welcome-requires-clause-fresh
-welcome-requires-clause-fresh g c =
+pub meet_newcomer-requires-clause-fresh : goal.meet_newcomer-requires-clause-fresh
+meet_newcomer-requires-clause-fresh g c =
     let net = g.N.Net.seen c.args.net.now in
     let net' = g.N.Net.seen c.dial.new.self in
     let r = c.requires.dialable in
@@ -110,7 +110,7 @@ returns-in-Got-clause-in_turn g c start i =
     let same = asked_on c.args.self.now _ c.asking-way.new.self mid a.same in
     let newcomers = ap (λ (v : LinkEndsView g.row.L.Denot). v.newcomers) a.same ∙ ap (λ (v : LinkEndsView g.row.L.Denot). v.newcomers) c.self.view_is in
     let handed = subst (λ (d : Dialer). IsHandedOut (g.L.Link.seen c.in-Got.link) (Some (scheme_of d.addr)) net net') (sym is) c.in-Got.ensures.shows in
-    c.welcome.ensures.in_turn start net (turned_as g.L.Link.seen start c.args.self.now c.asking-way.new.self net c.args.single.now c.args.now 0 same newcomers i)
+    c.meet_newcomer.ensures.in_turn start net (turned_as g.L.Link.seen start c.args.self.now c.asking-way.new.self net c.args.single.now c.args.now 0 same newcomers i)
     (arrives_dialed start.origins _ c.args.i a.way.0 r.0 new (g.L.Link.seen c.in-Got.link) c.asking-way.result net net' (of_run_on start.origins c.args.self.now _ mid i.of_run) here (c.dialed-in-Got.ensures.0 ∙ ap (λ (d : Dialer). d.addr) was) (a.way.2 new here) r.2 handed)
 
 pub returns-in-Got-clause-same : goal.returns-in-Got-clause-same
@@ -122,20 +122,20 @@ returns-in-Got-clause-same g c =
     let lt = slice_get_within c.args.self.now.dialers c.args.i r.0 r.1 in
     let dialed = dialed_at c.args.now (net'.opened ≡ net.opened) c.args.i c.self.inside.dialers.items c.args.self.now.dialers c.index_mut-in-Got.result.now c.dialed-in-Got.new.self (Some c.place.result) e lt c.index_mut-in-Got.ensures.value c.dialed-in-Got.ensures (λ m. absurd (omega (arith, m, c.in-Got.ensures.shows.opened))) in
     let mid = tried _ c.args.self.now _ c.self.view_is (dials_addrs c.args.i c.args.now (net'.opened ≡ net.opened) c.args.self.now.dialers _ dialed) in
-    ends_both c.args.self.now c.asking-way.new.self c.welcome.new.self (asked_on c.args.self.now _ c.asking-way.new.self mid c.asking-way.ensures.same) c.welcome.ensures.serves.ends
+    ends_both c.args.self.now c.asking-way.new.self c.meet_newcomer.new.self (asked_on c.args.self.now _ c.asking-way.new.self mid c.asking-way.ensures.same) c.meet_newcomer.ensures.serves.ends
 
 pub returns-in-Got-clause-dialed : goal.returns-in-Got-clause-dialed
 returns-in-Got-clause-dialed g c =
     let net = g.N.Net.seen c.args.net.now in
     let net' = g.N.Net.seen c.dial.new.self in
-    let last = g.N.Net.seen c.welcome.new.net in
+    let last = g.N.Net.seen c.meet_newcomer.new.net in
     let r = c.requires.dialable in
     let handed = c.in-Got.ensures.shows in
-    let s = c.welcome.ensures.serves in
-    dials_then c.args.i c.args.now (net'.opened ≡ net.opened) (last.opened ≡ net.opened) c.args.self.now.dialers _ c.welcome.new.self.dialers (λ m. sym s.counts.opened ∙ m)
+    let s = c.meet_newcomer.ensures.serves in
+    dials_then c.args.i c.args.now (net'.opened ≡ net.opened) (last.opened ≡ net.opened) c.args.self.now.dialers _ c.meet_newcomer.new.self.dialers (λ m. sym s.counts.opened ∙ m)
     (dialed_at c.args.now (net'.opened ≡ net.opened) c.args.i c.self.inside.dialers.items c.args.self.now.dialers c.index_mut-in-Got.result.now c.dialed-in-Got.new.self (Some c.place.result) (ap (λ (v : LinkEndsView g.row.L.Denot). v.dialers) c.self.view_is) (slice_get_within c.args.self.now.dialers c.args.i r.0 r.1) c.index_mut-in-Got.ensures.value c.dialed-in-Got.ensures
     (λ m. absurd (omega (arith, m, handed.opened))))
-    (subst (λ (ds : List Dialer). AreSameDialers ds c.welcome.new.self.dialers) (ap (λ (v : LinkEndsView g.row.L.Denot). v.dialers) c.asking-way.ensures.same) s.dialers)
+    (subst (λ (ds : List Dialer). AreSameDialers ds c.meet_newcomer.new.self.dialers) (ap (λ (v : LinkEndsView g.row.L.Denot). v.dialers) c.asking-way.ensures.same) s.dialers)
 
 pub returns-in-NotYet-clause-redials : goal.returns-in-NotYet-clause-redials
 returns-in-NotYet-clause-redials g c =
@@ -153,7 +153,7 @@ pub returns-in-Got-clause-redials : goal.returns-in-Got-clause-redials
 returns-in-Got-clause-redials g c =
     let r = c.requires.dialable in
     let d = c.dialed-in-Got.ensures in
-    redials_got c.args.i c.args.now (g.N.Net.seen c.args.net.now) (g.N.Net.seen c.dial.new.self) (g.N.Net.seen c.welcome.new.net) (g.L.Link.seen c.in-Got.link) _ c.self.inside.dialers.items c.args.self.now.dialers c.welcome.new.self.dialers c.dialed-in-Got.new.self c.in-Got.ensures.shows (ap (λ (v : LinkEndsView g.row.L.Denot). v.dialers) c.self.view_is) (slice_get_within c.args.self.now.dialers c.args.i r.0 r.1) (d.2 ∙ ap Some c.place.ensures) (subst (λ (ds : List Dialer). Frees c.args.now (g.N.Net.seen c.dial.new.self) (g.N.Net.seen c.welcome.new.net) ds c.welcome.new.self.dialers) (ap (λ (v : LinkEndsView g.row.L.Denot). v.dialers) c.asking-way.ensures.same) c.welcome.ensures.frees)
+    redials_got c.args.i c.args.now (g.N.Net.seen c.args.net.now) (g.N.Net.seen c.dial.new.self) (g.N.Net.seen c.meet_newcomer.new.net) (g.L.Link.seen c.in-Got.link) _ c.self.inside.dialers.items c.args.self.now.dialers c.meet_newcomer.new.self.dialers c.dialed-in-Got.new.self c.in-Got.ensures.shows (ap (λ (v : LinkEndsView g.row.L.Denot). v.dialers) c.self.view_is) (slice_get_within c.args.self.now.dialers c.args.i r.0 r.1) (d.2 ∙ ap Some c.place.ensures) (subst (λ (ds : List Dialer). Frees c.args.now (g.N.Net.seen c.dial.new.self) (g.N.Net.seen c.meet_newcomer.new.net) ds c.meet_newcomer.new.self.dialers) (ap (λ (v : LinkEndsView g.row.L.Denot). v.dialers) c.asking-way.ensures.same) c.meet_newcomer.ensures.frees)
 
 pub returns-in-NotYet-clause-known : goal.returns-in-NotYet-clause-known
 returns-in-NotYet-clause-known g c =
@@ -169,7 +169,7 @@ pub returns-in-Got-clause-known : goal.returns-in-Got-clause-known
 returns-in-Got-clause-known g c =
     let r = c.requires.dialable in
     let d = c.dialed-in-Got.ensures in
-    knows_got c.args.i c.args.now (g.N.Net.seen c.args.net.now) (g.N.Net.seen c.dial.new.self) (g.N.Net.seen c.welcome.new.net) (g.L.Link.seen c.in-Got.link) _ c.self.inside.dialers.items c.args.self.now.dialers c.welcome.new.self.dialers c.dialed-in-Got.new.self c.in-Got.ensures.shows c.welcome.ensures.serves.counts.opened (ap (λ (v : LinkEndsView g.row.L.Denot). v.dialers) c.self.view_is) (slice_get_within c.args.self.now.dialers c.args.i r.0 r.1) (d.2 ∙ ap Some c.place.ensures) (subst (λ (ds : List Dialer). Frees c.args.now (g.N.Net.seen c.dial.new.self) (g.N.Net.seen c.welcome.new.net) ds c.welcome.new.self.dialers) (ap (λ (v : LinkEndsView g.row.L.Denot). v.dialers) c.asking-way.ensures.same) c.welcome.ensures.frees)
+    knows_got c.args.i c.args.now (g.N.Net.seen c.args.net.now) (g.N.Net.seen c.dial.new.self) (g.N.Net.seen c.meet_newcomer.new.net) (g.L.Link.seen c.in-Got.link) _ c.self.inside.dialers.items c.args.self.now.dialers c.meet_newcomer.new.self.dialers c.dialed-in-Got.new.self c.in-Got.ensures.shows c.meet_newcomer.ensures.serves.counts.opened (ap (λ (v : LinkEndsView g.row.L.Denot). v.dialers) c.self.view_is) (slice_get_within c.args.self.now.dialers c.args.i r.0 r.1) (d.2 ∙ ap Some c.place.ensures) (subst (λ (ds : List Dialer). Frees c.args.now (g.N.Net.seen c.dial.new.self) (g.N.Net.seen c.meet_newcomer.new.net) ds c.meet_newcomer.new.self.dialers) (ap (λ (v : LinkEndsView g.row.L.Denot). v.dialers) c.asking-way.ensures.same) c.meet_newcomer.ensures.frees)
 
 pub returns-in-NotYet-clause-few : goal.returns-in-NotYet-clause-few
 returns-in-NotYet-clause-few g c = let same = ap (λ (v : LinkEndsView g.row.L.Denot). length v.newcomers) c.self.view_is in omega (arith, same)
@@ -180,7 +180,7 @@ returns-in-Failed-clause-few g c = let same = ap (λ (v : LinkEndsView g.row.L.D
 pub returns-in-Got-clause-few : goal.returns-in-Got-clause-few
 returns-in-Got-clause-few g c =
     let same = ap (λ (v : LinkEndsView g.row.L.Denot). length v.newcomers) c.self.view_is in
-    let more = ap (λ (v : LinkEndsView g.row.L.Denot). length v.newcomers) c.asking-way.ensures.same in omega (arith, same, more, c.welcome.ensures.few)
+    let more = ap (λ (v : LinkEndsView g.row.L.Denot). length v.newcomers) c.asking-way.ensures.same in omega (arith, same, more, c.meet_newcomer.ensures.few)
 
 pub returns-in-NotYet-clause-young : goal.returns-in-NotYet-clause-young
 returns-in-NotYet-clause-young g c = λ a.
@@ -192,10 +192,10 @@ returns-in-Failed-clause-young g c = λ a.
 
 pub returns-in-Got-clause-young : goal.returns-in-Got-clause-young
 returns-in-Got-clause-young g c = λ a.
-    c.welcome.ensures.young (subst (λ (ns : List (Newcomer g.row.L.Denot)). AreYoung c.args.now 0 ns) (sym (ap (λ (v : LinkEndsView g.row.L.Denot). v.newcomers) c.asking-way.ensures.same ∙ ap (λ (v : LinkEndsView g.row.L.Denot). v.newcomers) c.self.view_is)) a)
+    c.meet_newcomer.ensures.young (subst (λ (ns : List (Newcomer g.row.L.Denot)). AreYoung c.args.now 0 ns) (sym (ap (λ (v : LinkEndsView g.row.L.Denot). v.newcomers) c.asking-way.ensures.same ∙ ap (λ (v : LinkEndsView g.row.L.Denot). v.newcomers) c.self.view_is)) a)
 
 pub returns-in-Got-clause-asks : goal.returns-in-Got-clause-asks
-returns-in-Got-clause-asks g c = asked_got (g.L.Link.seen c.in-Got.link) _ (g.N.Net.seen c.args.net.now) (g.N.Net.seen c.dial.new.self) (g.N.Net.seen c.welcome.new.net) c.in-Got.ensures.shows c.welcome.ensures.serves.counts
+returns-in-Got-clause-asks g c = asked_got (g.L.Link.seen c.in-Got.link) _ (g.N.Net.seen c.args.net.now) (g.N.Net.seen c.dial.new.self) (g.N.Net.seen c.meet_newcomer.new.net) c.in-Got.ensures.shows c.meet_newcomer.ensures.serves.counts
 
 pub returns-in-NotYet-clause-waited : goal.returns-in-NotYet-clause-waited
 returns-in-NotYet-clause-waited g c = λ first opened le a.
@@ -208,4 +208,4 @@ returns-in-Failed-clause-waited g c = λ first opened le a.
 pub returns-in-Got-clause-waited : goal.returns-in-Got-clause-waited
 returns-in-Got-clause-waited g c = λ first opened le a.
     let place = c.in-Got.ensures.shows.fresh.place in
-    c.welcome.ensures.waited first opened (omega (arith, place, le)) (subst (λ (ns : List (Newcomer g.row.L.Denot)). AreWaitingBehind g.L.Link.seen first opened 0 ns) (sym (ap (λ (v : LinkEndsView g.row.L.Denot). v.newcomers) c.asking-way.ensures.same ∙ ap (λ (v : LinkEndsView g.row.L.Denot). v.newcomers) c.self.view_is)) a)
+    c.meet_newcomer.ensures.waited first opened (omega (arith, place, le)) (subst (λ (ns : List (Newcomer g.row.L.Denot)). AreWaitingBehind g.L.Link.seen first opened 0 ns) (sym (ap (λ (v : LinkEndsView g.row.L.Denot). v.newcomers) c.asking-way.ensures.same ∙ ap (λ (v : LinkEndsView g.row.L.Denot). v.newcomers) c.self.view_is)) a)

@@ -1,7 +1,7 @@
 use Rattle.std.specs.Prelude.{◌≡◌, ◌≢◌, Err, IfErr}
 use Rattle.sp_proto.specs.Kinds.{text_of}
 use Rattle.sp_history.specs.declared.entry.RecordedAct.TheVariants as acts
-use Rattle.sp_core.specs.declared.ops.BeginError.TheVariants as error
+use Rattle.core_parts.specs.declared.causes.BeginError.TheVariants as error
 use Rattle.sp_core.specs.Standing.{BeganBy, began}
 use Rattle.sp_single.proofs.Alone.{keeps, took_by, stays_open, wins_stay, opened}
 use Rattle.sp_single.proofs.single.Single.begin_recv.Goals as goal

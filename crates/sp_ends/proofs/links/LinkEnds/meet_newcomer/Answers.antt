@@ -15,8 +15,8 @@ use Rattle.sp_ends.specs.EndsTurns.{InTurn, Arrives, AreYoung, AreWaitingBehind,
 use Rattle.end_parts.proofs.Turns.{lanes_both, quiet_both}
 use Rattle.sp_ends.proofs.TurnParts.{turn_on, ends_lost, newcomers_lost}
 use Rattle.sp_ends.proofs.FreedDialers.{frees_lost}
-use Rattle.sp_ends.proofs.NewcomingTurn.{MeetsAt, meets_quiet, meets_lanes, meets_dry, met_hand, welcomed, dry_cause}
-use Rattle.sp_ends.proofs.links.LinkEnds.welcome.Goals as goal
+use Rattle.sp_ends.proofs.NewcomingTurn.{MeetsAt, meets_quiet, meets_lanes, meets_dry, met_hand, newcomer_met, dry_cause}
+use Rattle.sp_ends.proofs.links.LinkEnds.meet_newcomer.Goals as goal
 
 -- the way that is left is the same, or missing
 fitting_is : {L : Type 0} (way result : Result Way NoMemory) (ends : LinkEndsView L) (begins : Way) → FitsIn way result ends → IfOk way (λ w. w ≡ begins) → IfOk result (λ w. w ≡ begins)
@@ -42,7 +42,7 @@ pub greet-requires-clause-in_turn : goal.greet-requires-clause-in_turn
 greet-requires-clause-in_turn g c =
     let f = c.requires.fresh in
     let n = c.in-Ok.ensures in
-    (f.0, 0, welcomed g.L.Link.seen f.0 f.1 (g.N.Net.seen c.args.net.now) c.args.self.now c.args.single.now c.met.new.self c.args.now c.in-Ok.newcomer c.args.link c.place-place.result c.self.inside.role c.fitting-way.result n.0 c.place-place.ensures n.1 n.2 (ap (λ (e : LinkEndsView g.row.L.Denot). e.role) c.self.view_is) c.met.ensures.turn (fitting_arrives f.0.origins (g.L.Link.seen c.args.link) c.args.way c.fitting-way.result c.args.self.now f.1 (g.N.Net.seen c.args.net.now) c.fitting-way.ensures f.3) f.2)
+    (f.0, 0, newcomer_met g.L.Link.seen f.0 f.1 (g.N.Net.seen c.args.net.now) c.args.self.now c.args.single.now c.met.new.self c.args.now c.in-Ok.newcomer c.args.link c.place-place.result c.self.inside.role c.fitting-way.result n.0 c.place-place.ensures n.1 n.2 (ap (λ (e : LinkEndsView g.row.L.Denot). e.role) c.self.view_is) c.met.ensures.turn (fitting_arrives f.0.origins (g.L.Link.seen c.args.link) c.args.way c.fitting-way.result c.args.self.now f.1 (g.N.Net.seen c.args.net.now) c.fitting-way.ensures f.3) f.2)
 
 pub greet-requires-clause-room : goal.greet-requires-clause-room
 greet-requires-clause-room g c = let n = c.in-Ok.ensures in fitting_room c.args.way c.fitting-way.result c.args.self.now n.0 c.fitting-way.ensures n.1
@@ -53,7 +53,7 @@ greet-requires-clause-dry g c = meets_dry c.place-place.result c.args.single.now
 pub returns-in-Ok-clause-in_turn : goal.returns-in-Ok-clause-in_turn
 returns-in-Ok-clause-in_turn g c start before i arrives =
     let n = c.in-Ok.ensures in
-    c.greet.ensures.in_turn start 0 (welcomed g.L.Link.seen start before (g.N.Net.seen c.args.net.now) c.args.self.now c.args.single.now c.met.new.self c.args.now c.in-Ok.newcomer c.args.link c.place-place.result c.self.inside.role c.fitting-way.result n.0 c.place-place.ensures n.1 n.2 (ap (λ (e : LinkEndsView g.row.L.Denot). e.role) c.self.view_is) c.met.ensures.turn (fitting_arrives start.origins (g.L.Link.seen c.args.link) c.args.way c.fitting-way.result c.args.self.now before (g.N.Net.seen c.args.net.now) c.fitting-way.ensures arrives) i)
+    c.greet.ensures.in_turn start 0 (newcomer_met g.L.Link.seen start before (g.N.Net.seen c.args.net.now) c.args.self.now c.args.single.now c.met.new.self c.args.now c.in-Ok.newcomer c.args.link c.place-place.result c.self.inside.role c.fitting-way.result n.0 c.place-place.ensures n.1 n.2 (ap (λ (e : LinkEndsView g.row.L.Denot). e.role) c.self.view_is) c.met.ensures.turn (fitting_arrives start.origins (g.L.Link.seen c.args.link) c.args.way c.fitting-way.result c.args.self.now before (g.N.Net.seen c.args.net.now) c.fitting-way.ensures arrives) i)
 
 pub returns-in-Ok-clause-serves : goal.returns-in-Ok-clause-serves
 returns-in-Ok-clause-serves g c =

@@ -1,5 +1,5 @@
 use Rattle.std.proofs.Common.{◌≡◌, ◌∙◌, sym, true, false, Bool}
-use Rattle.sp_core.proofs.owner.Core.reads_end.Goals as goal
+use Rattle.core_parts.proofs.op_words.OpWords.reads_end.Goals as goal
 
 not_known : (known result : Bool) → (known ≡ true → result ≡ true) → result ≡ false → known ≡ false
 not_known true result h e = let q : true ≡ false = sym (h cc) ∙ e in absurd cc
