@@ -19,7 +19,7 @@ use Rattle.proto_pipeline.specs.declared.pull.Pull.{Pull}
 use Rattle.proto_pipeline.specs.Pulls.{Ties, pull_kind}
 use Rattle.proto_pipeline.specs.PullLaws as laws
 use Rattle.cat_play.specs.Drilling.{drill_setting}
-use Rattle.drill_rounds.specs.Calling.{IsDrillPass, IsCrew}
+use Rattle.drill_rounds.specs.Calling.{IsDrillPass, AreFourCallers}
 use Rattle.cat_drill.specs.Ending.{IsFedBy}
 use Rattle.cat_drill.proofs.Laws.{attached_named}
 
@@ -49,8 +49,8 @@ own_new : (s : SocketName) (n : ℕ) (p : PassView) → p ≡ new_pass s drill_s
 own_new s n p e w = (ap (λ (x : PassView). x.lock) e, ap (λ (x : PassView). x.label) e, w.0, w.1)
 
 -- all four are those of a new list, and none is left
-pub crew_new : (s : SocketName) (l : ListView) (i3 i2 i1 rest : List PassView) (p q r t : PassView) → l ≡ new_list s drill_setting → (s.words.slots ≡ 256) × (s.words.callers ≡ 4) → l.items ≡ i3 ++ t ∷ [] → i3 ≡ i2 ++ r ∷ [] → i2 ≡ i1 ++ q ∷ [] → i1 ≡ rest ++ p ∷ [] → IsCrew s p q r t [] × (rest ≡ [])
-crew_new s l i3 i2 i1 rest p q r t new w e4 e3 e2 e1 =
+pub four_callers_new : (s : SocketName) (l : ListView) (i3 i2 i1 rest : List PassView) (p q r t : PassView) → l ≡ new_list s drill_setting → (s.words.slots ≡ 256) × (s.words.callers ≡ 4) → l.items ≡ i3 ++ t ∷ [] → i3 ≡ i2 ++ r ∷ [] → i2 ≡ i1 ++ q ∷ [] → i1 ≡ rest ++ p ∷ [] → AreFourCallers s p q r t [] × (rest ≡ [])
+four_callers_new s l i3 i2 i1 rest p q r t new w e4 e3 e2 e1 =
     let all : i3 ++ t ∷ [] ≡ (((rest ++ p ∷ []) ++ q ∷ []) ++ r ∷ []) ++ t ∷ [] =
     ap (λ (x : List PassView). x ++ t ∷ []) (e3 ∙ ap (λ (x : List PassView). x ++ r ∷ []) (e2 ∙ ap (λ (x : List PassView). x ++ q ∷ []) e1)) in
     let e : (new_list s drill_setting).items ≡ (((rest ++ p ∷ []) ++ q ∷ []) ++ r ∷ []) ++ t ∷ [] = sym (ap (λ (x : ListView). x.items) new) ∙ e4 ∙ all in

@@ -37,14 +37,14 @@ use Rattle.cat_play.specs.Running.{world, RunsDrill, IsCutShort}
 use Rattle.sp_lane.specs.Items.{texts}
 use Rattle.sp_lane.specs.Lanes.{OutView, Joined}
 use Rattle.drill_rounds.specs.declared.source.DrillSource.{DrillSource}
-use Rattle.drill_rounds.specs.Feeds.{IsSource}
+use Rattle.drill_rounds.specs.DrillWires.{IsSource}
 use Rattle.drill_rounds.specs.Calling.{IsDrillPass, Later}
 use Rattle.cat_drill.specs.Ending.{IsFedBy, IsOut, ClosesWith, CameFrom, Prints}
 use Rattle.drill_rounds.proofs.DrillCallers.{is_of}
 use Rattle.cat_drill.proofs.Due.{due_each}
 use Rattle.cat_drill.proofs.Laws.{gives_all, still_named}
 use Rattle.drill_rounds.proofs.Values.{length_bodies}
-use Rattle.drill_rounds.proofs.Feeding.{same_lane}
+use Rattle.drill_rounds.proofs.DrillWireReads.{same_lane}
 
 -- ---- The lane
 
@@ -160,21 +160,21 @@ lock_of s l p out own = own.0 ∙ ap Some (sym out.lock)
 
 -- ---- The wire of the pipe
 
-pub came_from : (pipe : ℕ) (why : Why) (feed : WireView) (rest wires : List (DownPipe WireView)) (lane : OutView) (past : List Entry) → wires ≡ rest ++ record { id = pipe; why = why; wire = feed } ∷ [] → HasWires (λ w. w) wires drill_setting past → feed.came ≡ Some (texts lane.taken) → (out : List ℕ) × (feed.name ≡ OverLanes out lane.name) → CameFrom pipe lane past
-came_from pipe why feed rest wires lane past e h came name =
+pub came_from : (pipe : ℕ) (why : Why) (drill_wire : WireView) (rest wires : List (DownPipe WireView)) (lane : OutView) (past : List Entry) → wires ≡ rest ++ record { id = pipe; why = why; wire = drill_wire } ∷ [] → HasWires (λ w. w) wires drill_setting past → drill_wire.came ≡ Some (texts lane.taken) → (out : List ℕ) × (drill_wire.name ≡ OverLanes out lane.name) → CameFrom pipe lane past
+came_from pipe why drill_wire rest wires lane past e h came name =
     record {
-      wire = feed;
+      wire = drill_wire;
       why = why;
-      is_down = at_last (λ (x : DownPipe WireView). IsDownWire drill_setting past x.id x.why x.wire) wires rest (record { id = pipe; why = why; wire = feed }) e h.wires;
+      is_down = at_last (λ (x : DownPipe WireView). IsDownWire drill_setting past x.id x.why x.wire) wires rest (record { id = pipe; why = why; wire = drill_wire }) e h.wires;
       came = came;
       out = name.0;
       name = name.1;
     }
 
-pub lane_came : (pipe : ℕ) (why : Why) (feed : WireView) (rest wires : List (DownPipe WireView)) (r : Option OutView) → wires ≡ rest ++ record { id = pipe; why = why; wire = feed } ∷ [] → IfSome r (λ lane. feed.came ≡ Some (texts lane.taken)) → IfSome r (λ lane. (out : List ℕ) × (feed.name ≡ OverLanes out lane.name))
+pub lane_came : (pipe : ℕ) (why : Why) (drill_wire : WireView) (rest wires : List (DownPipe WireView)) (r : Option OutView) → wires ≡ rest ++ record { id = pipe; why = why; wire = drill_wire } ∷ [] → IfSome r (λ lane. drill_wire.came ≡ Some (texts lane.taken)) → IfSome r (λ lane. (out : List ℕ) × (drill_wire.name ≡ OverLanes out lane.name))
     → IfSome r (λ lane. (past : List Entry) → HasWires (λ (w : WireView). w) wires drill_setting past → CameFrom pipe lane past)
-lane_came pipe why feed rest wires None e came name = tt
-lane_came pipe why feed rest wires (Some lane) e came name = λ past h. came_from pipe why feed rest wires lane past e h came name
+lane_came pipe why drill_wire rest wires None e came name = tt
+lane_came pipe why drill_wire rest wires (Some lane) e came name = λ past h. came_from pipe why drill_wire rest wires lane past e h came name
 
 -- ---- What was printed
 

@@ -9,11 +9,11 @@ ghost use Rattle.sp_history.specs.Legal.{Legal};
 ghost use Rattle.core_parts.specs.declared.pipes.DownPipe.{DownPipe};
 ghost use Rattle.sp_core.specs.Parts.{HasWires};
 ghost use Rattle.cat_play.specs.Drilling.{values, drill_setting, Drills, GivesAll};
-ghost use Rattle.drill_rounds.specs.Feeds.{IsSource};
-ghost use Rattle.drill_rounds.specs.Calling.{IsCrew};
+ghost use Rattle.drill_rounds.specs.DrillWires.{IsSource};
+ghost use Rattle.drill_rounds.specs.Calling.{AreFourCallers};
 ghost use Rattle.cat_drill.specs.Ending.{IsFedBy, IsOut, IsWhole, ClosesWith, CameFrom};
 
-use drill_rounds::{Crew, DrillSource, Feed};
+use drill_rounds::{DrillSource, DrillWire, FourCallers};
 use sp_base::PipeId;
 use sp_lane::{LaneOut, finish};
 use sp_msg::Wire;
@@ -29,20 +29,20 @@ pub struct Closed<W> {
 }
 
 // Gives all passes back.
-fn give_all<P: Proto, W: Wire>(list: &mut SocketPasses<P, W>, crew: Crew<P, W>)
-    requires main { crew.main.lock ≡ Some list.old.lock }
-    requires two { crew.two.lock ≡ Some list.old.lock }
-    requires three { crew.three.lock ≡ Some list.old.lock }
-    requires four { crew.four.lock ≡ Some list.old.lock }
-    ensures items { list.new.items ≡ list.old.items ++ crew.main ∷ crew.two ∷ crew.three ∷ crew.four ∷ [] }
+fn give_all<P: Proto, W: Wire>(list: &mut SocketPasses<P, W>, four_callers: FourCallers<P, W>)
+    requires main { four_callers.main.lock ≡ Some list.old.lock }
+    requires two { four_callers.two.lock ≡ Some list.old.lock }
+    requires three { four_callers.three.lock ≡ Some list.old.lock }
+    requires four { four_callers.four.lock ≡ Some list.old.lock }
+    ensures items { list.new.items ≡ list.old.items ++ four_callers.main ∷ four_callers.two ∷ four_callers.three ∷ four_callers.four ∷ [] }
     ensures same { (list.new.callers ≡ list.old.callers) × (list.new.lock ≡ list.old.lock) }
 {
-    let Crew {
+    let FourCallers {
         main,
         two,
         three,
         four,
-    } = crew;
+    } = four_callers;
     list.give(main);
     list.give(two);
     list.give(three);
@@ -54,18 +54,18 @@ pub fn close_all<P: Proto, W: Wire, R: Wait>(
     rt: &R,
     socket: Socket<P, W>,
     list: SocketPasses<P, W>,
-    crew: Crew<P, W>,
+    four_callers: FourCallers<P, W>,
 ) -> Closed<W>
     requires list { IsOut socket list }
-    requires crew { IsCrew socket crew.main crew.two crew.three crew.four [] }
+    requires four_callers { AreFourCallers socket four_callers.main four_callers.two four_callers.three four_callers.four [] }
     ensures drills { Drills result.record_.turns }
     ensures wires { HasWires W.shown result.wires drill_setting (past_of result.record_.turns) }
-    ensures closes { ClosesWith result.totals crew.main.seen result.record_.turns }
+    ensures closes { ClosesWith result.totals four_callers.main.seen result.record_.turns }
 {
     let mut list = list;
-    let mut crew = crew;
-    let totals = socket.close(rt, &mut crew.main);
-    give_all(&mut list, crew);
+    let mut four_callers = four_callers;
+    let totals = socket.close(rt, &mut four_callers.main);
+    give_all(&mut list, four_callers);
     let Finished { wires, record_ } = socket.finish(rt, list);
     Closed {
         totals,
@@ -86,21 +86,21 @@ pub fn drop_all<W: Drop, R: Wait>(rt: &R, mut wires: WireList<W>) {
 }
 
 // The wire of the pipe that went down last, if it is this one.
-fn take_pipe<R: Wait>(rt: &R, mut wires: WireList<Feed>, pipe: PipeId) -> Option<Feed>
-    ensures { IfSome result (λ feed. (rest : List (DownPipe Feed)) × ((why : WhyType) × (wires ≡ rest ++ record { id = pipe; why = why; wire = feed } ∷ []))) }
+fn take_pipe<R: Wait>(rt: &R, mut wires: WireList<DrillWire>, pipe: PipeId) -> Option<DrillWire>
+    ensures { IfSome result (λ drill_wire. (rest : List (DownPipe DrillWire)) × ((why : WhyType) × (wires ≡ rest ++ record { id = pipe; why = why; wire = drill_wire } ∷ []))) }
 {
     let last = wires.pop();
     drop_all(rt, wires);
-    let (id, feed) = last?;
-    if id == pipe { Some(feed) } else { None }
+    let (id, drill_wire) = last?;
+    if id == pipe { Some(drill_wire) } else { None }
 }
 
 // The end of the lane from which the pipe was fed, where no message was lost.
-fn take_lane<R: Wait>(rt: &R, wires: WireList<Feed>, pipe: PipeId) -> Option<LaneOut>
+fn take_lane<R: Wait>(rt: &R, wires: WireList<DrillWire>, pipe: PipeId) -> Option<LaneOut>
     ensures { IfSome result (λ lane. (past : List Entry) → HasWires (λ w. w) wires drill_setting past → CameFrom pipe lane past) }
 {
-    let feed = take_pipe(rt, wires, pipe)?;
-    feed.into_lane()
+    let drill_wire = take_pipe(rt, wires, pipe)?;
+    drill_wire.into_lane()
 }
 
 // Whether nothing is left in the lane, and so many were put, came and were given.
@@ -113,7 +113,7 @@ fn is_whole(left: u64, put: u32, totals: Totals, count: u32) -> bool
 /// The sum of the values, where so many were put, came and were given. Else there was no memory.
 pub fn sum_of_all<R: Wait>(
     rt: &R,
-    wires: WireList<Feed>,
+    wires: WireList<DrillWire>,
     pipe: PipeId,
     source: DrillSource,
     totals: Totals,

@@ -8,15 +8,15 @@ ghost use Rattle.core_parts.specs.Wires.{IsUnused};
 ghost use Rattle.cat_play.specs.declared.status.Status.TheVariants as status;
 ghost use Rattle.cat_play.specs.Drilling.{values, lines, drill_setting, Drills, GivesAll};
 ghost use Rattle.cat_play.specs.Running.{world, RunsDrill};
-ghost use Rattle.drill_rounds.specs.Feeds.{IsSource};
-ghost use Rattle.drill_rounds.specs.Calling.{IsCrew};
+ghost use Rattle.drill_rounds.specs.DrillWires.{IsSource};
+ghost use Rattle.drill_rounds.specs.Calling.{AreFourCallers};
 ghost use Rattle.cat_drill.specs.Ending.{IsOut, IsFedBy, Prints, EndsDrill};
 ghost use Rattle.sp_socket.specs.Passes.{new_list};
 
 use crate::ending::{Closed, close_all, drop_all, sum_of_all};
 use cat_play::status::Status;
 use drill_rounds::rounds::rounds;
-use drill_rounds::{Crew, DrillSource, Feed, Gate};
+use drill_rounds::{DrillSource, DrillWire, FourCallers, Gate};
 use proto_pipeline::Pull;
 use sp_base::{NoMemory, PipeId, Role, Sink, Sunk};
 use sp_lane::lane;
@@ -40,7 +40,7 @@ pub struct DrillEnd {
 }
 
 /// The lane of a drill, and the wire that is fed from it.
-pub fn lanes(alloc: Global) -> Result<(DrillSource, Feed), NoMemory>
+pub fn lanes(alloc: Global) -> Result<(DrillSource, DrillWire), NoMemory>
     ensures source { IfOk result (λ made. IsSource made.0) }
     ensures unused { IfOk result (λ made. IsUnused made.1) }
     ensures name { IfOk result (λ made. (out : List ℕ) × (made.1.name ≡ OverLanes out made.0.lane.name)) }
@@ -53,7 +53,7 @@ pub fn lanes(alloc: Global) -> Result<(DrillSource, Feed), NoMemory>
         total: 0,
         count: 0,
     };
-    Ok((source, Feed::new(silent, output)))
+    Ok((source, DrillWire::new(silent, output)))
 }
 
 // Takes the last pass.
@@ -69,21 +69,21 @@ fn take_last<P: Proto, W: Wire>(list: &mut SocketPasses<P, W>) -> Pass<P, W>
 }
 
 /// All passes of a new list.
-pub fn crew_of<P: Proto, W: Wire>(
+pub fn four_callers_of<P: Proto, W: Wire>(
     list: &mut SocketPasses<P, W>,
     socket: &Socket<P, W>,
-) -> Crew<P, W>
+) -> FourCallers<P, W>
     requires list { list.old ≡ new_list socket.now drill_setting }
     requires words { (socket.now.words.slots ≡ 256) × (socket.now.words.callers ≡ 4) }
     ensures list { IsOut socket.now list.new }
-    ensures crew { IsCrew socket.now result.main result.two result.three result.four [] }
+    ensures four_callers { AreFourCallers socket.now result.main result.two result.three result.four [] }
 {
     let _socket = socket;
     let four = take_last(list);
     let three = take_last(list);
     let two = take_last(list);
     let main = take_last(list);
-    Crew {
+    FourCallers {
         main,
         two,
         three,
@@ -161,17 +161,17 @@ fn conclude<S: Sink>(
 
 // A drill's socket, with all its passes in the list, and both ends of its lane.
 struct OpenedDrill {
-    socket: Socket<Pull, Feed>,
-    list: SocketPasses<Pull, Feed>,
+    socket: Socket<Pull, DrillWire>,
+    list: SocketPasses<Pull, DrillWire>,
     source: DrillSource,
-    feed: Feed,
+    drill_wire: DrillWire,
 }
 
 // The same once its pipe is up and its callers have their passes.
 struct JoinedDrill {
-    socket: Socket<Pull, Feed>,
-    list: SocketPasses<Pull, Feed>,
-    crew: Crew<Pull, Feed>,
+    socket: Socket<Pull, DrillWire>,
+    list: SocketPasses<Pull, DrillWire>,
+    four_callers: FourCallers<Pull, DrillWire>,
     source: DrillSource,
     pipe: PipeId,
 }
@@ -186,26 +186,26 @@ fn play<R: AllocGlobal + Wait + Threads + Sync, G: Gate + Sync, S: Sink>(
 ) -> DrillEnd
     requires count { count ≤ 1000000 }
     requires list { IsOut joined.socket joined.list }
-    requires crew { IsCrew joined.socket joined.crew.main joined.crew.two joined.crew.three joined.crew.four [] }
+    requires four_callers { AreFourCallers joined.socket joined.four_callers.main joined.four_callers.two joined.four_callers.three joined.four_callers.four [] }
     requires source { IsSource joined.source }
-    requires fed { IsFedBy joined.pipe joined.source.lane.name joined.crew.main.seen }
+    requires fed { IsFedBy joined.pipe joined.source.lane.name joined.four_callers.main.seen }
     ensures ends { EndsDrill result.status count (option_map (λ r. r.turns) result.record_) (S.seen out.old) (S.seen out.new) }
     ensures kept { result.record_ ≢ None }
 {
     let JoinedDrill {
         socket,
         list,
-        crew,
+        four_callers,
         mut source,
         pipe,
     } = joined;
     let alloc = rt.alloc();
-    let crew = rounds(rt, alloc, &socket, gate, crew, &mut source, count);
+    let four_callers = rounds(rt, alloc, &socket, gate, four_callers, &mut source, count);
     let Closed {
         totals,
         wires,
         record_,
-    } = close_all(rt, socket, list, crew);
+    } = close_all(rt, socket, list, four_callers);
     let total = sum_of_all(rt, wires, pipe, source, totals, &record_, count);
     conclude(alloc, out, count, record_, total)
 }
@@ -222,8 +222,8 @@ fn drill_on<R: AllocGlobal + Wait + Threads + Sync, G: Gate + Sync, S: Sink>(
     requires list { opened.list ≡ new_list opened.socket drill_setting }
     requires words { (opened.socket.words.slots ≡ 256) × (opened.socket.words.callers ≡ 4) }
     requires source { IsSource opened.source }
-    requires unused { IsUnused opened.feed }
-    requires name { (x : List ℕ) × (opened.feed.name ≡ OverLanes x opened.source.lane.name) }
+    requires unused { IsUnused opened.drill_wire }
+    requires name { (x : List ℕ) × (opened.drill_wire.name ≡ OverLanes x opened.source.lane.name) }
     ensures ends { EndsDrill result.status count (option_map (λ r. r.turns) result.record_) (S.seen out.old) (S.seen out.new) }
     ensures kept { result.record_ ≢ None }
 {
@@ -231,15 +231,15 @@ fn drill_on<R: AllocGlobal + Wait + Threads + Sync, G: Gate + Sync, S: Sink>(
         socket,
         mut list,
         source,
-        feed,
+        drill_wire,
     } = opened;
-    let mut crew = crew_of(&mut list, &socket);
-    match socket.attach(rt, &mut crew.main, feed, 0) {
+    let mut four_callers = four_callers_of(&mut list, &socket);
+    match socket.attach(rt, &mut four_callers.main, drill_wire, 0) {
         Ok(pipe) => {
             let joined = JoinedDrill {
                 socket,
                 list,
-                crew,
+                four_callers,
                 source,
                 pipe,
             };
@@ -250,7 +250,7 @@ fn drill_on<R: AllocGlobal + Wait + Threads + Sync, G: Gate + Sync, S: Sink>(
                 totals: _,
                 wires,
                 record_,
-            } = close_all(rt, socket, list, crew);
+            } = close_all(rt, socket, list, four_callers);
             drop_all(rt, wires);
             conclude(rt.alloc(), out, count, record_, None)
         }
@@ -270,7 +270,7 @@ pub fn drill<R: AllocGlobal + Wait + Threads + Sync, G: Gate + Sync, S: Sink>(
     ensures { (net : NetView) (files : FilesView) (pace : PaceView) → RunsDrill result.status count (option_map (λ r. r.turns) result.record_) (world net files pace (S.seen out.old)) (world net files pace (S.seen out.new)) }
 {
     let alloc = rt.alloc();
-    let Ok((source, feed)) = lanes(alloc) else {
+    let Ok((source, drill_wire)) = lanes(alloc) else {
         return unopened();
     };
     let Ok(machine) = Pull::new(alloc, Options::usual(Role::Pull, 0), false) else {
@@ -287,7 +287,7 @@ pub fn drill<R: AllocGlobal + Wait + Threads + Sync, G: Gate + Sync, S: Sink>(
                 socket,
                 list,
                 source,
-                feed,
+                drill_wire,
             };
             drill_on(rt, opened, count, gate, out)
         }

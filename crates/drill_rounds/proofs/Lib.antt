@@ -1,5 +1,5 @@
 pub mod Values
-pub mod Feeding
+pub mod DrillWireReads
 pub mod DrillCallers
 mod Sourcing
 mod Crossing

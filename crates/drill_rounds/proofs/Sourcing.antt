@@ -10,8 +10,8 @@ use Rattle.sp_lane.specs.Items.{texts}
 use Rattle.sp_lane.specs.Lanes.{InView, DidPut, has_end}
 use Rattle.cat_play.specs.Drilling.{values, bodies}
 use Rattle.drill_rounds.specs.declared.source.DrillSource.{DrillSource}
-use Rattle.drill_rounds.specs.Feeds.{IsSource, value_after}
-use Rattle.drill_rounds.proofs.Feeding.{texts_more}
+use Rattle.drill_rounds.specs.DrillWires.{IsSource, value_after}
+use Rattle.drill_rounds.proofs.DrillWireReads.{texts_more}
 use Rattle.drill_rounds.proofs.Values.{next_is, bodies_next, total_next}
 
 no_end_more : (xs : List LaneItem) (m : MessageView) → has_end xs ≡ false → has_end (xs ++ items.Message m ∷ []) ≡ false

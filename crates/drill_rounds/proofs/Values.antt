@@ -4,7 +4,7 @@ use Rattle.std.specs.List.{sum}
 use Rattle.std.specs.Int.{w64, to_be_bytes}
 use Rattle.sp_base.specs.Generator.{next_value}
 use Rattle.std.proofs.lemmas.List.Sums.{fold-append}
-use Rattle.drill_rounds.specs.Feeds.{value_after}
+use Rattle.drill_rounds.specs.DrillWires.{value_after}
 use Rattle.cat_play.specs.Drilling.{values_after, values, bodies}
 
 value_next : (x n : ℕ) → value_after x (suc n) ≡ next_value (value_after x n)

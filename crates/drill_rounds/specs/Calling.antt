@@ -16,7 +16,7 @@ pub record Calls (s : SocketName) (p : PassView) (ops : List OpName) : Type 0 wh
   pub open_ : AreOpenFor p ops
 
 -- all four passes are of the socket, and these operations are open for the first
-pub record IsCrew (s : SocketName) (p q r t : PassView) (ops : List OpName) : Type 0 where
+pub record AreFourCallers (s : SocketName) (p q r t : PassView) (ops : List OpName) : Type 0 where
   pub main : Calls s p ops
   pub two : IsDrillPass s q
   pub three : IsDrillPass s r

@@ -1,2 +1,2 @@
-pub mod Feeds
+pub mod DrillWires
 pub mod Calling

@@ -7,11 +7,11 @@
 #![tactic(auto)]
 
 mod calls;
-mod feed;
+mod drill_wire;
 pub mod rounds;
 mod source;
 mod tasks;
 
-pub use feed::Feed;
+pub use drill_wire::DrillWire;
 pub use source::DrillSource;
-pub use tasks::{Crew, Gate, OpenGate, work};
+pub use tasks::{FourCallers, Gate, OpenGate, work};

@@ -1,11 +1,11 @@
 //! The rounds of a drill.
 ghost use Rattle.std.specs.Prelude.{◌≡◌, ◌≤◌, ◌∷◌, ◌++◌, []};
-ghost use Rattle.drill_rounds.specs.Calling.{IsDrillPass, Calls, Later, IsCrew};
-ghost use Rattle.drill_rounds.specs.Feeds.{IsSource};
+ghost use Rattle.drill_rounds.specs.Calling.{IsDrillPass, Calls, Later, AreFourCallers};
+ghost use Rattle.drill_rounds.specs.DrillWires.{IsSource};
 
 use crate::calls::{begin_one, collect_one, serve_one};
 use crate::source::DrillSource;
-use crate::tasks::{Crew, Gate, all_work};
+use crate::tasks::{FourCallers, Gate, all_work};
 use sp_base::{OpName, Tick};
 use sp_msg::Wire;
 use sp_proto::Proto;
@@ -200,19 +200,19 @@ pub fn contend<P: Proto + Send, W: Wire + Send, G: Gate + Sync, R: Wait + Thread
     alloc: Global,
     socket: &Socket<P, W>,
     gate: &G,
-    crew: Crew<P, W>,
+    four_callers: FourCallers<P, W>,
     ops: &mut Vec<Op>,
     now: Tick,
-) -> (Crew<P, W>, bool)
-    requires { IsCrew socket.now crew.main crew.two crew.three crew.four ops.old.items }
-    ensures crew { IsCrew socket.now result.0.main result.0.two result.0.three result.0.four ops.new.items }
-    ensures later { Later crew.main result.0.main }
+) -> (FourCallers<P, W>, bool)
+    requires { AreFourCallers socket.now four_callers.main four_callers.two four_callers.three four_callers.four ops.old.items }
+    ensures four_callers { AreFourCallers socket.now result.0.main result.0.two result.0.three result.0.four ops.new.items }
+    ensures later { Later four_callers.main result.0.main }
 {
-    let mut crew = crew;
+    let mut four_callers = four_callers;
     let mut evens = Vec::new(alloc);
-    let begun = begin_all(rt, socket, &mut crew.main, ops, &mut evens, now);
-    let crew = all_work(rt, socket, gate, evens.as_slice(), now, crew);
-    (crew, begun)
+    let begun = begin_all(rt, socket, &mut four_callers.main, ops, &mut evens, now);
+    let four_callers = all_work(rt, socket, gate, evens.as_slice(), now, four_callers);
+    (four_callers, begun)
 }
 
 // A round in which so many messages are to be given. Whether they were.
@@ -221,21 +221,21 @@ fn round<P: Proto + Send, W: Wire + Send, G: Gate + Sync, R: Wait + Threads + Sy
     alloc: Global,
     socket: &Socket<P, W>,
     gate: &G,
-    crew: Crew<P, W>,
+    four_callers: FourCallers<P, W>,
     messages: u32,
     now: Tick,
-) -> (Crew<P, W>, bool)
-    requires { IsCrew socket.now crew.main crew.two crew.three crew.four [] }
-    ensures crew { IsCrew socket.now result.0.main result.0.two result.0.three result.0.four [] }
-    ensures later { Later crew.main result.0.main }
+) -> (FourCallers<P, W>, bool)
+    requires { AreFourCallers socket.now four_callers.main four_callers.two four_callers.three four_callers.four [] }
+    ensures four_callers { AreFourCallers socket.now result.0.main result.0.two result.0.three result.0.four [] }
+    ensures later { Later four_callers.main result.0.main }
 {
     let mut ops = Vec::new(alloc);
-    let (mut crew, begun) = contend(rt, alloc, socket, gate, crew, &mut ops, now);
-    let given = collect_all(rt, socket, &mut crew.main, &mut ops);
+    let (mut four_callers, begun) = contend(rt, alloc, socket, gate, four_callers, &mut ops, now);
+    let given = collect_all(rt, socket, &mut four_callers.main, &mut ops);
     ops.destroy_empty();
     let left = messages.saturating_sub(given);
-    let all = give_rest(rt, socket, &mut crew.main, left);
-    (crew, begun & all)
+    let all = give_rest(rt, socket, &mut four_callers.main, left);
+    (four_callers, begun & all)
 }
 
 /// Goes round until so many messages were put and given, or one of them was not.
@@ -244,29 +244,29 @@ pub fn rounds<P: Proto + Send, W: Wire + Send, G: Gate + Sync, R: Wait + Threads
     alloc: Global,
     socket: &Socket<P, W>,
     gate: &G,
-    crew: Crew<P, W>,
+    four_callers: FourCallers<P, W>,
     source: &mut DrillSource,
     count: u32,
-) -> Crew<P, W>
-    requires crew { IsCrew socket.now crew.main crew.two crew.three crew.four [] }
+) -> FourCallers<P, W>
+    requires four_callers { AreFourCallers socket.now four_callers.main four_callers.two four_callers.three four_callers.four [] }
     requires source { IsSource source.old }
     requires count { count ≤ 1000000 }
-    ensures crew { IsCrew socket.now result.main result.two result.three result.four [] }
-    ensures later { Later crew.main result.main }
+    ensures four_callers { AreFourCallers socket.now result.main result.two result.three result.four [] }
+    ensures later { Later four_callers.main result.main }
     ensures source { IsSource source.new }
     ensures name { source.new.lane.name ≡ source.old.lane.name }
 {
-    let mut crew = crew;
+    let mut four_callers = four_callers;
     for n in 0..count {
         let Some(messages) = source.put_next(rt, alloc, count) else {
-            return crew;
+            return four_callers;
         };
         let now = Tick(n as u64 + 1);
-        let (back, all) = round(rt, alloc, socket, gate, crew, messages, now);
-        crew = back;
+        let (back, all) = round(rt, alloc, socket, gate, four_callers, messages, now);
+        four_callers = back;
         if !all {
-            return crew;
+            return four_callers;
         }
     }
-    crew
+    four_callers
 }

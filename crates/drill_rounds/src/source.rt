@@ -1,6 +1,6 @@
 //! What the main caller puts in the lane.
 ghost use Rattle.std.specs.Prelude.{◌≡◌, ◌<◌, ◌≤◌, ◌+◌, ◌%◌, ◌^◌};
-ghost use Rattle.drill_rounds.specs.Feeds.{IsSource};
+ghost use Rattle.drill_rounds.specs.DrillWires.{IsSource};
 
 use sp_base::{NoMemory, next_value};
 use sp_lane::{LaneIn, Put};

@@ -59,7 +59,7 @@ pub fn work<P: Proto, W: Wire, G: Gate, R: Wait>(
 }
 
 /// The four callers of a drill. The first one is the main caller, whose pass the first task has.
-pub struct Crew<P: Proto, W: Wire> {
+pub struct FourCallers<P: Proto, W: Wire> {
     pub main: Pass<P, W>,
     pub two: Pass<P, W>,
     pub three: Pass<P, W>,
@@ -96,27 +96,27 @@ pub fn all_work<P: Proto + Send, W: Wire + Send, G: Gate + Sync, R: Wait + Threa
     gate: &G,
     names: &[OpName],
     now: Tick,
-    crew: Crew<P, W>,
-) -> Crew<P, W>
-    requires main { IsDrillPass socket.now crew.main }
-    requires two { IsDrillPass socket.now crew.two }
-    requires three { IsDrillPass socket.now crew.three }
-    requires four { IsDrillPass socket.now crew.four }
-    ensures main { Worked crew.main result.main }
-    ensures two { Worked crew.two result.two }
-    ensures three { Worked crew.three result.three }
-    ensures four { Worked crew.four result.four }
+    four_callers: FourCallers<P, W>,
+) -> FourCallers<P, W>
+    requires main { IsDrillPass socket.now four_callers.main }
+    requires two { IsDrillPass socket.now four_callers.two }
+    requires three { IsDrillPass socket.now four_callers.three }
+    requires four { IsDrillPass socket.now four_callers.four }
+    ensures main { Worked four_callers.main result.main }
+    ensures two { Worked four_callers.two result.two }
+    ensures three { Worked four_callers.three result.three }
+    ensures four { Worked four_callers.four result.four }
 {
-    let Crew {
+    let FourCallers {
         main,
         two,
         three,
         four,
-    } = crew;
+    } = four_callers;
     let mut passes = [main, two, three, four];
     in_threads(rt, socket, gate, names, now, &mut passes);
     let [main, two, three, four] = passes;
-    Crew {
+    FourCallers {
         main,
         two,
         three,

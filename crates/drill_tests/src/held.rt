@@ -9,7 +9,9 @@ ghost use Rattle.cat_play.specs.Drilling.{drill_setting};
 use crate::checks::{holds, same};
 use crate::race::all_ended;
 use cat_drill::Gate;
-use cat_drill::parts::{Closed, Feed, close_all, collect_all, contend, crew_of, drop_all, lanes};
+use cat_drill::parts::{
+    Closed, DrillWire, close_all, collect_all, contend, drop_all, four_callers_of, lanes,
+};
 use proto_pipeline::Pull;
 use sp_base::{Role, Tick};
 use sp_msg::{Message, Room, Wire, WireFlush, WireIn};
@@ -72,17 +74,17 @@ fn count_unless(count: &AtomicU64, mark: &AtomicU64) {
 
 /// The wire of a drill, which holds up the turn in which it is pulled first.
 #[derive(Drop)]
-struct HeldFeed {
-    feed: Feed,
+struct HeldDrillWire {
+    drill_wire: DrillWire,
     marks: Arc<TaskMarks>,
     // Whether it was pulled.
     done: bool,
 }
 
-impl HeldFeed {
+impl HeldDrillWire {
     // Once: stops until the task has come through its gate.
     fn hold(&mut self)
-        ensures { self.new.feed ≡ self.old.feed }
+        ensures { self.new.drill_wire ≡ self.old.drill_wire }
     {
         if self.done {
             return;
@@ -93,29 +95,29 @@ impl HeldFeed {
     }
 }
 
-impl Wire for HeldFeed {
-    ghost shown = { λ w. w.feed };
+impl Wire for HeldDrillWire {
+    ghost shown = { λ w. w.drill_wire };
 
     fn pull<R: Wait>(&mut self, rt: &R) -> WireIn {
         self.marks.pulls.fetch_add(1, Ordering::SeqCst);
         self.hold();
-        self.feed.pull(rt)
+        self.drill_wire.pull(rt)
     }
 
     fn room<R: Wait>(&mut self, rt: &R) -> Room {
-        self.feed.room(rt)
+        self.drill_wire.room(rt)
     }
 
     fn put<R: Wait>(&mut self, rt: &R, m: Message) {
-        self.feed.put(rt, m)
+        self.drill_wire.put(rt, m)
     }
 
     fn flush<R: Wait>(&mut self, rt: &R) -> WireFlush {
-        self.feed.flush(rt)
+        self.drill_wire.flush(rt)
     }
 
     fn shut(&mut self) {
-        self.feed.shut()
+        self.drill_wire.shut()
     }
 }
 
@@ -164,29 +166,39 @@ fn stay(marks: &TaskMarks) {
 fn round_over<R: Wait + Threads + Sync, G: Gate + Sync>(
     rt: &R,
     alloc: Global,
-    socket: Socket<Pull, HeldFeed>,
-    mut list: SocketPasses<Pull, HeldFeed>,
-    feed: HeldFeed,
+    socket: Socket<Pull, HeldDrillWire>,
+    mut list: SocketPasses<Pull, HeldDrillWire>,
+    drill_wire: HeldDrillWire,
     gate: &G,
     messages: u8,
 ) -> bool
     requires list { list ≡ new_list socket drill_setting }
     requires words { (socket.words.slots ≡ 256) × (socket.words.callers ≡ 4) }
-    requires unused { IsUnused feed.feed }
+    requires unused { IsUnused drill_wire.drill_wire }
 {
-    let mut crew = crew_of(&mut list, &socket);
-    let up = socket.attach(rt, &mut crew.main, feed, 0).is_ok();
+    let mut four_callers = four_callers_of(&mut list, &socket);
+    let up = socket
+        .attach(rt, &mut four_callers.main, drill_wire, 0)
+        .is_ok();
     let mut ops = Vec::new(alloc);
-    let (mut crew, begun) = contend(rt, alloc, &socket, gate, crew, &mut ops, Tick(1));
+    let (mut four_callers, begun) = contend(
+        rt,
+        alloc,
+        &socket,
+        gate,
+        four_callers,
+        &mut ops,
+        Tick(1),
+    );
     let first = messages as usize;
-    let ended = all_ended(&socket, &mut crew.two, ops.as_slice(), first, first);
-    let given = collect_all(rt, &socket, &mut crew.main, &mut ops);
+    let ended = all_ended(&socket, &mut four_callers.two, ops.as_slice(), first, first);
+    let given = collect_all(rt, &socket, &mut four_callers.main, &mut ops);
     ops.destroy_empty();
     let Closed {
         totals,
         wires,
         record_: _,
-    } = close_all(rt, socket, list, crew);
+    } = close_all(rt, socket, list, four_callers);
     drop_all(rt, wires);
     let won = messages as u64;
     up && begun && ended && given == messages as u32 && totals.won == won && totals.begun == 96
@@ -195,11 +207,11 @@ fn round_over<R: Wait + Threads + Sync, G: Gate + Sync>(
 // Whether a round over this wire and with this gate was as a round is whose first receives get so many messages.
 fn is_round<R: AllocGlobal + Wait + Threads + Sync, G: Gate + Sync>(
     rt: &R,
-    feed: HeldFeed,
+    drill_wire: HeldDrillWire,
     gate: &G,
     messages: u8,
 ) -> Result<bool, Fail>
-    requires { IsUnused feed.feed }
+    requires { IsUnused drill_wire.drill_wire }
 {
     let alloc = rt.alloc();
     let machine = Pull::new(alloc, Options::usual(Role::Pull, 0), false)?;
@@ -209,7 +221,7 @@ fn is_round<R: AllocGlobal + Wait + Threads + Sync, G: Gate + Sync>(
     };
     match open(alloc, machine, config) {
         Err(_) => Ok(false),
-        Ok((socket, list)) => Ok(round_over(rt, alloc, socket, list, feed, gate, messages)),
+        Ok((socket, list)) => Ok(round_over(rt, alloc, socket, list, drill_wire, gate, messages)),
     }
 }
 
@@ -233,12 +245,12 @@ fn a_task_passes_its_gate_while_another_serves(rt: HostRuntime) -> Result<(), Fa
         marks: marks.clone()?,
     };
     let (_source, inner) = lanes(rt.alloc())?;
-    let feed = HeldFeed {
-        feed: inner,
+    let drill_wire = HeldDrillWire {
+        drill_wire: inner,
         marks: marks.clone()?,
         done: false,
     };
-    holds(&rt, is_round(&rt, feed, &gate, 0)?);
+    holds(&rt, is_round(&rt, drill_wire, &gate, 0)?);
     same(&rt, marks.met.load(Ordering::SeqCst), 1);
     holds(&rt, marks.early.load(Ordering::SeqCst) >= 1);
     Ok(())
@@ -253,12 +265,12 @@ fn tasks_stay_at_their_gates_while_others_serve(rt: HostRuntime) -> Result<(), F
     };
     let (mut source, inner) = lanes(rt.alloc())?;
     same(&rt, source.put_next(&rt, rt.alloc(), 2), Some(2));
-    let feed = HeldFeed {
-        feed: inner,
+    let drill_wire = HeldDrillWire {
+        drill_wire: inner,
         marks: marks.clone()?,
         done: true,
     };
-    holds(&rt, is_round(&rt, feed, &gate, 2)?);
+    holds(&rt, is_round(&rt, drill_wire, &gate, 2)?);
     same(&rt, marks.there.load(Ordering::SeqCst), 2);
     Ok(())
 }

@@ -5,16 +5,16 @@ ghost use Rattle.sp_msg.specs.Views.{OverLanes};
 ghost use Rattle.core_parts.specs.Wires.{IsUnused};
 ghost use Rattle.sp_socket.specs.Passes.{new_list};
 ghost use Rattle.cat_play.specs.Drilling.{drill_setting};
-ghost use Rattle.drill_rounds.specs.Calling.{IsDrillPass, Worked, IsCrew};
-ghost use Rattle.drill_rounds.specs.Feeds.{IsSource};
+ghost use Rattle.drill_rounds.specs.Calling.{IsDrillPass, Worked, AreFourCallers};
+ghost use Rattle.drill_rounds.specs.DrillWires.{IsSource};
 ghost use Rattle.cat_drill.specs.Ending.{IsOut};
 
 use crate::checks::{holds, made, same};
 use aio_word::Phase;
 use cat_drill::OpenGate;
 use cat_drill::parts::{
-    Closed, Crew, DrillSource, Feed, begin_all, close_all, collect_all, contend, crew_of, drop_all,
-    lanes, rounds, work,
+    Closed, DrillSource, DrillWire, FourCallers, begin_all, close_all, collect_all, contend,
+    drop_all, four_callers_of, lanes, rounds, work,
 };
 use proto_pipeline::Pull;
 use sp_base::{OpName, Role, Tick};
@@ -94,17 +94,24 @@ fn where_right(right: bool, given: u32) -> Option<u32> {
 fn in_turn<R: Wait>(
     rt: &R,
     alloc: Global,
-    socket: &Socket<Pull, Feed>,
-    crew: Crew<Pull, Feed>,
-) -> (Crew<Pull, Feed>, Option<u32>)
-    requires { IsCrew socket.now crew.main crew.two crew.three crew.four [] }
-    ensures { IsCrew socket.now result.0.main result.0.two result.0.three result.0.four [] }
+    socket: &Socket<Pull, DrillWire>,
+    four_callers: FourCallers<Pull, DrillWire>,
+) -> (FourCallers<Pull, DrillWire>, Option<u32>)
+    requires { AreFourCallers socket.now four_callers.main four_callers.two four_callers.three four_callers.four [] }
+    ensures { AreFourCallers socket.now result.0.main result.0.two result.0.three result.0.four [] }
 {
-    let mut crew = crew;
+    let mut four_callers = four_callers;
     let mut ops = Vec::new(alloc);
     let mut evens = Vec::new(alloc);
     let now = Tick(1);
-    let begun = begin_all(rt, socket, &mut crew.main, &mut ops, &mut evens, now);
+    let begun = begin_all(
+        rt,
+        socket,
+        &mut four_callers.main,
+        &mut ops,
+        &mut evens,
+        now,
+    );
     let count = ops.len();
     work(
         rt,
@@ -113,7 +120,7 @@ fn in_turn<R: Wait>(
         evens.as_slice(),
         now,
         0,
-        &mut crew.main,
+        &mut four_callers.main,
     );
     work(
         rt,
@@ -122,7 +129,7 @@ fn in_turn<R: Wait>(
         evens.as_slice(),
         now,
         1,
-        &mut crew.two,
+        &mut four_callers.two,
     );
     work(
         rt,
@@ -131,7 +138,7 @@ fn in_turn<R: Wait>(
         evens.as_slice(),
         now,
         2,
-        &mut crew.three,
+        &mut four_callers.three,
     );
     work(
         rt,
@@ -140,13 +147,13 @@ fn in_turn<R: Wait>(
         evens.as_slice(),
         now,
         3,
-        &mut crew.four,
+        &mut four_callers.four,
     );
-    let ended = all_ended(socket, &mut crew.two, ops.as_slice(), 2, 2);
-    let given = collect_all(rt, socket, &mut crew.main, &mut ops);
+    let ended = all_ended(socket, &mut four_callers.two, ops.as_slice(), 2, 2);
+    let given = collect_all(rt, socket, &mut four_callers.main, &mut ops);
     ops.destroy_empty();
     let right = begun && count == 96 && evens.len() == 48 && ended && given == 2;
-    (crew, where_right(right, given))
+    (four_callers, where_right(right, given))
 }
 
 // A round, its tasks at once. How many messages its receives got, at most so many, where each was ended: whatever the
@@ -154,22 +161,30 @@ fn in_turn<R: Wait>(
 fn at_once<R: Wait + Threads + Sync>(
     rt: &R,
     alloc: Global,
-    socket: &Socket<Pull, Feed>,
-    crew: Crew<Pull, Feed>,
+    socket: &Socket<Pull, DrillWire>,
+    four_callers: FourCallers<Pull, DrillWire>,
     messages: u32,
-) -> (Crew<Pull, Feed>, Option<u32>)
-    requires { IsCrew socket.now crew.main crew.two crew.three crew.four [] }
-    ensures { IsCrew socket.now result.0.main result.0.two result.0.three result.0.four [] }
+) -> (FourCallers<Pull, DrillWire>, Option<u32>)
+    requires { AreFourCallers socket.now four_callers.main four_callers.two four_callers.three four_callers.four [] }
+    ensures { AreFourCallers socket.now result.0.main result.0.two result.0.three result.0.four [] }
 {
     let most = if messages == 0 { 0 } else { 96 };
     let mut ops = Vec::new(alloc);
-    let (mut crew, begun) = contend(rt, alloc, socket, &OpenGate, crew, &mut ops, Tick(1));
+    let (mut four_callers, begun) = contend(
+        rt,
+        alloc,
+        socket,
+        &OpenGate,
+        four_callers,
+        &mut ops,
+        Tick(1),
+    );
     let count = ops.len();
-    let ended = all_ended(socket, &mut crew.two, ops.as_slice(), 0, most);
-    let given = collect_all(rt, socket, &mut crew.main, &mut ops);
+    let ended = all_ended(socket, &mut four_callers.two, ops.as_slice(), 0, most);
+    let given = collect_all(rt, socket, &mut four_callers.main, &mut ops);
     ops.destroy_empty();
     let right = begun && count == 96 && ended && given <= messages;
-    (crew, where_right(right, given))
+    (four_callers, where_right(right, given))
 }
 
 // Whether nothing is due at this moment.
@@ -191,26 +206,33 @@ fn is_nothing_due<P: Proto, W: Wire, R: Wait>(
 fn waits_for<R: Wait>(
     rt: &R,
     alloc: Global,
-    socket: &Socket<Pull, Feed>,
-    crew: Crew<Pull, Feed>,
+    socket: &Socket<Pull, DrillWire>,
+    four_callers: FourCallers<Pull, DrillWire>,
     deadline: Tick,
-) -> (Crew<Pull, Feed>, Option<bool>)
-    requires { IsCrew socket.now crew.main crew.two crew.three crew.four [] }
-    ensures { IsCrew socket.now result.0.main result.0.two result.0.three result.0.four [] }
+) -> (FourCallers<Pull, DrillWire>, Option<bool>)
+    requires { AreFourCallers socket.now four_callers.main four_callers.two four_callers.three four_callers.four [] }
+    ensures { AreFourCallers socket.now result.0.main result.0.two result.0.three result.0.four [] }
 {
-    let mut crew = crew;
+    let mut four_callers = four_callers;
     let mut ops = Vec::new(alloc);
     let mut evens = Vec::new(alloc);
-    let begun = begin_all(rt, socket, &mut crew.main, &mut ops, &mut evens, deadline);
-    let waits = is_nothing_due(rt, socket, &mut crew.four, Tick(0));
-    let given = collect_all(rt, socket, &mut crew.main, &mut ops);
+    let begun = begin_all(
+        rt,
+        socket,
+        &mut four_callers.main,
+        &mut ops,
+        &mut evens,
+        deadline,
+    );
+    let waits = is_nothing_due(rt, socket, &mut four_callers.four, Tick(0));
+    let given = collect_all(rt, socket, &mut four_callers.main, &mut ops);
     ops.destroy_empty();
     let returned = if begun && given == 0 {
         Some(waits)
     } else {
         None
     };
-    (crew, returned)
+    (four_callers, returned)
 }
 
 // A round without messages and without tasks, as the first one. How many messages its receives got, where they waited
@@ -218,14 +240,14 @@ fn waits_for<R: Wait>(
 fn untouched<R: Wait>(
     rt: &R,
     alloc: Global,
-    socket: &Socket<Pull, Feed>,
-    crew: Crew<Pull, Feed>,
-) -> (Crew<Pull, Feed>, Option<u32>)
-    requires { IsCrew socket.now crew.main crew.two crew.three crew.four [] }
-    ensures { IsCrew socket.now result.0.main result.0.two result.0.three result.0.four [] }
+    socket: &Socket<Pull, DrillWire>,
+    four_callers: FourCallers<Pull, DrillWire>,
+) -> (FourCallers<Pull, DrillWire>, Option<u32>)
+    requires { AreFourCallers socket.now four_callers.main four_callers.two four_callers.three four_callers.four [] }
+    ensures { AreFourCallers socket.now result.0.main result.0.two result.0.three result.0.four [] }
 {
-    let (crew, waits) = waits_for(rt, alloc, socket, crew, Tick(1));
-    (crew, where_right(waits == Some(true), 0))
+    let (four_callers, waits) = waits_for(rt, alloc, socket, four_callers, Tick(1));
+    (four_callers, where_right(waits == Some(true), 0))
 }
 
 /// How the first half of a round is played.
@@ -243,36 +265,36 @@ enum Half {
 fn round_of<R: Wait + Threads + Sync>(
     rt: &R,
     alloc: Global,
-    socket: &Socket<Pull, Feed>,
-    crew: Crew<Pull, Feed>,
+    socket: &Socket<Pull, DrillWire>,
+    four_callers: FourCallers<Pull, DrillWire>,
     half: Half,
     messages: u32,
-) -> (Crew<Pull, Feed>, Option<u32>)
-    requires { IsCrew socket.now crew.main crew.two crew.three crew.four [] }
-    ensures { IsCrew socket.now result.0.main result.0.two result.0.three result.0.four [] }
+) -> (FourCallers<Pull, DrillWire>, Option<u32>)
+    requires { AreFourCallers socket.now four_callers.main four_callers.two four_callers.three four_callers.four [] }
+    ensures { AreFourCallers socket.now result.0.main result.0.two result.0.three result.0.four [] }
 {
     match half {
-        Half::InTurn => in_turn(rt, alloc, socket, crew),
-        Half::AtOnce => at_once(rt, alloc, socket, crew, messages),
-        Half::Untouched => untouched(rt, alloc, socket, crew),
+        Half::InTurn => in_turn(rt, alloc, socket, four_callers),
+        Half::AtOnce => at_once(rt, alloc, socket, four_callers, messages),
+        Half::Untouched => untouched(rt, alloc, socket, four_callers),
     }
 }
 
 // The totals of the socket at its close.
 fn totals_of<R: Wait>(
     rt: &R,
-    socket: Socket<Pull, Feed>,
-    list: SocketPasses<Pull, Feed>,
-    crew: Crew<Pull, Feed>,
+    socket: Socket<Pull, DrillWire>,
+    list: SocketPasses<Pull, DrillWire>,
+    four_callers: FourCallers<Pull, DrillWire>,
 ) -> Totals
     requires list { IsOut socket list }
-    requires crew { IsCrew socket crew.main crew.two crew.three crew.four [] }
+    requires four_callers { AreFourCallers socket four_callers.main four_callers.two four_callers.three four_callers.four [] }
 {
     let Closed {
         totals,
         wires,
         record_: _,
-    } = close_all(rt, socket, list, crew);
+    } = close_all(rt, socket, list, four_callers);
     drop_all(rt, wires);
     totals
 }
@@ -312,21 +334,21 @@ enum DrillJob {
 fn raced<R: Wait + Threads + Sync>(
     rt: &R,
     alloc: Global,
-    socket: Socket<Pull, Feed>,
-    list: SocketPasses<Pull, Feed>,
-    crew: Crew<Pull, Feed>,
+    socket: Socket<Pull, DrillWire>,
+    list: SocketPasses<Pull, DrillWire>,
+    four_callers: FourCallers<Pull, DrillWire>,
     mut source: DrillSource,
     half: Half,
     messages: u16,
 ) -> bool
     requires list { IsOut socket list }
-    requires crew { IsCrew socket crew.main crew.two crew.three crew.four [] }
+    requires four_callers { AreFourCallers socket four_callers.main four_callers.two four_callers.three four_callers.four [] }
     requires source { IsSource source }
 {
     let messages = messages as u32;
     let put = source.put_next(rt, alloc, messages).unwrap_or(0);
-    let (crew, given) = round_of(rt, alloc, &socket, crew, half, messages);
-    let totals = totals_of(rt, socket, list, crew);
+    let (four_callers, given) = round_of(rt, alloc, &socket, four_callers, half, messages);
+    let totals = totals_of(rt, socket, list, four_callers);
     match given {
         Some(given) => put == messages && are_of_round(totals, messages, given),
         None => false,
@@ -339,22 +361,30 @@ fn raced<R: Wait + Threads + Sync>(
 fn went_round<R: Wait + Threads + Sync>(
     rt: &R,
     alloc: Global,
-    socket: Socket<Pull, Feed>,
-    list: SocketPasses<Pull, Feed>,
-    crew: Crew<Pull, Feed>,
+    socket: Socket<Pull, DrillWire>,
+    list: SocketPasses<Pull, DrillWire>,
+    four_callers: FourCallers<Pull, DrillWire>,
     mut source: DrillSource,
     messages: u16,
 ) -> bool
     requires list { IsOut socket list }
-    requires crew { IsCrew socket crew.main crew.two crew.three crew.four [] }
+    requires four_callers { AreFourCallers socket four_callers.main four_callers.two four_callers.three four_callers.four [] }
     requires source { IsSource source }
 {
     let count = messages as u32;
     let last = messages.saturating_add(63) / 64;
-    let crew = rounds(rt, alloc, &socket, &OpenGate, crew, &mut source, count);
-    let (crew, later) = waits_for(rt, alloc, &socket, crew, Tick(last as u64 + 1));
-    let (crew, then) = waits_for(rt, alloc, &socket, crew, Tick(last as u64));
-    let totals = totals_of(rt, socket, list, crew);
+    let four_callers = rounds(
+        rt,
+        alloc,
+        &socket,
+        &OpenGate,
+        four_callers,
+        &mut source,
+        count,
+    );
+    let (four_callers, later) = waits_for(rt, alloc, &socket, four_callers, Tick(last as u64 + 1));
+    let (four_callers, then) = waits_for(rt, alloc, &socket, four_callers, Tick(last as u64));
+    let totals = totals_of(rt, socket, list, four_callers);
     later == Some(true) && then == Some(false) && are_of_rounds(totals, messages, last)
 }
 
@@ -362,22 +392,24 @@ fn went_round<R: Wait + Threads + Sync>(
 fn does<R: Wait + Threads + Sync>(
     rt: &R,
     alloc: Global,
-    socket: Socket<Pull, Feed>,
-    mut list: SocketPasses<Pull, Feed>,
+    socket: Socket<Pull, DrillWire>,
+    mut list: SocketPasses<Pull, DrillWire>,
     source: DrillSource,
-    feed: Feed,
+    drill_wire: DrillWire,
     job: DrillJob,
 ) -> bool
     requires list { list ≡ new_list socket drill_setting }
     requires words { (socket.words.slots ≡ 256) × (socket.words.callers ≡ 4) }
     requires source { IsSource source }
-    requires unused { IsUnused feed }
+    requires unused { IsUnused drill_wire }
 {
-    let mut crew = crew_of(&mut list, &socket);
-    let up = socket.attach(rt, &mut crew.main, feed, 0).is_ok();
+    let mut four_callers = four_callers_of(&mut list, &socket);
+    let up = socket
+        .attach(rt, &mut four_callers.main, drill_wire, 0)
+        .is_ok();
     let right = match job {
-        DrillJob::Half(half, n) => raced(rt, alloc, socket, list, crew, source, half, n),
-        DrillJob::Rounds(n) => went_round(rt, alloc, socket, list, crew, source, n),
+        DrillJob::Half(half, n) => raced(rt, alloc, socket, list, four_callers, source, half, n),
+        DrillJob::Rounds(n) => went_round(rt, alloc, socket, list, four_callers, source, n),
     };
     up && right
 }
@@ -385,7 +417,7 @@ fn does<R: Wait + Threads + Sync>(
 // Whether it comes to what it should, on a socket of its own.
 fn is_right<R: AllocGlobal + Wait + Threads + Sync>(rt: &R, job: DrillJob) -> Result<bool, Fail> {
     let alloc = rt.alloc();
-    let (source, feed) = lanes(alloc)?;
+    let (source, drill_wire) = lanes(alloc)?;
     let machine = Pull::new(alloc, Options::usual(Role::Pull, 0), false)?;
     let config = Config {
         slots: 256,
@@ -393,7 +425,7 @@ fn is_right<R: AllocGlobal + Wait + Threads + Sync>(rt: &R, job: DrillJob) -> Re
     };
     match open(alloc, machine, config) {
         Err(_) => Ok(false),
-        Ok((socket, list)) => Ok(does(rt, alloc, socket, list, source, feed, job)),
+        Ok((socket, list)) => Ok(does(rt, alloc, socket, list, source, drill_wire, job)),
     }
 }
 
@@ -428,8 +460,8 @@ fn each_round_begins_and_ends_its_receives(rt: HostRuntime) -> Result<(), Fail> 
 #[test]
 fn the_lane_of_a_drill_holds_64(rt: HostRuntime) {
     let alloc = rt.alloc();
-    let (mut source, feed) = made(&rt, lanes(alloc));
+    let (mut source, drill_wire) = made(&rt, lanes(alloc));
     same(&rt, source.put_next(&rt, alloc, 64), Some(64));
     same(&rt, source.put_next(&rt, alloc, 65), Some(0));
-    drop(feed);
+    drop(drill_wire);
 }

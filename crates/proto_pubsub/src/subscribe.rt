@@ -56,7 +56,7 @@ fn is_before(seat: &SubContext, c: Ctx) -> bool
 }
 
 // Where the context stands, by halving.
-fn home(seats: &[SubContext], c: Ctx) -> Option<usize>
+fn index_of(seats: &[SubContext], c: Ctx) -> Option<usize>
     ensures place { InOrder seats.now → result ≡ position (is_home c) seats.now }
     ensures inside { IfSome result (λ i. i < length seats.now) }
 {
@@ -74,14 +74,14 @@ fn home(seats: &[SubContext], c: Ctx) -> Option<usize>
 fn is_open(seats: &[SubContext], c: Ctx) -> bool
     ensures { InOrder seats.now → result ≡ list_any (is_home c) seats.now }
 {
-    home(seats, c).is_some()
+    index_of(seats, c).is_some()
 }
 
 // Something is kept for the context.
 fn keeps_for(seats: &[SubContext], c: Ctx) -> bool
     ensures { InOrder seats.now → result ≡ keeps_at seats.now c }
 {
-    match home(seats, c) {
+    match index_of(seats, c) {
         None => false,
         Some(i) => !seats[i].is_empty(),
     }
@@ -190,7 +190,7 @@ fn give(seats: &mut [SubContext], c: Ctx) -> Option<Message>
     ensures given { InOrder seats.old → result ≡ first_in (find (is_home c) seats.old) }
     ensures rest { InOrder seats.old → seats.new ≡ with_found (is_home c) given_from seats.old }
 {
-    match home(seats, c) {
+    match index_of(seats, c) {
         None => None,
         Some(i) => seats[i].give(),
     }
@@ -207,7 +207,7 @@ fn switch(
     ensures switched { InOrder seats.old → SwitchesIn result (find (is_home c) seats.old) c seats.old seats.new t.now on }
     ensures off { on ≡ false → OnErr result ⊥ }
 {
-    match home(seats, c) {
+    match index_of(seats, c) {
         None => Ok(false),
         Some(i) => seats[i].switch(alloc, t, on),
     }
@@ -217,7 +217,7 @@ fn switch(
 fn shut(seats: &mut Vec<SubContext>, c: Ctx)
     ensures { InOrder seats.old.items → seats.new.items ≡ filter (λ (x : SubContextView). not (is_home c x)) seats.old.items }
 {
-    match home(seats, c) {
+    match index_of(seats, c) {
         None => {}
         Some(i) => {
             let _ = seats.remove(i);

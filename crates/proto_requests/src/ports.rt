@@ -217,7 +217,7 @@ impl Ports {
     {
         match self.free_behind(last) {
             Some(p) => Some(PipeId(p)),
-            None => match self.free_in_front() {
+            None => match self.lowest_free() {
                 Some(p) => Some(PipeId(p)),
                 None => None,
             },
@@ -233,7 +233,7 @@ impl Ports {
     }
 
     // The first pipe that is not full.
-    fn free_in_front(&mut self) -> Option<u32>
+    fn lowest_free(&mut self) -> Option<u32>
         ensures same { self.new ≡ self.old }
         ensures port { result ≡ option_map (λ (x : PortView). x.pipe) (find is_free self.old.items) }
     {

@@ -5,4 +5,4 @@ use Rattle.proto_pubsub.proofs.ContextsByNumber.{some_place}
 use Rattle.proto_pubsub.proofs.subscribe.is_open.Goals as goal
 
 pub returns : goal.returns
-returns c = λ o. c.is_some.ensures ∙ ap is_some (c.home.ensures.place o) ∙ some_place (is_home c.args.c) c.args.seats.now
+returns c = λ o. c.is_some.ensures ∙ ap is_some (c.index_of.ensures.place o) ∙ some_place (is_home c.args.c) c.args.seats.now

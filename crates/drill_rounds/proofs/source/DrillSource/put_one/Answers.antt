@@ -1,5 +1,5 @@
 use Rattle.std.proofs.Common.{sym, subst, ◌∙◌, arith}
-use Rattle.drill_rounds.specs.Feeds.{IsSource}
+use Rattle.drill_rounds.specs.DrillWires.{IsSource}
 use Rattle.drill_rounds.proofs.Sourcing.{source_more, source_same}
 use Rattle.drill_rounds.proofs.source.DrillSource.put_one.Goals as goal
 use Rattle.drill_rounds.proofs.source.DrillSource.put_one.Goals.{in-Full, in-Done}

@@ -1,5 +1,5 @@
 use Rattle.std.proofs.Common.{◌≡◌}
-use Rattle.drill_rounds.specs.Feeds.{IsSource}
+use Rattle.drill_rounds.specs.DrillWires.{IsSource}
 use Rattle.drill_rounds.proofs.source.DrillSource.put_some.Given as goal
 
 abbrev pub invariant-loop : goal.invariant-loop

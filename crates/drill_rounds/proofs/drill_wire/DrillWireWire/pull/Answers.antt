@@ -1,10 +1,10 @@
 use Rattle.std.proofs.Common.{◌∙◌, ap, sym, subst}
 use Rattle.std.specs.Prelude.{◌||◌, Bool}
-use Rattle.drill_rounds.specs.Feeds.{IsFeed}
-use Rattle.drill_rounds.proofs.Feeding.{pulled}
-use Rattle.drill_rounds.proofs.feed.FeedWire.pull.Goals as goal
+use Rattle.drill_rounds.specs.DrillWires.{IsDrillWire}
+use Rattle.drill_rounds.proofs.DrillWireReads.{pulled}
+use Rattle.drill_rounds.proofs.drill_wire.DrillWireWire.pull.Goals as goal
 
 pub invariant_of-self : goal.invariant_of-self
 invariant_of-self g c =
-    subst (IsFeed c.pull-returned.new.self) (sym (c.either-self-inside.ensures ∙ ap (λ (b : Bool). c.self.inside.lost || b) c.is_lost.ensures))
+    subst (IsDrillWire c.pull-returned.new.self) (sym (c.either-self-inside.ensures ∙ ap (λ (b : Bool). c.self.inside.lost || b) c.is_lost.ensures))
     (pulled c.pull-returned.result c.self.inside.wire c.pull-returned.new.self c.self.inside.lost c.pull-returned.ensures.after c.pull-returned.ensures.lane c.self.invariant)

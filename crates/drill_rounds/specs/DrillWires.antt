@@ -10,7 +10,7 @@ use Rattle.sp_lane.specs.LaneWires.{LaneWireView}
 use Rattle.drill_rounds.specs.declared.source.DrillSource.{DrillSource}
 
 -- the wire has the name of its lanes; and what came is what was taken, unless a message was lost
-pub record IsFeed (w : LaneWireView) (lost : Bool) : Type 0 where
+pub record IsDrillWire (w : LaneWireView) (lost : Bool) : Type 0 where
   pub name : w.wire.name ≡ OverLanes w.out.name w.inp.name
   pub came : lost ≡ false → w.wire.came ≡ Some (texts w.inp.taken)
 

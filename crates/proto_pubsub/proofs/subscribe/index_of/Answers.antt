@@ -2,7 +2,7 @@ use Rattle.std.proofs.Common.{rules, ◌≡◌, ◌<◌, ◌≤◌, false, true,
 use Rattle.std.specs.Prelude.{◌==◌}
 use Rattle.std.proofs.lemmas.List.Sorted.{IsPartitionPoint-from_clause}
 use Rattle.proto_pubsub.proofs.ContextsByNumber.{is_under, at_or_above, parted, placed, not_placed, all_lower, equal_of}
-use Rattle.proto_pubsub.proofs.subscribe.home.Goals as goal
+use Rattle.proto_pubsub.proofs.subscribe.index_of.Goals as goal
 
 pub returns-then-i-seats-clause-place : goal.returns-then-i-seats-clause-place
 returns-then-i-seats-clause-place c = λ h.

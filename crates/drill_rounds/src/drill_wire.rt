@@ -13,21 +13,21 @@ use std::sync::Wait;
 
 /// A wire over two lanes that knows whether a message was lost.
 #[derive(Drop)]
-pub struct Feed {
+pub struct DrillWire {
     wire: LaneWire,
     /// A message was taken and lost when out of memory.
     lost: bool,
 }
 
-impl Model for Feed {
+impl Model for DrillWire {
     ghost use Rattle.sp_msg.specs.Views.{WireView};
-    ghost use Rattle.drill_rounds.specs.Feeds.{IsFeed};
+    ghost use Rattle.drill_rounds.specs.DrillWires.{IsDrillWire};
 
     ghost Value = { WireView };
 
     ghost view = { λ f. f.wire.wire };
 
-    ghost invariant = { λ f. IsFeed f.wire f.lost };
+    ghost invariant = { λ f. IsDrillWire f.wire f.lost };
 }
 
 fn is_lost(returned: &WireIn) -> bool
@@ -50,15 +50,15 @@ fn either(a: bool, b: bool) -> bool
     a || b
 }
 
-impl Feed {
+impl DrillWire {
     /// A wire that is fed from this lane.
-    pub fn new(out: LaneIn, inp: LaneOut) -> Feed
+    pub fn new(out: LaneIn, inp: LaneOut) -> DrillWire
         requires begun { has_end out.put ≡ false }
         requires fresh { inp.taken ≡ [] }
         ensures unused { IsUnused result }
         ensures name { result.name ≡ OverLanes out.name inp.name }
     {
-        Feed {
+        DrillWire {
             wire: LaneWire::new(out, inp),
             lost: false,
         }
@@ -69,7 +69,7 @@ impl Feed {
         ensures came { IfSome result (λ lane. self.came ≡ Some (texts lane.taken)) }
         ensures name { IfSome result (λ lane. (out : List ℕ) × (self.name ≡ OverLanes out lane.name)) }
     {
-        let Feed { wire, lost } = self;
+        let DrillWire { wire, lost } = self;
         if lost {
             return None;
         }
@@ -78,7 +78,7 @@ impl Feed {
     }
 }
 
-impl Wire for Feed {
+impl Wire for DrillWire {
     ghost shown = { λ f. f };
 
     fn pull<R: Wait>(&mut self, rt: &R) -> WireIn {

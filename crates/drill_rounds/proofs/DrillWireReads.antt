@@ -10,7 +10,7 @@ use Rattle.sp_msg.specs.declared.wire.Room.TheVariants as rooms
 use Rattle.sp_msg.specs.declared.wire.WireFlush.{WireFlush}
 use Rattle.sp_msg.specs.declared.wire.WireFlush.TheVariants as flushes
 use Rattle.sp_msg.specs.Wires.{with_text, AfterPull, AfterRoom, AfterPut, AfterFlush, AfterShut, RoomAs, FlushedAs}
-use Rattle.drill_rounds.specs.Feeds.{IsFeed}
+use Rattle.drill_rounds.specs.DrillWires.{IsDrillWire}
 use Rattle.sp_lane.specs.declared.item.LaneItem.{LaneItem}
 use Rattle.sp_lane.specs.declared.item.LaneItem.TheVariants as items
 use Rattle.sp_lane.specs.Items.{texts}
@@ -28,11 +28,11 @@ texts_end (items.Message x ∷ xs) = ap (λ (ts : List (List ℕ)). wire_text x 
 texts_end (items.End ∷ xs) = texts_end xs
 
 -- the lanes have the names that they had
-same_names : (w v : LaneWireView) (lost : Bool) → v.wire.name ≡ w.wire.name → v.out.name ≡ w.out.name → v.inp.name ≡ w.inp.name → IsFeed w lost → v.wire.name ≡ OverLanes v.out.name v.inp.name
+same_names : (w v : LaneWireView) (lost : Bool) → v.wire.name ≡ w.wire.name → v.out.name ≡ w.out.name → v.inp.name ≡ w.inp.name → IsDrillWire w lost → v.wire.name ≡ OverLanes v.out.name v.inp.name
 same_names w v lost n o i f = n ∙ f.name ∙ ap (λ (x : List ℕ). OverLanes x w.inp.name) (sym o) ∙ ap (λ (x : List ℕ). OverLanes v.out.name x) (sym i)
 
 -- nothing was taken
-quiet : (w v : LaneWireView) (lost : Bool) → v.wire.name ≡ w.wire.name → v.wire.came ≡ w.wire.came → v.out.name ≡ w.out.name → v.inp ≡ w.inp → IsFeed w lost → IsFeed v lost
+quiet : (w v : LaneWireView) (lost : Bool) → v.wire.name ≡ w.wire.name → v.wire.came ≡ w.wire.came → v.out.name ≡ w.out.name → v.inp ≡ w.inp → IsDrillWire w lost → IsDrillWire v lost
 quiet w v lost n c o i f =
     record { name = same_names w v lost n o (ap (λ (x : OutView). x.name) i) f; came = λ l. c ∙ f.came l ∙ ap (λ (x : OutView). Some (texts x.taken)) (sym i) }
 
@@ -40,7 +40,7 @@ either_false : (a b : Bool) → (a || b) ≡ false → a ≡ false
 either_false true b h = cc
 either_false false b h = refl
 
-pub pulled : (r : WireIn) (w v : LaneWireView) (lost : Bool) → AfterPull r w.wire v.wire → LanePulled r w v → IsFeed w lost → IsFeed v (lost || is_lost r)
+pub pulled : (r : WireIn) (w v : LaneWireView) (lost : Bool) → AfterPull r w.wire v.wire → LanePulled r w v → IsDrillWire w lost → IsDrillWire v (lost || is_lost r)
 pulled (ins.Message b) w v lost a l f =
     let t = l.inp.1.is in
     record {
@@ -96,18 +96,18 @@ flush_shows flushes.Failed w v a = (ap (λ (x : WireView). x.name) a.0, ap (λ (
 flush_shows flushes.Refused w v a = (ap (λ (x : WireView). x.name) a.0, ap (λ (x : WireView). x.came) a.0)
 flush_shows flushes.NoMemory w v a = (ap (λ (x : WireView). x.name) a.0, ap (λ (x : WireView). x.came) a.0)
 
-pub roomed : (r : Room) (w v : LaneWireView) (lost : Bool) → AfterRoom r w.wire v.wire → LaneRoomed r w v → IsFeed w lost → IsFeed v lost
+pub roomed : (r : Room) (w v : LaneWireView) (lost : Bool) → AfterRoom r w.wire v.wire → LaneRoomed r w v → IsDrillWire w lost → IsDrillWire v lost
 roomed r w v lost a l f = let s = room_shows r w.wire v.wire a.shows in quiet w v lost s.0 s.1 (pushed_name w.hand v.hand w.out v.out l.out) l.inp f
 
-pub flushed : (r : WireFlush) (w v : LaneWireView) (lost : Bool) → AfterFlush r w.wire v.wire → LaneFlushed r w v → IsFeed w lost → IsFeed v lost
+pub flushed : (r : WireFlush) (w v : LaneWireView) (lost : Bool) → AfterFlush r w.wire v.wire → LaneFlushed r w v → IsDrillWire w lost → IsDrillWire v lost
 flushed r w v lost a l f =
     let s = flush_shows r w.wire v.wire a.shows in
     quiet w v lost s.0 s.1 (tried_name (w.wire.drains && (is_none v.hand && not (has_end l.out.mid.put))) l.out.mid v.out l.out.ends ∙ pushed_name w.hand v.hand w.out l.out.mid l.out.pushed) l.inp f
 
-pub was_put : (m : MessageView) (w v : LaneWireView) (lost : Bool) → AfterPut m w.wire v.wire → SameLanes w v → IsFeed w lost → IsFeed v lost
+pub was_put : (m : MessageView) (w v : LaneWireView) (lost : Bool) → AfterPut m w.wire v.wire → SameLanes w v → IsDrillWire w lost → IsDrillWire v lost
 was_put m w v lost a s f = quiet w v lost (ap (λ (x : WireView). x.name) a.shows) (ap (λ (x : WireView). x.came) a.shows) (ap (λ (x : InView). x.name) s.0) s.1 f
 
-pub was_shut : (w v : LaneWireView) (lost : Bool) → AfterShut w.wire v.wire → SameLanes w v → IsFeed w lost → IsFeed v lost
+pub was_shut : (w v : LaneWireView) (lost : Bool) → AfterShut w.wire v.wire → SameLanes w v → IsDrillWire w lost → IsDrillWire v lost
 was_shut w v lost a s f = quiet w v lost (ap (λ (x : WireView). x.name) a) (ap (λ (x : WireView). x.came) a) (ap (λ (x : InView). x.name) s.0) s.1 f
 
 -- ---- Names
