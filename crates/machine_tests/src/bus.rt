@@ -1,31 +1,5 @@
 //! A bus: who is sent what, and what is kept.
 use crate::checks::plays;
-use proto_bus::Bus;
-use sp_base::{NoMemory, Role};
-use sp_history::setting::Options;
-use std::alloc::Global;
-use std::process::Abort;
-
-fn bus(alloc: Global, raw: bool) -> Result<Bus, NoMemory> {
-    Bus::new(alloc, Options::usual(Role::Bus, 0), raw)
-}
-
-// A bus returns at each line what it says.
-fn bus_plays(rt: &impl Abort, alloc: Global, raw: bool, play: &str) {
-    plays(rt, alloc, bus(alloc, raw), play);
-}
-
-// A bus that keeps so many messages.
-fn keeping(alloc: Global, queue: u32) -> Result<Bus, NoMemory> {
-    let mut options = Options::usual(Role::Bus, 0);
-    options.queue = queue;
-    Bus::new(alloc, options, false)
-}
-
-// A bus that keeps so many messages returns at each line what it says.
-fn keeping_plays(rt: &impl Abort, alloc: Global, queue: u32, play: &str) {
-    plays(rt, alloc, keeping(alloc, queue), play);
-}
 
 #[test]
 fn a_bus_sends_to_all(rt: HostRuntime) {
@@ -43,7 +17,7 @@ fn a_bus_sends_to_all(rt: HostRuntime) {
         ends 0
         idle
     ";
-    bus_plays(&rt, rt.alloc(), false, play);
+    plays(&rt, rt.alloc(), "bus", play);
 }
 
 #[test]
@@ -61,7 +35,7 @@ fn a_raw_bus_does_not_send_back(rt: HostRuntime) {
         hands_back 1 00000001' 'm
         idle
     ";
-    bus_plays(&rt, rt.alloc(), true, play);
+    plays(&rt, rt.alloc(), "bus raw", play);
 }
 
 #[test]
@@ -80,7 +54,7 @@ fn a_full_bus_discards_what_comes(rt: HostRuntime) {
         check 0 receive ok
         check 5 send not_supported
     ";
-    keeping_plays(&rt, rt.alloc(), 1, play);
+    plays(&rt, rt.alloc(), "bus queue=1", play);
 }
 
 #[test]
@@ -90,5 +64,5 @@ fn a_bus_without_places_keeps_nothing(rt: HostRuntime) {
         frame 1 'a
         keeps 0 no
     ";
-    keeping_plays(&rt, rt.alloc(), 0, play);
+    plays(&rt, rt.alloc(), "bus queue=0", play);
 }

@@ -1,4 +1,5 @@
-//! Tests of the machines of all roles, with exact messages, ids and results.
+//! Tests of the machines of all roles, with exact messages, ids and results: small ones, long lives, bodies of 1 MiB
+//! and more, and many topics. Each plays a text (`plays`).
 #![tactic(auto)]
 
 #[cfg(test)]
@@ -8,12 +9,15 @@ mod checks;
 #[cfg(test)]
 mod copies;
 #[cfg(test)]
+mod large;
+#[cfg(test)]
 mod long;
+#[cfg(test)]
+mod machines;
 #[cfg(test)]
 mod many;
 #[cfg(test)]
 mod meaningless;
-pub mod moves;
 #[cfg(test)]
 mod pair;
 #[cfg(test)]
@@ -32,5 +36,7 @@ mod resends;
 mod subs;
 #[cfg(test)]
 mod surveys;
+#[cfg(test)]
+mod topics;
 #[cfg(test)]
 mod words;

@@ -1,19 +1,5 @@
 //! A pair: one peer, and what waits for it.
 use crate::checks::plays;
-use proto_pair::Pair;
-use sp_base::{NoMemory, Role};
-use sp_history::setting::Options;
-use std::alloc::Global;
-use std::process::Abort;
-
-fn pair(alloc: Global, raw: bool) -> Result<Pair, NoMemory> {
-    Pair::new(alloc, Options::usual(Role::Pair0, 0), raw)
-}
-
-// A pair returns at each line what it says.
-fn pair_plays(rt: &impl Abort, alloc: Global, raw: bool, play: &str) {
-    plays(rt, alloc, pair(alloc, raw), play);
-}
 
 #[test]
 fn a_pair_has_one_peer(rt: HostRuntime) {
@@ -37,7 +23,7 @@ fn a_pair_has_one_peer(rt: HostRuntime) {
         idle
         keeps 0 no
     ";
-    pair_plays(&rt, rt.alloc(), false, play);
+    plays(&rt, rt.alloc(), "pair", play);
 }
 
 #[test]
@@ -56,7 +42,7 @@ fn sends_wait_for_the_peer_in_order(rt: HostRuntime) {
         hands_back 1 00000005' 'y
         idle
     ";
-    pair_plays(&rt, rt.alloc(), true, play);
+    plays(&rt, rt.alloc(), "pair raw", play);
 }
 
 #[test]
@@ -66,5 +52,5 @@ fn a_pair_has_no_contexts(rt: HostRuntime) {
         check 0 receive ok
         check 5 receive not_supported
     ";
-    pair_plays(&rt, rt.alloc(), false, play);
+    plays(&rt, rt.alloc(), "pair", play);
 }

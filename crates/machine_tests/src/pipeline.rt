@@ -1,30 +1,12 @@
 //! Push and pull: whose turn it is, and what is kept.
-use crate::checks::{goes_on, holds, made, plays};
-use proto_pipeline::{Pull, Push};
+use crate::checks::{holds, plays};
+use crate::machines::push_plays;
+use proto_pipeline::Push;
 use sp_base::{NoMemory, PipeId, Role};
 use sp_history::setting::Options;
 use sp_msg::Message;
-use sp_proto::{CheckError, Proto, Verdict};
+use sp_proto::{Proto, Verdict};
 use std::alloc::Global;
-use std::process::Abort;
-
-fn pull(alloc: Global) -> Result<Pull, NoMemory> {
-    Pull::new(alloc, Options::usual(Role::Pull, 0), false)
-}
-
-// A pull returns at each line what it says.
-fn pull_plays(rt: &impl Abort, alloc: Global, play: &str) {
-    plays(rt, alloc, pull(alloc), play);
-}
-
-fn push(alloc: Global, raw: bool) -> Result<Push, NoMemory> {
-    Push::new(alloc, Options::usual(Role::Push, 0), raw)
-}
-
-// A push returns at each line what it says.
-fn push_plays(rt: &impl Abort, alloc: Global, raw: bool, play: &str) {
-    plays(rt, alloc, push(alloc, raw), play);
-}
 
 #[test]
 fn a_pull_gives_what_came_first(rt: HostRuntime) {
@@ -45,7 +27,7 @@ fn a_pull_gives_what_came_first(rt: HostRuntime) {
         gets 1 ' 'x
         idle
     ";
-    pull_plays(&rt, rt.alloc(), play);
+    plays(&rt, rt.alloc(), "pull", play);
 }
 
 #[test]
@@ -65,28 +47,40 @@ fn a_push_sends_the_body_on_a_pipe_with_room(rt: HostRuntime) {
         hands_back 1 00000007' 'y
         idle
     ";
-    push_plays(&rt, rt.alloc(), true, play);
+    plays(&rt, rt.alloc(), "push raw", play);
 }
 
-// A frame with a header of one word comes on pipe 1.
-fn comes_headed(rt: &impl Abort, alloc: Global, push: &mut Push) {
-    let Ok(mut m) = Message::from_body(alloc, b"x") else {
-        panic!(rt; "no memory for a message")
-    };
-    holds(rt, m.header_append_u32(7).is_ok());
-    holds(rt, push.frame(PipeId(1), m) == Verdict::Fine);
+// A frame with a header of one word.
+fn headed(alloc: Global) -> Result<Message, NoMemory> {
+    let mut frame = Message::from_body(alloc, b"x")?;
+    match frame.header_append_u32(7) {
+        Ok(()) => Ok(frame),
+        Err(_) => Err(NoMemory),
+    }
+}
+
+// A push with two pipes, on the first of which this frame came.
+fn with_frame(alloc: Global, frame: Message) -> Result<Push, NoMemory> {
+    let mut push = Push::new(alloc, Options::usual(Role::Push, 0), false)?;
+    let has_room = push.reserve(2).is_ok();
+    let first = push.up(PipeId(1)).is_ok();
+    let second = push.up(PipeId(2)).is_ok();
+    let is_fine = push.frame(PipeId(1), frame) == Verdict::Fine;
+    if has_room && first && second && is_fine {
+        Ok(push)
+    } else {
+        Err(NoMemory)
+    }
+}
+
+// A push on which such a frame came.
+fn framed(alloc: Global) -> Result<Push, NoMemory> {
+    let frame = headed(alloc)?;
+    with_frame(alloc, frame)
 }
 
 #[test]
 fn a_push_takes_its_pipes_in_turn(rt: HostRuntime) {
-    let mut push = made(&rt, push(rt.alloc(), false));
-    let before = "
-        reserve 2
-        up 1
-        up 2
-    ";
-    goes_on(&rt, rt.alloc(), &mut push, before);
-    comes_headed(&rt, rt.alloc(), &mut push);
     let play = "
         send 0 0 00000007' 'x
         send 1 0 00000007' 'y
@@ -96,7 +90,8 @@ fn a_push_takes_its_pipes_in_turn(rt: HostRuntime) {
         full 2
         can_send 1 1
     ";
-    goes_on(&rt, rt.alloc(), &mut push, play);
+    let alloc = rt.alloc();
+    holds(&rt, push_plays(alloc, framed(alloc), play).is_none());
 }
 
 #[test]
@@ -107,12 +102,12 @@ fn each_does_one_thing(rt: HostRuntime) {
         check 0 send not_supported
         check 5 receive not_supported
     ";
-    pull_plays(&rt, rt.alloc(), of_pull);
+    plays(&rt, rt.alloc(), "pull", of_pull);
     let of_push = "
         is push cooked
         check 0 send ok
         check 0 receive not_supported
         check 5 send not_supported
     ";
-    push_plays(&rt, rt.alloc(), false, of_push);
+    plays(&rt, rt.alloc(), "push", of_push);
 }

@@ -8,7 +8,8 @@
 //! | whether frames of the pipe are wanted | `wants 1 yes` |
 //! | the frame comes on the pipe; the same, and it is no message of the protocol | `frame 1 'a`, `malformed 1 '` |
 //! | a turn begins; the pipe has no room in this turn | `fresh`, `full 1` |
-//! | the clock; the close | `clock 1000ms`, `close` |
+//! | the clock; the clock a millisecond before this moment | `clock 1000ms`, `clock 2min`, `before 1000ms` |
+//! | the close | `close` |
 //! | the context is opened; it is shut | `open 1`, `shut 1` |
 //! | a topic of the context is put on, and whether that changes something | `put_on 0 'a yes` |
 //! | it is taken off, and whether that does | `take_off 0 'a no` |
@@ -27,26 +28,29 @@
 //! | the request of the context goes out again on the pipe | `resend 0 2 80000000' 'a` |
 //! | none does: there is no copy | `no_resend 0 1` |
 //! | the receive gets this message | `gets 1 ' 'pong` |
-//! | the same, and a send of it begins on context 0 in the second slot | `passes_on 0 1 00000001' 'm` |
+//! | the same, and the second operation begins, a send of it on context 0 | `passes_on 0 1 00000001' 'm` |
 //! | the send goes out on the pipe as this message | `goes_out 0 1 80000000' 'ping` |
 //! | the send ends, which went to many pipes | `ends 0` |
 //! | the send ends, which went nowhere, without a message | `ends_nowhere 1` |
 //! | the send is lost, and hands its message back | `hands_back 1 00000005' 'y` |
 //! | the receive is lost | `loses 0` |
 //!
-//! Pipes, contexts and slots stand by their numbers, and a slot stands for its first operation. A message is its header
-//! and its body. Bytes are hexadecimal digits, an apostrophe, and text: `80000000'a`, `'pong`, `'` for none.
+//! Pipes and contexts stand by their numbers. An operation stands by its slot, and is the first one of it; `1.7` is the
+//! seventh one of slot 1. A message is its header and its body. Bytes are hexadecimal digits, an apostrophe, and text:
+//! `80000000'a`, `'pong`, `'` for none. `'m*1000` is a text a thousand times.
+//!
+//! A line of rounds, `for 1..40: up # | frame # 80%'a`, has calls with bars between them, which are made for each
+//! number, upwards or downwards. There `#` is the number, `&` the next one, and `%` six hexadecimal digits of the
+//! number.
 ghost use Rattle.std.specs.Prelude.{◌<◌};
 
-use crate::checks::{holds, made};
-use crate::moves::{comes, op};
+use crate::checks::holds;
+use crate::machines::line_wrong_for;
 use crate::words::{
-    answer, bytes, cause, is_message, is_this, message, milliseconds, number, raw_or_cooked,
+    answer, bytes, cause, is_message, is_this, message, milliseconds, named, raw_or_cooked, round,
     yes_or_no,
 };
-use proto_bus::Bus;
-use sp_base::{Ctx, PipeId, Role, Tick};
-use sp_history::setting::Options;
+use sp_base::{Ctx, OpName, PipeId, Tick};
 use sp_msg::Message;
 use sp_proto::{Act, Offer, Proto, UpFault, Verb, Verdict};
 use std::alloc::Global;
@@ -63,33 +67,81 @@ pub fn wrong_line<M: Proto>(m: &mut M, alloc: Global, play: &str) -> Option<usiz
     None
 }
 
-fn words_of<'a>(alloc: Global, line: &'a str) -> Option<Vec<&'a str>> {
-    let mut words = Vec::new(alloc);
-    for word in line.split_whitespace() {
-        words.push(word).ok()?;
-    }
-    Some(words)
-}
-
-// The line is empty, or it is so.
 fn is_right<M: Proto>(m: &mut M, alloc: Global, line: &str) -> bool {
-    match words_of(alloc, line) {
-        None => false,
-        Some(words) => is_so(m, alloc, &words),
+    match line.trim().strip_prefix("for ") {
+        Some(rounds) => are_so(m, alloc, rounds),
+        None => is_so(m, alloc, line),
     }
 }
 
-// The words after the name are told apart by their count, and by which of them are numbers.
-fn is_so<M: Proto>(m: &mut M, alloc: Global, words: &[&str]) -> bool {
-    match words {
-        [] => true,
-        [name] => alone(m, name),
-        [name, a] => with_one(m, name, a),
-        [name, a, b] => with_two(m, alloc, name, a, b),
-        [name, a, b, c] => with_three(m, alloc, name, a, b, c),
-        [name, a, b, header, body] => with_four(m, alloc, name, a, b, header, body),
+// The calls are made for each number, and are so.
+fn are_so<M: Proto>(m: &mut M, alloc: Global, rounds: &str) -> bool {
+    let Some((numbers, calls)) = rounds.split_once(':') else {
+        return false;
+    };
+    let Some((first, last)) = numbers.split_once("..") else {
+        return false;
+    };
+    match (first.parse::<u32>(), last.parse::<u32>()) {
+        (Ok(first), Ok(last)) => are_so_from(m, alloc, first, last, calls),
         _ => false,
     }
+}
+
+fn are_so_from<M: Proto>(m: &mut M, alloc: Global, first: u32, last: u32, calls: &str) -> bool {
+    for i in 0..first.abs_diff(last).saturating_add(1) {
+        if !is_round_so(m, alloc, behind(first, last, i), calls) {
+            return false;
+        }
+    }
+    true
+}
+
+// The number so many steps behind the first one, on the way to the last.
+fn behind(first: u32, last: u32, steps: u32) -> u32 {
+    if first <= last {
+        first.saturating_add(steps)
+    } else {
+        first.saturating_sub(steps)
+    }
+}
+
+fn is_round_so<M: Proto>(m: &mut M, alloc: Global, n: u32, calls: &str) -> bool {
+    match round(alloc, n, calls) {
+        None => false,
+        Some(calls) => are_calls_so(m, alloc, calls.as_str()),
+    }
+}
+
+fn are_calls_so<M: Proto>(m: &mut M, alloc: Global, calls: &str) -> bool {
+    for call in calls.split('|') {
+        if !is_so(m, alloc, call) {
+            return false;
+        }
+    }
+    true
+}
+
+// The line is empty, or it is so. The words after the name are told apart by their count, and by which of them are
+// names of pipes, contexts or operations.
+fn is_so<M: Proto>(m: &mut M, alloc: Global, line: &str) -> bool {
+    let mut words = line.split_whitespace();
+    let Some(name) = words.next() else {
+        return true;
+    };
+    let Some(a) = words.next() else {
+        return alone(m, name);
+    };
+    let Some(b) = words.next() else {
+        return with_one(m, name, a);
+    };
+    let Some(c) = words.next() else {
+        return with_two(m, alloc, name, a, b);
+    };
+    let Some(d) = words.next() else {
+        return with_three(m, alloc, name, a, b, c);
+    };
+    words.next().is_none() && with_four(m, alloc, name, a, b, c, d)
 }
 
 fn alone<M: Proto>(m: &mut M, name: &str) -> bool {
@@ -103,19 +155,32 @@ fn alone<M: Proto>(m: &mut M, name: &str) -> bool {
 }
 
 fn with_one<M: Proto>(m: &mut M, name: &str, a: &str) -> bool {
-    match number(a) {
-        Some(n) => with_number(m, name, n),
-        None => name == "clock" && is_clock(m, a),
+    match named(a) {
+        Some(op) => with_op(m, name, op),
+        None => is_clock(m, name, a),
     }
 }
 
-fn is_clock<M: Proto>(m: &mut M, word: &str) -> bool {
-    match milliseconds(word) {
-        None => false,
-        Some(now) => {
-            m.clock(Tick(now));
-            true
-        }
+fn is_clock<M: Proto>(m: &mut M, name: &str, word: &str) -> bool {
+    let Some(now) = milliseconds(word) else {
+        return false;
+    };
+    match name {
+        "clock" => m.clock(Tick(now)),
+        "before" => m.clock(Tick(now.saturating_sub(1))),
+        _ => return false,
+    }
+    true
+}
+
+fn with_op<M: Proto>(m: &mut M, name: &str, op: OpName) -> bool {
+    match name {
+        "ends" | "ends_nowhere" => m.won(op, None).is_none(),
+        "loses" => m.lost(op).is_none(),
+        "can_give" => m.offer() == Offer::Give { op },
+        "can_flood" => m.offer() == Offer::Flood { op },
+        "can_drop" => m.offer() == Offer::Drop { op },
+        _ => with_number(m, name, op.slot),
     }
 }
 
@@ -125,11 +190,6 @@ fn with_number<M: Proto>(m: &mut M, name: &str, n: u32) -> bool {
         "up" => m.up(PipeId(n)).is_ok(),
         "refused" => m.up(PipeId(n)) == Err(UpFault::Refused),
         "open" => m.open_ctx(Ctx(n)).is_ok(),
-        "ends" | "ends_nowhere" => m.won(op(n), None).is_none(),
-        "loses" => m.lost(op(n)).is_none(),
-        "can_give" => m.offer() == Offer::Give { op: op(n) },
-        "can_flood" => m.offer() == Offer::Flood { op: op(n) },
-        "can_drop" => m.offer() == Offer::Drop { op: op(n) },
         _ => is_told(m, name, n),
     }
 }
@@ -146,39 +206,34 @@ fn is_told<M: Proto>(m: &mut M, name: &str, n: u32) -> bool {
 }
 
 fn with_two<M: Proto>(m: &mut M, alloc: Global, name: &str, a: &str, b: &str) -> bool {
-    match (number(a), number(b)) {
-        (Some(a), Some(b)) => with_numbers(m, name, a, b),
-        (Some(n), None) => with_word(m, alloc, name, n, b),
+    match (named(a), named(b)) {
+        (Some(a), Some(b)) => with_names(m, name, a, b.slot),
+        (Some(a), None) => with_word(m, alloc, name, a, b),
         _ => name == "is" && m.role().name() == a && raw_or_cooked(m.raw()) == b,
     }
 }
 
-fn with_numbers<M: Proto>(m: &mut M, name: &str, a: u32, b: u32) -> bool {
+fn with_names<M: Proto>(m: &mut M, name: &str, op: OpName, n: u32) -> bool {
+    let pipe = PipeId(n);
+    let ctx = Ctx(op.slot);
     match name {
-        "receive" => begins(m, a, b, Act::Recv),
-        "can_send" => {
-            let op = op(a);
-            let pipe = PipeId(b);
-            m.offer() == Offer::Send { op, pipe }
-        }
-        "can_resend" => {
-            let ctx = Ctx(a);
-            let pipe = PipeId(b);
-            m.offer() == Offer::Again { ctx, pipe }
-        }
-        "no_copy" => m.flood(op(a), PipeId(b)).is_none(),
-        "no_resend" => m.again(Ctx(a), PipeId(b)).is_none(),
+        "receive" => begins(m, op, Ctx(n), Act::Recv),
+        "can_send" => m.offer() == Offer::Send { op, pipe },
+        "can_resend" => m.offer() == Offer::Again { ctx, pipe },
+        "no_copy" => m.flood(op, pipe).is_none(),
+        "no_resend" => m.again(ctx, pipe).is_none(),
         _ => false,
     }
 }
 
-fn with_word<M: Proto>(m: &mut M, alloc: Global, name: &str, n: u32, word: &str) -> bool {
+fn with_word<M: Proto>(m: &mut M, alloc: Global, name: &str, op: OpName, word: &str) -> bool {
+    let n = op.slot;
     match name {
         "wants" => yes_or_no(m.wants(PipeId(n))) == word,
         "keeps" => yes_or_no(m.keeps(Ctx(n))) == word,
         "frame" => is_found(m, alloc, n, word, Verdict::Fine),
         "malformed" => is_found(m, alloc, n, word, Verdict::Malformed),
-        "can_finish" => can_finish(m, n, word),
+        "can_finish" => can_finish(m, op, word),
         _ => false,
     }
 }
@@ -187,26 +242,33 @@ fn with_word<M: Proto>(m: &mut M, alloc: Global, name: &str, n: u32, word: &str)
 fn is_found<M: Proto>(m: &mut M, alloc: Global, p: u32, frame: &str, what: Verdict) -> bool {
     match bytes(alloc, frame) {
         None => false,
-        Some(frame) => comes(m, alloc, PipeId(p), &frame, what),
+        Some(frame) => comes(m, alloc, p, &frame, what),
     }
 }
 
-fn can_finish<M: Proto>(m: &mut M, slot: u32, why: &str) -> bool {
+fn comes<M: Proto>(m: &mut M, alloc: Global, p: u32, frame: &[u8], what: Verdict) -> bool {
+    match Message::from_body(alloc, frame) {
+        Err(_) => false,
+        Ok(message) => m.frame(PipeId(p), message) == what,
+    }
+}
+
+fn can_finish<M: Proto>(m: &mut M, op: OpName, why: &str) -> bool {
     match m.offer() {
         Offer::Finish {
             op: found,
             cause: c,
-        } => found == op(slot) && cause(c) == why,
+        } => found == op && cause(c) == why,
         _ => false,
     }
 }
 
 fn with_three<M: Proto>(m: &mut M, alloc: Global, name: &str, a: &str, b: &str, c: &str) -> bool {
-    match (number(a), number(b)) {
-        (Some(slot), Some(p)) => {
-            name == "goes_to" && yes_or_no(m.goes_to(op(slot), PipeId(p))) == c
+    match (named(a), named(b)) {
+        (Some(op), Some(p)) => {
+            name == "goes_to" && yes_or_no(m.goes_to(op, PipeId(p.slot))) == c
         }
-        (Some(n), None) => with_words(m, alloc, name, n, b, c),
+        (Some(op), None) => with_words(m, alloc, name, op, b, c),
         _ => false,
     }
 }
@@ -215,16 +277,16 @@ fn with_words<M: Proto>(
     m: &mut M,
     alloc: Global,
     name: &str,
-    n: u32,
+    op: OpName,
     first: &str,
     second: &str,
 ) -> bool {
     match name {
-        "check" => checks(m, n, first, second),
-        "put_on" => switches(m, alloc, n, first, true, second),
-        "take_off" => switches(m, alloc, n, first, false, second),
-        "gets" => is_this(alloc, m.won(op(n), None), first, second),
-        "hands_back" => is_this(alloc, m.lost(op(n)), first, second),
+        "check" => checks(m, op.slot, first, second),
+        "put_on" => switches(m, alloc, op.slot, first, true, second),
+        "take_off" => switches(m, alloc, op.slot, first, false, second),
+        "gets" => is_this(alloc, m.won(op, None), first, second),
+        "hands_back" => is_this(alloc, m.lost(op), first, second),
         _ => false,
     }
 }
@@ -265,7 +327,7 @@ fn with_four<M: Proto>(
     header: &str,
     body: &str,
 ) -> bool {
-    match (number(a), number(b)) {
+    match (named(a), named(b)) {
         (Some(a), Some(b)) => with_message(m, alloc, name, a, b, header, body),
         _ => false,
     }
@@ -275,34 +337,35 @@ fn with_message<M: Proto>(
     m: &mut M,
     alloc: Global,
     name: &str,
-    a: u32,
-    b: u32,
+    op: OpName,
+    other: OpName,
     header: &str,
     body: &str,
 ) -> bool {
+    let pipe = PipeId(other.slot);
     match name {
-        "send" => sends(m, a, b, message(alloc, header, body)),
-        "copy" => is_this(alloc, m.flood(op(a), PipeId(b)), header, body),
-        "resend" => is_this(alloc, m.again(Ctx(a), PipeId(b)), header, body),
-        "goes_out" => is_this(alloc, m.won(op(a), Some(PipeId(b))), header, body),
-        "passes_on" => passes_on(m, alloc, a, b, header, body),
+        "send" => sends(m, op, Ctx(other.slot), message(alloc, header, body)),
+        "copy" => is_this(alloc, m.flood(op, pipe), header, body),
+        "resend" => is_this(alloc, m.again(Ctx(op.slot), pipe), header, body),
+        "goes_out" => is_this(alloc, m.won(op, Some(pipe)), header, body),
+        "passes_on" => passes_on(m, alloc, op, other, header, body),
         _ => false,
     }
 }
 
 // The operation begins.
-fn begins<M: Proto>(m: &mut M, slot: u32, c: u32, act: Act) -> bool {
+fn begins<M: Proto>(m: &mut M, op: OpName, c: Ctx, act: Act) -> bool {
     if m.reserve(1).is_err() {
         return false;
     }
-    m.begin(op(slot), Ctx(c), act).is_ok()
+    m.begin(op, c, act).is_ok()
 }
 
 // A send of the message begins.
-fn sends<M: Proto>(m: &mut M, slot: u32, c: u32, message: Option<Message>) -> bool {
+fn sends<M: Proto>(m: &mut M, op: OpName, c: Ctx, message: Option<Message>) -> bool {
     match message {
         None => false,
-        Some(message) => begins(m, slot, c, Act::Send(message)),
+        Some(message) => begins(m, op, c, Act::Send(message)),
     }
 }
 
@@ -310,23 +373,23 @@ fn sends<M: Proto>(m: &mut M, slot: u32, c: u32, message: Option<Message>) -> bo
 fn passes_on<M: Proto>(
     m: &mut M,
     alloc: Global,
-    from: u32,
-    to: u32,
+    from: OpName,
+    to: OpName,
     header: &str,
     body: &str,
 ) -> bool {
-    match m.won(op(from), None) {
+    match m.won(from, None) {
         None => false,
         Some(message) => {
-            is_message(alloc, &message, header, body) && begins(m, to, 0, Act::Send(message))
+            is_message(alloc, &message, header, body) && begins(m, to, Ctx(0), Act::Send(message))
         }
     }
 }
 
-// Each of the lines is wrong.
-fn are_wrong<M: Proto>(m: &mut M, alloc: Global, lines: &str) -> bool {
+// Each of the lines is wrong for a bus.
+fn are_wrong(alloc: Global, lines: &str) -> bool {
     for line in lines.lines() {
-        if wrong_line(m, alloc, line) != Some(1) {
+        if line_wrong_for(alloc, "bus", line) != Some(1) {
             return false;
         }
     }
@@ -335,10 +398,6 @@ fn are_wrong<M: Proto>(m: &mut M, alloc: Global, lines: &str) -> bool {
 
 #[test]
 fn a_line_that_is_no_call_is_wrong(rt: HostRuntime) {
-    let mut bus = made(
-        &rt,
-        Bus::new(rt.alloc(), Options::usual(Role::Bus, 0), false),
-    );
     let lines = "up
         up 1 2
         up one
@@ -353,21 +412,32 @@ fn a_line_that_is_no_call_is_wrong(rt: HostRuntime) {
         check 0 both ok
         send 0 0 00'a 'b
         goes_out 0 1 '
-        copy 0 1 ' ' '";
-    holds(&rt, are_wrong(&mut bus, rt.alloc(), lines));
+        copy 0 1 ' ' '
+        up #
+        up 1.
+        for 1..2 up #
+        for 1: up #
+        for 1..two: up #
+        for 1..2: jump #
+        frame 1 'a*b";
+    holds(&rt, are_wrong(rt.alloc(), lines));
 }
 
 #[test]
 fn the_first_wrong_line_is_told(rt: HostRuntime) {
-    let mut bus = made(
-        &rt,
-        Bus::new(rt.alloc(), Options::usual(Role::Bus, 0), false),
-    );
     let play = "
         up 1
 
         wants 1 no
         wants 1 no
     ";
-    holds(&rt, wrong_line(&mut bus, rt.alloc(), play) == Some(4));
+    holds(&rt, line_wrong_for(rt.alloc(), "bus", play) == Some(4));
+}
+
+#[test]
+fn a_text_of_no_machine_is_wrong(rt: HostRuntime) {
+    let alloc = rt.alloc();
+    holds(&rt, line_wrong_for(alloc, "bus+tree", "") == Some(0));
+    holds(&rt, line_wrong_for(alloc, "bus flat", "") == Some(0));
+    holds(&rt, line_wrong_for(alloc, "rep ttl=16", "") == Some(0));
 }

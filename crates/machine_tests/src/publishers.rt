@@ -1,19 +1,5 @@
 //! A publisher: to whom a publication goes.
 use crate::checks::plays;
-use proto_pubsub::Publish;
-use sp_base::{NoMemory, Role};
-use sp_history::setting::Options;
-use std::alloc::Global;
-use std::process::Abort;
-
-fn publisher(alloc: Global, raw: bool) -> Result<Publish, NoMemory> {
-    Publish::new(alloc, Options::usual(Role::Pub, 0), raw)
-}
-
-// A pub returns at each line what it says.
-fn publisher_plays(rt: &impl Abort, alloc: Global, raw: bool, play: &str) {
-    plays(rt, alloc, publisher(alloc, raw), play);
-}
 
 #[test]
 fn a_pub_sends_to_all(rt: HostRuntime) {
@@ -31,7 +17,7 @@ fn a_pub_sends_to_all(rt: HostRuntime) {
         ends 0
         idle
     ";
-    publisher_plays(&rt, rt.alloc(), false, play);
+    plays(&rt, rt.alloc(), "pub", play);
 }
 
 #[test]
@@ -50,5 +36,5 @@ fn a_frame_is_malformed(rt: HostRuntime) {
         send 1 0 ' 'm
         hands_back 1 ' 'm
     ";
-    publisher_plays(&rt, rt.alloc(), true, play);
+    plays(&rt, rt.alloc(), "pub raw", play);
 }

@@ -1,42 +1,5 @@
 //! A rep answers whom it was asked by, and bounds how far a request came. A respondent is a rep in all of this.
 use crate::checks::plays;
-use proto_reqrep::{Reply, Respond};
-use sp_base::Role;
-use sp_history::setting::Options;
-use std::alloc::Global;
-use std::process::Abort;
-
-// A rep and a respondent both return at each line what it says.
-fn both_play(rt: &impl Abort, alloc: Global, raw: bool, play: &str) {
-    let options = Options::usual(Role::Rep, 0);
-    plays(rt, alloc, Reply::new(alloc, options, raw), play);
-    respondent_plays(rt, alloc, raw, play);
-}
-
-fn respondent_plays(rt: &impl Abort, alloc: Global, raw: bool, play: &str) {
-    let options = Options::usual(Role::Respondent, 0);
-    plays(rt, alloc, Respond::new(alloc, options, raw), play);
-}
-
-// Both do, where a request may come over one hop.
-fn both_play_near(rt: &impl Abort, alloc: Global, play: &str) {
-    let mut options = Options::usual(Role::Rep, 0);
-    options.ttl = 1;
-    plays(rt, alloc, Reply::new(alloc, options, false), play);
-    let mut options = Options::usual(Role::Respondent, 0);
-    options.ttl = 1;
-    plays(rt, alloc, Respond::new(alloc, options, false), play);
-}
-
-// Both do, raw, where a request may come over fifteen hops.
-fn both_play_far(rt: &impl Abort, alloc: Global, play: &str) {
-    let mut options = Options::usual(Role::Rep, 0);
-    options.ttl = 15;
-    plays(rt, alloc, Reply::new(alloc, options, true), play);
-    let mut options = Options::usual(Role::Respondent, 0);
-    options.ttl = 15;
-    plays(rt, alloc, Respond::new(alloc, options, true), play);
-}
 
 #[test]
 fn a_reply_goes_back_by_its_backtrace(rt: HostRuntime) {
@@ -58,7 +21,7 @@ fn a_reply_goes_back_by_its_backtrace(rt: HostRuntime) {
         fresh
         goes_out 1 1 000000078000002a' 'a
     ";
-    both_play(&rt, rt.alloc(), false, play);
+    plays(&rt, rt.alloc(), "rep+respondent", play);
 }
 
 #[test]
@@ -80,7 +43,7 @@ fn a_frame_that_is_cut_short_is_malformed(rt: HostRuntime) {
         can_give 0
         gets 0 ' 'q
     ";
-    both_play(&rt, rt.alloc(), false, play);
+    plays(&rt, rt.alloc(), "rep+respondent", play);
 }
 
 #[test]
@@ -98,7 +61,7 @@ fn seven_hops_are_not_too_far_and_eight_are(rt: HostRuntime) {
         frame 1 000000010000000100000001000000010000000100000001000000010000000180000005'
         wants 1 yes
     ";
-    both_play(&rt, rt.alloc(), false, play);
+    plays(&rt, rt.alloc(), "rep+respondent", play);
 }
 
 #[test]
@@ -113,7 +76,7 @@ fn one_hop_is_all_where_the_limit_is_one(rt: HostRuntime) {
         can_give 0
         gets 0 ' '
     ";
-    both_play_near(&rt, rt.alloc(), play);
+    plays(&rt, rt.alloc(), "rep+respondent ttl=1", play);
 }
 
 #[test]
@@ -132,7 +95,7 @@ fn requests_of_a_pipe_that_is_down_are_gone(rt: HostRuntime) {
         idle
         check 0 send state
     ";
-    both_play(&rt, rt.alloc(), false, play);
+    plays(&rt, rt.alloc(), "rep+respondent", play);
 }
 
 #[test]
@@ -148,7 +111,7 @@ fn a_close_drops_the_request_that_is_to_be_answered(rt: HostRuntime) {
         close
         check 0 send state
     ";
-    both_play(&rt, rt.alloc(), false, play);
+    plays(&rt, rt.alloc(), "rep+respondent", play);
 }
 
 #[test]
@@ -166,7 +129,7 @@ fn a_reply_to_a_pipe_that_is_down_goes_nowhere(rt: HostRuntime) {
         ends_nowhere 1
         idle
     ";
-    both_play(&rt, rt.alloc(), false, play);
+    plays(&rt, rt.alloc(), "rep+respondent", play);
 }
 
 #[test]
@@ -189,7 +152,7 @@ fn two_contexts_answer_their_own(rt: HostRuntime) {
         send 3 1 ' 'A
         goes_out 3 1 80000001' 'A
     ";
-    both_play(&rt, rt.alloc(), false, play);
+    plays(&rt, rt.alloc(), "rep+respondent", play);
 }
 
 #[test]
@@ -205,7 +168,7 @@ fn a_raw_replier_shows_its_pipe_and_the_backtrace(rt: HostRuntime) {
         send 2 0 000000098000002a' 'q
         can_drop 2
     ";
-    both_play(&rt, rt.alloc(), true, play);
+    plays(&rt, rt.alloc(), "rep+respondent raw", play);
 }
 
 #[test]
@@ -223,7 +186,7 @@ fn fifteen_words_make_a_header_of_64_bytes(rt: HostRuntime) {
         goes_out 1 1 000000010000000200000003000000040000000500000006000000070000000800000009\
             0000000a0000000b0000000c0000000d0000000e80000005' 'q
     ";
-    both_play_far(&rt, rt.alloc(), play);
+    plays(&rt, rt.alloc(), "rep+respondent raw ttl=15", play);
 }
 
 #[test]
@@ -242,7 +205,7 @@ fn the_ninth_word_is_too_far_for_a_respondent(rt: HostRuntime) {
         send 1 0 ' 'r
         goes_out 1 1 ff000005' 'r
     ";
-    respondent_plays(&rt, rt.alloc(), false, play);
+    plays(&rt, rt.alloc(), "respondent", play);
 }
 
 #[test]
@@ -258,12 +221,10 @@ fn the_ninth_word_is_too_far_for_a_raw_respondent(rt: HostRuntime) {
         receive 0 0
         gets 0 000000028000002a' 'q
     ";
-    respondent_plays(&rt, rt.alloc(), true, play);
+    plays(&rt, rt.alloc(), "respondent raw", play);
 }
 
 #[test]
 fn a_respondent_stands_for_its_role(rt: HostRuntime) {
-    let options = Options::usual(Role::Respondent, 0);
-    let respondent = proto_survey::Respond::new(rt.alloc(), options, false);
-    plays(&rt, rt.alloc(), respondent, "is respondent cooked");
+    plays(&rt, rt.alloc(), "respondent", "is respondent cooked");
 }

@@ -1,20 +1,5 @@
 //! A req gives a reply to the request that asked, once.
 use crate::checks::plays;
-use proto_reqrep::Request;
-use sp_base::{NoMemory, Role};
-use sp_history::setting::Options;
-use std::alloc::Global;
-use std::process::Abort;
-
-// A req whose ids begin there.
-fn req(alloc: Global, dice: u32, raw: bool) -> Result<Request, NoMemory> {
-    Request::new(alloc, Options::usual(Role::Req, dice), raw)
-}
-
-// A req whose ids begin there returns at each line what it says.
-fn req_plays(rt: &impl Abort, alloc: Global, dice: u32, raw: bool, play: &str) {
-    plays(rt, alloc, req(alloc, dice, raw), play);
-}
 
 #[test]
 fn a_reply_is_given_once(rt: HostRuntime) {
@@ -33,7 +18,7 @@ fn a_reply_is_given_once(rt: HostRuntime) {
         frame 1 80000000'pong
         check 0 receive state
     ";
-    req_plays(&rt, rt.alloc(), 0, false, play);
+    plays(&rt, rt.alloc(), "req", play);
 }
 
 #[test]
@@ -58,7 +43,7 @@ fn replies_reach_the_contexts_that_asked(rt: HostRuntime) {
         check 0 receive state
         malformed 1 800000'
     ";
-    req_plays(&rt, rt.alloc(), 0, false, play);
+    plays(&rt, rt.alloc(), "req", play);
 }
 
 #[test]
@@ -80,7 +65,7 @@ fn a_new_request_replaces_the_old(rt: HostRuntime) {
         frame 1 80000001'y
         check 0 receive state
     ";
-    req_plays(&rt, rt.alloc(), 0, false, play);
+    plays(&rt, rt.alloc(), "req", play);
 }
 
 #[test]
@@ -101,7 +86,7 @@ fn a_request_that_is_given_up_gets_no_reply(rt: HostRuntime) {
         keeps 0 no
         check 0 receive state
     ";
-    req_plays(&rt, rt.alloc(), 4_294_967_295, false, play);
+    plays(&rt, rt.alloc(), "req dice=4294967295", play);
 }
 
 #[test]
@@ -123,7 +108,7 @@ fn a_second_request_gets_its_own_reply_behind_that_of_a_cancelled_one(rt: HostRu
         gets 3 ' 'B
         check 0 receive state
     ";
-    req_plays(&rt, rt.alloc(), 0, false, play);
+    plays(&rt, rt.alloc(), "req", play);
 }
 
 #[test]
@@ -136,20 +121,18 @@ fn ids_wrap_with_the_top_bit_set(rt: HostRuntime) {
         send 1 0 ' 'b
         goes_out 1 1 80000000' 'b
     ";
-    req_plays(&rt, rt.alloc(), 4_294_967_295, false, play);
+    plays(&rt, rt.alloc(), "req dice=4294967295", play);
     let play = "
         reserve 1
         up 1
         send 0 0 ' 'a
         goes_out 0 1 80000005' 'a
     ";
-    req_plays(&rt, rt.alloc(), 5, false, play);
+    plays(&rt, rt.alloc(), "req dice=5", play);
 }
 
 #[test]
 fn a_request_is_never_due_where_its_time_has_no_end(rt: HostRuntime) {
-    let mut options = Options::usual(Role::Req, 0);
-    options.resend = 18_446_744_073_709_551_615;
     let play = "
         reserve 1
         up 1
@@ -162,12 +145,8 @@ fn a_request_is_never_due_where_its_time_has_no_end(rt: HostRuntime) {
         up 2
         can_resend 0 2
     ";
-    plays(
-        &rt,
-        rt.alloc(),
-        Request::new(rt.alloc(), options, false),
-        play,
-    );
+    let req = "req resend=18446744073709551615";
+    plays(&rt, rt.alloc(), req, play);
 }
 
 #[test]
@@ -185,5 +164,5 @@ fn a_raw_req_moves_one_word(rt: HostRuntime) {
         gets 1 8000002a' 'a
         malformed 1 800000'
     ";
-    req_plays(&rt, rt.alloc(), 0, true, play);
+    plays(&rt, rt.alloc(), "req raw", play);
 }

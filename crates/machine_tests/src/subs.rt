@@ -1,23 +1,5 @@
-//! A sub keeps what its topics match.
+//! A sub keeps what its topics match, with a queue of two messages.
 use crate::checks::plays;
-use proto_pubsub::Subscribe;
-use sp_base::{NoMemory, Role};
-use sp_history::setting::Options;
-use std::alloc::Global;
-use std::process::Abort;
-
-// A sub with a queue of two messages.
-fn sub(alloc: Global, prefer_new: bool, raw: bool) -> Result<Subscribe, NoMemory> {
-    let mut options = Options::usual(Role::Sub, 0);
-    options.queue = 2;
-    options.prefer_new = prefer_new;
-    Subscribe::new(alloc, options, raw)
-}
-
-// A sub with a queue of two messages returns at each line what it says.
-fn sub_plays(rt: &impl Abort, alloc: Global, prefer_new: bool, raw: bool, play: &str) {
-    plays(rt, alloc, sub(alloc, prefer_new, raw), play);
-}
 
 #[test]
 fn a_subscriber_keeps_what_its_topics_match(rt: HostRuntime) {
@@ -40,7 +22,7 @@ fn a_subscriber_keeps_what_its_topics_match(rt: HostRuntime) {
         keeps 0 no
         take_off 0 'zz no
     ";
-    sub_plays(&rt, rt.alloc(), true, false, play);
+    plays(&rt, rt.alloc(), "sub queue=2", play);
 }
 
 #[test]
@@ -59,7 +41,7 @@ fn a_subscriber_keeps_the_older_where_it_prefers_them(rt: HostRuntime) {
         gets 1 ' 'abd
         keeps 0 no
     ";
-    sub_plays(&rt, rt.alloc(), false, false, play);
+    plays(&rt, rt.alloc(), "sub queue=2 prefer_old", play);
 }
 
 #[test]
@@ -83,7 +65,7 @@ fn a_topic_that_is_off_takes_what_no_other_matches(rt: HostRuntime) {
         can_give 1
         gets 1 ' '
     ";
-    sub_plays(&rt, rt.alloc(), true, false, play);
+    plays(&rt, rt.alloc(), "sub queue=2", play);
 }
 
 #[test]
@@ -105,7 +87,7 @@ fn contexts_keep_apart(rt: HostRuntime) {
         check 1 receive no_entry
         check 0 send not_supported
     ";
-    sub_plays(&rt, rt.alloc(), false, false, play);
+    plays(&rt, rt.alloc(), "sub queue=2 prefer_old", play);
 }
 
 #[test]
@@ -129,7 +111,7 @@ fn a_frame_goes_to_each_context_that_asked(rt: HostRuntime) {
         keeps 0 no
         keeps 1 no
     ";
-    sub_plays(&rt, rt.alloc(), false, false, play);
+    plays(&rt, rt.alloc(), "sub queue=2 prefer_old", play);
 }
 
 #[test]
@@ -155,5 +137,5 @@ fn a_raw_one_keeps_every_frame(rt: HostRuntime) {
         keeps 0 no
         loses 2
     ";
-    sub_plays(&rt, rt.alloc(), false, true, play);
+    plays(&rt, rt.alloc(), "sub queue=2 prefer_old raw", play);
 }

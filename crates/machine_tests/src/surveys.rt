@@ -1,31 +1,5 @@
 //! Surveys: their responses, until they are over or replaced.
 use crate::checks::plays;
-use proto_survey::Survey;
-use sp_base::{NoMemory, Role};
-use sp_history::setting::Options;
-use std::alloc::Global;
-use std::process::Abort;
-
-fn survey(alloc: Global, raw: bool) -> Result<Survey, NoMemory> {
-    Survey::new(alloc, Options::usual(Role::Surveyor, 0), raw)
-}
-
-// A surveyor returns at each line what it says.
-fn survey_plays(rt: &impl Abort, alloc: Global, raw: bool, play: &str) {
-    plays(rt, alloc, survey(alloc, raw), play);
-}
-
-// A surveyor that keeps one response for a survey.
-fn narrow(alloc: Global) -> Result<Survey, NoMemory> {
-    let mut options = Options::usual(Role::Surveyor, 0);
-    options.queue = 1;
-    Survey::new(alloc, options, false)
-}
-
-// A surveyor that keeps one response for a survey returns at each line what it says.
-fn narrow_plays(rt: &impl Abort, alloc: Global, play: &str) {
-    plays(rt, alloc, narrow(alloc), play);
-}
 
 #[test]
 fn a_survey_gives_its_responses_until_it_is_over(rt: HostRuntime) {
@@ -65,7 +39,7 @@ fn a_survey_gives_its_responses_until_it_is_over(rt: HostRuntime) {
         keeps 0 no
         check 0 receive state
     ";
-    survey_plays(&rt, rt.alloc(), false, play);
+    plays(&rt, rt.alloc(), "surveyor", play);
 }
 
 #[test]
@@ -100,7 +74,7 @@ fn a_newer_survey_replaces_the_older(rt: HostRuntime) {
         keeps 0 no
         malformed 1 800000'
     ";
-    narrow_plays(&rt, rt.alloc(), play);
+    plays(&rt, rt.alloc(), "surveyor queue=1", play);
 }
 
 #[test]
@@ -130,7 +104,7 @@ fn each_context_has_its_survey(rt: HostRuntime) {
         shut 1
         check 1 receive no_entry
     ";
-    survey_plays(&rt, rt.alloc(), false, play);
+    plays(&rt, rt.alloc(), "surveyor", play);
 }
 
 #[test]
@@ -163,7 +137,7 @@ fn a_response_goes_to_the_first_receive_of_its_context(rt: HostRuntime) {
         can_give 2
         gets 2 ' 'c
     ";
-    survey_plays(&rt, rt.alloc(), false, play);
+    plays(&rt, rt.alloc(), "surveyor", play);
 }
 
 #[test]
@@ -177,7 +151,7 @@ fn a_survey_has_a_copy_for_each_pipe_that_is_up(rt: HostRuntime) {
         copy 0 1 80000000' 's
         no_copy 0 2
     ";
-    survey_plays(&rt, rt.alloc(), false, play);
+    plays(&rt, rt.alloc(), "surveyor", play);
 }
 
 #[test]
@@ -198,5 +172,5 @@ fn a_raw_surveyor_keeps_its_header(rt: HostRuntime) {
         gets 3 8000002a' 'a
         malformed 1 800000'
     ";
-    survey_plays(&rt, rt.alloc(), true, play);
+    plays(&rt, rt.alloc(), "surveyor raw", play);
 }

@@ -1,16 +1,27 @@
 //! The words of a play: results as words, and bytes. `None` where it is no such word, or memory is short.
+use sp_base::OpName;
 use sp_history::entry::Cause;
 use sp_msg::Message;
 use sp_proto::CheckError;
 use std::alloc::Global;
 
-/// A whole number of 32 bits, in decimal digits.
-pub fn number(word: &str) -> Option<u32> {
-    word.parse::<u32>().ok()
+/// What the number stands for: the first operation of its slot, or a pipe or a context. `1.7` is the seventh operation.
+pub fn named(word: &str) -> Option<OpName> {
+    let (slot, generation) = match word.split_once('.') {
+        Some(parts) => parts,
+        None => (word, "1"),
+    };
+    match (slot.parse::<u32>(), generation.parse::<u64>()) {
+        (Ok(slot), Ok(generation)) => Some(OpName { slot, generation }),
+        _ => None,
+    }
 }
 
-/// Milliseconds: `10ms`.
+/// Milliseconds: `10ms`, `10min`.
 pub fn milliseconds(word: &str) -> Option<u64> {
+    if let Some(minutes) = word.strip_suffix("min") {
+        return minutes.parse::<u64>().ok()?.checked_mul(60_000);
+    }
     word.strip_suffix("ms")?.parse::<u64>().ok()
 }
 
@@ -65,12 +76,50 @@ fn from_hex(alloc: Global, hex: &[u8]) -> Option<Vec<u8>> {
     Some(bytes)
 }
 
-/// Hexadecimal digits of the first bytes, an apostrophe, and the others as text: `80000000'a`.
+// Appends the text so many times.
+fn append(bytes: &mut Vec<u8>, text: &[u8], times: u32) -> Option<()> {
+    for _ in 0..times {
+        bytes.extend_from_slice(text).ok()?;
+    }
+    Some(())
+}
+
+/// Hexadecimal digits of the first bytes, an apostrophe, and the others as text: `80000000'a`, `'m*1000`.
 pub fn bytes(alloc: Global, word: &str) -> Option<Vec<u8>> {
     let (hex, text) = word.split_once('\'')?;
     let mut bytes = from_hex(alloc, hex.as_bytes())?;
-    bytes.extend_from_slice(text.as_bytes()).ok()?;
+    match text.split_once('*') {
+        None => append(&mut bytes, text.as_bytes(), 1)?,
+        Some((text, times)) => append(&mut bytes, text.as_bytes(), times.parse::<u32>().ok()?)?,
+    }
     Some(bytes)
+}
+
+// The last six hexadecimal digits.
+fn hexadecimal(alloc: Global, n: u32) -> Option<String> {
+    let mut text = String::new(alloc);
+    for shift in [20, 16, 12, 8, 4, 0] {
+        text.push(char::from_digit((n >> shift) % 16, 16)?).ok()?;
+    }
+    Some(text)
+}
+
+/// The calls of the round of this number.
+pub fn round(alloc: Global, n: u32, calls: &str) -> Option<String> {
+    let number = n.to_string(alloc).ok()?;
+    let next = n.saturating_add(1).to_string(alloc).ok()?;
+    let digits = hexadecimal(alloc, n)?;
+    let mut text = String::new(alloc);
+    for c in calls.chars() {
+        match c {
+            '#' => text.push_str(&number),
+            '&' => text.push_str(&next),
+            '%' => text.push_str(&digits),
+            _ => text.push(c),
+        }
+        .ok()?;
+    }
+    Some(text)
 }
 
 // Appends these words to the header.

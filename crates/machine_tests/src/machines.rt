@@ -1,0 +1,204 @@
+//! Machines by texts, each of which plays a text. Its role stands first, as `bus`; several have plus signs between
+//! them, as `rep+respondent`. Behind it stand words for what is not usual:
+//!
+//! | what | word |
+//! |---|---|
+//! | it is raw | `raw` |
+//! | a full queue keeps what is old | `prefer_old` |
+//! | where the ids of requests begin | `dice=5` |
+//! | how many messages are kept | `queue=2` |
+//! | after how many milliseconds a request goes out again | `resend=1` |
+//! | how many words of a backtrace are read | `ttl=15` |
+//!
+//! Each machine is written out here alone: a function that hands one to a generic function takes seconds to prove.
+ghost use Rattle.std.specs.Prelude.{IfSome};
+ghost use Rattle.sp_history.specs.Options.{Fits};
+
+use crate::plays::wrong_line;
+use proto_bus::Bus;
+use proto_pair::Pair;
+use proto_pipeline::{Pull, Push};
+use proto_pubsub::{Publish, Subscribe};
+use proto_reqrep::{Reply, Request, Respond};
+use proto_survey::Survey;
+use sp_base::{NoMemory, Role};
+use sp_history::setting::Options;
+use sp_proto::Proto;
+use std::alloc::Global;
+
+/// The number of the first line at which a machine of this text returns something else, from 1 on; 0 where the text is
+/// none of a machine, or there is no memory for it.
+pub fn line_wrong_for(alloc: Global, machines: &str, play: &str) -> Option<usize> {
+    let (roles, words) = match machines.split_once(' ') {
+        Some(parts) => parts,
+        None => (machines, ""),
+    };
+    for role in roles.split('+') {
+        let line = of_role(alloc, role, words, play);
+        if line.is_some() {
+            return line;
+        }
+    }
+    None
+}
+
+fn of_role(alloc: Global, role: &str, words: &str, play: &str) -> Option<usize> {
+    match role {
+        "pair" => pair(alloc, words, play),
+        "pub" => publish(alloc, words, play),
+        "sub" => subscribe(alloc, words, play),
+        "req" => request(alloc, words, play),
+        "rep" => reply(alloc, words, play),
+        "push" => push(alloc, words, play),
+        "pull" => pull(alloc, words, play),
+        "surveyor" => survey(alloc, words, play),
+        "respondent" => respond(alloc, words, play),
+        "bus" => bus(alloc, words, play),
+        _ => Some(0),
+    }
+}
+
+// What a machine is set to.
+#[derive(Clone, Copy)]
+struct Kind {
+    options: Options,
+    raw: bool,
+}
+
+fn kind_of(role: Role, words: &str) -> Option<Kind> {
+    let mut it = Kind {
+        options: Options::usual(role, 0),
+        raw: false,
+    };
+    for word in words.split_whitespace() {
+        if !is_set(&mut it, word) {
+            return None;
+        }
+    }
+    Some(it)
+}
+
+fn is_set(it: &mut Kind, word: &str) -> bool {
+    match word.split_once('=') {
+        Some((name, value)) => match value.parse::<u64>() {
+            Ok(n) => is_number_set(&mut it.options, name, n),
+            Err(_) => false,
+        },
+        None => is_named_set(it, word),
+    }
+}
+
+fn is_named_set(it: &mut Kind, word: &str) -> bool {
+    match word {
+        "raw" => it.raw = true,
+        "prefer_old" => it.options.prefer_new = false,
+        _ => return false,
+    }
+    true
+}
+
+fn is_number_set(options: &mut Options, name: &str, n: u64) -> bool {
+    match name {
+        "dice" => options.dice = u32::try_from(n).unwrap_or(0),
+        "queue" => options.queue = u32::try_from(n).unwrap_or(0),
+        "resend" => options.resend = n,
+        "ttl" => options.ttl = u8::try_from(n).unwrap_or(0),
+        _ => return false,
+    }
+    true
+}
+
+fn plays<M: Proto>(alloc: Global, machine: Result<M, NoMemory>, play: &str) -> Option<usize> {
+    match machine {
+        Ok(mut m) => wrong_line(&mut m, alloc, play),
+        Err(_) => Some(0),
+    }
+}
+
+fn pair(alloc: Global, words: &str, play: &str) -> Option<usize> {
+    match kind_of(Role::Pair0, words) {
+        Some(it) => plays(alloc, Pair::new(alloc, it.options, it.raw), play),
+        None => Some(0),
+    }
+}
+
+fn publish(alloc: Global, words: &str, play: &str) -> Option<usize> {
+    match kind_of(Role::Pub, words) {
+        Some(it) => plays(alloc, Publish::new(alloc, it.options, it.raw), play),
+        None => Some(0),
+    }
+}
+
+fn subscribe(alloc: Global, words: &str, play: &str) -> Option<usize> {
+    match kind_of(Role::Sub, words) {
+        Some(it) => plays(alloc, Subscribe::new(alloc, it.options, it.raw), play),
+        None => Some(0),
+    }
+}
+
+fn bus(alloc: Global, words: &str, play: &str) -> Option<usize> {
+    match kind_of(Role::Bus, words) {
+        Some(it) => plays(alloc, Bus::new(alloc, it.options, it.raw), play),
+        None => Some(0),
+    }
+}
+
+fn pull(alloc: Global, words: &str, play: &str) -> Option<usize> {
+    match kind_of(Role::Pull, words) {
+        Some(it) => plays(alloc, Pull::new(alloc, it.options, it.raw), play),
+        None => Some(0),
+    }
+}
+
+fn push(alloc: Global, words: &str, play: &str) -> Option<usize> {
+    match kind_of(Role::Push, words) {
+        Some(it) => push_plays(alloc, Push::new(alloc, it.options, it.raw), play),
+        None => Some(0),
+    }
+}
+
+/// The same of this push.
+pub fn push_plays(alloc: Global, push: Result<Push, NoMemory>, play: &str) -> Option<usize> {
+    plays(alloc, push, play)
+}
+
+// The numbers are in range, as the machines below ask for.
+fn kind_that_fits(role: Role, words: &str) -> Option<Kind>
+    ensures { IfSome result (λ it. Fits it.options) }
+{
+    let it = kind_of(role, words)?;
+    if it.options.fits() { Some(it) } else { None }
+}
+
+fn request(alloc: Global, words: &str, play: &str) -> Option<usize> {
+    match kind_that_fits(Role::Req, words) {
+        Some(it) => plays(alloc, Request::new(alloc, it.options, it.raw), play),
+        None => Some(0),
+    }
+}
+
+// A respondent is a rep too.
+fn rep_plays(alloc: Global, rep: Result<Reply, NoMemory>, play: &str) -> Option<usize> {
+    plays(alloc, rep, play)
+}
+
+fn reply(alloc: Global, words: &str, play: &str) -> Option<usize> {
+    match kind_that_fits(Role::Rep, words) {
+        Some(it) => rep_plays(alloc, Reply::new(alloc, it.options, it.raw), play),
+        None => Some(0),
+    }
+}
+
+fn respond(alloc: Global, words: &str, play: &str) -> Option<usize> {
+    match kind_that_fits(Role::Respondent, words) {
+        Some(it) => rep_plays(alloc, Respond::new(alloc, it.options, it.raw), play),
+        None => Some(0),
+    }
+}
+
+fn survey(alloc: Global, words: &str, play: &str) -> Option<usize> {
+    match kind_that_fits(Role::Surveyor, words) {
+        Some(it) => plays(alloc, Survey::new(alloc, it.options, it.raw), play),
+        None => Some(0),
+    }
+}

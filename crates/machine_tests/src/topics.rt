@@ -1,0 +1,116 @@
+//! Many topics: what a sub keeps is what one of its topics is a prefix of, each looked at alone.
+use crate::checks::{holds, plays};
+use sp_base::{NoMemory, next_value};
+use std::alloc::Global;
+
+// Up to six letters, `a` and `b`, by the number's bits.
+fn word(alloc: Global, n: u64) -> Result<String, NoMemory> {
+    let mut letters = String::new(alloc);
+    let mut bits = n;
+    for _ in 0..(n / 64) % 7 {
+        letters.push(if bits % 2 == 0 { 'a' } else { 'b' })?;
+        bits /= 2;
+    }
+    Ok(letters)
+}
+
+// One of the topics is a prefix of the body.
+fn is_wanted(topics: &[String], body: &str) -> bool {
+    topics.iter().any(|t| body.starts_with(t.as_str()))
+}
+
+// The topic is among these.
+fn is_on(topics: &[String], topic: &str) -> bool {
+    topics.iter().any(|t| t.as_str() == topic)
+}
+
+// Appends a line with the text in it.
+fn add(play: &mut String, begin: &str, text: &str, end: &str) -> Result<(), NoMemory> {
+    play.push_str(begin)?;
+    play.push_str(text)?;
+    play.push_str(end)?;
+    play.push_str("\n")?;
+    Ok(())
+}
+
+// The topic is put on, and whether that changes something.
+fn put_on(play: &mut String, topics: &mut Vec<String>, topic: String) -> Result<(), NoMemory> {
+    let is_new = !is_on(topics, topic.as_str());
+    add(
+        play,
+        "put_on 0 '",
+        topic.as_str(),
+        if is_new { " yes" } else { " no" },
+    )?;
+    if is_new {
+        topics.push(topic)?;
+    }
+    Ok(())
+}
+
+// It is taken off, and whether that does.
+fn take_off(play: &mut String, topics: &mut Vec<String>, topic: &str) -> Result<(), NoMemory> {
+    let was_on = is_on(topics, topic);
+    topics.retain(|t| t.as_str() != topic);
+    add(
+        play,
+        "take_off 0 '",
+        topic,
+        if was_on { " yes" } else { " no" },
+    )
+}
+
+// The frame comes, and is kept and received exactly where a topic of the list is its prefix.
+fn brings(play: &mut String, topics: &[String], body: &str) -> Result<(), NoMemory> {
+    add(play, "frame 1 '", body, "")?;
+    if is_wanted(topics, body) {
+        add(play, "receive 0 0\ncan_give 0\ngets 0 ' '", body, "")?;
+    }
+    add(play, "keeps 0 no", "", "")
+}
+
+// Of so many steps some put a topic on, some take one off, and the others bring a frame.
+fn steps(alloc: Global, count: u32) -> Result<String, NoMemory> {
+    let mut play = String::new(alloc);
+    let mut topics = Vec::new(alloc);
+    let mut value = 1;
+    for _ in 0..count {
+        value = next_value(value);
+        let drawn = value >> 32;
+        let text = word(alloc, drawn / 4)?;
+        match drawn % 4 {
+            0 => put_on(&mut play, &mut topics, text)?,
+            1 => take_off(&mut play, &mut topics, text.as_str())?,
+            _ => brings(&mut play, &topics, text.as_str())?,
+        }
+    }
+    Ok(play)
+}
+
+#[test]
+fn a_frame_is_kept_where_a_topic_is_its_prefix(rt: HostRuntime) {
+    match steps(rt.alloc(), 4_000) {
+        Ok(play) => plays(&rt, rt.alloc(), "sub", play.as_str()),
+        Err(_) => holds(&rt, false),
+    }
+}
+
+// A body that is wanted by none of the topics, and one that is. Then a longer topic than any, and a shorter body.
+#[test]
+fn ten_thousand_topics_of_one_length(rt: HostRuntime) {
+    let play = "
+        for 0..9999: put_on 0 00%' yes
+        frame 1 0000271001'
+        keeps 0 no
+        frame 1 0000270f01'
+        receive 0 0
+        can_give 0
+        gets 0 ' 0000270f01'
+        put_on 0 ' yes
+        frame 1 '
+        receive 0 0
+        can_give 0
+        gets 0 ' '
+    ";
+    plays(&rt, rt.alloc(), "sub", play);
+}
