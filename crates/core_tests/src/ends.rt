@@ -1,21 +1,22 @@
 //! Closes, deadlines, and the numbers of causes.
-use crate::checks::{pull_plays, push_plays, same};
-use sp_base::SpError;
+use crate::checks::same;
+use crate::roles::{pull_plays, push_plays, sub_plays};
+use sp_base::{Role, SpError};
 use sp_history::entry::Cause;
+use sp_history::setting::Options;
 
 #[test]
 fn a_closed_core_begins_nothing(rt: HostRuntime) {
-    let alloc = rt.alloc();
     let of_pull = "
         close 0 0 0 0 0 0
         no_receive 0 7
     ";
-    pull_plays(&rt, alloc, false, 1, of_pull, "");
+    pull_plays(&rt, false, 1, of_pull, "");
     let of_push = "
         closed
         no_send 0 00000007' 'x 7
     ";
-    push_plays(&rt, alloc, false, 1, of_push, "");
+    push_plays(&rt, false, 1, of_push, "");
 }
 
 #[test]
@@ -30,7 +31,31 @@ fn a_close_with_three_pending(rt: HostRuntime) {
         gone closed 0
         close 3 0 3 0 0 0
     ";
-    pull_plays(&rt, rt.alloc(), false, 3, calls, "");
+    pull_plays(&rt, false, 3, calls, "");
+}
+
+#[test]
+fn a_close_ends_what_is_pending_once(rt: HostRuntime) {
+    let calls = "
+        opens 1
+        receive 0
+        receive 1
+        receive 0
+        close 3 0 3 0 0 0
+        close 3 0 3 0 0 0
+        gone closed 0
+        gone closed 0
+        gone closed 0
+        no_receive 0 7
+        not_now 0 7
+        no_context 7
+        shuts 1 7
+        subscribes 0 'a 7
+        unsubscribes 0 'a 7
+        no_pipe 0 7 end
+    ";
+    let options = Options::usual(Role::Sub, 0);
+    sub_plays(&rt, options, false, calls, "");
 }
 
 #[test]
@@ -60,7 +85,7 @@ fn a_deadline_is_named_once(rt: HostRuntime) {
         due 9 0
         gone closed 0
     ";
-    pull_plays(&rt, rt.alloc(), false, 1, calls, "");
+    pull_plays(&rt, false, 1, calls, "");
 }
 
 #[test]
@@ -75,5 +100,5 @@ fn what_a_caller_ended_is_found_at_the_next_begin(rt: HostRuntime) {
         gone closed 0
         gone cancelled 1
     ";
-    pull_plays(&rt, rt.alloc(), false, 2, calls, "");
+    pull_plays(&rt, false, 2, calls, "");
 }

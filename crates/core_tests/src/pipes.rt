@@ -1,16 +1,15 @@
 //! Pipes: their numbers, how they go down, and the wires that come back.
 ghost use Rattle.std.specs.Prelude.{◌≡◌};
 ghost use Rattle.core_parts.specs.Wires.{IsUnused};
+ghost use Rattle.sp_proto.specs.Kinds.{Kind, Starts};
 
-use crate::checks::{holds, is_ok, made, pull, pull_plays, pulling, push_plays, same};
-use core_driver::Driver;
+use crate::checks::{fails, same};
+use crate::roles::{driver, driver_plays, plays, pull, pull_plays, push_plays};
 use core_plays::{Fails, PlayWire, wire};
-use proto_pipeline::Pull;
-use sp_base::{Ctx, SpError};
-use sp_core::{Core, Outcome};
+use sp_base::SpError;
+use sp_core::Core;
 use sp_msg::Wire;
 use sp_proto::Proto;
-use std::alloc::Global;
 use std::process::Abort;
 use std::sync::Wait;
 use turn_lock::Stands;
@@ -27,7 +26,7 @@ fn a_wire_that_fails_goes_down_alone(rt: HostRuntime) {
         received ' 'x
         close 1 1 0 1 0 0
     ";
-    pull_plays(&rt, rt.alloc(), false, 2, calls, "put 2");
+    pull_plays(&rt, false, 2, calls, "put 2");
 }
 
 #[test]
@@ -42,7 +41,7 @@ fn a_malformed_wire_goes_down_alone(rt: HostRuntime) {
         received ' 'x
         close 1 1 0 1 0 0
     ";
-    pull_plays(&rt, rt.alloc(), false, 2, calls, "put 2");
+    pull_plays(&rt, false, 2, calls, "put 2");
 }
 
 #[test]
@@ -57,7 +56,7 @@ fn a_wire_that_ends_goes_down_alone(rt: HostRuntime) {
         received ' 'x
         close 1 1 0 1 0 0
     ";
-    pull_plays(&rt, rt.alloc(), false, 2, calls, "put 2");
+    pull_plays(&rt, false, 2, calls, "put 2");
 }
 
 #[test]
@@ -71,7 +70,7 @@ fn a_wire_that_failed_is_handed_out_with_what_was_put(rt: HostRuntime) {
         down_with 1 failed 'x
         close 1 1 0 0 1 0
     ";
-    push_plays(&rt, rt.alloc(), false, 1, calls, "put 2");
+    push_plays(&rt, false, 1, calls, "put 2");
 }
 
 #[test]
@@ -91,7 +90,7 @@ fn pipes_are_numbered_from_one(rt: HostRuntime) {
         put 2
         put 3
     ";
-    push_plays(&rt, rt.alloc(), false, 1, calls, wires);
+    push_plays(&rt, false, 1, calls, wires);
 }
 
 #[test]
@@ -102,7 +101,7 @@ fn a_quiet_wire_is_asked_once_a_turn(rt: HostRuntime) {
         serves false 0 0 1
         serves true 1 0 0
     ";
-    pull_plays(&rt, rt.alloc(), false, 1, calls, "put 1");
+    pull_plays(&rt, false, 1, calls, "put 1");
 }
 
 #[test]
@@ -113,75 +112,49 @@ fn a_close_takes_its_pipes_down(rt: HostRuntime) {
         down 1 closed
         none_down
     ";
-    pull_plays(&rt, rt.alloc(), false, 1, calls, "");
+    pull_plays(&rt, false, 1, calls, "");
 }
 
 // A wire that gives `x`.
-fn giving(rt: &impl Abort, alloc: Global) -> PlayWire
+fn giving<R: AllocGlobal + Abort>(rt: &R) -> PlayWire
     ensures { IsUnused (⟦<PlayWire as Wire>⟧.shown result) }
 {
-    match wire(alloc, 0, "'x", Fails::Nowhere) {
+    match wire(rt.alloc(), 0, "'x", Fails::Nowhere) {
         Some(wire) => wire,
-        None => panic!(rt; "no memory for a wire"),
+        None => fails(rt),
     }
 }
 
-// Ends a core whose operations are all collected.
-fn finish<P: Proto, R: Wait + Abort>(rt: &R, alloc: Global, driver: Driver<P, PlayWire>) {
-    same(rt, driver.open_count(), 0);
-    made(rt, driver.finish(rt, alloc));
-}
-
-// A wire that gives `x` gives it over this core.
-fn gives_its_message<P: Proto, R: Wait + Abort>(
-    rt: &R,
-    alloc: Global,
-    driver: Driver<P, PlayWire>,
-    wire: PlayWire,
-)
-    requires { IsUnused (⟦<PlayWire as Wire>⟧.shown wire) }
+// Of two cores the first is closed, and the second takes the wire that came back, which gives its message.
+fn takes_what_came_back<P: Proto + Drop, R: AllocGlobal + Wait + Abort>(rt: &R, one: P, other: P)
+    requires one { (k : Kind) × Starts P.ties one k }
+    requires other { (k : Kind) × Starts P.ties other k }
 {
-    let mut driver = driver;
-    match driver.attach(rt, wire, 0) {
-        Ok(pipe) => same(rt, pipe.0, 1),
-        Err(_) => panic!(rt; "the wire came back"),
-    }
-    is_ok(rt, driver.begin_recv(rt, Ctx(0), None));
-    driver.serve(rt);
-    match driver.collect(rt) {
-        Some(Outcome::Received(m)) => {
-            holds(rt, m.header().is_empty());
-            same(rt, m.body(), b"x".as_slice());
-        }
-        _ => panic!(rt; "nothing was received"),
-    }
-    finish(rt, alloc, driver);
-}
-
-// Of two cores the first is closed, and the second takes the wire that came back.
-fn takes_what_came_back<P: Proto, R: Wait + Abort>(
-    rt: &R,
-    alloc: Global,
-    mut one: Driver<P, PlayWire>,
-    other: Driver<P, PlayWire>,
-) {
+    let mut one = driver(rt, one, 1);
+    let mut other = driver(rt, other, 1);
     one.close(rt);
-    match one.attach(rt, giving(rt, alloc), 0) {
-        Ok(_) => panic!(rt; "a pipe came up"),
+    match one.attach(rt, giving(rt), 0) {
+        Ok(_) => fails(rt),
         Err((e, wire)) => {
             same(rt, SpError::from(e).code(), 7);
-            gives_its_message(rt, alloc, other, wire);
+            match other.attach(rt, wire, 0) {
+                Ok(pipe) => same(rt, pipe.0, 1),
+                Err((_e, _wire)) => fails(rt),
+            }
         }
     }
-    finish(rt, alloc, one);
+    let calls = "
+        receive 0
+        serve
+        received ' 'x
+    ";
+    driver_plays(rt, other, calls, "put 1");
+    driver_plays(rt, one, "", "");
 }
 
 #[test]
 fn a_wire_comes_back_after_the_close(rt: HostRuntime) {
-    let alloc = rt.alloc();
-    let one = pulling(&rt, alloc, false, 1);
-    let other = pulling(&rt, alloc, true, 1);
-    takes_what_came_back(&rt, alloc, one, other);
+    takes_what_came_back(&rt, pull(&rt, false), pull(&rt, true));
 }
 
 // A value that could stand behind the turn lock.
@@ -191,15 +164,26 @@ fn behind_a_lock<S: Stands>(state: S) -> S
     state
 }
 
-#[test]
-fn an_empty_core_hands_its_machine_back(rt: HostRuntime) {
-    let alloc = rt.alloc();
-    match Core::<Pull, PlayWire>::new(alloc, pull(&rt, alloc, false), 1, 1) {
-        Err(_) => panic!(rt; "no memory for a core"),
-        Ok((core, _)) => {
+// The machine that an empty core hands back gives a message over another core.
+fn comes_back<P: Proto + Drop, R: AllocGlobal + Wait + Abort>(rt: &R, machine: P)
+    requires { (k : Kind) × Starts P.ties machine k }
+{
+    match Core::<P, PlayWire>::new(rt.alloc(), machine, 1, 1) {
+        Err((_e, _machine)) => fails(rt),
+        Ok((core, _seats)) => {
             let core = behind_a_lock(core);
-            let driver = made(&rt, Driver::new(alloc, core.into_proto(), 2));
-            gives_its_message(&rt, alloc, driver, giving(&rt, alloc));
+            let calls = "
+                joins 0 0 1 'x
+                receive 0
+                serve
+                received ' 'x
+            ";
+            plays(rt, core.into_proto(), 2, calls, "put 1");
         }
     }
+}
+
+#[test]
+fn an_empty_core_hands_its_machine_back(rt: HostRuntime) {
+    comes_back(&rt, pull(&rt, false));
 }

@@ -1,7 +1,11 @@
 //! Receives that wait, that are cancelled, and that take what is kept.
-use crate::checks::{NOTHING, pull_plays, push_plays, same};
+use crate::checks::holds;
+use crate::roles::{pull_plays, push_plays};
 use sp_base::SpError;
 use sp_core::NowError;
+
+// Nothing was put on the one pipe.
+const NOTHING: &str = "put 1";
 
 #[test]
 fn a_pull_core_gives_what_came(rt: HostRuntime) {
@@ -13,12 +17,12 @@ fn a_pull_core_gives_what_came(rt: HostRuntime) {
         received ' 'x
         close 1 1 0 1 0 0
     ";
-    pull_plays(&rt, rt.alloc(), false, 2, calls, NOTHING);
+    pull_plays(&rt, false, 2, calls, NOTHING);
 }
 
 #[test]
 fn a_pull_has_no_other_context(rt: HostRuntime) {
-    pull_plays(&rt, rt.alloc(), false, 1, "no_receive 5 9", "");
+    pull_plays(&rt, false, 1, "no_receive 5 9", "");
 }
 
 #[test]
@@ -37,7 +41,7 @@ fn a_receive_that_is_cancelled_before_the_frame(rt: HostRuntime) {
         received ' 'x
         close 2 1 1 1 0 0
     ";
-    pull_plays(&rt, rt.alloc(), false, 2, calls, NOTHING);
+    pull_plays(&rt, false, 2, calls, NOTHING);
 }
 
 #[test]
@@ -50,7 +54,7 @@ fn a_receive_that_is_cancelled_after_the_frame(rt: HostRuntime) {
         received ' 'x
         close 1 1 0 1 0 0
     ";
-    pull_plays(&rt, rt.alloc(), false, 1, calls, NOTHING);
+    pull_plays(&rt, false, 1, calls, NOTHING);
 }
 
 #[test]
@@ -66,7 +70,7 @@ fn another_caller_cancels_before_the_frame(rt: HostRuntime) {
         gone cancelled 2
         close 2 1 1 1 0 0
     ";
-    pull_plays(&rt, rt.alloc(), false, 2, calls, NOTHING);
+    pull_plays(&rt, false, 2, calls, NOTHING);
 }
 
 #[test]
@@ -85,7 +89,7 @@ fn a_frame_stays_for_the_next_receive(rt: HostRuntime) {
         put 1
         put 2
     ";
-    pull_plays(&rt, rt.alloc(), false, 2, calls, wires);
+    pull_plays(&rt, false, 2, calls, wires);
 }
 
 #[test]
@@ -110,8 +114,8 @@ fn what_is_kept_is_received_at_once(rt: HostRuntime) {
         put 1
         put 2
     ";
-    pull_plays(&rt, rt.alloc(), false, 1, calls, wires);
-    same(&rt, SpError::from(NowError::Again), SpError::Again);
+    pull_plays(&rt, false, 1, calls, wires);
+    holds(&rt, SpError::from(NowError::Again) == SpError::Again);
 }
 
 #[test]
@@ -120,5 +124,5 @@ fn a_push_receives_nothing_at_once(rt: HostRuntime) {
         not_now_for 0 notsupported
         closed
     ";
-    push_plays(&rt, rt.alloc(), false, 1, calls, "");
+    push_plays(&rt, false, 1, calls, "");
 }

@@ -1,6 +1,5 @@
 //! Sends that wait for room, that go out, and that hand their message back.
-use crate::checks::{NOTHING, pull_plays, push_plays};
-use std::alloc::Global;
+use crate::roles::{pull_plays, push_plays};
 use std::process::Abort;
 use std::sync::Wait;
 
@@ -14,7 +13,7 @@ fn a_send_waits_for_room(rt: HostRuntime) {
         close 1 0 1 0 0 2
         back closed 0 00000007' 'x
     ";
-    push_plays(&rt, rt.alloc(), false, 1, calls, NOTHING);
+    push_plays(&rt, false, 1, calls, "put 1");
 }
 
 #[test]
@@ -25,21 +24,21 @@ fn a_send_leaves_its_header_out(rt: HostRuntime) {
         sent
         close 1 1 0 0 1 0
     ";
-    push_plays(&rt, rt.alloc(), false, 1, calls, "put 1 'x");
+    push_plays(&rt, false, 1, calls, "put 1 'x");
 }
 
 // A pull begins no send, and a push no receive.
-fn what_the_role_does_not_do<R: Wait + Abort>(rt: &R, alloc: Global, raw: bool) {
+fn what_the_role_does_not_do<R: AllocGlobal + Wait + Abort>(rt: &R, raw: bool) {
     let of_pull = "no_send 0 00000007' 'x 9";
-    pull_plays(rt, alloc, raw, 1, of_pull, "");
+    pull_plays(rt, raw, 1, of_pull, "");
     let of_push = "no_receive 0 9";
-    push_plays(rt, alloc, raw, 1, of_push, "");
+    push_plays(rt, raw, 1, of_push, "");
 }
 
 #[test]
 fn what_the_role_does_not_do_is_not_supported(rt: HostRuntime) {
-    what_the_role_does_not_do(&rt, rt.alloc(), false);
-    what_the_role_does_not_do(&rt, rt.alloc(), true);
+    what_the_role_does_not_do(&rt, false);
+    what_the_role_does_not_do(&rt, true);
 }
 
 #[test]
@@ -50,7 +49,7 @@ fn a_core_without_a_free_slot_is_busy(rt: HostRuntime) {
         closed
         back closed 0 00000007' 'x
     ";
-    push_plays(&rt, rt.alloc(), false, 1, calls, "");
+    push_plays(&rt, false, 1, calls, "");
 }
 
 #[test]
@@ -62,5 +61,5 @@ fn a_send_that_is_cancelled_hands_its_message_back(rt: HostRuntime) {
         back cancelled 1 00000007' 'x
         close 1 0 1 0 0 0
     ";
-    push_plays(&rt, rt.alloc(), false, 1, calls, "");
+    push_plays(&rt, false, 1, calls, "");
 }

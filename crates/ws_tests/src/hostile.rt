@@ -2,7 +2,7 @@
 //! sample with each of its bytes but the last four replaced by 0.
 
 use crate::checks::{holds, made, same, same_at};
-use crate::opening::{H, fault, varied, with_lines, without_returns};
+use crate::heads::{REQUEST, fault, varied, with_lines, without_returns};
 use sp_upgrade::HeadFault;
 use std::alloc::Global;
 use std::process::Abort;
@@ -17,7 +17,7 @@ fn check_each(rt: &impl Abort, alloc: Global, old: &[u8], texts: &[u8], wanted: 
     let mut number: u32 = 0;
     for new in texts.split(|byte| *byte == b'|') {
         number = number.saturating_add(1);
-        let came = varied(rt, alloc, H, old, new);
+        let came = varied(rt, alloc, REQUEST, old, new);
         same_at(rt, number, fault(alloc, &came), Some(wanted));
     }
 }
@@ -150,7 +150,7 @@ fn folded_lines_are_refused(rt: HostRuntime) {
 
 #[test]
 fn lines_that_end_in_lf_alone_end_no_head(rt: HostRuntime) {
-    let mut came = without_returns(&rt, rt.alloc(), H);
+    let mut came = without_returns(&rt, rt.alloc(), REQUEST);
     same(&rt, fault(rt.alloc(), &came), None);
     made(&rt, came.extend_from_slice(b"\r\n\r\n"));
     has_fault(&rt, rt.alloc(), &came, HeadFault::NotHttp);
@@ -184,7 +184,7 @@ fn heads_that_never_end_are_refused(rt: HostRuntime) {
             &endless(&rt, rt.alloc(), b"", line),
             HeadFault::TooLong,
         );
-        let came = endless(&rt, rt.alloc(), &H[..195], line);
+        let came = endless(&rt, rt.alloc(), &REQUEST[..195], line);
         has_fault(&rt, rt.alloc(), &came, HeadFault::TooLong);
     }
 }
@@ -323,7 +323,7 @@ fn keys_of_zeroes_that_are_not_16_bytes_are_refused(rt: HostRuntime) {
     for length in 0..32usize {
         let mut key = Vec::new(rt.alloc());
         made(&rt, key.resize(length, b'A'));
-        let came = varied(&rt, rt.alloc(), H, b"dGhlIHNhbXBsZSBub25jZQ==", &key);
+        let came = varied(&rt, rt.alloc(), REQUEST, b"dGhlIHNhbXBsZSBub25jZQ==", &key);
         has_fault(&rt, rt.alloc(), &came, HeadFault::Key);
     }
 }
@@ -378,12 +378,12 @@ fn other_subprotocols_are_refused(rt: HostRuntime) {
 
 #[test]
 fn a_byte_0_stands_in_no_head(rt: HostRuntime) {
-    let mut came = made(&rt, Vec::from_slice(rt.alloc(), H));
+    let mut came = made(&rt, Vec::from_slice(rt.alloc(), REQUEST));
     for at in 0..193usize {
         holds(&rt, at < came.len());
-        holds(&rt, at < H.len());
+        holds(&rt, at < REQUEST.len());
         came[at] = 0;
         has_fault(&rt, rt.alloc(), &came, HeadFault::NotHttp);
-        came[at] = H[at];
+        came[at] = REQUEST[at];
     }
 }

@@ -1,4 +1,5 @@
-//! Worked rows of WebSocket: heads that open it and heads that don't, frames that come, and what is written.
+//! Worked rows of WebSocket: heads that open it and heads that don't, frames that come, and what is written. And links
+//! in memory that are opened in each of the ways: by a greeting, by serving and by asking.
 #![tactic(auto)]
 
 #[cfg(test)]
@@ -6,9 +7,11 @@ mod checks;
 #[cfg(test)]
 mod frames;
 #[cfg(test)]
+mod heads;
+#[cfg(test)]
 mod hostile;
 #[cfg(test)]
-mod opening;
+mod links;
 #[cfg(test)]
 mod rows;
 #[cfg(test)]

@@ -1,38 +1,12 @@
 //! Replies, of rep and of respondent alike: backtraces, and pipes that are down or full.
-use crate::checks::{made, plays};
-use core_driver::Driver;
-use core_plays::PlayWire;
-use proto_reqrep::{Reply, Respond};
-use sp_base::Role;
-use sp_history::setting::Options;
-use std::alloc::Global;
+use crate::roles::{rep_plays, respondent_plays};
 use std::process::Abort;
 use std::sync::Wait;
 
-// A core of 16 slots over a rep; it aborts when out of memory.
-fn rep(rt: &impl Abort, alloc: Global, raw: bool) -> Driver<Reply, PlayWire> {
-    match Reply::new(alloc, Options::usual(Role::Rep, 0), raw) {
-        Ok(machine) => made(rt, Driver::new(alloc, machine, 16)),
-        Err(_) => panic!(rt; "no memory for a rep"),
-    }
-}
-
-/// A core over a rep returns at each line what it says, and ends with these wires.
-pub fn rep_plays<R: Wait + Abort>(rt: &R, alloc: Global, raw: bool, calls: &str, wires: &str) {
-    plays(rt, alloc, rep(rt, alloc, raw), calls, wires);
-}
-
-fn respondent(rt: &impl Abort, alloc: Global, raw: bool) -> Driver<Reply, PlayWire> {
-    match Respond::new(alloc, Options::usual(Role::Respondent, 0), raw) {
-        Ok(machine) => made(rt, Driver::new(alloc, machine, 16)),
-        Err(_) => panic!(rt; "no memory for a respondent"),
-    }
-}
-
 // A rep and a respondent both return at each line what it says, and end with these wires.
-fn both_play<R: Wait + Abort>(rt: &R, alloc: Global, raw: bool, calls: &str, wires: &str) {
-    plays(rt, alloc, rep(rt, alloc, raw), calls, wires);
-    plays(rt, alloc, respondent(rt, alloc, raw), calls, wires);
+fn both_play<R: AllocGlobal + Wait + Abort>(rt: &R, raw: bool, calls: &str, wires: &str) {
+    rep_plays(rt, raw, calls, wires);
+    respondent_plays(rt, raw, calls, wires);
 }
 
 #[test]
@@ -49,7 +23,7 @@ fn a_reply_goes_back_by_its_backtrace(rt: HostRuntime) {
         close 2 2 0 1 1 0
     ";
     let wires = "put 1 000000078000002a'a";
-    both_play(&rt, rt.alloc(), false, calls, wires);
+    both_play(&rt, false, calls, wires);
 }
 
 #[test]
@@ -68,7 +42,7 @@ fn a_frame_that_is_cut_short_closes_its_pipe_alone(rt: HostRuntime) {
         close 2 2 0 4 1 0
     ";
     let wires = "put 2 80000005'a";
-    both_play(&rt, rt.alloc(), false, calls, wires);
+    both_play(&rt, false, calls, wires);
 }
 
 #[test]
@@ -86,7 +60,6 @@ fn a_reply_goes_back_by_eight_words(rt: HostRuntime) {
     ";
     both_play(
         &rt,
-        rt.alloc(),
         false,
         calls,
         "put 1 0000000100000001000000010000000100000001000000010000000180000005'a",
@@ -108,7 +81,7 @@ fn a_request_that_is_received_at_once_is_answered(rt: HostRuntime) {
         close 2 2 0 1 1 0
     ";
     let wires = "put 1 80000001'a";
-    both_play(&rt, rt.alloc(), false, calls, wires);
+    both_play(&rt, false, calls, wires);
 }
 
 #[test]
@@ -119,14 +92,14 @@ fn a_context_that_was_never_opened_answers_nothing(rt: HostRuntime) {
         not_now 5 12
         close 0 0 0 0 0 0
     ";
-    both_play(&rt, rt.alloc(), false, cooked, "");
+    both_play(&rt, false, cooked, "");
     let raw = "
         no_receive 5 9
         no_send 5 ' 'a 9
         not_now 5 9
         close 0 0 0 0 0 0
     ";
-    both_play(&rt, rt.alloc(), true, raw, "");
+    both_play(&rt, true, raw, "");
 }
 
 #[test]
@@ -142,7 +115,7 @@ fn a_reply_to_a_pipe_that_is_down_goes_nowhere(rt: HostRuntime) {
         sent
         close 2 2 0 1 0 0
     ";
-    both_play(&rt, rt.alloc(), false, calls, "");
+    both_play(&rt, false, calls, "");
 }
 
 #[test]
@@ -161,7 +134,7 @@ fn a_reply_waits_at_a_full_pipe_until_it_ends(rt: HostRuntime) {
         down 1 ended
         closed
     ";
-    both_play(&rt, rt.alloc(), false, calls, "");
+    both_play(&rt, false, calls, "");
 }
 
 #[test]
@@ -190,7 +163,7 @@ fn each_context_answers_its_own_request(rt: HostRuntime) {
         put 1 80000001'a
         put 2 80000001'b
     ";
-    both_play(&rt, rt.alloc(), false, calls, wires);
+    both_play(&rt, false, calls, wires);
 }
 
 #[test]
@@ -205,7 +178,7 @@ fn a_receive_gives_up_the_request_before_it(rt: HostRuntime) {
         close 2 1 1 1 0 0
         collected
     ";
-    both_play(&rt, rt.alloc(), false, calls, "put 1");
+    both_play(&rt, false, calls, "put 1");
 }
 
 #[test]
@@ -223,5 +196,5 @@ fn a_raw_replier_answers_by_the_header(rt: HostRuntime) {
         close 4 4 0 1 1 0
     ";
     let wires = "put 1 8000002a'q";
-    both_play(&rt, rt.alloc(), true, calls, wires);
+    both_play(&rt, true, calls, wires);
 }

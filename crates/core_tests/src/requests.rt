@@ -1,33 +1,5 @@
 //! Requests: ids, replies, resends, and what ends a request.
-use crate::checks::{made, plays};
-use core_driver::Driver;
-use core_plays::PlayWire;
-use proto_reqrep::Request;
-use sp_base::Role;
-use sp_history::setting::Options;
-use std::alloc::Global;
-use std::process::Abort;
-use std::sync::Wait;
-
-// A core of 16 slots over a req; it aborts when out of memory.
-fn req(rt: &impl Abort, alloc: Global, raw: bool, dice: u32) -> Driver<Request, PlayWire> {
-    match Request::new(alloc, Options::usual(Role::Req, dice), raw) {
-        Ok(machine) => made(rt, Driver::new(alloc, machine, 16)),
-        Err(_) => panic!(rt; "no memory for a req"),
-    }
-}
-
-/// A core over a req returns at each line what it says, and ends with these wires.
-pub fn req_plays<R: Wait + Abort>(
-    rt: &R,
-    alloc: Global,
-    raw: bool,
-    dice: u32,
-    calls: &str,
-    wires: &str,
-) {
-    plays(rt, alloc, req(rt, alloc, raw, dice), calls, wires);
-}
+use crate::roles::req_plays;
 
 #[test]
 fn a_reply_that_is_received_at_once_answers_its_request(rt: HostRuntime) {
@@ -43,7 +15,7 @@ fn a_reply_that_is_received_at_once_answers_its_request(rt: HostRuntime) {
         close 2 2 0 1 1 0
     ";
     let wires = "put 1 80000000'q";
-    req_plays(&rt, rt.alloc(), false, 0, calls, wires);
+    req_plays(&rt, false, 0, calls, wires);
 }
 
 #[test]
@@ -62,7 +34,7 @@ fn a_reply_is_given_once(rt: HostRuntime) {
         close 2 2 0 3 1 0
     ";
     let wires = "put 1 80000000'ping";
-    req_plays(&rt, rt.alloc(), false, 0, calls, wires);
+    req_plays(&rt, false, 0, calls, wires);
 }
 
 #[test]
@@ -80,7 +52,7 @@ fn a_request_goes_out_again(rt: HostRuntime) {
         close 1 1 0 0 3 0
     ";
     let wires = "put 2 80000000'a 80000000'a";
-    req_plays(&rt, rt.alloc(), false, 0, calls, wires);
+    req_plays(&rt, false, 0, calls, wires);
 }
 
 #[test]
@@ -94,7 +66,7 @@ fn a_request_does_not_go_out_again_a_millisecond_early(rt: HostRuntime) {
         close 1 1 0 0 1 0
     ";
     let wires = "put 1 80000000'a";
-    req_plays(&rt, rt.alloc(), false, 0, calls, wires);
+    req_plays(&rt, false, 0, calls, wires);
 }
 
 #[test]
@@ -113,7 +85,7 @@ fn a_request_waits_for_a_pipe_that_has_room(rt: HostRuntime) {
         close 2 2 0 1 2 0
     ";
     let wires = "put 2 80000000'a";
-    req_plays(&rt, rt.alloc(), false, 0, calls, wires);
+    req_plays(&rt, false, 0, calls, wires);
 }
 
 #[test]
@@ -135,7 +107,7 @@ fn a_new_request_replaces_the_old(rt: HostRuntime) {
         close 4 2 2 2 2 0
     ";
     let wires = "put 1 80000000'a 80000001'c";
-    req_plays(&rt, rt.alloc(), false, 0, calls, wires);
+    req_plays(&rt, false, 0, calls, wires);
 }
 
 #[test]
@@ -149,7 +121,7 @@ fn ids_wrap_with_the_top_bit_set(rt: HostRuntime) {
         close 2 2 0 0 2 0
     ";
     let wires = "put 1 ffffffff'a 80000000'b";
-    req_plays(&rt, rt.alloc(), false, 0xffff_ffff, calls, wires);
+    req_plays(&rt, false, 0xffff_ffff, calls, wires);
 }
 
 #[test]
@@ -175,7 +147,7 @@ fn replies_reach_the_contexts_that_asked(rt: HostRuntime) {
         put 1 80000005'x
         put 2 80000006'y
     ";
-    req_plays(&rt, rt.alloc(), false, 5, calls, wires);
+    req_plays(&rt, false, 5, calls, wires);
 }
 
 #[test]
@@ -189,7 +161,7 @@ fn a_request_that_is_given_up_hands_its_message_back(rt: HostRuntime) {
         no_receive 0 11
         close 2 0 2 0 0 0
     ";
-    req_plays(&rt, rt.alloc(), false, 0, calls, "");
+    req_plays(&rt, false, 0, calls, "");
 }
 
 #[test]
@@ -201,7 +173,7 @@ fn a_close_ends_a_request_and_its_receive(rt: HostRuntime) {
         gone closed 0
         back closed 0 ' 'a
     ";
-    req_plays(&rt, rt.alloc(), false, 0, calls, "");
+    req_plays(&rt, false, 0, calls, "");
 }
 
 #[test]
@@ -218,5 +190,5 @@ fn a_raw_req_moves_one_word(rt: HostRuntime) {
         no_receive 5 9
         close 2 2 0 2 1 0
     ";
-    req_plays(&rt, rt.alloc(), true, 0, calls, "");
+    req_plays(&rt, true, 0, calls, "");
 }

@@ -1,48 +1,7 @@
 //! Sends that go to many pipes: pub and bus. Each send asks each of its pipes for room once.
-use crate::checks::{made, plays};
-use core_driver::Driver;
-use core_plays::PlayWire;
-use proto_bus::Bus;
-use proto_pubsub::Publish;
+use crate::roles::{bus_plays, publisher_plays};
 use sp_base::Role;
 use sp_history::setting::Options;
-use std::alloc::Global;
-use std::process::Abort;
-use std::sync::Wait;
-
-// A core of 16 slots over a pub; it aborts when out of memory.
-fn publisher(rt: &impl Abort, alloc: Global) -> Driver<Publish, PlayWire> {
-    match Publish::new(alloc, Options::usual(Role::Pub, 0), false) {
-        Ok(machine) => made(rt, Driver::new(alloc, machine, 16)),
-        Err(_) => panic!(rt; "no memory for a pub"),
-    }
-}
-
-/// A core over a publisher returns at each line what it says, and ends with these wires.
-pub fn publisher_plays<R: Wait + Abort>(rt: &R, alloc: Global, calls: &str, wires: &str) {
-    plays(rt, alloc, publisher(rt, alloc), calls, wires);
-}
-
-fn bus(rt: &impl Abort, alloc: Global, raw: bool, queue: u32) -> Driver<Bus, PlayWire> {
-    let mut options = Options::usual(Role::Bus, 0);
-    options.queue = queue;
-    match Bus::new(alloc, options, raw) {
-        Ok(machine) => made(rt, Driver::new(alloc, machine, 16)),
-        Err(_) => panic!(rt; "no memory for a bus"),
-    }
-}
-
-// A core over a bus returns at each line what it says, and ends with these wires.
-fn bus_plays<R: Wait + Abort>(
-    rt: &R,
-    alloc: Global,
-    raw: bool,
-    queue: u32,
-    calls: &str,
-    wires: &str,
-) {
-    plays(rt, alloc, bus(rt, alloc, raw, queue), calls, wires);
-}
 
 #[test]
 fn a_publisher_skips_a_full_pipe(rt: HostRuntime) {
@@ -57,7 +16,7 @@ fn a_publisher_skips_a_full_pipe(rt: HostRuntime) {
         asked 1 1 'm
         asked 2 1
     ";
-    publisher_plays(&rt, rt.alloc(), calls, wires);
+    publisher_plays(&rt, calls, wires);
 }
 
 #[test]
@@ -68,7 +27,7 @@ fn a_publisher_without_pipes_drops_what_it_sends(rt: HostRuntime) {
         no_receive 0 9
         close 1 1 0 0 0 0
     ";
-    publisher_plays(&rt, rt.alloc(), calls, "");
+    publisher_plays(&rt, calls, "");
 }
 
 #[test]
@@ -87,7 +46,7 @@ fn a_frame_at_a_publisher_closes_its_pipe_alone(rt: HostRuntime) {
         close 1 1 0 2 1 0
     ";
     let wires = "asked 1 1 'm";
-    publisher_plays(&rt, rt.alloc(), calls, wires);
+    publisher_plays(&rt, calls, wires);
 }
 
 #[test]
@@ -106,7 +65,7 @@ fn a_bus_sends_to_all(rt: HostRuntime) {
         asked 1 1 'm
         asked 2 1 'm
     ";
-    bus_plays(&rt, rt.alloc(), false, 16, calls, wires);
+    bus_plays(&rt, Options::usual(Role::Bus, 0), false, calls, wires);
 }
 
 #[test]
@@ -127,7 +86,7 @@ fn a_raw_bus_sends_not_back(rt: HostRuntime) {
         asked 1 2 'n 'o
         asked 2 3 'm 'n 'o
     ";
-    bus_plays(&rt, rt.alloc(), true, 16, calls, wires);
+    bus_plays(&rt, Options::usual(Role::Bus, 0), true, calls, wires);
 }
 
 #[test]
@@ -139,5 +98,7 @@ fn a_full_bus_discards_the_new_one(rt: HostRuntime) {
         not_now 0 8
         close 1 1 0 2 0 0
     ";
-    bus_plays(&rt, rt.alloc(), false, 1, calls, "put 1");
+    let mut options = Options::usual(Role::Bus, 0);
+    options.queue = 1;
+    bus_plays(&rt, options, false, calls, "put 1");
 }

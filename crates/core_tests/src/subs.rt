@@ -1,35 +1,22 @@
 //! Subs: topics, contexts, and what a full queue discards.
-use crate::checks::{made, plays};
-use core_driver::Driver;
-use core_plays::PlayWire;
-use proto_pubsub::Subscribe;
+use crate::roles::sub_plays;
 use sp_base::Role;
 use sp_history::setting::Options;
-use std::alloc::Global;
 use std::process::Abort;
 use std::sync::Wait;
 
-// A sub that keeps two messages a context.
-fn sub(rt: &impl Abort, alloc: Global, raw: bool, prefer_new: bool) -> Driver<Subscribe, PlayWire> {
-    let mut options = Options::usual(Role::Sub, 0);
-    options.queue = 2;
-    options.prefer_new = prefer_new;
-    match Subscribe::new(alloc, options, raw) {
-        Ok(machine) => made(rt, Driver::new(alloc, machine, 16)),
-        Err(_) => panic!(rt; "no memory for a sub"),
-    }
-}
-
-// A core over a sub returns at each line what it says, and ends with these wires.
-fn sub_plays<R: Wait + Abort>(
+// A core over a sub that keeps two messages a context returns at each line what it says, and ends with these wires.
+fn small_sub_plays<R: AllocGlobal + Wait + Abort>(
     rt: &R,
-    alloc: Global,
     raw: bool,
     prefer_new: bool,
     calls: &str,
     wires: &str,
 ) {
-    plays(rt, alloc, sub(rt, alloc, raw, prefer_new), calls, wires);
+    let mut options = Options::usual(Role::Sub, 0);
+    options.queue = 2;
+    options.prefer_new = prefer_new;
+    sub_plays(rt, options, raw, calls, wires);
 }
 
 // Nothing was put on the one pipe.
@@ -53,7 +40,7 @@ fn a_subscriber_keeps_what_its_topics_match(rt: HostRuntime) {
         unsubscribes 0 'ab 12
         close 2 2 0 5 0 0
     ";
-    sub_plays(&rt, rt.alloc(), false, true, calls, NOTHING);
+    small_sub_plays(&rt, false, true, calls, NOTHING);
 }
 
 #[test]
@@ -67,7 +54,7 @@ fn a_subscriber_that_prefers_the_older_discards_the_new_one(rt: HostRuntime) {
         not_now 0 8
         close 2 2 0 3 0 0
     ";
-    sub_plays(&rt, rt.alloc(), false, false, calls, NOTHING);
+    small_sub_plays(&rt, false, false, calls, NOTHING);
 }
 
 #[test]
@@ -89,7 +76,7 @@ fn contexts_keep_apart(rt: HostRuntime) {
         not_now 0 8
         close 3 3 0 2 0 0
     ";
-    sub_plays(&rt, rt.alloc(), false, true, calls, NOTHING);
+    small_sub_plays(&rt, false, true, calls, NOTHING);
 }
 
 #[test]
@@ -110,7 +97,7 @@ fn a_context_that_is_shut_ends_its_receives(rt: HostRuntime) {
         close 3 0 3 0 0 0
         gone closed 0
     ";
-    sub_plays(&rt, rt.alloc(), false, true, calls, "");
+    small_sub_plays(&rt, false, true, calls, "");
 }
 
 #[test]
@@ -128,7 +115,7 @@ fn a_subscriber_refuses_what_it_does_not_do(rt: HostRuntime) {
         no_send 0 00000007' 'm 9
         close 0 0 0 0 0 0
     ";
-    sub_plays(&rt, rt.alloc(), false, true, calls, "");
+    small_sub_plays(&rt, false, true, calls, "");
 }
 
 #[test]
@@ -145,5 +132,5 @@ fn a_raw_subscriber_keeps_every_frame(rt: HostRuntime) {
         not_now 1 9
         close 2 2 0 3 0 0
     ";
-    sub_plays(&rt, rt.alloc(), true, true, calls, NOTHING);
+    small_sub_plays(&rt, true, true, calls, NOTHING);
 }

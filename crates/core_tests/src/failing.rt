@@ -1,7 +1,5 @@
 //! Pipes that fail where they are asked for room.
-use crate::floods::publisher_plays;
-use crate::pairs::pair_plays;
-use crate::requests::req_plays;
+use crate::roles::{pair_plays, publisher_plays, req_plays};
 
 #[test]
 fn a_flood_goes_on_behind_a_pipe_that_fails(rt: HostRuntime) {
@@ -18,7 +16,7 @@ fn a_flood_goes_on_behind_a_pipe_that_fails(rt: HostRuntime) {
         asked 1 1 'm
         asked 3 1 'm
     ";
-    publisher_plays(&rt, rt.alloc(), calls, wires);
+    publisher_plays(&rt, calls, wires);
 }
 
 #[test]
@@ -40,7 +38,7 @@ fn a_message_of_a_pair_outlives_its_pipe(rt: HostRuntime) {
         close 3 3 0 2 1 0
     ";
     let wires = "asked 2 1 'm";
-    pair_plays(&rt, rt.alloc(), false, calls, wires);
+    pair_plays(&rt, false, calls, wires);
 }
 
 #[test]
@@ -59,5 +57,5 @@ fn a_request_goes_on_to_the_next_pipe_where_one_fails(rt: HostRuntime) {
         close 1 1 0 0 2 0
     ";
     let wires = "asked 3 1 80000000'a";
-    req_plays(&rt, rt.alloc(), false, 0, calls, wires);
+    req_plays(&rt, false, 0, calls, wires);
 }

@@ -5,17 +5,12 @@ ghost use Rattle.link_opening.specs.Openings.{CanBegin};
 ghost use Rattle.link_opening.specs.Going.{IsUnderWay};
 
 use crate::checks::{holds, made};
+use crate::heads::{REQUEST, RESPONSE};
 use link_opening::{Opening, Progress, Way};
 use sp_base::{Addr, Bytes, Host, Role, Scheme};
 use sp_fakes::{LinkStep, MemLink};
 use std::alloc::Global;
 use std::process::Abort;
-
-const REQUEST: &[u8] =
-    b"GET / HTTP/1.1\r\nHost: 127.0.0.1:5555\r\nUpgrade: websocket\r\nConnection: Upgrade\r\nSec-WebSocket-Key: dGhlIHNhbXBsZSBub25jZQ==\r\nSec-WebSocket-Version: 13\r\nSec-WebSocket-Protocol: rep.sp.nanomsg.org\r\n\r\n";
-
-const RESPONSE: &[u8] =
-    b"HTTP/1.1 101 Switching Protocols\r\nUpgrade: websocket\r\nConnection: Upgrade\r\nSec-WebSocket-Accept: s3pPLMBiTxaQ9kYGzzhZRbK+xOo=\r\nSec-WebSocket-Protocol: rep.sp.nanomsg.org\r\n\r\n";
 
 // The request with the key that the generator gives from 0 on, and its response.
 const ASKED: &[u8] =
@@ -23,6 +18,9 @@ const ASKED: &[u8] =
 
 const ANSWERED: &[u8] =
     b"HTTP/1.1 101 Switching Protocols\r\nUpgrade: websocket\r\nConnection: Upgrade\r\nSec-WebSocket-Accept: pcNwVK8H2TInp2i0TlaErEE0lwU=\r\nSec-WebSocket-Protocol: rep.sp.nanomsg.org\r\n\r\n";
+
+// What a rep writes first over TCP.
+const GREETING: &[u8] = b"\x00SP\x00\x00\x31\x00\x00";
 
 // A link that takes 40 bytes a write. It brings these pieces, the second after so many bytes were written.
 fn linked(
@@ -57,31 +55,26 @@ fn greet_twice(opening: &mut Opening<MemLink>, alloc: Global) -> Progress
     }
 }
 
-// Whether the link was opened, after it wrote this, with these bytes behind the peer's part.
-fn opens(alloc: Global, link: MemLink, role: Role, way: Way, written: &[u8], behind: &[u8]) -> bool
+// Whether the opening comes to this, after the link wrote that. If it is opened, these bytes are behind the peer's part.
+fn comes_to(
+    alloc: Global,
+    link: MemLink,
+    role: Role,
+    way: Way,
+    wanted: Progress,
+    written: &[u8],
+    behind: &[u8],
+) -> bool
     requires fresh { IsNew (link_view link).place (link_view link) }
     requires can { CanBegin way }
 {
     let Ok(mut opening) = Opening::new(alloc, link, role, way) else {
         return false;
     };
-    let is_opened = greet_twice(&mut opening, alloc) == Progress::Opened;
+    let is_wanted = greet_twice(&mut opening, alloc) == wanted;
     let has_behind = is_behind(opening.came.as_slice(), opening.used, behind);
     let link = opening.into_link();
-    is_opened && has_behind && link.written() == written
-}
-
-// Whether what came was found wrong, after the link wrote this.
-fn is_bad(alloc: Global, link: MemLink, role: Role, way: Way, written: &[u8]) -> bool
-    requires fresh { IsNew (link_view link).place (link_view link) }
-    requires can { CanBegin way }
-{
-    let Ok(mut opening) = Opening::new(alloc, link, role, way) else {
-        return false;
-    };
-    let is_bad = greet_twice(&mut opening, alloc) == Progress::Bad;
-    let link = opening.into_link();
-    is_bad && link.written() == written
+    is_wanted && (wanted != Progress::Opened || has_behind) && link.written() == written
 }
 
 // Whether these bytes follow the first so many.
@@ -96,10 +89,13 @@ fn is_behind(came: &[u8], used: Option<usize>, behind: &[u8]) -> bool {
 fn a_listening_link_answers(rt: HostRuntime) {
     let alloc = rt.alloc();
     let link = linked(&rt, alloc, &REQUEST[..100], 0, &REQUEST[100..], Scheme::Ws);
-    let path = bytes(&rt, alloc, b"/");
+    let way = Way::Serves {
+        path: bytes(&rt, alloc, b"/"),
+    };
+    let opened = Progress::Opened;
     holds(
         &rt,
-        opens(alloc, link, Role::Rep, Way::Serves { path }, RESPONSE, b""),
+        comes_to(alloc, link, Role::Rep, way, opened, RESPONSE, b""),
     );
 }
 
@@ -109,44 +105,34 @@ fn a_dialing_link_asks_first(rt: HostRuntime) {
     let mut all = made(&rt, Vec::from_slice(alloc, ANSWERED));
     made(&rt, all.extend_from_slice(b"\x82\x00"));
     let link = linked(&rt, alloc, b"", 197, &all, Scheme::Ws);
-    let path = bytes(&rt, alloc, b"/");
     let addr = Addr::Ws {
         host: Host::V4(127, 0, 0, 1),
         port: 5555,
-        path,
+        path: bytes(&rt, alloc, b"/"),
     };
+    let way = Way::Asks { addr, start: 0 };
+    let opened = Progress::Opened;
     holds(
         &rt,
-        opens(
-            alloc,
-            link,
-            Role::Req,
-            Way::Asks { addr, start: 0 },
-            ASKED,
-            b"\x82\x00",
-        ),
+        comes_to(alloc, link, Role::Req, way, opened, ASKED, b"\x82\x00"),
     );
 }
 
 #[test]
 fn both_sides_greet_over_tcp(rt: HostRuntime) {
     let alloc = rt.alloc();
-    let link = linked(
-        &rt,
-        alloc,
-        b"\x00SP",
-        8,
-        b"\x00\x00\x30\x00\x00\x00\x00",
-        Scheme::Tcp,
-    );
+    let rest = b"\x00\x00\x30\x00\x00\x00\x00";
+    let link = linked(&rt, alloc, b"\x00SP", 8, rest, Scheme::Tcp);
+    let opened = Progress::Opened;
     holds(
         &rt,
-        opens(
+        comes_to(
             alloc,
             link,
             Role::Rep,
             Way::Greeting,
-            b"\x00SP\x00\x00\x31\x00\x00",
+            opened,
+            GREETING,
             b"\x00\x00",
         ),
     );
@@ -156,20 +142,14 @@ fn both_sides_greet_over_tcp(rt: HostRuntime) {
 fn what_is_wrong_is_not_answered(rt: HostRuntime) {
     let alloc = rt.alloc();
     let link = linked(&rt, alloc, b"\x00SQ", 0, b"", Scheme::Tcp);
+    let bad = Progress::Bad;
     holds(
         &rt,
-        is_bad(
-            alloc,
-            link,
-            Role::Rep,
-            Way::Greeting,
-            b"\x00SP\x00\x00\x31\x00\x00",
-        ),
+        comes_to(alloc, link, Role::Rep, Way::Greeting, bad, GREETING, b""),
     );
-    let path = bytes(&rt, alloc, b"/b");
     let link = linked(&rt, alloc, REQUEST, 0, b"", Scheme::Ws);
-    holds(
-        &rt,
-        is_bad(alloc, link, Role::Rep, Way::Serves { path }, b""),
-    );
+    let way = Way::Serves {
+        path: bytes(&rt, alloc, b"/b"),
+    };
+    holds(&rt, comes_to(alloc, link, Role::Rep, way, bad, b"", b""));
 }

@@ -1,4 +1,4 @@
-//! Worked openings: the sample of RFC 6455 section 1.3 with the subprotocol of SP, and heads near it.
+//! Worked heads: the sample of RFC 6455 section 1.3 with the subprotocol of SP, and heads near it.
 
 use crate::checks::{holds, made, same, same_at};
 use sp_base::{Addr, Bytes, Host, Role};
@@ -7,7 +7,7 @@ use std::alloc::Global;
 use std::process::Abort;
 
 /// A client's head.
-pub(crate) const H: &[u8] = b"\
+pub(crate) const REQUEST: &[u8] = b"\
     GET / HTTP/1.1\r\n\
     Host: 127.0.0.1:5555\r\n\
     Upgrade: websocket\r\n\
@@ -18,7 +18,7 @@ pub(crate) const H: &[u8] = b"\
     \r\n";
 
 /// Its answer.
-pub(crate) const R: &[u8] = b"\
+pub(crate) const RESPONSE: &[u8] = b"\
     HTTP/1.1 101 Switching Protocols\r\n\
     Upgrade: websocket\r\n\
     Connection: Upgrade\r\n\
@@ -78,7 +78,7 @@ fn client_fault(alloc: Global, came: &[u8]) -> Option<HeadFault> {
 
 fn is_good(alloc: Global, came: &[u8], length: usize) -> bool {
     match server_head(alloc, came, Role::Rep, b"/") {
-        Head::Good { used, answer } => used as usize == length && answer.as_slice() == R,
+        Head::Good { used, answer } => used as usize == length && answer.as_slice() == RESPONSE,
         _ => false,
     }
 }
@@ -95,7 +95,7 @@ fn padded(rt: &impl Abort, alloc: Global, length: usize) -> Vec<u8> {
     let mut line = made(rt, Vec::from_slice(alloc, b"X-Y: "));
     made(rt, line.resize(length.saturating_sub(199), b'a'));
     made(rt, line.extend_from_slice(b"\r\nHost"));
-    varied(rt, alloc, H, b"Host", &line)
+    varied(rt, alloc, REQUEST, b"Host", &line)
 }
 
 /// The sample with so many lines more.
@@ -105,29 +105,29 @@ pub(crate) fn with_lines(rt: &impl Abort, alloc: Global, more: usize) -> Vec<u8>
         made(rt, lines.extend_from_slice(b"X: y\r\n"));
     }
     made(rt, lines.extend_from_slice(b"Host"));
-    varied(rt, alloc, H, b"Host", &lines)
+    varied(rt, alloc, REQUEST, b"Host", &lines)
 }
 
 #[test]
 fn the_sample_opening_is_good(rt: HostRuntime) {
-    same(&rt, H.len(), 197);
-    same(&rt, R.len(), 173);
-    holds(&rt, is_good(rt.alloc(), H, 197));
-    let mut more = made(&rt, Vec::from_slice(rt.alloc(), H));
+    same(&rt, REQUEST.len(), 197);
+    same(&rt, RESPONSE.len(), 173);
+    holds(&rt, is_good(rt.alloc(), REQUEST, 197));
+    let mut more = made(&rt, Vec::from_slice(rt.alloc(), REQUEST));
     made(&rt, more.extend_from_slice(b"\x82\x00\r\n\r\n"));
     holds(&rt, is_good(rt.alloc(), &more, 197));
 }
 
 #[test]
 fn a_head_in_the_making_is_more(rt: HostRuntime) {
-    holds(&rt, is_more(rt.alloc(), &H[..196]));
+    holds(&rt, is_more(rt.alloc(), &REQUEST[..196]));
     holds(&rt, is_more(rt.alloc(), b""));
     let mut long = Vec::new(rt.alloc());
     made(&rt, long.resize(8191, b'a'));
     holds(&rt, is_more(rt.alloc(), &long));
     made(&rt, long.push(b'a'));
     same(&rt, fault(rt.alloc(), &long), Some(HeadFault::TooLong));
-    made(&rt, long.extend_from_slice(H));
+    made(&rt, long.extend_from_slice(REQUEST));
     same(&rt, fault(rt.alloc(), &long), Some(HeadFault::TooLong));
 }
 
@@ -145,29 +145,35 @@ fn a_head_has_at_most_8192_bytes_and_64_lines(rt: HostRuntime) {
 
 #[test]
 fn the_first_blank_line_ends_a_head(rt: HostRuntime) {
-    let one = varied(&rt, rt.alloc(), H, b"5555\r\n", b"5555\n");
+    let one = varied(&rt, rt.alloc(), REQUEST, b"5555\r\n", b"5555\n");
     holds(&rt, is_good(rt.alloc(), &one, 196));
-    let first = varied(&rt, rt.alloc(), H, b"GET", b"\r\nGET");
+    let first = varied(&rt, rt.alloc(), REQUEST, b"GET", b"\r\nGET");
     holds(&rt, is_good(rt.alloc(), &first, 199));
-    let empty = varied(&rt, rt.alloc(), H, b"Host: 127.0.0.1:5555", b"Host:");
+    let empty = varied(&rt, rt.alloc(), REQUEST, b"Host: 127.0.0.1:5555", b"Host:");
     holds(&rt, is_good(rt.alloc(), &empty, empty.len()));
     let two = varied(
         &rt,
         rt.alloc(),
-        H,
+        REQUEST,
         b"Upgrade: websocket",
         b"Upgrade: h2c\r\nUpgrade: websocket",
     );
     holds(&rt, is_good(rt.alloc(), &two, two.len()));
-    let bare = without_returns(&rt, rt.alloc(), H);
+    let bare = without_returns(&rt, rt.alloc(), REQUEST);
     holds(&rt, is_more(rt.alloc(), &bare));
 }
 
 #[test]
 fn the_first_fault_decides(rt: HostRuntime) {
-    let post = varied(&rt, rt.alloc(), H, b"GET / HTTP/1.1", b"POST /b HTTP/1.0");
+    let post = varied(
+        &rt,
+        rt.alloc(),
+        REQUEST,
+        b"GET / HTTP/1.1",
+        b"POST /b HTTP/1.0",
+    );
     same(&rt, fault(rt.alloc(), &post), Some(HeadFault::Method));
-    let old = varied(&rt, rt.alloc(), H, b"Version: 13", b"Version: 12");
+    let old = varied(&rt, rt.alloc(), REQUEST, b"Version: 13", b"Version: 12");
     let both = varied(&rt, rt.alloc(), &old, b"dGhlIHNhbXBsZSBub25jZQ==", b"AAAA");
     same(&rt, fault(rt.alloc(), &both), Some(HeadFault::WsVersion));
 }
@@ -177,7 +183,7 @@ fn names_and_tokens_ignore_case(rt: HostRuntime) {
     let a = varied(
         &rt,
         rt.alloc(),
-        H,
+        REQUEST,
         b"Upgrade: websocket",
         b"upgrade: h2c , WebSocket",
     );
@@ -206,7 +212,7 @@ fn a_client_writes_its_head(rt: HostRuntime) {
         path: made(&rt, Bytes::from_slice(rt.alloc(), b"/")),
     };
     let head = made(&rt, client_head(rt.alloc(), NONCE, &addr, Role::Req));
-    same(&rt, head.as_slice(), H);
+    same(&rt, head.as_slice(), REQUEST);
 }
 
 // A fault, the text in the sample that is replaced, and what stands there; bars stand between the rows.
@@ -242,7 +248,7 @@ fn check_answers(rt: &impl Abort, alloc: Global, rows: &[u8]) {
         let Some((wanted, old, new)) = parts(row) else {
             panic!(rt; "row {number} is short")
         };
-        let came = varied(rt, alloc, R, old, new);
+        let came = varied(rt, alloc, RESPONSE, old, new);
         let Some(found) = client_fault(alloc, &came) else {
             panic!(rt; "row {number} has no fault")
         };
@@ -258,14 +264,14 @@ fn check_answers(rt: &impl Abort, alloc: Global, rows: &[u8]) {
 
 #[test]
 fn a_client_checks_the_answer(rt: HostRuntime) {
-    match client_answer(rt.alloc(), R, NONCE, Role::Req) {
+    match client_answer(rt.alloc(), RESPONSE, NONCE, Role::Req) {
         Head::Good { used, answer } => {
             same(&rt, used, 173);
             holds(&rt, answer.as_slice().is_empty())
         },
         _ => assert!(rt; false),
     }
-    match client_answer(rt.alloc(), &R[..172], NONCE, Role::Req) {
+    match client_answer(rt.alloc(), &RESPONSE[..172], NONCE, Role::Req) {
         Head::More => {}
         _ => assert!(rt; false),
     }

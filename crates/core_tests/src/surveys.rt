@@ -1,25 +1,5 @@
 //! Surveys: they go to all, and end at their time or when another one begins.
-use crate::checks::{made, plays};
-use core_driver::Driver;
-use core_plays::PlayWire;
-use proto_survey::Survey;
-use sp_base::Role;
-use sp_history::setting::Options;
-use std::alloc::Global;
-use std::process::Abort;
-use std::sync::Wait;
-
-fn surveyor(rt: &impl Abort, alloc: Global, raw: bool) -> Driver<Survey, PlayWire> {
-    match Survey::new(alloc, Options::usual(Role::Surveyor, 0), raw) {
-        Ok(machine) => made(rt, Driver::new(alloc, machine, 16)),
-        Err(_) => panic!(rt; "no memory for a surveyor"),
-    }
-}
-
-// A core over a surveyor returns at each line what it says, and ends with these wires.
-fn surveyor_plays<R: Wait + Abort>(rt: &R, alloc: Global, raw: bool, calls: &str, wires: &str) {
-    plays(rt, alloc, surveyor(rt, alloc, raw), calls, wires);
-}
+use crate::roles::surveyor_plays;
 
 #[test]
 fn a_survey_is_over_at_its_time(rt: HostRuntime) {
@@ -48,7 +28,7 @@ fn a_survey_is_over_at_its_time(rt: HostRuntime) {
         put 1 80000000's
         put 2 80000000's
     ";
-    surveyor_plays(&rt, rt.alloc(), false, calls, wires);
+    surveyor_plays(&rt, false, calls, wires);
 }
 
 #[test]
@@ -69,7 +49,7 @@ fn a_newer_survey_replaces_the_older(rt: HostRuntime) {
         close 5 3 2 2 2 0
     ";
     let wires = "put 1 80000000's 80000001't";
-    surveyor_plays(&rt, rt.alloc(), false, calls, wires);
+    surveyor_plays(&rt, false, calls, wires);
 }
 
 #[test]
@@ -89,7 +69,7 @@ fn a_response_that_is_cut_short_closes_its_pipe_alone(rt: HostRuntime) {
         close 3 3 0 2 3 0
     ";
     let wires = "asked 2 2 80000000's 80000001't";
-    surveyor_plays(&rt, rt.alloc(), false, calls, wires);
+    surveyor_plays(&rt, false, calls, wires);
 }
 
 #[test]
@@ -110,7 +90,7 @@ fn a_receive_that_is_cancelled_first_does_not_end_by_its_survey(rt: HostRuntime)
         close 3 1 2 0 1 0
     ";
     let wires = "put 1 80000000's";
-    surveyor_plays(&rt, rt.alloc(), false, calls, wires);
+    surveyor_plays(&rt, false, calls, wires);
 }
 
 #[test]
@@ -132,7 +112,7 @@ fn a_survey_that_is_over_at_a_deadline_ends_the_receive(rt: HostRuntime) {
         close 2 1 1 0 1 0
     ";
     let wires = "put 1 80000000's";
-    surveyor_plays(&rt, rt.alloc(), false, calls, wires);
+    surveyor_plays(&rt, false, calls, wires);
 }
 
 #[test]
@@ -159,5 +139,5 @@ fn a_raw_surveyor_moves_one_word(rt: HostRuntime) {
         put 1 8000002a'q
         put 2 8000002a'q
     ";
-    surveyor_plays(&rt, rt.alloc(), true, calls, wires);
+    surveyor_plays(&rt, true, calls, wires);
 }

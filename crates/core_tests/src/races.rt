@@ -1,6 +1,5 @@
 //! What a race that is lost, a deadline and a context that is shut do to a request.
-use crate::replies::rep_plays;
-use crate::requests::req_plays;
+use crate::roles::{rep_plays, req_plays};
 
 #[test]
 fn a_reply_that_meets_a_cancelled_receive_is_gone_with_its_request(rt: HostRuntime) {
@@ -16,7 +15,7 @@ fn a_reply_that_meets_a_cancelled_receive_is_gone_with_its_request(rt: HostRunti
         close 2 1 1 1 1 0
     ";
     let wires = "put 1 80000000'q";
-    req_plays(&rt, rt.alloc(), false, 0, calls, wires);
+    req_plays(&rt, false, 0, calls, wires);
 }
 
 #[test]
@@ -36,7 +35,7 @@ fn the_reply_to_a_cancelled_request_does_not_reach_the_next_one(rt: HostRuntime)
         close 4 3 1 2 2 0
     ";
     let wires = "put 1 80000000'q 80000001'r";
-    req_plays(&rt, rt.alloc(), false, 0, calls, wires);
+    req_plays(&rt, false, 0, calls, wires);
 }
 
 #[test]
@@ -54,7 +53,7 @@ fn a_request_that_meets_a_cancelled_receive_stays_for_the_next_one(rt: HostRunti
         close 2 1 1 1 0 0
     ";
     let wires = "put 1";
-    rep_plays(&rt, rt.alloc(), false, calls, wires);
+    rep_plays(&rt, false, calls, wires);
 }
 
 #[test]
@@ -71,7 +70,7 @@ fn a_begin_finds_the_receive_that_was_cancelled_ended(rt: HostRuntime) {
         close 2 1 1 0 1 0
     ";
     let wires = "put 1 80000000'q";
-    req_plays(&rt, rt.alloc(), false, 0, req, wires);
+    req_plays(&rt, false, 0, req, wires);
     let rep = "
         joins 0 8 1 80000001'q
         receive 0
@@ -83,7 +82,7 @@ fn a_begin_finds_the_receive_that_was_cancelled_ended(rt: HostRuntime) {
         received ' 'q
         close 2 1 1 1 0 0
     ";
-    rep_plays(&rt, rt.alloc(), false, rep, "put 1");
+    rep_plays(&rt, false, rep, "put 1");
 }
 
 #[test]
@@ -104,7 +103,7 @@ fn a_send_that_times_out_gives_its_request_up(rt: HostRuntime) {
         no_receive 0 11
         close 2 0 2 0 0 0
     ";
-    req_plays(&rt, rt.alloc(), false, 0, calls, "put 1");
+    req_plays(&rt, false, 0, calls, "put 1");
 }
 
 #[test]
@@ -125,5 +124,5 @@ fn a_context_that_is_shut_ends_its_request(rt: HostRuntime) {
         close 3 1 2 0 1 0
     ";
     let wires = "put 1 80000000'o";
-    req_plays(&rt, rt.alloc(), false, 0, calls, wires);
+    req_plays(&rt, false, 0, calls, wires);
 }

@@ -1,51 +1,7 @@
 //! Limits of hops, the shortest frames, times and headers of requests, and who gets what is kept.
-ghost use Rattle.sp_history.specs.Options.{Fits};
-
-use crate::checks::{made, plays};
-use core_driver::Driver;
-use core_plays::PlayWire;
-use proto_reqrep::{Reply, Request};
+use crate::roles::{rep_plays, rep_plays_with, req_plays, req_plays_with};
 use sp_base::Role;
 use sp_history::setting::Options;
-use std::alloc::Global;
-use std::process::Abort;
-use std::sync::Wait;
-
-// A core of 16 slots over a rep returns at each line what it says, and ends with these wires.
-fn rep_plays<R: Wait + Abort>(
-    rt: &R,
-    alloc: Global,
-    options: Options,
-    raw: bool,
-    calls: &str,
-    wires: &str,
-)
-    requires { Fits options }
-{
-    let rep: Driver<Reply, PlayWire> = match Reply::new(alloc, options, raw) {
-        Ok(machine) => made(rt, Driver::new(alloc, machine, 16)),
-        Err(_) => panic!(rt; "no memory for a rep"),
-    };
-    plays(rt, alloc, rep, calls, wires);
-}
-
-// The same over a req.
-fn req_plays<R: Wait + Abort>(
-    rt: &R,
-    alloc: Global,
-    options: Options,
-    raw: bool,
-    calls: &str,
-    wires: &str,
-)
-    requires { Fits options }
-{
-    let req: Driver<Request, PlayWire> = match Request::new(alloc, options, raw) {
-        Ok(machine) => made(rt, Driver::new(alloc, machine, 16)),
-        Err(_) => panic!(rt; "no memory for a req"),
-    };
-    plays(rt, alloc, req, calls, wires);
-}
 
 #[test]
 fn one_hop_is_all_where_the_limit_is_one(rt: HostRuntime) {
@@ -61,7 +17,7 @@ fn one_hop_is_all_where_the_limit_is_one(rt: HostRuntime) {
     let wires = "put 1 80000005'a";
     let mut options = Options::usual(Role::Rep, 0);
     options.ttl = 1;
-    rep_plays(&rt, rt.alloc(), options, false, calls, wires);
+    rep_plays_with(&rt, options, false, calls, wires);
 }
 
 #[test]
@@ -82,7 +38,7 @@ fn fifteen_words_make_a_header_of_64_bytes(rt: HostRuntime) {
         put 1 000000010000000100000001000000010000000100000001000000010000000100000001000000010000000100000001\
             000000010000000180000005'q
     ";
-    rep_plays(&rt, rt.alloc(), options, true, calls, wires);
+    rep_plays_with(&rt, options, true, calls, wires);
 }
 
 #[test]
@@ -96,9 +52,8 @@ fn the_empty_frame_is_malformed(rt: HostRuntime) {
         none_down
         close 0 0 0 2 0 0
     ";
-    let options = Options::usual(Role::Rep, 0);
-    rep_plays(&rt, rt.alloc(), options, false, calls, "");
-    rep_plays(&rt, rt.alloc(), options, true, calls, "");
+    rep_plays(&rt, false, calls, "");
+    rep_plays(&rt, true, calls, "");
 }
 
 // Its wire fails where the reply to the first one asks for room.
@@ -116,8 +71,7 @@ fn a_request_of_a_pipe_that_went_down_is_gone(rt: HostRuntime) {
         not_now 0 8
         close 2 2 0 2 0 0
     ";
-    let options = Options::usual(Role::Rep, 0);
-    rep_plays(&rt, rt.alloc(), options, false, calls, "");
+    rep_plays(&rt, false, calls, "");
 }
 
 #[test]
@@ -133,7 +87,7 @@ fn a_request_is_never_due_where_its_time_has_no_end(rt: HostRuntime) {
     let wires = "put 1 80000000'a";
     let mut options = Options::usual(Role::Req, 0);
     options.resend = 18_446_744_073_709_551_615;
-    req_plays(&rt, rt.alloc(), options, false, calls, wires);
+    req_plays_with(&rt, options, false, calls, wires);
 }
 
 #[test]
@@ -145,8 +99,7 @@ fn a_raw_request_goes_out_as_header_and_body(rt: HostRuntime) {
         close 1 1 0 0 1 0
     ";
     let wires = "put 1 8000002a'q";
-    let options = Options::usual(Role::Req, 0);
-    req_plays(&rt, rt.alloc(), options, true, calls, wires);
+    req_plays(&rt, true, 0, calls, wires);
 }
 
 // The immediate receive finds that the receive before it was cancelled, which gave the request up.
@@ -165,8 +118,7 @@ fn nothing_comes_at_once_behind_a_receive_that_was_cancelled(rt: HostRuntime) {
         close 2 1 1 1 1 0
     ";
     let wires = "put 1 80000000'q";
-    let options = Options::usual(Role::Req, 0);
-    req_plays(&rt, rt.alloc(), options, false, calls, wires);
+    req_plays(&rt, false, 0, calls, wires);
 }
 
 #[test]
@@ -181,8 +133,7 @@ fn a_reply_that_is_kept_outlives_its_pipe(rt: HostRuntime) {
         received ' 'a
         close 2 2 0 1 1 0
     ";
-    let options = Options::usual(Role::Req, 0);
-    req_plays(&rt, rt.alloc(), options, false, calls, "");
+    req_plays(&rt, false, 0, calls, "");
 }
 
 #[test]
@@ -193,8 +144,7 @@ fn a_reply_of_three_bytes_is_malformed(rt: HostRuntime) {
         down 1 malformed
         close 0 0 0 1 0 0
     ";
-    let options = Options::usual(Role::Req, 0);
-    req_plays(&rt, rt.alloc(), options, false, calls, "");
+    req_plays(&rt, false, 0, calls, "");
 }
 
 // Over all contexts.
@@ -213,6 +163,5 @@ fn the_receive_that_began_first_gets_the_request(rt: HostRuntime) {
         close 2 1 1 1 0 0
         gone closed 0
     ";
-    let options = Options::usual(Role::Rep, 0);
-    rep_plays(&rt, rt.alloc(), options, false, calls, "put 1");
+    rep_plays(&rt, false, calls, "put 1");
 }
