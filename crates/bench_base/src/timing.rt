@@ -24,7 +24,57 @@ pub fn report<R: Eprint>(rt: &R, name: &str, size: u32, nanos: u128, count: u32)
     let _ = eprintln!(rt; "{name} at {size}: {each} ns");
 }
 
-/// Says what each of so many cost since then.
-pub fn row<R: Clock + Eprint>(rt: &R, name: &str, size: u32, start: Option<Instant>, count: u32) {
-    report(rt, name, size, since(rt, start), count);
+/// Times calls of two kinds: those of one while those of the other rest.
+#[derive(Clone, Copy)]
+pub struct Watch {
+    start: Option<Instant>,
+    /// The nanoseconds of the kind that is timed now.
+    nanos: u128,
+    others: u128,
+}
+
+impl Watch {
+    /// One that has timed nothing.
+    pub fn new() -> Watch {
+        Watch {
+            start: None,
+            nanos: 0,
+            others: 0,
+        }
+    }
+
+    /// Forgets what was timed.
+    pub fn clear(&mut self) {
+        self.nanos = 0;
+        self.others = 0;
+    }
+
+    /// From now on calls are timed.
+    pub fn go_on<R: Clock>(&mut self, rt: &R) {
+        self.start = now(rt);
+    }
+
+    /// Ends what is timed.
+    pub fn end<R: Clock>(&mut self, rt: &R) {
+        self.nanos = self.nanos.saturating_add(since(rt, self.start));
+    }
+
+    /// From now on calls of the other kind are timed.
+    pub fn switch<R: Clock>(&mut self, rt: &R) {
+        self.end(rt);
+        let nanos = self.nanos;
+        self.nanos = self.others;
+        self.others = nanos;
+        self.start = now(rt);
+    }
+
+    /// The nanoseconds of the kind that was timed when it ended.
+    pub fn nanos(&self) -> u128 {
+        self.nanos
+    }
+
+    /// Those of the other kind.
+    pub fn others(&self) -> u128 {
+        self.others
+    }
 }

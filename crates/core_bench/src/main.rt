@@ -1,45 +1,84 @@
-//! What a call of the core costs a push and a pull, at 64, 256, 1,024, 3,000 and 4,096 pipes and slots, and a surveyor, at
-//! 16 to 1,000, over wires in memory that take no time of their own: nanoseconds for each pipe or operation that it
-//! touches, on standard error. On standard output it prints what each socket counted until its close, which is the same at
-//! any speed: so a row that measured refusals would be seen. `core_request_bench` has a req and a rep.
+//! What a call of the core costs a push, a pull, a req, a rep and a surveyor as pipes, contexts and operations grow, over
+//! wires in memory that take no time of their own: nanoseconds for each pipe or operation that it touches, on standard
+//! error. On standard output it prints what each socket counted until its close, which is the same at any speed: so a row
+//! that measured refusals would be seen.
+//!
+//! Each core plays a text. Behind `#` stand the sizes at which it is played: a queue that doubles its room has just enough
+//! at a power of 2, so one size is none, and the first one is small, since what runs first takes longer. The next line is
+//! `cooked SLOTS NAME` or `raw SLOTS NAME`, where NAME is for what the socket counted. Then come lines of these:
+//!
+//! | line | what it says |
+//! |---|---|
+//! | `once CALL, CALL..` | the calls are made |
+//! | `repeat COUNT CALL, CALL..` | they are made so often, one after the other each time |
+//! | `and_once CALL, CALL..`, `and_repeat COUNT CALL, CALL..` | the same, and what the lines before took counts too |
+//! | `pipes COUNT ROOM GIVES` | so many pipes come, over wires that take so many messages, and give this |
+//! | `row UNITS NAME` | what the line before took, for each of so many units |
+//! | `row_apart UNITS NAME` | the same of what it took after each other `switch` |
+//!
+//! | call | what it does |
+//! |---|---|
+//! | `open`, `shut CONTEXT` | a context is opened, and shut |
+//! | `send CONTEXT`, `send_raw CONTEXT` | a send begins; the same of a raw request |
+//! | `receive CONTEXT`, `receive_by CONTEXT TICK` | a receive begins, without and with a deadline |
+//! | `receive_now CONTEXT` | a message is received at once |
+//! | `collect_first`, `collect_last` | what began first, or last, of what is open is collected |
+//! | `pass_on CONTEXT` | what began first is collected, and a send of what it received begins |
+//! | `cancel RECEIVE`, `expire RECEIVE` | the receive is cancelled, and ends for its deadline if it was due |
+//! | `forget` | receives are counted from 0 again |
+//! | `serve`, `tick TICK` | the pipes are served, and the clock goes on |
+//! | `take_ended`, `close` | a pipe that is down is taken, and the core is closed |
+//! | `switch` | what comes next is timed apart from what came before |
+//!
+//! A wire gives `plain COUNT`, so many frames of one byte; `ids FIRST COUNT`, so many with ids from this one on;
+//! `ids_apart FIRST COUNT`, the same with one in a serve; or `end_after COUNT`, nothing in so many serves, and its end.
+//! `bench_base` says what a number may be; behind `pipes`, `i` is how many of them came before.
 #![tactic(auto)]
 
-ghost use Rattle.std.specs.Prelude.{◌<◌, ◌≤◌};
-
-mod deadlines;
+mod bench;
+mod calls;
+mod makers;
 mod pipeline;
+mod replies;
+mod requests;
+mod scripts;
 mod surveys;
 
+use bench::play_all;
+use makers::{Made, Scripted};
 use proto_pipeline::{Pull, Push};
+use proto_reqrep::{Reply, Request};
 use proto_survey::Survey;
-use sp_base::NoMemory;
 use sp_fakes::MemWire;
 use std::io::{self, Eprint, Print};
 use std::sync::Wait;
 use std::time::Clock;
 
-fn all<R: AllocGlobal + Clock + Eprint + Print + Wait>(rt: &R, n: u32) -> Result<(), NoMemory>
-    requires { (0 < n) × (n ≤ 4096) }
-{
-    pipeline::measure::<Push, Pull, MemWire, R>(rt, n)?;
-    deadlines::measure::<Pull, MemWire, R>(rt, n)
+// Plays the texts of all five roles. Whether it could.
+fn each_role<
+    U: Made,
+    L: Made,
+    Q: Made,
+    P: Made,
+    S: Made,
+    W: Scripted,
+    R: AllocGlobal + Clock + Eprint + Print + Wait,
+>(rt: &R) -> bool {
+    play_all::<U, W, R>(rt, pipeline::PUSH)
+        && play_all::<L, W, R>(rt, pipeline::PULL)
+        && play_all::<Q, W, R>(rt, requests::REQ)
+        && play_all::<P, W, R>(rt, replies::REP)
+        && play_all::<S, W, R>(rt, surveys::SURVEYOR)
 }
 
-// A queue that doubles its room has just enough at a power of 2: one size is none. The first size is small: what runs
-// first takes longer.
-fn every_size<R: AllocGlobal + Clock + Eprint + Print + Wait>(rt: &R) -> Result<(), NoMemory> {
-    all(rt, 64)?;
-    all(rt, 256)?;
-    all(rt, 1_024)?;
-    all(rt, 3_000)?;
-    all(rt, 4_096)?;
-    surveys::measure::<Survey, MemWire, R>(rt)
+fn all<R: AllocGlobal + Clock + Eprint + Print + Wait>(rt: &R) -> bool {
+    each_role::<Push, Pull, Request, Reply, Survey, MemWire, R>(rt)
 }
 
 fn main(rt: HostRuntime) -> io::Result<()> {
-    if every_size(&rt).is_err() {
+    if !all(&rt) {
         return Err(io::Error::from(io::ErrorKind::OutOfMemory));
     }
-    println!(rt; "Sends, receives, serves, collects and closes were measured.")?;
+    println!(rt; "Calls of the core were measured.")?;
     Ok(())
 }

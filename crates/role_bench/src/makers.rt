@@ -1,5 +1,6 @@
-//! Machines that can be made. Rows are over any of them: written-out types are dear to prove about.
+//! Machines that can be made. Plays are over any of them: written-out types are dear to prove about.
 use proto_pubsub::{Publish, Subscribe};
+use proto_reqrep::{Reply, Request};
 use proto_survey::Survey;
 use sp_base::{NoMemory, Role};
 use sp_history::setting::Options;
@@ -7,33 +8,41 @@ use sp_proto::Proto;
 use std::alloc::Global;
 
 /// A machine that can be made.
-pub trait NewMachine: Proto {
-    /// One with the usual options of its role.
-    fn made(alloc: Global) -> Result<Self, NoMemory>;
+pub trait Made: Proto {
+    /// One with the usual options of its role. A sub may have queues of this room.
+    fn made(alloc: Global, queue: Option<u32>) -> Result<Self, NoMemory>;
 }
 
-impl NewMachine for Publish {
-    fn made(alloc: Global) -> Result<Publish, NoMemory> {
+impl Made for Publish {
+    fn made(alloc: Global, _queue: Option<u32>) -> Result<Publish, NoMemory> {
         Publish::new(alloc, Options::usual(Role::Pub, 0), false)
     }
 }
 
-impl NewMachine for Survey {
-    fn made(alloc: Global) -> Result<Survey, NoMemory> {
+impl Made for Subscribe {
+    fn made(alloc: Global, queue: Option<u32>) -> Result<Subscribe, NoMemory> {
+        let mut options = Options::usual(Role::Sub, 0);
+        if let Some(queue) = queue {
+            options.queue = queue;
+        }
+        Subscribe::new(alloc, options, false)
+    }
+}
+
+impl Made for Survey {
+    fn made(alloc: Global, _queue: Option<u32>) -> Result<Survey, NoMemory> {
         Survey::new(alloc, Options::usual(Role::Surveyor, 0), false)
     }
 }
 
-/// A machine that can be made with queues of any room.
-pub trait Queued: Proto {
-    /// One of which the queue of each context has this room.
-    fn with_queue(alloc: Global, queue: u32) -> Result<Self, NoMemory>;
+impl Made for Request {
+    fn made(alloc: Global, _queue: Option<u32>) -> Result<Request, NoMemory> {
+        Request::new(alloc, Options::usual(Role::Req, 0), false)
+    }
 }
 
-impl Queued for Subscribe {
-    fn with_queue(alloc: Global, queue: u32) -> Result<Subscribe, NoMemory> {
-        let mut options = Options::usual(Role::Sub, 0);
-        options.queue = queue;
-        Subscribe::new(alloc, options, false)
+impl Made for Reply {
+    fn made(alloc: Global, _queue: Option<u32>) -> Result<Reply, NoMemory> {
+        Reply::new(alloc, Options::usual(Role::Rep, 0), false)
     }
 }

@@ -1,4 +1,4 @@
-//! Machines, wires and cores that can be made. Rows are over any of them: written-out types are dear to prove about.
+//! Machines, wires and cores that can be made. Plays are over any of them: written-out types are dear to prove about.
 ghost use Rattle.std.specs.Prelude.{◌<◌, ◌≤◌, IfOk};
 ghost use Rattle.sp_proto.specs.Kinds.{Kind, Starts};
 ghost use Rattle.core_parts.specs.Wires.{IsUnused};
@@ -72,16 +72,17 @@ impl Scripted for MemWire {
     }
 }
 
-/// A core of so many slots, with no pipe.
-pub fn driver_of<P: Made, W: Wire>(alloc: Global, slots: u32) -> Result<Driver<P, W>, NoMemory>
-    requires { (0 < slots) × (slots ≤ 4096) }
-{
-    Driver::new(alloc, P::made(alloc, false)?, slots)
-}
-
-/// The same, of a raw machine.
-pub fn raw_driver_of<P: Made, W: Wire>(alloc: Global, slots: u32) -> Result<Driver<P, W>, NoMemory>
-    requires { (0 < slots) × (slots ≤ 4096) }
-{
-    Driver::new(alloc, P::made(alloc, true)?, slots)
+/// A core of so many slots, with no pipe. A core has 1 to 4,096.
+pub fn driver_of<P: Made, W: Wire>(
+    alloc: Global,
+    raw: bool,
+    slots: u32,
+) -> Result<Driver<P, W>, NoMemory> {
+    if slots < 1 {
+        return Err(NoMemory);
+    }
+    if slots > 4_096 {
+        return Err(NoMemory);
+    }
+    Driver::new(alloc, P::made(alloc, raw)?, slots)
 }
