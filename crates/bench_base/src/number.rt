@@ -26,7 +26,10 @@ impl Number {
 fn factor(size: u32, word: &str) -> Option<u32> {
     match word.split_once('n') {
         None => word.parse::<u32>().ok(),
-        Some((times, _)) => {
+        Some((times, behind)) => {
+            if !behind.is_empty() {
+                return None;
+            }
             if times.is_empty() {
                 return Some(size);
             }
@@ -62,13 +65,30 @@ fn growing(size: u32, step: &str, more: &str) -> Option<Number> {
         count_of(size, step)?
     };
     let from = match more.strip_prefix("+") {
-        None => 0,
         Some(more) => count_of(size, more)?,
+        None => {
+            if !more.is_empty() {
+                return None;
+            }
+            0
+        }
     };
     Some(Number {
         from,
         step,
         falls: false,
+    })
+}
+
+// The number that falls by 1 from this one; nothing stands behind its `i`.
+fn falling(size: u32, from: &str, behind: &str) -> Option<Number> {
+    if !behind.is_empty() {
+        return None;
+    }
+    Some(Number {
+        from: count_of(size, from)?,
+        step: 1,
+        falls: true,
     })
 }
 
@@ -82,11 +102,7 @@ pub fn number_of(size: u32, word: &str) -> Option<Number> {
         }),
         Some((before, behind)) => match before.strip_suffix("-") {
             None => growing(size, before, behind),
-            Some(from) => Some(Number {
-                from: count_of(size, from)?,
-                step: 1,
-                falls: true,
-            }),
+            Some(from) => falling(size, from, behind),
         },
     }
 }

@@ -14,6 +14,9 @@ use std::io::{Eprint, Print};
 use std::sync::Wait;
 use std::time::Clock;
 
+// No text names more receives: the list doesn't grow while calls are measured.
+const NAMES: usize = 8_192;
+
 /// A core of which rows are measured. It must be spent: `end` ends it.
 struct CoreBench<P: Proto, W: Wire> {
     driver: Driver<P, W>,
@@ -26,11 +29,11 @@ struct CoreBench<P: Proto, W: Wire> {
 }
 
 impl<P: Proto, W: Wire> CoreBench<P, W> {
-    fn new(alloc: Global, driver: Driver<P, W>, size: u32) -> CoreBench<P, W> {
+    fn new(driver: Driver<P, W>, names: Vec<OpName>, size: u32) -> CoreBench<P, W> {
         CoreBench {
             driver,
             size,
-            names: Vec::new(alloc),
+            names,
             due: 0,
             watch: Watch::new(),
         }
@@ -80,7 +83,7 @@ impl<P: Proto, W: Wire> CoreBench<P, W> {
         }
     }
 
-    // Ends the same receive for its deadline, if as many were due: those that began first have the first deadlines.
+    // Ends the same receive for its deadline, if more than so many were due: those that began first have the first deadlines.
     fn expire(&mut self, before: u32) {
         if before as usize >= self.due {
             return;
@@ -259,6 +262,14 @@ fn end<P: Proto, W: Scripted, R: AllocGlobal + Print + Wait>(
     let _ = driver.finish(rt, rt.alloc());
 }
 
+fn is_raw(word: &str) -> Option<bool> {
+    match word {
+        "raw" => Some(true),
+        "cooked" => Some(false),
+        _ => None,
+    }
+}
+
 // Plays a text at this size: what core it is of, and the lines.
 fn play_at<P: Made, W: Scripted, R: AllocGlobal + Clock + Eprint + Print + Wait>(
     rt: &R,
@@ -269,11 +280,16 @@ fn play_at<P: Made, W: Scripted, R: AllocGlobal + Clock + Eprint + Print + Wait>
         return false;
     };
     let mut core = Line::new(size, core);
-    let raw = core.word() == "raw";
+    let Some(raw) = is_raw(core.word()) else {
+        return false;
+    };
+    let Ok(names) = Vec::with_capacity(rt.alloc(), NAMES) else {
+        return false;
+    };
     let Ok(driver) = driver_of::<P, W>(rt.alloc(), raw, core.count()) else {
         return false;
     };
-    let mut bench = CoreBench::new(rt.alloc(), driver, size);
+    let mut bench = CoreBench::new(driver, names, size);
     let is_right = bench.play(rt, lines);
     end(rt, core.rest(), bench);
     is_right

@@ -4,8 +4,9 @@
 //! that measured refusals would be seen.
 //!
 //! Each core plays a text. Behind `#` stand the sizes at which it is played: a queue that doubles its room has just enough
-//! at a power of 2, so one size is none, and the first one is small, since what runs first takes longer. The next line is
-//! `cooked SLOTS NAME` or `raw SLOTS NAME`, where NAME is for what the socket counted. Then come lines of these:
+//! at a power of 2, so where that matters one size is none. The first one is small, since what runs first takes longer.
+//! The next line is `cooked SLOTS NAME` or `raw SLOTS NAME`, where NAME is for what the socket counted. Then come lines of
+//! these:
 //!
 //! | line | what it says |
 //! |---|---|

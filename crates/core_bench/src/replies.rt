@@ -32,7 +32,7 @@ pub const REP: &str = "# 64 256 1024 3000 4096
     repeat n-1 serve, collect_first, send i, collect_last, receive i
     row n-1 a request and its reply while n contexts wait, and a reply at a full pipe
 
-    # 64 256 1024 3000 4096
+    # 64 256 1024 4096
     cooked n a rep whose replies wait
     repeat n-1 open
     pipes n 0 ids i 1

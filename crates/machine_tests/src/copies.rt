@@ -1,4 +1,4 @@
-//! Copies of a send to all that no pipe took: none is left when the send ends, is it won or handed back.
+//! Copies of a send to all that no pipe took: none is left when the send ends, whether it is won or handed back.
 use crate::checks::plays;
 
 #[test]

@@ -3,7 +3,7 @@
 use crate::checks::plays;
 
 // 120,000 requests go over one pipe, one a second. Then 10,000 pipes come up and go down, one after the other, each for
-// a request, and contexts are opened and shut so. What a rep receives it sends.
+// a request, and contexts are opened and shut so. On context 0 a rep sends what it received.
 #[test]
 fn a_rep_answers_many_requests(rt: HostRuntime) {
     let cooked = "

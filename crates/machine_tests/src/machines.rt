@@ -10,7 +10,7 @@
 //! | after how many milliseconds a request goes out again | `resend=1` |
 //! | how many words of a backtrace are read | `ttl=15` |
 //!
-//! Each machine is written out here alone: a function that hands one to a generic function takes seconds to prove.
+//! But for a push of `pipeline` each machine is written out here alone: a function that hands one to a generic function takes seconds to prove.
 ghost use Rattle.std.specs.Prelude.{IfSome};
 ghost use Rattle.sp_history.specs.Options.{Fits};
 
@@ -19,8 +19,8 @@ use proto_bus::Bus;
 use proto_pair::Pair;
 use proto_pipeline::{Pull, Push};
 use proto_pubsub::{Publish, Subscribe};
-use proto_reqrep::{Reply, Request, Respond};
-use proto_survey::Survey;
+use proto_reqrep::{Reply, Request};
+use proto_survey::{Respond, Survey};
 use sp_base::{NoMemory, Role};
 use sp_history::setting::Options;
 use sp_proto::Proto;
@@ -98,13 +98,31 @@ fn is_named_set(it: &mut Kind, word: &str) -> bool {
 }
 
 fn is_number_set(options: &mut Options, name: &str, n: u64) -> bool {
+    if name == "resend" {
+        options.resend = n;
+        return true;
+    }
+    match u32::try_from(n) {
+        Ok(n) => is_small_number_set(options, name, n),
+        Err(_) => false,
+    }
+}
+
+fn is_small_number_set(options: &mut Options, name: &str, n: u32) -> bool {
     match name {
-        "dice" => options.dice = u32::try_from(n).unwrap_or(0),
-        "queue" => options.queue = u32::try_from(n).unwrap_or(0),
-        "resend" => options.resend = n,
-        "ttl" => options.ttl = u8::try_from(n).unwrap_or(0),
+        "dice" => options.dice = n,
+        "queue" => options.queue = n,
+        "ttl" => return is_limit_set(options, n),
         _ => return false,
     }
+    true
+}
+
+fn is_limit_set(options: &mut Options, n: u32) -> bool {
+    let Ok(ttl) = u8::try_from(n) else {
+        return false;
+    };
+    options.ttl = ttl;
     true
 }
 

@@ -115,7 +115,7 @@ fn is_round_so<M: Proto>(m: &mut M, alloc: Global, n: u32, calls: &str) -> bool 
 
 fn are_calls_so<M: Proto>(m: &mut M, alloc: Global, calls: &str) -> bool {
     for call in calls.split('|') {
-        if !is_so(m, alloc, call) {
+        if call.trim().is_empty() || !is_so(m, alloc, call) {
             return false;
         }
     }
@@ -180,7 +180,7 @@ fn with_op<M: Proto>(m: &mut M, name: &str, op: OpName) -> bool {
         "can_give" => m.offer() == Offer::Give { op },
         "can_flood" => m.offer() == Offer::Flood { op },
         "can_drop" => m.offer() == Offer::Drop { op },
-        _ => with_number(m, name, op.slot),
+        _ => op.generation == 1 && with_number(m, name, op.slot),
     }
 }
 
@@ -207,7 +207,7 @@ fn is_told<M: Proto>(m: &mut M, name: &str, n: u32) -> bool {
 
 fn with_two<M: Proto>(m: &mut M, alloc: Global, name: &str, a: &str, b: &str) -> bool {
     match (named(a), named(b)) {
-        (Some(a), Some(b)) => with_names(m, name, a, b.slot),
+        (Some(a), Some(b)) => b.generation == 1 && with_names(m, name, a, b.slot),
         (Some(a), None) => with_word(m, alloc, name, a, b),
         _ => name == "is" && m.role().name() == a && raw_or_cooked(m.raw()) == b,
     }
@@ -266,7 +266,7 @@ fn can_finish<M: Proto>(m: &mut M, op: OpName, why: &str) -> bool {
 fn with_three<M: Proto>(m: &mut M, alloc: Global, name: &str, a: &str, b: &str, c: &str) -> bool {
     match (named(a), named(b)) {
         (Some(op), Some(p)) => {
-            name == "goes_to" && yes_or_no(m.goes_to(op, PipeId(p.slot))) == c
+            name == "goes_to" && p.generation == 1 && yes_or_no(m.goes_to(op, PipeId(p.slot))) == c
         }
         (Some(op), None) => with_words(m, alloc, name, op, b, c),
         _ => false,
@@ -412,13 +412,23 @@ fn a_line_that_is_no_call_is_wrong(rt: HostRuntime) {
         check 0 both ok
         send 0 0 00'a 'b
         goes_out 0 1 '
-        copy 0 1 ' ' '
+        send 0 0 ' 'a 'b
         up #
         up 1.
         for 1..2 up #
         for 1: up #
         for 1..two: up #
         for 1..2: jump #
+        for 1..2:
+        for 1..2: fresh |
+        for 0..1: check # send ok
+        for 1..0: check # receive not_supported
+        for 0..0: check 0 send ok | check 1 send ok
+        up 1.7
+        is bus raw
+        can_give 0
+        keeps 0 yes
+        check 0 send state
         frame 1 'a*b";
     holds(&rt, are_wrong(rt.alloc(), lines));
 }
@@ -440,4 +450,8 @@ fn a_text_of_no_machine_is_wrong(rt: HostRuntime) {
     holds(&rt, line_wrong_for(alloc, "bus+tree", "") == Some(0));
     holds(&rt, line_wrong_for(alloc, "bus flat", "") == Some(0));
     holds(&rt, line_wrong_for(alloc, "rep ttl=16", "") == Some(0));
+    holds(
+        &rt,
+        line_wrong_for(alloc, "bus queue=4294967296", "") == Some(0),
+    );
 }

@@ -95,7 +95,7 @@ fn a_frame_is_kept_where_a_topic_is_its_prefix(rt: HostRuntime) {
     }
 }
 
-// A body that is wanted by none of the topics, and one that is. Then a longer topic than any, and a shorter body.
+// A body that is wanted by none of the topics, and one that is. Both are longer than any topic. Then the empty topic, and an empty body.
 #[test]
 fn ten_thousand_topics_of_one_length(rt: HostRuntime) {
     let play = "

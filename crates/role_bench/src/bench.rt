@@ -185,13 +185,23 @@ fn play_at<M: Made, R: AllocGlobal + Clock + Eprint>(
     bench.play(rt, lines)
 }
 
+// The room of queues; none where it is the usual one.
+fn queue_of(word: &str) -> Option<Option<u32>> {
+    if word == "usual" {
+        return Some(None);
+    }
+    Some(Some(word.parse::<u32>().ok()?))
+}
+
 // Plays a text at each of the sizes in its first line, behind the room of queues or `usual`.
 fn play_at_each<M: Made, R: AllocGlobal + Clock + Eprint>(rt: &R, text: &str) -> bool {
     let Some((head, lines)) = text.split_once('\n') else {
         return text.is_empty();
     };
     let mut head = Line::new(0, head);
-    let queue = head.word().parse::<u32>().ok();
+    let Some(queue) = queue_of(head.word()) else {
+        return false;
+    };
     for word in head.rest().split(' ') {
         let Ok(size) = word.parse::<u32>() else {
             return false;
