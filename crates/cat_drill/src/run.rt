@@ -30,7 +30,7 @@ use std::thread::Threads;
 /// How many messages the lane holds.
 const LANE: u32 = 64;
 
-/// What a drill returns.
+/// What a drill returns (nngcat(1)).
 #[derive(Drop)]
 pub struct DrillEnd {
     /// Why it ended: `Done`, `OutFault` or `NoMemory`.

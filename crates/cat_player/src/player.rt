@@ -59,7 +59,7 @@ pub enum PlayEnd {
     SendTimedOut,
 }
 
-/// What a step came to.
+/// What a step of the play came to (nngcat(1)).
 #[derive(Clone, Copy, Debug, PartialEq, Eq)]
 pub enum StepResult {
     /// The next operation is under way.
@@ -84,7 +84,7 @@ pub enum Collecting {
     NoMemory,
 }
 
-/// A play that is under way.
+/// A play that is under way (nngcat(1)).
 pub struct Player {
     alloc: Global,
     /// What is to be played.

@@ -1,5 +1,5 @@
 pub mod RequestLives
-pub mod Seated
+pub mod DryContexts
 pub mod Outgoing
 pub mod LiveIndexes
 pub mod KeyedOuts

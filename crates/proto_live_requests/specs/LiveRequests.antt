@@ -18,8 +18,8 @@ use Rattle.proto_requests.specs.FirstFound.{without_found, with_found}
 
 -- ---- Contexts
 
-abbrev pub seat_ctx : ReqContextView → ℕ
-seat_ctx s = s.ctx
+abbrev pub context_number : ReqContextView → ℕ
+context_number s = s.ctx
 
 -- a copy for the context found no memory
 abbrev pub dry_at : ℕ → List ReqContextView → Bool

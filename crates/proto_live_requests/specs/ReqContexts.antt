@@ -13,8 +13,8 @@ pub record ReqContextsView : Type 0 where
 -- ---- As they are held: by its number, the tick in which each was last dry, or 0
 
 -- as it is in this tick
-abbrev pub seat_in : ℕ → ℕ × ℕ → ReqContextView
-seat_in tick e = record { ctx = e.0; is_dry = e.1 == tick }
+abbrev pub context_in : ℕ → ℕ × ℕ → ReqContextView
+context_in tick e = record { ctx = e.0; is_dry = e.1 == tick }
 
 -- none was dry in a later tick
 abbrev pub AreUpTo : ℕ → List (ℕ × ℕ) → Type 0
@@ -22,6 +22,6 @@ AreUpTo tick [] = ⊤
 AreUpTo tick (e ∷ es) = (e.1 ≤ tick) × AreUpTo tick es
 
 -- none was dry in a later tick than this one
-pub record AreSeated (tick : ℕ) (es : List (ℕ × ℕ)) : Type 0 where
+pub record AreByTick (tick : ℕ) (es : List (ℕ × ℕ)) : Type 0 where
   pub ticks : AreUpTo tick es
   pub begun : 1 ≤ tick

@@ -6,7 +6,7 @@ ghost use Rattle.std.specs.Prelude.{◌≡◌, ◌++◌, ◌∷◌, ◌==◌, []
 ghost use Rattle.std.specs.List.{list_any, list_all};
 ghost use Rattle.proto_requests.specs.Ordered.{is_before};
 ghost use Rattle.proto_live_requests.specs.ReqContexts.{ReqContextView};
-ghost use Rattle.proto_live_requests.specs.LiveRequests.{seat_ctx, dry_at, dried, wetted};
+ghost use Rattle.proto_live_requests.specs.LiveRequests.{context_number, dry_at, dried, wetted};
 
 use sp_base::{Ctx, NoMemory};
 use std::alloc::Global;
@@ -24,13 +24,13 @@ pub struct ReqContexts {
 
 impl Model for ReqContexts {
     ghost use Rattle.std.specs.Prelude.{map};
-    ghost use Rattle.proto_live_requests.specs.ReqContexts.{ReqContextsView, AreSeated, seat_in};
+    ghost use Rattle.proto_live_requests.specs.ReqContexts.{ReqContextsView, AreByTick, context_in};
 
     ghost Value = { ReqContextsView };
 
-    ghost view = { λ m. record { items = map (seat_in m.tick) m.dry_in.entries } };
+    ghost view = { λ m. record { items = map (context_in m.tick) m.dry_in.entries } };
 
-    ghost invariant = { λ m. AreSeated m.tick m.dry_in.entries };
+    ghost invariant = { λ m. AreByTick m.tick m.dry_in.entries };
 }
 
 impl ReqContexts {
@@ -92,7 +92,7 @@ impl ReqContexts {
 
     // The number of the context is above those of all that are open.
     fn is_above_all(&self, c: Ctx) -> bool
-        ensures { list_all (is_before seat_ctx c) self.now.items ≡ true → result ≡ true }
+        ensures { list_all (is_before context_number c) self.now.items ≡ true → result ≡ true }
     {
         match self.dry_in.last_key_value() {
             None => true,
@@ -103,7 +103,7 @@ impl ReqContexts {
     /// The context is open from now on. Its number is above all others; one that isn't is that of no new context. Where
     /// there is no memory, all is as before.
     pub fn open(&mut self, c: Ctx) -> Result<(), NoMemory>
-        ensures more { OnOk result (list_all (is_before seat_ctx c) self.old.items ≡ true → self.new.items ≡ self.old.items ++ record { ctx = c; is_dry = false } ∷ []) }
+        ensures more { OnOk result (list_all (is_before context_number c) self.old.items ≡ true → self.new.items ≡ self.old.items ++ record { ctx = c; is_dry = false } ∷ []) }
         ensures same { OnErr result (self.new.items ≡ self.old.items) }
     {
         if !self.is_above_all(c) {

@@ -43,7 +43,7 @@ struct Waiting {
     message: Option<Message>,
 }
 
-/// The operations that are pending.
+/// The operations that are pending (nng_aio(5)).
 #[derive(Drop)]
 pub struct Pending {
     /// In the order of their begins.

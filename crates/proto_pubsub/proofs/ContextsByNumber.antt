@@ -7,8 +7,8 @@ use Rattle.std.proofs.lemmas.Bool.Decides.{nat_tests}
 use Rattle.std.proofs.lemmas.List.Quantifiers.{position-Some}
 use Rattle.sp_history.specs.declared.parts.Item.{Item}
 use Rattle.sp_history.specs.Lists.{has}
-use Rattle.proto_pubsub.specs.SubContexts.{SubContextView, is_home, ctx_of, AreOver, AreOrdered, InOrder}
-use Rattle.proto_pubsub.specs.Subs.{seat_at}
+use Rattle.proto_pubsub.specs.SubContexts.{SubContextView, is_of_context, ctx_of, AreOver, AreOrdered, InOrder}
+use Rattle.proto_pubsub.specs.Subs.{context_at}
 use Rattle.proto_pubsub.proofs.Knowing.{IsRising}
 
 other : (m n : ℕ) → m < n → (m == n) ≡ false
@@ -62,7 +62,7 @@ parted p (x ∷ xs) h zero (suc j) d l m k = numbers x.ctx (slice_index_or xs j 
 parted p (x ∷ xs) h (suc i) zero d l m k = absurd (omega (arith, l))
 parted p (x ∷ xs) h (suc i) (suc j) d l m k = parted p xs h.1 i j d (omega (arith, l)) (omega (arith, m)) k
 
-found_place : (xs : List SubContextView) (p i : ℕ) (d : SubContextView) → ((k : ℕ) (e : SubContextView) → k < i → is_under p (slice_index_or xs k e) ≡ true) → i < length xs → (slice_index_or xs i d).ctx ≡ p → position_or_len (is_home p) xs ≡ i
+found_place : (xs : List SubContextView) (p i : ℕ) (d : SubContextView) → ((k : ℕ) (e : SubContextView) → k < i → is_under p (slice_index_or xs k e) ≡ true) → i < length xs → (slice_index_or xs i d).ctx ≡ p → position_or_len (is_of_context p) xs ≡ i
 found_place [] p i d b l e = absurd (omega (arith, l))
 found_place (x ∷ xs) p zero d b l e = let same : (x.ctx == p) ≡ true = ap (λ (n : ℕ). n == p) e ∙ same_number p in rw same refl
 found_place (x ∷ xs) p (suc i) d b l e =
@@ -70,14 +70,14 @@ found_place (x ∷ xs) p (suc i) d b l e =
     let rest = found_place xs p i d (λ k f m. b (suc k) f (omega (arith, m))) (omega (arith, l)) e in
     rw no (omega (arith, rest))
 
-none_over : (xs : List SubContextView) (p q : ℕ) → p ≤ q → AreOver q (map ctx_of xs) → position_or_len (is_home p) xs ≡ length xs
+none_over : (xs : List SubContextView) (p q : ℕ) → p ≤ q → AreOver q (map ctx_of xs) → position_or_len (is_of_context p) xs ≡ length xs
 none_over [] p q l h = refl
 none_over (x ∷ xs) p q l h =
     let no : (x.ctx == p) ≡ false = above p x.ctx (omega (arith, l, h.0)) in
     let rest = none_over xs p q l h.1 in
     rw no (omega (arith, rest))
 
-no_place : (xs : List SubContextView) (p i : ℕ) (d : SubContextView) → InOrder xs → ((k : ℕ) (e : SubContextView) → k < i → k < length xs → is_under p (slice_index_or xs k e) ≡ true) → (i < length xs → p < (slice_index_or xs i d).ctx) → position_or_len (is_home p) xs ≡ length xs
+no_place : (xs : List SubContextView) (p i : ℕ) (d : SubContextView) → InOrder xs → ((k : ℕ) (e : SubContextView) → k < i → k < length xs → is_under p (slice_index_or xs k e) ≡ true) → (i < length xs → p < (slice_index_or xs i d).ctx) → position_or_len (is_of_context p) xs ≡ length xs
 no_place [] p i d h b a = refl
 no_place (x ∷ xs) p zero d h b a =
     let high : p < x.ctx = a (omega arith) in
@@ -90,14 +90,14 @@ no_place (x ∷ xs) p (suc i) d h b a =
     rw no (omega (arith, rest))
 
 -- the one at the place has this number
-pub placed : (xs : List SubContextView) (p i : ℕ) (d : SubContextView) → ((k : ℕ) (e : SubContextView) → k < i → is_under p (slice_index_or xs k e) ≡ true) → i < length xs → (slice_index_or xs i d).ctx ≡ p → Some i ≡ position (is_home p) xs
+pub placed : (xs : List SubContextView) (p i : ℕ) (d : SubContextView) → ((k : ℕ) (e : SubContextView) → k < i → is_under p (slice_index_or xs k e) ≡ true) → i < length xs → (slice_index_or xs i d).ctx ≡ p → Some i ≡ position (is_of_context p) xs
 placed xs p i d b l e = sym (at_place_is _ _ _ (found_place xs p i d b l e) l)
 
 -- the one at the place has a higher number, if there is one
-pub not_placed : (xs : List SubContextView) (p i : ℕ) (d : SubContextView) → InOrder xs → ((k : ℕ) (e : SubContextView) → k < i → k < length xs → is_under p (slice_index_or xs k e) ≡ true) → (i < length xs → p < (slice_index_or xs i d).ctx) → None ≡ position (is_home p) xs
+pub not_placed : (xs : List SubContextView) (p i : ℕ) (d : SubContextView) → InOrder xs → ((k : ℕ) (e : SubContextView) → k < i → k < length xs → is_under p (slice_index_or xs k e) ≡ true) → (i < length xs → p < (slice_index_or xs i d).ctx) → None ≡ position (is_of_context p) xs
 not_placed xs p i d h b a = sym (at_none _ _ (no_place xs p i d h b a))
 
-none_at_end : (xs : List SubContextView) (p : ℕ) → ((k : ℕ) (e : SubContextView) → k < length xs → is_under p (slice_index_or xs k e) ≡ true) → position_or_len (is_home p) xs ≡ length xs
+none_at_end : (xs : List SubContextView) (p : ℕ) → ((k : ℕ) (e : SubContextView) → k < length xs → is_under p (slice_index_or xs k e) ≡ true) → position_or_len (is_of_context p) xs ≡ length xs
 none_at_end [] p b = refl
 none_at_end (x ∷ xs) p b =
     let no : (x.ctx == p) ≡ false = other x.ctx p (under x.ctx p (b 0 x (omega arith))) in
@@ -105,7 +105,7 @@ none_at_end (x ∷ xs) p b =
     rw no (omega (arith, rest))
 
 -- all have lower numbers
-pub all_lower : (xs : List SubContextView) (p : ℕ) → ((k : ℕ) (e : SubContextView) → k < length xs → is_under p (slice_index_or xs k e) ≡ true) → None ≡ position (is_home p) xs
+pub all_lower : (xs : List SubContextView) (p : ℕ) → ((k : ℕ) (e : SubContextView) → k < length xs → is_under p (slice_index_or xs k e) ≡ true) → None ≡ position (is_of_context p) xs
 all_lower xs p b = sym (at_none _ _ (none_at_end xs p b))
 
 -- ---- Whether there is one
@@ -133,27 +133,27 @@ some_place P xs = go (nat_lt (position_or_len P xs) (length xs)) ∙ sym (any_pl
 
 -- ---- Without one
 
-over_kept : (p q : ℕ) (xs : List SubContextView) → p ≤ q → AreOver q (map ctx_of xs) → xs ≡ filter (λ x. not (is_home p x)) xs
+over_kept : (p q : ℕ) (xs : List SubContextView) → p ≤ q → AreOver q (map ctx_of xs) → xs ≡ filter (λ x. not (is_of_context p x)) xs
 over_kept p q [] l h = refl
 over_kept p q (x ∷ xs) l h = let no : (x.ctx == p) ≡ false = above p x.ctx (omega (arith, l, h.0)) in rw no (ap (λ (rest : List SubContextView). x ∷ rest) (over_kept p q xs l h.1))
 
-pub shut_none : (p : ℕ) (xs : List SubContextView) → find (is_home p) xs ≡ None → xs ≡ filter (λ (x : SubContextView). not (is_home p x)) xs
+pub shut_none : (p : ℕ) (xs : List SubContextView) → find (is_of_context p) xs ≡ None → xs ≡ filter (λ (x : SubContextView). not (is_of_context p x)) xs
 shut_none p [] h = refl
 shut_none p (x ∷ xs) h = go (x.ctx == p) h (shut_none p xs)
   where
-    go : (b : Bool) → cond b (Some x) (find (is_home p) xs) ≡ None → (find (is_home p) xs ≡ None → xs ≡ filter (λ (y : SubContextView). not (is_home p y)) xs) → x ∷ xs ≡ cond (not b) (x ∷ filter (λ (y : SubContextView). not (is_home p y)) xs) (filter (λ (y : SubContextView). not (is_home p y)) xs)
+    go : (b : Bool) → cond b (Some x) (find (is_of_context p) xs) ≡ None → (find (is_of_context p) xs ≡ None → xs ≡ filter (λ (y : SubContextView). not (is_of_context p y)) xs) → x ∷ xs ≡ cond (not b) (x ∷ filter (λ (y : SubContextView). not (is_of_context p y)) xs) (filter (λ (y : SubContextView). not (is_of_context p y)) xs)
     go true h again = absurd cc
     go false h again = ap (λ (rest : List SubContextView). x ∷ rest) (again h)
 
-removed : (p : ℕ) (xs : List SubContextView) (i : ℕ) (d : SubContextView) → InOrder xs → i < length xs → is_home p (slice_index_or xs i d) ≡ true → ((k : ℕ) → k < i → is_home p (slice_index_or xs k d) ≡ false) → remove xs i ≡ filter (λ (x : SubContextView). not (is_home p x)) xs
+removed : (p : ℕ) (xs : List SubContextView) (i : ℕ) (d : SubContextView) → InOrder xs → i < length xs → is_of_context p (slice_index_or xs i d) ≡ true → ((k : ℕ) → k < i → is_of_context p (slice_index_or xs k d) ≡ false) → remove xs i ≡ filter (λ (x : SubContextView). not (is_of_context p x)) xs
 removed p [] i d o l t b = absurd (omega (arith, l))
 removed p (x ∷ xs) zero d o l t b = rw t (over_kept p x.ctx xs (let is = equal_of x.ctx p t in omega (arith, is)) o.0)
 removed p (x ∷ xs) (suc i) d o l t b =
-    let no : is_home p x ≡ false = b 0 (omega arith) in
+    let no : is_of_context p x ≡ false = b 0 (omega arith) in
     rw no (ap (λ (rest : List SubContextView). x ∷ rest) (removed p xs i d o.1 (omega (arith, l)) t (λ k m. b (suc k) (omega (arith, m)))))
 
-pub shut_at : (p : ℕ) (xs : List SubContextView) (i : ℕ) (d : SubContextView) → InOrder xs → position (is_home p) xs ≡ Some i → remove xs i ≡ filter (λ (x : SubContextView). not (is_home p x)) xs
-shut_at p xs i d o h = let at = position-Some (is_home p) xs i d h in removed p xs i d o at.0 at.1 at.2
+pub shut_at : (p : ℕ) (xs : List SubContextView) (i : ℕ) (d : SubContextView) → InOrder xs → position (is_of_context p) xs ≡ Some i → remove xs i ≡ filter (λ (x : SubContextView). not (is_of_context p x)) xs
+shut_at p xs i d o h = let at = position-Some (is_of_context p) xs i d h in removed p xs i d o at.0 at.1 at.2
 
 -- the place that is returned of a list that is the same
 pub here : (P : SubContextView → Bool) (xs ys : List SubContextView) (r : Option ℕ) → ys ≡ xs → InOrder xs → (InOrder ys → r ≡ position P ys) → position P xs ≡ r
@@ -161,7 +161,7 @@ here P xs ys r e o h = sym (h (subst InOrder (sym e) o) ∙ ap (position P) e)
 
 -- ---- As a past tells them
 
-pub numbers : (places : ℕ) (is : ℕ → List Item) (ts : ℕ → List (List ℕ)) (cs : List ℕ) → map ctx_of (map (seat_at places is ts) cs) ≡ cs
+pub numbers : (places : ℕ) (is : ℕ → List Item) (ts : ℕ → List (List ℕ)) (cs : List ℕ) → map ctx_of (map (context_at places is ts) cs) ≡ cs
 numbers places is ts [] = refl
 numbers places is ts (c ∷ cs) = ap (λ (rest : List ℕ). c ∷ rest) (numbers places is ts cs)
 

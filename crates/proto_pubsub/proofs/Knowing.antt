@@ -160,45 +160,45 @@ only_zero z (Ctx d Shut ∷ before) c a r h = only_zero z before c a.1 r (has_wi
 only_zero z (_ ∷ before) c a r h = only_zero z before c a.1 r h
 
 -- each operation is of one of these contexts
-abbrev pub AreHome : List ℕ → List Begun → Type 0
-AreHome cs [] = ⊤
-AreHome cs (s ∷ ss) = (has cs s.ctx ≡ true) × AreHome cs ss
+abbrev pub AreOfContexts : List ℕ → List Begun → Type 0
+AreOfContexts cs [] = ⊤
+AreOfContexts cs (s ∷ ss) = (has cs s.ctx ≡ true) × AreOfContexts cs ss
 
-homes_opened : (cs ds : List ℕ) (ss : List Begun) → AreHome cs ss → AreHome (cs ++ ds) ss
-homes_opened cs ds [] h = h
-homes_opened cs ds (s ∷ ss) h = (has_first cs ds s.ctx h.0, homes_opened cs ds ss h.1)
+of_contexts_opened : (cs ds : List ℕ) (ss : List Begun) → AreOfContexts cs ss → AreOfContexts (cs ++ ds) ss
+of_contexts_opened cs ds [] h = h
+of_contexts_opened cs ds (s ∷ ss) h = (has_first cs ds s.ctx h.0, of_contexts_opened cs ds ss h.1)
 
-homes_shut : (cs : List ℕ) (c : ℕ) (ss : List Begun) → AreHome cs ss → list_any (λ (s : Begun). s.ctx == c) ss ≡ false → AreHome (without cs c) ss
-homes_shut cs c [] h k = h
-homes_shut cs c (s ∷ ss) h k = go (s.ctx == c) refl k (homes_shut cs c ss h.1)
+of_contexts_shut : (cs : List ℕ) (c : ℕ) (ss : List Begun) → AreOfContexts cs ss → list_any (λ (s : Begun). s.ctx == c) ss ≡ false → AreOfContexts (without cs c) ss
+of_contexts_shut cs c [] h k = h
+of_contexts_shut cs c (s ∷ ss) h k = go (s.ctx == c) refl k (of_contexts_shut cs c ss h.1)
   where
-    go : (b : Bool) → (s.ctx == c) ≡ b → (b || list_any (λ (s : Begun). s.ctx == c) ss) ≡ false → (list_any (λ (s : Begun). s.ctx == c) ss ≡ false → AreHome (without cs c) ss) → AreHome (without cs c) (s ∷ ss)
+    go : (b : Bool) → (s.ctx == c) ≡ b → (b || list_any (λ (s : Begun). s.ctx == c) ss) ≡ false → (list_any (λ (s : Begun). s.ctx == c) ss ≡ false → AreOfContexts (without cs c) ss) → AreOfContexts (without cs c) (s ∷ ss)
     go true e k again = absurd cc
     go false e k again = (has_still cs c s.ctx h.0 e, again k)
 
-homes_more : (cs : List ℕ) (ss : List Begun) (s : Begun) → AreHome cs ss → has cs s.ctx ≡ true → AreHome cs (ss ++ s ∷ [])
-homes_more cs [] s h k = (k, h)
-homes_more cs (r ∷ ss) s h k = (h.0, homes_more cs ss s h.1 k)
+of_contexts_more : (cs : List ℕ) (ss : List Begun) (s : Begun) → AreOfContexts cs ss → has cs s.ctx ≡ true → AreOfContexts cs (ss ++ s ∷ [])
+of_contexts_more cs [] s h k = (k, h)
+of_contexts_more cs (r ∷ ss) s h k = (h.0, of_contexts_more cs ss s h.1 k)
 
-homes_without : (cs : List ℕ) (ss : List Begun) (op : OpName) → AreHome cs ss → AreHome cs (without_begun ss op)
-homes_without cs [] op h = h
-homes_without cs (s ∷ ss) op h = go (is_of op s) (homes_without cs ss op h.1)
+of_contexts_without : (cs : List ℕ) (ss : List Begun) (op : OpName) → AreOfContexts cs ss → AreOfContexts cs (without_begun ss op)
+of_contexts_without cs [] op h = h
+of_contexts_without cs (s ∷ ss) op h = go (is_of op s) (of_contexts_without cs ss op h.1)
   where
-    go : (b : Bool) → AreHome cs (without_begun ss op) → AreHome cs (cond (not b) (s ∷ without_begun ss op) (without_begun ss op))
+    go : (b : Bool) → AreOfContexts cs (without_begun ss op) → AreOfContexts cs (cond (not b) (s ∷ without_begun ss op) (without_begun ss op))
     go true k = k
     go false k = (h.0, k)
 
-pub homes : (z : Setting) (before : List Entry) → AreAllowed z before → AreHome (ctxs before) (pend before)
-homes z [] a = tt
-homes z (Ctx c Open ∷ before) a = homes_opened (ctxs before) (c ∷ []) (pend before) (homes z before a.1)
-homes z (Ctx c Shut ∷ before) a = homes_shut (ctxs before) c (pend before) (homes z before a.1) a.0.1.itself.2
-homes z (Begin op k c act deadline ∷ before) a = homes_more (ctxs before) (pend before) (record { op = op; ctx = c; act = act }) (homes z before a.1) a.0.1.itself.ctx_open
-homes z (End op ending ∷ before) a = homes_without (ctxs before) (pend before) op (homes z before a.1)
-homes z (_ ∷ before) a = homes z before a.1
+pub of_contexts : (z : Setting) (before : List Entry) → AreAllowed z before → AreOfContexts (ctxs before) (pend before)
+of_contexts z [] a = tt
+of_contexts z (Ctx c Open ∷ before) a = of_contexts_opened (ctxs before) (c ∷ []) (pend before) (of_contexts z before a.1)
+of_contexts z (Ctx c Shut ∷ before) a = of_contexts_shut (ctxs before) c (pend before) (of_contexts z before a.1) a.0.1.itself.2
+of_contexts z (Begin op k c act deadline ∷ before) a = of_contexts_more (ctxs before) (pend before) (record { op = op; ctx = c; act = act }) (of_contexts z before a.1) a.0.1.itself.ctx_open
+of_contexts z (End op ending ∷ before) a = of_contexts_without (ctxs before) (pend before) op (of_contexts z before a.1)
+of_contexts z (_ ∷ before) a = of_contexts z before a.1
 
-pub home_of : (cs : List ℕ) (ss : List Begun) (op : OpName) (s : Begun) → AreHome cs ss → find (is_of op) ss ≡ Some s → has cs s.ctx ≡ true
-home_of cs [] op s h k = absurd cc
-home_of cs (r ∷ ss) op s h k = go (is_of op r) k (home_of cs ss op s h.1)
+pub context_of : (cs : List ℕ) (ss : List Begun) (op : OpName) (s : Begun) → AreOfContexts cs ss → find (is_of op) ss ≡ Some s → has cs s.ctx ≡ true
+context_of cs [] op s h k = absurd cc
+context_of cs (r ∷ ss) op s h k = go (is_of op r) k (context_of cs ss op s h.1)
   where
     some_inj : Some r ≡ Some s → r ≡ s
     some_inj q = cc
@@ -209,8 +209,8 @@ home_of cs (r ∷ ss) op s h k = go (is_of op r) k (home_of cs ss op s h.1)
 
 -- ---- Pools
 
-pub pool_home : (z : Setting) (before : List Entry) (c : ℕ) → z.role ≡ role.Sub → AreAllowed z before → has (ctxs before) c ≡ true → pool_of z c ≡ c
-pool_home z before c r a h = by_role ∙ go z.raw refl
+pub pool_of_context : (z : Setting) (before : List Entry) (c : ℕ) → z.role ≡ role.Sub → AreAllowed z before → has (ctxs before) c ≡ true → pool_of z c ≡ c
+pool_of_context z before c r a h = by_role ∙ go z.raw refl
   where
     by_role : pool_of z c ≡ cond (not z.raw) c 0
     by_role = rw r refl
@@ -219,8 +219,8 @@ pool_home z before c r a h = by_role ∙ go z.raw refl
     go true e = ap (λ b. cond (not b) c 0) e ∙ sym (only_zero z before c a e h)
     go false e = ap (λ b. cond (not b) c 0) e
 
-pub kept_home : (z : Setting) (before : List Entry) (c : ℕ) → z.role ≡ role.Sub → AreAllowed z before → has (ctxs before) c ≡ true → kept z before c ≡ pool z before c
-kept_home z before c r a h = by_role ∙ ap (pool z before) (pool_home z before c r a h)
+pub kept_of_context : (z : Setting) (before : List Entry) (c : ℕ) → z.role ≡ role.Sub → AreAllowed z before → has (ctxs before) c ≡ true → kept z before c ≡ pool z before c
+kept_of_context z before c r a h = by_role ∙ ap (pool z before) (pool_of_context z before c r a h)
   where
     by_role : kept z before c ≡ pool z before (pool_of z c)
     by_role = rw r refl

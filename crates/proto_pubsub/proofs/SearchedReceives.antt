@@ -8,7 +8,7 @@ use Rattle.sp_msg.specs.Views.{MessageView}
 use Rattle.sp_history.specs.Lists.{is_nil}
 use Rattle.proto_pubsub.specs.declared.subscribe.Subscribe.{Subscribe}
 use Rattle.proto_pubsub.specs.declared.subscribe.WaitingReceive.{WaitingReceive}
-use Rattle.proto_pubsub.specs.SubContexts.{SubContextView, is_home, with_found, given_from, emptied, fresh_seat, switched}
+use Rattle.proto_pubsub.specs.SubContexts.{SubContextView, is_of_context, with_found, given_from, emptied, fresh_context, switched}
 use Rattle.proto_pubsub.specs.Subs.{NoneBefore, is_ready, is_kept, keeps_at}
 use Rattle.proto_pubsub.proofs.SubContexts.{not_found}
 
@@ -178,16 +178,16 @@ module _ (P : SubContextView → Bool) (f : SubContextView → SubContextView) (
   less_kept [] c h = h
   less_kept (x ∷ xs) c h = go (P x) (less_kept xs c)
     where
-      here : (b : Bool) → is_kept (cond b (Some x) (find (is_home c) xs)) ≡ false → is_kept (cond b (Some (f x)) (find (is_home c) xs)) ≡ false
+      here : (b : Bool) → is_kept (cond b (Some x) (find (is_of_context c) xs)) ≡ false → is_kept (cond b (Some (f x)) (find (is_of_context c) xs)) ≡ false
       here true q = fewer (is_nil x.kept) (is_nil (f x).kept) (less x) q
       here false q = q
 
-      there : (b : Bool) → is_kept (cond b (Some x) (find (is_home c) xs)) ≡ false → (keeps_at xs c ≡ false → keeps_at (with_found P f xs) c ≡ false) → is_kept (cond b (Some x) (find (is_home c) (with_found P f xs))) ≡ false
+      there : (b : Bool) → is_kept (cond b (Some x) (find (is_of_context c) xs)) ≡ false → (keeps_at xs c ≡ false → keeps_at (with_found P f xs) c ≡ false) → is_kept (cond b (Some x) (find (is_of_context c) (with_found P f xs))) ≡ false
       there true q again = q
       there false q again = again q
 
       go : (a : Bool) → (keeps_at xs c ≡ false → keeps_at (with_found P f xs) c ≡ false) → keeps_at (cond a (f x ∷ xs) (x ∷ with_found P f xs)) c ≡ false
-      go true again = ap (λ (n : ℕ). is_kept (cond (n == c) (Some (f x)) (find (is_home c) xs))) (same x) ∙ here (x.ctx == c) h
+      go true again = ap (λ (n : ℕ). is_kept (cond (n == c) (Some (f x)) (find (is_of_context c) xs))) (same x) ∙ here (x.ctx == c) h
       go false again = there (x.ctx == c) h again
 
 -- one less
@@ -218,20 +218,20 @@ pub emptied_kept : (xs : List SubContextView) (c : ℕ) → keeps_at (map emptie
 emptied_kept [] c = refl
 emptied_kept (x ∷ xs) c = go (x.ctx == c) (emptied_kept xs c)
   where
-    go : (b : Bool) → is_kept (find (is_home c) (map emptied xs)) ≡ false → is_kept (cond b (Some (emptied x)) (find (is_home c) (map emptied xs))) ≡ false
+    go : (b : Bool) → is_kept (find (is_of_context c) (map emptied xs)) ≡ false → is_kept (cond b (Some (emptied x)) (find (is_of_context c) (map emptied xs))) ≡ false
     go true h = refl
     go false h = h
 
 -- a context is opened
-pub opened_kept : (places n : ℕ) (xs : List SubContextView) (c : ℕ) → keeps_at xs c ≡ false → keeps_at (xs ++ fresh_seat places n ∷ []) c ≡ false
+pub opened_kept : (places n : ℕ) (xs : List SubContextView) (c : ℕ) → keeps_at xs c ≡ false → keeps_at (xs ++ fresh_context places n ∷ []) c ≡ false
 opened_kept places n [] c h = go (n == c)
   where
-    go : (b : Bool) → is_kept (cond b (Some (fresh_seat places n)) None) ≡ false
+    go : (b : Bool) → is_kept (cond b (Some (fresh_context places n)) None) ≡ false
     go true = refl
     go false = refl
 opened_kept places n (x ∷ xs) c h = go (x.ctx == c) h (opened_kept places n xs c)
   where
-    go : (b : Bool) → is_kept (cond b (Some x) (find (is_home c) xs)) ≡ false → (keeps_at xs c ≡ false → keeps_at (xs ++ fresh_seat places n ∷ []) c ≡ false) → is_kept (cond b (Some x) (find (is_home c) (xs ++ fresh_seat places n ∷ []))) ≡ false
+    go : (b : Bool) → is_kept (cond b (Some x) (find (is_of_context c) xs)) ≡ false → (keeps_at xs c ≡ false → keeps_at (xs ++ fresh_context places n ∷ []) c ≡ false) → is_kept (cond b (Some x) (find (is_of_context c) (xs ++ fresh_context places n ∷ []))) ≡ false
     go true q again = q
     go false q again = again q
 
@@ -247,26 +247,26 @@ gone c (x ∷ xs) = go (x.ctx == c) refl (gone c xs)
   where
     go : (b : Bool) → (x.ctx == c) ≡ b → keeps_at (others c xs) c ≡ false → keeps_at (cond (not b) (x ∷ others c xs) (others c xs)) c ≡ false
     go true e again = again
-    go false e again = ap (λ b. is_kept (cond b (Some x) (find (is_home c) (others c xs)))) e ∙ again
+    go false e again = ap (λ b. is_kept (cond b (Some x) (find (is_of_context c) (others c xs)))) e ∙ again
 
 -- a context is shut
 pub shut_kept : (n : ℕ) (xs : List SubContextView) (c : ℕ) → keeps_at xs c ≡ false → keeps_at (filter (λ (x : SubContextView). not (x.ctx == n)) xs) c ≡ false
 shut_kept n [] c h = h
 shut_kept n (x ∷ xs) c h = go (x.ctx == n) refl (x.ctx == c) refl h (shut_kept n xs c)
   where
-    go : (a : Bool) → (x.ctx == n) ≡ a → (b : Bool) → (x.ctx == c) ≡ b → is_kept (cond b (Some x) (find (is_home c) xs)) ≡ false → (keeps_at xs c ≡ false → keeps_at (others n xs) c ≡ false)
+    go : (a : Bool) → (x.ctx == n) ≡ a → (b : Bool) → (x.ctx == c) ≡ b → is_kept (cond b (Some x) (find (is_of_context c) xs)) ≡ false → (keeps_at xs c ≡ false → keeps_at (others n xs) c ≡ false)
         → keeps_at (cond (not a) (x ∷ others n xs) (others n xs)) c ≡ false
     go true e true f q again = let is : n ≡ c = sym (equal x.ctx n e) ∙ equal x.ctx c f in subst (λ (k : ℕ). keeps_at (others k xs) c ≡ false) (sym is) (gone c xs)
     go true e false f q again = again q
-    go false e true f q again = ap (λ b. is_kept (cond b (Some x) (find (is_home c) (others n xs)))) f ∙ q
-    go false e false f q again = ap (λ b. is_kept (cond b (Some x) (find (is_home c) (others n xs)))) f ∙ again q
+    go false e true f q again = ap (λ b. is_kept (cond b (Some x) (find (is_of_context c) (others n xs)))) f ∙ q
+    go false e false f q again = ap (λ b. is_kept (cond b (Some x) (find (is_of_context c) (others n xs)))) f ∙ again q
 
 -- ---- Of a sub
 
 -- nothing more is kept
-pub looks_on : (m n : Subscribe) → NoneBefore (is_ready m.seats.items) m.looked m.waiting.items → n.waiting ≡ m.waiting → n.looked ≡ m.looked → ((c : ℕ) → keeps_at m.seats.items c ≡ false → keeps_at n.seats.items c ≡ false) → NoneBefore (is_ready n.seats.items) n.looked n.waiting.items
-looks_on m n h w e k = rw (w, e) (still_before (is_ready m.seats.items) (is_ready n.seats.items) (λ (x : WaitingReceive). k x.ctx) m.waiting.items m.looked h)
+pub looks_on : (m n : Subscribe) → NoneBefore (is_ready m.contexts.items) m.looked m.waiting.items → n.waiting ≡ m.waiting → n.looked ≡ m.looked → ((c : ℕ) → keeps_at m.contexts.items c ≡ false → keeps_at n.contexts.items c ≡ false) → NoneBefore (is_ready n.contexts.items) n.looked n.waiting.items
+looks_on m n h w e k = rw (w, e) (still_before (is_ready m.contexts.items) (is_ready n.contexts.items) (λ (x : WaitingReceive). k x.ctx) m.waiting.items m.looked h)
 
 -- all are to be looked at again
-pub looks_anew : (n : Subscribe) → n.looked ≡ 0 → NoneBefore (is_ready n.seats.items) n.looked n.waiting.items
-looks_anew n e = rw e (none_yet (is_ready n.seats.items) n.waiting.items)
+pub looks_anew : (n : Subscribe) → n.looked ≡ 0 → NoneBefore (is_ready n.contexts.items) n.looked n.waiting.items
+looks_anew n e = rw e (none_yet (is_ready n.contexts.items) n.waiting.items)

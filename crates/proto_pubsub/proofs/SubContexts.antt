@@ -9,8 +9,8 @@ use Rattle.std.proofs.lemmas.List.Quantifiers.{position-Some}
 use Rattle.std.proofs.lemmas.List.Folds.{find_at}
 use Rattle.sp_history.specs.declared.parts.Item.{Item}
 use Rattle.sp_history.specs.Lists.{has, without}
-use Rattle.proto_pubsub.specs.SubContexts.{SubContextView, is_home, with_found, switched, Switches, SwitchesOne, StopsAt}
-use Rattle.proto_pubsub.specs.Subs.{seat_at}
+use Rattle.proto_pubsub.specs.SubContexts.{SubContextView, is_of_context, with_found, switched, Switches, SwitchesOne, StopsAt}
+use Rattle.proto_pubsub.specs.Subs.{context_at}
 use Rattle.proto_pubsub.proofs.Knowing.{IsRising, equal_of}
 
 -- ---- The first that passes a test
@@ -66,10 +66,10 @@ pub same_at : (P : SubContextView → Bool) (xs : List SubContextView) (i : ℕ)
 same_at P xs i d v h e = ap (slice_set xs i) e ∙ sets_same xs i d (position-Some P xs i d h).0
 
 -- the topic of one is switched
-pub switch_one : {E : Type 0} (r : Result Bool E) (c : ℕ) (xs : List SubContextView) (i : ℕ) (d v : SubContextView) (topic : List ℕ) (on : Bool) → position (is_home c) xs ≡ Some i → Switches r (slice_index_or xs i d) v topic on → SwitchesOne r (slice_index_or xs i d) c xs (slice_set xs i v) topic on
-switch_one (Ok true) c xs i d v topic on h s = (s.0, ap (slice_set xs i) s.1 ∙ with_at (is_home c) (switched on topic) xs i d h)
-switch_one (Ok false) c xs i d v topic on h s = (s.0, same_at (is_home c) xs i d v h s.1)
-switch_one (Err e) c xs i d v topic on h s = (s.0, same_at (is_home c) xs i d v h s.1)
+pub switch_one : {E : Type 0} (r : Result Bool E) (c : ℕ) (xs : List SubContextView) (i : ℕ) (d v : SubContextView) (topic : List ℕ) (on : Bool) → position (is_of_context c) xs ≡ Some i → Switches r (slice_index_or xs i d) v topic on → SwitchesOne r (slice_index_or xs i d) c xs (slice_set xs i v) topic on
+switch_one (Ok true) c xs i d v topic on h s = (s.0, ap (slice_set xs i) s.1 ∙ with_at (is_of_context c) (switched on topic) xs i d h)
+switch_one (Ok false) c xs i d v topic on h s = (s.0, same_at (is_of_context c) xs i d v h s.1)
+switch_one (Err e) c xs i d v topic on h s = (s.0, same_at (is_of_context c) xs i d v h s.1)
 
 -- no out of memory where one is taken off
 pub one_off : {E : Type 0} (r : Result Bool E) (x v : SubContextView) (topic : List ℕ) (on : Bool) → on ≡ false → Switches r x v topic on → OnErr r ⊥
@@ -154,9 +154,9 @@ stops needs f xs ys i c d v h e w need k =
       after = ap (λ (zs : List SubContextView). slice_set zs i v) e ∙ ap (slice_set (map f (take i xs) ++ drop i xs) i) is ∙ halts f xs i d h ∙ p.after;
     }
 
--- the seats are those that were written
-pub seats_written : {Z : Type 0} (v : Vec SubContextView Z) (xs ys : List SubContextView) → ys ≡ v.items → length xs ≡ length ys → (with_items v xs).items ≡ xs
-seats_written v xs ys e h = with_items_is v xs (h ∙ ap length e ∙ sym v.ok.0)
+-- the contexts are those that were written
+pub contexts_written : {Z : Type 0} (v : Vec SubContextView Z) (xs ys : List SubContextView) → ys ≡ v.items → length xs ≡ length ys → (with_items v xs).items ≡ xs
+contexts_written v xs ys e h = with_items_is v xs (h ∙ ap length e ∙ sym v.ok.0)
 
 pub long_map : (f : SubContextView → SubContextView) (xs ys : List SubContextView) → xs ≡ map f ys → length xs ≡ length ys
 long_map f xs ys e = ap length e ∙ length-map ys f
@@ -197,20 +197,20 @@ tail_is : (x y : SubContextView) (xs ys : List SubContextView) → x ∷ xs ≡ 
 tail_is x y xs ys e = (cc, cc)
 
 module _ (places : ℕ) (is : ℕ → List Item) (ts : ℕ → List (List ℕ)) where
-  pub found_seat : (c : ℕ) (cs : List ℕ) → find (is_home c) (map (seat_at places is ts) cs) ≡ cond (has cs c) (Some (seat_at places is ts c)) None
-  found_seat c [] = refl
-  found_seat c (x ∷ cs) = go (x == c) refl (found_seat c cs)
+  pub found_context : (c : ℕ) (cs : List ℕ) → find (is_of_context c) (map (context_at places is ts) cs) ≡ cond (has cs c) (Some (context_at places is ts c)) None
+  found_context c [] = refl
+  found_context c (x ∷ cs) = go (x == c) refl (found_context c cs)
     where
-      go : (b : Bool) → (x == c) ≡ b → find (is_home c) (map (seat_at places is ts) cs) ≡ cond (has cs c) (Some (seat_at places is ts c)) None
-          → cond b (Some (seat_at places is ts x)) (find (is_home c) (map (seat_at places is ts) cs)) ≡ cond (b || has cs c) (Some (seat_at places is ts c)) None
-      go true e again = ap (λ (n : ℕ). Some (seat_at places is ts n)) (equal_of x c e)
+      go : (b : Bool) → (x == c) ≡ b → find (is_of_context c) (map (context_at places is ts) cs) ≡ cond (has cs c) (Some (context_at places is ts c)) None
+          → cond b (Some (context_at places is ts x)) (find (is_of_context c) (map (context_at places is ts) cs)) ≡ cond (b || has cs c) (Some (context_at places is ts c)) None
+      go true e again = ap (λ (n : ℕ). Some (context_at places is ts n)) (equal_of x c e)
       go false e again = again
 
-  pub any_seat : (c : ℕ) (cs : List ℕ) → list_any (is_home c) (map (seat_at places is ts) cs) ≡ has cs c
-  any_seat c [] = refl
-  any_seat c (x ∷ cs) = ap (λ b. (x == c) || b) (any_seat c cs)
+  pub any_context : (c : ℕ) (cs : List ℕ) → list_any (is_of_context c) (map (context_at places is ts) cs) ≡ has cs c
+  any_context c [] = refl
+  any_context c (x ∷ cs) = ap (λ b. (x == c) || b) (any_context c cs)
 
-  pub stands : (c : ℕ) (cs : List ℕ) (done rest : List SubContextView) (at : SubContextView) → map (seat_at places is ts) cs ≡ done ++ at ∷ rest → at.ctx ≡ c → has cs c ≡ true
+  pub stands : (c : ℕ) (cs : List ℕ) (done rest : List SubContextView) (at : SubContextView) → map (context_at places is ts) cs ≡ done ++ at ∷ rest → at.ctx ≡ c → has cs c ≡ true
   stands c [] [] rest at e k = absurd cc
   stands c [] (d ∷ done) rest at e k = absurd cc
   stands c (x ∷ cs) [] rest at e k =
@@ -223,18 +223,18 @@ module _ (places : ℕ) (is : ℕ → List Item) (ts : ℕ → List (List ℕ)) 
       after false b q = q
 
   -- the one that stands there is as the past tells it
-  pub is_at : (cs : List ℕ) (done rest : List SubContextView) (at : SubContextView) → map (seat_at places is ts) cs ≡ done ++ at ∷ rest → at ≡ seat_at places is ts at.ctx
+  pub is_at : (cs : List ℕ) (done rest : List SubContextView) (at : SubContextView) → map (context_at places is ts) cs ≡ done ++ at ∷ rest → at ≡ context_at places is ts at.ctx
   is_at [] [] rest at e = absurd cc
   is_at [] (d ∷ done) rest at e = absurd cc
   is_at (x ∷ cs) [] rest at e =
-      let first : seat_at places is ts x ≡ at = (tail_is _ _ _ _ e).0 in
-      sym first ∙ ap (seat_at places is ts) (ap (λ (y : SubContextView). y.ctx) first)
+      let first : context_at places is ts x ≡ at = (tail_is _ _ _ _ e).0 in
+      sym first ∙ ap (context_at places is ts) (ap (λ (y : SubContextView). y.ctx) first)
   is_at (x ∷ cs) (d ∷ done) rest at e = is_at cs done rest at (tail_is _ _ _ _ e).1
 
   module _ (js : ℕ → List Item) (us : ℕ → List (List ℕ)) where
     -- the one of this number is changed, and no other
-    pub changed : (g : SubContextView → SubContextView) (c : ℕ) (cs : List ℕ) → IsRising cs → g (seat_at places is ts c) ≡ seat_at places js us c → ((e : ℕ) → has cs e ≡ true → (c == e) ≡ false → seat_at places is ts e ≡ seat_at places js us e)
-        → with_found (is_home c) g (map (seat_at places is ts) cs) ≡ map (seat_at places js us) cs
+    pub changed : (g : SubContextView → SubContextView) (c : ℕ) (cs : List ℕ) → IsRising cs → g (context_at places is ts c) ≡ context_at places js us c → ((e : ℕ) → has cs e ≡ true → (c == e) ≡ false → context_at places is ts e ≡ context_at places js us e)
+        → with_found (is_of_context c) g (map (context_at places is ts) cs) ≡ map (context_at places js us) cs
     changed g c [] h k o = refl
     changed g c (x ∷ cs) h k o = go (x == c) refl (changed g c cs h.1 k)
       where
@@ -251,36 +251,36 @@ module _ (places : ℕ) (is : ℕ → List Item) (ts : ℕ → List (List ℕ)) 
         turned : (m n : ℕ) → (m == n) ≡ false → (n == m) ≡ false
         turned m n e = grind (arith, nat_tests)
 
-        go : (b : Bool) → (x == c) ≡ b → (((e : ℕ) → has cs e ≡ true → (c == e) ≡ false → seat_at places is ts e ≡ seat_at places js us e) → with_found (is_home c) g (map (seat_at places is ts) cs) ≡ map (seat_at places js us) cs) → cond b (g (seat_at places is ts x) ∷ map (seat_at places is ts) cs) (seat_at places is ts x ∷ with_found (is_home c) g (map (seat_at places is ts) cs)) ≡ seat_at places js us x ∷ map (seat_at places js us) cs
+        go : (b : Bool) → (x == c) ≡ b → (((e : ℕ) → has cs e ≡ true → (c == e) ≡ false → context_at places is ts e ≡ context_at places js us e) → with_found (is_of_context c) g (map (context_at places is ts) cs) ≡ map (context_at places js us) cs) → cond b (g (context_at places is ts x) ∷ map (context_at places is ts) cs) (context_at places is ts x ∷ with_found (is_of_context c) g (map (context_at places is ts) cs)) ≡ context_at places js us x ∷ map (context_at places js us) cs
         go true e again =
             let same : x ≡ c = equal_of x c e in
-            let first : g (seat_at places is ts x) ≡ seat_at places js us x = subst (λ (n : ℕ). g (seat_at places is ts n) ≡ seat_at places js us n) (sym same) k in
-            ap (λ y. y ∷ map (seat_at places is ts) cs) first ∙ ap (λ rest. seat_at places js us x ∷ rest) (map_same (seat_at places is ts) (seat_at places js us) cs (λ d q. o d (after (x == d) (has cs d) q) (later x c d e (h.0 d q))))
+            let first : g (context_at places is ts x) ≡ context_at places js us x = subst (λ (n : ℕ). g (context_at places is ts n) ≡ context_at places js us n) (sym same) k in
+            ap (λ y. y ∷ map (context_at places is ts) cs) first ∙ ap (λ rest. context_at places js us x ∷ rest) (map_same (context_at places is ts) (context_at places js us) cs (λ d q. o d (after (x == d) (has cs d) q) (later x c d e (h.0 d q))))
         go false e again =
-            let first : seat_at places is ts x ≡ seat_at places js us x = o x (rw (itself x) refl) (turned x c e) in
-            ap (λ y. y ∷ with_found (is_home c) g (map (seat_at places is ts) cs)) first ∙ ap (λ rest. seat_at places js us x ∷ rest) (again (λ d q. o d (after (x == d) (has cs d) q)))
+            let first : context_at places is ts x ≡ context_at places js us x = o x (rw (itself x) refl) (turned x c e) in
+            ap (λ y. y ∷ with_found (is_of_context c) g (map (context_at places is ts) cs)) first ∙ ap (λ rest. context_at places js us x ∷ rest) (again (λ d q. o d (after (x == d) (has cs d) q)))
 
     -- the one of this number is gone
-    pub shut : (c : ℕ) (cs : List ℕ) → ((e : ℕ) → (c == e) ≡ false → seat_at places is ts e ≡ seat_at places js us e) → filter (λ (x : SubContextView). not (x.ctx == c)) (map (seat_at places is ts) cs) ≡ map (seat_at places js us) (without cs c)
+    pub shut : (c : ℕ) (cs : List ℕ) → ((e : ℕ) → (c == e) ≡ false → context_at places is ts e ≡ context_at places js us e) → filter (λ (x : SubContextView). not (x.ctx == c)) (map (context_at places is ts) cs) ≡ map (context_at places js us) (without cs c)
     shut c [] o = refl
     shut c (x ∷ cs) o = go (x == c) refl (shut c cs o)
       where
         turned : (m n : ℕ) → (m == n) ≡ false → (n == m) ≡ false
         turned m n e = grind (arith, nat_tests)
 
-        go : (b : Bool) → (x == c) ≡ b → filter (λ (x : SubContextView). not (x.ctx == c)) (map (seat_at places is ts) cs) ≡ map (seat_at places js us) (without cs c)
-            → cond (not b) (seat_at places is ts x ∷ filter (λ (x : SubContextView). not (x.ctx == c)) (map (seat_at places is ts) cs)) (filter (λ (x : SubContextView). not (x.ctx == c)) (map (seat_at places is ts) cs)) ≡ map (seat_at places js us) (cond (not b) (x ∷ without cs c) (without cs c))
+        go : (b : Bool) → (x == c) ≡ b → filter (λ (x : SubContextView). not (x.ctx == c)) (map (context_at places is ts) cs) ≡ map (context_at places js us) (without cs c)
+            → cond (not b) (context_at places is ts x ∷ filter (λ (x : SubContextView). not (x.ctx == c)) (map (context_at places is ts) cs)) (filter (λ (x : SubContextView). not (x.ctx == c)) (map (context_at places is ts) cs)) ≡ map (context_at places js us) (cond (not b) (x ∷ without cs c) (without cs c))
         go true e again = again
-        go false e again = ap (λ y. y ∷ filter (λ (x : SubContextView). not (x.ctx == c)) (map (seat_at places is ts) cs)) (o x (turned x c e)) ∙ ap (λ rest. seat_at places js us x ∷ rest) again
+        go false e again = ap (λ y. y ∷ filter (λ (x : SubContextView). not (x.ctx == c)) (map (context_at places is ts) cs)) (o x (turned x c e)) ∙ ap (λ rest. context_at places js us x ∷ rest) again
 
     -- those below this number were changed, and no other
-    pub stopped : (f : SubContextView → SubContextView) (c : ℕ) (cs : List ℕ) (done rest : List SubContextView) (at : SubContextView) → IsRising cs → map (seat_at places is ts) cs ≡ done ++ at ∷ rest → at.ctx ≡ c
-        → ((e : ℕ) → has cs e ≡ true → e < c → f (seat_at places is ts e) ≡ seat_at places js us e) → ((e : ℕ) → has cs e ≡ true → c ≤ e → seat_at places is ts e ≡ seat_at places js us e) → map f done ++ at ∷ rest ≡ map (seat_at places js us) cs
+    pub stopped : (f : SubContextView → SubContextView) (c : ℕ) (cs : List ℕ) (done rest : List SubContextView) (at : SubContextView) → IsRising cs → map (context_at places is ts) cs ≡ done ++ at ∷ rest → at.ctx ≡ c
+        → ((e : ℕ) → has cs e ≡ true → e < c → f (context_at places is ts e) ≡ context_at places js us e) → ((e : ℕ) → has cs e ≡ true → c ≤ e → context_at places is ts e ≡ context_at places js us e) → map f done ++ at ∷ rest ≡ map (context_at places js us) cs
     stopped f c [] [] rest at r e k low high = absurd cc
     stopped f c [] (d ∷ done) rest at r e k low high = absurd cc
     stopped f c (x ∷ cs) [] rest at r e k low high =
         let same : x ≡ c = ap (λ (y : SubContextView). y.ctx) (tail_is _ _ _ _ e).0 ∙ k in
-        sym e ∙ map_same (seat_at places is ts) (seat_at places js us) (x ∷ cs) (λ d q. high d q (least d (x == d) refl q same))
+        sym e ∙ map_same (context_at places is ts) (context_at places js us) (x ∷ cs) (λ d q. high d q (least d (x == d) refl q same))
       where
         least : (d : ℕ) (b : Bool) → (x == d) ≡ b → (b || has cs d) ≡ true → x ≡ c → c ≤ d
         least d true g q s = let is = equal_of x d g in omega (arith, is, s)
@@ -288,8 +288,8 @@ module _ (places : ℕ) (is : ℕ → List Item) (ts : ℕ → List (List ℕ)) 
     stopped f c (x ∷ cs) (d ∷ done) rest at r e k low high =
         let parted = tail_is _ _ _ _ e in
         let under : x < c = r.0 c (stands c cs done rest at parted.1 k) in
-        let first : f d ≡ seat_at places js us x = ap f (sym parted.0) ∙ low x (rw (itself x) refl) under in
-        ap (λ y. y ∷ map f done ++ at ∷ rest) first ∙ ap (λ ys. seat_at places js us x ∷ ys) (stopped f c cs done rest at r.1 parted.1 k (λ n q. low n (after (x == n) (has cs n) q)) (λ n q. high n (after (x == n) (has cs n) q)))
+        let first : f d ≡ context_at places js us x = ap f (sym parted.0) ∙ low x (rw (itself x) refl) under in
+        ap (λ y. y ∷ map f done ++ at ∷ rest) first ∙ ap (λ ys. context_at places js us x ∷ ys) (stopped f c cs done rest at r.1 parted.1 k (λ n q. low n (after (x == n) (has cs n) q)) (λ n q. high n (after (x == n) (has cs n) q)))
       where
         itself : (n : ℕ) → (n == n) ≡ true
         itself n = grind (arith, nat_tests)

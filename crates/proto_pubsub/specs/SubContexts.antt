@@ -32,8 +32,8 @@ with_message m x =
     record { ctx = x.ctx; topics = x.topics; places = x.places; kept = if nat_lt (length x.kept) x.places then x.kept ++ m ∷ [] else drop 1 x.kept ++ m ∷ [] }
 
 -- a new one
-abbrev pub fresh_seat : ℕ → ℕ → SubContextView
-fresh_seat places c = record { ctx = c; topics = []; places = places; kept = [] }
+abbrev pub fresh_context : ℕ → ℕ → SubContextView
+fresh_context places c = record { ctx = c; topics = []; places = places; kept = [] }
 
 -- the oldest message is gone
 abbrev pub given_from : SubContextView → SubContextView
@@ -61,8 +61,8 @@ switched true t x = with_topic t x
 switched false t x = without_topic t x
 
 -- the context has this number
-abbrev pub is_home : ℕ → SubContextView → Bool
-is_home c x = x.ctx == c
+abbrev pub is_of_context : ℕ → SubContextView → Bool
+is_of_context c x = x.ctx == c
 
 abbrev pub ctx_of : SubContextView → ℕ
 ctx_of x = x.ctx
@@ -100,7 +100,7 @@ Switches (Err e) old new t on = (on ≡ true) × (new ≡ old)
 -- the same of one among several
 abbrev pub SwitchesOne : {E : Type 0} → Result Bool E → SubContextView → ℕ → List SubContextView → List SubContextView → List ℕ → Bool → Type 0
 SwitchesOne (Ok true) x c old new t on =
-    (has_topic x.topics t ≡ not on) × (new ≡ with_found (is_home c) (switched on t) old)
+    (has_topic x.topics t ≡ not on) × (new ≡ with_found (is_of_context c) (switched on t) old)
 SwitchesOne (Ok false) x c old new t on = (has_topic x.topics t ≡ on) × (new ≡ old)
 SwitchesOne (Err e) x c old new t on = (on ≡ true) × (new ≡ old)
 

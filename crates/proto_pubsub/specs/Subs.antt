@@ -17,7 +17,7 @@ use Rattle.sp_history.specs.Past.{ctxs}
 use Rattle.sp_history.specs.Moments.{Moment}
 use Rattle.sp_proto.specs.Kinds.{Kind}
 use Rattle.sp_proto.specs.Readings.{MomentReading, reading}
-use Rattle.proto_pubsub.specs.SubContexts.{SubContextView, is_home, AreOrdered}
+use Rattle.proto_pubsub.specs.SubContexts.{SubContextView, is_of_context, AreOrdered}
 use Rattle.proto_pubsub.specs.declared.subscribe.Subscribe.{Subscribe}
 use Rattle.proto_pubsub.specs.declared.subscribe.WaitingReceive.{WaitingReceive}
 
@@ -33,8 +33,8 @@ abbrev pub view_of : Item → MessageView
 view_of i = record { header = i.message.header; body = i.message.body }
 
 -- a context of so many places, with what is kept for it and its topics
-abbrev pub seat_at : ℕ → (ℕ → List Item) → (ℕ → List (List ℕ)) → ℕ → SubContextView
-seat_at places is ts c = record { ctx = c; topics = ts c; places = places; kept = map view_of (is c) }
+abbrev pub context_at : ℕ → (ℕ → List Item) → (ℕ → List (List ℕ)) → ℕ → SubContextView
+context_at places is ts c = record { ctx = c; topics = ts c; places = places; kept = map view_of (is c) }
 
 abbrev pub begun_of : WaitingReceive → Begun
 begun_of w = record { op = w.op; ctx = w.ctx; act = Recv }
@@ -54,7 +54,7 @@ is_kept (Some x) = not (is_nil x.kept)
 
 -- something is kept for the context
 abbrev pub keeps_at : List SubContextView → ℕ → Bool
-keeps_at xs c = is_kept (find (is_home c) xs)
+keeps_at xs c = is_kept (find (is_of_context c) xs)
 
 -- something is kept for the receive
 abbrev pub is_ready : List SubContextView → WaitingReceive → Bool
@@ -68,10 +68,10 @@ NoneBefore P n xs = (n ≤ length xs) × (list_any P (take n xs) ≡ false)
 -- for each and with its topics, these receives wait, and nothing is kept for those before the mark
 pub record Shows (m : Subscribe) (k : Kind) (is : ℕ → List Item) (ts : ℕ → List (List ℕ)) (cs : List ℕ) (ss : List Begun) : Type 0 where
   pub kind : k ≡ sub_kind m.raw m.options
-  pub seats : m.seats.items ≡ map (seat_at m.options.queue is ts) cs
+  pub contexts : m.contexts.items ≡ map (context_at m.options.queue is ts) cs
   pub order : AreOrdered cs
   pub pending : map begun_of m.waiting.items ≡ ss
-  pub looked : NoneBefore (is_ready m.seats.items) m.looked m.waiting.items
+  pub looked : NoneBefore (is_ready m.contexts.items) m.looked m.waiting.items
 
 -- it shows what it reads of a moment
 abbrev pub Stands : Subscribe → MomentReading → Type 0

@@ -3,7 +3,7 @@ ghost use Rattle.std.specs.Prelude.{◌≡◌, ◌==◌, ◌++◌, ◌∷◌, []
 ghost use Rattle.std.specs.VecDeque.{deque_capacity};
 ghost use Rattle.sp_history.specs.Lists.{is_nil, head_of};
 ghost use Rattle.sp_history.specs.Kept.{is_wanted_by};
-ghost use Rattle.proto_pubsub.specs.SubContexts.{kept_in, takes_frame, with_message, fresh_seat, given_from, emptied, with_topic, without_topic, Switches};
+ghost use Rattle.proto_pubsub.specs.SubContexts.{kept_in, takes_frame, with_message, fresh_context, given_from, emptied, with_topic, without_topic, Switches};
 
 use crate::topics::Topics;
 use sp_base::{Ctx, NoMemory};
@@ -47,7 +47,7 @@ fn drop_unwanted(kept: &mut VecDeque<Message>, topics: &Topics)
 impl SubContext {
     /// A context with no topic, for which nothing is kept. Takes the places of `queue` messages.
     pub fn new(alloc: Global, ctx: Ctx, options: Options) -> Result<SubContext, NoMemory>
-        ensures { IfOk result (λ x. x ≡ fresh_seat options.queue ctx) }
+        ensures { IfOk result (λ x. x ≡ fresh_context options.queue ctx) }
     {
         let places = options.queue as usize;
         let kept = VecDeque::with_capacity(alloc, places.max(1))?;

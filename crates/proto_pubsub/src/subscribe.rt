@@ -15,7 +15,7 @@ ghost use Rattle.sp_history.specs.Moments.{Moment, Lawful, past, also};
 ghost use Rattle.sp_history.specs.Past.{ctxs};
 ghost use Rattle.sp_proto.specs.Kinds.{Starts};
 ghost use Rattle.sp_proto.specs.Machines.{Frames};
-ghost use Rattle.proto_pubsub.specs.SubContexts.{kept_in, takes_frame, emptied, fresh_seat, given_from, is_home, first_in, with_found, SwitchesIn, StopsAt, SubContextView, InOrder};
+ghost use Rattle.proto_pubsub.specs.SubContexts.{kept_in, takes_frame, emptied, fresh_context, given_from, is_of_context, first_in, with_found, SwitchesIn, StopsAt, SubContextView, InOrder};
 ghost use Rattle.proto_pubsub.specs.Subs.{Ties, NeedsCopy, places_left, sub_kind, is_for, is_ready, keeps_at, without_first, NoneBefore};
 ghost use Rattle.proto_pubsub.specs.declared.subscribe.WaitingReceive.{WaitingReceive as WaitingReceiveType};
 
@@ -41,7 +41,7 @@ pub struct Subscribe {
     raw: bool,
     options: Options,
     /// In the order in which they were opened, which is that of their numbers.
-    seats: Vec<SubContext>,
+    contexts: Vec<SubContext>,
     /// In the order of their begins.
     waiting: VecDeque<WaitingReceive>,
     /// Nothing is kept for the receives before this place.
@@ -49,55 +49,55 @@ pub struct Subscribe {
 }
 
 // Its number is below this one.
-fn is_before(seat: &SubContext, c: Ctx) -> bool
-    ensures { result ≡ nat_lt seat.now.ctx c }
+fn is_before(context: &SubContext, c: Ctx) -> bool
+    ensures { result ≡ nat_lt context.now.ctx c }
 {
-    seat.ctx().0 < c.0
+    context.ctx().0 < c.0
 }
 
 // Where the context stands, by halving.
-fn index_of(seats: &[SubContext], c: Ctx) -> Option<usize>
-    ensures place { InOrder seats.now → result ≡ position (is_home c) seats.now }
-    ensures inside { IfSome result (λ i. i < length seats.now) }
+fn index_of(contexts: &[SubContext], c: Ctx) -> Option<usize>
+    ensures place { InOrder contexts.now → result ≡ position (is_of_context c) contexts.now }
+    ensures inside { IfSome result (λ i. i < length contexts.now) }
 {
-    let i = seats.partition_point(|x| is_before(x, c));
-    if i >= seats.len() {
+    let i = contexts.partition_point(|x| is_before(x, c));
+    if i >= contexts.len() {
         return None;
     }
-    if !seats[i].is_of(c) {
+    if !contexts[i].is_of(c) {
         return None;
     }
     Some(i)
 }
 
 // The context is open.
-fn is_open(seats: &[SubContext], c: Ctx) -> bool
-    ensures { InOrder seats.now → result ≡ list_any (is_home c) seats.now }
+fn is_open(contexts: &[SubContext], c: Ctx) -> bool
+    ensures { InOrder contexts.now → result ≡ list_any (is_of_context c) contexts.now }
 {
-    index_of(seats, c).is_some()
+    index_of(contexts, c).is_some()
 }
 
 // Something is kept for the context.
-fn keeps_for(seats: &[SubContext], c: Ctx) -> bool
-    ensures { InOrder seats.now → result ≡ keeps_at seats.now c }
+fn keeps_for(contexts: &[SubContext], c: Ctx) -> bool
+    ensures { InOrder contexts.now → result ≡ keeps_at contexts.now c }
 {
-    match index_of(seats, c) {
+    match index_of(contexts, c) {
         None => false,
-        Some(i) => !seats[i].is_empty(),
+        Some(i) => !contexts[i].is_empty(),
     }
 }
 
 // Where the first receive stands for which something is kept. Those before the place are not looked at.
 fn ready_place(
-    seats: &[SubContext],
+    contexts: &[SubContext],
     waiting: &VecDeque<WaitingReceive>,
     looked: usize,
 ) -> Option<usize>
-    ensures place { InOrder seats.now → NoneBefore (is_ready seats.now) looked waiting.now.items → result ≡ position (is_ready seats.now) waiting.now.items }
+    ensures place { InOrder contexts.now → NoneBefore (is_ready contexts.now) looked waiting.now.items → result ≡ position (is_ready contexts.now) waiting.now.items }
     ensures inside { (i : ℕ) → result ≡ Some i → i < deque_len waiting.now }
 {
     for i in looked..waiting.len() {
-        if keeps_for(seats, waiting[i].ctx) {
+        if keeps_for(contexts, waiting[i].ctx) {
             return Some(i);
         }
     }
@@ -146,20 +146,20 @@ fn take(
 // Keeps a copy of the frame in each of so many contexts that takes it. Returns the first for which there was no memory,
 // with which it stops.
 fn spread(
-    seats: &mut [SubContext],
+    contexts: &mut [SubContext],
     most: usize,
     raw: bool,
     options: Options,
     m: &Message,
 ) -> Option<Ctx>
-    requires { most ≤ length seats.old }
-    ensures whole { result ≡ None → seats.new ≡ map (kept_in raw options m.now) (take most seats.old) ++ drop most seats.old }
+    requires { most ≤ length contexts.old }
+    ensures whole { result ≡ None → contexts.new ≡ map (kept_in raw options m.now) (take most contexts.old) ++ drop most contexts.old }
     ensures none { most ≡ 0 → result ≡ None }
-    ensures stops { (c : ℕ) → result ≡ Some c → StopsAt (takes_frame raw options m.now.body) (kept_in raw options m.now) c seats.old seats.new }
+    ensures stops { (c : ℕ) → result ≡ Some c → StopsAt (takes_frame raw options m.now.body) (kept_in raw options m.now) c contexts.old contexts.new }
 {
     for i in 0..most {
-        if !seats[i].keep_copy(raw, options, m) {
-            return Some(seats[i].ctx());
+        if !contexts[i].keep_copy(raw, options, m) {
+            return Some(contexts[i].ctx());
         }
     }
     None
@@ -167,81 +167,81 @@ fn spread(
 
 // Keeps the frame in each context that takes it: the last has the frame itself, each other one a copy. Returns the
 // first for which there was no memory, with which it stops.
-fn keep_in_all(seats: &mut [SubContext], raw: bool, options: Options, m: Message) -> Option<Ctx>
-    ensures whole { result ≡ None → seats.new ≡ map (kept_in raw options m) seats.old }
-    ensures stops { (c : ℕ) → result ≡ Some c → StopsAt (takes_frame raw options m.body) (kept_in raw options m) c seats.old seats.new }
-    ensures one { length seats.old ≤ 1 → result ≡ None }
+fn keep_in_all(contexts: &mut [SubContext], raw: bool, options: Options, m: Message) -> Option<Ctx>
+    ensures whole { result ≡ None → contexts.new ≡ map (kept_in raw options m) contexts.old }
+    ensures stops { (c : ℕ) → result ≡ Some c → StopsAt (takes_frame raw options m.body) (kept_in raw options m) c contexts.old contexts.new }
+    ensures one { length contexts.old ≤ 1 → result ≡ None }
 {
-    let n = seats.len();
+    let n = contexts.len();
     if n == 0 {
         return None;
     }
-    match spread(seats, n - 1, raw, options, &m) {
+    match spread(contexts, n - 1, raw, options, &m) {
         Some(c) => Some(c),
         None => {
-            seats[n - 1].keep(raw, options, m);
+            contexts[n - 1].keep(raw, options, m);
             None
         }
     }
 }
 
 // The oldest message of the context, which is kept no longer.
-fn give(seats: &mut [SubContext], c: Ctx) -> Option<Message>
-    ensures given { InOrder seats.old → result ≡ first_in (find (is_home c) seats.old) }
-    ensures rest { InOrder seats.old → seats.new ≡ with_found (is_home c) given_from seats.old }
+fn give(contexts: &mut [SubContext], c: Ctx) -> Option<Message>
+    ensures given { InOrder contexts.old → result ≡ first_in (find (is_of_context c) contexts.old) }
+    ensures rest { InOrder contexts.old → contexts.new ≡ with_found (is_of_context c) given_from contexts.old }
 {
-    match index_of(seats, c) {
+    match index_of(contexts, c) {
         None => None,
-        Some(i) => seats[i].give(),
+        Some(i) => contexts[i].give(),
     }
 }
 
 // Puts a topic of the context on, or takes it off. Returns whether that changed something.
 fn switch(
-    seats: &mut [SubContext],
+    contexts: &mut [SubContext],
     alloc: Global,
     c: Ctx,
     t: &[u8],
     on: bool,
 ) -> Result<bool, NoMemory>
-    ensures switched { InOrder seats.old → SwitchesIn result (find (is_home c) seats.old) c seats.old seats.new t.now on }
+    ensures switched { InOrder contexts.old → SwitchesIn result (find (is_of_context c) contexts.old) c contexts.old contexts.new t.now on }
     ensures off { on ≡ false → OnErr result ⊥ }
 {
-    match index_of(seats, c) {
+    match index_of(contexts, c) {
         None => Ok(false),
-        Some(i) => seats[i].switch(alloc, t, on),
+        Some(i) => contexts[i].switch(alloc, t, on),
     }
 }
 
 // The context is shut.
-fn shut(seats: &mut Vec<SubContext>, c: Ctx)
-    ensures { InOrder seats.old.items → seats.new.items ≡ filter (λ (x : SubContextView). not (is_home c x)) seats.old.items }
+fn shut(contexts: &mut Vec<SubContext>, c: Ctx)
+    ensures { InOrder contexts.old.items → contexts.new.items ≡ filter (λ (x : SubContextView). not (is_of_context c x)) contexts.old.items }
 {
-    match index_of(seats, c) {
+    match index_of(contexts, c) {
         None => {}
         Some(i) => {
-            let _ = seats.remove(i);
+            let _ = contexts.remove(i);
         }
     }
 }
 
 // Nothing is kept any more.
-fn clear(seats: &mut [SubContext])
-    ensures { seats.new ≡ map emptied seats.old }
+fn clear(contexts: &mut [SubContext])
+    ensures { contexts.new ≡ map emptied contexts.old }
 {
-    for seat in seats.iter_mut() {
-        seat.clear();
+    for context in contexts.iter_mut() {
+        context.clear();
     }
 }
 
 // The first context.
-fn first_seats(alloc: Global, options: Options) -> Result<Vec<SubContext>, NoMemory>
-    ensures { IfOk result (λ v. v.items ≡ fresh_seat options.queue 0 ∷ []) }
+fn first_contexts(alloc: Global, options: Options) -> Result<Vec<SubContext>, NoMemory>
+    ensures { IfOk result (λ v. v.items ≡ fresh_context options.queue 0 ∷ []) }
 {
-    let seat = SubContext::new(alloc, Ctx(0), options)?;
-    let mut seats = Vec::new(alloc);
-    seats.push(seat)?;
-    Ok(seats)
+    let context = SubContext::new(alloc, Ctx(0), options)?;
+    let mut contexts = Vec::new(alloc);
+    contexts.push(context)?;
+    Ok(contexts)
 }
 
 impl Subscribe {
@@ -249,12 +249,12 @@ impl Subscribe {
     pub fn new(alloc: Global, options: Options, raw: bool) -> Result<Subscribe, NoMemory>
         ensures { IfOk result (λ m. Starts Ties m (sub_kind raw options)) }
     {
-        let seats = first_seats(alloc, options)?;
+        let contexts = first_contexts(alloc, options)?;
         Ok(Subscribe {
             alloc,
             raw,
             options,
-            seats,
+            contexts,
             waiting: VecDeque::new(alloc),
             looked: 0,
         })
@@ -323,14 +323,14 @@ impl Proto for Subscribe {
     {
         let _ = p;
         self.looked = 0;
-        match keep_in_all(&mut self.seats, self.raw, self.options, m) {
+        match keep_in_all(&mut self.contexts, self.raw, self.options, m) {
             None => Verdict::Fine,
             Some(c) => Verdict::Dry(c),
         }
     }
 
     fn keeps(&self, c: Ctx) -> bool {
-        keeps_for(&self.seats, c)
+        keeps_for(&self.contexts, c)
     }
 
     fn check(&self, c: Ctx, verb: Verb) -> Result<(), CheckError> {
@@ -340,7 +340,7 @@ impl Proto for Subscribe {
         if self.raw && c.0 != 0 {
             return Err(CheckError::NotSupported);
         }
-        if !is_open(&self.seats, c) {
+        if !is_open(&self.contexts, c) {
             return Err(CheckError::NoEntry);
         }
         Ok(())
@@ -360,7 +360,7 @@ impl Proto for Subscribe {
     fn fresh(&mut self) {}
 
     fn offer(&mut self) -> Offer {
-        match ready_place(&self.seats, &self.waiting, self.looked) {
+        match ready_place(&self.contexts, &self.waiting, self.looked) {
             None => {
                 self.looked = self.waiting.len();
                 Offer::Idle
@@ -400,7 +400,7 @@ impl Proto for Subscribe {
         let _ = out;
         match take(&mut self.waiting, &mut self.looked, op) {
             None => None,
-            Some(w) => give(&mut self.seats, w.ctx),
+            Some(w) => give(&mut self.contexts, w.ctx),
         }
     }
 
@@ -414,20 +414,20 @@ impl Proto for Subscribe {
     }
 
     fn open_ctx(&mut self, c: Ctx) -> Result<(), NoMemory> {
-        let seat = SubContext::new(self.alloc, c, self.options)?;
-        self.seats.push(seat)?;
+        let context = SubContext::new(self.alloc, c, self.options)?;
+        self.contexts.push(context)?;
         Ok(())
     }
 
     fn close_ctx(&mut self, c: Ctx) {
-        shut(&mut self.seats, c);
+        shut(&mut self.contexts, c);
     }
 
     fn topic(&mut self, c: Ctx, t: &[u8], on: bool) -> Result<bool, NoMemory> {
-        switch(&mut self.seats, self.alloc, c, t, on)
+        switch(&mut self.contexts, self.alloc, c, t, on)
     }
 
     fn close(&mut self) {
-        clear(&mut self.seats);
+        clear(&mut self.contexts);
     }
 }

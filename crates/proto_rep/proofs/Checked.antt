@@ -18,7 +18,7 @@ use Rattle.proto_rep.specs.declared.rep.Reply.{Reply}
 use Rattle.proto_rep.specs.Places.{ReplyContext}
 use Rattle.proto_rep.specs.declared.replies.PendingReply.{PendingReply}
 use Rattle.proto_rep.specs.declared.operations.ReplyOperation.{ReplyOperation}
-use Rattle.proto_rep.specs.Reps.{Ties, ctx_of, is_home, state_at, role_of}
+use Rattle.proto_rep.specs.Reps.{Ties, ctx_of, is_of_context, state_at, role_of}
 use Rattle.proto_rep.specs.Operations.{begun_of, act_of, receives_on}
 use Rattle.proto_rep.proofs.Replied.{is_rep, is_raw}
 use Rattle.proto_rep.specs.declared.rep.ReplyRole.{ReplyRole}
@@ -65,9 +65,9 @@ does_is m t c act b h e =
     ap (λ (r : Role). does r act && ((c == 0) || role_has_contexts r && not t.z.raw)) (is_rep m t h) ∙ ap (λ q. q && ((c == 0) || role_has_contexts (role_of m.role) && not t.z.raw)) (does_both m.role act)
     ∙ ap (λ q. (c == 0) || q && not t.z.raw) (has_ctxs m.role) ∙ ap (λ q. (c == 0) || not q) (is_raw m t h) ∙ e
 
-home_any : (c : ℕ) (xs : List ReplyContext) → list_any (is_home c) xs ≡ has (map ctx_of xs) c
-home_any c [] = refl
-home_any c (x ∷ xs) = ap (λ b. (x.ctx == c) || b) (home_any c xs)
+any_of_context : (c : ℕ) (xs : List ReplyContext) → list_any (is_of_context c) xs ≡ has (map ctx_of xs) c
+any_of_context c [] = refl
+any_of_context c (x ∷ xs) = ap (λ b. (x.ctx == c) || b) (any_of_context c xs)
 
-pub open_is : (m : Reply) (t : Moment) (c : ℕ) (xs : List ReplyContext) (b o : Bool) → Ties m t → xs ≡ m.places.items → o ≡ list_any (is_home c) xs → o ≡ b → has (ctxs (past t)) c ≡ b
-open_is m t c xs b o h e k f = ap (λ cs. has cs c) (sym h.contexts) ∙ sym (home_any c m.places.items) ∙ ap (list_any (is_home c)) (sym e) ∙ sym k ∙ f
+pub open_is : (m : Reply) (t : Moment) (c : ℕ) (xs : List ReplyContext) (b o : Bool) → Ties m t → xs ≡ m.places.items → o ≡ list_any (is_of_context c) xs → o ≡ b → has (ctxs (past t)) c ≡ b
+open_is m t c xs b o h e k f = ap (λ cs. has cs c) (sym h.contexts) ∙ sym (any_of_context c m.places.items) ∙ ap (list_any (is_of_context c)) (sym e) ∙ sym k ∙ f

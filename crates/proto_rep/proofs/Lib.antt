@@ -4,7 +4,7 @@ pub mod ByKind
 pub mod Stuck
 pub mod PassedReplies
 pub mod KeyedReplies
-pub mod Homes
+pub mod PlacesOfContexts
 pub mod Replied
 pub mod RepEnds
 pub mod Offered

@@ -36,7 +36,7 @@ use Rattle.proto_rep.specs.declared.rep.Source.{Source}
 use Rattle.proto_rep.specs.Places.{ReplyContext}
 use Rattle.proto_rep.specs.declared.replies.PendingReply.{PendingReply}
 use Rattle.proto_rep.specs.declared.operations.ReplyOperation.{ReplyOperation}
-use Rattle.proto_rep.specs.Reps.{Ties, Stands, item_of, origin_of, origin_at, ctx_of, out_text, words_of, Routed, AreHome, Given, role_of}
+use Rattle.proto_rep.specs.Reps.{Ties, Stands, item_of, origin_of, origin_at, ctx_of, out_text, words_of, Routed, AreOfContexts, Given, role_of}
 use Rattle.proto_rep.specs.Operations.{Holds, begun_of, act_of, is_for, without_first}
 use Rattle.proto_rep.specs.Replies.{StayPassed, target_of}
 use Rattle.proto_rep.proofs.OperationsLeft.{find_begun, without_all}
@@ -62,11 +62,11 @@ all_apart m t h = subst (λ (ss : List Begun). AreApart ss) (sym h.pending) h.ap
 left_over : (m : Reply) (t : Moment) (op : OpName) → (h : Ties m t) → map begun_of (without_first op h.waits) ≡ without_begun (pend (past t)) op
 left_over m t op h = without_all op h.waits (all_apart m t h op) ∙ ap (λ (ss : List Begun). without_begun ss op) h.pending
 
-homes_without : (cs : List ℕ) (ss : List Begun) (op : OpName) → AreHome cs ss → AreHome cs (without_begun ss op)
-homes_without cs [] op h = h
-homes_without cs (s ∷ ss) op h = go (is_of op s) (homes_without cs ss op h.1)
+of_contexts_without : (cs : List ℕ) (ss : List Begun) (op : OpName) → AreOfContexts cs ss → AreOfContexts cs (without_begun ss op)
+of_contexts_without cs [] op h = h
+of_contexts_without cs (s ∷ ss) op h = go (is_of op s) (of_contexts_without cs ss op h.1)
   where
-    go : (b : Bool) → AreHome cs (without_begun ss op) → AreHome cs (cond (not b) (s ∷ without_begun ss op) (without_begun ss op))
+    go : (b : Bool) → AreOfContexts cs (without_begun ss op) → AreOfContexts cs (cond (not b) (s ∷ without_begun ss op) (without_begun ss op))
     go true k = k
     go false k = (h.0, k)
 
@@ -92,7 +92,7 @@ ended m n t op h e u p f g same =
       pending = left_over m t op h;
       apart = apart_without (pend (past t)) op h.apart;
       contexts = rw g h.contexts;
-      homes = homes_without (ctxs (past t)) (pend (past t)) op h.homes;
+      of_contexts = of_contexts_without (ctxs (past t)) (pend (past t)) op h.of_contexts;
       stored = rw g h.stored;
       routed = routed_without (λ o. route t.z (past t) o) op h.waits h.routed;
       stuck = stay_stuck m n p same.0 u h.stuck;
@@ -112,9 +112,9 @@ sent_ties m n t op p b h e u r f g same = ended m n t op h e u r f g same
 
 -- ---- What is given
 
-home_of : (cs : List ℕ) (ss : List Begun) (op : OpName) (s : Begun) → AreHome cs ss → find (is_of op) ss ≡ Some s → has cs s.ctx ≡ true
-home_of cs [] op s h k = absurd cc
-home_of cs (r ∷ ss) op s h k = go (is_of op r) k (home_of cs ss op s h.1)
+context_of : (cs : List ℕ) (ss : List Begun) (op : OpName) (s : Begun) → AreOfContexts cs ss → find (is_of op) ss ≡ Some s → has cs s.ctx ≡ true
+context_of cs [] op s h k = absurd cc
+context_of cs (r ∷ ss) op s h k = go (is_of op r) k (context_of cs ss op s h.1)
   where
     some_inj : Some r ≡ Some s → r ≡ s
     some_inj q = cc
@@ -162,8 +162,8 @@ module _ (m n : Reply) (t : Moment) (op : OpName) (s : Begun) (text : RecordedMe
   given_stored k ks h c f false r u v d =
       let raw : t.z.raw ≡ false = is_raw m t h ∙ r in
       let items_are : item_of k ∷ map item_of ks ≡ pool t.z (past t) 0 = sym (ap (map item_of) f) ∙ h.items in
-      let home : has (map ctx_of m.places.items) s.ctx ≡ true = rw h.contexts (home_of (ctxs (past t)) (pend (past t)) op s h.homes c.pending) in
-      v r home d ∙ ap (λ (o : Option Origin). cond (s.ctx == d) (Some (record { pipe = k.pipe; words = k.words })) o) (h.stored d)
+      let within : has (map ctx_of m.places.items) s.ctx ≡ true = rw h.contexts (context_of (ctxs (past t)) (pend (past t)) op s h.of_contexts c.pending) in
+      v r within d ∙ ap (λ (o : Option Origin). cond (s.ctx == d) (Some (record { pipe = k.pipe; words = k.words })) o) (h.stored d)
       ∙ sym (stored_given m.role t.z (past t) op s text (item_of k) (map item_of ks) d (is_rep m t h) raw c.pending items_are)
 
   pub given_ties : (r : Option MessageView) (k : Option KeptRequest) → (h : Ties m t) → CanGive t op s text → Given s.ctx r m n k → Holds n.waiting (without_first op h.waits) → StayPassed m.waiting.replies n.waiting.replies → n.ports ≡ m.ports → (n.raw ≡ m.raw) × (n.options ≡ m.options) × (n.role ≡ m.role)
@@ -183,7 +183,7 @@ module _ (m n : Reply) (t : Moment) (op : OpName) (s : Begun) (text : RecordedMe
           pending = left_over m t op h;
           apart = apart_without (pend (past t)) op h.apart;
           contexts = g.2 ∙ h.contexts;
-          homes = homes_without (ctxs (past t)) (pend (past t)) op h.homes;
+          of_contexts = of_contexts_without (ctxs (past t)) (pend (past t)) op h.of_contexts;
           stored = given_stored k n.kept.items h c g.1 m.raw refl g.3 g.4;
           routed = routed_without (λ o. route t.z (past t) o) op h.waits h.routed;
           stuck = stay_stuck m n p same.0 u h.stuck;

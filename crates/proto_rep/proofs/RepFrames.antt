@@ -99,7 +99,7 @@ module _ (m n : Reply) (t : Moment) (p : ℕ) (b x : List ℕ) (k : KeptRequest)
           pending = h.pending;
           apart = h.apart;
           contexts = rw l h.contexts;
-          homes = h.homes;
+          of_contexts = h.of_contexts;
           stored = rw l h.stored;
           routed = h.routed;
           stuck = rw (same.0, g, v) h.stuck;
@@ -121,7 +121,7 @@ module _ (m n : Reply) (t : Moment) (p : ℕ) (b x : List ℕ) (k : KeptRequest)
           pending = h.pending;
           apart = h.apart;
           contexts = rw l h.contexts;
-          homes = h.homes;
+          of_contexts = h.of_contexts;
           stored = rw l h.stored;
           routed = h.routed;
           stuck = rw (same.0, g, v) h.stuck;

@@ -34,13 +34,13 @@ use Rattle.proto_rep.specs.declared.replies.PendingReply.{PendingReply}
 use Rattle.proto_rep.specs.declared.operations.ReplyOperation.{ReplyOperation}
 use Rattle.proto_requests.specs.Ports.{PortView, marked, cleared, is_below}
 use Rattle.proto_requests.specs.Ordered.{is_before}
-use Rattle.proto_rep.specs.Reps.{Ties, item_of, origin_of, origin_at, ctx_of, Routed, AreHome, role_of}
+use Rattle.proto_rep.specs.Reps.{Ties, item_of, origin_of, origin_at, ctx_of, Routed, AreOfContexts, role_of}
 use Rattle.proto_rep.specs.Operations.{Holds, begun_of, act_of}
 use Rattle.proto_rep.specs.Replies.{AreStuck, StayPassed}
 use Rattle.proto_requests.proofs.NamesApart.{apart_more}
 use Rattle.proto_requests.proofs.OpenContexts.{seen_before}
 use Rattle.proto_requests.proofs.KnownPipes.{up_knows, known_below, fresh_knows, full_knows, down_knows}
-use Rattle.proto_rep.proofs.Homes.{opens_none, shut_ctxs, shut_origins}
+use Rattle.proto_rep.proofs.PlacesOfContexts.{opens_none, shut_ctxs, shut_origins}
 use Rattle.proto_rep.specs.declared.rep.ReplyRole.{ReplyRole}
 use Rattle.proto_rep.specs.declared.rep.ReplyRole.TheVariants as sides
 use Rattle.proto_rep.proofs.Roles.{replies, no_floods}
@@ -110,7 +110,7 @@ up_ties m n t p place name l h e f w g same =
       pending = h.pending;
       apart = h.apart;
       contexts = rw g h.contexts;
-      homes = h.homes;
+      of_contexts = h.of_contexts;
       stored = rw g h.stored;
       routed = h.routed;
       stuck = rw (same.0, e, w) (more_stuck m.raw (record { pipe = p; is_full = false }) m.ports.items m.waiting.replies h.stuck);
@@ -130,7 +130,7 @@ down_ties m n t p why h e f w x l same =
       pending = h.pending;
       apart = h.apart;
       contexts = rw l h.contexts;
-      homes = h.homes;
+      of_contexts = h.of_contexts;
       stored = rw l h.stored;
       routed = h.routed;
       stuck = rw same.0 (x h.stuck);
@@ -148,7 +148,7 @@ full_ties m n t p l h e f w g same =
       pending = h.pending;
       apart = h.apart;
       contexts = rw g h.contexts;
-      homes = h.homes;
+      of_contexts = h.of_contexts;
       stored = rw g h.stored;
       routed = h.routed;
       stuck = rw (same.0, e, w) (marked_stuck m.raw p m.ports.items m.waiting.replies h.stuck);
@@ -166,7 +166,7 @@ fresh_ties m n t k h e f w x g same =
       pending = h.pending;
       apart = h.apart;
       contexts = rw g h.contexts;
-      homes = h.homes;
+      of_contexts = h.of_contexts;
       stored = rw g h.stored;
       routed = h.routed;
       stuck = none_stuck n.raw n.ports.items n.waiting.replies x;
@@ -187,7 +187,7 @@ waiting_ties m n t h w s p f g same =
       pending = h.pending;
       apart = h.apart;
       contexts = rw g h.contexts;
-      homes = h.homes;
+      of_contexts = h.of_contexts;
       stored = rw g h.stored;
       routed = h.routed;
       stuck = rw (same.0, p) (s h.stuck);
@@ -198,9 +198,9 @@ waiting_ties m n t h w s p f g same =
 or_left : (a b : Bool) → a ≡ true → (a || b) ≡ true
 or_left a b h = rw h refl
 
-homes_opened : (cs ds : List ℕ) (ss : List Begun) → AreHome cs ss → AreHome (cs ++ ds) ss
-homes_opened cs ds [] h = h
-homes_opened cs ds (s ∷ ss) h = (has_first cs ds s.ctx h.0, homes_opened cs ds ss h.1)
+of_contexts_opened : (cs ds : List ℕ) (ss : List Begun) → AreOfContexts cs ss → AreOfContexts (cs ++ ds) ss
+of_contexts_opened cs ds [] h = h
+of_contexts_opened cs ds (s ∷ ss) h = (has_first cs ds s.ctx h.0, of_contexts_opened cs ds ss h.1)
 
 pub opened_before : (m : Reply) (t : Moment) (c : ℕ) → Lawful (also t (Ctx c Open)) → Ties m t → list_all (is_before ctx_of c) m.places.items ≡ true
 opened_before m t c l h = seen_before ctx_of m.places.items t c l h.contexts
@@ -217,17 +217,17 @@ opened_ties m n t c h e p f w same =
       pending = h.pending;
       apart = h.apart;
       contexts = ap (map ctx_of) e ∙ map-append ctx_of m.places.items (record { ctx = c; stored = None } ∷ []) ∙ ap (λ (cs : List ℕ). cs ++ c ∷ []) h.contexts;
-      homes = homes_opened (ctxs (past t)) (c ∷ []) (pend (past t)) h.homes;
+      of_contexts = of_contexts_opened (ctxs (past t)) (c ∷ []) (pend (past t)) h.of_contexts;
       stored = λ d. ap (origin_at d) e ∙ opens_none c m.places.items d ∙ h.stored d;
       routed = h.routed;
       stuck = rw (same.0, p, w) h.stuck;
     }
 
-homes_shut : (cs : List ℕ) (c : ℕ) (ss : List Begun) → AreHome cs ss → list_any (λ (s : Begun). s.ctx == c) ss ≡ false → AreHome (without cs c) ss
-homes_shut cs c [] h k = h
-homes_shut cs c (s ∷ ss) h k = go (s.ctx == c) refl k (homes_shut cs c ss h.1)
+of_contexts_shut : (cs : List ℕ) (c : ℕ) (ss : List Begun) → AreOfContexts cs ss → list_any (λ (s : Begun). s.ctx == c) ss ≡ false → AreOfContexts (without cs c) ss
+of_contexts_shut cs c [] h k = h
+of_contexts_shut cs c (s ∷ ss) h k = go (s.ctx == c) refl k (of_contexts_shut cs c ss h.1)
   where
-    go : (b : Bool) → (s.ctx == c) ≡ b → (b || list_any (λ (s : Begun). s.ctx == c) ss) ≡ false → (list_any (λ (s : Begun). s.ctx == c) ss ≡ false → AreHome (without cs c) ss) → AreHome (without cs c) (s ∷ ss)
+    go : (b : Bool) → (s.ctx == c) ≡ b → (b || list_any (λ (s : Begun). s.ctx == c) ss) ≡ false → (list_any (λ (s : Begun). s.ctx == c) ss ≡ false → AreOfContexts (without cs c) ss) → AreOfContexts (without cs c) (s ∷ ss)
     go true e k again = absurd cc
     go false e k again = (has_still cs c s.ctx h.0 e, again k)
 
@@ -252,7 +252,7 @@ shut_ties m n t c l h e p f w same =
       pending = h.pending;
       apart = h.apart;
       contexts = ap (map ctx_of) e ∙ shut_ctxs c m.places.items ∙ ap (λ cs. without cs c) h.contexts;
-      homes = homes_shut (ctxs (past t)) c (pend (past t)) h.homes l.turn.0.itself.2;
+      of_contexts = of_contexts_shut (ctxs (past t)) c (pend (past t)) h.of_contexts l.turn.0.itself.2;
       stored = λ d. ap (origin_at d) e ∙ shut_origins c m.places.items d ∙ ap (λ (o : Option Origin). cond (c == d) None o) (h.stored d) ∙ swapped (has_stored t.z) (c == d) _;
       routed = h.routed;
       stuck = rw (same.0, p, w) h.stuck;
@@ -260,9 +260,9 @@ shut_ties m n t c l h e p f w same =
 
 -- ---- Begin
 
-homes_more : (cs : List ℕ) (ss : List Begun) (s : Begun) → AreHome cs ss → has cs s.ctx ≡ true → AreHome cs (ss ++ s ∷ [])
-homes_more cs [] s h k = (k, h)
-homes_more cs (r ∷ ss) s h k = (h.0, homes_more cs ss s h.1 k)
+of_contexts_more : (cs : List ℕ) (ss : List Begun) (s : Begun) → AreOfContexts cs ss → has cs s.ctx ≡ true → AreOfContexts cs (ss ++ s ∷ [])
+of_contexts_more cs [] s h k = (k, h)
+of_contexts_more cs (r ∷ ss) s h k = (h.0, of_contexts_more cs ss s h.1 k)
 
 left_of : (a b : Bool) → (not a && b) ≡ true → a ≡ false
 left_of a b h = elim a as (λ v. (not v && b) ≡ true → v ≡ false) [ true ↦ λ q. absurd cc | false ↦ λ q. refl ] h
@@ -302,7 +302,7 @@ begun_ties m n t w a source deadline l h i j u v x e y p f same =
           ∙ ap (λ (b : RecordedAct). pend (past t) ++ record { op = w.op; ctx = w.ctx; act = b } ∷ []) i;
       apart = apart_more (pend (past t)) (record { op = w.op; ctx = w.ctx; act = a }) h.apart free;
       contexts = x ∙ h.contexts;
-      homes = homes_more (ctxs (past t)) (pend (past t)) (record { op = w.op; ctx = w.ctx; act = a }) h.homes may.ctx_open;
+      of_contexts = of_contexts_more (ctxs (past t)) (pend (past t)) (record { op = w.op; ctx = w.ctx; act = a }) h.of_contexts may.ctx_open;
       stored = λ d. v d ∙ ap (λ (o : Option Origin). cond (w.ctx == d) None o) (h.stored d) ∙ swapped (has_stored t.z) (w.ctx == d) _;
       routed = routed_more (λ o. route t.z (past t) o) (stored t.z (past t) w.ctx) w.op h.waits w refl (rw h.pending free) h.routed (λ r q. ap (option_map origin_of) (j r q) ∙ u ∙ h.stored w.ctx);
       stuck = stay_stuck m n p same.0 y h.stuck;
@@ -327,7 +327,7 @@ closed_ties m n t totals h f x v p w same =
       pending = h.pending;
       apart = h.apart;
       contexts = x ∙ h.contexts;
-      homes = h.homes;
+      of_contexts = h.of_contexts;
       stored = λ d. v d ∙ sym (nothing (has_stored t.z));
       routed = h.routed;
       stuck = rw (same.0, p, w) h.stuck;

@@ -62,8 +62,8 @@ origin_of s = record { pipe = s.pipe; words = s.words }
 abbrev pub ctx_of : ReplyContext → ℕ
 ctx_of x = x.ctx
 
-abbrev pub is_home : ℕ → ReplyContext → Bool
-is_home c x = x.ctx == c
+abbrev pub is_of_context : ℕ → ReplyContext → Bool
+is_of_context c x = x.ctx == c
 
 abbrev pub origin_in : Option ReplyContext → Option Origin
 origin_in None = None
@@ -71,7 +71,7 @@ origin_in (Some x) = option_map origin_of x.stored
 
 -- what is stored with the context
 abbrev pub origin_at : ℕ → List ReplyContext → Option Origin
-origin_at c xs = origin_in (find (is_home c) xs)
+origin_at c xs = origin_in (find (is_of_context c) xs)
 
 -- ---- Operations
 
@@ -106,9 +106,9 @@ Routed routes [] = ⊤
 Routed routes (w ∷ ws) = ((r : PendingReply) → w.answer ≡ Some r → option_map origin_of r.source ≡ routes w.op) × Routed routes ws
 
 -- each operation is of one of these contexts
-abbrev pub AreHome : List ℕ → List Begun → Type 0
-AreHome cs [] = ⊤
-AreHome cs (s ∷ ss) = (has cs s.ctx ≡ true) × AreHome cs ss
+abbrev pub AreOfContexts : List ℕ → List Begun → Type 0
+AreOfContexts cs [] = ⊤
+AreOfContexts cs (s ∷ ss) = (has cs s.ctx ≡ true) × AreOfContexts cs ss
 
 -- The machine is of this kind; knows these pipes as up and which of them are full; keeps these items; has these operations
 -- pending, the oldest first, each on an open context; and has stored, with each context and with each pending send, this
@@ -123,7 +123,7 @@ pub record Shows (m : Reply) (k : Kind) (us : List ℕ) (last : ℕ) (full : ℕ
   pub pending : map begun_of waits ≡ ss
   pub apart : AreApart ss
   pub contexts : map ctx_of m.places.items ≡ cs
-  pub homes : AreHome cs ss
+  pub of_contexts : AreOfContexts cs ss
   pub stored : (c : ℕ) → origin_at c m.places.items ≡ st c
   pub routed : Routed routes waits
   pub stuck : AreStuck m.raw m.ports.items m.waiting.replies

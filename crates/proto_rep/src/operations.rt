@@ -32,7 +32,7 @@ impl Waiter for Recipient {
 
     ghost name_of = { λ w. w.op };
 
-    ghost home_of = { λ w. w.ctx };
+    ghost context_of = { λ w. w.ctx };
 
     ghost is_send = { λ w. false };
 
@@ -75,7 +75,7 @@ pub struct ReplyOperation {
     pub answer: Option<PendingReply>,
 }
 
-/// Those that wait.
+/// Operations that wait (nng_aio(5)).
 #[derive(Drop)]
 pub struct RepOperations {
     receives: Waits<Recipient>,

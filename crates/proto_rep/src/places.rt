@@ -7,7 +7,7 @@ ghost use Rattle.std.specs.List.{list_any, list_all};
 ghost use Rattle.sp_history.specs.Lists.{has};
 ghost use Rattle.proto_requests.specs.Ordered.{is_before};
 ghost use Rattle.proto_rep.specs.Places.{ReplyContext};
-ghost use Rattle.proto_rep.specs.Reps.{is_home, origin_of, origin_at, ctx_of};
+ghost use Rattle.proto_rep.specs.Reps.{is_of_context, origin_of, origin_at, ctx_of};
 
 use crate::rep::Source;
 use sp_base::{Ctx, NoMemory};
@@ -15,7 +15,7 @@ use std::alloc::Global;
 use std::collections::BTreeMap;
 use std::marker::Model;
 
-/// The places of open contexts.
+/// The places of open contexts (nng_ctx(5)).
 #[derive(Drop)]
 pub struct Places {
     /// The request that the next send of each context answers, by the contexts' numbers.
@@ -45,7 +45,7 @@ impl Places {
 
     /// The context is open.
     pub fn has(&self, c: Ctx) -> bool
-        ensures { result ≡ list_any (is_home c) self.now.items }
+        ensures { result ≡ list_any (is_of_context c) self.now.items }
     {
         self.stored.contains_key(&c.0)
     }
@@ -121,7 +121,7 @@ impl Places {
 
     /// The context is open no longer.
     pub fn close(&mut self, c: Ctx)
-        ensures { self.new.items ≡ filter (λ (x : ReplyContext). not (is_home c x)) self.old.items }
+        ensures { self.new.items ≡ filter (λ (x : ReplyContext). not (is_of_context c x)) self.old.items }
     {
         // Gives the proof that the keys are in order.
         let _len = self.stored.len();

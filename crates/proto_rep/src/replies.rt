@@ -52,7 +52,7 @@ impl Waiter for WaitingReply {
 
     ghost name_of = { λ w. w.op };
 
-    ghost home_of = { λ w. w.ctx };
+    ghost context_of = { λ w. w.ctx };
 
     ghost is_send = { λ w. true };
 
@@ -87,7 +87,7 @@ impl Waiter for WaitingReply {
     fn leave(&mut self) {}
 }
 
-/// Replies that wait.
+/// Replies that wait (nng_aio(5)).
 #[derive(Drop)]
 pub struct WaitingReplies {
     /// Their pipes stand in their headers.

@@ -295,7 +295,7 @@ again_settled m t full h (x ∷ xs) o (inl f) = both _ _ (rw f (middle (not (is_
     middle : (a b : Bool) → (a || true || b) ≡ true
     middle true b = refl
     middle false b = refl
-again_settled m t full h (x ∷ xs) o (inr f) = go (is_due m.options.resend m.tick m.ports.items m.seats.items x) refl f (λ q. again_settled m t full h xs (λ c k. o c (more (x.ctx == c) k)) (inr q))
+again_settled m t full h (x ∷ xs) o (inr f) = go (is_due m.options.resend m.tick m.ports.items m.contexts.items x) refl f (λ q. again_settled m t full h xs (λ c k. o c (more (x.ctx == c) k)) (inr q))
   where
     more : (b : Bool) {y : Bool} → y ≡ true → (b || y) ≡ true
     more true k = refl
@@ -306,7 +306,7 @@ again_settled m t full h (x ∷ xs) o (inr f) = go (is_due m.options.resend m.ti
     last false true = refl
     last false false = refl
 
-    one : is_due m.options.resend m.tick m.ports.items m.seats.items x ≡ false → (d : Bool) → dry_at x.ctx m.seats.items ≡ d → request_settled t.z (past t) full (request_of x) ≡ true
+    one : is_due m.options.resend m.tick m.ports.items m.contexts.items x ≡ false → (d : Bool) → dry_at x.ctx m.contexts.items ≡ d → request_settled t.z (past t) full (request_of x) ≡ true
     one e true k =
         let open_ : has (ctxs (past t)) x.ctx ≡ true = o x.ctx (ap (λ b. b || has (map live_ctx xs) x.ctx) (same_number x.ctx)) in
         let dry : is_dry (past t) x.ctx ≡ true = sym (h.4.dryness x.ctx open_) ∙ k in
@@ -315,10 +315,10 @@ again_settled m t full h (x ∷ xs) o (inr f) = go (is_due m.options.resend m.ti
         let due : is_due_again t.z (past t) (request_of x) ≡ false = sym (due_is m t h x k) ∙ e in
         rw due refl
 
-    go : (b : Bool) → is_due m.options.resend m.tick m.ports.items m.seats.items x ≡ b → (b || list_any (due_in m) xs) ≡ false
+    go : (b : Bool) → is_due m.options.resend m.tick m.ports.items m.contexts.items x ≡ b → (b || list_any (due_in m) xs) ≡ false
         → (list_any (due_in m) xs ≡ false → list_all (request_settled t.z (past t) full) (map request_of xs) ≡ true) → list_all (request_settled t.z (past t) full) (map request_of (x ∷ xs)) ≡ true
     go true e k again = absurd cc
-    go false e k again = both _ _ (one e (dry_at x.ctx m.seats.items) refl) (again k)
+    go false e k again = both _ _ (one e (dry_at x.ctx m.contexts.items) refl) (again k)
 
 all_full : (full : ℕ → Bool) (us : List ℕ) → find is_free (map (port_of full) us) ≡ None → list_all full us ≡ true
 all_full full [] f = refl
@@ -336,7 +336,7 @@ idle m t h o g s d =
           record {
             receives = rw (← h.3.pending) (receives_settled m t h m.waiting.items g);
             sends = rw (← h.3.pending) (sends_settled m t (λ q. has_full t.turn q) h m.waiting.items s);
-            again = λ q. rw (← h.3.live) (again_settled m t (λ q. has_full t.turn q) h m.live.items h.4.homes d);
+            again = λ q. rw (← h.3.live) (again_settled m t (λ q. has_full t.turn q) h m.live.items h.4.of_contexts d);
             finished = all_finished m.waiting.items (requests t.z (past t)) h.3.orphans o;
           };
       no_flood = λ q. let k : false ≡ true = rw (is_req_role m t h) at q in absurd cc;
@@ -580,8 +580,8 @@ found_alone P (y ∷ xs) x d f = go (P y) f (found_alone P xs x d.1)
 pub can_again : (m : Machine) (t : Moment) (c p : ℕ) (x : Live) → Ties m t → find (is_live_on c) m.live.items ≡ Some x → due_in m x ≡ true → has (up (past t)) p ≡ true → has_full t.turn p ≡ false → CanAgain t x.ctx p (request_of x)
 can_again m t c p x h f it u n =
     let alone = found_alone (is_live_on c) m.live.items x h.3.places f in
-    let open_ : has (ctxs (past t)) x.ctx ≡ true = h.4.homes x.ctx (there m.live.items alone) in
-    let wet : dry_at x.ctx m.seats.items ≡ false = not_dry _ _ _ it in
+    let open_ : has (ctxs (past t)) x.ctx ≡ true = h.4.of_contexts x.ctx (there m.live.items alone) in
+    let wet : dry_at x.ctx m.contexts.items ≡ false = not_dry _ _ _ it in
     record {
       sends_again = cooked m.raw refl alone;
       ctx_open = open_;

@@ -45,7 +45,7 @@ use Rattle.proto_live_requests.specs.declared.live.Live.{Live}
 use Rattle.proto_live_requests.specs.declared.live.KeptReply.{KeptReply}
 use Rattle.proto_reqrep.specs.declared.req.Asking.{Asking}
 use Rattle.sp_proto.specs.Kinds.{act_of}
-use Rattle.proto_live_requests.specs.LiveRequests.{without_live, live_ctx, is_live_on, request_of, with_reply, item_of, seat_ctx, live_id, keeps_reply}
+use Rattle.proto_live_requests.specs.LiveRequests.{without_live, live_ctx, is_live_on, request_of, with_reply, item_of, context_number, live_id, keeps_reply}
 use Rattle.proto_reqrep.specs.Reqs.{Ties, IsSeen, AreReady, Asked, begun_of, is_receiving_on, orphaned, HasLive, HaveLive, Opened, SetTo, ask_state, Keeps, free_number, is_given, Asks, KeepsRaw}
 use Rattle.proto_requests.specs.FirstFound.{with_found}
 use Rattle.proto_requests.specs.Ids.{raw_item, number_after}
@@ -183,9 +183,9 @@ send_asked m n t op c x d r l h a =
     ids_same [] k = refl
     ids_same (y ∷ xs) k = ap (λ b. (y.id == k) || b) (ids_same xs k)
 
-pub send_opened : (m n : Machine) (c : ℕ) (body : List ℕ) (cs : List ℕ) (dry : ℕ → Bool) → Asks c body m n → has cs c ≡ true → Opened m.live.items m.seats.items cs dry → Opened n.live.items n.seats.items cs dry
+pub send_opened : (m n : Machine) (c : ℕ) (body : List ℕ) (cs : List ℕ) (dry : ℕ → Bool) → Asks c body m n → has cs c ≡ true → Opened m.live.items m.contexts.items cs dry → Opened n.live.items n.contexts.items cs dry
 send_opened m n c body cs dry a k h =
-    rw (a.3, a.12) (record { homes = λ d q. go d (has (map live_ctx (without_live c m.live.items)) d) refl (sym (two (without_live c m.live.items) d) ∙ q); contexts = h.contexts; dryness = h.dryness })
+    rw (a.3, a.12) (record { of_contexts = λ d q. go d (has (map live_ctx (without_live c m.live.items)) d) refl (sym (two (without_live c m.live.items) d) ∙ q); contexts = h.contexts; dryness = h.dryness })
   where
     two : (xs : List Live) (d : ℕ) → has (map live_ctx (xs ++ a.0 ∷ [])) d ≡ (has (map live_ctx xs) d || (a.0.ctx == d))
     two [] d = last (a.0.ctx == d)
@@ -200,7 +200,7 @@ send_opened m n c body cs dry a k h =
         assoc false q r = refl
 
     go : (d : ℕ) (b : Bool) → has (map live_ctx (without_live c m.live.items)) d ≡ b → (has (map live_ctx (without_live c m.live.items)) d || (a.0.ctx == d)) ≡ true → has cs d ≡ true
-    go d true e q = h.homes d (ctx_less c d m.live.items e)
+    go d true e q = h.of_contexts d (ctx_less c d m.live.items e)
     go d false e q =
         let on : (a.0.ctx == d) ≡ true = sym (ap (λ b. b || (a.0.ctx == d)) e) ∙ q in
         subst (λ n. has cs n ≡ true) (sym a.1.0 ∙ equal_of a.0.ctx d on) k
@@ -325,8 +325,8 @@ closed_asked m t totals l h =
     none [] e = tt
     none (w ∷ ws) e = absurd cc
 
-pub closed_opened : (m : Machine) (t : Moment) → Ties m t → Opened [] m.seats.items (ctxs (past t)) (λ c. is_dry (past t) c)
-closed_opened m t h = record { homes = λ c q. absurd cc; contexts = h.4.contexts; dryness = h.4.dryness }
+pub closed_opened : (m : Machine) (t : Moment) → Ties m t → Opened [] m.contexts.items (ctxs (past t)) (λ c. is_dry (past t) c)
+closed_opened m t h = record { of_contexts = λ c q. absurd cc; contexts = h.4.contexts; dryness = h.4.dryness }
 
 -- ---- What it finds before
 
@@ -395,10 +395,10 @@ does_is m t c act b h e =
     both Recv = refl
     both (Send x) = refl
 
-pub open_is : (m : Machine) (t : Moment) (c : ℕ) (ss : List ReqContextView) (b o : Bool) → Ties m t → ss ≡ m.seats.items → o ≡ list_any (λ (s : ReqContextView). s.ctx == c) ss → o ≡ b → has (ctxs (past t)) c ≡ b
-open_is m t c ss b o h e k f = ap (λ cs. has cs c) (sym h.4.contexts) ∙ same m.seats.items ∙ ap (list_any (λ (s : ReqContextView). s.ctx == c)) (sym e) ∙ sym k ∙ f
+pub open_is : (m : Machine) (t : Moment) (c : ℕ) (ss : List ReqContextView) (b o : Bool) → Ties m t → ss ≡ m.contexts.items → o ≡ list_any (λ (s : ReqContextView). s.ctx == c) ss → o ≡ b → has (ctxs (past t)) c ≡ b
+open_is m t c ss b o h e k f = ap (λ cs. has cs c) (sym h.4.contexts) ∙ same m.contexts.items ∙ ap (list_any (λ (s : ReqContextView). s.ctx == c)) (sym e) ∙ sym k ∙ f
   where
-    same : (ss : List ReqContextView) → has (map seat_ctx ss) c ≡ list_any (λ (s : ReqContextView). s.ctx == c) ss
+    same : (ss : List ReqContextView) → has (map context_number ss) c ≡ list_any (λ (s : ReqContextView). s.ctx == c) ss
     same [] = refl
     same (s ∷ ss) = ap (λ b. (s.ctx == c) || b) (same ss)
 
@@ -464,8 +464,8 @@ asked_ops e h = rw e h
 pub opened_live : {xs ys : List Live} {ss : List ReqContextView} {cs : List ℕ} {dry : ℕ → Bool} → ys ≡ xs → Opened xs ss cs dry → Opened ys ss cs dry
 opened_live e h = rw e h
 
-pub opened_seats : {xs : List Live} {ss rs : List ReqContextView} {cs : List ℕ} {dry : ℕ → Bool} → rs ≡ ss → Opened xs ss cs dry → Opened xs rs cs dry
-opened_seats e h = rw e h
+pub opened_contexts : {xs : List Live} {ss rs : List ReqContextView} {cs : List ℕ} {dry : ℕ → Bool} → rs ≡ ss → Opened xs ss cs dry → Opened xs rs cs dry
+opened_contexts e h = rw e h
 
 pub down_items : (m : Machine) (t : Moment) (p : ℕ) (why : Why) → Ties m t → m.raw ≡ true → map item_of m.kept.items ≡ pool t.z (Down p why ∷ past t) 0
 down_items m t p why h r = h.2 r ∙ sym (go t.z.role (is_req_role m t h))
@@ -513,7 +513,7 @@ trimmed_is p old new (Err u) h e f = let long : nat_lt (length old.body) 4 ≡ f
 pub all_begun : (m n : Machine) (t : Moment) (op : OpName) (c : ℕ) (x : MessageView) (d : Option ℕ) (ws : List Asking) → m.raw ≡ false → Lawful (also t (Begin op t.caller c (Send (text_of x)) d)) → Ties m t → Asks c x.body m n
     → ws ≡ n.waiting.items ++ record { op = op; ctx = c; message = Some x; is_orphan = false } ∷ []
     → SetTo n.raw n.options n.tick n.last_pipe (kind_of t.z) (now (past t)) (out_last (past t)) × Knows n.ports.items (up (past t)) (ups (past t)) (λ q. has_full t.turn q) × Keeps n.raw n.kept.items (pool t.z (past t) 0)
-    × Asked n.raw n.live.items n.last_id ws (pend (past t) ++ record { op = op; ctx = c; act = Send (text_of x) } ∷ []) (requests t.z (Begin op t.caller c (Send (text_of x)) d ∷ past t)) × Opened n.live.items n.seats.items (ctxs (past t)) (λ q. is_dry (past t) q)
+    × Asked n.raw n.live.items n.last_id ws (pend (past t) ++ record { op = op; ctx = c; act = Send (text_of x) } ∷ []) (requests t.z (Begin op t.caller c (Send (text_of x)) d ∷ past t)) × Opened n.live.items n.contexts.items (ctxs (past t)) (λ q. is_dry (past t) q)
     × (IsSeen n (ups (past t)) × AreReady n.ready n.live.items ws)
 all_begun m n t op c x d ws r l h a e = (
   rw (a.6, a.7, a.8, a.11) h.0,

@@ -41,15 +41,15 @@ use Rattle.proto_reqrep.specs.Reqs.{Ties, late_in, dry_in, AreReady, is_asked, w
 use Rattle.proto_requests.specs.FirstFound.{with_found}
 use Rattle.proto_reqrep.proofs.ReqStands.{given_raw, given_cooked, given_items, given_oldest, given_message}
 use Rattle.proto_reqrep.proofs.RequestMoments.{sent_raw, sent_raw_bytes, sent_cooked, sent_bytes, ctxs_sent, opened_as, opened_less, again_asked, again_live, again_cooked, dried_opened}
-use Rattle.proto_reqrep.proofs.ReqArrivals.{asked_live, asked_ops, opened_live, opened_seats}
+use Rattle.proto_reqrep.proofs.ReqArrivals.{asked_live, asked_ops, opened_live, opened_contexts}
 use Rattle.proto_live_requests.proofs.LiveIndexes.{length_same}
 use Rattle.proto_reqrep.proofs.WorkLeft.{less_waiting, fewer_live, fewer_due, fewer_ops, same_live, none_due, not_due, up_is, less_due, count_falls, count_narrowed, due_before, dry_not_due}
 use Rattle.proto_live_requests.proofs.RequestLives.{found_ctx}
 use Rattle.proto_requests.proofs.TestValues.{not_both, same_number}
 
 -- what went out on a pipe that is up is not due
-sent_not_due : (m : Machine) (t : Moment) (p : ℕ) → Ties m t → has (up (past t)) p ≡ true → (x : Live) → is_due m.options.resend m.tick m.ports.items m.seats.items (sent_at (record { pipe = p; when = m.tick }) x) ≡ false
-sent_not_due m t p h u x = not_due m.options.resend m.tick p m.ports.items m.seats.items x h.0.resend (ap (list_any (is_pipe p)) h.1.ports ∙ up_is _ (up (past t)) p ∙ u)
+sent_not_due : (m : Machine) (t : Moment) (p : ℕ) → Ties m t → has (up (past t)) p ≡ true → (x : Live) → is_due m.options.resend m.tick m.ports.items m.contexts.items (sent_at (record { pipe = p; when = m.tick }) x) ≡ false
+sent_not_due m t p h u x = not_due m.options.resend m.tick p m.ports.items m.contexts.items x h.0.resend (ap (list_any (is_pipe p)) h.1.ports ∙ up_is _ (up (past t)) p ∙ u)
 
 -- ---- The pipe of the last Out
 
@@ -63,9 +63,9 @@ set_out : {raw : Bool} {options : Options} {tick last t out p : ℕ} {k : Kind} 
 set_out h = record { kind = h.kind; resend = h.resend; moment = h.moment; outs = refl }
 
 module _ (m n : Machine) (ws : WaitsView Asking) (t : Moment) (op : OpName) (s : Begun) (w : Asking) (h : Ties m t) (f : Some w ≡ find (is_asked op) m.waiting.items) (e : ws.items ≡ without_first op m.waiting.items)
-    (same : n ≡ record { raw = m.raw; options = m.options; tick = m.tick; last_id = m.last_id; last_pipe = n.last_pipe; ports = m.ports; roomy = n.roomy; retried = m.retried; kept = n.kept; live = n.live; dues = n.dues; waiting = ws; ready = m.ready; seats = m.seats }) where
+    (same : n ≡ record { raw = m.raw; options = m.options; tick = m.tick; last_id = m.last_id; last_pipe = n.last_pipe; ports = m.ports; roomy = n.roomy; retried = m.retried; kept = n.kept; live = n.live; dues = n.dues; waiting = ws; ready = m.ready; contexts = m.contexts }) where
   abbrev is : Machine
-  is = record { raw = m.raw; options = m.options; tick = m.tick; last_id = m.last_id; last_pipe = n.last_pipe; ports = m.ports; roomy = n.roomy; retried = m.retried; kept = n.kept; live = n.live; dues = n.dues; waiting = ws; ready = m.ready; seats = m.seats }
+  is = record { raw = m.raw; options = m.options; tick = m.tick; last_id = m.last_id; last_pipe = n.last_pipe; ports = m.ports; roomy = n.roomy; retried = m.retried; kept = n.kept; live = n.live; dues = n.dues; waiting = ws; ready = m.ready; contexts = m.contexts }
 
   pub given_all : (text : RecordedMessage) (r : Option MessageView) → CanGive t op s text → w.message ≡ None → n.last_pipe ≡ m.last_pipe → n.dues ≡ m.dues
       → (m.raw ≡ true → (r ≡ option_map (λ (k : KeptReply). k.message) (head_of m.kept.items)) × (n.kept.items ≡ drop 1 m.kept.items) × (n.live ≡ m.live))
@@ -87,7 +87,7 @@ module _ (m n : Machine) (ws : WaitsView Asking) (t : Moment) (op : OpName) (s :
       go false q =
           let k = cooked q in
           let ties : Ties is (also t (End op (Won (Received text)))) =
-          (set_same pipe h.0, h.1, λ v. not_both v q, asked_live k.1 (asked_ops e (given_cooked m t op s w text h g f q none)), opened_live k.1 (opened_less w.ctx m.live.items m.seats.items _ _ h.4), (rw dues (seen_less m.dues (late_in m) (dry_in m) (ups (past t)) (is_live_on w.ctx) m.live.items n.live.items k.1 h.5.0), ready_live m.ready m.live.items n.live.items ws.items (λ v x. keeps_less v (is_live_on w.ctx) m.live.items n.live.items k.1 x) (ready_fewer m.ready m.live.items (is_asked op) m.waiting.items ws.items e h.5.1))) in
+          (set_same pipe h.0, h.1, λ v. not_both v q, asked_live k.1 (asked_ops e (given_cooked m t op s w text h g f q none)), opened_live k.1 (opened_less w.ctx m.live.items m.contexts.items _ _ h.4), (rw dues (seen_less m.dues (late_in m) (dry_in m) (ups (past t)) (is_live_on w.ctx) m.live.items n.live.items k.1 h.5.0), ready_live m.ready m.live.items n.live.items ws.items (λ v x. keeps_less v (is_live_on w.ctx) m.live.items n.live.items k.1 x) (ready_fewer m.ready m.live.items (is_asked op) m.waiting.items ws.items e h.5.1))) in
           let ops = fewer_ops (is_asked op) m.waiting.items ws.items w f e in
           let less : work_left is < work_left m = less_waiting _ _ _ _ _ _ _ (fewer_live w.ctx m.live.items n.live.items k.1) (fewer_due _ w.ctx m.live.items n.live.items k.1) ops in (
             ap (option_map text_of) k.0 ∙ given_message m t op s w text h g f q,
@@ -115,7 +115,7 @@ module _ (m n : Machine) (ws : WaitsView Asking) (t : Moment) (op : OpName) (s :
           let live = cooked q in
           let y = sent_bytes m t op p s b w x h g f some q in
           let ties : Ties is (also (also t (Out p b)) (End op (Won Sent))) =
-          (set_on pipe h.0, h.1, λ v. not_both v q, asked_live live (asked_ops e (sent_cooked m t op p s b w x h g f some q)), opened_as m.live.items n.live.items m.seats.items _ _ (ap (map live_ctx) live ∙ ctxs_sent w.ctx (record { pipe = p; when = m.tick }) m.live.items) h.4, (let now = out_now m t p h g.is_up in rw live (notes q (late_in m) (dry_in m) (ups (past t)) now.0 now.1 h.5.0), ready_live m.ready m.live.items n.live.items ws.items (λ v k. sym (keeps_same v (is_live_on w.ctx) (sent_at (record { pipe = p; when = m.tick })) m.live.items n.live.items (λ z. refl) live) ∙ k) (ready_fewer m.ready m.live.items (is_asked op) m.waiting.items ws.items e h.5.1))) in
+          (set_on pipe h.0, h.1, λ v. not_both v q, asked_live live (asked_ops e (sent_cooked m t op p s b w x h g f some q)), opened_as m.live.items n.live.items m.contexts.items _ _ (ap (map live_ctx) live ∙ ctxs_sent w.ctx (record { pipe = p; when = m.tick }) m.live.items) h.4, (let now = out_now m t p h g.is_up in rw live (notes q (late_in m) (dry_in m) (ups (past t)) now.0 now.1 h.5.0), ready_live m.ready m.live.items n.live.items ws.items (λ v k. sym (keeps_same v (is_live_on w.ctx) (sent_at (record { pipe = p; when = m.tick })) m.live.items n.live.items (λ z. refl) live) ∙ k) (ready_fewer m.ready m.live.items (is_asked op) m.waiting.items ws.items e h.5.1))) in
           let ops = fewer_ops (is_asked op) m.waiting.items ws.items w f e in
           let less : work_left is < work_left m =
           less_waiting _ _ _ _ _ _ _ (same_live _ _ m.live.items n.live.items live) (none_due _ w.ctx (sent_at (record { pipe = p; when = m.tick })) m.live.items n.live.items (λ z o. sent_not_due m t p h g.is_up z) live) ops in (
@@ -127,7 +127,7 @@ module _ (m n : Machine) (ws : WaitsView Asking) (t : Moment) (op : OpName) (s :
 -- ---- Whether a request is due
 
 -- as the history says it, where its context is not dry
-pub due_is : (m : Machine) (t : Moment) → Ties m t → (x : Live) → dry_at x.ctx m.seats.items ≡ false → is_due m.options.resend m.tick m.ports.items m.seats.items x ≡ is_due_again t.z (past t) (request_of x)
+pub due_is : (m : Machine) (t : Moment) → Ties m t → (x : Live) → dry_at x.ctx m.contexts.items ≡ false → is_due m.options.resend m.tick m.ports.items m.contexts.items x ≡ is_due_again t.z (past t) (request_of x)
 due_is m t h x d = rw d (plain (is_some x.reply) (is_late_in m.options.resend m.tick m.ports.items x.last_out) ∙ ap (λ b. b && is_late_in m.options.resend m.tick m.ports.items x.last_out) (nil_is x.reply) ∙ ap (λ b. is_nil (items_of x.reply) && b) (late x.last_out))
   where
     plain : (a b : Bool) → (not a && (b && true)) ≡ (not a && b)
@@ -153,29 +153,29 @@ none_again m t c p r h g f e =
     let bad : None ≡ Some y.0 = sym f ∙ ap (find (is_live_on c)) e ∙ y.1 in absurd cc
 
 -- it is due by what the machine knows
-due_now : (m : Machine) (t : Moment) (c p : ℕ) (r : LiveRequest) (h : Ties m t) (g : CanAgain t c p r) → is_due m.options.resend m.tick m.ports.items m.seats.items (again_live m t c p r h g).0 ≡ true
+due_now : (m : Machine) (t : Moment) (c p : ℕ) (r : LiveRequest) (h : Ties m t) (g : CanAgain t c p r) → is_due m.options.resend m.tick m.ports.items m.contexts.items (again_live m t c p r h g).0 ≡ true
 due_now m t c p r h g =
     let y = again_live m t c p r h g in
     let rr : request_of y.0 ≡ r = y.2 in
     let due : is_due_again t.z (past t) (request_of y.0) ≡ true = ap (is_due_again t.z (past t)) rr ∙ g.due in
     let on : y.0.ctx ≡ c = found_ctx c m.live.items y.0 y.1 in
-    let not_dry : dry_at y.0.ctx m.seats.items ≡ false = ap (λ n. dry_at n m.seats.items) on ∙ h.4.dryness c g.ctx_open ∙ g.not_dry in
+    let not_dry : dry_at y.0.ctx m.contexts.items ≡ false = ap (λ n. dry_at n m.contexts.items) on ∙ h.4.dryness c g.ctx_open ∙ g.not_dry in
     due_is m t h y.0 not_dry ∙ due
 
-pub again_dry : (m : Machine) (t : Moment) (c p : ℕ) (r : LiveRequest) → Ties m t → CanAgain t c p r → (ss : List ReqContextView) (v : DuesView) → ss ≡ map (dried c) m.seats.items → AreSeen v (late_in m) (λ q. dry_at q ss) (ups (past t)) m.live.items
+pub again_dry : (m : Machine) (t : Moment) (c p : ℕ) (r : LiveRequest) → Ties m t → CanAgain t c p r → (ss : List ReqContextView) (v : DuesView) → ss ≡ map (dried c) m.contexts.items → AreSeen v (late_in m) (λ q. dry_at q ss) (ups (past t)) m.live.items
     → SetTo m.raw m.options m.tick m.last_pipe (kind_of t.z) (now (past t)) (out_last (past t)) × Knows m.ports.items (up (past t)) (ups (past t)) (λ q. has_full t.turn q) × Keeps m.raw m.kept.items (pool t.z (Dry c ∷ past t) 0)
     × Asked m.raw m.live.items m.last_id m.waiting.items (pend (past t)) (requests t.z (past t)) × Opened m.live.items ss (ctxs (past t)) (λ d. (c == d) || is_dry (past t) d)
     × (AreSeen v (late_in m) (λ q. dry_at q ss) (ups (past t)) m.live.items × AreReady m.ready m.live.items m.waiting.items)
-again_dry m t c p r h g ss v e s = (h.0, h.1, λ v. not_both v (again_cooked m t c p r h g), h.3, opened_seats e (dried_opened c m.live.items m.seats.items (ctxs (past t)) (λ d. is_dry (past t) d) h.4), (s, h.5.1))
+again_dry m t c p r h g ss v e s = (h.0, h.1, λ v. not_both v (again_cooked m t c p r h g), h.3, opened_contexts e (dried_opened c m.live.items m.contexts.items (ctxs (past t)) (λ d. is_dry (past t) d) h.4), (s, h.5.1))
 
-pub dry_less : (m : Machine) (t : Moment) (c p : ℕ) (r : LiveRequest) → Ties m t → CanAgain t c p r → (ss : List ReqContextView) → ss ≡ map (dried c) m.seats.items
+pub dry_less : (m : Machine) (t : Moment) (c p : ℕ) (r : LiveRequest) → Ties m t → CanAgain t c p r → (ss : List ReqContextView) → ss ≡ map (dried c) m.contexts.items
     → free_count m.ports.items * (length m.live.items + 1) + due_count (is_due m.options.resend m.tick m.ports.items ss) m.live.items + length m.waiting.items < work_left m
 dry_less m t c p r h g ss e =
     let y = again_live m t c p r h g in
-    let f : ℕ → Bool = λ d. dry_at d (map (dried c) m.seats.items) in
-    let dry : dry_at c (map (dried c) m.seats.items) ≡ true = (dried_opened c m.live.items m.seats.items (ctxs (past t)) (λ d. is_dry (past t) d) h.4).dryness c g.ctx_open ∙ same c in
-    rw e (less_due _ _ _ _ _ (count_narrowed (is_due m.options.resend m.tick m.ports.items m.seats.items) (is_due m.options.resend m.tick m.ports.items (map (dried c) m.seats.items)) c m.live.items y.0 y.1 (due_now m t c p r h g)
-    (λ x q. due_before m.options.resend m.tick c m.ports.items m.seats.items x q) (λ x o. dry_not_due m.options.resend m.tick c m.ports.items (map (dried c) m.seats.items) x o dry)))
+    let f : ℕ → Bool = λ d. dry_at d (map (dried c) m.contexts.items) in
+    let dry : dry_at c (map (dried c) m.contexts.items) ≡ true = (dried_opened c m.live.items m.contexts.items (ctxs (past t)) (λ d. is_dry (past t) d) h.4).dryness c g.ctx_open ∙ same c in
+    rw e (less_due _ _ _ _ _ (count_narrowed (is_due m.options.resend m.tick m.ports.items m.contexts.items) (is_due m.options.resend m.tick m.ports.items (map (dried c) m.contexts.items)) c m.live.items y.0 y.1 (due_now m t c p r h g)
+    (λ x q. due_before m.options.resend m.tick c m.ports.items m.contexts.items x q) (λ x o. dry_not_due m.options.resend m.tick c m.ports.items (map (dried c) m.contexts.items) x o dry)))
   where
     same : (c : ℕ) → ((c == c) || is_dry (past t) c) ≡ true
     same c = ap (λ b. b || is_dry (past t) c) (same_number c)
@@ -183,16 +183,16 @@ dry_less m t c p r h g ss e =
 pub again_out : (m : Machine) (t : Moment) (c p : ℕ) (r : LiveRequest) → Ties m t → CanAgain t c p r → (xs : List Live) (v : DuesView) (x : MessageView) → xs ≡ with_found (is_live_on c) (sent_at (record { pipe = p; when = m.tick })) m.live.items → NotesOut m.dues v m.live.items c (record { pipe = p; when = m.tick })
     → ((y : Live) → find (is_live_on c) m.live.items ≡ Some y → wire_text x ≡ word y.id ++ y.copy.body)
     → (wire_text x ≡ wire_of r) × (SetTo m.raw m.options m.tick p (kind_of t.z) (now (past t)) p × Knows m.ports.items (up (past t)) (ups (past t)) (λ q. has_full t.turn q) × Keeps m.raw m.kept.items (pool t.z (past t) 0)
-    × Asked m.raw xs m.last_id m.waiting.items (pend (past t)) (requests t.z (Out p (wire_of r) ∷ past t)) × Opened xs m.seats.items (ctxs (past t)) (λ d. is_dry (past t) d) × (AreSeen v (late_in m) (dry_in m) (ups (past t)) xs × AreReady m.ready xs m.waiting.items))
+    × Asked m.raw xs m.last_id m.waiting.items (pend (past t)) (requests t.z (Out p (wire_of r) ∷ past t)) × Opened xs m.contexts.items (ctxs (past t)) (λ d. is_dry (past t) d) × (AreSeen v (late_in m) (dry_in m) (ups (past t)) xs × AreReady m.ready xs m.waiting.items))
 again_out m t c p r h g xs v x e f w =
     let y = again_live m t c p r h g in (
       w y.0 y.1 ∙ ap wire_of y.2,
-      (set_out h.0, h.1, h.2, asked_live e (again_asked m t c p r h g), opened_as m.live.items xs m.seats.items _ _ (ap (map live_ctx) e ∙ ctxs_sent c (record { pipe = p; when = m.tick }) m.live.items) h.4, (let now = out_now m t p h g.is_up in rw e (f (late_in m) (dry_in m) (ups (past t)) now.0 now.1 h.5.0), ready_live m.ready m.live.items xs m.waiting.items (λ v q. sym (keeps_same v (is_live_on c) (sent_at (record { pipe = p; when = m.tick })) m.live.items xs (λ z. refl) e) ∙ q) h.5.1)),
+      (set_out h.0, h.1, h.2, asked_live e (again_asked m t c p r h g), opened_as m.live.items xs m.contexts.items _ _ (ap (map live_ctx) e ∙ ctxs_sent c (record { pipe = p; when = m.tick }) m.live.items) h.4, (let now = out_now m t p h g.is_up in rw e (f (late_in m) (dry_in m) (ups (past t)) now.0 now.1 h.5.0), ready_live m.ready m.live.items xs m.waiting.items (λ v q. sym (keeps_same v (is_live_on c) (sent_at (record { pipe = p; when = m.tick })) m.live.items xs (λ z. refl) e) ∙ q) h.5.1)),
     )
 
 pub out_less : (m : Machine) (t : Moment) (c p : ℕ) (r : LiveRequest) → Ties m t → CanAgain t c p r → (xs : List Live) → xs ≡ with_found (is_live_on c) (sent_at (record { pipe = p; when = m.tick })) m.live.items
-    → free_count m.ports.items * (length xs + 1) + due_count (is_due m.options.resend m.tick m.ports.items m.seats.items) xs + length m.waiting.items < work_left m
+    → free_count m.ports.items * (length xs + 1) + due_count (is_due m.options.resend m.tick m.ports.items m.contexts.items) xs + length m.waiting.items < work_left m
 out_less m t c p r h g xs e =
     let y = again_live m t c p r h g in
     let long = length_same (is_live_on c) (sent_at (record { pipe = p; when = m.tick })) m.live.items in
-    rw (e, long) (less_due _ _ _ _ _ (count_falls (is_due m.options.resend m.tick m.ports.items m.seats.items) c (sent_at (record { pipe = p; when = m.tick })) m.live.items y.0 y.1 (due_now m t c p r h g) (λ z o. sent_not_due m t p h g.is_up z)))
+    rw (e, long) (less_due _ _ _ _ _ (count_falls (is_due m.options.resend m.tick m.ports.items m.contexts.items) c (sent_at (record { pipe = p; when = m.tick })) m.live.items y.0 y.1 (due_now m t c p r h g) (λ z o. sent_not_due m t p h g.is_up z)))

@@ -36,7 +36,7 @@ use Rattle.proto_reqrep.specs.declared.req.Request.{Request as Machine}
 use Rattle.proto_live_requests.specs.declared.live.Live.{Live}
 use Rattle.proto_reqrep.specs.declared.req.Asking.{Asking}
 use Rattle.sp_proto.specs.Kinds.{act_of}
-use Rattle.proto_live_requests.specs.LiveRequests.{without_live, live_ctx, is_live_on, request_of, sent_at, dry_at, dried, wetted, seat_ctx}
+use Rattle.proto_live_requests.specs.LiveRequests.{without_live, live_ctx, is_live_on, request_of, sent_at, dry_at, dried, wetted, context_number}
 use Rattle.proto_reqrep.specs.Reqs.{Ties, Asked, req_kind, begun_of, is_asked, is_sending, is_sending_on, without_first, HaveLive, IsOf, Opened}
 use Rattle.proto_requests.specs.FirstFound.{with_found}
 use Rattle.proto_reqrep.proofs.OwnedRequests.{owned_at, only_send}
@@ -148,10 +148,10 @@ ctxs_sent c o (x ∷ xs) = go (x.ctx == c) (ctxs_sent c o xs)
     go false h = ap (λ (rest : List ℕ). x.ctx ∷ rest) h
 
 pub opened_as : (xs ys : List Live) (ss : List ReqContextView) (cs : List ℕ) (dry : ℕ → Bool) → map live_ctx ys ≡ map live_ctx xs → Opened xs ss cs dry → Opened ys ss cs dry
-opened_as xs ys ss cs dry e h = record { homes = λ c k. h.homes c (ap (λ l. has l c) (sym e) ∙ k); contexts = h.contexts; dryness = h.dryness }
+opened_as xs ys ss cs dry e h = record { of_contexts = λ c k. h.of_contexts c (ap (λ l. has l c) (sym e) ∙ k); contexts = h.contexts; dryness = h.dryness }
 
 pub opened_less : (c : ℕ) (xs : List Live) (ss : List ReqContextView) (cs : List ℕ) (dry : ℕ → Bool) → Opened xs ss cs dry → Opened (without_live c xs) ss cs dry
-opened_less c xs ss cs dry h = record { homes = λ d k. h.homes d (ctx_less c d xs k); contexts = h.contexts; dryness = h.dryness }
+opened_less c xs ss cs dry h = record { of_contexts = λ d k. h.of_contexts d (ctx_less c d xs k); contexts = h.contexts; dryness = h.dryness }
 
 -- ---- A request goes out again
 
@@ -207,9 +207,9 @@ module _ (m : Machine) (t : Moment) (c p : ℕ) (r : LiveRequest) (h : Ties m t)
 -- ---- A context is dry
 
 pub dried_opened : (c : ℕ) (xs : List Live) (ss : List ReqContextView) (cs : List ℕ) (dry : ℕ → Bool) → Opened xs ss cs dry → Opened xs (map (dried c) ss) cs (λ d. (c == d) || dry d)
-dried_opened c xs ss cs dry h = record { homes = h.homes; contexts = same ss ∙ h.contexts; dryness = λ d k. marks d ss (ap (λ l. has l d) h.contexts ∙ k) ∙ ap (λ b. (c == d) || b) (h.dryness d k) }
+dried_opened c xs ss cs dry h = record { of_contexts = h.of_contexts; contexts = same ss ∙ h.contexts; dryness = λ d k. marks d ss (ap (λ l. has l d) h.contexts ∙ k) ∙ ap (λ b. (c == d) || b) (h.dryness d k) }
   where
-    same : (ss : List ReqContextView) → map seat_ctx (map (dried c) ss) ≡ map seat_ctx ss
+    same : (ss : List ReqContextView) → map context_number (map (dried c) ss) ≡ map context_number ss
     same [] = refl
     same (s ∷ ss) = ap (λ (rest : List ℕ). s.ctx ∷ rest) (same ss)
 
@@ -227,20 +227,20 @@ dried_opened c xs ss cs dry h = record { homes = h.homes; contexts = same ss ∙
         go true f false g false = refl
         go true f true g y = absurd (third s.ctx d c f g e)
 
-    it : (d : ℕ) (ss : List ReqContextView) → (c == d) ≡ true → has (map seat_ctx ss) d ≡ true → dry_at d (map (dried c) ss) ≡ true
+    it : (d : ℕ) (ss : List ReqContextView) → (c == d) ≡ true → has (map context_number ss) d ≡ true → dry_at d (map (dried c) ss) ≡ true
     it d [] e k = absurd cc
     it d (s ∷ ss) e k = go (s.ctx == d) refl (s.ctx == c) refl s.is_dry k (it d ss e)
       where
         third : (l m n : ℕ) → (l == m) ≡ true → (l == n) ≡ false → (n == m) ≡ true → ⊥
         third l m n a b k = grind (arith, nat_tests)
 
-        go : (a : Bool) → (s.ctx == d) ≡ a → (b : Bool) → (s.ctx == c) ≡ b → (y : Bool) → (a || has (map seat_ctx ss) d) ≡ true → (has (map seat_ctx ss) d ≡ true → dry_at d (map (dried c) ss) ≡ true) → (a && (y || b) || dry_at d (map (dried c) ss)) ≡ true
+        go : (a : Bool) → (s.ctx == d) ≡ a → (b : Bool) → (s.ctx == c) ≡ b → (y : Bool) → (a || has (map context_number ss) d) ≡ true → (has (map context_number ss) d ≡ true → dry_at d (map (dried c) ss) ≡ true) → (a && (y || b) || dry_at d (map (dried c) ss)) ≡ true
         go false f b g y k again = again k
         go true f true g true k again = refl
         go true f true g false k again = refl
         go true f false g y k again = absurd (third s.ctx d c f g e)
 
-    marks : (d : ℕ) (ss : List ReqContextView) → has (map seat_ctx ss) d ≡ true → dry_at d (map (dried c) ss) ≡ ((c == d) || dry_at d ss)
+    marks : (d : ℕ) (ss : List ReqContextView) → has (map context_number ss) d ≡ true → dry_at d (map (dried c) ss) ≡ ((c == d) || dry_at d ss)
     marks d ss k = go (c == d) refl
       where
         go : (b : Bool) → (c == d) ≡ b → dry_at d (map (dried c) ss) ≡ (b || dry_at d ss)
@@ -248,9 +248,9 @@ dried_opened c xs ss cs dry h = record { homes = h.homes; contexts = same ss ∙
         go false e = other d ss e
 
 pub wetted_opened : (xs : List Live) (ss : List ReqContextView) (cs : List ℕ) (dry : ℕ → Bool) → Opened xs ss cs dry → Opened xs (map wetted ss) cs (λ d. false)
-wetted_opened xs ss cs dry h = record { homes = h.homes; contexts = same ss ∙ h.contexts; dryness = λ d k. none d ss }
+wetted_opened xs ss cs dry h = record { of_contexts = h.of_contexts; contexts = same ss ∙ h.contexts; dryness = λ d k. none d ss }
   where
-    same : (ss : List ReqContextView) → map seat_ctx (map wetted ss) ≡ map seat_ctx ss
+    same : (ss : List ReqContextView) → map context_number (map wetted ss) ≡ map context_number ss
     same [] = refl
     same (s ∷ ss) = ap (λ (rest : List ℕ). s.ctx ∷ rest) (same ss)
 
@@ -264,15 +264,15 @@ wetted_opened xs ss cs dry h = record { homes = h.homes; contexts = same ss ∙ 
 
 -- ---- Contexts are opened and shut
 
-pub opened_before : (m : Machine) (t : Moment) (c : ℕ) → Lawful (also t (Ctx c Open)) → Ties m t → list_all (is_before seat_ctx c) m.seats.items ≡ true
-opened_before m t c l h = seen_before seat_ctx m.seats.items t c l h.4.contexts
+pub opened_before : (m : Machine) (t : Moment) (c : ℕ) → Lawful (also t (Ctx c Open)) → Ties m t → list_all (is_before context_number c) m.contexts.items ≡ true
+opened_before m t c l h = seen_before context_number m.contexts.items t c l h.4.contexts
 
-pub opened_more : (m : Machine) (t : Moment) (c : ℕ) → Lawful (also t (Ctx c Open)) → Ties m t → Opened m.live.items (m.seats.items ++ record { ctx = c; is_dry = false } ∷ []) (ctxs (past t) ++ c ∷ []) (λ d. is_dry (past t) d)
+pub opened_more : (m : Machine) (t : Moment) (c : ℕ) → Lawful (also t (Ctx c Open)) → Ties m t → Opened m.live.items (m.contexts.items ++ record { ctx = c; is_dry = false } ∷ []) (ctxs (past t) ++ c ∷ []) (λ d. is_dry (past t) d)
 opened_more m t c l h =
     record {
-      homes = λ d k. has_first (ctxs (past t)) (c ∷ []) d (h.4.homes d k);
-      contexts = map-append seat_ctx m.seats.items (record { ctx = c; is_dry = false } ∷ []) ∙ ap (λ (cs : List ℕ). cs ++ c ∷ []) h.4.contexts;
-      dryness = λ d k. one m.seats.items d ∙ go d (has (ctxs (past t)) d) refl k;
+      of_contexts = λ d k. has_first (ctxs (past t)) (c ∷ []) d (h.4.of_contexts d k);
+      contexts = map-append context_number m.contexts.items (record { ctx = c; is_dry = false } ∷ []) ∙ ap (λ (cs : List ℕ). cs ++ c ∷ []) h.4.contexts;
+      dryness = λ d k. one m.contexts.items d ∙ go d (has (ctxs (past t)) d) refl k;
     }
   where
     new : c ≡ opened (past t) + 1
@@ -286,11 +286,11 @@ opened_more m t c l h =
         last false = refl
     one (s ∷ ss) d = ap (λ b. (s.ctx == d) && s.is_dry || b) (one ss d)
 
-    absent : (ss : List ReqContextView) (d : ℕ) → has (map seat_ctx ss) d ≡ false → dry_at d ss ≡ false
+    absent : (ss : List ReqContextView) (d : ℕ) → has (map context_number ss) d ≡ false → dry_at d ss ≡ false
     absent [] d k = refl
     absent (s ∷ ss) d k = step (s.ctx == d) s.is_dry k (absent ss d)
       where
-        step : (a y : Bool) → (a || has (map seat_ctx ss) d) ≡ false → (has (map seat_ctx ss) d ≡ false → dry_at d ss ≡ false) → (a && y || dry_at d ss) ≡ false
+        step : (a y : Bool) → (a || has (map context_number ss) d) ≡ false → (has (map context_number ss) d ≡ false → dry_at d ss ≡ false) → (a && y || dry_at d ss) ≡ false
         step true y k again = absurd cc
         step false y k again = again k
 
@@ -306,27 +306,27 @@ opened_more m t c l h =
         step true a b again = absurd cc
         step false a b again = again a b
 
-    go : (d : ℕ) (b : Bool) → has (ctxs (past t)) d ≡ b → has (ctxs (past t) ++ c ∷ []) d ≡ true → dry_at d m.seats.items ≡ is_dry (past t) d
+    go : (d : ℕ) (b : Bool) → has (ctxs (past t)) d ≡ b → has (ctxs (past t) ++ c ∷ []) d ≡ true → dry_at d m.contexts.items ≡ is_dry (past t) d
     go d true e k = h.4.dryness d e
     go d false e k =
         let is : c ≡ d = equal_of c d (is_last (ctxs (past t)) d e k) in
         let above : opened (past t) < d = omega (arith, new, is) in
-        absent m.seats.items d (ap (λ cs. has cs d) h.4.contexts ∙ e) ∙ sym (next_not_dry t.z (past t) d (lawful_before t (Ctx c Open) l) above)
+        absent m.contexts.items d (ap (λ cs. has cs d) h.4.contexts ∙ e) ∙ sym (next_not_dry t.z (past t) d (lawful_before t (Ctx c Open) l) above)
 
-pub shut_opened : (m : Machine) (t : Moment) (c : ℕ) (ss : List ReqContextView) → Ties m t → ss ≡ filter (λ (s : ReqContextView). not (s.ctx == c)) m.seats.items → Opened (without_live c m.live.items) ss (without (ctxs (past t)) c) (λ d. is_dry (past t) d)
+pub shut_opened : (m : Machine) (t : Moment) (c : ℕ) (ss : List ReqContextView) → Ties m t → ss ≡ filter (λ (s : ReqContextView). not (s.ctx == c)) m.contexts.items → Opened (without_live c m.live.items) ss (without (ctxs (past t)) c) (λ d. is_dry (past t) d)
 shut_opened m t c ss h e =
     record {
-      homes = λ d k. has_still (ctxs (past t)) c d (h.4.homes d (ctx_less c d m.live.items k)) (away d k);
-      contexts = ap (map seat_ctx) e ∙ less m.seats.items ∙ ap (λ cs. without cs c) h.4.contexts;
-      dryness = λ d k. let q = there (ctxs (past t)) d k in ap (dry_at d) e ∙ stays d m.seats.items q.1 ∙ h.4.dryness d q.0;
+      of_contexts = λ d k. has_still (ctxs (past t)) c d (h.4.of_contexts d (ctx_less c d m.live.items k)) (away d k);
+      contexts = ap (map context_number) e ∙ less m.contexts.items ∙ ap (λ cs. without cs c) h.4.contexts;
+      dryness = λ d k. let q = there (ctxs (past t)) d k in ap (dry_at d) e ∙ stays d m.contexts.items q.1 ∙ h.4.dryness d q.0;
     }
   where
-    less : (ss : List ReqContextView) → map seat_ctx (filter (λ (s : ReqContextView). not (s.ctx == c)) ss) ≡ without (map seat_ctx ss) c
+    less : (ss : List ReqContextView) → map context_number (filter (λ (s : ReqContextView). not (s.ctx == c)) ss) ≡ without (map context_number ss) c
     less [] = refl
     less (s ∷ ss) = go (s.ctx == c) (less ss)
       where
-        go : (b : Bool) → map seat_ctx (filter (λ (s : ReqContextView). not (s.ctx == c)) ss) ≡ without (map seat_ctx ss) c
-            → map seat_ctx (cond (not b) (s ∷ filter (λ (s : ReqContextView). not (s.ctx == c)) ss) (filter (λ (s : ReqContextView). not (s.ctx == c)) ss)) ≡ cond (not b) (s.ctx ∷ without (map seat_ctx ss) c) (without (map seat_ctx ss) c)
+        go : (b : Bool) → map context_number (filter (λ (s : ReqContextView). not (s.ctx == c)) ss) ≡ without (map context_number ss) c
+            → map context_number (cond (not b) (s ∷ filter (λ (s : ReqContextView). not (s.ctx == c)) ss) (filter (λ (s : ReqContextView). not (s.ctx == c)) ss)) ≡ cond (not b) (s.ctx ∷ without (map context_number ss) c) (without (map context_number ss) c)
         go true k = k
         go false k = ap (λ (rest : List ℕ). s.ctx ∷ rest) k
 

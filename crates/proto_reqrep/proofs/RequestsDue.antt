@@ -43,14 +43,14 @@ is_false false h = refl
 pub due_parts : (m : Machine) (x : Live) → due_in m x ≡ true → (o : LastOut) × (x.reply ≡ None) × (x.last_out ≡ Some o) × (late_in m o ≡ true) × (dry_in m x.ctx ≡ false)
 due_parts m x h = go x.reply refl x.last_out refl h
   where
-    go : (r : Option KeptReply) → x.reply ≡ r → (l : Option LastOut) → x.last_out ≡ l → (not (is_some r) && (is_late_in m.options.resend m.tick m.ports.items l && not (dry_at x.ctx m.seats.items))) ≡ true → (o : LastOut) × (x.reply ≡ None) × (x.last_out ≡ Some o) × (late_in m o ≡ true) × (dry_in m x.ctx ≡ false)
+    go : (r : Option KeptReply) → x.reply ≡ r → (l : Option LastOut) → x.last_out ≡ l → (not (is_some r) && (is_late_in m.options.resend m.tick m.ports.items l && not (dry_at x.ctx m.contexts.items))) ≡ true → (o : LastOut) × (x.reply ≡ None) × (x.last_out ≡ Some o) × (late_in m o ≡ true) × (dry_in m x.ctx ≡ false)
     go (Some k) e l f h = absurd cc
     go None e None f h = absurd cc
     go None e (Some o) f h = (o, e, f, first_of _ _ h, is_false _ (second_of (late_in m o) _ h))
 
 pub due_made : (m : Machine) (x : Live) (o : LastOut) → x.reply ≡ None → x.last_out ≡ Some o → late_in m o ≡ true → dry_in m x.ctx ≡ false → due_in m x ≡ true
 due_made m x o r l e d =
-    ap (λ (y : Option KeptReply). not (is_some y) && (is_late_in m.options.resend m.tick m.ports.items x.last_out && not (dry_at x.ctx m.seats.items))) r ∙ ap (λ (y : Option LastOut). is_late_in m.options.resend m.tick m.ports.items y && not (dry_at x.ctx m.seats.items)) l
+    ap (λ (y : Option KeptReply). not (is_some y) && (is_late_in m.options.resend m.tick m.ports.items x.last_out && not (dry_at x.ctx m.contexts.items))) r ∙ ap (λ (y : Option LastOut). is_late_in m.options.resend m.tick m.ports.items y && not (dry_at x.ctx m.contexts.items)) l
     ∙ both _ _ e (ap not d)
 
 pub due_found : (m : Machine) (c : ℕ) → is_due_out m (awaited (find (is_live_on c) m.live.items)) c ≡ true → IsDueOn m c
@@ -188,8 +188,8 @@ dry_opened c d [] = go (c == d)
     go false = refl
 dry_opened c d (s ∷ ss) = ap (λ b. ((s.ctx == d) && s.is_dry) || b) (dry_opened c d ss)
 
-pub seen_opened : (m : Machine) (last c : ℕ) (rs : List ReqContextView) → rs ≡ m.seats.items ++ record { ctx = c; is_dry = false } ∷ [] → IsSeen m last → AreSeen m.dues (late_in m) (λ q. dry_at q rs) last m.live.items
-seen_opened m last c rs e h = seen_late m.dues (late_in m) (late_in m) (dry_in m) (λ q. dry_at q rs) last last m.live.items (λ o k. refl) (λ q. ap (dry_at q) e ∙ dry_opened c q m.seats.items) (omega arith) h
+pub seen_opened : (m : Machine) (last c : ℕ) (rs : List ReqContextView) → rs ≡ m.contexts.items ++ record { ctx = c; is_dry = false } ∷ [] → IsSeen m last → AreSeen m.dues (late_in m) (λ q. dry_at q rs) last m.live.items
+seen_opened m last c rs e h = seen_late m.dues (late_in m) (late_in m) (dry_in m) (λ q. dry_at q rs) last last m.live.items (λ o k. refl) (λ q. ap (dry_at q) e ∙ dry_opened c q m.contexts.items) (omega arith) h
 
 -- context 0 of a new req is not dry
 pub none_dry : (q : ℕ) (ss : List ReqContextView) → ss ≡ record { ctx = 0; is_dry = false } ∷ [] → dry_at q ss ≡ false
@@ -228,11 +228,11 @@ dry_fewer c d (s ∷ ss) h = go (s.ctx == c) h (dry_fewer c d ss)
     go false h again = keep ((s.ctx == d) && s.is_dry) h again
 
 -- the context is closed, and no request of it is live any more
-pub seen_shut : (m : Machine) (t : Moment) (last c : ℕ) (xs : List Live) (rs : List ReqContextView) → Ties m t → rs ≡ filter (λ (s : ReqContextView). not (s.ctx == c)) m.seats.items → xs ≡ without_live c m.live.items → AreDistinct (map live_ctx xs) → IsSeen m last → AreSeen m.dues (late_in m) (λ q. dry_at q rs) last xs
+pub seen_shut : (m : Machine) (t : Moment) (last c : ℕ) (xs : List Live) (rs : List ReqContextView) → Ties m t → rs ≡ filter (λ (s : ReqContextView). not (s.ctx == c)) m.contexts.items → xs ≡ without_live c m.live.items → AreDistinct (map live_ctx xs) → IsSeen m last → AreSeen m.dues (late_in m) (λ q. dry_at q rs) last xs
 seen_shut m t last c xs rs h e f a s =
     let less = seen_less m.dues (late_in m) (dry_in m) last (is_live_on c) m.live.items xs f s in
-    seen_live m.dues m.dues (late_in m) (late_in m) (dry_in m) (λ q. dry_at q rs) last last xs a (λ q k. less.1 q (dry_fewer c q m.seats.items (sym (ap (dry_at q) e) ∙ k)))
-    (λ q o z k. ap (λ b. nat_le o.pipe last && cond (late_in m o) (b || covers m.dues.due q) (covers_by m.dues.outs (is_sent q o))) (ap (dry_at q) e ∙ dry_shut c q m.seats.items (other q o z (q == c) refl)) ∙ k) less
+    seen_live m.dues m.dues (late_in m) (late_in m) (dry_in m) (λ q. dry_at q rs) last last xs a (λ q k. less.1 q (dry_fewer c q m.contexts.items (sym (ap (dry_at q) e) ∙ k)))
+    (λ q o z k. ap (λ b. nat_le o.pipe last && cond (late_in m o) (b || covers m.dues.due q) (covers_by m.dues.outs (is_sent q o))) (ap (dry_at q) e ∙ dry_shut c q m.contexts.items (other q o z (q == c) refl)) ∙ k) less
   where
     gone : has (map live_ctx xs) c ≡ false
     gone = rw f (gone_on c m.live.items h.3.places)

@@ -36,7 +36,7 @@ use Rattle.proto_live_requests.specs.declared.live.Live.{Live}
 use Rattle.proto_live_requests.specs.declared.live.KeptReply.{KeptReply}
 use Rattle.proto_reqrep.specs.declared.req.Asking.{Asking}
 use Rattle.proto_live_requests.specs.ReqContexts.{ReqContextView}
-use Rattle.proto_live_requests.specs.LiveRequests.{seat_ctx, dry_at, item_of, request_of, live_ctx, live_id, is_live_on, without_live, keeps_reply, reply_in, OnePerContext, AreSound}
+use Rattle.proto_live_requests.specs.LiveRequests.{context_number, dry_at, item_of, request_of, live_ctx, live_id, is_live_on, without_live, keeps_reply, reply_in, OnePerContext, AreSound}
 use Rattle.proto_requests.specs.FirstFound.{without_found}
 use Rattle.proto_requests.specs.Ids.{number_after, raw_item}
 
@@ -120,11 +120,11 @@ abbrev pub late_in : Machine → LastOut → Bool
 late_in m o = is_late m.options.resend m.tick m.ports.items o
 
 abbrev pub dry_in : Machine → ℕ → Bool
-dry_in m c = dry_at c m.seats.items
+dry_in m c = dry_at c m.contexts.items
 
 -- the live request may go out again
 abbrev pub due_in : Machine → Live → Bool
-due_in m x = is_due m.options.resend m.tick m.ports.items m.seats.items x
+due_in m x = is_due m.options.resend m.tick m.ports.items m.contexts.items x
 
 -- none may go out again
 abbrev pub NoneDue : Machine → Type 0
@@ -187,7 +187,7 @@ places_left m = m.waiting.room
 -- each pipe that is free may take one more of all requests, when it goes down
 abbrev pub work_left : Machine → ℕ
 work_left m =
-    free_count m.ports.items * (length m.live.items + 1) + due_count (is_due m.options.resend m.tick m.ports.items m.seats.items) m.live.items + length m.waiting.items
+    free_count m.ports.items * (length m.live.items + 1) + due_count (is_due m.options.resend m.tick m.ports.items m.contexts.items) m.live.items + length m.waiting.items
 
 -- ---- What calls do
 
@@ -205,7 +205,7 @@ abbrev pub Asks : ℕ → List ℕ → Machine → Machine → Type 0
 Asks c body m n =
     (x : Live) × IsNew m c body x × (length (without_live c m.live.items) < 2 ^ 31) × (n.live.items ≡ without_live c m.live.items ++ x ∷ [])
     × (n.waiting.items ≡ map (orphaned c) m.waiting.items) × (n.last_id ≡ Some x.id)
-    × (n.raw ≡ m.raw) × (n.options ≡ m.options) × (n.tick ≡ m.tick) × (n.ports ≡ m.ports) × (n.kept ≡ m.kept) × (n.last_pipe ≡ m.last_pipe) × (n.seats ≡ m.seats) × (n.ready ≡ m.ready)
+    × (n.raw ≡ m.raw) × (n.options ≡ m.options) × (n.tick ≡ m.tick) × (n.ports ≡ m.ports) × (n.kept ≡ m.kept) × (n.last_pipe ≡ m.last_pipe) × (n.contexts ≡ m.contexts) × (n.ready ≡ m.ready)
     × (OnePerContext m.live.items → StaySeen m.dues n.dues m.live.items)
 
 -- none begins
@@ -323,10 +323,10 @@ pub record Asked (raw : Bool) (xs : List Live) (id : Option ℕ) (ws : List Aski
   pub owned : raw ≡ false → HaveLive xs ws
 
 -- the open contexts, those of the live requests among them, and which are dry
-pub record Opened (xs : List Live) (seats : List ReqContextView) (cs : List ℕ) (dry : ℕ → Bool) : Type 0 where
-  pub homes : (c : ℕ) → has (map live_ctx xs) c ≡ true → has cs c ≡ true
-  pub contexts : map seat_ctx seats ≡ cs
-  pub dryness : (c : ℕ) → has cs c ≡ true → dry_at c seats ≡ dry c
+pub record Opened (xs : List Live) (all : List ReqContextView) (cs : List ℕ) (dry : ℕ → Bool) : Type 0 where
+  pub of_contexts : (c : ℕ) → has (map live_ctx xs) c ≡ true → has cs c ≡ true
+  pub contexts : map context_number all ≡ cs
+  pub dryness : (c : ℕ) → has cs c ≡ true → dry_at c all ≡ dry c
 
 -- raw, what it keeps
 abbrev pub Keeps : Bool → List KeptReply → List Item → Type 0
@@ -339,7 +339,7 @@ Stands m r =
     × Knows m.ports.items r.up r.ups r.full
     × Keeps m.raw m.kept.items (r.pool 0)
     × Asked m.raw m.live.items m.last_id m.waiting.items r.pend r.requests
-    × Opened m.live.items m.seats.items r.ctxs r.dry
+    × Opened m.live.items m.contexts.items r.ctxs r.dry
     × IsCalm m r.ups
 
 abbrev pub Ties : Machine → Moment → Type 0

@@ -166,14 +166,14 @@ impl Request {
 
     // The live request may go out again.
     fn is_due(&self, x: &Live) -> bool
-        ensures { result ≡ is_due self.now.options.resend self.now.tick self.now.ports.items self.now.seats.items x.now }
+        ensures { result ≡ is_due self.now.options.resend self.now.tick self.now.ports.items self.now.contexts.items x.now }
     {
         if x.reply.is_some() {
             return false;
         }
         match x.last_out {
             None => false,
-            Some(out) => self.is_late(out) && !self.seats.is_dry(x.ctx),
+            Some(out) => self.is_late(out) && !self.contexts.is_dry(x.ctx),
         }
     }
 
@@ -186,7 +186,7 @@ impl Request {
 
     // A live request stands there that may go out again.
     fn is_due_at(&self, s: &Spot<Live>) -> bool
-        ensures { result ≡ holds (is_due self.now.options.resend self.now.tick self.now.ports.items self.now.seats.items) s.now }
+        ensures { result ≡ holds (is_due self.now.options.resend self.now.tick self.now.ports.items self.now.contexts.items) s.now }
     {
         match &s.value {
             None => false,
@@ -196,7 +196,7 @@ impl Request {
 
     // Where the first of these stands that may go out again.
     fn due_among(&self, list: &[Spot<Live>]) -> Option<usize>
-        ensures { result ≡ position (holds (is_due self.now.options.resend self.now.tick self.now.ports.items self.now.seats.items)) list.now }
+        ensures { result ≡ position (holds (is_due self.now.options.resend self.now.tick self.now.ports.items self.now.contexts.items)) list.now }
     {
         list.iter().position(|s| self.is_due_at(s))
     }
@@ -207,7 +207,7 @@ impl Request {
     {
         match self.live.out_of(c) {
             None => false,
-            Some(out) => self.is_late(out) && !self.seats.is_dry(c),
+            Some(out) => self.is_late(out) && !self.contexts.is_dry(c),
         }
     }
 

@@ -57,7 +57,7 @@ impl Waiter for Asking {
 
     ghost name_of = { λ w. w.op };
 
-    ghost home_of = { λ w. w.ctx };
+    ghost context_of = { λ w. w.ctx };
 
     ghost is_send = { λ w. is_some w.message };
 
@@ -120,7 +120,7 @@ pub struct Request {
     /// The contexts that have both a receive and a reply are among these.
     pub(crate) ready: Hints<u32>,
     /// Of the open contexts.
-    pub(crate) seats: ReqContexts,
+    pub(crate) contexts: ReqContexts,
 }
 
 // ---- Operations
@@ -319,7 +319,7 @@ impl Request {
     {
         match ReqContexts::new(alloc) {
             Err(e) => Err(e),
-            Ok(seats) => Ok(Request {
+            Ok(contexts) => Ok(Request {
                 raw,
                 options,
                 tick: Tick(0),
@@ -333,7 +333,7 @@ impl Request {
                 ready: Hints::new(alloc),
                 roomy: BTreeSet::new(alloc),
                 retried: PipeId(0),
-                seats,
+                contexts,
             }),
         }
     }
@@ -525,7 +525,7 @@ impl Proto for Request {
         if self.raw && c.0 != 0 {
             return Err(CheckError::NotSupported);
         }
-        if !self.seats.has(c) {
+        if !self.contexts.has(c) {
             return Err(CheckError::NoEntry);
         }
         if !self.raw && self.has_state(c, verb) {
@@ -610,7 +610,7 @@ impl Proto for Request {
     fn again(&mut self, c: Ctx, p: PipeId) -> Option<Message> {
         match self.live.copy_of(c) {
             None => {
-                self.seats.dry(c);
+                self.contexts.dry(c);
                 self.dues.note_dry(c);
                 None
             }
@@ -655,17 +655,17 @@ impl Proto for Request {
 
     fn clock(&mut self, now: Tick) {
         self.tick = now;
-        self.seats.wet();
+        self.contexts.wet();
         self.dues.tick(&self.live, now, self.options.resend);
     }
 
     fn open_ctx(&mut self, c: Ctx) -> Result<(), NoMemory> {
-        self.seats.open(c)
+        self.contexts.open(c)
     }
 
     fn close_ctx(&mut self, c: Ctx) {
         let _ = self.live.take_live(c);
-        self.seats.close(c);
+        self.contexts.close(c);
     }
 
     fn topic(&mut self, c: Ctx, t: &[u8], on: bool) -> Result<bool, NoMemory> {

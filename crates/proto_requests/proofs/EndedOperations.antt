@@ -89,15 +89,15 @@ covered P C (x ∷ xs) m k = go (P x) refl k (covered P C xs m.1)
 
 -- ---- Of some kind, on a context
 
-module _ {A : Type 0} (home : A → ℕ) (R : A → Bool) (c : ℕ) where
-  pub at_most : (xs : List A) → AreDistinct (map home (filter R xs)) → AtMostOne (λ x. R x && (home x == c)) xs
+module _ {A : Type 0} (context : A → ℕ) (R : A → Bool) (c : ℕ) where
+  pub at_most : (xs : List A) → AreDistinct (map context (filter R xs)) → AtMostOne (λ x. R x && (context x == c)) xs
   at_most [] h = tt
   at_most (x ∷ xs) h = go (R x) h (at_most xs)
     where
-      here : has (map home (filter R xs)) (home x) ≡ false → (home x == c) ≡ true → list_any (λ x. R x && (home x == c)) xs ≡ false
-      here h e = sym (any_kind home R c xs) ∙ sym (any_has home (filter R xs) c) ∙ ap (has (map home (filter R xs))) (sym (equal_of (home x) c e)) ∙ h
+      here : has (map context (filter R xs)) (context x) ≡ false → (context x == c) ≡ true → list_any (λ x. R x && (context x == c)) xs ≡ false
+      here h e = sym (any_kind context R c xs) ∙ sym (any_has context (filter R xs) c) ∙ ap (has (map context (filter R xs))) (sym (equal_of (context x) c e)) ∙ h
 
-      go : (b : Bool) → AreDistinct (map home (cond b (x ∷ filter R xs) (filter R xs))) → (AreDistinct (map home (filter R xs)) → AtMostOne (λ x. R x && (home x == c)) xs) → ((b && (home x == c)) ≡ true → list_any (λ x. R x && (home x == c)) xs ≡ false) × AtMostOne (λ x. R x && (home x == c)) xs
+      go : (b : Bool) → AreDistinct (map context (cond b (x ∷ filter R xs) (filter R xs))) → (AreDistinct (map context (filter R xs)) → AtMostOne (λ x. R x && (context x == c)) xs) → ((b && (context x == c)) ≡ true → list_any (λ x. R x && (context x == c)) xs ≡ false) × AtMostOne (λ x. R x && (context x == c)) xs
       go true h again = (λ e. here h.0 e, again h.1)
       go false h again = (λ e. absurd cc, again h)
 
@@ -111,40 +111,40 @@ at_most_spots P (s ∷ ss) m = go s.value m (at_most_spots P ss)
 
 -- ---- Requests end
 
-module _ {A : Type 0} (name : A → OpName) (home : A → ℕ) (sends is_left : A → Bool) (left : A → A) (same : (x : A) → (name (left x) ≡ name x) × (home (left x) ≡ home x) × (sends (left x) ≡ sends x)) (again : (x : A) → is_left x ≡ true → left x ≡ x) (c : ℕ) where
+module _ {A : Type 0} (name : A → OpName) (context : A → ℕ) (sends is_left : A → Bool) (left : A → A) (same : (x : A) → (name (left x) ≡ name x) × (context (left x) ≡ context x) × (sends (left x) ≡ sends x)) (again : (x : A) → is_left x ≡ true → left x ≡ x) (c : ℕ) where
   abbrev P : A → Bool
-  P = is_kind_on sends is_left home false c
+  P = is_kind_on sends is_left context false c
 
   abbrev Q : A → Bool
-  Q = is_kind_on sends is_left home true c
+  Q = is_kind_on sends is_left context true c
 
   abbrev F : Spot A → Spot A
-  F = left_spot home left c
+  F = left_spot context left c
 
   stays : (s : Spot A) → holds P s ≡ false → holds Q s ≡ false → F s ≡ s
   stays s h k = ap (λ (v : Option A). record { number = s.number; value = v }) (go s.value h k)
     where
-      at : (x : A) (a : Bool) → sends x ≡ a → (b : Bool) → is_left x ≡ b → (e : Bool) → (home x == c) ≡ e → (not a && e) ≡ false → ((a && not b) && e) ≡ false → cond e (left x) x ≡ x
+      at : (x : A) (a : Bool) → sends x ≡ a → (b : Bool) → is_left x ≡ b → (e : Bool) → (context x == c) ≡ e → (not a && e) ≡ false → ((a && not b) && e) ≡ false → cond e (left x) x ≡ x
       at x false i b j true l h k = absurd cc
       at x true i false j true l h k = absurd cc
       at x true i true j true l h k = again x j
       at x a i b j false l h k = refl
 
-      go : (v : Option A) → any_in P v ≡ false → any_in Q v ≡ false → option_map (left_on home left c) v ≡ v
+      go : (v : Option A) → any_in P v ≡ false → any_in Q v ≡ false → option_map (left_on context left c) v ≡ v
       go None h k = refl
-      go (Some x) h k = ap (λ (y : A). Some y) (ap (λ b. cond b (left x) x) (turned (home x) c (home x == c) refl) ∙ at x (sends x) refl (is_left x) refl (home x == c) refl h k)
+      go (Some x) h k = ap (λ (y : A). Some y) (ap (λ b. cond b (left x) x) (turned (context x) c (context x == c) refl) ∙ at x (sends x) refl (is_left x) refl (context x == c) refl h k)
 
   isnt_both : (x : A) → P x ≡ true → Q x ≡ false
   isnt_both x = go (sends x)
     where
-      go : (a : Bool) → (not a && (home x == c)) ≡ true → ((a && not (is_left x)) && (home x == c)) ≡ false
+      go : (a : Bool) → (not a && (context x == c)) ≡ true → ((a && not (is_left x)) && (context x == c)) ≡ false
       go true h = absurd cc
       go false h = refl
 
-  isnt_then : (x : A) → P x ≡ true → Q (left_on home left c x) ≡ false
-  isnt_then x h = go (c == home x)
+  isnt_then : (x : A) → P x ≡ true → Q (left_on context left c x) ≡ false
+  isnt_then x h = go (c == context x)
     where
-      receives : (a : Bool) → (not a && (home x == c)) ≡ true → a ≡ false
+      receives : (a : Bool) → (not a && (context x == c)) ≡ true → a ≡ false
       receives true h = absurd cc
       receives false h = refl
 
@@ -152,7 +152,7 @@ module _ {A : Type 0} (name : A → OpName) (home : A → ℕ) (sends is_left : 
       still true = (same x).2 ∙ receives (sends x) h
       still false = receives (sends x) h
 
-      go : (b : Bool) → ((sends (cond b (left x) x) && not (is_left (cond b (left x) x))) && (home (cond b (left x) x) == c)) ≡ false
+      go : (b : Bool) → ((sends (cond b (left x) x) && not (is_left (cond b (left x) x))) && (context (cond b (left x) x) == c)) ≡ false
       go b = rw (still b) refl
 
   in_spots : (R S : A → Bool) (g : A → A) → ((x : A) → R x ≡ true → S (g x) ≡ false) → (v : Option A) → any_in R v ≡ true → any_in S (option_map g v) ≡ false
@@ -164,30 +164,30 @@ module _ {A : Type 0} (name : A → OpName) (home : A → ℕ) (sends is_left : 
   same_spots (Some x) h = isnt_both x h
 
   -- the receive and the send of the context are all that is left behind
-  pub left_two : (receives opens : List (ℕ × ℕ)) (ss ts us : List (Spot A)) → AreApartOn home sends is_left receives opens ss → ts ≡ with_found (holds P) F ss → us ≡ with_found (holds Q) F ts → us ≡ map F ss
+  pub left_two : (receives opens : List (ℕ × ℕ)) (ss ts us : List (Spot A)) → AreApartOn context sends is_left receives opens ss → ts ≡ with_found (holds P) F ss → us ≡ with_found (holds Q) F ts → us ≡ map F ss
   left_two receives opens ss ts us h e k =
       k ∙ ap (with_found (holds Q) F) e
-      ∙ both_changed F (holds P) (holds Q) ss stays (λ s. same_spots s.value) (λ s. in_spots P Q (left_on home left c) isnt_then s.value) (at_most_spots P ss (at_most home (isnt sends) c (held ss) h.0.1)) (at_most_spots Q ss (at_most home (is_open sends is_left) c (held ss) h.1.1))
+      ∙ both_changed F (holds P) (holds Q) ss stays (λ s. same_spots s.value) (λ s. in_spots P Q (left_on context left c) isnt_then s.value) (at_most_spots P ss (at_most context (isnt sends) c (held ss) h.0.1)) (at_most_spots Q ss (at_most context (is_open sends is_left) c (held ss) h.1.1))
 
   -- the place of the send is the same when the receive was left behind
   pub send_stays : (ss ts : List (Spot A)) → ts ≡ with_found (holds P) F ss → position (holds Q) ts ≡ position (holds Q) ss
-  send_stays ss ts e = ap (position (holds Q)) e ∙ place_kept F (holds P) (holds Q) ss (λ s. same_spots s.value) (λ s. in_spots P Q (left_on home left c) isnt_then s.value)
+  send_stays ss ts e = ap (position (holds Q)) e ∙ place_kept F (holds P) (holds Q) ss (λ s. same_spots s.value) (λ s. in_spots P Q (left_on context left c) isnt_then s.value)
 
   -- each of them is looked at
-  pub left_noted : (h g : HintsView OpName) (receives opens : List (ℕ × ℕ)) (ss us : List (Spot A)) → AreApartOn home sends is_left receives opens ss → us ≡ map F ss
-      → held us ≡ map (left_on home left c) (held ss)
+  pub left_noted : (h g : HintsView OpName) (receives opens : List (ℕ × ℕ)) (ss us : List (Spot A)) → AreApartOn context sends is_left receives opens ss → us ≡ map F ss
+      → held us ≡ map (left_on context left c) (held ss)
       → ((x : A) → find P (held ss) ≡ Some x → covers_by g (same_op (name x)) ≡ true) → ((x : A) → find Q (held ss) ≡ Some x → covers_by g (same_op (name x)) ≡ true) → ((R : OpName → Bool) → covers_by h R ≡ true → covers_by g R ≡ true)
       → list_any (is_overlooked name is_left h) (held ss) ≡ false → list_any (is_overlooked name is_left g) (held us) ≡ false
   left_noted h g receives opens ss us a e f p q m o =
       ap (list_any (is_overlooked name is_left g)) f
-      ∙ go (held ss) o (covered P C (held ss) (at_most home (isnt sends) c (held ss) a.0.1) p) (covered Q C (held ss) (at_most home (is_open sends is_left) c (held ss) a.1.1) q)
+      ∙ go (held ss) o (covered P C (held ss) (at_most context (isnt sends) c (held ss) a.0.1) p) (covered Q C (held ss) (at_most context (is_open sends is_left) c (held ss) a.1.1) q)
     where
       C : A → Bool
       C x = covers_by g (same_op (name x))
 
       -- one of them
-      here : (x : A) → (is_left x && not (covers_by h (same_op (name x)))) ≡ false → (P x && not (C x)) ≡ false → (Q x && not (C x)) ≡ false → is_overlooked name is_left g (left_on home left c x) ≡ false
-      here x i j k = step (c == home x) refl
+      here : (x : A) → (is_left x && not (covers_by h (same_op (name x)))) ≡ false → (P x && not (C x)) ≡ false → (Q x && not (C x)) ≡ false → is_overlooked name is_left g (left_on context left c x) ≡ false
+      here x i j k = step (c == context x) refl
         where
           seen : (a : Bool) → is_left x ≡ a → (a && not (covers_by h (same_op (name x)))) ≡ false → a ≡ true → C x ≡ true
           seen false e i b = absurd cc
@@ -201,13 +201,13 @@ module _ {A : Type 0} (name : A → OpName) (home : A → ℕ) (sends is_left : 
           old false e = refl
           old true e = ap not (seen (is_left x) refl i e)
 
-          all : (s l : Bool) → sends x ≡ s → is_left x ≡ l → (home x == c) ≡ true → C x ≡ true
-          all false l e f on = is_true (C x) (sym (ap (λ b. (not b && (home x == c)) && not (C x)) e ∙ ap (λ b. (true && b) && not (C x)) on) ∙ j)
+          all : (s l : Bool) → sends x ≡ s → is_left x ≡ l → (context x == c) ≡ true → C x ≡ true
+          all false l e f on = is_true (C x) (sym (ap (λ b. (not b && (context x == c)) && not (C x)) e ∙ ap (λ b. (true && b) && not (C x)) on) ∙ j)
             where
               is_true : (b : Bool) → not b ≡ false → b ≡ true
               is_true true h = refl
               is_true false h = absurd cc
-          all true false e f on = is_true (C x) (sym (ap (λ b. ((b && not (is_left x)) && (home x == c)) && not (C x)) e ∙ ap (λ b. ((true && not b) && (home x == c)) && not (C x)) f ∙ ap (λ b. b && not (C x)) on) ∙ k)
+          all true false e f on = is_true (C x) (sym (ap (λ b. ((b && not (is_left x)) && (context x == c)) && not (C x)) e ∙ ap (λ b. ((true && not b) && (context x == c)) && not (C x)) f ∙ ap (λ b. b && not (C x)) on) ∙ k)
             where
               is_true : (b : Bool) → not b ≡ false → b ≡ true
               is_true true h = refl
@@ -218,19 +218,19 @@ module _ {A : Type 0} (name : A → OpName) (home : A → ℕ) (sends is_left : 
           shut true = refl
           shut false = refl
 
-          step : (b : Bool) → (c == home x) ≡ b → is_overlooked name is_left g (cond b (left x) x) ≡ false
+          step : (b : Bool) → (c == context x) ≡ b → is_overlooked name is_left g (cond b (left x) x) ≡ false
           step false e = old (is_left x) refl
           step true e =
-              let it : C x ≡ true = all (sends x) (is_left x) refl refl (turned c (home x) true e) in
+              let it : C x ≡ true = all (sends x) (is_left x) refl refl (turned c (context x) true e) in
               ap (λ (n : OpName). is_left (left x) && not (covers_by g (same_op n))) (same x).0 ∙ ap (λ b. is_left (left x) && not b) it ∙ shut (is_left (left x))
 
-      go : (xs : List A) → list_any (is_overlooked name is_left h) xs ≡ false → list_any (λ x. P x && not (C x)) xs ≡ false → list_any (λ x. Q x && not (C x)) xs ≡ false → list_any (is_overlooked name is_left g) (map (left_on home left c) xs) ≡ false
+      go : (xs : List A) → list_any (is_overlooked name is_left h) xs ≡ false → list_any (λ x. P x && not (C x)) xs ≡ false → list_any (λ x. Q x && not (C x)) xs ≡ false → list_any (is_overlooked name is_left g) (map (left_on context left c) xs) ≡ false
       go [] i j k = refl
       go (x ∷ xs) i j k =
           let u = both_false (is_overlooked name is_left h x) (list_any (is_overlooked name is_left h) xs) i in
           let v = both_false (P x && not (C x)) (list_any (λ x. P x && not (C x)) xs) j in
           let w = both_false (Q x && not (C x)) (list_any (λ x. Q x && not (C x)) xs) k in
-          ap (λ b. b || list_any (is_overlooked name is_left g) (map (left_on home left c) xs)) (here x u.0 v.0 w.0) ∙ go xs u.1 v.1 w.1
+          ap (λ b. b || list_any (is_overlooked name is_left g) (map (left_on context left c) xs)) (here x u.0 v.0 w.0) ∙ go xs u.1 v.1 w.1
 
 -- ---- By its name
 

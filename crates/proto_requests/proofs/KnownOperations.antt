@@ -108,23 +108,23 @@ module _ {A : Type 0} where
             let w = stands P (slice_index_or ss i d).value t in
             absurd (kind_apart ss k i d v.0 w.0 h m l v.1 w.1 (q v.0 v.2) (q w.0 w.2) (s v.0 w.0 v.2 w.2))
 
-  pub kind_is : (home : A → ℕ) (R : A → Bool) (c : ℕ) (v : A) → (R v && (home v == c)) ≡ true → R v ≡ true
-  kind_is home R c v h = go (R v) h
+  pub kind_is : (context : A → ℕ) (R : A → Bool) (c : ℕ) (v : A) → (R v && (context v == c)) ≡ true → R v ≡ true
+  kind_is context R c v h = go (R v) h
     where
-      go : (b : Bool) → (b && (home v == c)) ≡ true → b ≡ true
+      go : (b : Bool) → (b && (context v == c)) ≡ true → b ≡ true
       go true h = refl
       go false h = absurd cc
 
-  on_home : (home : A → ℕ) (R : A → Bool) (c : ℕ) (v : A) → (R v && (home v == c)) ≡ true → home v ≡ c
-  on_home home R c v h = go (R v) (home v == c) refl h
+  on_context : (context : A → ℕ) (R : A → Bool) (c : ℕ) (v : A) → (R v && (context v == c)) ≡ true → context v ≡ c
+  on_context context R c v h = go (R v) (context v == c) refl h
     where
-      go : (a b : Bool) → (home v == c) ≡ b → (a && b) ≡ true → home v ≡ c
+      go : (a b : Bool) → (context v == c) ≡ b → (a && b) ≡ true → context v ≡ c
       go false b e h = absurd cc
-      go true true e h = equal_of (home v) c e
+      go true true e h = equal_of (context v) c e
       go true false e h = absurd cc
 
-  pub same_home : (home : A → ℕ) (R : A → Bool) (c : ℕ) (v w : A) → (R v && (home v == c)) ≡ true → (R w && (home w == c)) ≡ true → home v ≡ home w
-  same_home home R c v w h k = on_home home R c v h ∙ sym (on_home home R c w k)
+  pub same_context : (context : A → ℕ) (R : A → Bool) (c : ℕ) (v w : A) → (R v && (context v == c)) ≡ true → (R w && (context w == c)) ≡ true → context v ≡ context w
+  same_context context R c v w h k = on_context context R c v h ∙ sym (on_context context R c w k)
 
   pub same_slot : (name : A → OpName) (op : OpName) (v w : A) → is_named name op v ≡ true → is_named name op w ≡ true → slot_of name v ≡ slot_of name w
   same_slot name op v w h k = same_op-slot (name v) op h ∙ sym (same_op-slot (name w) op k)
@@ -186,31 +186,31 @@ module _ {A : Type 0} where
 
   -- ---- Those of some kind, by their contexts
 
-  module _ (home : A → ℕ) (R : A → Bool) where
-    pub kind_less : (P : A → Bool) (old new : ℕ → Bool) (is_one : Bool) (n : ℕ) (xs ys : List A) (x : A) → IsIndexed home old (filter R xs) → find P xs ≡ Some x → is_one ≡ R x → n ≡ home x → ((q : ℕ) → new q ≡ cond is_one (cond (n == q) false (old q)) (old q)) → ys ≡ without_found P xs → IsIndexed home new (filter R ys)
+  module _ (context : A → ℕ) (R : A → Bool) where
+    pub kind_less : (P : A → Bool) (old new : ℕ → Bool) (is_one : Bool) (n : ℕ) (xs ys : List A) (x : A) → IsIndexed context old (filter R xs) → find P xs ≡ Some x → is_one ≡ R x → n ≡ context x → ((q : ℕ) → new q ≡ cond is_one (cond (n == q) false (old q)) (old q)) → ys ≡ without_found P xs → IsIndexed context new (filter R ys)
     kind_less P old new is_one n xs ys x h f i j u e = rw e (go is_one i u)
       where
-        go : (b : Bool) → b ≡ R x → ((q : ℕ) → new q ≡ cond b (cond (n == q) false (old q)) (old q)) → IsIndexed home new (filter R (without_found P xs))
+        go : (b : Bool) → b ≡ R x → ((q : ℕ) → new q ≡ cond b (cond (n == q) false (old q)) (old q)) → IsIndexed context new (filter R (without_found P xs))
         go false s u = let same = rest_other P R xs x f (sym s) in rw same (λ q. u q ∙ h.0 q, h.1)
-        go true s u = index_less home P old new (filter R xs) (filter R (without_found P xs)) x h (find_kept P R xs x f (sym s)) (λ q. u q ∙ ap (λ m. cond (m == q) false (old q)) j) (rest_kept P R xs x f (sym s))
+        go true s u = index_less context P old new (filter R xs) (filter R (without_found P xs)) x h (find_kept P R xs x f (sym s)) (λ q. u q ∙ ap (λ m. cond (m == q) false (old q)) j) (rest_kept P R xs x f (sym s))
 
-    pub kind_more : (old new : ℕ → Bool) (is_one : Bool) (n : ℕ) (xs ys : List A) (x : A) → IsIndexed home old (filter R xs) → is_one ≡ R x → n ≡ home x → (is_one ≡ false → (q : ℕ) → new q ≡ old q) → (is_one ≡ true → (old n ≡ false) × ((q : ℕ) → new q ≡ cond (n == q) true (old q))) → ys ≡ xs ++ x ∷ [] → IsIndexed home new (filter R ys)
-    kind_more old new is_one n xs ys x h i j s r e = rw (e, filter_more R xs (x ∷ [])) (subst (λ b. IsIndexed home new (filter R xs ++ cond b (x ∷ []) [])) i (go is_one s r))
+    pub kind_more : (old new : ℕ → Bool) (is_one : Bool) (n : ℕ) (xs ys : List A) (x : A) → IsIndexed context old (filter R xs) → is_one ≡ R x → n ≡ context x → (is_one ≡ false → (q : ℕ) → new q ≡ old q) → (is_one ≡ true → (old n ≡ false) × ((q : ℕ) → new q ≡ cond (n == q) true (old q))) → ys ≡ xs ++ x ∷ [] → IsIndexed context new (filter R ys)
+    kind_more old new is_one n xs ys x h i j s r e = rw (e, filter_more R xs (x ∷ [])) (subst (λ b. IsIndexed context new (filter R xs ++ cond b (x ∷ []) [])) i (go is_one s r))
       where
         end : (l : List A) → l ++ [] ≡ l
         end [] = refl
         end (y ∷ l) = ap (λ (k : List A). y ∷ k) (end l)
 
-        go : (b : Bool) → (b ≡ false → (q : ℕ) → new q ≡ old q) → (b ≡ true → (old n ≡ false) × ((q : ℕ) → new q ≡ cond (n == q) true (old q))) → IsIndexed home new (filter R xs ++ cond b (x ∷ []) [])
+        go : (b : Bool) → (b ≡ false → (q : ℕ) → new q ≡ old q) → (b ≡ true → (old n ≡ false) × ((q : ℕ) → new q ≡ cond (n == q) true (old q))) → IsIndexed context new (filter R xs ++ cond b (x ∷ []) [])
         go false s r = rw (end (filter R xs)) (λ q. s refl q ∙ h.0 q, h.1)
-        go true s r = let k = r refl in kept_more home old new (filter R xs) _ x h (ap old (sym j) ∙ k.0) (λ q. k.1 q ∙ ap (λ m. cond (m == q) true (old q)) j) refl
+        go true s r = let k = r refl in kept_more context old new (filter R xs) _ x h (ap old (sym j) ∙ k.0) (λ q. k.1 q ∙ ap (λ m. cond (m == q) true (old q)) j) refl
 
-    pub kind_changed : (known : ℕ → Bool) (f : A → A) (xs ys : List A) → ((x : A) → home (f x) ≡ home x) → ((x : A) → R (f x) ≡ R x) → ys ≡ map f xs → IsIndexed home known (filter R xs) → IsIndexed home known (filter R ys)
+    pub kind_changed : (known : ℕ → Bool) (f : A → A) (xs ys : List A) → ((x : A) → context (f x) ≡ context x) → ((x : A) → R (f x) ≡ R x) → ys ≡ map f xs → IsIndexed context known (filter R xs) → IsIndexed context known (filter R ys)
     kind_changed known f xs ys s t e h =
         let rest = filter_changed R f xs t in
-        rw (e, rest) (index_same home known (filter R xs) (map f (filter R xs)) h (keys_changed home f (filter R xs) s))
+        rw (e, rest) (index_same context known (filter R xs) (map f (filter R xs)) h (keys_changed context f (filter R xs) s))
 
-    pub kind_same : (old new : ℕ → Bool) (xs ys : List A) → IsIndexed home old (filter R xs) → ((q : ℕ) → new q ≡ old q) → ys ≡ xs → IsIndexed home new (filter R ys)
+    pub kind_same : (old new : ℕ → Bool) (xs ys : List A) → IsIndexed context old (filter R xs) → ((q : ℕ) → new q ≡ old q) → ys ≡ xs → IsIndexed context new (filter R ys)
     kind_same old new xs ys h u e = rw e (λ q. u q ∙ h.0 q, h.1)
 
   pub slots_changed : (key : A → ℕ) (known : ℕ → Bool) (f : A → A) (xs ys : List A) → ((x : A) → key (f x) ≡ key x) → ys ≡ map f xs → IsIndexed key known xs → IsIndexed key known ys
@@ -219,41 +219,41 @@ module _ {A : Type 0} where
   pub all_same : (key : A → ℕ) (old new : ℕ → Bool) (xs ys : List A) → IsIndexed key old xs → ((q : ℕ) → new q ≡ old q) → ys ≡ xs → IsIndexed key new ys
   all_same key old new xs ys h u e = rw e (λ q. u q ∙ h.0 q, h.1)
 
-  pub any_kind : (home : A → ℕ) (R : A → Bool) (c : ℕ) (xs : List A) → list_any (is_of home c) (filter R xs) ≡ list_any (λ x. R x && (home x == c)) xs
-  any_kind home R c [] = refl
-  any_kind home R c (x ∷ xs) = go (R x) (any_kind home R c xs)
+  pub any_kind : (context : A → ℕ) (R : A → Bool) (c : ℕ) (xs : List A) → list_any (is_of context c) (filter R xs) ≡ list_any (λ x. R x && (context x == c)) xs
+  any_kind context R c [] = refl
+  any_kind context R c (x ∷ xs) = go (R x) (any_kind context R c xs)
     where
-      go : (b : Bool) → list_any (is_of home c) (filter R xs) ≡ list_any (λ x. R x && (home x == c)) xs → list_any (is_of home c) (cond b (x ∷ filter R xs) (filter R xs)) ≡ (b && (home x == c) || list_any (λ x. R x && (home x == c)) xs)
-      go true k = ap (λ v. (home x == c) || v) k
+      go : (b : Bool) → list_any (is_of context c) (filter R xs) ≡ list_any (λ x. R x && (context x == c)) xs → list_any (is_of context c) (cond b (x ∷ filter R xs) (filter R xs)) ≡ (b && (context x == c) || list_any (λ x. R x && (context x == c)) xs)
+      go true k = ap (λ v. (context x == c) || v) k
       go false k = k
 
   -- no send of the context is open
-  opens_left : (home : A → ℕ) (sends is_left : A → Bool) (left : A → A) → ((x : A) → is_left (left x) ≡ true) → (c : ℕ) (xs : List A) → filter (is_open sends is_left) (map (left_on home left c) xs) ≡ filter (λ x. not (is_of home c x)) (filter (is_open sends is_left) xs)
-  opens_left home sends is_left left over c [] = refl
-  opens_left home sends is_left left over c (x ∷ xs) = go (c == home x) refl (is_open sends is_left x) refl (opens_left home sends is_left left over c xs)
+  opens_left : (context : A → ℕ) (sends is_left : A → Bool) (left : A → A) → ((x : A) → is_left (left x) ≡ true) → (c : ℕ) (xs : List A) → filter (is_open sends is_left) (map (left_on context left c) xs) ≡ filter (λ x. not (is_of context c x)) (filter (is_open sends is_left) xs)
+  opens_left context sends is_left left over c [] = refl
+  opens_left context sends is_left left over c (x ∷ xs) = go (c == context x) refl (is_open sends is_left x) refl (opens_left context sends is_left left over c xs)
     where
       R : A → Bool
       R = is_open sends is_left
 
       N : A → Bool
-      N x = not (is_of home c x)
+      N x = not (is_of context c x)
 
       shut : (b : Bool) → (b && false) ≡ false
       shut true = refl
       shut false = refl
 
-      go : (b : Bool) → (c == home x) ≡ b → (o : Bool) → is_open sends is_left x ≡ o → filter R (map (left_on home left c) xs) ≡ filter N (filter R xs)
-          → cond (R (cond b (left x) x)) (cond b (left x) x ∷ filter R (map (left_on home left c) xs)) (filter R (map (left_on home left c) xs)) ≡ filter N (cond o (x ∷ filter R xs) (filter R xs))
+      go : (b : Bool) → (c == context x) ≡ b → (o : Bool) → is_open sends is_left x ≡ o → filter R (map (left_on context left c) xs) ≡ filter N (filter R xs)
+          → cond (R (cond b (left x) x)) (cond b (left x) x ∷ filter R (map (left_on context left c) xs)) (filter R (map (left_on context left c) xs)) ≡ filter N (cond o (x ∷ filter R xs) (filter R xs))
       go true e o f k = let no : R (left x) ≡ false = ap (λ b. sends (left x) && not b) (over x) ∙ shut (sends (left x)) in rw no (k ∙ drops o)
         where
           drops : (o : Bool) → filter N (filter R xs) ≡ filter N (cond o (x ∷ filter R xs) (filter R xs))
-          drops true = let it : (home x == c) ≡ true = turned c (home x) true e in rw it refl
+          drops true = let it : (context x == c) ≡ true = turned c (context x) true e in rw it refl
           drops false = refl
-      go false e true f k = let it : (home x == c) ≡ false = turned c (home x) false e in rw (f, it) (ap (λ (l : List A). x ∷ l) k)
+      go false e true f k = let it : (context x == c) ≡ false = turned c (context x) false e in rw (f, it) (ap (λ (l : List A). x ∷ l) k)
       go false e false f k = rw f k
 
-  pub opens_less : (home : A → ℕ) (sends is_left : A → Bool) (left : A → A) → ((x : A) → is_left (left x) ≡ true) → (old new : ℕ → Bool) (c : ℕ) (xs ys : List A) → IsIndexed home old (filter (is_open sends is_left) xs) → ((q : ℕ) → new q ≡ cond (c == q) false (old q)) → ys ≡ map (left_on home left c) xs → IsIndexed home new (filter (is_open sends is_left) ys)
-  opens_less home sends is_left left over old new c xs ys h u e = rw e (kept_left home old new c (filter (is_open sends is_left) xs) _ h u (opens_left home sends is_left left over c xs))
+  pub opens_less : (context : A → ℕ) (sends is_left : A → Bool) (left : A → A) → ((x : A) → is_left (left x) ≡ true) → (old new : ℕ → Bool) (c : ℕ) (xs ys : List A) → IsIndexed context old (filter (is_open sends is_left) xs) → ((q : ℕ) → new q ≡ cond (c == q) false (old q)) → ys ≡ map (left_on context left c) xs → IsIndexed context new (filter (is_open sends is_left) ys)
+  opens_less context sends is_left left over old new c xs ys h u e = rw e (kept_left context old new c (filter (is_open sends is_left) xs) _ h u (opens_left context sends is_left left over c xs))
 
   -- ---- Those that are gone, or none
 
@@ -272,20 +272,20 @@ module _ {A : Type 0} where
   any_less P Q xs ys e h = ap (list_any P) e ∙ any_without P Q xs h
 
   -- what stays the same where requests end
-  pub on_same : {B : Type 0} (key : A → B) (home : A → ℕ) (left : A → A) (c : ℕ) → ((x : A) → key (left x) ≡ key x) → (x : A) → key (left_on home left c x) ≡ key x
-  on_same key home left c s x = go (c == home x)
+  pub on_same : {B : Type 0} (key : A → B) (context : A → ℕ) (left : A → A) (c : ℕ) → ((x : A) → key (left x) ≡ key x) → (x : A) → key (left_on context left c x) ≡ key x
+  on_same key context left c s x = go (c == context x)
     where
       go : (b : Bool) → key (cond b (left x) x) ≡ key x
       go true = s x
       go false = refl
 
-  pub held_left : (home : A → ℕ) (left : A → A) (c : ℕ) (ss : List (Spot A)) → held (map (left_spot home left c) ss) ≡ map (left_on home left c) (held ss)
-  held_left home left c [] = refl
-  held_left home left c (s ∷ ss) = go s.value (held_left home left c ss)
+  pub held_left : (context : A → ℕ) (left : A → A) (c : ℕ) (ss : List (Spot A)) → held (map (left_spot context left c) ss) ≡ map (left_on context left c) (held ss)
+  held_left context left c [] = refl
+  held_left context left c (s ∷ ss) = go s.value (held_left context left c ss)
     where
-      go : (v : Option A) → held (map (left_spot home left c) ss) ≡ map (left_on home left c) (held ss) → with_value (option_map (left_on home left c) v) (held (map (left_spot home left c) ss)) ≡ map (left_on home left c) (with_value v (held ss))
+      go : (v : Option A) → held (map (left_spot context left c) ss) ≡ map (left_on context left c) (held ss) → with_value (option_map (left_on context left c) v) (held (map (left_spot context left c) ss)) ≡ map (left_on context left c) (with_value v (held ss))
       go None k = k
-      go (Some x) k = ap (λ (l : List A). left_on home left c x ∷ l) k
+      go (Some x) k = ap (λ (l : List A). left_on context left c x ∷ l) k
 
   -- ---- Marks
 
@@ -293,9 +293,9 @@ module _ {A : Type 0} where
   longer [] s = refl
   longer (r ∷ ss) s = let k = longer ss s in omega (arith, k)
 
-  length_left : (home : A → ℕ) (left : A → A) (c : ℕ) (ss : List (Spot A)) → length (map (left_spot home left c) ss) ≡ length ss
-  length_left home left c [] = refl
-  length_left home left c (s ∷ ss) = let k = length_left home left c ss in omega (arith, k)
+  length_left : (context : A → ℕ) (left : A → A) (c : ℕ) (ss : List (Spot A)) → length (map (left_spot context left c) ss) ≡ length ss
+  length_left context left c [] = refl
+  length_left context left c (s ∷ ss) = let k = length_left context left c ss in omega (arith, k)
 
   module _ (P : A → Bool) where
     prefix : (n : ℕ) (ss : List (Spot A)) (s : Spot A) → n ≤ length ss → list_any (holds P) (take n ss) ≡ false → list_any (holds P) (take n (ss ++ s ∷ [])) ≡ false
@@ -328,17 +328,17 @@ module _ {A : Type 0} where
     pub mark_less : (n : ℕ) (ss ts : List (Spot A)) → length ts ≡ length ss → (list_any (holds P) (take n ss) ≡ false → list_any (holds P) (take n ts) ≡ false) → IsMark P n ss → IsMark P n ts
     mark_less n ss ts e f h = let b = h.bound in record { bound = omega (arith, e, b); none = f h.none }
 
-    none_left : (home : A → ℕ) (left : A → A) (c : ℕ) → ((x : A) → P (left_on home left c x) ≡ P x) → (n : ℕ) (ss : List (Spot A)) → list_any (holds P) (take n ss) ≡ false → list_any (holds P) (take n (map (left_spot home left c) ss)) ≡ false
-    none_left home left c s zero ss h = refl
-    none_left home left c s (suc n) [] h = refl
-    none_left home left c s (suc n) (r ∷ ss) h = let b = both_false (holds P r) (list_any (holds P) (take n ss)) h in ap (λ v. v || list_any (holds P) (take n (map (left_spot home left c) ss))) (go r.value ∙ b.0) ∙ none_left home left c s n ss b.1
+    none_left : (context : A → ℕ) (left : A → A) (c : ℕ) → ((x : A) → P (left_on context left c x) ≡ P x) → (n : ℕ) (ss : List (Spot A)) → list_any (holds P) (take n ss) ≡ false → list_any (holds P) (take n (map (left_spot context left c) ss)) ≡ false
+    none_left context left c s zero ss h = refl
+    none_left context left c s (suc n) [] h = refl
+    none_left context left c s (suc n) (r ∷ ss) h = let b = both_false (holds P r) (list_any (holds P) (take n ss)) h in ap (λ v. v || list_any (holds P) (take n (map (left_spot context left c) ss))) (go r.value ∙ b.0) ∙ none_left context left c s n ss b.1
       where
-        go : (v : Option A) → any_in P (option_map (left_on home left c) v) ≡ any_in P v
+        go : (v : Option A) → any_in P (option_map (left_on context left c) v) ≡ any_in P v
         go None = refl
         go (Some x) = s x
 
-    pub mark_left : (home : A → ℕ) (left : A → A) (c : ℕ) → ((x : A) → P (left_on home left c x) ≡ P x) → (n : ℕ) (ss ts : List (Spot A)) → ts ≡ map (left_spot home left c) ss → IsMark P n ss → IsMark P n ts
-    mark_left home left c s n ss ts e h = let k = length_left home left c ss in let b = h.bound in rw e (record { bound = omega (arith, k, b); none = none_left home left c s n ss h.none })
+    pub mark_left : (context : A → ℕ) (left : A → A) (c : ℕ) → ((x : A) → P (left_on context left c x) ≡ P x) → (n : ℕ) (ss ts : List (Spot A)) → ts ≡ map (left_spot context left c) ss → IsMark P n ss → IsMark P n ts
+    mark_left context left c s n ss ts e h = let k = length_left context left c ss in let b = h.bound in rw e (record { bound = omega (arith, k, b); none = none_left context left c s n ss h.none })
 
     -- the one at the first spot
     pub found_from : (Q : A → Bool) → ((x : A) → Q x ≡ true → P x ≡ true) → (n : ℕ) (ss ts : List (Spot A)) → ts ≡ drop n ss → list_any (holds P) (take n ss) ≡ false → find Q (held ts) ≡ find Q (held ss)

@@ -36,18 +36,18 @@ is_kind sends is_left false x = isnt sends x
 
 -- the same, on the context
 abbrev pub is_kind_on : {A : Type 0} → (A → Bool) → (A → Bool) → (A → ℕ) → Bool → ℕ → A → Bool
-is_kind_on sends is_left home send c x = is_kind sends is_left send x && (home x == c)
+is_kind_on sends is_left context send c x = is_kind sends is_left send x && (context x == c)
 
 -- a receive on the context
 abbrev pub receives_on : {A : Type 0} → (A → Bool) → (A → ℕ) → ℕ → A → Bool
-receives_on sends home c x = not (sends x) && (home x == c)
+receives_on sends context c x = not (sends x) && (context x == c)
 
 -- its request has ended, if it is of this context
 abbrev pub left_on : {A : Type 0} → (A → ℕ) → (A → A) → ℕ → A → A
-left_on home left c x = if c == home x then left x else x
+left_on context left c x = if c == context x then left x else x
 
 abbrev pub left_spot : {A : Type 0} → (A → ℕ) → (A → A) → ℕ → Spot A → Spot A
-left_spot home left c s = record { number = s.number; value = option_map (left_on home left c) s.value }
+left_spot context left c s = record { number = s.number; value = option_map (left_on context left c) s.value }
 
 -- the name of the one that was found, if its request has ended
 abbrev pub over_name : {A : Type 0} → (A → OpName) → (A → Bool) → Option A → Option OpName
@@ -73,15 +73,15 @@ pub record IsMark {A : Type 0} (P : A → Bool) (from : ℕ) (ss : List (Spot A)
 
 -- No two have one slot, no two receives one context, no two open sends one context, and these are known, if it is said.
 -- No send stands before the one spot, no receive before the other. Those whose requests have ended are to be looked at.
-pub record AreNoted {A : Type 0} (name : A → OpName) (home : A → ℕ) (sends : A → Bool) (is_left : A → Bool) (slots_known : Bool) (slots : List (ℕ × ℕ)) (receives_known : Bool) (receives : List (ℕ × ℕ)) (sends_known : Bool) (opens : List (ℕ × ℕ)) (send_from receive_from : ℕ) (ended : HintsView OpName) (ss : List (Spot A)) : Type 0 where
+pub record AreNoted {A : Type 0} (name : A → OpName) (context : A → ℕ) (sends : A → Bool) (is_left : A → Bool) (slots_known : Bool) (slots : List (ℕ × ℕ)) (receives_known : Bool) (receives : List (ℕ × ℕ)) (sends_known : Bool) (opens : List (ℕ × ℕ)) (send_from receive_from : ℕ) (ended : HintsView OpName) (ss : List (Spot A)) : Type 0 where
   pub by_slot : slots_known ≡ true → IsIndexed (slot_of name) (is_known slots) (held ss)
-  pub by_receive : receives_known ≡ true → IsIndexed home (is_known receives) (filter (isnt sends) (held ss))
-  pub by_send : sends_known ≡ true → IsIndexed home (is_known opens) (filter (is_open sends is_left) (held ss))
+  pub by_receive : receives_known ≡ true → IsIndexed context (is_known receives) (filter (isnt sends) (held ss))
+  pub by_send : sends_known ≡ true → IsIndexed context (is_known opens) (filter (is_open sends is_left) (held ss))
   pub send : IsMark sends send_from ss
   pub receive : IsMark (isnt sends) receive_from ss
   pub left : AreLookedAt name is_left ended ss
 
 -- no two receives are of one context, nor two open sends, and these contexts are known
 abbrev pub AreApartOn : {A : Type 0} → (A → ℕ) → (A → Bool) → (A → Bool) → List (ℕ × ℕ) → List (ℕ × ℕ) → List (Spot A) → Type 0
-AreApartOn home sends is_left receives opens ss =
-    IsIndexed home (is_known receives) (filter (isnt sends) (held ss)) × IsIndexed home (is_known opens) (filter (is_open sends is_left) (held ss))
+AreApartOn context sends is_left receives opens ss =
+    IsIndexed context (is_known receives) (filter (isnt sends) (held ss)) × IsIndexed context (is_known opens) (filter (is_open sends is_left) (held ss))

@@ -8,7 +8,7 @@ ghost use Rattle.std.specs.List.{list_any, position};
 ghost use Rattle.proto_requests.specs.FirstFound.{without_found};
 ghost use Rattle.proto_requests.specs.Spots.{holds, held, stays};
 
-/// A spot.
+/// A spot of a row: its number, and an element or none.
 #[derive(Drop)]
 pub struct Spot<T> {
     /// Its number.

@@ -28,11 +28,11 @@ use sp_base::{Ctx, NoMemory, OpName};
 use std::alloc::Global;
 use std::marker::Model;
 
-/// An operation that waits.
+/// An operation that waits (nng_aio(5)).
 pub trait Waiter: Drop {
     ghost name_of: { Self → Name };
 
-    ghost home_of: { Self → ℕ };
+    ghost context_of: { Self → ℕ };
 
     ghost is_send: { Self → Bool };
 
@@ -42,7 +42,7 @@ pub trait Waiter: Drop {
     ghost left: { Self → Self };
 
     // that changes neither its name nor its context, and makes no send of a receive
-    ghost left_same: { (x : Self) → (name_of (left x) ≡ name_of x) × (home_of (left x) ≡ home_of x) × (is_send (left x) ≡ is_send x) };
+    ghost left_same: { (x : Self) → (name_of (left x) ≡ name_of x) × (context_of (left x) ≡ context_of x) × (is_send (left x) ≡ is_send x) };
 
     // nor anything where it has ended
     ghost left_again: { (x : Self) → is_left x ≡ true → left x ≡ x };
@@ -59,7 +59,7 @@ pub trait Waiter: Drop {
 
     /// Its context.
     fn ctx(&self) -> Ctx
-        ensures { result ≡ home_of self.now };
+        ensures { result ≡ context_of self.now };
 
     /// It is a send.
     fn sends(&self) -> bool
@@ -74,7 +74,7 @@ pub trait Waiter: Drop {
         ensures { self.new ≡ left self.old };
 }
 
-/// Operations that wait.
+/// Operations that wait (nng_aio(5)).
 #[derive(Drop)]
 pub struct Waits<T: Waiter> {
     /// In the order of their begins.
@@ -111,7 +111,7 @@ impl<T: Waiter> Model for Waits<T> {
 
     ghost view = { λ m. record { items = held m.list.items; room = vec_capacity m.list - length (held m.list.items) } };
 
-    ghost invariant = { λ m. AreNoted T.name_of T.home_of T.is_send T.is_left m.slots_known m.by_slot m.receives_known m.receives m.opens_known m.opens m.send_from m.receive_from m.ended m.list.items };
+    ghost invariant = { λ m. AreNoted T.name_of T.context_of T.is_send T.is_left m.slots_known m.by_slot m.receives_known m.receives m.opens_known m.opens m.send_from m.receive_from m.ended m.list.items };
 }
 
 // ---- Spots
@@ -166,7 +166,7 @@ fn is_kind<T: Waiter>(x: &T, send: bool) -> bool
 
 // One of these on the context stands there.
 fn stands_on<T: Waiter>(s: &Spot<T>, send: bool, c: Ctx) -> bool
-    ensures { result ≡ holds (is_kind_on T.is_send T.is_left T.home_of send c) s.now }
+    ensures { result ≡ holds (is_kind_on T.is_send T.is_left T.context_of send c) s.now }
 {
     match &s.value {
         None => false,
@@ -314,14 +314,14 @@ fn reached(place: Option<usize>, end: usize) -> usize
 
 // Where the first of these on the context stands: sends whose requests have not ended, or receives.
 fn search_on<T: Waiter>(list: &[Spot<T>], send: bool, c: Ctx) -> Option<usize>
-    ensures { result ≡ position (holds (is_kind_on T.is_send T.is_left T.home_of send c)) list.now }
+    ensures { result ≡ position (holds (is_kind_on T.is_send T.is_left T.context_of send c)) list.now }
 {
     list.iter().position(|s| stands_on(s, send, c))
 }
 
 // The same, where no other is on the context. It is looked for here first.
 fn place_at<T: Waiter>(list: &[Spot<T>], i: usize, send: bool, c: Ctx) -> Option<usize>
-    ensures { AreDistinct (map T.home_of (filter (is_kind T.is_send T.is_left send) (held list.now))) → result ≡ position (holds (is_kind_on T.is_send T.is_left T.home_of send c)) list.now }
+    ensures { AreDistinct (map T.context_of (filter (is_kind T.is_send T.is_left send) (held list.now))) → result ≡ position (holds (is_kind_on T.is_send T.is_left T.context_of send c)) list.now }
 {
     if i < list.len() {
         if stands_on(&list[i], send, c) {
@@ -339,7 +339,7 @@ fn place_on<T: Waiter>(
     send: bool,
     c: Ctx,
 ) -> Option<usize>
-    ensures { (known ≡ true → IsIndexed T.home_of (is_known numbers.now) (filter (is_kind T.is_send T.is_left send) (held list.now))) → result ≡ position (holds (is_kind_on T.is_send T.is_left T.home_of send c)) list.now }
+    ensures { (known ≡ true → IsIndexed T.context_of (is_known numbers.now) (filter (is_kind T.is_send T.is_left send) (held list.now))) → result ≡ position (holds (is_kind_on T.is_send T.is_left T.context_of send c)) list.now }
 {
     if !known {
         return search_on(list, send, c);
@@ -352,7 +352,7 @@ fn place_on<T: Waiter>(
 
 // A receive on the context is among them.
 fn any_receive<T: Waiter>(list: &[Spot<T>], c: Ctx) -> bool
-    ensures { result ≡ list_any (holds (receives_on T.is_send T.home_of c)) list.now }
+    ensures { result ≡ list_any (holds (receives_on T.is_send T.context_of c)) list.now }
 {
     list.iter().any(|s| stands_on(s, false, c))
 }
@@ -366,7 +366,7 @@ fn is_open<T: Waiter>(x: &T) -> bool
 
 // The request of the one that stands there ends, if it is of the context.
 fn leave_spot<T: Waiter>(s: &mut Spot<T>, c: Ctx)
-    ensures { s.new ≡ left_spot T.home_of T.left c s.old }
+    ensures { s.new ≡ left_spot T.context_of T.left c s.old }
 {
     match &mut s.value {
         None => {}
@@ -380,7 +380,7 @@ fn leave_spot<T: Waiter>(s: &mut Spot<T>, c: Ctx)
 
 // The request of the context ends.
 fn leave_in<T: Waiter>(list: &mut [Spot<T>], c: Ctx)
-    ensures { list.new ≡ map (left_spot T.home_of T.left c) list.old }
+    ensures { list.new ≡ map (left_spot T.context_of T.left c) list.old }
 {
     for s in list.iter_mut() {
         leave_spot(s, c);
@@ -400,7 +400,7 @@ fn note_at<T: Waiter>(list: &[Spot<T>], place: Option<usize>, ended: &mut Hints<
 
 // The request of the one that stands here ends, if it is of the context.
 fn leave_at<T: Waiter>(list: &mut [Spot<T>], place: Option<usize>, c: Ctx)
-    ensures { (P : T → Bool) → place ≡ position (holds P) list.old → list.new ≡ with_found (holds P) (left_spot T.home_of T.left c) list.old }
+    ensures { (P : T → Bool) → place ≡ position (holds P) list.old → list.new ≡ with_found (holds P) (left_spot T.context_of T.left c) list.old }
 {
     match place {
         None => {}
@@ -422,8 +422,8 @@ fn leave<T: Waiter>(
     ended: &mut Hints<OpName>,
     c: Ctx,
 )
-    ensures list { (known ≡ true → AreApartOn T.home_of T.is_send T.is_left receives.now opens.now list.old) → list.new ≡ map (left_spot T.home_of T.left c) list.old }
-    ensures ended { (known ≡ true → AreApartOn T.home_of T.is_send T.is_left receives.now opens.now list.old) → AreLookedAt T.name_of T.is_left ended.old list.old → AreLookedAt T.name_of T.is_left ended.new list.new }
+    ensures list { (known ≡ true → AreApartOn T.context_of T.is_send T.is_left receives.now opens.now list.old) → list.new ≡ map (left_spot T.context_of T.left c) list.old }
+    ensures ended { (known ≡ true → AreApartOn T.context_of T.is_send T.is_left receives.now opens.now list.old) → AreLookedAt T.name_of T.is_left ended.old list.old → AreLookedAt T.name_of T.is_left ended.new list.new }
 {
     if !known {
         leave_in(list, c);
@@ -617,7 +617,7 @@ impl<T: Waiter> Waits<T> {
 
     /// The first receive on the context.
     pub fn receive_on(&self, c: Ctx) -> Option<OpName>
-        ensures { result ≡ option_map T.name_of (find (receives_on T.is_send T.home_of c) self.now.items) }
+        ensures { result ≡ option_map T.name_of (find (receives_on T.is_send T.context_of c) self.now.items) }
     {
         name_at(
             &self.list,
@@ -657,7 +657,7 @@ impl<T: Waiter> Waits<T> {
 
     /// A receive of the context waits.
     pub fn is_receiving(&self, c: Ctx) -> bool
-        ensures { result ≡ list_any (receives_on T.is_send T.home_of c) self.now.items }
+        ensures { result ≡ list_any (receives_on T.is_send T.context_of c) self.now.items }
     {
         if self.receives_known {
             return self.receives.has(c.0);
@@ -749,7 +749,7 @@ impl<T: Waiter> Waits<T> {
     /// The request of the context ends.
     pub fn leave_on(&mut self, c: Ctx)
         requires { T.may_leave ≡ true }
-        ensures items { self.new.items ≡ map (left_on T.home_of T.left c) self.old.items }
+        ensures items { self.new.items ≡ map (left_on T.context_of T.left c) self.old.items }
         ensures room { self.new.room ≡ self.old.room }
     {
         leave(

@@ -550,7 +550,7 @@ does_is m t c act b h e =
     both Recv = refl
     both (Send x) = refl
 
-pub open_is : (m : Survey) (t : Moment) (c : ℕ) (cs : List ℕ) (b o : Bool) → Ties m t → cs ≡ m.homes.items → o ≡ has cs c → o ≡ b → has (ctxs (past t)) c ≡ b
+pub open_is : (m : Survey) (t : Moment) (c : ℕ) (cs : List ℕ) (b o : Bool) → Ties m t → cs ≡ m.contexts.items → o ≡ has cs c → o ≡ b → has (ctxs (past t)) c ≡ b
 open_is m t c cs b o h e k f = ap (λ l. has l c) (sym h.0.2 ∙ sym e) ∙ sym k ∙ f
 
 recv_state : (m : Survey) (t : Moment) (c : ℕ) → Ties m t → is_state t.z (past t) c Recv ≡ (not (list_any (is_live_on c) m.live.items) && not m.raw)

@@ -85,7 +85,7 @@ fresh_ties m t k l h = (h.0, turn_begins _ _ t k l (it_floods t.z (is_survey m t
 
 -- ---- Contexts
 
-pub opened_ties : (m n : Survey) (t : Moment) (c : ℕ) → Ties m t → n ≡ record m { homes = n.homes } → n.homes.items ≡ m.homes.items ++ c ∷ [] → Ties n (also t (Ctx c Open))
+pub opened_ties : (m n : Survey) (t : Moment) (c : ℕ) → Ties m t → n ≡ record m { contexts = n.contexts } → n.contexts.items ≡ m.contexts.items ++ c ∷ [] → Ties n (also t (Ctx c Open))
 opened_ties m n t c h same items =
     subst (λ (x : Survey). Ties x (also t (Ctx c Open))) (sym same) (
       (h.0.0, h.0.1, items ∙ ap (λ (cs : List ℕ). cs ++ c ∷ []) h.0.2, h.0.3, h.0.4),
@@ -145,10 +145,10 @@ module _ (m : Survey) (t : Moment) (c : ℕ) (l : Lawful (also t (Ctx c Shut))) 
           subst (λ (xs : List SurveyView). Asked xs m.last_id m.waiting.items (pend (past t)) (requests t.z shut_past)) (sym (e ∙ without_is c m.live.items h.0.4.places))
           (subst (λ (rs : Requests). Asked (filter (λ (x : SurveyView). not (has (c ∷ []) x.ctx)) m.live.items) m.last_id m.waiting.items (pend (past t)) rs) (sym (shut_makes t.z (past t) c (surveys t.z (is_survey m t h) (is_raw m t h ∙ r)))) (shut m.live.items m.last_id m.waiting.items (pend (past t)) (requests t.z (past t)) c none_there h.0.4))
 
-  pub shut_ties : (n : Survey) → n ≡ record m { homes = n.homes; live = n.live } → n.homes.items ≡ filter (λ d. not (d == c)) m.homes.items → n.live.items ≡ without_live c m.live.items → Ties n (also t (Ctx c Shut))
-  shut_ties n same homes live =
+  pub shut_ties : (n : Survey) → n ≡ record m { contexts = n.contexts; live = n.live } → n.contexts.items ≡ filter (λ d. not (d == c)) m.contexts.items → n.live.items ≡ without_live c m.live.items → Ties n (also t (Ctx c Shut))
+  shut_ties n same contexts live =
       subst (λ (x : Survey). Ties x (also t (Ctx c Shut))) (sym same) (
-        (h.0.0, h.0.1, homes ∙ ap (filter (λ d. not (d == c))) h.0.2, λ r. h.0.3 r ∙ sym (ap (λ b. cond b [] (pool t.z (past t) 0)) (other c l.turn.0.itself.0)), shut_asked n.live.items live),
+        (h.0.0, h.0.1, contexts ∙ ap (filter (λ d. not (d == c))) h.0.2, λ r. h.0.3 r ∙ sym (ap (λ b. cond b [] (pool t.z (past t) 0)) (other c l.turn.0.itself.0)), shut_asked n.live.items live),
         goes_on _ t (Ctx c Shut) refl refl refl (λ s e. subst (IsFlood m.raw m.last_id m.copies.items) (shut_bytes s e)) h.1,
       )
     where

@@ -150,7 +150,7 @@ abbrev pub Stands : Survey → MomentReading → Type 0
 Stands m r =
     SetTo m.raw m.options m.tick r.kind r.now
     × (m.pipes ≡ length r.up)
-    × (m.homes.items ≡ r.ctxs)
+    × (m.contexts.items ≡ r.ctxs)
     × Keeps m.raw m.kept.items (r.pool 0)
     × Asked m.live.items m.last_id m.waiting.items r.pend r.requests
 

@@ -54,7 +54,7 @@ pub struct Survey {
     /// How many pipes are up.
     pipes: usize,
     /// The open contexts, in the order in which they were opened.
-    homes: Vec<Ctx>,
+    contexts: Vec<Ctx>,
     /// Cooked: at most one of each context, in the order of their begins.
     live: Vec<LiveSurvey>,
     /// Raw: the oldest first, at most one of each pipe.
@@ -68,19 +68,19 @@ pub struct Survey {
 // ---- Contexts
 
 // The first context.
-fn first_home(alloc: Global) -> Result<Vec<Ctx>, NoMemory>
+fn first_context(alloc: Global) -> Result<Vec<Ctx>, NoMemory>
     ensures { IfOk result (λ v. v.items ≡ 0 ∷ []) }
 {
-    let mut homes = Vec::new(alloc);
-    homes.push(Ctx(0))?;
-    Ok(homes)
+    let mut contexts = Vec::new(alloc);
+    contexts.push(Ctx(0))?;
+    Ok(contexts)
 }
 
 // The context is open.
-fn is_open(homes: &[Ctx], c: Ctx) -> bool
-    ensures { result ≡ has homes.now c }
+fn is_open(contexts: &[Ctx], c: Ctx) -> bool
+    ensures { result ≡ has contexts.now c }
 {
-    homes.iter().any(|d| d.0 == c.0)
+    contexts.iter().any(|d| d.0 == c.0)
 }
 
 // ---- Surveys that are live
@@ -270,7 +270,7 @@ impl Survey {
         requires { Fits options }
         ensures { IfOk result (λ m. Starts Ties m (survey_kind raw options)) }
     {
-        let homes = first_home(alloc)?;
+        let contexts = first_context(alloc)?;
         Ok(Survey {
             alloc,
             raw,
@@ -278,7 +278,7 @@ impl Survey {
             tick: Tick(0),
             last_id: None,
             pipes: 0,
-            homes,
+            contexts,
             live: Vec::new(alloc),
             kept: VecDeque::new(alloc),
             waiting: Vec::new(alloc),
@@ -466,7 +466,7 @@ impl Proto for Survey {
         if self.raw && c.0 != 0 {
             return Err(CheckError::NotSupported);
         }
-        if !is_open(&self.homes, c) {
+        if !is_open(&self.contexts, c) {
             return Err(CheckError::NoEntry);
         }
         if self.lacks_survey(c, verb) {
@@ -603,13 +603,13 @@ impl Proto for Survey {
     }
 
     fn open_ctx(&mut self, c: Ctx) -> Result<(), NoMemory> {
-        self.homes.push(c)?;
+        self.contexts.push(c)?;
         Ok(())
     }
 
     fn close_ctx(&mut self, c: Ctx) {
         end_live(&mut self.live, c);
-        self.homes.retain(|d| d.0 != c.0);
+        self.contexts.retain(|d| d.0 != c.0);
     }
 
     fn topic(&mut self, c: Ctx, t: &[u8], on: bool) -> Result<bool, NoMemory> {

@@ -2,5 +2,5 @@ use Rattle.proto_pubsub.specs.SubContexts.{emptied}
 use Rattle.proto_pubsub.proofs.SubContexts.{written}
 use Rattle.proto_pubsub.proofs.subscribe.clear.Goals as goal
 
-pub loop-seat-preserved : goal.loop-seat-preserved
-loop-seat-preserved c = written emptied c.args.seats.now c.loop-seat.seats c.loop-seat.seat-index c.seat-item.result _ c.loop-seat-test.true c.loop-seat.invariant c.clear.ensures
+pub loop-context-preserved : goal.loop-context-preserved
+loop-context-preserved c = written emptied c.args.contexts.now c.loop-context.contexts c.loop-context.context-index c.context-item.result _ c.loop-context-test.true c.loop-context.invariant c.clear.ensures

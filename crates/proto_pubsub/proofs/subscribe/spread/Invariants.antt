@@ -3,4 +3,4 @@ use Rattle.proto_pubsub.specs.SubContexts.{kept_in}
 use Rattle.proto_pubsub.proofs.subscribe.spread.Given as goal
 
 abbrev pub invariant-loop-i : goal.invariant-loop-i
-invariant-loop-i l = l.seats ≡ map (kept_in l.fn.raw l.fn.options l.fn.m) (take l.i l.initial.seats) ++ drop l.i l.initial.seats
+invariant-loop-i l = l.contexts ≡ map (kept_in l.fn.raw l.fn.options l.fn.m) (take l.i l.initial.contexts) ++ drop l.i l.initial.contexts

@@ -20,20 +20,20 @@ returns-clause-list g c = λ h.
     let x = c.args.c in
     let ss = c.args.list.now in
     let apart = h c.if-not-known.false in
-    let first = c.leave_at.ensures (is_kind_on W.is_send W.is_left W.home_of false x) (c.place_on-receive.ensures (λ k. apart.0)) in
-    let at = c.place_on-send.ensures (λ k. apart.1) ∙ sym (send_stays W.name_of W.home_of W.is_send W.is_left W.left W.left_same W.left_again x ss c.leave_at.new.list first) in
-    left_two W.name_of W.home_of W.is_send W.is_left W.left W.left_same W.left_again x c.args.receives.now c.args.opens.now ss c.leave_at.new.list c.leave_at-2.new.list apart first (c.leave_at-2.ensures (is_kind_on W.is_send W.is_left W.home_of true x) at)
+    let first = c.leave_at.ensures (is_kind_on W.is_send W.is_left W.context_of false x) (c.place_on-receive.ensures (λ k. apart.0)) in
+    let at = c.place_on-send.ensures (λ k. apart.1) ∙ sym (send_stays W.name_of W.context_of W.is_send W.is_left W.left W.left_same W.left_again x ss c.leave_at.new.list first) in
+    left_two W.name_of W.context_of W.is_send W.is_left W.left W.left_same W.left_again x c.args.receives.now c.args.opens.now ss c.leave_at.new.list c.leave_at-2.new.list apart first (c.leave_at-2.ensures (is_kind_on W.is_send W.is_left W.context_of true x) at)
 
 pub returns-clause-ended : goal.returns-clause-ended
 returns-clause-ended g c = λ h.
     let W = g.T.Waiter in
     let x = c.args.c in
     let ss = c.args.list.now in
-    let P = is_kind_on W.is_send W.is_left W.home_of false x in
-    let Q = is_kind_on W.is_send W.is_left W.home_of true x in
+    let P = is_kind_on W.is_send W.is_left W.context_of false x in
+    let Q = is_kind_on W.is_send W.is_left W.context_of true x in
     let apart = h c.if-not-known.false in
     let first = c.leave_at.ensures P (c.place_on-receive.ensures (λ k. apart.0)) in
-    let at = c.place_on-send.ensures (λ k. apart.1) ∙ sym (send_stays W.name_of W.home_of W.is_send W.is_left W.left W.left_same W.left_again x ss c.leave_at.new.list first) in
-    let whole = left_two W.name_of W.home_of W.is_send W.is_left W.left W.left_same W.left_again x c.args.receives.now c.args.opens.now ss c.leave_at.new.list c.leave_at-2.new.list apart first (c.leave_at-2.ensures Q at) in
-    left_noted W.name_of W.home_of W.is_send W.is_left W.left W.left_same W.left_again x c.args.ended.now c.note_at-2.new.ended c.args.receives.now c.args.opens.now ss c.leave_at-2.new.list apart whole (ap held whole ∙ held_left W.home_of W.left x ss)
+    let at = c.place_on-send.ensures (λ k. apart.1) ∙ sym (send_stays W.name_of W.context_of W.is_send W.is_left W.left W.left_same W.left_again x ss c.leave_at.new.list first) in
+    let whole = left_two W.name_of W.context_of W.is_send W.is_left W.left W.left_same W.left_again x c.args.receives.now c.args.opens.now ss c.leave_at.new.list c.leave_at-2.new.list apart first (c.leave_at-2.ensures Q at) in
+    left_noted W.name_of W.context_of W.is_send W.is_left W.left W.left_same W.left_again x c.args.ended.now c.note_at-2.new.ended c.args.receives.now c.args.opens.now ss c.leave_at-2.new.list apart whole (ap held whole ∙ held_left W.context_of W.left x ss)
     (λ v f. c.note_at-2.ensures.it P v (c.place_on-receive.ensures (λ k. apart.0)) f) (λ v f. c.note_at-2.ensures.more (same_op (W.name_of v)) (c.note_at.ensures.it Q v (c.place_on-send.ensures (λ k. apart.1)) f)) (λ R k. c.note_at-2.ensures.more R (c.note_at.ensures.more R k))

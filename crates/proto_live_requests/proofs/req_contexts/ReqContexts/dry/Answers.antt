@@ -2,8 +2,8 @@ use Rattle.std.proofs.Common.{◌∙◌, ap, sym, subst}
 use Rattle.std.specs.Option.{option_copied_mut}
 use Rattle.std.specs.Ordering.{nat_cmp}
 use Rattle.std.specs.BTreeMap.{is_at}
-use Rattle.proto_live_requests.specs.ReqContexts.{AreSeated}
-use Rattle.proto_live_requests.proofs.Seated.{one_dried, none_dried, dried_view, one_seated}
+use Rattle.proto_live_requests.specs.ReqContexts.{AreByTick}
+use Rattle.proto_live_requests.proofs.DryContexts.{one_dried, none_dried, dried_view, one_by_tick}
 use Rattle.proto_live_requests.proofs.req_contexts.ReqContexts.dry.Goals.{in-None, in-Some}
 use Rattle.proto_live_requests.proofs.req_contexts.ReqContexts.dry.Goals as goal
 
@@ -12,7 +12,7 @@ invariant_of-self c =
     let m = c.self.inside in
     elim c.match-get_mut.branch [
       | in-None w ↦ rw w.self-inside-is (rw c.get_mut.follows.holds-at-none c.self.invariant)
-      | in-Some w ↦ rw w.self-inside-is (subst (AreSeated m.tick) (sym (c.get_mut.follows.holds m.tick).0) (one_seated (is_at (nat_cmp c.c.inside.0)) m.tick m.dry_in.entries c.self.invariant))
+      | in-Some w ↦ rw w.self-inside-is (subst (AreByTick m.tick) (sym (c.get_mut.follows.holds m.tick).0) (one_by_tick (is_at (nat_cmp c.c.inside.0)) m.tick m.dry_in.entries c.self.invariant))
     ]
 
 pub returns : goal.returns

@@ -1,6 +1,6 @@
 use Rattle.std.proofs.Common.{◌∙◌, ap, sym, None, Some}
 use Rattle.std.specs.Option.{option_copied}
-use Rattle.proto_live_requests.proofs.Seated.{dry_is}
+use Rattle.proto_live_requests.proofs.DryContexts.{dry_is}
 use Rattle.proto_live_requests.proofs.req_contexts.ReqContexts.is_dry.Goals as goal
 
 pub returns-in-None : goal.returns-in-None

@@ -10,5 +10,5 @@ returns-in-Recv-clause-begun c =
     let was = c.args.self.now in
     let w : WaitingReceive = record { op = c.args.op; ctx = c.args.c } in
     let items : c.push_back_reserved.new.self.items ≡ was.waiting.items ++ w ∷ [] = search rules in
-    let is : Subscribe = record { alloc = was.alloc; raw = was.raw; options = was.options; seats = was.seats; waiting = c.push_back_reserved.new.self; looked = was.looked } in
+    let is : Subscribe = record { alloc = was.alloc; raw = was.raw; options = was.options; contexts = was.contexts; waiting = c.push_back_reserved.new.self; looked = was.looked } in
     rw c.in-Recv.is (begun_ties was is t w deadline h items refl refl (refl, refl))

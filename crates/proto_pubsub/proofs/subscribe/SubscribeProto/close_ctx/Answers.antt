@@ -7,5 +7,5 @@ pub returns-clause-shut : goal.returns-clause-shut
 returns-clause-shut c =
     λ t l h.
     let was = c.args.self.now in
-    let is : Subscribe = record { alloc = was.alloc; raw = was.raw; options = was.options; seats = c.shut.new.seats; waiting = was.waiting; looked = was.looked } in
-    shut_ties was is t c.args.c l h (c.shut.ensures (in_order was t was.seats.items h refl)) refl refl (refl, refl)
+    let is : Subscribe = record { alloc = was.alloc; raw = was.raw; options = was.options; contexts = c.shut.new.contexts; waiting = was.waiting; looked = was.looked } in
+    shut_ties was is t c.args.c l h (c.shut.ensures (in_order was t was.contexts.items h refl)) refl refl (refl, refl)

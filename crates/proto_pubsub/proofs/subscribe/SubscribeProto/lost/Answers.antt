@@ -14,7 +14,7 @@ returns-clause-lost c =
     let was = c.args.self.now in
     let w = the_op was t c.args.op s h p in
     let one : length (option_to_list c.take.result) ≡ 1 = ap (λ (o : Option WaitingReceive). length (option_to_list o)) (c.take.ensures.found ∙ w.1) in
-    let is : Subscribe = record { alloc = was.alloc; raw = was.raw; options = was.options; seats = was.seats; waiting = c.take.new.waiting; looked = c.take.new.looked } in (
+    let is : Subscribe = record { alloc = was.alloc; raw = was.raw; options = was.options; contexts = was.contexts; waiting = c.take.new.waiting; looked = c.take.new.looked } in (
       no_message s w.0 w.2,
       lost_ties was is t c.args.op cause by (allowed_before t (End c.args.op (Gone cause by)) l) h c.take.ensures.rest refl c.take.ensures.looked (refl, refl),
       (omega (arith, c.take.ensures.len, one), omega (arith, c.take.ensures.len, one, c.take.ensures.capacity, was.waiting.small.1)),

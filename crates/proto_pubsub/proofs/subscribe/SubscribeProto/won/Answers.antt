@@ -1,7 +1,7 @@
 use Rattle.std.proofs.Common.{refl, arith, ◌∙◌, ◌≡◌}
 use Rattle.std.specs.Vec.{with_items}
 use Rattle.proto_pubsub.specs.declared.subscribe.Subscribe.{Subscribe}
-use Rattle.proto_pubsub.proofs.SubContexts.{seats_written, long_with}
+use Rattle.proto_pubsub.proofs.SubContexts.{contexts_written, long_with}
 use Rattle.proto_pubsub.proofs.Subscribed.{in_order, none_taken, taken, never_floods, never_dropped, never_sent, gives_from, given_from_ties}
 use Rattle.proto_pubsub.proofs.subscribe.SubscribeProto.won.Goals as goal
 
@@ -23,8 +23,8 @@ returns-in-Some-clause-given c =
     let was = c.args.self.now in
     let olds = c.deref_mut.ensures.value in
     let o = in_order was t c.deref_mut.result.now h olds in
-    let written : (with_items was.seats c.give.new.seats).items ≡ c.give.new.seats = seats_written was.seats c.give.new.seats c.deref_mut.result.now olds (long_with _ _ c.give.new.seats c.deref_mut.result.now (c.give.ensures.rest o)) in
-    let is : Subscribe = record { alloc = was.alloc; raw = was.raw; options = was.options; seats = with_items was.seats c.give.new.seats; waiting = c.take.new.waiting; looked = c.take.new.looked } in
+    let written : (with_items was.contexts c.give.new.contexts).items ≡ c.give.new.contexts = contexts_written was.contexts c.give.new.contexts c.deref_mut.result.now olds (long_with _ _ c.give.new.contexts c.deref_mut.result.now (c.give.ensures.rest o)) in
+    let is : Subscribe = record { alloc = was.alloc; raw = was.raw; options = was.options; contexts = with_items was.contexts c.give.new.contexts; waiting = c.take.new.waiting; looked = c.take.new.looked } in
     let own = taken was t c.args.op s c.in-Some.w h k.pending c.in-Some.ensures.found in (
       gives_from was is t c.args.op s m l h k c.in-Some.w own c.give.result c.deref_mut.result.now olds (c.give.ensures.given o),
       given_from_ties was is t c.args.op s m l h k c.in-Some.w own c.deref_mut.result.now olds (written ∙ (c.give.ensures.rest o)) c.take.ensures.rest c.take.ensures.looked (refl, refl),

@@ -1,7 +1,7 @@
 use Rattle.std.proofs.Common.{◌∙◌, ap, rules, None}
 use Rattle.std.specs.Map.{keys_of}
 use Rattle.proto_requests.proofs.NumberedEntries.{all_written, keys_with_all}
-use Rattle.proto_rep.proofs.Homes.{ctxs_written, forgotten}
+use Rattle.proto_rep.proofs.PlacesOfContexts.{ctxs_written, forgotten}
 use Rattle.proto_rep.proofs.places.Places.forget_all.Goals as goal
 
 pub returns-clause-ctxs : goal.returns-clause-ctxs

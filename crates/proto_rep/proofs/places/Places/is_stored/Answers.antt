@@ -1,7 +1,7 @@
 use Rattle.std.proofs.Common.{◌∙◌, ap, sym, None, Some}
 use Rattle.std.specs.Prelude.{is_some}
 use Rattle.std.specs.Option.{option_copied}
-use Rattle.proto_rep.proofs.Homes.{origin_is, stored_some}
+use Rattle.proto_rep.proofs.PlacesOfContexts.{origin_is, stored_some}
 use Rattle.proto_rep.proofs.places.Places.is_stored.Goals as goal
 
 pub returns-in-None : goal.returns-in-None

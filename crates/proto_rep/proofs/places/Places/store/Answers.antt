@@ -4,7 +4,7 @@ use Rattle.std.specs.Ordering.{nat_cmp}
 use Rattle.std.specs.Option.{option_copied_mut}
 use Rattle.std.specs.BTreeMap.{is_at}
 use Rattle.proto_rep.specs.declared.rep.Source.{Source}
-use Rattle.proto_rep.proofs.Homes.{ctxs_written, isnt_open, origins_written}
+use Rattle.proto_rep.proofs.PlacesOfContexts.{ctxs_written, isnt_open, origins_written}
 use Rattle.proto_rep.proofs.places.Places.store.Goals.{in-None, in-Some+in-Some-1, in-Some+in-None-1}
 use Rattle.proto_rep.proofs.places.Places.store.Goals as goal
 

@@ -1,7 +1,7 @@
 use Rattle.std.proofs.Common.{◌∙◌, ap, sym, refl, Some, None}
 use Rattle.std.specs.Option.{option_map, option_copied_mut}
 use Rattle.proto_rep.specs.Reps.{origin_of}
-use Rattle.proto_rep.proofs.Homes.{ctxs_written, origin_is, origins_written, origins_stay}
+use Rattle.proto_rep.proofs.PlacesOfContexts.{ctxs_written, origin_is, origins_written, origins_stay}
 use Rattle.proto_rep.proofs.places.Places.unstore.Goals.{in-None, in-Some}
 use Rattle.proto_rep.proofs.places.Places.unstore.Goals as goal
 

@@ -15,5 +15,5 @@ returns-in-Ok c = λ slots callers caller. (
   λ r. search rules,
   rw (c.new-in-Ok-3.ensures.items, c.new-in-Ok-5.ensures) (none_asked c.args.raw c.args.options slots callers caller),
   rw (c.new-in-Ok-3.ensures.items, c.in-Ok.ensures) (none_opened c.args.raw c.args.options slots callers caller),
-  (seen_none c.new-in-Ok-4.result (λ o. is_late c.args.options.resend 0 c.new-in-Ok.result.items o) (λ q. dry_at q c.in-Ok.seats.items) 0 c.new-in-Ok-3.result.items c.new-in-Ok-3.ensures.items (λ q k. not_both k (none_dry q c.in-Ok.seats.items c.in-Ok.ensures)), ready_none _ c.new-in-Ok-3.result.items c.new-in-Ok-5.result.items c.new-in-Ok-3.ensures.items),
+  (seen_none c.new-in-Ok-4.result (λ o. is_late c.args.options.resend 0 c.new-in-Ok.result.items o) (λ q. dry_at q c.in-Ok.contexts.items) 0 c.new-in-Ok-3.result.items c.new-in-Ok-3.ensures.items (λ q k. not_both k (none_dry q c.in-Ok.contexts.items c.in-Ok.ensures)), ready_none _ c.new-in-Ok-3.result.items c.new-in-Ok-5.result.items c.new-in-Ok-3.ensures.items),
 )

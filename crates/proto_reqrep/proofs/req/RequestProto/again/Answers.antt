@@ -13,15 +13,15 @@ pub returns-in-None-clause-again : goal.returns-in-None-clause-again
 returns-in-None-clause-again c =
     λ t r l h k.
     let m = c.args.self.now in
-    let seats = c.dry.ensures in
-    again_dry m t c.args.c c.args.p r h k _ c.note_dry.new.self seats
-    (c.note_dry.ensures (late_in m) (dry_in m) (λ q. dry_at q c.dry.new.self.items) (ups (past t)) m.live.items (λ q n. dry_others c.args.c q m.seats.items c.dry.new.self.items seats n) (dry_itself c.args.c m.seats.items c.dry.new.self.items seats) h.5.0)
+    let contexts = c.dry.ensures in
+    again_dry m t c.args.c c.args.p r h k _ c.note_dry.new.self contexts
+    (c.note_dry.ensures (late_in m) (dry_in m) (λ q. dry_at q c.dry.new.self.items) (ups (past t)) m.live.items (λ q n. dry_others c.args.c q m.contexts.items c.dry.new.self.items contexts n) (dry_itself c.args.c m.contexts.items c.dry.new.self.items contexts) h.5.0)
 
 pub returns-in-None-clause-left : goal.returns-in-None-clause-left
 returns-in-None-clause-left c =
     λ t r l h k.
-    let seats = c.dry.ensures in
-    dry_less c.args.self.now t c.args.c c.args.p r h k _ seats
+    let contexts = c.dry.ensures in
+    dry_less c.args.self.now t c.args.c c.args.p r h k _ contexts
 
 pub returns-in-Some-clause-again : goal.returns-in-Some-clause-again
 returns-in-Some-clause-again c =

@@ -42,7 +42,7 @@ returns-in-Some-clause-kept c =
         h.1,
         λ r. not_both r c.if-self.false,
         asked_live live (reply_asked was t c.args.p c.in-Some.id c.args.m.body k c.if-self.false h one (trimmed_is c.args.p c.args.m c.trim.new.self c.trim.result c.trim.ensures c.requires (some_word _ c.in-Some.id one))),
-        opened_as was.live.items _ was.seats.items _ _ (ctxs_replied c.in-Some.id k was.live.items _ live) h.4,
+        opened_as was.live.items _ was.contexts.items _ _ (ctxs_replied c.in-Some.id k was.live.items _ live) h.4,
         (seen_kept was.dues (late_in was) (dry_in was) (ups (past t)) (waits_for c.in-Some.id) (with_kept k) was.live.items _ (λ x. refl) live h.5.0, c.keep_reply.ensures.ready was.waiting.items h.5.1),
       ),
     )

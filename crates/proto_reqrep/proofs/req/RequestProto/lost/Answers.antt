@@ -29,7 +29,7 @@ returns-then-not-w-clause-lost c =
         h.1,
         h.2,
         asked_live live (asked_ops (ops ∙ ap (map (orphaned w.ctx)) c.take.ensures.rest) (lost_live was t c.args.op s w cause by h p f c.if-not-self.true (not_true w.is_orphan c.if-not-w.true))),
-        opened_live live (opened_less w.ctx was.live.items was.seats.items _ _ h.4),
+        opened_live live (opened_less w.ctx was.live.items was.contexts.items _ _ h.4),
         (seen_less was.dues (late_in was) (dry_in was) (ups (past t)) (is_live_on w.ctx) was.live.items c.take_live.new.self.items live h.5.0, ready_marked was.ready c.take_live.new.self.items w.ctx c.take.new.self.items _ ops (ready_live was.ready was.live.items c.take_live.new.self.items c.take.new.self.items (λ q k. keeps_less q (is_live_on w.ctx) was.live.items c.take_live.new.self.items live k) (ready_fewer was.ready was.live.items (is_asked c.args.op) was.waiting.items c.take.new.self.items c.take.ensures.rest h.5.1))),
       ),
       (

@@ -30,10 +30,10 @@ invariant_of-self g c =
           let k = c.know-self-inside.ensures.more h in
           kept_more (slot_of W.name_of) old (is_known c.know-self-inside.new.numbers) (held ss) (held ys) x (c.self.invariant.by_slot (c.know-self-inside.ensures.all h)) (ap old (sym slot) ∙ k.0) (λ q. k.1 q ∙ ap (λ n. cond (n == q) true (old q)) slot) whole;
       by_receive = λ h.
-          kind_more W.home_of (isnt W.is_send) (is_known c.self.inside.receives) (is_known c.know_if-self-inside.new.numbers) (not c.sends-sends.result) c.ctx-c.result (held ss) (held ys) x (c.self.invariant.by_receive (c.know_if-self-inside.ensures.all h)) (ap not c.sends-sends.ensures) c.ctx-c.ensures
+          kind_more W.context_of (isnt W.is_send) (is_known c.self.inside.receives) (is_known c.know_if-self-inside.new.numbers) (not c.sends-sends.result) c.ctx-c.result (held ss) (held ys) x (c.self.invariant.by_receive (c.know_if-self-inside.ensures.all h)) (ap not c.sends-sends.ensures) c.ctx-c.ensures
           (λ s q. ap (λ es. is_known es q) (c.know_if-self-inside.ensures.same s)) (c.know_if-self-inside.ensures.more h) whole;
       by_send = λ h.
-          kind_more W.home_of (is_open W.is_send W.is_left) (is_known c.self.inside.opens) (is_known c.know_if-self-inside-2.new.numbers) c.is_open-open.result c.ctx-c.result (held ss) (held ys) x (c.self.invariant.by_send (c.know_if-self-inside-2.ensures.all h)) c.is_open-open.ensures c.ctx-c.ensures
+          kind_more W.context_of (is_open W.is_send W.is_left) (is_known c.self.inside.opens) (is_known c.know_if-self-inside-2.new.numbers) c.is_open-open.result c.ctx-c.result (held ss) (held ys) x (c.self.invariant.by_send (c.know_if-self-inside-2.ensures.all h)) c.is_open-open.ensures c.ctx-c.ensures
           (λ s q. ap (λ es. is_known es q) (c.know_if-self-inside-2.ensures.same s)) (c.know_if-self-inside-2.ensures.more h) whole;
       send = subst (λ xs. IsMark (W.is_send) c.send_mark-self-inside.result xs) c.deref.ensures.value (c.send_mark-self-inside.ensures (subst (λ xs. IsMark (W.is_send) c.stays.result xs) (sym c.deref.ensures.value) (subst (λ n. IsMark (W.is_send) n ys) (sym c.stays.ensures) (mark_more (W.is_send) c.make_spot-moved.result c.self.inside.send_from ss ts ys s c.make_spot-moved.ensures.same e c.self.invariant.send))));
       receive = subst (λ xs. IsMark (isnt W.is_send) c.receive_mark-self-inside.result xs) c.deref-2.ensures.value (c.receive_mark-self-inside.ensures (subst (λ xs. IsMark (isnt W.is_send) c.stays-2.result xs) (sym c.deref-2.ensures.value) (subst (λ n. IsMark (isnt W.is_send) n ys) (sym c.stays-2.ensures) (mark_more (isnt W.is_send) c.make_spot-moved.result c.self.inside.receive_from ss ts ys s c.make_spot-moved.ensures.same e c.self.invariant.receive))));

@@ -18,8 +18,8 @@ invariant_of-self g c =
     let same : c.close_up_for-moved.result ≡ false → us ≡ ss = λ q. c.reserve.ensures.items ∙ (c.close_up_for-moved.ensures.same q).0 in
     record {
       by_slot = λ h. all_same (slot_of W.name_of) (is_known c.self.inside.by_slot) (is_known c.make_room.new.by_slot) (held ss) (held us) (c.self.invariant.by_slot h) c.make_room.ensures.slot whole;
-      by_receive = λ h. kind_same W.home_of (isnt W.is_send) (is_known c.self.inside.receives) (is_known c.make_room.new.receives) (held ss) (held us) (c.self.invariant.by_receive h) c.make_room.ensures.receive whole;
-      by_send = λ h. kind_same W.home_of (is_open W.is_send W.is_left) (is_known c.self.inside.opens) (is_known c.make_room.new.opens) (held ss) (held us) (c.self.invariant.by_send h) c.make_room.ensures.open whole;
+      by_receive = λ h. kind_same W.context_of (isnt W.is_send) (is_known c.self.inside.receives) (is_known c.make_room.new.receives) (held ss) (held us) (c.self.invariant.by_receive h) c.make_room.ensures.receive whole;
+      by_send = λ h. kind_same W.context_of (is_open W.is_send W.is_left) (is_known c.self.inside.opens) (is_known c.make_room.new.opens) (held ss) (held us) (c.self.invariant.by_send h) c.make_room.ensures.open whole;
       send = mark_kept W.is_send c.close_up_for-moved.result c.self.inside.send_from c.stays-self-inside.result ss us c.stays-self-inside.ensures same c.self.invariant.send;
       receive = mark_kept (isnt W.is_send) c.close_up_for-moved.result c.self.inside.receive_from c.stays-self-inside-2.result ss us c.stays-self-inside-2.ensures same c.self.invariant.receive;
       left = ap (λ (v : HintsView OpName). list_any (is_overlooked W.name_of W.is_left v) (held us)) c.make_room.ensures.ended ∙ ap (list_any (is_overlooked W.name_of W.is_left c.self.inside.ended)) whole ∙ c.self.invariant.left;
@@ -34,8 +34,8 @@ invariant_of-self-in-Err g c =
     let same : c.close_up_for-moved.result ≡ false → us ≡ ss = λ q. c.reserve.ensures.items ∙ (c.close_up_for-moved.ensures.same q).0 in
     record {
       by_slot = λ h. all_same (slot_of W.name_of) (is_known c.self.inside.by_slot) (is_known c.self.inside.by_slot) (held ss) (held us) (c.self.invariant.by_slot h) (λ q. refl) whole;
-      by_receive = λ h. kind_same W.home_of (isnt W.is_send) (is_known c.self.inside.receives) (is_known c.self.inside.receives) (held ss) (held us) (c.self.invariant.by_receive h) (λ q. refl) whole;
-      by_send = λ h. kind_same W.home_of (is_open W.is_send W.is_left) (is_known c.self.inside.opens) (is_known c.self.inside.opens) (held ss) (held us) (c.self.invariant.by_send h) (λ q. refl) whole;
+      by_receive = λ h. kind_same W.context_of (isnt W.is_send) (is_known c.self.inside.receives) (is_known c.self.inside.receives) (held ss) (held us) (c.self.invariant.by_receive h) (λ q. refl) whole;
+      by_send = λ h. kind_same W.context_of (is_open W.is_send W.is_left) (is_known c.self.inside.opens) (is_known c.self.inside.opens) (held ss) (held us) (c.self.invariant.by_send h) (λ q. refl) whole;
       send = mark_kept W.is_send c.close_up_for-moved.result c.self.inside.send_from c.stays-self-inside.result ss us c.stays-self-inside.ensures same c.self.invariant.send;
       receive = mark_kept (isnt W.is_send) c.close_up_for-moved.result c.self.inside.receive_from c.stays-self-inside-2.result ss us c.stays-self-inside-2.ensures same c.self.invariant.receive;
       left = ap (list_any (is_overlooked W.name_of W.is_left c.self.inside.ended)) whole ∙ c.self.invariant.left;

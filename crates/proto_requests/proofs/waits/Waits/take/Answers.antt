@@ -49,8 +49,8 @@ invariant_of-self-in-Some-empty g c =
     let receive = mark_less (isnt W.is_send) c.self.inside.receive_from ss (with_items v ts).items long (λ h. ap (λ xs. list_any (holds (isnt W.is_send)) (take c.self.inside.receive_from xs)) same ∙ c.empty.ensures.none (isnt W.is_send) c.self.inside.receive_from (ap (λ xs. list_any (holds (isnt W.is_send)) (take c.self.inside.receive_from xs)) f ∙ h)) c.self.invariant.receive in
     record {
       by_slot = λ h. index_less (slot_of W.name_of) P old (is_known c.lose.new.numbers) (held ss) _ x (c.self.invariant.by_slot h) found (λ q. c.lose.ensures q ∙ ap (λ n. cond (n == q) false (old q)) (slot_is W.name_of c.args.op (held ss) x found)) whole;
-      by_receive = λ h. kind_less W.home_of (isnt W.is_send) P (is_known c.self.inside.receives) (is_known c.lose_if.new.numbers) (not c.sends-sends.result) c.ctx-c.result (held ss) _ x (c.self.invariant.by_receive h) found (ap not c.sends-sends.ensures) c.ctx-c.ensures c.lose_if.ensures whole;
-      by_send = λ h. kind_less W.home_of (is_open W.is_send W.is_left) P (is_known c.self.inside.opens) (is_known c.lose_if-in-Some-empty.new.numbers) c.is_open-open.result c.ctx-c.result (held ss) _ x (c.self.invariant.by_send h) found c.is_open-open.ensures c.ctx-c.ensures c.lose_if-in-Some-empty.ensures whole;
+      by_receive = λ h. kind_less W.context_of (isnt W.is_send) P (is_known c.self.inside.receives) (is_known c.lose_if.new.numbers) (not c.sends-sends.result) c.ctx-c.result (held ss) _ x (c.self.invariant.by_receive h) found (ap not c.sends-sends.ensures) c.ctx-c.ensures c.lose_if.ensures whole;
+      by_send = λ h. kind_less W.context_of (is_open W.is_send W.is_left) P (is_known c.self.inside.opens) (is_known c.lose_if-in-Some-empty.new.numbers) c.is_open-open.result c.ctx-c.result (held ss) _ x (c.self.invariant.by_send h) found c.is_open-open.ensures c.ctx-c.ensures c.lose_if-in-Some-empty.ensures whole;
       send = subst (λ xs. IsMark W.is_send c.send_mark-self-inside.result xs) c.deref-in-Some-empty.ensures.value (c.send_mark-self-inside.ensures (subst (λ xs. IsMark W.is_send c.self.inside.send_from xs) (sym c.deref-in-Some-empty.ensures.value) send));
       receive = subst (λ xs. IsMark (isnt W.is_send) c.receive_mark-self-inside.result xs) c.deref-in-Some-empty-2.ensures.value (c.receive_mark-self-inside.ensures (subst (λ xs. IsMark (isnt W.is_send) c.self.inside.receive_from xs) (sym c.deref-in-Some-empty-2.ensures.value) receive));
       left = any_less (is_overlooked W.name_of W.is_left c.self.inside.ended) P (held ss) _ whole c.self.invariant.left;

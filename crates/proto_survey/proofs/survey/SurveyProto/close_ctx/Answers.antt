@@ -8,5 +8,5 @@ pub returns-clause-shut : goal.returns-clause-shut
 returns-clause-shut c =
     λ t l h.
     let was = c.args.self.now in
-    let rest : c.retain.new.self.items ≡ filter (λ (d : ℕ). not (d == c.args.c)) was.homes.items = filter_same _ (λ (d : ℕ). not (d == c.args.c)) _ (λ x b f' k. search rules) _ _ c.retain.ensures.filtered in
-    shut_ties was t c.args.c l h (record was { homes = c.retain.new.self; live = c.end_live.new.live }) refl rest c.end_live.ensures.rest
+    let rest : c.retain.new.self.items ≡ filter (λ (d : ℕ). not (d == c.args.c)) was.contexts.items = filter_same _ (λ (d : ℕ). not (d == c.args.c)) _ (λ x b f' k. search rules) _ _ c.retain.ensures.filtered in
+    shut_ties was t c.args.c l h (record was { contexts = c.retain.new.self; live = c.end_live.new.live }) refl rest c.end_live.ensures.rest

@@ -6,5 +6,5 @@ pub returns-clause-opened : goal.returns-clause-opened
 returns-clause-opened c =
     λ t l h.
     let was = c.args.self.now in
-    let items : c.push.new.self.items ≡ was.homes.items ++ c.args.c ∷ [] = search rules in
-    opened_ties was (record was { homes = c.push.new.self }) t c.args.c h refl items
+    let items : c.push.new.self.items ≡ was.contexts.items ++ c.args.c ∷ [] = search rules in
+    opened_ties was (record was { contexts = c.push.new.self }) t c.args.c h refl items

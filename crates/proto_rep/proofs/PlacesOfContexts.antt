@@ -10,7 +10,7 @@ use Rattle.sp_history.specs.Lists.{has, without}
 use Rattle.proto_rep.specs.Places.{ReplyContext, PlacesView, place_of}
 use Rattle.proto_rep.specs.declared.rep.Source.{Source}
 use Rattle.sp_history.specs.declared.parts.Origin.{Origin}
-use Rattle.proto_rep.specs.Reps.{ctx_of, is_home, origin_of, origin_in, origin_at}
+use Rattle.proto_rep.specs.Reps.{ctx_of, is_of_context, origin_of, origin_in, origin_at}
 use Rattle.proto_requests.proofs.NumberedEntries.{at_is, with_all}
 use Rattle.proto_requests.proofs.TestValues.{equal_of}
 
@@ -29,7 +29,7 @@ origin_seen : (c : ℕ) (es : List (ℕ × Option Source)) → origin_at c (map 
 origin_seen c [] = refl
 origin_seen c (e ∷ es) = go (e.0 == c) (is_at (nat_cmp c) e.0) (at_is c e.0) (origin_seen c es)
   where
-    go : (a b : Bool) → b ≡ a → origin_at c (map place_of es) ≡ found_in (lookup (is_at (nat_cmp c)) es) → origin_in (cond a (Some (place_of e)) (find (is_home c) (map place_of es))) ≡ found_in (cond b (Some e.1) (lookup (is_at (nat_cmp c)) es))
+    go : (a b : Bool) → b ≡ a → origin_at c (map place_of es) ≡ found_in (lookup (is_at (nat_cmp c)) es) → origin_in (cond a (Some (place_of e)) (find (is_of_context c) (map place_of es))) ≡ found_in (cond b (Some e.1) (lookup (is_at (nat_cmp c)) es))
     go true true h k = refl
     go true false h k = absurd cc
     go false true h k = absurd cc
@@ -64,9 +64,9 @@ set_origin c v (e ∷ es) d h = go (is_at (nat_cmp c) e.0) (at_is c e.0) (e.0 ==
     go false f false g h again = rw g (again h)
 
 -- a context that is open has a place
-found_home : (c : ℕ) (es : List (ℕ × Option Source)) → has (map ctx_of (map place_of es)) c ≡ is_some (lookup (is_at (nat_cmp c)) es)
-found_home c [] = refl
-found_home c (e ∷ es) = go (e.0 == c) (is_at (nat_cmp c) e.0) (at_is c e.0) (found_home c es)
+found_of_context : (c : ℕ) (es : List (ℕ × Option Source)) → has (map ctx_of (map place_of es)) c ≡ is_some (lookup (is_at (nat_cmp c)) es)
+found_of_context c [] = refl
+found_of_context c (e ∷ es) = go (e.0 == c) (is_at (nat_cmp c) e.0) (at_is c e.0) (found_of_context c es)
   where
     go : (a b : Bool) → b ≡ a → has (map ctx_of (map place_of es)) c ≡ is_some (lookup (is_at (nat_cmp c)) es) → (a || has (map ctx_of (map place_of es)) c) ≡ is_some (cond b (Some e.1) (lookup (is_at (nat_cmp c)) es))
     go true true h k = refl
@@ -95,7 +95,7 @@ module _ (n c : ℕ) (v : PlacesView) (es : List (ℕ × Option Source)) (same :
   origin_is o h = sym (ap (λ (u : PlacesView). origin_at n u.items) e ∙ ap (λ (m : ℕ). origin_at m v.items) same) ∙ origin_seen n es ∙ ap found_in h
 
   pub isnt_open : lookup (is_at (nat_cmp n)) es ≡ None → has (map ctx_of v.items) c ≡ false
-  isnt_open h = sym (ap (λ (u : PlacesView). has (map ctx_of u.items) n) e ∙ ap (has (map ctx_of v.items)) same) ∙ found_home n es ∙ ap is_some h
+  isnt_open h = sym (ap (λ (u : PlacesView). has (map ctx_of u.items) n) e ∙ ap (has (map ctx_of v.items)) same) ∙ found_of_context n es ∙ ap is_some h
 
   pub origins_written : (w u : Option Source) (fs : List (ℕ × Option Source)) → lookup (is_at (nat_cmp n)) es ≡ Some u → fs ≡ set_value (is_at (nat_cmp n)) es w → (d : ℕ) → origin_at d (map place_of fs) ≡ cond (c == d) (option_map origin_of w) (origin_at d v.items)
   origins_written w u fs h f d =
@@ -111,7 +111,7 @@ pub forgotten : (es : List (ℕ × Option Source)) (d : ℕ) → origin_at d (ma
 forgotten [] d = refl
 forgotten (e ∷ es) d = go (e.0 == d) (forgotten es d)
   where
-    go : (b : Bool) → origin_at d (map place_of (with_all None es)) ≡ None → origin_in (cond b (Some (place_of (e.0, None))) (find (is_home d) (map place_of (with_all None es)))) ≡ None
+    go : (b : Bool) → origin_at d (map place_of (with_all None es)) ≡ None → origin_in (cond b (Some (place_of (e.0, None))) (find (is_of_context d) (map place_of (with_all None es)))) ≡ None
     go true k = refl
     go false k = k
 
@@ -126,7 +126,7 @@ opens_none c [] e = go (c == e)
 opens_none c (x ∷ xs) e = go (x.ctx == e) (opens_none c xs e)
   where
     go : (b : Bool) → origin_at e (xs ++ record { ctx = c; stored = None } ∷ []) ≡ origin_at e xs
-        → origin_in (cond b (Some x) (find (is_home e) (xs ++ record { ctx = c; stored = None } ∷ []))) ≡ origin_in (cond b (Some x) (find (is_home e) xs))
+        → origin_in (cond b (Some x) (find (is_of_context e) (xs ++ record { ctx = c; stored = None } ∷ []))) ≡ origin_in (cond b (Some x) (find (is_of_context e) xs))
     go true h = refl
     go false h = h
 
@@ -158,7 +158,7 @@ module _ (c : ℕ) where
       last l m n h k f = grind (arith, nat_tests)
 
       go : (a : Bool) → (x.ctx == c) ≡ a → (b : Bool) → (x.ctx == e) ≡ b → (k : Bool) → (c == e) ≡ k → origin_at e (filter (λ (x : ReplyContext). not (x.ctx == c)) xs) ≡ cond k None (origin_at e xs)
-          → origin_at e (cond (not a) (x ∷ filter (λ (x : ReplyContext). not (x.ctx == c)) xs) (filter (λ (x : ReplyContext). not (x.ctx == c)) xs)) ≡ cond k None (origin_in (cond b (Some x) (find (is_home e) xs)))
+          → origin_at e (cond (not a) (x ∷ filter (λ (x : ReplyContext). not (x.ctx == c)) xs) (filter (λ (x : ReplyContext). not (x.ctx == c)) xs)) ≡ cond k None (origin_in (cond b (Some x) (find (is_of_context e) xs)))
       go true f true g true i h = h
       go true f true g false i h = absurd (third x.ctx c e f g i)
       go true f false g true i h = absurd (other x.ctx c e f g i)
