@@ -97,7 +97,7 @@ module _ {L : Type 0} (seen : L → LinkView) (o : Origins) (z : Setting) (old n
     are_progressing k ns g a =
         record {
           within = a.within;
-          front = all_mapped (IsProgressing seen o z old 1) (IsProgressing seen o z new 1) (progress_same 1) (take k ns) a.front;
+          ungreeted = all_mapped (IsProgressing seen o z old 1) (IsProgressing seen o z new 1) (progress_same 1) (take k ns) a.ungreeted;
           rest = all_mapped (WasGreeted seen o z old) (WasGreeted seen o z new) (λ n w. record { progressing = progress_same 0 n w.progressing; undone = w.undone; tried = w.tried }) (drop k ns) a.rest;
           all = a.all ∙ sym g;
         }

@@ -67,7 +67,7 @@ module _ {L : Type 0} (seen : L → LinkView) where
     others_go_on new met ticks link i all =
         record {
           within = i.within;
-          front = all_mapped (IsProgressing seen start.origins z (past_of h) 1) (IsProgressing seen start.origins z new 1) (progress_same seen start.origins z (past_of h) new met ticks 1) (take k ns) i.front;
+          ungreeted = all_mapped (IsProgressing seen start.origins z (past_of h) 1) (IsProgressing seen start.origins z new 1) (progress_same seen start.origins z (past_of h) new met ticks 1) (take k ns) i.ungreeted;
           rest = all_mapped (WasGreeted seen start.origins z (past_of h)) (WasGreeted seen start.origins z new) (λ n w. record { progressing = progress_same seen start.origins z (past_of h) new met ticks 0 n w.progressing; undone = w.undone; tried = w.tried }) (drop k ns) i.rest;
           all = all;
         }
@@ -106,7 +106,7 @@ module _ {L : Type 0} (seen : L → LinkView) where
           hand =
               record {
                 within = s.hand.within;
-                front = all_mapped (IsProgressing seen start.origins z (past_of h) 1) (IsProgressing seen start.origins z new 1) (progress_same seen start.origins z (past_of h) new met ticks 1) (take k ns) s.hand.front;
+                ungreeted = all_mapped (IsProgressing seen start.origins z (past_of h) 1) (IsProgressing seen start.origins z new 1) (progress_same seen start.origins z (past_of h) new met ticks 1) (take k ns) s.hand.ungreeted;
                 rest = all_mapped (WasGreeted seen start.origins z (past_of h)) (WasGreeted seen start.origins z new) (λ n w. record { progressing = progress_same seen start.origins z (past_of h) new met ticks 0 n w.progressing; undone = w.undone; tried = w.tried }) (drop k ns) s.hand.rest;
                 all = s.hand.all ∙ sym (greeting_is z h (t ∷ []) links);
                 asked = λ i j. let a = s.hand.asked i j in let b = ticks link.place in omega (arith, a, b);
@@ -118,13 +118,13 @@ module _ {L : Type 0} (seen : L → LinkView) where
     -- the first of those that are still to be greeted is taken out, and is the same link later
     pub to_hand : (net : NetView) (n : Newcomer L) (link : LinkView) → IsLater (seen n.opening.link) link → LinksStand seen z start h net (n ∷ ns) (suc k) → HandStands seen z start h net ns k link
     to_hand net n link later s =
-        let p = s.progressing.front.0 in
+        let p = s.progressing.ungreeted.0 in
         record {
           kept = s.kept;
           hand =
               record {
                 within = let w = s.progressing.within in omega (arith, w);
-                front = s.progressing.front.1;
+                ungreeted = s.progressing.ungreeted.1;
                 rest = s.progressing.rest;
                 all = ap (λ (m : ℕ). places seen (drop k ns) ++ m ∷ places seen (take k ns)) later.place ∙ (sym (in_turn (suc k) (n ∷ ns)) ∙ s.progressing.all);
                 asked = λ i j.
@@ -138,14 +138,14 @@ module _ {L : Type 0} (seen : L → LinkView) where
     pub stays_behind : (net : NetView) (n m : Newcomer L) → IsLater (seen n.opening.link) (seen m.opening.link) → IsSame n.opening m.opening → m.met ≡ n.met → IsUnderWay seen m.opening → IsUndone seen m.opening → HasTried seen m.opening → HasWaited (seen n.opening.link) (seen m.opening.link) → LinksStand seen z start h net (n ∷ ns) (suc k) → LinksStand seen z start h net (ns ++ m ∷ []) k
     stays_behind net n m later way met under undone tried waited s =
         let a = s.progressing in
-        let p = a.front.0 in
+        let p = a.ungreeted.0 in
         let w : k ≤ length ns = let x = a.within in omega (arith, x) in
         record {
           kept = s.kept;
           progressing =
               record {
                 within = omega (arith, w, length-append ns (m ∷ []));
-                front = subst (λ (xs : List (Newcomer L)). AllByRecursion (IsProgressing seen start.origins z (past_of h) 1) xs) (sym (take-append-le k ns (m ∷ []) w)) a.front.1;
+                ungreeted = subst (λ (xs : List (Newcomer L)). AllByRecursion (IsProgressing seen start.origins z (past_of h) 1) xs) (sym (take-append-le k ns (m ∷ []) w)) a.ungreeted.1;
                 rest = subst (λ (xs : List (Newcomer L)). AllByRecursion (WasGreeted seen start.origins z (past_of h)) xs) (sym (drop-append-le k ns (m ∷ []) w)) (all_behind (drop k ns) a.rest now_);
                 all = in_turn k (ns ++ m ∷ []) ∙ (where_ w ∙ (sym (in_turn (suc k) (n ∷ ns)) ∙ a.all));
               };
@@ -153,15 +153,15 @@ module _ {L : Type 0} (seen : L → LinkView) where
       where
         asked : CanRise (seen m.opening.link).idles → CanRise (seen m.opening.link).stalls → HasWaited (seen n.opening.link) (seen m.opening.link) → greeting_ticks (past_of h) (seen m.opening.link).place ≤ (seen m.opening.link).idles + (seen m.opening.link).stalls + 0
         asked i j (inl r) =
-            let b = later.idles in let c = later.stalls in let a = s.progressing.front.0.asked (omega (arith, b, i)) (omega (arith, c, j)) in
+            let b = later.idles in let c = later.stalls in let a = s.progressing.ungreeted.0.asked (omega (arith, b, i)) (omega (arith, c, j)) in
             let same : greeting_ticks (past_of h) (seen m.opening.link).place ≡ greeting_ticks (past_of h) (seen n.opening.link).place = ap (λ (x : ℕ). greeting_ticks (past_of h) x) later.place in omega (arith, a, same, b, c, i, j, r)
         asked i j (inr r) =
-            let b = later.idles in let c = later.stalls in let a = s.progressing.front.0.asked (omega (arith, b, i)) (omega (arith, c, j)) in
+            let b = later.idles in let c = later.stalls in let a = s.progressing.ungreeted.0.asked (omega (arith, b, i)) (omega (arith, c, j)) in
             let same : greeting_ticks (past_of h) (seen m.opening.link).place ≡ greeting_ticks (past_of h) (seen n.opening.link).place = ap (λ (x : ℕ). greeting_ticks (past_of h) x) later.place in omega (arith, a, same, b, c, i, j, r)
 
         now_ : WasGreeted seen start.origins z (past_of h) m
         now_ =
-            let p = s.progressing.front.0 in
+            let p = s.progressing.ungreeted.0 in
             record {
               progressing =
                   record { under_way = under; of_run = of_run_later seen start.origins z n.opening m.opening later way p.of_run; met = ap (λ (x : ℕ). met_at (past_of h) x) later.place ∙ (p.met ∙ ap Some (sym met)); asked = λ i j. asked i j waited };
@@ -207,7 +207,7 @@ module _ {L : Type 0} (seen : L → LinkView) where
         hand =
             record {
               within = omega arith;
-              front = tt;
+              ungreeted = tt;
               rest = all_mapped (WasGreeted seen start.origins z (past_of h)) (WasGreeted seen start.origins z new) (λ m w. one_on met ticks none m w) ns s.progressing.rest;
               all = ap (λ (xs : List ℕ). xs ++ link.place ∷ []) (ap (places seen) (sym (append-nil ns)) ∙ s.progressing.all) ∙ sym (greeting_after z start net net' h t e first refl l s.kept);
               asked = λ i j. let a = ticks link.place in let b = no_ticks (past_of h) link.place none in omega (arith, a, b);
@@ -249,7 +249,7 @@ module _ {L : Type 0} (seen : L → LinkView) where
         progressing =
             record {
               within = omega arith;
-              front = (record { under_way = under; of_run = run; met = met; asked = s.hand.asked }, tt);
+              ungreeted = (record { under_way = under; of_run = run; met = met; asked = s.hand.asked }, tt);
               rest = s.hand.rest;
               all = map-append (λ (x : Newcomer L). (seen x.opening.link).place) ns (n ∷ []) ∙ s.hand.all;
             };

@@ -113,7 +113,7 @@ module _ {L : Type 0} (seen : L → LinkView) where
 pub counts_through : (a b c : NetView) → SameCounts a b → SameCounts b c → SameCounts a c
 counts_through a b c f g = record { listens = g.listens ∙ f.listens; opened = g.opened ∙ f.opened; faults = g.faults ∙ f.faults; idles = g.idles ∙ f.idles }
 
--- nothing is at the front
+-- nothing is at the beginning
 pub none_left : {X : Type 0} (xs : List X) (len : ℕ) → len ≡ length xs → ((x : X) → 0 < len → None ≡ Some (get_or xs 0 x)) → xs ≡ []
 none_left [] len is h = refl
 none_left (x ∷ xs) len is h = let e = h x (omega (arith, is)) in cc

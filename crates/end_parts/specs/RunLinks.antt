@@ -48,7 +48,7 @@ pub record IsOfRun {L : Type 0} (seen : L → LinkView) (o : Origins) (z : Setti
   pub scheme : (seen n.link).scheme ≡ scheme_for n.way
   pub known : IsKnown o n.way
 
--- in the order in which they were handed out, where so many at the front are still to be greeted in this round
+-- in the order in which they were handed out, where so many at the beginning are still to be greeted in this round
 abbrev pub in_order : {A : Type 0} → ℕ → List A → List A
 in_order k xs = drop k xs ++ take k xs
 
@@ -66,10 +66,10 @@ pub record WasGreeted {L : Type 0} (seen : L → LinkView) (o : Origins) (z : Se
   pub undone : IsUndone seen n.opening
   pub tried : HasTried seen n.opening
 
--- so many at the front are still to be greeted in this round
+-- so many at the beginning are still to be greeted in this round
 pub record AreProgressing {L : Type 0} (seen : L → LinkView) (o : Origins) (z : Setting) (past : List Entry) (k : ℕ) (ns : List (Newcomer L)) : Type 0 where
   pub within : k ≤ length ns
-  pub front : AllByRecursion (IsProgressing seen o z past 1) (take k ns)
+  pub ungreeted : AllByRecursion (IsProgressing seen o z past 1) (take k ns)
   pub rest : AllByRecursion (WasGreeted seen o z past) (drop k ns)
   pub all : places seen (in_order k ns) ≡ greeting past
 
@@ -172,10 +172,10 @@ pub record LinksStand {L : Type 0} (seen : L → LinkView) (z : Setting) (start 
   pub kept : LinksKept z start h net
   pub progressing : AreProgressing seen start.origins z (past_of h) k ns
 
--- one link was taken out, in front of those that are still to be greeted; it was greeted in this round
+-- one link was taken out, before those that are still to be greeted; it was greeted in this round
 pub record InHand {L : Type 0} (seen : L → LinkView) (o : Origins) (z : Setting) (past : List Entry) (ns : List (Newcomer L)) (k : ℕ) (link : LinkView) : Type 0 where
   pub within : k ≤ length ns
-  pub front : AllByRecursion (IsProgressing seen o z past 1) (take k ns)
+  pub ungreeted : AllByRecursion (IsProgressing seen o z past 1) (take k ns)
   pub rest : AllByRecursion (WasGreeted seen o z past) (drop k ns)
   pub all : places seen (drop k ns) ++ link.place ∷ places seen (take k ns) ≡ greeting past
   pub asked : CanRise link.idles → CanRise link.stalls → greeting_ticks past link.place ≤ link.idles + link.stalls + 1

@@ -19,7 +19,7 @@ use std::alloc::Global;
 use std::sync::Wait;
 
 /// The most bytes of a body that is taken.
-pub const MAX_BODY: u32 = 1_048_576;
+pub const RECV_MAX_SIZE: u32 = 1_048_576;
 
 /// How many milliseconds the greetings of a link may take.
 const GREETING_TIME: u64 = 10_000;
@@ -119,7 +119,7 @@ fn attach<R: Wait, N: Net, P: Proto>(
     ensures out { IsOut result }
 {
     let place = opening.link.place();
-    match EndWire::over(alloc, opening, MAX_BODY) {
+    match EndWire::over(alloc, opening, RECV_MAX_SIZE) {
         Err((NoMemory, link)) => {
             miss(rt, net, single, link, Miss::NoMemory);
             NewcomerFate::Missed(Miss::NoMemory)

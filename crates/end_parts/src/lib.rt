@@ -21,7 +21,7 @@ mod shut;
 
 pub use dialer::Dialer;
 pub use error::EndError;
-pub use greeting::{MAX_BODY, NewcomerDecision, NewcomerFate, greet_one, miss};
+pub use greeting::{NewcomerDecision, NewcomerFate, RECV_MAX_SIZE, greet_one, miss};
 pub use listener::Listener;
 pub use name_dialer::NameDialer;
 pub use names::{LINKS_A_TURN, NameEnds};

@@ -55,7 +55,7 @@ module _ {L : Type 0} (seen : L → LinkView) (z : Setting) (start : Beginning) 
   next_round ns a =
       record {
         within = omega arith;
-        front = subst (λ (ms : List (Newcomer L)). AllByRecursion (IsProgressing seen start.origins z (past_of (h ++ t ∷ [])) 1) ms) (sym (take_all ns)) (all_mapped (WasGreeted seen start.origins z (past_of h)) (IsProgressing seen start.origins z (past_of (h ++ t ∷ [])) 1) (λ n w. progress_later seen start.origins z (past_of h) (past_of (h ++ t ∷ [])) (met_is z h (t ∷ []) none) 0 1 one_more n w.progressing) ns a.rest);
+        ungreeted = subst (λ (ms : List (Newcomer L)). AllByRecursion (IsProgressing seen start.origins z (past_of (h ++ t ∷ [])) 1) ms) (sym (take_all ns)) (all_mapped (WasGreeted seen start.origins z (past_of h)) (IsProgressing seen start.origins z (past_of (h ++ t ∷ [])) 1) (λ n w. progress_later seen start.origins z (past_of h) (past_of (h ++ t ∷ [])) (met_is z h (t ∷ []) none) 0 1 one_more n w.progressing) ns a.rest);
         rest = subst (λ (ms : List (Newcomer L)). AllByRecursion (WasGreeted seen start.origins z (past_of (h ++ t ∷ []))) ms) (sym (drop_all ns)) tt;
         all = ap (places seen) (order ns) ∙ (a.all ∙ sym (greeting_is z h (t ∷ []) none));
       }

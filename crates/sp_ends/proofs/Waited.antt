@@ -33,7 +33,7 @@ module _ {L : Type 0} (seen : L → LinkView) where
   pub waiting_more : (first : List (Newcomer L)) (opened k : ℕ) (ns : List (Newcomer L)) (n : Newcomer L) → HasWaitedSince seen first opened n → AreWaitingBehind seen first opened k ns → AreWaitingBehind seen first opened k (ns ++ n ∷ [])
   waiting_more first opened k ns n w a = record {
     within = let x = a.within in omega (arith, x, length-append ns (n ∷ []));
-    front = subst (λ (xs : List (Newcomer L)). AllByRecursion (IsFirstOrNew seen first opened) xs) (sym (take-append-le k ns (n ∷ []) a.within)) a.front;
+    ungreeted = subst (λ (xs : List (Newcomer L)). AllByRecursion (IsFirstOrNew seen first opened) xs) (sym (take-append-le k ns (n ∷ []) a.within)) a.ungreeted;
     rest = subst (λ (xs : List (Newcomer L)). AllByRecursion (HasWaitedSince seen first opened) xs) (sym (drop-append-le k ns (n ∷ []) a.within)) (all_behind (HasWaitedSince seen first opened) (drop k ns) n a.rest w);
   }
 
@@ -41,7 +41,7 @@ module _ {L : Type 0} (seen : L → LinkView) where
   pub waiting_rest : (first : List (Newcomer L)) (opened k r : ℕ) (n : Newcomer L) (ns : List (Newcomer L)) → k ≡ suc r → AreWaitingBehind seen first opened k (n ∷ ns) → IsFirstOrNew seen first opened n × AreWaitingBehind seen first opened r ns
   waiting_rest first opened k r n ns e a =
       let b : AreWaitingBehind seen first opened (suc r) (n ∷ ns) = subst (λ (m : ℕ). AreWaitingBehind seen first opened m (n ∷ ns)) e a in
-      (b.front.0, record { within = let x = b.within in omega (arith, x); front = b.front.1; rest = b.rest })
+      (b.ungreeted.0, record { within = let x = b.within in omega (arith, x); ungreeted = b.ungreeted.1; rest = b.rest })
 
   all_first : (first : List (Newcomer L)) (opened k : ℕ) (ns : List (Newcomer L)) → ((n : Newcomer L) → IsOneOf ns n → IsOneOf first n) → AllByRecursion (IsFirstOrNew seen first opened) (take k ns)
   all_first first opened zero [] all = tt
@@ -53,6 +53,6 @@ module _ {L : Type 0} (seen : L → LinkView) where
   pub waiting_none : (opened k : ℕ) (ns : List (Newcomer L)) → k ≡ length ns → AreWaitingBehind seen ns opened k ns
   waiting_none opened k ns e = record {
     within = omega (arith, e);
-    front = all_first ns opened k ns (λ n x. x);
+    ungreeted = all_first ns opened k ns (λ n x. x);
     rest = subst (λ (xs : List (Newcomer L)). AllByRecursion (HasWaitedSince seen ns opened) xs) (sym (drop_all k ns (omega (arith, e)))) tt;
   }

@@ -9,7 +9,7 @@ use Rattle.end_parts.specs.NewcomerSteps.{IsYoung, FateIsYoung, IsOut}
 use Rattle.sp_ends.specs.EndsTurns.{AreYoung}
 
 module _ {L : Type 0} (now : ℕ) where
-  -- none is left but those at the front
+  -- none is left but those at the beginning
   pub young_none : (k : ℕ) (ns : List (Newcomer L)) → length ns ≤ k → AreYoung now k ns
   young_none k ns le = subst (AllByRecursion (IsYoung now)) (sym (drop_all k ns le)) tt
 

@@ -145,7 +145,7 @@ AsksEach now ends old new = AsksUntilFull (16 * length ends.listeners + dues_of 
 abbrev pub AsksDue : ℕ → List Dialer → NetView → NetView → Type 0
 AsksDue now ds old new = CanRise new.idles → CanRise new.faults → sum_of old + dues_of now ds ≤ sum_of new
 
--- the same of all, but for so many at the front
+-- the same of all, but for so many at the beginning
 abbrev pub AreYoung : {L : Type 0} → ℕ → ℕ → List (Newcomer L) → Type 0
 AreYoung now k ns = AllByRecursion (IsYoung now) (drop k ns)
 
@@ -164,10 +164,10 @@ abbrev pub HasWaitedSince : {L : Type 0} → (L → LinkView) → List (Newcomer
 HasWaitedSince {L} seen first opened n =
     ((m : Newcomer L) × IsOneOf first m × HasWaitedOn seen m n) ⊎ ((opened ≤ (seen n.opening.link).place) × ((1 ≤ (seen n.opening.link).idles) ⊎ (1 ≤ (seen n.opening.link).stalls)))
 
--- so many at the front are still to be greeted; each other has waited
+-- so many at the beginning are still to be greeted; each other has waited
 pub record AreWaitingBehind {L : Type 0} (seen : L → LinkView) (first : List (Newcomer L)) (opened k : ℕ) (ns : List (Newcomer L)) : Type 0 where
   pub within : k ≤ length ns
-  pub front : AllByRecursion (IsFirstOrNew seen first opened) (take k ns)
+  pub ungreeted : AllByRecursion (IsFirstOrNew seen first opened) (take k ns)
   pub rest : AllByRecursion (HasWaitedSince seen first opened) (drop k ns)
 
 -- So many listeners were asked, until 256 links were in progress, and brought so many links at most

@@ -18,6 +18,6 @@ mod leave;
 mod links;
 mod turn;
 
-pub use end_parts::{EndError, MAX_BODY};
+pub use end_parts::{EndError, RECV_MAX_SIZE};
 pub use ends::Ends;
 pub use turn::EndsTurn;

@@ -4,9 +4,9 @@ ghost use Rattle.sp_socket.specs.Passes.{IsOf};
 ghost use Rattle.sp_socket.specs.Open.{KeepsPass};
 ghost use Rattle.sp_socket.specs.Turns.{TookTurn};
 
-use crate::acts::{CloseCtx, OpenCtx, SubscribeTopic, Unsubscribe};
 use crate::pass::Pass;
 use crate::socket::Socket;
+use crate::turn_calls::{CloseCtx, OpenCtx, SubscribeTopic, Unsubscribe};
 use sp_base::Ctx;
 use sp_core::{CtxError, TopicError};
 use sp_msg::Wire;

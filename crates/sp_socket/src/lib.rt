@@ -11,28 +11,28 @@
 //! hands out the wires that were not taken and the record of the whole history.
 #![tactic(auto)]
 
-mod act;
-mod acts;
 mod begin;
 mod boxed;
 mod calls;
+mod cancel;
 mod config;
 mod contexts;
-mod end;
-mod ending;
+mod core_call;
 mod expiring;
+mod finish;
 mod list;
 mod pass;
 mod pass_parts;
 mod record;
 mod shared;
 mod socket;
+mod turn_calls;
 mod wait;
 
 pub use aio_word::{Polled, Raced};
 pub use begin::open;
 pub use config::{Config, OpenError, Ticked};
-pub use end::Finished;
+pub use finish::Finished;
 pub use list::SocketPasses;
 pub use pass::Pass;
 pub use record::Record;

@@ -20,7 +20,7 @@ attach-requires-clause-stands g c =
     let n = c.args.newcomer in
     let m = c.greet-progress.new.self in
     let e = c.greet-progress.ensures in
-    (s.0, s.1, s.2, to_hand g.N.L.Link.seen c.args.single.now.setting s.0 c.args.single.now.seen s.1 s.2 (g.N.Net.seen c.args.net.now) n (g.N.L.Link.seen m.link) e.later s.3, of_run_later g.N.L.Link.seen s.0.origins c.args.single.now.setting n.opening m e.later e.opened.same s.3.progressing.front.0.of_run)
+    (s.0, s.1, s.2, to_hand g.N.L.Link.seen c.args.single.now.setting s.0 c.args.single.now.seen s.1 s.2 (g.N.Net.seen c.args.net.now) n (g.N.L.Link.seen m.link) e.later s.3, of_run_later g.N.L.Link.seen s.0.origins c.args.single.now.setting n.opening m e.later e.opened.same s.3.progressing.ungreeted.0.of_run)
 
 pub miss-requires-clause-stands : goal.miss-requires-clause-stands
 miss-requires-clause-stands g c =
@@ -42,7 +42,7 @@ returns-in-Attach-clause-stands g c =
     let n = c.args.newcomer in
     let m = c.greet-progress.new.self in
     let e = c.greet-progress.ensures in
-    c.attach.ensures.stands start ns k (to_hand g.N.L.Link.seen c.args.single.now.setting start c.args.single.now.seen ns k (g.N.Net.seen c.args.net.now) n (g.N.L.Link.seen m.link) e.later s) (of_run_later g.N.L.Link.seen start.origins c.args.single.now.setting n.opening m e.later e.opened.same s.progressing.front.0.of_run)
+    c.attach.ensures.stands start ns k (to_hand g.N.L.Link.seen c.args.single.now.setting start c.args.single.now.seen ns k (g.N.Net.seen c.args.net.now) n (g.N.L.Link.seen m.link) e.later s) (of_run_later g.N.L.Link.seen start.origins c.args.single.now.setting n.opening m e.later e.opened.same s.progressing.ungreeted.0.of_run)
 
 pub returns-in-Attach-clause-back : goal.returns-in-Attach-clause-back
 returns-in-Attach-clause-back g c =
@@ -54,7 +54,7 @@ returns-in-Miss-clause-stands g c =
     let n = c.args.newcomer in
     let m = c.greet-progress.new.self in
     let e = c.greet-progress.ensures in
-    let p = s.progressing.front.0 in
+    let p = s.progressing.ungreeted.0 in
     let hand = to_hand g.N.L.Link.seen c.args.single.now.setting start c.args.single.now.seen ns k (g.N.Net.seen c.args.net.now) n (g.N.L.Link.seen m.link) e.later s in
     let run = of_run_later g.N.L.Link.seen start.origins c.args.single.now.setting n.opening m e.later e.opened.same p.of_run in
     let cause = cause_of g.N.L.Link.seen start.origins c.args.single.now.setting c.args.single.now.seen n.opening m e.later run c.in-Miss.why c.greet-progress.result n.met c.args.now c.in-Miss.ensures e.opened.came_to p.met c.requires.now in

@@ -1,7 +1,7 @@
 use Rattle.sp_core.specs.Standing.{core_setting}
 use Rattle.sp_history.specs.declared.entry.RecordedAct.TheVariants as acts
 use Rattle.sp_socket.proofs.NoneTaken.{leaves, none_began}
-use Rattle.sp_socket.proofs.acts.BeginRecvCoreCall.act.Goals as goal
+use Rattle.sp_socket.proofs.turn_calls.BeginRecvCoreCall.act.Goals as goal
 
 pub returns-clause-turn : goal.returns-clause-turn
 returns-clause-turn g c = λ h s. let a = c.begin_recv.ensures.turn.turn h s in (a.0, a.1, a.2, (leaves h a.0 (none_began c.begin_recv.result (core_setting g.P.Proto.kind c.args.core.now) h a.0 c.args.k c.args.self.c acts.Recv c.args.self.deadline a.3.0), (a.3.0, c.begin_recv.ensures.memory)))

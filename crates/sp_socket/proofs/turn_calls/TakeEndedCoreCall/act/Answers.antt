@@ -1,6 +1,6 @@
 use Rattle.sp_core.specs.Standing.{core_setting}
 use Rattle.sp_socket.proofs.NoneTaken.{leaves, none_took}
-use Rattle.sp_socket.proofs.acts.TakeEndedCoreCall.act.Goals as goal
+use Rattle.sp_socket.proofs.turn_calls.TakeEndedCoreCall.act.Goals as goal
 
 pub returns-clause-turn : goal.returns-clause-turn
 returns-clause-turn g c = λ h s. let a = c.take_ended.ensures.turn h s in (a.0, a.1, a.2, (leaves h a.0 (none_took g.W.Wire.shown c.take_ended.result (core_setting g.P.Proto.kind c.args.core.now) h a.0 a.3), a.3))

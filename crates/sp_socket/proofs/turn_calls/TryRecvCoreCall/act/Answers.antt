@@ -2,7 +2,7 @@ use Rattle.std.proofs.Common.{[], ◌∷◌, ◌++◌}
 use Rattle.sp_core.specs.Standing.{core_setting}
 use Rattle.sp_socket.proofs.Acting.{legal_of}
 use Rattle.sp_socket.proofs.Immediately.{leaves_received}
-use Rattle.sp_socket.proofs.acts.TryRecvCoreCall.act.Goals as goal
+use Rattle.sp_socket.proofs.turn_calls.TryRecvCoreCall.act.Goals as goal
 
 pub returns-clause-turn : goal.returns-clause-turn
 returns-clause-turn g c = λ h s.
