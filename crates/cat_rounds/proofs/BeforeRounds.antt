@@ -60,7 +60,7 @@ ends_begin seen z start =
           carried = λ p place e. elim (none_some place e) [ ];
           others = λ place o. refl;
         };
-        progressing = record { within = omega arith; front = tt; rest = tt; all = refl };
+        progressing = record { within = omega arith; ungreeted = tt; rest = tt; all = refl };
       };
       asked = record {
         few = omega arith;

@@ -33,7 +33,10 @@ use Rattle.cat_play.specs.declared.status.Status.TheVariants as status
 use Rattle.cat_play.specs.Spending.{listens_of, dials_of}
 use Rattle.cat_player.specs.declared.player.Player.{Player}
 use Rattle.cat_player.specs.PlayerSteps.{Sinks}
-use Rattle.cat_rounds.specs.RunRounds.{RunStands, WentOrOver, PacedTo, is_dry_at}
+use Rattle.cat_rounds.specs.RunRounds.{LinksStand, RunStands, WentOrOver, PacedTo, is_dry_at}
+use Rattle.cat_rounds.specs.Parts.{IsRunning}
+use Rattle.cat_rounds.proofs.Opened.{links_of, run_of}
+use Rattle.cat_rounds.proofs.AllRounds.{run_at}
 use Rattle.cat_rounds.specs.Built.{IsEndOf, AddsEnd, EndsFor, Follows, ListensOnce, listen_names}
 use Rattle.sp_ends.specs.AddedEnds.{ListensAt, FailsToListen, IsNewDialer, ListensLink, DialsLink}
 use Rattle.end_parts.specs.AddedNames.{ListensName, DialsName}
@@ -284,50 +287,59 @@ grows net net' reg reg' e e' (ends.Dial (addrs.Inproc name)) ((named, kept), sam
     let m = same_net net net' same in
     record { listens = g.0; dials = g.1; opened = m.0; faults = m.1; one = omega arith; names_are = same_names reg reg' same_reg; apart = same_apart reg reg' same_reg }
 
--- the run stands with these ends over links
-with_ends : {L : Type 0} (seen : L → LinkView) (start : Beginning) (net net' : NetView) (s : SingleView) (e e' : LinkEndsView L) (p : Player) → s.seen ≡ [] → RunStands seen start s e p net false → EndsStand seen s.setting start [] net' e' → RunStands seen start s e' p net' false
-with_ends seen start net net' s e e' p empty run stand =
-    record { sound = run.sound; play = run.play; ends_stand = subst (λ (h : List (Turn Entry)). EndsStand seen s.setting start h net' e') (sym empty) stand; dry = run.dry }
+-- the ends stand on with these ends over links
+with_ends : {L : Type 0} (seen : L → LinkView) (start : Beginning) (net net' : NetView) (s : SingleView) (e e' : LinkEndsView L) → s.seen ≡ [] → LinksStand seen start s e net false → EndsStand seen s.setting start [] net' e' → LinksStand seen start s e' net' false
+with_ends seen start net net' s e e' empty links stand =
+    record { ends_stand = subst (λ (h : List (Turn Entry)). EndsStand seen s.setting start h net' e') (sym empty) stand; dry = links.dry }
 
-stood : {L : Type 0} (seen : L → LinkView) (start : Beginning) (net : NetView) (s : SingleView) (e : LinkEndsView L) (p : Player) → s.seen ≡ [] → RunStands seen start s e p net false → EndsStand seen s.setting start [] net e
-stood seen start net s e p empty run =
-    subst (λ (h : List (Turn Entry)). EndsStand seen s.setting start h net e) empty run.ends_stand
+stood : {L : Type 0} (seen : L → LinkView) (start : Beginning) (net : NetView) (s : SingleView) (e : LinkEndsView L) → s.seen ≡ [] → LinksStand seen start s e net false → EndsStand seen s.setting start [] net e
+stood seen start net s e empty links =
+    subst (λ (h : List (Turn Entry)). EndsStand seen s.setting start h net e) empty links.ends_stand
 
-listens_link : {L : Type 0} (seen : L → LinkView) (start : Beginning) (net net' : NetView) (s : SingleView) (e e' : LinkEndsView L) (p : Player) (addr : Addr) → s.seen ≡ [] → is_linked addr ≡ true → IsAmong addr start.origins.listens → ListensLink (Ok tt) addr e e' net net' → length e.listeners + length e.dialers < 64 → RunStands seen start s e p net false
-    → RunStands seen start s e' p net' false
-listens_link seen start net net' s e e' p addr empty linked of_plan (l, same, is, at) few run =
-    with_ends seen start net net' s e e' p empty run (listens_more seen s.setting start net net' e e' l (subst (λ (a : Addr). is_linked a ≡ true) (sym same) linked) (subst (λ (a : Addr). IsAmong a start.origins.listens) (sym same) of_plan) (subst (λ (a : Addr). ListensAt l.at (scheme_of a) net net') (sym same) at) is few (stood seen start net s e p empty run))
+listens_link : {L : Type 0} (seen : L → LinkView) (start : Beginning) (net net' : NetView) (s : SingleView) (e e' : LinkEndsView L) (addr : Addr) → s.seen ≡ [] → is_linked addr ≡ true → IsAmong addr start.origins.listens → ListensLink (Ok tt) addr e e' net net' → length e.listeners + length e.dialers < 64 → LinksStand seen start s e net false
+    → LinksStand seen start s e' net' false
+listens_link seen start net net' s e e' addr empty linked of_plan (l, same, is, at) few links =
+    with_ends seen start net net' s e e' empty links (listens_more seen s.setting start net net' e e' l (subst (λ (a : Addr). is_linked a ≡ true) (sym same) linked) (subst (λ (a : Addr). IsAmong a start.origins.listens) (sym same) of_plan) (subst (λ (a : Addr). ListensAt l.at (scheme_of a) net net') (sym same) at) is few (stood seen start net s e empty links))
 
-dials_link : {L : Type 0} (seen : L → LinkView) (start : Beginning) (net net' : NetView) (s : SingleView) (e e' : LinkEndsView L) (p : Player) (addr : Addr) → s.seen ≡ [] → IsAmong addr start.origins.dials → DialsLink (Ok tt) addr e e' → net' ≡ net → length e.listeners + length e.dialers < 64 → RunStands seen start s e p net false
-    → RunStands seen start s e' p net' false
-dials_link seen start net net' s e e' p addr empty of_plan (d, n, is) same few run =
-    subst (λ (m : NetView). RunStands seen start s e' p m false) (sym same) (with_ends seen start net net s e e' p empty run (dials_more seen s.setting start net e e' d addr n of_plan is few (stood seen start net s e p empty run)))
+dials_link : {L : Type 0} (seen : L → LinkView) (start : Beginning) (net net' : NetView) (s : SingleView) (e e' : LinkEndsView L) (addr : Addr) → s.seen ≡ [] → IsAmong addr start.origins.dials → DialsLink (Ok tt) addr e e' → net' ≡ net → length e.listeners + length e.dialers < 64 → LinksStand seen start s e net false
+    → LinksStand seen start s e' net' false
+dials_link seen start net net' s e e' addr empty of_plan (d, n, is) same few links =
+    subst (λ (m : NetView). LinksStand seen start s e' m false) (sym same) (with_ends seen start net net s e e' empty links (dials_more seen s.setting start net e e' d addr n of_plan is few (stood seen start net s e empty links)))
 
--- the run stands on where the ends over links and the net are those from before
-same_run : {L : Type 0} (seen : L → LinkView) (start : Beginning) (net net' : NetView) (s : SingleView) (e e' : LinkEndsView L) (p : Player) (is_dry : Bool) → e' ≡ e → net' ≡ net → RunStands seen start s e p net is_dry → RunStands seen start s e' p net' is_dry
-same_run seen start net net' s e e' p is_dry is same run =
-    subst (λ (m : NetView). RunStands seen start s e' p m is_dry) (sym same) (subst (λ (w : LinkEndsView _). RunStands seen start s w p net is_dry) (sym is) run)
+-- the ends stand on where those over links, and the net, are those from before
+kept_ends : {L : Type 0} (seen : L → LinkView) (start : Beginning) (net net' : NetView) (s : SingleView) (e e' : LinkEndsView L) (is_dry : Bool) → e' ≡ e → net' ≡ net → LinksStand seen start s e net is_dry → LinksStand seen start s e' net' is_dry
+kept_ends seen start net net' s e e' is_dry is same links =
+    subst (λ (m : NetView). LinksStand seen start s e' m is_dry) (sym same) (subst (λ (w : LinkEndsView _). LinksStand seen start s w net is_dry) (sym is) links)
 
-pub adds : {L : Type 0} (seen : L → LinkView) (start : Beginning) (net net' : NetView) (reg reg' : Registry) (s : SingleView) (e e' : EndsView L) (p : Player) (x : End) → s.seen ≡ [] → IsEndOf start.origins x → AddsEnd (Ok tt) x e e' net net' reg reg' → length e.links.listeners + length e.links.dialers < 64 → RunStands seen start s e.links p net false
-    → RunStands seen start s e'.links p net' false
-adds seen start net net' reg reg' s e e' p (ends.Listen (addrs.Tcp host port)) empty of_plan (link, kept, same) few run =
-    listens_link seen start net net' s e.links e'.links p (addrs.Tcp host port) empty refl of_plan link few run
-adds seen start net net' reg reg' s e e' p (ends.Listen (addrs.Ws host port path)) empty of_plan (link, kept, same) few run =
-    listens_link seen start net net' s e.links e'.links p (addrs.Ws host port path) empty refl of_plan link few run
-adds seen start net net' reg reg' s e e' p (ends.Listen (addrs.Inproc name)) empty of_plan (named, kept, same) few run =
-    same_run seen start net net' s e.links e'.links p false kept same run
-adds seen start net net' reg reg' s e e' p (ends.Dial (addrs.Tcp host port)) empty of_plan ((link, kept), same, same_reg) few run =
-    dials_link seen start net net' s e.links e'.links p (addrs.Tcp host port) empty of_plan link same few run
-adds seen start net net' reg reg' s e e' p (ends.Dial (addrs.Ws host port path)) empty of_plan ((link, kept), same, same_reg) few run =
-    dials_link seen start net net' s e.links e'.links p (addrs.Ws host port path) empty of_plan link same few run
-adds seen start net net' reg reg' s e e' p (ends.Dial (addrs.Inproc name)) empty of_plan ((named, kept), same, same_reg) few run =
-    same_run seen start net net' s e.links e'.links p false kept same run
+pub adds : {L : Type 0} (seen : L → LinkView) (start : Beginning) (net net' : NetView) (reg reg' : Registry) (s : SingleView) (e e' : EndsView L) (x : End) → s.seen ≡ [] → IsEndOf start.origins x → AddsEnd (Ok tt) x e e' net net' reg reg' → length e.links.listeners + length e.links.dialers < 64 → LinksStand seen start s e.links net false
+    → LinksStand seen start s e'.links net' false
+adds seen start net net' reg reg' s e e' (ends.Listen (addrs.Tcp host port)) empty of_plan (link, kept, same) few links =
+    listens_link seen start net net' s e.links e'.links (addrs.Tcp host port) empty refl of_plan link few links
+adds seen start net net' reg reg' s e e' (ends.Listen (addrs.Ws host port path)) empty of_plan (link, kept, same) few links =
+    listens_link seen start net net' s e.links e'.links (addrs.Ws host port path) empty refl of_plan link few links
+adds seen start net net' reg reg' s e e' (ends.Listen (addrs.Inproc name)) empty of_plan (named, kept, same) few links =
+    kept_ends seen start net net' s e.links e'.links false kept same links
+adds seen start net net' reg reg' s e e' (ends.Dial (addrs.Tcp host port)) empty of_plan ((link, kept), same, same_reg) few links =
+    dials_link seen start net net' s e.links e'.links (addrs.Tcp host port) empty of_plan link same few links
+adds seen start net net' reg reg' s e e' (ends.Dial (addrs.Ws host port path)) empty of_plan ((link, kept), same, same_reg) few links =
+    dials_link seen start net net' s e.links e'.links (addrs.Ws host port path) empty of_plan link same few links
+adds seen start net net' reg reg' s e e' (ends.Dial (addrs.Inproc name)) empty of_plan ((named, kept), same, same_reg) few links =
+    kept_ends seen start net net' s e.links e'.links false kept same links
 
--- the same where the socket and the play are those from before
+-- the same where the socket is that from before
+pub adds_links : {L : Type 0} (seen : L → LinkView) (start : Beginning) (net net' : NetView) (reg reg' : Registry) (s s' : SingleView) (e e' : EndsView L) (x : End) → s.seen ≡ [] → s' ≡ s → IsEndOf start.origins x → AddsEnd (Ok tt) x e e' net net' reg reg' → length e.links.listeners + length e.links.dialers < 64 → LinksStand seen start s e.links net false
+    → LinksStand seen start s' e'.links net' false
+adds_links seen start net net' reg reg' s s' e e' x empty same of_plan added few links =
+    subst (λ (v : SingleView). LinksStand seen start v e'.links net' false) (sym same) (adds seen start net net' reg reg' s e e' x empty of_plan added few links)
+
+same_running : (s s' : SingleView) (p p' : Player) → s' ≡ s → p' ≡ p → IsRunning s p → IsRunning s' p'
+same_running s s' p p' same_s same_p r = subst (λ (v : SingleView). IsRunning v p') (sym same_s) (subst (λ (q : Player). IsRunning s q) (sym same_p) r)
+
+-- the run stands on where the play is that from before too
 pub adds_on : {L : Type 0} (seen : L → LinkView) (start : Beginning) (net net' : NetView) (reg reg' : Registry) (s s' : SingleView) (e e' : EndsView L) (p p' : Player) (x : End) → s.seen ≡ [] → s' ≡ s → p' ≡ p → IsEndOf start.origins x → AddsEnd (Ok tt) x e e' net net' reg reg' → length e.links.listeners + length e.links.dialers < 64 → RunStands seen start s e.links p net false
     → RunStands seen start s' e'.links p' net' false
 adds_on seen start net net' reg reg' s s' e e' p p' x empty same_s same_p of_plan added few run =
-    subst (λ (v : SingleView). RunStands seen start v e'.links p' net' false) (sym same_s) (subst (λ (q : Player). RunStands seen start s e'.links q net' false) (sym same_p) (adds seen start net net' reg reg' s e e' p x empty of_plan added few run))
+    run_of seen start s' e'.links p' net' false (same_running s s' p p' same_s same_p (record { sound = run.sound; play = run.play })) (adds_links seen start net net' reg reg' s s' e e' x empty same_s of_plan added few (links_of seen start s e.links p net false run))
 
 -- ---- The net fails to listen
 
@@ -354,9 +366,10 @@ ends_fail seen z start h net net' e f s =
       few = s.few;
     }
 
--- a run behind which no turn of the socket lies, whatever its status
-at_dry : {L : Type 0} (seen : L → LinkView) (start : Beginning) (net : NetView) (s : SingleView) (e : LinkEndsView L) (p : Player) → RunStands seen start s e p net false → RunStands seen start s e p net (is_dry_at s)
-at_dry seen start net s e p run = record { sound = run.sound; play = run.play; ends_stand = run.ends_stand; dry = refl }
+-- the run stands on where the ends over links and the net are those from before
+same_run : {L : Type 0} (seen : L → LinkView) (start : Beginning) (net net' : NetView) (s : SingleView) (e e' : LinkEndsView L) (p : Player) (is_dry : Bool) → e' ≡ e → net' ≡ net → RunStands seen start s e p net is_dry → RunStands seen start s e' p net' is_dry
+same_run seen start net net' s e e' p is_dry is same run =
+    subst (λ (m : NetView). RunStands seen start s e' p m is_dry) (sym same) (subst (λ (w : LinkEndsView _). RunStands seen start s w p net is_dry) (sym is) run)
 
 refuses_link : {L : Type 0} (seen : L → LinkView) (start : Beginning) (net net' : NetView) (s : SingleView) (e e' : LinkEndsView L) (p : Player) (addr : Addr) (why : EndError) → ListensLink (Err why) addr e e' net net' → RunStands seen start s e p net false → RunStands seen start s e' p net' false
 refuses_link seen start net net' s e e' p addr errors.Fault (same, f) run =
@@ -388,7 +401,7 @@ refuses seen start net net' reg reg' s e e' p (ends.Dial (addrs.Inproc name)) wh
 pub refuses_on : {L : Type 0} (seen : L → LinkView) (start : Beginning) (net net' : NetView) (reg reg' : Registry) (s s' : SingleView) (e e' : EndsView L) (p p' : Player) (x : End) (why : EndError) → s' ≡ s → p' ≡ p → AddsEnd (Err why) x e e' net net' reg reg' → RunStands seen start s e.links p net false
     → RunStands seen start s' e'.links p' net' (is_dry_at s')
 refuses_on seen start net net' reg reg' s s' e e' p p' x why same_s same_p failed run =
-    at_dry seen start net' s' e'.links p' (subst (λ (v : SingleView). RunStands seen start v e'.links p' net' false) (sym same_s) (subst (λ (q : Player). RunStands seen start s e'.links q net' false) (sym same_p) (refuses seen start net net' reg reg' s e e' p x why failed run)))
+    run_at seen start net' s' e'.links p' false (subst (λ (v : SingleView). RunStands seen start v e'.links p' net' false) (sym same_s) (subst (λ (q : Player). RunStands seen start s e'.links q net' false) (sym same_p) (refuses seen start net net' reg reg' s e e' p x why failed run)))
 
 -- why an end was refused: the net failed to listen, or the name is listened on
 pub record IsRefused (why : EndError) (x : End) (net net' : NetView) (reg : Registry) : Type 0 where

@@ -1,3 +1,4 @@
+pub mod Opened
 pub mod Cleared
 pub mod Rounding
 pub mod PlayTicks

@@ -7,11 +7,13 @@ use Rattle.sp_history.specs.declared.entry.Entry.{Entry}
 use Rattle.sp_history.specs.declared.setting.Setting.{Setting}
 use Rattle.sp_history.specs.Past.{past_of}
 use Rattle.sp_history.specs.Swept.{IsSwept}
+use Rattle.sp_history.proofs.Appending.{past_of-append}
 use Rattle.core_parts.specs.declared.served.Served.{Served}
 use Rattle.sp_single.specs.Singles.{SingleView, TookOne, Ticks}
 use Rattle.end_parts.specs.SocketSteps.{Quietly}
 use Rattle.cat_play.specs.Scripts.{under_way}
 use Rattle.cat_play.specs.Steps.{AddsNone, moves_ends, moves_play}
+use Rattle.cat_play.proofs.Stepping.{under_way_stays}
 use Rattle.cat_player.specs.declared.player.PlayEnd.TheVariants as overs
 use Rattle.cat_player.specs.declared.player.Player.{Player}
 use Rattle.cat_rounds.specs.declared.rounds.Going.TheVariants as goings
@@ -19,8 +21,8 @@ use Rattle.cat_rounds.specs.declared.rounds.Round.{Round}
 use Rattle.cat_rounds.specs.declared.rounds.Round.TheVariants as rounds
 use Rattle.cat_player.specs.Lasting.{IsUnderWay}
 use Rattle.cat_player.specs.PlayerSteps.{Stands, GoesOnBy, IsKept}
-use Rattle.cat_rounds.specs.Resting.{IsAtRest, MovesStill, RoundMoves}
-use Rattle.cat_rounds.proofs.Rounding.{ServesSo}
+use Rattle.cat_rounds.specs.Resting.{BeginsNothing, IsAtRest, MovesStill, RoundMoves}
+use Rattle.cat_rounds.proofs.Rounding.{ServesSo, serving_silent}
 
 -- ---- At rest
 
@@ -32,24 +34,27 @@ kept_is : (a b c d : Option OpName) → c ≡ a → d ≡ b → IsKept a b → I
 kept_is a b c d e f (inl none) = inl (f ∙ none)
 kept_is a b c d e f (inr same) = inr (f ∙ same ∙ sym e)
 
--- the same after something that left it
-pub kept_then : (a b c : Option OpName) → b ≡ a → IsKept b c → IsKept a c
-kept_then a b c e (inl none) = inl none
-kept_then a b c e (inr same) = inr (same ∙ e)
+-- what is under way in the hand is so in the history
+pub kept_on : (o : Option OpName) (s s' : SingleView) (p p' : Player) (t : ℕ) → Stands s p t → Stands s' p' t → under_way (past_of s.seen) ≡ o → IsKept p.op p'.op → IsKept o (under_way (past_of s'.seen))
+kept_on o s s' p p' t was now_ same kept = kept_is p.op p'.op o (under_way (past_of s'.seen)) (sym same ∙ hand_is p.op s.seen was.play.hand) (hand_is p'.op s'.seen now_.play.hand) kept
 
 pub rests_is : (a b : Bool) → goings.Rests a ≡ goings.Rests b → a ≡ b
 rests_is a b e = cc
 
+-- a turn that serves the pipes leaves what is under way
+under_way_served : (r : Served) (s s' : SingleView) → TookOne (ServesSo r) s s' → under_way (past_of s'.seen) ≡ under_way (past_of s.seen)
+under_way_served r s s' took = ap (λ (h : List (Turn Entry)). under_way (past_of h)) took.seen ∙ (ap under_way (past_of-append s.seen took.turn) ∙ under_way_stays took.turn.entries (past_of s.seen) (serving_silent took.turn.entries took.said.2.kinds))
+
 -- after a serve in which nothing moved, and steps that began nothing
-pub at_rest : (r : Served) (s s' s'' : SingleView) (p q : Player) (t : ℕ) → TookOne (ServesSo r) s s' → r.moved ≡ false → GoesOnBy s' s'' → Stands s p t → Stands s'' q t → IsKept p.op q.op → IsAtRest s''
-at_rest r s s' s'' p q t took still on was after kept =
+pub at_rest : (r : Served) (s s' s'' : SingleView) → TookOne (ServesSo r) s s' → r.moved ≡ false → GoesOnBy s' s'' → BeginsNothing s' s'' → IsAtRest s''
+at_rest r s s' s'' took still on kept =
     record {
       before = s.seen;
       turn = took.turn;
       since = subst (λ (h : List (Turn Entry)). AddsNone moves_ends h s''.seen) took.seen on.links;
       swept = subst (λ (z : Setting). IsSwept z (past_of s.seen) took.turn) (sym (on.setting ∙ took.setting)) took.said.0;
       still = sym took.said.3.2 ∙ still;
-      none_begun = kept_is p.op q.op (under_way (past_of s.seen)) (under_way (past_of s''.seen)) (hand_is p.op s.seen was.play.hand) (hand_is q.op s''.seen after.play.hand) kept;
+      none_begun = subst (λ (o : Option OpName). IsKept o (under_way (past_of s''.seen))) (under_way_served r s s' took) kept;
     }
 
 -- ---- Turns more

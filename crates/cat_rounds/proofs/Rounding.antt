@@ -22,9 +22,10 @@ use Rattle.cat_play.specs.Steps.{moves_ends, moves_play}
 use Rattle.cat_player.specs.declared.player.PlayEnd.TheVariants as overs
 use Rattle.cat_player.specs.declared.player.Player.{Player}
 use Rattle.cat_player.specs.Lasting.{play_of, PlayStands, IsUnderWay, HasPrinted, HasServed, MayTick, AreOn}
+use Rattle.cat_rounds.specs.Parts.{RunPartsView}
 use Rattle.cat_rounds.specs.RunRounds.{AreCleared, has_more}
 use Rattle.cat_player.specs.PlayerSteps.{Stands, GoesOnBy, SameScript, KnowsPipes}
-use Rattle.cat_player.proofs.Silent.{keeps_all, adds_then, swept_stays}
+use Rattle.cat_player.proofs.Silent.{keeps_all, adds_nothing, adds_then, swept_stays}
 use Rattle.cat_player.proofs.BeginOrder.{goes_on_while_busy, free_pends_none}
 use Rattle.cat_rounds.proofs.Cleared.{is_stall, all_cleared}
 use Rattle.cat_play.proofs.Stepping.{open_is}
@@ -77,21 +78,27 @@ served_on s s' g was =
 
 -- ---- One part after the other
 
+pub goes_nowhere : (a : SingleView) → GoesOnBy a a
+goes_nowhere a = record { setting = refl; links = adds_nothing moves_ends a.seen }
+
 pub goes_then : (a b c : SingleView) → GoesOnBy a b → GoesOnBy b c → GoesOnBy a c
 goes_then a b c g h = record { setting = h.setting ∙ g.setting; links = adds_then moves_ends a.seen b.seen c.seen g.links h.links }
 
 -- a part of a round that went well
-pub record Along (s s' : SingleView) (p p' : Player) (out out' : SinkView) (t : ℕ) : Type 0 where
-  pub stands : Stands s' p' t
+pub record Along (s s' : SingleView) (p p' : Player) (out out' : SinkView) : Type 0 where
   pub goes_on : GoesOnBy s s'
   pub script : SameScript p p'
   pub printed : (before : Option (List ℕ)) → HasPrinted before out.text s.seen p → HasPrinted before out'.text s'.seen p'
   pub later : out.faults ≤ out'.faults
 
-pub along_then : (a b c : SingleView) (p q r : Player) (x y w : SinkView) (t : ℕ) → Along a b p q x y t → Along b c q r y w t → Along a c p r x w t
-along_then a b c p q r x y w t f g =
+-- nothing was done, on the parts in use
+pub along_none : {L : Type 0} (a b : RunPartsView L) (out : SinkView) → a ≡ b → Along b.single a.single b.player a.player out out
+along_none a b out is =
+    subst (λ (v : RunPartsView _). Along v.single a.single v.player a.player out out) is (record { goes_on = goes_nowhere a.single; script = refl; printed = λ before h. h; later = omega arith })
+
+pub along_then : (a b c : SingleView) (p q r : Player) (x y w : SinkView) → Along a b p q x y → Along b c q r y w → Along a c p r x w
+along_then a b c p q r x y w f g =
     record {
-      stands = g.stands;
       goes_on = goes_then a b c f.goes_on g.goes_on;
       script = g.script ∙ f.script;
       printed = λ before h. g.printed before (f.printed before h);
@@ -143,20 +150,27 @@ abbrev pub ServesSo : Served → Setting → List (Turn Entry) → Turn Entry �
 ServesSo r z h t =
     IsSwept z (past_of h) t × AreFlushed (past_of h) t × IsServeTurn t × ServedBy r t × (r.up ≡ length (up (past_of (h ++ t ∷ []))))
 
-pub serve_along : (r : Served) (s s' : SingleView) (p : Player) (out : SinkView) (t : ℕ) → TookOne (ServesSo r) s s' → Stands s p t → Along s s' p p out out t × HasServed s'.setting s'.seen
+-- what it leaves
+pub record ServedOnce (s s' : SingleView) (p : Player) (out : SinkView) (t : ℕ) : Type 0 where
+  pub stands : Stands s' p t
+  pub along : Along s s' p p out out
+  pub served : HasServed s'.setting s'.seen
+
+pub serve_along : (r : Served) (s s' : SingleView) (p : Player) (out : SinkView) (t : ℕ) → TookOne (ServesSo r) s s' → Stands s p t → ServedOnce s s' p out t
 serve_along r s s' p out t took stands =
     let kinds = took.said.2.kinds in
     let silent = serving_silent took.turn.entries kinds in
-    let linkless = serving_linkless took.turn.entries kinds in (
-      record {
-        stands = silent_stands s s' took p t silent stands;
+    let linkless = serving_linkless took.turn.entries kinds in
+    record {
+      stands = silent_stands s s' took p t silent stands;
+      along = record {
         goes_on = goes_on_by s s' took linkless;
         script = refl;
         printed = λ before h. h ∙ ap (λ (ts : List (List ℕ)). grown before (joined ts)) (sym (silent_texts s s' took (play_of p.script) silent stands.play.is_open));
         later = omega arith;
-      },
-      at_new s s' took (λ z h. HasServed z h) (a_serve_serves s.setting s.seen took.turn (no_tick took.turn.entries linkless) took.said.0),
-    )
+      };
+      served = at_new s s' took (λ z h. HasServed z h) (a_serve_serves s.setting s.seen took.turn (no_tick took.turn.entries linkless) took.said.0);
+    }
 
 -- ---- What a serve returns
 

@@ -34,7 +34,7 @@ use Rattle.cat_play.proofs.Stepping.{stays, goes_on, open_is, under_way_stays, l
 use Rattle.cat_play.proofs.OneEntryTurns.{turn_of_one}
 use Rattle.cat_player.specs.declared.player.Player.{Player}
 use Rattle.cat_player.specs.Lasting.{play_of, PlayStands, IsUnderWay, IsLast, IsDue, AreOn, HasPrinted, MayTick}
-use Rattle.cat_rounds.specs.RunRounds.{RunStands, PacedTo, is_dry_at}
+use Rattle.cat_rounds.specs.RunRounds.{RunStands, PacedTo}
 use Rattle.cat_rounds.specs.SubscribedTopics.{CanSubscribe, IsBefore, Prepares}
 use Rattle.cat_player.proofs.Silent.{adds_one, adds_nothing, last_send_stays, ticked_stays}
 use Rattle.cat_player.proofs.Settling.{settling_silent, settling_linkless, none_around}
@@ -272,10 +272,6 @@ fresh_before s p empty play sound =
 -- the run stands on after them
 pub prepared_run : {L : Type 0} (seen : L → LinkView) (start : Beginning) (net : NetView) (s s' : SingleView) (e : LinkEndsView L) (p : Player) → Prepares s s' p → RunStands seen start s e p net false → RunStands seen start s' e p net false
 prepared_run seen start net s s' e p g run = run_linkless seen start net s s' e p g.goes_on g.before.play g.before.sound run.dry run.ends_stand
-
--- with what is said of being out of memory for a link, of any socket
-pub run_at : {L : Type 0} (seen : L → LinkView) (start : Beginning) (net : NetView) (s : SingleView) (e : LinkEndsView L) (p : Player) → RunStands seen start s e p net false → RunStands seen start s e p net (is_dry_at s)
-run_at seen start net s e p run = record { sound = run.sound; play = run.play; ends_stand = run.ends_stand; dry = refl }
 
 -- the first tick may come
 pub first_may_tick : (s : SingleView) (p : Player) → IsBefore s p → AreOn p.script.topics (past_of s.seen) → MayTick s.setting s.seen p

@@ -2,6 +2,7 @@
 use Rattle.std.proofs.Common.{◌≡◌, refl, ap, sym, ◌∙◌, subst, List, [], ◌∷◌, ◌++◌, ℕ, ◌+◌, ◌≤◌, Bool, true, false, length, Option, inl}
 use Rattle.std.specs.Prelude.{◌&&◌, not}
 use Rattle.turn_lock.specs.declared.turn.Turn.{Turn}
+use Rattle.sp_spec.specs.Outside.{grown}
 use Rattle.sp_base.specs.Views.{LinkView, NetView}
 use Rattle.sp_history.specs.declared.entry.Entry.{Entry}
 use Rattle.sp_history.specs.declared.entry.Entry.TheVariants.{Tick}
@@ -15,7 +16,7 @@ use Rattle.sp_history.proofs.Appending.{past_of-append}
 use Rattle.sp_single.specs.Singles.{SingleView, TookOne, Ticks, KeepsOpen, IsSound}
 use Rattle.end_parts.specs.EndViews.{EndsView, LinkEndsView, Beginning}
 use Rattle.end_parts.specs.RunLinks.{EndsStand}
-use Rattle.sp_ends.specs.EndsTurns.{EndsTicked}
+use Rattle.sp_ends.specs.EndsTurns.{EndsTicked, SameEnds}
 use Rattle.end_parts.specs.SocketSteps.{Quietly, IsDry}
 use Rattle.end_parts.proofs.EndsStay.{linkless}
 use Rattle.sp_ends.proofs.TickedEnds.{ticked}
@@ -26,9 +27,11 @@ use Rattle.cat_play.proofs.Stepping.{stays}
 use Rattle.cat_player.specs.declared.player.Player.{Player}
 use Rattle.cat_player.specs.Lasting.{play_of, PlayStands, HasPrinted, MayTick, AreOn}
 use Rattle.cat_player.proofs.TopicsStay.{on_turn}
-use Rattle.cat_player.specs.PlayerSteps.{Stands, GoesOnBy, HasPrintedCut}
+use Rattle.cat_player.specs.PlayerSteps.{Stands, GoesOnBy, SameScript, HasPrintedCut}
 use Rattle.sp_lane.specs.Registry.{Registry}
-use Rattle.cat_rounds.specs.RunRounds.{RunStands, RoundStands, TurnsNames, PrintsRound, past_now}
+use Rattle.cat_rounds.specs.Late.{IsLateBy}
+use Rattle.cat_rounds.specs.Parts.{RunPartsView, IsRunning}
+use Rattle.cat_rounds.specs.RunRounds.{RunIsOpen, RunStands, RoundStands, SameRun, TurnsNames, PrintsRound, past_now}
 use Rattle.cat_rounds.specs.declared.rounds.Round.{Round}
 use Rattle.cat_rounds.specs.declared.rounds.Round.TheVariants as rounds
 use Rattle.cat_play.specs.declared.status.Status.TheVariants as status
@@ -38,6 +41,13 @@ use Rattle.cat_player.proofs.Begins.{at_new, sound_new}
 use Rattle.cat_rounds.proofs.PlayTicks.{first_tick, ticked_play, ticked_now, ticked_texts, ticked_ticks, ticked_dry, ticked_topics, dry_stays, ticks_step}
 
 -- ---- The tick
+
+-- what a round asks for
+pub record MayRound {L : Type 0} (seen : L → LinkView) (net : NetView) (r : RunPartsView L) (n : ℕ) : Type 0 where
+  pub stands : RunIsOpen seen r net
+  pub may_tick : MayTick r.single.setting r.single.seen r.player
+  pub later : past_now r.single ≤ n
+  pub late : IsLateBy 0 r.single r.player
 
 -- the run behind the tick of a round
 pub record HasTicked {L : Type 0} (seen : L → LinkView) (start : Beginning) (net : NetView) (s s' : SingleView) (e : LinkEndsView L) (p : Player) (n : ℕ) : Type 0 where
@@ -89,6 +99,10 @@ quiet_stands s s' p n q sound was =
 pub quiet_texts : (s s' : SingleView) (p : Player) (n : ℕ) → Quietly s s' → Stands s p n → texts (play_of p.script) (past_of s'.seen) ≡ texts (play_of p.script) (past_of s.seen)
 quiet_texts s s' p n q was = texts_stay_so (play_of p.script) s.seen s'.seen was.play.is_open q.silent
 
+-- where no text is due, what was printed is all
+pub prints_on : (before text : Option (List ℕ)) (s s' : SingleView) (p : Player) → texts (play_of p.script) (past_of s'.seen) ≡ texts (play_of p.script) (past_of s.seen) → HasPrinted before text s.seen p → HasPrinted before text s'.seen p
+prints_on before text s s' p same had = had ∙ ap (λ (ts : List (List ℕ)). grown before (joined ts)) (sym same)
+
 pub quiet_ticks : (s s' : SingleView) → Quietly s s' → length (ticks (past_of s'.seen)) ≡ length (ticks (past_of s.seen))
 quiet_ticks s s' q = keeps_all moves_play (λ g. length (ticks (past_of g)) ≡ length (ticks (past_of s.seen))) (ticks_turn (length (ticks (past_of s.seen)))) s.seen s'.seen q.silent refl
 
@@ -138,11 +152,16 @@ run_linkless seen start net s s' e p g play sound dry ends =
     }
 
 -- the run stands on, once the play has gone on
-pub run_on : {L : Type 0} (seen : L → LinkView) (start : Beginning) (net : NetView) (s s' : SingleView) (e e' : EndsView L) (p : Player) (n : ℕ) → GoesOnBy s s' → e' ≡ e → Stands s' p n → IsDry false s → EndsStand seen s.setting start s.seen net e.links → RunStands seen start s' e'.links p net false
-run_on seen start net s s' e e' p n g same stands dry ends =
-    subst (λ (x : EndsView _). RunStands seen start s' x.links p net false) (sym same) (run_linkless seen start net s s' e.links p g stands.play stands.sound dry ends)
+pub run_on : {L : Type 0} (seen : L → LinkView) (start : Beginning) (net : NetView) (s s' : SingleView) (e e' : EndsView L) (p : Player) → GoesOnBy s s' → e' ≡ e → IsRunning s' p → IsDry false s → EndsStand seen s.setting start s.seen net e.links → RunStands seen start s' e'.links p net false
+run_on seen start net s s' e e' p g same running dry ends =
+    subst (λ (x : EndsView _). RunStands seen start s' x.links p net false) (sym same) (run_linkless seen start net s s' e.links p g running.play running.sound dry ends)
 
 -- ---- What a round comes to
+
+-- it is the same run
+pub same_played : {L : Type 0} (r r' : RunPartsView L) (s : SingleView) (e : EndsView L) → SameEnds r.ends.links e.links → s.setting ≡ r.single.setting → r'.ends ≡ e → SameScript r.player r'.player → r'.single.setting ≡ s.setting → SameRun r r'
+same_played r r' s e ends turned is script played =
+    (subst (λ (x : EndsView _). SameEnds r.ends.links x.links) (sym is) ends, script, played ∙ turned)
 
 pub round_stands : {L : Type 0} (seen : L → LinkView) (start : Beginning) (net : NetView) (r : Round) (s : SingleView) (e : LinkEndsView L) (p : Player) → (r ≡ rounds.Ends status.NoMemory → ⊥) → RunStands seen start s e p net false → RoundStands seen start r s e p net
 round_stands seen start net (rounds.Goes moved) s e p n run = run

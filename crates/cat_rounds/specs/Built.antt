@@ -40,7 +40,8 @@ use Rattle.end_parts.specs.declared.error.EndError.{EndError}
 use Rattle.cat_player.specs.declared.player.Player.{Player}
 use Rattle.cat_player.specs.Lasting.{play_of}
 use Rattle.cat_player.specs.PlayerSteps.{Sinks}
-use Rattle.cat_rounds.specs.RunRounds.{AreCleared, WentOrOver, PacedTo, RunStands, is_dry_at}
+use Rattle.cat_rounds.specs.Parts.{RunPartsView}
+use Rattle.cat_rounds.specs.RunRounds.{AreCleared, WentOrOver, PacedTo, LinksStand, RunStands, is_dry_at}
 
 -- ---- Plans
 
@@ -147,14 +148,14 @@ pub record Follows {L : Type 0} (result : Status) (es : List End) (s : SingleVie
   pub sinks : Sinks (result ≡ status.OutFault) out out'
 
 -- an open run that may follow a plan with these ends
-abbrev pub MayFollow : {L : Type 0} → (L → LinkView) → List End → SingleView → EndsView L → Player → NetView → Type 0
-MayFollow seen es s ends p net =
-    (start : Beginning) × AllByRecursion (IsEndOf start.origins) es × RunStands seen start s ends.links p net false
+abbrev pub MayFollow : {L : Type 0} → (L → LinkView) → List End → RunPartsView L → NetView → Type 0
+MayFollow seen es r net =
+    (start : Beginning) × AllByRecursion (IsEndOf start.origins) es × LinksStand seen start r.single r.ends.links net false
 
 -- it has followed it
-abbrev pub FollowsOn : {L : Type 0} → (L → LinkView) → List End → SingleView → SingleView → EndsView L → EndsView L → Player → Player → NetView → NetView → Type 0
-FollowsOn seen es s s' ends ends' p p' net net' =
-    (start : Beginning) → AllByRecursion (IsEndOf start.origins) es → RunStands seen start s ends.links p net false → RunStands seen start s' ends'.links p' net' (is_dry_at s')
+abbrev pub FollowsOn : {L : Type 0} → (L → LinkView) → List End → RunPartsView L → RunPartsView L → NetView → NetView → Type 0
+FollowsOn seen es r r' net net' =
+    (start : Beginning) → AllByRecursion (IsEndOf start.origins) es → RunStands seen start r.single r.ends.links r.player net false → RunStands seen start r'.single r'.ends.links r'.player net' (is_dry_at r'.single)
 
 -- ---- The end
 
@@ -179,10 +180,10 @@ FinishesAs seen start s e p net net' None = ⊥
 FinishesAs seen start s e p net net' (Some record_) = FinishesTo seen start s e p net net' record_
 
 -- a run whose rounds are over
-abbrev pub RunIsOver : {L : Type 0} → (L → LinkView) → SingleView → EndsView L → Player → NetView → Type 0
-RunIsOver seen s ends p net = (start : Beginning) × RunStands seen start s ends.links p net (is_dry_at s)
+abbrev pub RunIsOver : {L : Type 0} → (L → LinkView) → RunPartsView L → NetView → Type 0
+RunIsOver seen r net = (start : Beginning) × LinksStand seen start r.single r.ends.links net (is_dry_at r.single)
 
 -- it is finished, with this record
-abbrev pub RunFinishes : {L : Type 0} → (L → LinkView) → SingleView → EndsView L → Player → NetView → NetView → Option (List (Turn Entry)) → Type 0
-RunFinishes seen s ends p net net' record_ =
-    (start : Beginning) → RunStands seen start s ends.links p net (is_dry_at s) → FinishesAs seen start s ends.links p net net' record_
+abbrev pub RunFinishes : {L : Type 0} → (L → LinkView) → RunPartsView L → NetView → NetView → Option (List (Turn Entry)) → Type 0
+RunFinishes seen r net net' record_ =
+    (start : Beginning) → RunStands seen start r.single r.ends.links r.player net (is_dry_at r.single) → FinishesAs seen start r.single r.ends.links r.player net net' record_

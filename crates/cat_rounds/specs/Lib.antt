@@ -1,3 +1,4 @@
+pub mod Parts
 pub mod RunRounds
 pub mod Built
 pub mod SubscribedTopics

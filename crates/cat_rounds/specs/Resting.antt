@@ -27,6 +27,10 @@ pub record IsAtRest (s : SingleView) : Type 0 where
   pub still : list_any moves turn.entries ≡ false
   pub none_begun : IsKept (under_way (past_of before)) (under_way (past_of s.seen))
 
+-- nothing that was begun between them is under way
+abbrev pub BeginsNothing : SingleView → SingleView → Type 0
+BeginsNothing old new = IsKept (under_way (past_of old.seen)) (under_way (past_of new.seen))
+
 -- 64 turns more
 abbrev pub HasGoneFar : SingleView → SingleView → Type 0
 HasGoneFar old new = length old.seen + 64 ≤ length new.seen

@@ -23,8 +23,14 @@ use Rattle.cat_rounds.specs.declared.rounds.Round.TheVariants as rounds
 use Rattle.cat_rounds.specs.declared.rounds.Going.{Going}
 use Rattle.cat_rounds.specs.declared.rounds.Going.TheVariants as goings
 use Rattle.cat_player.specs.Lasting.{PlayStands, HasPrinted, MayTick, HasPlayed, HasServed}
-use Rattle.cat_player.specs.PlayerSteps.{HasPrintedCut, SameScript}
+use Rattle.cat_player.specs.PlayerSteps.{HasPrintedCut, PrintsOn, SameScript}
 use Rattle.sp_ends.specs.EndsTurns.{SameEnds}
+use Rattle.cat_rounds.specs.Parts.{RunPartsView}
+
+-- the ends of a run stand on its socket, and a link was missed when out of memory, or none was
+pub record LinksStand {L : Type 0} (seen : L → LinkView) (start : Beginning) (s : SingleView) (ends : LinkEndsView L) (net : NetView) (is_dry : Bool) : Type 0 where
+  pub ends_stand : EndsStand seen s.setting start s.seen net ends
+  pub dry : IsDry is_dry s
 
 -- the parts of a run that is open, between two calls of a round behind the turn of the ends
 pub record RunStands {L : Type 0} (seen : L → LinkView) (start : Beginning) (s : SingleView) (ends : LinkEndsView L) (p : Player) (net : NetView) (is_dry : Bool) : Type 0 where
@@ -131,19 +137,25 @@ PrintsTo _ before now h p = HasPrinted before now h p
 
 -- ---- Before and after
 
-abbrev pub RunIsOpen : {L : Type 0} → (L → LinkView) → SingleView → EndsView L → Player → NetView → Type 0
-RunIsOpen seen s ends p net = (start : Beginning) × RunStands seen start s ends.links p net false
+-- what an open run asks for, beside what is true of the parts of every run
+abbrev pub RunIsOpen : {L : Type 0} → (L → LinkView) → RunPartsView L → NetView → Type 0
+RunIsOpen seen r net = (start : Beginning) × LinksStand seen start r.single r.ends.links net false
 
 -- an open run goes on, and what stood between two rounds stands
-abbrev pub RunGoesOn : {L : Type 0} → (L → LinkView) → SingleView → SingleView → EndsView L → EndsView L → Player → Player → NetView → NetView → Type 0
-RunGoesOn seen s s' ends ends' p p' net net' =
-    (start : Beginning) → RunStands seen start s ends.links p net false → RunStands seen start s' ends'.links p' net' (is_dry_at s')
+abbrev pub RunGoesOn : {L : Type 0} → (L → LinkView) → RunPartsView L → RunPartsView L → NetView → NetView → Type 0
+RunGoesOn seen r r' net net' =
+    (start : Beginning) → RunStands seen start r.single r.ends.links r.player net false → RunStands seen start r'.single r'.ends.links r'.player net' (is_dry_at r'.single)
 
--- the same of one round
-abbrev pub RoundGoesOn : {L : Type 0} → (L → LinkView) → Round → SingleView → SingleView → EndsView L → EndsView L → Player → Player → NetView → NetView → Type 0
-RoundGoesOn seen result s s' ends ends' p p' net net' =
-    (start : Beginning) → RunStands seen start s ends.links p net false → RoundStands seen start result s' ends'.links p' net'
+-- one round of it does
+abbrev pub RoundGoesOn : {L : Type 0} → (L → LinkView) → Round → RunPartsView L → RunPartsView L → NetView → NetView → Type 0
+RoundGoesOn seen result r r' net net' =
+    (start : Beginning) → LinksStand seen start r.single r.ends.links net false → RoundStands seen start result r'.single r'.ends.links r'.player net'
 
 -- the same run: its ends, its script, and the setting of its socket
-abbrev pub SameRun : {L : Type 0} → SingleView → SingleView → EndsView L → EndsView L → Player → Player → Type 0
-SameRun s s' ends ends' p p' = SameEnds ends.links ends'.links × SameScript p p' × (s'.setting ≡ s.setting)
+abbrev pub SameRun : {L : Type 0} → RunPartsView L → RunPartsView L → Type 0
+SameRun r r' =
+    SameEnds r.ends.links r'.ends.links × SameScript r.player r'.player × (r'.single.setting ≡ r.single.setting)
+
+-- the text that stands in the sink grew so
+abbrev pub PrintsRun : {L : Type 0} → (Option (List ℕ) → Option (List ℕ) → List (Turn Entry) → Player → Type 0) → SinkView → SinkView → RunPartsView L → RunPartsView L → Type 0
+PrintsRun says out out' r r' = PrintsOn says out out' r.single r'.single r.player r'.player

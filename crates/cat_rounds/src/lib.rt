@@ -8,10 +8,11 @@
 //! names within the process; it has the runtime beside them. Net, pace and sink are the caller's, and are lent to each
 //! round. At the end every link is back with the net, and what is left is a `CatEnd`: the status and the record.
 //!
-//! The play itself is `cat_player`: the operation that is under way, what was counted, and what is next. `run_parts` has
-//! the parts of a run with what stands between two rounds, `topics` puts a sub's topics on before the first round,
-//! `rounds` says what a round does, and `whole` has the beginning and the end. To read: `whole`, then `rounds`, then the
-//! player of `cat_player`; what stands between two rounds is `RunStands` (`specs/RunRounds`).
+//! The play itself is `cat_player`: the operation that is under way, what was counted, and what is next. `run_parts`
+//! has the parts of a run with what is true of them, `topics` puts a sub's topics on before the first round, `rounds`
+//! says what a round does, and `whole` has the beginning and the end. To read: `whole`, then `rounds`, then the player
+//! of `cat_player`. What is true of the parts is `IsRunning` (`specs/Parts`); with it, `RunStands` (`specs/RunRounds`)
+//! is what stands between two rounds.
 #![tactic(auto)]
 
 mod rounds;

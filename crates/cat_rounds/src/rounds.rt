@@ -3,10 +3,11 @@ ghost use Rattle.std.specs.Prelude.{◌≡◌, ◌≢◌, ◌≤◌, ◌+◌, �
 ghost use Rattle.sp_history.specs.Past.{past_of};
 ghost use Rattle.cat_play.specs.Scripts.{has_ticked, texts};
 ghost use Rattle.cat_player.specs.Lasting.{HasServed, MayTick};
-ghost use Rattle.cat_player.specs.PlayerSteps.{PrintsOn, AddsNoText, KnowsPipes, Stands, GoesOnBy, SameScript, Sinks, IsKept};
+ghost use Rattle.cat_player.specs.PlayerSteps.{AddsNoText, KnowsPipes, GoesOnBy, SameScript, Sinks};
 ghost use Rattle.cat_rounds.specs.Late.{IsLateBy, RoundIsLate, StallsMore};
-ghost use Rattle.cat_rounds.specs.Resting.{IsAtRest, MovesStill, RoundMoves};
-ghost use Rattle.cat_rounds.specs.RunRounds.{RunIsOpen, RunGoesOn, RoundGoesOn, SameRun, GoesTo, RoundGoesTo, WentOrOver, PacedTo, TicksOnce, PrintsTo, PrintsGoing, PrintsRound, TurnsNames, IsDryAt, past_now, has_more};
+ghost use Rattle.cat_rounds.specs.Parts.{IsAt, StaysAt};
+ghost use Rattle.cat_rounds.specs.Resting.{BeginsNothing, IsAtRest, MovesStill, RoundMoves};
+ghost use Rattle.cat_rounds.specs.RunRounds.{RunIsOpen, RunGoesOn, RoundGoesOn, SameRun, GoesTo, RoundGoesTo, WentOrOver, PacedTo, TicksOnce, PrintsRun, PrintsTo, PrintsGoing, PrintsRound, TurnsNames, IsDryAt, past_now, has_more};
 
 use crate::run_parts::RunParts;
 use cat_play::status::Status;
@@ -52,16 +53,16 @@ impl<R: Wait, P: Proto, L: Link> RunParts<'_, R, P, L> {
         pace: &mut Pa,
         out: &mut S,
     ) -> Status
-        requires stands { RunIsOpen L.seen self.old.single self.old.ends self.old.player (N.seen net.old) }
+        requires stands { RunIsOpen L.seen self.old (N.seen net.old) }
         requires may_tick { MayTick self.old.single.setting self.old.single.seen self.old.player }
         requires unticked { has_ticked (past_of self.old.single.seen) ≡ false }
-        ensures stands { RunGoesOn L.seen self.old.single self.new.single self.old.ends self.new.ends self.old.player self.new.player (N.seen net.old) (N.seen net.new) }
+        ensures stands { RunGoesOn L.seen self.old self.new (N.seen net.old) (N.seen net.new) }
         ensures dry { IsDryAt result self.new.single }
         ensures went { WentOrOver result self.new.single self.new.player (S.seen out.old) (S.seen out.new) (Pa.seen pace.new) }
         ensures pace { PacedTo result (Pa.seen pace.old) (Pa.seen pace.new) (past_of self.new.single.seen) }
-        ensures printed { PrintsOn (PrintsTo result) (S.seen out.old) (S.seen out.new) self.old.single self.new.single self.old.player self.new.player }
+        ensures printed { PrintsRun (PrintsTo result) (S.seen out.old) (S.seen out.new) self.old self.new }
         ensures sinks { Sinks (result ≡ Status.OutFault) (S.seen out.old) (S.seen out.new) }
-        ensures same { SameRun self.old.single self.new.single self.old.ends self.new.ends self.old.player self.new.player }
+        ensures same { SameRun self.old self.new }
         ensures late { IsLateBy 1 self.new.single self.new.player }
     {
         let mut moved = true;
@@ -80,16 +81,16 @@ impl<R: Wait, P: Proto, L: Link> RunParts<'_, R, P, L> {
 
     // One round.
     fn round<N: Net<L = L>, S: Sink>(&mut self, net: &mut N, out: &mut S, now: Tick) -> Round
-        requires stands { RunIsOpen L.seen self.old.single self.old.ends self.old.player (N.seen net.old) }
+        requires stands { RunIsOpen L.seen self.old (N.seen net.old) }
         requires may_tick { MayTick self.old.single.setting self.old.single.seen self.old.player }
         requires later { past_now self.old.single ≤ now }
         requires late { IsLateBy 0 self.old.single self.old.player }
-        ensures stands { RoundGoesOn L.seen result self.old.single self.new.single self.old.ends self.new.ends self.old.player self.new.player (N.seen net.old) (N.seen net.new) }
+        ensures stands { RoundGoesOn L.seen result self.old self.new (N.seen net.old) (N.seen net.new) }
         ensures ticked { TicksOnce now self.old.single self.new.single }
         ensures went { RoundGoesTo result self.new.single self.new.player }
-        ensures printed { PrintsOn (PrintsRound result) (S.seen out.old) (S.seen out.new) self.old.single self.new.single self.old.player self.new.player }
+        ensures printed { PrintsRun (PrintsRound result) (S.seen out.old) (S.seen out.new) self.old self.new }
         ensures sinks { Sinks (result ≡ Round.Ends Status.OutFault) (S.seen out.old) (S.seen out.new) }
-        ensures same { SameRun self.old.single self.new.single self.old.ends self.new.ends self.old.player self.new.player }
+        ensures same { SameRun self.old self.new }
         ensures names { TurnsNames now self.old.ends self.new.ends self.old.inproc self.new.inproc }
         ensures late { RoundIsLate result self.new.single self.new.player }
         ensures moved { RoundMoves result self.new.player self.old.single self.new.single }
@@ -101,9 +102,16 @@ impl<R: Wait, P: Proto, L: Link> RunParts<'_, R, P, L> {
         if turn.is_dry {
             return Round::Ends(Status::NoMemory);
         }
-        match self.play(out, now) {
+        let going = self.play(out, now);
+        // The model's facts are known from here on.
+        let _single = &self.single;
+        match going {
             Going::Rests(moved) => Round::Goes(moved),
-            Going::Over => self.drain(),
+            Going::Over => {
+                let drained = self.drain();
+                let _single = &self.single;
+                drained
+            }
             Going::OutFault => Round::Ends(Status::OutFault),
             Going::NoMemory => Round::Ends(Status::NoMemory),
         }
@@ -111,11 +119,11 @@ impl<R: Wait, P: Proto, L: Link> RunParts<'_, R, P, L> {
 
     // Serves the pipes and goes on with the play, while messages move.
     fn play<S: Sink>(&mut self, out: &mut S, now: Tick) -> Going
-        requires stands { Stands self.old.single self.old.player now }
-        ensures stands { Stands self.new.single self.new.player now }
+        requires at { IsAt self.old.single self.old.player now }
+        ensures at { IsAt self.new.single self.new.player now }
         ensures goes_on { GoesOnBy self.old.single self.new.single }
         ensures went { GoesTo result self.new.single self.new.player }
-        ensures printed { PrintsOn (PrintsGoing result) (S.seen out.old) (S.seen out.new) self.old.single self.new.single self.old.player self.new.player }
+        ensures printed { PrintsRun (PrintsGoing result) (S.seen out.old) (S.seen out.new) self.old self.new }
         ensures sinks { Sinks (result ≡ Going.OutFault) (S.seen out.old) (S.seen out.new) }
         ensures same { SameScript self.old.player self.new.player × (self.new.ends ≡ self.old.ends) }
         ensures names { self.new.inproc ≡ self.old.inproc }
@@ -139,13 +147,13 @@ impl<R: Wait, P: Proto, L: Link> RunParts<'_, R, P, L> {
 
     // Serves the pipes once, and goes on with the play.
     fn sweep<S: Sink>(&mut self, out: &mut S, now: Tick) -> Going
-        requires stands { Stands self.old.single self.old.player now }
-        ensures stands { Stands self.new.single self.new.player now }
+        requires at { IsAt self.old.single self.old.player now }
+        ensures at { IsAt self.new.single self.new.player now }
         ensures goes_on { GoesOnBy self.old.single self.new.single }
         ensures still { result ≡ Going.Rests false → IsAtRest self.new.single }
         ensures turns { length self.old.single.seen + 1 ≤ length self.new.single.seen }
         ensures went { GoesTo result self.new.single self.new.player }
-        ensures printed { PrintsOn (PrintsGoing result) (S.seen out.old) (S.seen out.new) self.old.single self.new.single self.old.player self.new.player }
+        ensures printed { PrintsRun (PrintsGoing result) (S.seen out.old) (S.seen out.new) self.old self.new }
         ensures sinks { Sinks (result ≡ Going.OutFault) (S.seen out.old) (S.seen out.new) }
         ensures same { SameScript self.old.player self.new.player × (self.new.ends ≡ self.old.ends) }
         ensures names { self.new.inproc ≡ self.old.inproc }
@@ -162,14 +170,14 @@ impl<R: Wait, P: Proto, L: Link> RunParts<'_, R, P, L> {
 
     // Goes on with the play until it rests.
     fn steps<S: Sink>(&mut self, out: &mut S, now: Tick, has_pipe: bool) -> Going
-        requires stands { Stands self.old.single self.old.player now }
+        requires at { IsAt self.old.single self.old.player now }
         requires served { HasServed self.old.single.setting self.old.single.seen }
         requires pipes { KnowsPipes has_pipe self.old.single self.old.player }
-        ensures stands { Stands self.new.single self.new.player now }
+        ensures at { IsAt self.new.single self.new.player now }
         ensures goes_on { GoesOnBy self.old.single self.new.single }
-        ensures kept { result ≡ Going.Rests false → IsKept self.old.player.op self.new.player.op }
+        ensures kept { result ≡ Going.Rests false → BeginsNothing self.old.single self.new.single }
         ensures went { GoesTo result self.new.single self.new.player }
-        ensures printed { PrintsOn (PrintsGoing result) (S.seen out.old) (S.seen out.new) self.old.single self.new.single self.old.player self.new.player }
+        ensures printed { PrintsRun (PrintsGoing result) (S.seen out.old) (S.seen out.new) self.old self.new }
         ensures sinks { Sinks (result ≡ Going.OutFault) (S.seen out.old) (S.seen out.new) }
         ensures same { SameScript self.old.player self.new.player × (self.new.ends ≡ self.old.ends) }
         ensures names { self.new.inproc ≡ self.old.inproc }
@@ -191,10 +199,10 @@ impl<R: Wait, P: Proto, L: Link> RunParts<'_, R, P, L> {
 
     // The play is over: the run ends as soon as no pipe has something left to write.
     fn drain(&mut self) -> Round
-        requires stands { (now : ℕ) × Stands self.old.single self.old.player now }
+        requires at { (now : ℕ) × IsAt self.old.single self.old.player now }
         requires over { self.old.player.over ≢ PlayEnd.Open }
         requires free { self.old.player.op ≡ None }
-        ensures stands { (now : ℕ) → Stands self.old.single self.old.player now → Stands self.new.single self.new.player now }
+        ensures at { StaysAt self.old self.new }
         ensures goes_on { GoesOnBy self.old.single self.new.single }
         ensures went { RoundGoesTo result self.new.single self.new.player }
         ensures texts { AddsNoText self.old.player.script self.old.single self.new.single }

@@ -6,6 +6,7 @@ use sp_ends::Ends;
 use sp_lane::Inproc;
 use sp_proto::Proto;
 use sp_single::Single;
+use std::marker::Model;
 
 /// The runtime with which a run waits, its socket, its ends, its play, and the names within the process. It must be
 /// spent.
@@ -15,4 +16,15 @@ pub(crate) struct RunParts<'r, R, P: Proto, L: Link> {
     pub ends: Ends<L>,
     pub player: Player,
     pub inproc: Inproc,
+}
+
+// Contracts see the parts without the runtime. The history of the socket is sound, and the play stands on it.
+impl<'r, R, P: Proto, L: Link> Model for RunParts<'r, R, P, L> {
+    ghost use Rattle.cat_rounds.specs.Parts.{RunPartsView, IsRunning};
+
+    ghost Value = { RunPartsView L };
+
+    ghost view = { λ r. record { single = r.single; ends = r.ends; player = r.player; inproc = r.inproc } };
+
+    ghost invariant = { λ r. IsRunning r.single r.player };
 }

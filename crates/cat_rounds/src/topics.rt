@@ -3,8 +3,8 @@ ghost use Rattle.std.specs.Prelude.{◌≡◌, ◌≤◌, [], length, IsTrue};
 ghost use Rattle.sp_history.specs.Legal.{has_topic};
 ghost use Rattle.sp_history.specs.Past.{past_of, topics};
 ghost use Rattle.sp_history.specs.Setting.{has_topics};
-ghost use Rattle.cat_player.specs.PlayerSteps.{PrintsOn, Sinks};
-ghost use Rattle.cat_rounds.specs.RunRounds.{RunIsOpen, RunGoesOn, SameRun, WentOrOver, PacedTo, PrintsTo, IsDryAt};
+ghost use Rattle.cat_player.specs.PlayerSteps.{Sinks};
+ghost use Rattle.cat_rounds.specs.RunRounds.{RunIsOpen, RunGoesOn, SameRun, WentOrOver, PacedTo, PrintsRun, PrintsTo, IsDryAt};
 ghost use Rattle.cat_rounds.specs.Late.{IsLateBy};
 ghost use Rattle.cat_rounds.specs.SubscribedTopics.{CanSubscribe, IsBefore, Prepares, IsOnFor, AreOnFor};
 
@@ -66,16 +66,16 @@ impl<R: Wait, P: Proto, L: Link> RunParts<'_, R, P, L> {
         pace: &mut Pa,
         out: &mut S,
     ) -> Status
-        requires stands { RunIsOpen L.seen self.old.single self.old.ends self.old.player (N.seen net.old) }
+        requires stands { RunIsOpen L.seen self.old (N.seen net.old) }
         requires fresh { self.old.single.seen ≡ [] }
         requires can { CanSubscribe self.old.single.setting self.old.player.script.topics }
-        ensures stands { RunGoesOn L.seen self.old.single self.new.single self.old.ends self.new.ends self.old.player self.new.player (N.seen net.old) (N.seen net.new) }
+        ensures stands { RunGoesOn L.seen self.old self.new (N.seen net.old) (N.seen net.new) }
         ensures dry { IsDryAt result self.new.single }
         ensures went { WentOrOver result self.new.single self.new.player (S.seen out.old) (S.seen out.new) (Pa.seen pace.new) }
         ensures pace { PacedTo result (Pa.seen pace.old) (Pa.seen pace.new) (past_of self.new.single.seen) }
-        ensures printed { PrintsOn (PrintsTo result) (S.seen out.old) (S.seen out.new) self.old.single self.new.single self.old.player self.new.player }
+        ensures printed { PrintsRun (PrintsTo result) (S.seen out.old) (S.seen out.new) self.old self.new }
         ensures sinks { Sinks (result ≡ Status.OutFault) (S.seen out.old) (S.seen out.new) }
-        ensures same { SameRun self.old.single self.new.single self.old.ends self.new.ends self.old.player self.new.player }
+        ensures same { SameRun self.old self.new }
         ensures late { IsLateBy 1 self.new.single self.new.player }
     {
         match subscribe_all(self.rt, &mut self.single, &self.player) {

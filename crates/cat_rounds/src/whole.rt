@@ -4,8 +4,8 @@ ghost use Rattle.std.specs.Option.{option_map};
 ghost use Rattle.sp_base.specs.Views.{FilesView};
 ghost use Rattle.link_opening.specs.Origins.{run_ways};
 ghost use Rattle.cat_play.specs.Running.{world, RunsPlan, EndsPlan};
-ghost use Rattle.cat_player.specs.PlayerSteps.{PrintsOn, SameScript};
-ghost use Rattle.cat_rounds.specs.RunRounds.{PrintsTo, IsDryAt};
+ghost use Rattle.cat_player.specs.PlayerSteps.{SameScript};
+ghost use Rattle.cat_rounds.specs.RunRounds.{PrintsRun, PrintsTo, IsDryAt};
 ghost use Rattle.cat_rounds.specs.SubscribedTopics.{CanSubscribe};
 ghost use Rattle.cat_rounds.specs.Late.{IsLateBy};
 ghost use Rattle.cat_rounds.specs.Built.{MayFollow, FollowsOn, RunIsOver, RunFinishes, IsBuilt, IsMachineOf, ListensOnce, AreBuilt, IsBuiltEnd, IsBody, Follows, AddsEnd, origins_of};
@@ -138,16 +138,16 @@ impl<R: Wait, P: Proto, L: Link> RunParts<'_, R, P, L> {
         pace: &mut Pa,
         out: &mut S,
     ) -> Status
-        requires stands { MayFollow L.seen ends.now self.old.single self.old.ends self.old.player (N.seen net.old) }
+        requires stands { MayFollow L.seen ends.now self.old (N.seen net.old) }
         requires fresh { self.old.single.seen ≡ [] }
         requires no_ends { (self.old.ends.links.listeners ≡ []) × (self.old.ends.links.dialers ≡ []) }
         requires no_names { self.old.inproc ≡ [] }
         requires built { AreBuilt ends.now }
         requires topics { CanSubscribe self.old.single.setting self.old.player.script.topics }
-        ensures stands { FollowsOn L.seen ends.now self.old.single self.new.single self.old.ends self.new.ends self.old.player self.new.player (N.seen net.old) (N.seen net.new) }
+        ensures stands { FollowsOn L.seen ends.now self.old self.new (N.seen net.old) (N.seen net.new) }
         ensures dry { IsDryAt result self.new.single }
         ensures followed { Follows result ends.now self.new.single self.new.ends.links self.new.player (N.seen net.old) (N.seen net.new) (Pa.seen pace.old) (Pa.seen pace.new) (S.seen out.old) (S.seen out.new) }
-        ensures printed { PrintsOn (PrintsTo result) (S.seen out.old) (S.seen out.new) self.old.single self.new.single self.old.player self.new.player }
+        ensures printed { PrintsRun (PrintsTo result) (S.seen out.old) (S.seen out.new) self.old self.new }
         ensures same { SameScript self.old.player self.new.player × (self.new.single.setting ≡ self.old.single.setting) }
         ensures late { IsLateBy 1 self.new.single self.new.player }
     {
@@ -176,9 +176,9 @@ impl<R: Wait, P: Proto, L: Link> RunParts<'_, R, P, L> {
 
     // Closes the socket, and gives everything back.
     fn finish<N: Net<L = L>>(self, net: &mut N, status: Status) -> CatEnd
-        requires stands { RunIsOver L.seen self.single self.ends self.player (N.seen net.old) }
+        requires stands { RunIsOver L.seen self (N.seen net.old) }
         ensures status { result.status ≡ status }
-        ensures finished { RunFinishes L.seen self.entry.single self.entry.ends self.entry.player (N.seen net.old) (N.seen net.new) (option_map (λ r. r.turns) result.record_) }
+        ensures finished { RunFinishes L.seen self.entry (N.seen net.old) (N.seen net.new) (option_map (λ r. r.turns) result.record_) }
     {
         let RunParts {
             rt,

@@ -6,7 +6,7 @@ use Rattle.cat_player.specs.declared.player.Player.{Player}
 use Rattle.cat_rounds.specs.SubscribedTopics.{CanSubscribe}
 use Rattle.sp_lane.specs.Registry.{AreApart}
 use Rattle.cat_rounds.specs.Built.{IsEndOf, listen_names}
-use Rattle.cat_rounds.proofs.Following.{adds_on, refuses_on, refused, grows, name_one, listens_next, dials_next, names_next, followed_on, unfollowed, net_fault, in_use_twice, end_at, as_many, rose_on}
+use Rattle.cat_rounds.proofs.Following.{adds_links, adds_on, refuses_on, refused, grows, name_one, listens_next, dials_next, names_next, followed_on, unfollowed, net_fault, in_use_twice, end_at, as_many, rose_on}
 use Rattle.cat_rounds.proofs.run_parts.RunParts.follow.Goals as goal
 
 pub loop-end-preserved : goal.loop-end-preserved
@@ -28,7 +28,7 @@ loop-end-preserved g c =
     let single = ap (λ q. q.single) a.same in
     let player = ap (λ q. q.player) a.same in
     record {
-      some = (i.some.0, i.some.1, adds_on g.L.Link.seen i.some.0 net net' reg reg' s c.add.new.self.single before after p c.add.new.self.player x seen single player (end_at (IsEndOf i.some.0.origins) c.args.ends.now c.loop-end.end-index x i.some.1 c.loop-end-test.true c.end-item.is) a.added few i.some.2);
+      some = (i.some.0, i.some.1, adds_links g.L.Link.seen i.some.0 net net' reg reg' s c.add.new.self.single before after x seen single (end_at (IsEndOf i.some.0.origins) c.args.ends.now c.loop-end.end-index x i.some.1 c.loop-end-test.true c.end-item.is) a.added few i.some.2);
       stands = λ start of run. adds_on g.L.Link.seen start net net' reg reg' s c.add.new.self.single before after p c.add.new.self.player x seen single player (end_at (IsEndOf start.origins) c.args.ends.now c.loop-end.end-index x of c.loop-end-test.true c.end-item.is) a.added few (i.stands start of run);
       single = single ∙ i.single;
       player = player ∙ i.player;

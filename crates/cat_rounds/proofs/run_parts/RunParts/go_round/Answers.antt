@@ -1,7 +1,8 @@
-use Rattle.std.proofs.Common.{◌∙◌, refl, arith}
+use Rattle.std.proofs.Common.{◌∙◌, refl, false, arith}
 use Rattle.cat_rounds.proofs.Late.{never_late}
+use Rattle.cat_rounds.proofs.Opened.{links_of}
 use Rattle.sp_history.specs.Past.{past_of}
-use Rattle.cat_rounds.proofs.AllRounds.{no_ticks, never, same_ends, same_then}
+use Rattle.cat_rounds.proofs.AllRounds.{no_ticks, never, same_ends, same_then, round_over}
 use Rattle.cat_rounds.proofs.run_parts.RunParts.go_round.Goals as goal
 
 pub rounds-init : goal.rounds-init
@@ -27,9 +28,13 @@ rounds-preserved g c =
     let i = c.rounds.invariant in
     let r = c.in-Goes.ensures in
     let paced = c.in-At.ensures in
+    let old = c.rounds.self in
+    let new = c.round.new.self in
+    let net = g.N.Net.seen c.rounds.net in
+    let net' = g.N.Net.seen c.round.new.net in
     record {
-      some = (i.some.0, r.stands i.some.0 i.some.1);
-      stands = λ start run. r.stands start (i.stands start run);
+      some = (i.some.0, links_of g.L.Link.seen i.some.0 new.single new.ends.links new.player net' false (r.stands i.some.0 i.some.1));
+      stands = λ start run. r.stands start (links_of g.L.Link.seen start old.single old.ends.links old.player net false (i.stands start run));
       may_tick = r.went;
       printed = λ before h. r.printed before (i.printed before h);
       later = omega (arith, i.later, r.sinks.later);
@@ -40,3 +45,10 @@ rounds-preserved g c =
       late = r.late;
       silent = paced.3 ∙ i.silent;
     }
+
+pub returns-in-Ends-clause-stands : goal.returns-in-Ends-clause-stands
+returns-in-Ends-clause-stands g c = λ start run.
+    let i = c.rounds.invariant in
+    let old = c.rounds.self in
+    let new = c.round.new.self in
+    round_over g.L.Link.seen start (g.N.Net.seen c.round.new.net) c.in-Ends.status new.single new.ends.links new.player (c.in-Ends.ensures.stands start (links_of g.L.Link.seen start old.single old.ends.links old.player (g.N.Net.seen c.rounds.net) false (i.stands start run)))

@@ -5,13 +5,13 @@ use Rattle.sp_history.specs.Found.{ticks}
 use Rattle.sp_ends.specs.EndsTurns.{SameEnds}
 use Rattle.cat_player.specs.Lasting.{HasPrinted, MayTick}
 use Rattle.cat_player.specs.PlayerSteps.{SameScript}
-use Rattle.cat_rounds.specs.RunRounds.{RunStands, past_now}
+use Rattle.cat_rounds.specs.RunRounds.{LinksStand, RunStands, past_now}
 use Rattle.cat_rounds.specs.Late.{IsLateBy}
 use Rattle.cat_rounds.proofs.run_parts.RunParts.go_round.Given as goal
 
 abbrev pub invariant-rounds : goal.invariant-rounds
 invariant-rounds g l = record {
-  some : (start : Beginning) × RunStands g.L.Link.seen start l.self.single l.self.ends.links l.self.player (g.N.Net.seen l.net) false;
+  some : (start : Beginning) × LinksStand g.L.Link.seen start l.self.single l.self.ends.links (g.N.Net.seen l.net) false;
   stands : (start : Beginning) → RunStands g.L.Link.seen start l.fn.self.single l.fn.self.ends.links l.fn.self.player (g.N.Net.seen l.fn.net) false → RunStands g.L.Link.seen start l.self.single l.self.ends.links l.self.player (g.N.Net.seen l.net) false;
   may_tick : MayTick l.self.single.setting l.self.single.seen l.self.player;
   printed : (before : Option (List ℕ)) → HasPrinted before (g.S.Sink.seen l.fn.out).text l.fn.self.single.seen l.fn.self.player → HasPrinted before (g.S.Sink.seen l.out).text l.self.single.seen l.self.player;

@@ -1,0 +1,29 @@
+-- What contracts see of the parts of a run, and what is true of them.
+use Rattle.std.specs.Prelude.{ℕ}
+use Rattle.sp_history.specs.Past.{past_of}
+use Rattle.sp_single.specs.Singles.{SingleView, IsSound, IsNow}
+use Rattle.sp_lane.specs.Registry.{Registry}
+use Rattle.end_parts.specs.EndViews.{EndsView}
+use Rattle.cat_player.specs.declared.player.Player.{Player}
+use Rattle.cat_player.specs.Lasting.{PlayStands, AreOn}
+
+-- the socket of a run, its ends, its play, and the names within the process
+pub record RunPartsView (L : Type 0) : Type 0 where
+  pub single : SingleView
+  pub ends : EndsView L
+  pub player : Player
+  pub inproc : Registry
+
+-- the history of the socket is sound, and the play stands on it
+pub record IsRunning (s : SingleView) (p : Player) : Type 0 where
+  pub sound : IsSound s
+  pub play : PlayStands s.setting s.seen p
+
+-- the moment is this, and the topics of the play are on, so that an operation may begin
+pub record IsAt (s : SingleView) (p : Player) (now : ℕ) : Type 0 where
+  pub now_is : IsNow now s
+  pub topics_on : AreOn p.script.topics (past_of s.seen)
+
+-- at whatever moment it was so, it is so
+abbrev pub StaysAt : {L : Type 0} → RunPartsView L → RunPartsView L → Type 0
+StaysAt r r' = (now : ℕ) → IsAt r.single r.player now → IsAt r'.single r'.player now
