@@ -1,5 +1,5 @@
 //! A core plays a text.
-use crate::line::{Line, call_of};
+use crate::line::{PlayLine, call_of};
 use crate::results::{
     down, is_asked, is_back, is_gone, is_message, is_put, is_received, is_sent, message, now_code,
     recv_code, shut_code, topic_code, totals,
@@ -89,7 +89,7 @@ impl<P: Proto> CorePlay<P> {
     // The line is right, and its call returns what it says. Each part knows some of the calls, and finds none of the
     // others right.
     fn is_right<R: Wait>(&mut self, rt: &R, alloc: Global, call: &str) -> bool {
-        let mut line = Line::new(alloc, call);
+        let mut line = PlayLine::new(alloc, call);
         let name = line.word();
         let is_right = self.joins(rt, alloc, name, &mut line)
             || self.serves(rt, name, &mut line)
@@ -111,7 +111,7 @@ impl<P: Proto> CorePlay<P> {
         alloc: Global,
         place: u32,
         most: u64,
-        line: &mut Line<'_>,
+        line: &mut PlayLine<'_>,
         fails: Fails,
     ) -> Result<u32, u32> {
         let Some(wire) = wire(alloc, most, line.rest(), fails) else {
@@ -125,7 +125,13 @@ impl<P: Proto> CorePlay<P> {
     }
 
     // Pipes that come up, and links that become none.
-    fn joins<R: Wait>(&mut self, rt: &R, alloc: Global, name: &str, line: &mut Line<'_>) -> bool {
+    fn joins<R: Wait>(
+        &mut self,
+        rt: &R,
+        alloc: Global,
+        name: &str,
+        line: &mut PlayLine<'_>,
+    ) -> bool {
         match name {
             "joins" => {
                 let (place, most, pipe) = (line.number(), line.long(), line.number());
@@ -163,7 +169,7 @@ impl<P: Proto> CorePlay<P> {
     }
 
     // Pipes that are served, and that are down.
-    fn serves<R: Wait>(&mut self, rt: &R, name: &str, line: &mut Line<'_>) -> bool {
+    fn serves<R: Wait>(&mut self, rt: &R, name: &str, line: &mut PlayLine<'_>) -> bool {
         match name {
             "serve" => {
                 self.driver.serve(rt);
@@ -223,7 +229,13 @@ impl<P: Proto> CorePlay<P> {
     }
 
     // Operations that begin.
-    fn begins<R: Wait>(&mut self, rt: &R, alloc: Global, name: &str, line: &mut Line<'_>) -> bool {
+    fn begins<R: Wait>(
+        &mut self,
+        rt: &R,
+        alloc: Global,
+        name: &str,
+        line: &mut PlayLine<'_>,
+    ) -> bool {
         match name {
             "receive" => self.receive(rt, line.number(), None),
             "receive_by" => {
@@ -248,12 +260,12 @@ impl<P: Proto> CorePlay<P> {
     }
 
     // The name of the operation that began as the one that the line says.
-    fn name(&self, line: &mut Line<'_>) -> Option<OpName> {
+    fn name(&self, line: &mut PlayLine<'_>) -> Option<OpName> {
         self.names.get(line.number() as usize).copied()
     }
 
     // The message is what the line says, and a send of it begins.
-    fn passes_on<R: Wait>(&mut self, rt: &R, c: u32, m: Message, line: &mut Line<'_>) -> bool {
+    fn passes_on<R: Wait>(&mut self, rt: &R, c: u32, m: Message, line: &mut PlayLine<'_>) -> bool {
         let is_right = is_message(&m, line);
         match self.driver.begin_send(rt, Ctx(c), m, None) {
             Ok(name) => is_right && self.names.push(name).is_ok(),
@@ -262,7 +274,7 @@ impl<P: Proto> CorePlay<P> {
     }
 
     // Receives at once.
-    fn receives_now<R: Wait>(&mut self, rt: &R, name: &str, line: &mut Line<'_>) -> bool {
+    fn receives_now<R: Wait>(&mut self, rt: &R, name: &str, line: &mut PlayLine<'_>) -> bool {
         match name {
             "now" => match self.driver.try_recv(rt, Ctx(line.number())) {
                 Err(_) => false,
@@ -293,7 +305,7 @@ impl<P: Proto> CorePlay<P> {
         rt: &R,
         alloc: Global,
         name: &str,
-        line: &mut Line<'_>,
+        line: &mut PlayLine<'_>,
     ) -> bool {
         match name {
             "no_receive" => {
@@ -318,7 +330,7 @@ impl<P: Proto> CorePlay<P> {
     }
 
     // Operations that are collected.
-    fn collects<R: Wait>(&mut self, rt: &R, name: &str, line: &mut Line<'_>) -> bool {
+    fn collects<R: Wait>(&mut self, rt: &R, name: &str, line: &mut PlayLine<'_>) -> bool {
         match name {
             "swap" => {
                 self.driver.swap();
@@ -335,7 +347,7 @@ impl<P: Proto> CorePlay<P> {
     }
 
     // Operations that are cancelled, expire and are looked at.
-    fn races(&mut self, name: &str, line: &mut Line<'_>) -> bool {
+    fn races(&mut self, name: &str, line: &mut PlayLine<'_>) -> bool {
         if !matches!(name, "cancel" | "cancel_by_other" | "expire" | "poll") {
             return false;
         }
@@ -351,7 +363,13 @@ impl<P: Proto> CorePlay<P> {
     }
 
     // Ticks.
-    fn is_due<R: Wait>(&mut self, rt: &R, alloc: Global, name: &str, line: &mut Line<'_>) -> bool {
+    fn is_due<R: Wait>(
+        &mut self,
+        rt: &R,
+        alloc: Global,
+        name: &str,
+        line: &mut PlayLine<'_>,
+    ) -> bool {
         if !matches!(name, "due" | "due_is") {
             return false;
         }
@@ -365,7 +383,12 @@ impl<P: Proto> CorePlay<P> {
     }
 
     // Contexts.
-    fn is_right_of_contexts<R: Wait>(&mut self, rt: &R, name: &str, line: &mut Line<'_>) -> bool {
+    fn is_right_of_contexts<R: Wait>(
+        &mut self,
+        rt: &R,
+        name: &str,
+        line: &mut PlayLine<'_>,
+    ) -> bool {
         match name {
             "opens" => match self.driver.open_ctx(rt) {
                 Ok(opened) => opened.0 == line.number(),
@@ -389,7 +412,7 @@ impl<P: Proto> CorePlay<P> {
         rt: &R,
         alloc: Global,
         name: &str,
-        line: &mut Line<'_>,
+        line: &mut PlayLine<'_>,
     ) -> bool {
         match name {
             "subscribes" => {
@@ -442,7 +465,7 @@ fn first_wrong(alloc: Global, left: Vec<(PipeId, PlayWire)>, wires: &str) -> Opt
 
 // The pipe has the number that the line says, and its wire is as it says.
 fn is_right_wire(alloc: Global, pipe: u32, wire: &PlayWire, call: &str) -> bool {
-    let mut line = Line::new(alloc, call);
+    let mut line = PlayLine::new(alloc, call);
     match line.word() {
         "put" => line.number() == pipe && is_put(wire, &mut line),
         "asked" => line.number() == pipe && is_asked(wire, &mut line),

@@ -26,17 +26,17 @@ pub fn bytes_of(alloc: Global, word: &str) -> Option<Vec<u8>> {
 /// A line that is read word by word. A word that is missing, or isn't what is asked for, makes the line wrong, and 0 or
 /// nothing stands in its place.
 #[derive(Clone, Copy)]
-pub struct Line<'a> {
+pub struct PlayLine<'a> {
     alloc: Global,
     /// What was not read; none where all was.
     rest: Option<&'a str>,
     is_wrong: bool,
 }
 
-impl<'a> Line<'a> {
+impl<'a> PlayLine<'a> {
     /// A line of which nothing was read.
-    pub fn new(alloc: Global, text: &'a str) -> Line<'a> {
-        Line {
+    pub fn new(alloc: Global, text: &'a str) -> PlayLine<'a> {
+        PlayLine {
             alloc,
             rest: Some(text),
             is_wrong: false,

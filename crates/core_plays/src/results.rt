@@ -1,5 +1,5 @@
 //! What is compared of a result.
-use crate::line::Line;
+use crate::line::PlayLine;
 use crate::wires::PlayWire;
 use crate::words::{cause_word, why_word};
 use sp_base::{OpName, SpError};
@@ -9,7 +9,7 @@ use sp_msg::Message;
 use std::alloc::Global;
 
 /// The message that the line says, if its header is whole words and there is memory for it.
-pub fn message(alloc: Global, line: &mut Line<'_>) -> Option<Message> {
+pub fn message(alloc: Global, line: &mut PlayLine<'_>) -> Option<Message> {
     let header = line.bytes();
     let Ok(mut m) = Message::from_body(alloc, line.bytes().as_slice()) else {
         return None;
@@ -27,12 +27,12 @@ pub fn message(alloc: Global, line: &mut Line<'_>) -> Option<Message> {
 }
 
 /// The message is what the line says.
-pub fn is_message(m: &Message, line: &mut Line<'_>) -> bool {
+pub fn is_message(m: &Message, line: &mut PlayLine<'_>) -> bool {
     m.header() == line.bytes().as_slice() && m.body() == line.bytes().as_slice()
 }
 
 /// It received what the line says.
-pub fn is_received(outcome: Option<Outcome>, line: &mut Line<'_>) -> bool {
+pub fn is_received(outcome: Option<Outcome>, line: &mut PlayLine<'_>) -> bool {
     match outcome {
         Some(Outcome::Received(m)) => is_message(&m, line),
         _ => false,
@@ -45,7 +45,7 @@ pub fn is_sent(outcome: Option<Outcome>) -> bool {
 }
 
 /// It is gone as the line says, and nothing comes back.
-pub fn is_gone(outcome: Option<Outcome>, line: &mut Line<'_>) -> bool {
+pub fn is_gone(outcome: Option<Outcome>, line: &mut PlayLine<'_>) -> bool {
     match outcome {
         Some(Outcome::Gone { cause, by, back }) => {
             line.says(cause_word(cause)) && line.number() == by && back.is_none()
@@ -55,7 +55,7 @@ pub fn is_gone(outcome: Option<Outcome>, line: &mut Line<'_>) -> bool {
 }
 
 /// The same, and the message that the line says comes back.
-pub fn is_back(outcome: Option<Outcome>, line: &mut Line<'_>) -> bool {
+pub fn is_back(outcome: Option<Outcome>, line: &mut PlayLine<'_>) -> bool {
     match outcome {
         Some(Outcome::Gone { cause, by, back }) => match back {
             Some(m) => {
@@ -74,7 +74,7 @@ fn is_wire(m: &Message, bytes: &[u8]) -> bool {
 }
 
 /// What was put on the wire is the rest of the line.
-pub fn is_put(wire: &PlayWire, line: &mut Line<'_>) -> bool {
+pub fn is_put(wire: &PlayWire, line: &mut PlayLine<'_>) -> bool {
     for m in wire.outs() {
         if !is_wire(m, line.bytes().as_slice()) {
             return false;
@@ -84,12 +84,12 @@ pub fn is_put(wire: &PlayWire, line: &mut Line<'_>) -> bool {
 }
 
 /// The wire was asked for room as often as the line says, and what was put on it is the rest.
-pub fn is_asked(wire: &PlayWire, line: &mut Line<'_>) -> bool {
+pub fn is_asked(wire: &PlayWire, line: &mut PlayLine<'_>) -> bool {
     line.number() == wire.asked() && is_put(wire, line)
 }
 
 /// The pipe that went down is the one that the line says, and went down so. Its wire.
-pub fn down(gone: Option<Gone<PlayWire>>, line: &mut Line<'_>) -> Option<PlayWire> {
+pub fn down(gone: Option<Gone<PlayWire>>, line: &mut PlayLine<'_>) -> Option<PlayWire> {
     let gone = gone?;
     if line.number() == gone.pipe.0 && line.says(why_word(gone.why)) {
         Some(gone.wire)
@@ -99,7 +99,7 @@ pub fn down(gone: Option<Gone<PlayWire>>, line: &mut Line<'_>) -> Option<PlayWir
 }
 
 /// What a core counts.
-pub fn totals(line: &mut Line<'_>) -> Totals {
+pub fn totals(line: &mut PlayLine<'_>) -> Totals {
     Totals {
         begun: line.long(),
         won: line.long(),

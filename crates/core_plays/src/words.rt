@@ -1,5 +1,5 @@
 //! The words for causes and results.
-use crate::line::Line;
+use crate::line::PlayLine;
 use aio_word::{Phase, Polled, Raced};
 use sp_core::{BeginError, NowError};
 use sp_history::entry::{Cause, Miss, Why};
@@ -68,12 +68,12 @@ pub fn miss_of(word: &str) -> Option<Miss> {
 }
 
 // The operation had ended so: `ended`, how, and by which caller.
-fn is_ended(line: &mut Line<'_>, phase: Phase, by: u32) -> bool {
+fn is_ended(line: &mut PlayLine<'_>, phase: Phase, by: u32) -> bool {
     line.says("ended") && line.says(phase_word(phase)) && line.number() == by
 }
 
 /// The exchange came to what the line says.
-pub fn is_raced(line: &mut Line<'_>, raced: Option<Raced>) -> bool {
+pub fn is_raced(line: &mut PlayLine<'_>, raced: Option<Raced>) -> bool {
     match raced {
         None => false,
         Some(Raced::Won) => line.says("won"),
@@ -83,7 +83,7 @@ pub fn is_raced(line: &mut Line<'_>, raced: Option<Raced>) -> bool {
 }
 
 /// The look found what the line says.
-pub fn is_polled(line: &mut Line<'_>, polled: Option<Polled>) -> bool {
+pub fn is_polled(line: &mut PlayLine<'_>, polled: Option<Polled>) -> bool {
     match polled {
         None => false,
         Some(Polled::Pending) => line.says("pending"),

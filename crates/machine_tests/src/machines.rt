@@ -60,13 +60,13 @@ fn of_role(alloc: Global, role: &str, words: &str, play: &str) -> Option<usize> 
 
 // What a machine is set to.
 #[derive(Clone, Copy)]
-struct Kind {
+struct MachineSetting {
     options: Options,
     raw: bool,
 }
 
-fn kind_of(role: Role, words: &str) -> Option<Kind> {
-    let mut it = Kind {
+fn kind_of(role: Role, words: &str) -> Option<MachineSetting> {
+    let mut it = MachineSetting {
         options: Options::usual(role, 0),
         raw: false,
     };
@@ -78,7 +78,7 @@ fn kind_of(role: Role, words: &str) -> Option<Kind> {
     Some(it)
 }
 
-fn is_set(it: &mut Kind, word: &str) -> bool {
+fn is_set(it: &mut MachineSetting, word: &str) -> bool {
     match word.split_once('=') {
         Some((name, value)) => match value.parse::<u64>() {
             Ok(n) => is_number_set(&mut it.options, name, n),
@@ -88,7 +88,7 @@ fn is_set(it: &mut Kind, word: &str) -> bool {
     }
 }
 
-fn is_named_set(it: &mut Kind, word: &str) -> bool {
+fn is_named_set(it: &mut MachineSetting, word: &str) -> bool {
     match word {
         "raw" => it.raw = true,
         "prefer_old" => it.options.prefer_new = false,
@@ -181,7 +181,7 @@ pub fn push_plays(alloc: Global, push: Result<Push, NoMemory>, play: &str) -> Op
 }
 
 // The numbers are in range, as the machines below ask for.
-fn kind_that_fits(role: Role, words: &str) -> Option<Kind>
+fn kind_that_fits(role: Role, words: &str) -> Option<MachineSetting>
     ensures { IfSome result (λ it. Fits it.options) }
 {
     let it = kind_of(role, words)?;

@@ -47,8 +47,8 @@ ghost use Rattle.std.specs.Prelude.{◌<◌};
 use crate::checks::holds;
 use crate::machines::line_wrong_for;
 use crate::words::{
-    answer, bytes, cause, is_message, is_this, message, milliseconds, named, raw_or_cooked, round,
-    yes_or_no,
+    bytes, cause, is_message, is_this, message, milliseconds, named, raw_or_cooked, round,
+    word_of_check, yes_or_no,
 };
 use sp_base::{Ctx, OpName, PipeId, Tick};
 use sp_msg::Message;
@@ -294,8 +294,8 @@ fn with_words<M: Proto>(
 // Whether an operation may begin.
 fn checks<M: Proto>(m: &M, c: u32, verb: &str, returned: &str) -> bool {
     match verb {
-        "send" => answer(m.check(Ctx(c), Verb::Send)) == returned,
-        "receive" => answer(m.check(Ctx(c), Verb::Recv)) == returned,
+        "send" => word_of_check(m.check(Ctx(c), Verb::Send)) == returned,
+        "receive" => word_of_check(m.check(Ctx(c), Verb::Recv)) == returned,
         _ => false,
     }
 }

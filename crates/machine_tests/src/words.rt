@@ -47,7 +47,7 @@ pub fn cause(why: Cause) -> &'static str {
 }
 
 /// The word for what a check of an operation returned.
-pub fn answer(returned: Result<(), CheckError>) -> &'static str {
+pub fn word_of_check(returned: Result<(), CheckError>) -> &'static str {
     match returned {
         Ok(()) => "ok",
         Err(CheckError::NotSupported) => "not_supported",

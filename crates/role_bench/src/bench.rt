@@ -1,6 +1,6 @@
 //! A machine plays a text.
-use crate::calls::{Call, calls_of};
-use crate::makers::Made;
+use crate::calls::{MachineCall, calls_of};
+use crate::makers::MadeMachine;
 use crate::moves::{answer, come, find_lost, idle, receive, send, take, topic, unwanted};
 use bench_base::line::Line;
 use bench_base::timing::{Watch, report};
@@ -28,20 +28,20 @@ fn long_topic(alloc: Global, count: u32) -> Result<Vec<u8>, NoMemory> {
 }
 
 // Makes a call that may fail, after so many times. Whether it came to what was wanted.
-fn did<M: Proto>(m: &mut M, alloc: Global, call: Call, times: u32) -> bool {
+fn did<M: Proto>(m: &mut M, alloc: Global, call: MachineCall, times: u32) -> bool {
     match call {
-        Call::Up(p) => m.up(PipeId(p.after(times))).is_ok(),
-        Call::Open(c) => m.open_ctx(Ctx(c.after(times))).is_ok(),
-        Call::PutOn(c, number) => topic(m, c.after(times), number.after(times), true),
-        Call::TakeOff(c, number) => topic(m, c.after(times), number.after(times), false),
-        Call::Send(slot, c) => send(m, alloc, slot.after(times), c.after(times)),
-        Call::Receive(slot, c) => receive(m, slot.after(times), c.after(times)),
-        Call::Answer(p, id) => answer(m, alloc, p.after(times), id.after(times)),
-        Call::Take(pipes) => take(m, pipes.after(times)),
-        Call::Idle(count) => idle(m, count.after(times)),
-        Call::Unwanted(pipes) => unwanted(m, pipes.after(times)),
-        Call::FindFull => find_lost(m, false),
-        Call::FindDown => find_lost(m, true),
+        MachineCall::Up(p) => m.up(PipeId(p.after(times))).is_ok(),
+        MachineCall::Open(c) => m.open_ctx(Ctx(c.after(times))).is_ok(),
+        MachineCall::PutOn(c, number) => topic(m, c.after(times), number.after(times), true),
+        MachineCall::TakeOff(c, number) => topic(m, c.after(times), number.after(times), false),
+        MachineCall::Send(slot, c) => send(m, alloc, slot.after(times), c.after(times)),
+        MachineCall::Receive(slot, c) => receive(m, slot.after(times), c.after(times)),
+        MachineCall::Answer(p, id) => answer(m, alloc, p.after(times), id.after(times)),
+        MachineCall::Take(pipes) => take(m, pipes.after(times)),
+        MachineCall::Idle(count) => idle(m, count.after(times)),
+        MachineCall::Unwanted(pipes) => unwanted(m, pipes.after(times)),
+        MachineCall::FindFull => find_lost(m, false),
+        MachineCall::FindDown => find_lost(m, true),
         _ => false,
     }
 }
@@ -78,23 +78,23 @@ impl<M: Proto> MachineBench<M> {
     }
 
     // Makes a call, after so many times. Whether it came to what was wanted.
-    fn make(&mut self, call: Call, times: u32) -> bool {
+    fn make(&mut self, call: MachineCall, times: u32) -> bool {
         match call {
-            Call::Fresh => self.machine.fresh(),
-            Call::Down(p) => self.machine.down(PipeId(p.after(times))),
-            Call::Full(p) => self.machine.full(PipeId(p.after(times))),
-            Call::Clock(now) => self.machine.clock(Tick(u64::from(now.after(times)))),
-            Call::Shut(c) => self.machine.close_ctx(Ctx(c.after(times))),
-            Call::Stranger => return come(&mut self.machine, self.alloc, 1, &self.stranger),
-            Call::PutLettersOn(count) => return self.put_letters_on(count.after(times)),
-            Call::Letters(count) => return self.use_letters(count.after(times)),
+            MachineCall::Fresh => self.machine.fresh(),
+            MachineCall::Down(p) => self.machine.down(PipeId(p.after(times))),
+            MachineCall::Full(p) => self.machine.full(PipeId(p.after(times))),
+            MachineCall::Clock(now) => self.machine.clock(Tick(u64::from(now.after(times)))),
+            MachineCall::Shut(c) => self.machine.close_ctx(Ctx(c.after(times))),
+            MachineCall::Stranger => return come(&mut self.machine, self.alloc, 1, &self.stranger),
+            MachineCall::PutLettersOn(count) => return self.put_letters_on(count.after(times)),
+            MachineCall::Letters(count) => return self.use_letters(count.after(times)),
             _ => return did(&mut self.machine, self.alloc, call, times),
         }
         true
     }
 
     // Makes each of these calls, after so many times.
-    fn make_each(&mut self, calls: &[Call], times: u32) -> bool {
+    fn make_each(&mut self, calls: &[MachineCall], times: u32) -> bool {
         for call in calls {
             if !self.make(*call, times) {
                 return false;
@@ -162,7 +162,7 @@ impl<M: Proto> MachineBench<M> {
 }
 
 // Plays these lines at this size, with queues of this room.
-fn play_at<M: Made, R: AllocGlobal + Clock + Eprint>(
+fn play_at<M: MadeMachine, R: AllocGlobal + Clock + Eprint>(
     rt: &R,
     size: u32,
     queue: Option<u32>,
@@ -194,7 +194,7 @@ fn queue_of(word: &str) -> Option<Option<u32>> {
 }
 
 // Plays a text at each of the sizes in its first line, behind the room of queues or `usual`.
-fn play_at_each<M: Made, R: AllocGlobal + Clock + Eprint>(rt: &R, text: &str) -> bool {
+fn play_at_each<M: MadeMachine, R: AllocGlobal + Clock + Eprint>(rt: &R, text: &str) -> bool {
     let Some((head, lines)) = text.split_once('\n') else {
         return text.is_empty();
     };
@@ -214,7 +214,7 @@ fn play_at_each<M: Made, R: AllocGlobal + Clock + Eprint>(rt: &R, text: &str) ->
 }
 
 /// Plays each of these texts. Whether all lines are right, and there was memory.
-pub fn play_all<M: Made, R: AllocGlobal + Clock + Eprint>(rt: &R, texts: &str) -> bool {
+pub fn play_all<M: MadeMachine, R: AllocGlobal + Clock + Eprint>(rt: &R, texts: &str) -> bool {
     for text in texts.split('#') {
         if !play_at_each::<M, R>(rt, text) {
             return false;

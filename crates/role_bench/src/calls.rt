@@ -5,7 +5,7 @@ use std::alloc::Global;
 
 /// A call of a machine. Pipes, contexts, slots and ids are numbers.
 #[derive(Clone, Copy)]
-pub enum Call {
+pub enum MachineCall {
     Fresh,
     Up(Number),
     Down(Number),
@@ -38,48 +38,48 @@ pub enum Call {
 }
 
 // The call that is one word.
-fn alone(name: &str) -> Option<Call> {
+fn alone(name: &str) -> Option<MachineCall> {
     match name {
-        "fresh" => Some(Call::Fresh),
-        "find_full" => Some(Call::FindFull),
-        "find_down" => Some(Call::FindDown),
-        "stranger" => Some(Call::Stranger),
+        "fresh" => Some(MachineCall::Fresh),
+        "find_full" => Some(MachineCall::FindFull),
+        "find_down" => Some(MachineCall::FindDown),
+        "stranger" => Some(MachineCall::Stranger),
         _ => None,
     }
 }
 
 // The call that is a word and a number.
-fn with_one(name: &str, number: Number) -> Option<Call> {
+fn with_one(name: &str, number: Number) -> Option<MachineCall> {
     match name {
-        "up" => Some(Call::Up(number)),
-        "down" => Some(Call::Down(number)),
-        "full" => Some(Call::Full(number)),
-        "clock" => Some(Call::Clock(number)),
-        "open" => Some(Call::Open(number)),
-        "shut" => Some(Call::Shut(number)),
-        "put_letters_on" => Some(Call::PutLettersOn(number)),
-        "letters" => Some(Call::Letters(number)),
-        "take" => Some(Call::Take(number)),
-        "idle" => Some(Call::Idle(number)),
-        "unwanted" => Some(Call::Unwanted(number)),
+        "up" => Some(MachineCall::Up(number)),
+        "down" => Some(MachineCall::Down(number)),
+        "full" => Some(MachineCall::Full(number)),
+        "clock" => Some(MachineCall::Clock(number)),
+        "open" => Some(MachineCall::Open(number)),
+        "shut" => Some(MachineCall::Shut(number)),
+        "put_letters_on" => Some(MachineCall::PutLettersOn(number)),
+        "letters" => Some(MachineCall::Letters(number)),
+        "take" => Some(MachineCall::Take(number)),
+        "idle" => Some(MachineCall::Idle(number)),
+        "unwanted" => Some(MachineCall::Unwanted(number)),
         _ => None,
     }
 }
 
 // The call that is a word and two numbers.
-fn with_two(name: &str, first: Number, second: Number) -> Option<Call> {
+fn with_two(name: &str, first: Number, second: Number) -> Option<MachineCall> {
     match name {
-        "put_on" => Some(Call::PutOn(first, second)),
-        "take_off" => Some(Call::TakeOff(first, second)),
-        "send" => Some(Call::Send(first, second)),
-        "receive" => Some(Call::Receive(first, second)),
-        "answer" => Some(Call::Answer(first, second)),
+        "put_on" => Some(MachineCall::PutOn(first, second)),
+        "take_off" => Some(MachineCall::TakeOff(first, second)),
+        "send" => Some(MachineCall::Send(first, second)),
+        "receive" => Some(MachineCall::Receive(first, second)),
+        "answer" => Some(MachineCall::Answer(first, second)),
         _ => None,
     }
 }
 
 // The call of this name with the numbers behind it, of which there are two where more than one word is left.
-fn named(name: &str, line: &mut Line<'_>) -> Option<Call> {
+fn named(name: &str, line: &mut Line<'_>) -> Option<MachineCall> {
     if let Some(call) = alone(name) {
         return Some(call);
     }
@@ -91,14 +91,14 @@ fn named(name: &str, line: &mut Line<'_>) -> Option<Call> {
 }
 
 // The call that the words are, at this size.
-fn call_of(size: u32, words: &str) -> Option<Call> {
+fn call_of(size: u32, words: &str) -> Option<MachineCall> {
     let mut line = Line::new(size, words);
     let call = named(line.word(), &mut line)?;
     if line.is_read() { Some(call) } else { None }
 }
 
 /// The calls that the text names, with commas between, if all are calls and there is memory for them.
-pub fn calls_of(alloc: Global, size: u32, text: &str) -> Option<Vec<Call>> {
+pub fn calls_of(alloc: Global, size: u32, text: &str) -> Option<Vec<MachineCall>> {
     let mut calls = Vec::new(alloc);
     for words in text.split(',') {
         calls.push(call_of(size, words)?).ok()?;

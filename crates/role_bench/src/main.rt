@@ -41,7 +41,7 @@ mod spread;
 mod surveyed;
 
 use bench::play_all;
-use makers::Made;
+use makers::MadeMachine;
 use proto_pubsub::{Publish, Subscribe};
 use proto_reqrep::{Reply, Request};
 use proto_survey::Survey;
@@ -49,9 +49,14 @@ use std::io::{self, Eprint};
 use std::time::Clock;
 
 // Plays the texts of all five roles. Whether it could.
-fn each_role<U: Made, B: Made, S: Made, Q: Made, P: Made, R: AllocGlobal + Clock + Eprint>(
-    rt: &R,
-) -> bool {
+fn each_role<
+    U: MadeMachine,
+    B: MadeMachine,
+    S: MadeMachine,
+    Q: MadeMachine,
+    P: MadeMachine,
+    R: AllocGlobal + Clock + Eprint,
+>(rt: &R) -> bool {
     play_all::<U, R>(rt, spread::SUB)
         && play_all::<B, R>(rt, spread::PUB)
         && play_all::<S, R>(rt, surveyed::SURVEYOR)

@@ -8,18 +8,18 @@ use sp_proto::Proto;
 use std::alloc::Global;
 
 /// A machine that can be made.
-pub trait Made: Proto {
+pub trait MadeMachine: Proto {
     /// One with the usual options of its role. A sub may have queues of this room.
     fn made(alloc: Global, queue: Option<u32>) -> Result<Self, NoMemory>;
 }
 
-impl Made for Publish {
+impl MadeMachine for Publish {
     fn made(alloc: Global, _queue: Option<u32>) -> Result<Publish, NoMemory> {
         Publish::new(alloc, Options::usual(Role::Pub, 0), false)
     }
 }
 
-impl Made for Subscribe {
+impl MadeMachine for Subscribe {
     fn made(alloc: Global, queue: Option<u32>) -> Result<Subscribe, NoMemory> {
         let mut options = Options::usual(Role::Sub, 0);
         if let Some(queue) = queue {
@@ -29,19 +29,19 @@ impl Made for Subscribe {
     }
 }
 
-impl Made for Survey {
+impl MadeMachine for Survey {
     fn made(alloc: Global, _queue: Option<u32>) -> Result<Survey, NoMemory> {
         Survey::new(alloc, Options::usual(Role::Surveyor, 0), false)
     }
 }
 
-impl Made for Request {
+impl MadeMachine for Request {
     fn made(alloc: Global, _queue: Option<u32>) -> Result<Request, NoMemory> {
         Request::new(alloc, Options::usual(Role::Req, 0), false)
     }
 }
 
-impl Made for Reply {
+impl MadeMachine for Reply {
     fn made(alloc: Global, _queue: Option<u32>) -> Result<Reply, NoMemory> {
         Reply::new(alloc, Options::usual(Role::Rep, 0), false)
     }

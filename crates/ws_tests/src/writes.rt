@@ -112,8 +112,8 @@ fn until_it_fails<R: Wait + Abort>(
         take,
         made(rt, Vec::from_slice(alloc, &[write])),
     );
-    let (count, answer) = fills(alloc, rt, &mut w);
-    (count, answer, w.into_link().written().len())
+    let (count, room) = fills(alloc, rt, &mut w);
+    (count, room, w.into_link().written().len())
 }
 
 #[test]
