@@ -1,5 +1,5 @@
 //! What a test asks: it stops where a result is another one. Calls cost less to prove than the macros written out.
-ghost use Rattle.std.specs.Prelude.{◌≡◌, Ok};
+ghost use Rattle.std.specs.Prelude.{◌≡◌, Ok, Some};
 
 use std::fmt::Debug;
 use std::process::Abort;
@@ -14,6 +14,16 @@ pub fn made<T, E: Debug + Drop>(rt: &impl Abort, returned: Result<T, E>) -> T
     }
 }
 
+/// What is there.
+pub fn some<T>(rt: &impl Abort, it: Option<T>) -> T
+    ensures { it ≡ Some result }
+{
+    match it {
+        Some(it) => it,
+        None => panic!(rt; "nothing is there"),
+    }
+}
+
 /// Both are the same.
 pub fn same<T: PartialEq + Debug + Drop>(rt: &impl Abort, left: T, right: T) {
     assert_eq!(rt; left, right);
@@ -22,11 +32,6 @@ pub fn same<T: PartialEq + Debug + Drop>(rt: &impl Abort, left: T, right: T) {
 /// It holds.
 pub fn holds(rt: &impl Abort, it: bool) {
     assert!(rt; it);
-}
-
-/// It succeeded.
-pub fn is_ok<T: Drop, E: Drop>(rt: &impl Abort, returned: Result<T, E>) {
-    assert!(rt; returned.is_ok());
 }
 
 /// Nothing is there.

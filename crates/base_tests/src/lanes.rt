@@ -1,7 +1,9 @@
 //! Worked runs of lanes, of the wire over two of them and of names within the process.
-ghost use Rattle.std.specs.Prelude.{◌≡◌, true};
+ghost use Rattle.std.specs.Prelude.{◌≡◌, true, false};
+ghost use Rattle.sp_lane.specs.Lanes.{has_end};
 
-use crate::checks::{holds, is_none, is_ok, made, same};
+use crate::checks::{holds, made};
+use crate::plays::{PlayedLine, Playing, plays};
 use sp_base::Role;
 use sp_lane::{Inproc, InprocError, LaneIn, LaneOut, LaneWire, Put, PutEnd, Taken, finish, lane};
 use sp_msg::{Message, Room, Wire, WireFlush, WireIn};
@@ -44,80 +46,197 @@ fn ends_go_to_threads(rt: HostRuntime) {
     holds(&rt, end.left <= 1);
 }
 
-// Whether a put of this text was done.
-fn puts<R: Wait + Abort>(rt: &R, alloc: Global, input: &mut LaneIn, text: &[u8]) -> bool {
-    let m = made(rt, Message::from_body(alloc, text));
-    if input.is_ended() {
-        return false;
-    }
-    matches!(input.put(rt, m), Put::Done)
+// The two ends of a lane.
+//
+// | call | words |
+// |---|---|
+// | a put of this message is done; it is refused, and the same message comes back | `puts 'abc`, `full 'abc` |
+// | the end mark is put | `ends` |
+// | a take gives this message, nothing, and the end mark | `takes 'abc`, `empty`, `over` |
+#[derive(Drop)]
+struct Lane {
+    input: LaneIn,
+    output: LaneOut,
 }
 
-// Whether a put of this text is refused, and the same message comes back.
-fn is_refused<R: Wait + Abort>(rt: &R, alloc: Global, input: &mut LaneIn, text: &[u8]) -> bool {
-    let m = made(rt, Message::from_body(alloc, text));
-    if input.is_ended() {
-        return false;
+impl Playing for Lane {
+    fn is_right<R: Wait>(&mut self, rt: &R, alloc: Global, line: &mut PlayedLine<'_>) -> bool {
+        let call = line.word();
+        if !matches!(call, "takes" | "empty" | "over") {
+            return !self.input.is_ended() && puts(rt, alloc, &mut self.input, call, line);
+        }
+        match self.output.take(rt) {
+            Taken::Message(m) => call == "takes" && m.body() == line.bytes(),
+            Taken::Empty => call == "empty",
+            Taken::End => call == "over",
+        }
     }
+}
+
+fn puts<R: Wait>(
+    rt: &R,
+    alloc: Global,
+    input: &mut LaneIn,
+    name: &str,
+    line: &mut PlayedLine<'_>,
+) -> bool
+    requires { has_end input.old.put ≡ false }
+{
+    if name == "ends" {
+        return matches!(input.put_end(rt), PutEnd::Done);
+    }
+    let body = line.bytes();
+    let Ok(m) = Message::from_body(alloc, body) else {
+        return false;
+    };
     match input.put(rt, m) {
-        Put::Done => false,
-        Put::Full(back) => back.header().is_empty() && back.body() == text,
-    }
-}
-
-fn ends<R: Wait>(rt: &R, input: &mut LaneIn) -> bool {
-    if input.is_ended() {
-        return false;
-    }
-    matches!(input.put_end(rt), PutEnd::Done)
-}
-
-// Whether a take gives this text.
-fn gives<R: Wait>(rt: &R, output: &mut LaneOut, text: &[u8]) -> bool {
-    match output.take(rt) {
-        Taken::Message(m) => m.body() == text,
-        Taken::Empty => false,
-        Taken::End => false,
+        Put::Done => name == "puts",
+        Put::Full(back) => name == "full" && back.header().is_empty() && back.body() == body,
     }
 }
 
 #[test]
 fn lanes_give_in_order(rt: HostRuntime) {
-    let (mut input, mut output) = made(&rt, lane(rt.alloc(), 1));
-    holds(&rt, puts(&rt, rt.alloc(), &mut input, b"a"));
-    holds(&rt, is_refused(&rt, rt.alloc(), &mut input, b"b"));
-    holds(&rt, gives(&rt, &mut output, b"a"));
-    holds(&rt, matches!(output.take(&rt), Taken::Empty));
-    holds(&rt, ends(&rt, &mut input));
-    holds(&rt, matches!(output.take(&rt), Taken::End));
+    let text = "
+        puts 'a
+        full 'b
+        takes 'a
+        empty
+        ends
+        over
+    ";
+    let (input, output) = made(&rt, lane(rt.alloc(), 1));
+    plays(&rt, rt.alloc(), &mut Lane { input, output }, text);
 }
 
-// The number of the result, or 0.
-fn number(returned: Result<LaneWire, InprocError>) -> u32 {
-    match returned {
-        Ok(_) => 0,
-        Err(InprocError::InUse) => 10,
-        Err(InprocError::NoEntry) => 12,
-        Err(InprocError::Proto) => 13,
-        Err(InprocError::NoMemory) => 2,
+// Names within the process, the half that was dialed last, and the one that was accepted last.
+//
+// | call | words |
+// |---|---|
+// | the name is listened on, and what that returns | `listen x rep Ok(())` |
+// | it is dialed, and what that returns | `dial x req Err(NoEntry)` |
+// | a half of it is accepted, and whether there was one | `accept x true` |
+// | the half that was dialed is dropped | `drops` |
+// | a half sends a message with this number as its header | `dialed sends 5 'abc` |
+// | it has written all | `dialed flushes` |
+// | it pulls this message, and the end | `met pulls 'abc`, `met ends` |
+// | it is shut, and has written all | `dialed shuts` |
+#[derive(Drop)]
+struct Names {
+    names: Inproc,
+    dialed: Option<LaneWire>,
+    met: Option<LaneWire>,
+}
+
+fn role_of(word: &str) -> Option<Role> {
+    match word {
+        "req" => Some(Role::Req),
+        "rep" => Some(Role::Rep),
+        "push" => Some(Role::Push),
+        _ => None,
     }
 }
 
-#[test]
-fn inproc_names_are_dialed_and_accepted(rt: HostRuntime) {
-    let mut names = Inproc::new(rt.alloc());
-    same(&rt, number(names.dial(b"x", Role::Req)), 12);
-    is_ok(&rt, names.listen(b"x", Role::Rep));
-    let again = names.listen(b"x", Role::Rep);
-    holds(&rt, matches!(again, Err(InprocError::InUse)));
-    same(&rt, number(names.dial(b"x", Role::Push)), 13);
-    same(&rt, number(names.dial(b"x", Role::Req)), 0);
-    holds(&rt, names.accept(b"x").is_some());
-    is_none(&rt, names.accept(b"x"));
+impl Playing for Names {
+    fn is_right<R: Wait>(&mut self, rt: &R, alloc: Global, line: &mut PlayedLine<'_>) -> bool {
+        match line.word() {
+            "dialed" => is_so(rt, alloc, &mut self.dialed, line),
+            "met" => is_so(rt, alloc, &mut self.met, line),
+            "drops" => {
+                self.dialed = None;
+                true
+            }
+            "accept" => {
+                self.met = self.names.accept(line.word().as_bytes());
+                line.says(alloc, self.met.is_some())
+            }
+            call => self.is_named(alloc, call, line),
+        }
+    }
+}
+
+fn names_play<R: Wait + Abort>(rt: &R, alloc: Global, text: &str) {
+    let mut names = Names {
+        names: Inproc::new(alloc),
+        dialed: None,
+        met: None,
+    };
+    plays(rt, alloc, &mut names, text);
+}
+
+impl Names {
+    // A call that names a role.
+    fn is_named(&mut self, alloc: Global, call: &str, line: &mut PlayedLine<'_>) -> bool {
+        let name = line.word().as_bytes();
+        let Some(role) = role_of(line.word()) else {
+            return false;
+        };
+        let returned = match call {
+            "listen" => self.names.listen(name, role),
+            "dial" => self.dials(name, role),
+            _ => return false,
+        };
+        line.says(alloc, returned)
+    }
+
+    // Dials, and keeps the half.
+    fn dials(&mut self, name: &[u8], role: Role) -> Result<(), InprocError> {
+        match self.names.dial(name, role) {
+            Ok(wire) => {
+                self.dialed = Some(wire);
+                Ok(())
+            }
+            Err(why) => Err(why),
+        }
+    }
+}
+
+// A call of a half.
+fn is_so<R: Wait>(
+    rt: &R,
+    alloc: Global,
+    half: &mut Option<LaneWire>,
+    line: &mut PlayedLine<'_>,
+) -> bool {
+    let Some(wire) = half else {
+        return false;
+    };
+    match line.word() {
+        "shuts" => {
+            wire.shut();
+            matches!(wire.flush(rt), WireFlush::Empty)
+        }
+        "sends" => sends(rt, alloc, wire, line),
+        "flushes" => wire.is_open() && matches!(wire.flush(rt), WireFlush::Empty),
+        call => wire.is_open() && pulls(wire.pull(rt), call, line),
+    }
+}
+
+// What was pulled is what the line says.
+fn pulls(pulled: WireIn, call: &str, line: &mut PlayedLine<'_>) -> bool {
+    match pulled {
+        WireIn::Message(m) => {
+            call == "pulls" && m.header().is_empty() && m.body() == line.bytes()
+        }
+        WireIn::Ended => call == "ends",
+        WireIn::NotYet | WireIn::Malformed | WireIn::Failed | WireIn::Refused | WireIn::NoMemory =>
+            false,
+    }
+}
+
+// A message of a number as its header, and of a body.
+fn message(alloc: Global, line: &mut PlayedLine<'_>) -> Option<Message> {
+    let number = line.small();
+    let mut m = Message::from_body(alloc, line.bytes()).ok()?;
+    m.header_append_u32(number).ok()?;
+    Some(m)
 }
 
 // Puts a message on a wire that has room.
-fn sends<R: Wait>(rt: &R, wire: &mut LaneWire, m: Message) -> bool {
+fn sends<R: Wait>(rt: &R, alloc: Global, wire: &mut LaneWire, line: &mut PlayedLine<'_>) -> bool {
+    let Some(m) = message(alloc, line) else {
+        return false;
+    };
     if !wire.is_open() {
         return false;
     }
@@ -130,48 +249,32 @@ fn sends<R: Wait>(rt: &R, wire: &mut LaneWire, m: Message) -> bool {
     }
 }
 
-fn is_written<R: Wait>(rt: &R, wire: &mut LaneWire) -> bool {
-    wire.is_open() && matches!(wire.flush(rt), WireFlush::Empty)
-}
-
-fn shuts<R: Wait>(rt: &R, wire: &mut LaneWire) -> bool {
-    wire.shut();
-    matches!(wire.flush(rt), WireFlush::Empty)
-}
-
-// Whether the next message of a wire is this one.
-fn pulls<R: Wait>(rt: &R, wire: &mut LaneWire, text: &[u8]) -> bool {
-    if !wire.is_open() {
-        return false;
-    }
-    match wire.pull(rt) {
-        WireIn::Message(m) => m.header().is_empty() && m.body() == text,
-        WireIn::NotYet
-        | WireIn::Ended
-        | WireIn::Malformed
-        | WireIn::Failed
-        | WireIn::Refused
-        | WireIn::NoMemory => false,
-    }
-}
-
-fn has_ended<R: Wait>(rt: &R, wire: &mut LaneWire) -> bool {
-    wire.is_open() && matches!(wire.pull(rt), WireIn::Ended)
+#[test]
+fn inproc_names_are_dialed_and_accepted(rt: HostRuntime) {
+    let text = "
+        dial x req Err(NoEntry)
+        listen x rep Ok(())
+        listen x rep Err(InUse)
+        dial x push Err(Proto)
+        dial x req Ok(())
+        drops
+        accept x true
+        accept x false
+    ";
+    names_play(&rt, rt.alloc(), text);
 }
 
 #[test]
 fn a_wire_within_the_process_carries_and_ends(rt: HostRuntime) {
-    let mut names = Inproc::new(rt.alloc());
-    is_ok(&rt, names.listen(b"x", Role::Rep));
-    let mut dialed = made(&rt, names.dial(b"x", Role::Req));
-    let Some(mut met) = names.accept(b"x") else {
-        panic!(rt; "nobody came")
-    };
-    let mut m = made(&rt, Message::from_body(rt.alloc(), b"b"));
-    is_ok(&rt, m.header_append_u32(0x6861_6861));
-    holds(&rt, sends(&rt, &mut dialed, m));
-    holds(&rt, is_written(&rt, &mut dialed));
-    holds(&rt, pulls(&rt, &mut met, b"hahab"));
-    holds(&rt, shuts(&rt, &mut dialed));
-    holds(&rt, has_ended(&rt, &mut met));
+    let text = "
+        listen x rep Ok(())
+        dial x req Ok(())
+        accept x true
+        dialed sends 1751214177 'b
+        dialed flushes
+        met pulls 'hahab
+        dialed shuts
+        met ends
+    ";
+    names_play(&rt, rt.alloc(), text);
 }

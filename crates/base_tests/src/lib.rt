@@ -21,6 +21,8 @@ mod pending;
 #[cfg(test)]
 mod plain;
 #[cfg(test)]
+mod plays;
+#[cfg(test)]
 mod turns;
 #[cfg(test)]
 mod uses_of_turns;

@@ -1,9 +1,11 @@
 //! Messages: their size, and copies that share their bytes.
-use crate::checks::{made, same};
+use crate::checks::same;
+use crate::plays::{PlayedLine, Playing, plays};
 use sp_msg::Message;
 use std::alloc::Global;
 use std::mem::size_of;
 use std::process::Abort;
+use std::sync::Wait;
 
 fn is_send<T: Send>() {}
 
@@ -20,56 +22,143 @@ fn a_message_is_96_bytes_large(rt: HostRuntime) {
     same(&rt, size_of::<Message>(), 96);
 }
 
-// `abcdef` without its first 2 bytes and with a word in its header, and a copy.
-fn pair(rt: &impl Abort, alloc: Global) -> (Message, Message) {
-    let mut m = made(rt, Message::from_body(alloc, b"abcdef"));
-    made(rt, m.trim(2));
-    made(rt, m.header_append_u32(1));
-    let copy = made(rt, m.copy());
-    (m, copy)
+// A message and its copy, where they are there.
+//
+// | call | words |
+// |---|---|
+// | the message is made with this body | `new 'abc` |
+// | the copy is made of the message | `copies` |
+// | the message is dropped | `drops` |
+// | so many bytes of a body are taken away, at the beginning and at the end | `message trim 2`, `copy chop 1` |
+// | a body gets more bytes, at the end and at the beginning | `message append 'abc`, `copy insert 'abc` |
+// | a header gets a number | `message number 1` |
+// | a header moves to the beginning of its body | `message join` |
+// | the header and the body | `copy is ' 'abc` |
+#[derive(Drop)]
+struct TwoMessages {
+    message: Option<Message>,
+    copy: Option<Message>,
+}
+
+impl Playing for TwoMessages {
+    fn is_right<R: Wait>(&mut self, _rt: &R, alloc: Global, line: &mut PlayedLine<'_>) -> bool {
+        match line.word() {
+            "new" => self.message = Message::from_body(alloc, line.bytes()).ok(),
+            "copies" => {
+                if let Some(m) = &self.message {
+                    self.copy = m.copy().ok();
+                }
+            }
+            "drops" => self.message = None,
+            "message" => return is_so(&mut self.message, line),
+            "copy" => return is_so(&mut self.copy, line),
+            _ => return false,
+        }
+        true
+    }
+}
+
+fn is_so(message: &mut Option<Message>, line: &mut PlayedLine<'_>) -> bool {
+    let Some(m) = message else {
+        return false;
+    };
+    match line.word() {
+        "is" => m.header() == line.bytes() && m.body() == line.bytes(),
+        "join" => m.join().is_ok(),
+        call => takes(m, call, line),
+    }
+}
+
+// A call that takes a number or bytes.
+fn takes(m: &mut Message, call: &str, line: &mut PlayedLine<'_>) -> bool {
+    match call {
+        "trim" => m.trim(line.small() as usize).is_ok(),
+        "chop" => m.chop(line.small() as usize).is_ok(),
+        "append" => m.append(line.bytes()).is_ok(),
+        "insert" => m.insert(line.bytes()).is_ok(),
+        "number" => m.header_append_u32(line.small()).is_ok(),
+        _ => false,
+    }
+}
+
+fn message_plays<R: Wait + Abort>(rt: &R, alloc: Global, text: &str) {
+    let mut pair = TwoMessages {
+        message: None,
+        copy: None,
+    };
+    plays(rt, alloc, &mut pair, text);
 }
 
 #[test]
 fn a_copy_stays_where_the_message_is_trimmed(rt: HostRuntime) {
-    let (mut m, copy) = pair(&rt, rt.alloc());
-    made(&rt, m.trim(1));
-    made(&rt, m.chop(1));
-    same(&rt, m.body(), b"de".as_slice());
-    same(&rt, copy.body(), b"cdef".as_slice());
+    let text = "
+        new 'abcdef
+        message trim 2
+        message number 1
+        copies
+        message trim 1
+        message chop 1
+        message is '\0\0\0\x01 'de
+        copy is '\0\0\0\x01 'cdef
+    ";
+    message_plays(&rt, rt.alloc(), text);
 }
 
 #[test]
 fn a_copy_stays_where_the_message_is_appended_to(rt: HostRuntime) {
-    let (mut m, copy) = pair(&rt, rt.alloc());
-    made(&rt, m.append(b"gh"));
-    same(&rt, m.body(), b"cdefgh".as_slice());
-    same(&rt, copy.body(), b"cdef".as_slice());
+    let text = "
+        new 'abcdef
+        message trim 2
+        message number 1
+        copies
+        message append 'gh
+        message is '\0\0\0\x01 'cdefgh
+        copy is '\0\0\0\x01 'cdef
+    ";
+    message_plays(&rt, rt.alloc(), text);
 }
 
 #[test]
 fn a_message_stays_where_its_copy_is_written(rt: HostRuntime) {
-    let (m, mut copy) = pair(&rt, rt.alloc());
-    made(&rt, copy.chop(2));
-    made(&rt, copy.append(b"XY"));
-    same(&rt, copy.body(), b"cdXY".as_slice());
-    same(&rt, m.body(), b"cdef".as_slice());
+    let text = "
+        new 'abcdef
+        message trim 2
+        message number 1
+        copies
+        copy chop 2
+        copy append 'XY
+        copy is '\0\0\0\x01 'cdXY
+        message is '\0\0\0\x01 'cdef
+    ";
+    message_plays(&rt, rt.alloc(), text);
 }
 
 #[test]
 fn a_copy_stays_where_the_message_is_joined(rt: HostRuntime) {
-    let (mut m, copy) = pair(&rt, rt.alloc());
-    made(&rt, m.join());
-    same(&rt, m.body(), b"\x00\x00\x00\x01cdef".as_slice());
-    same(&rt, copy.header(), b"\x00\x00\x00\x01".as_slice());
-    same(&rt, copy.body(), b"cdef".as_slice());
+    let text = "
+        new 'abcdef
+        message trim 2
+        message number 1
+        copies
+        message join
+        message is ' '\0\0\0\x01cdef
+        copy is '\0\0\0\x01 'cdef
+    ";
+    message_plays(&rt, rt.alloc(), text);
 }
 
 #[test]
 fn a_copy_outlives_the_message(rt: HostRuntime) {
-    let (m, mut copy) = pair(&rt, rt.alloc());
-    drop(m);
-    same(&rt, copy.body(), b"cdef".as_slice());
-    made(&rt, copy.insert(b"AB"));
-    made(&rt, copy.append(b"gh"));
-    same(&rt, copy.body(), b"ABcdefgh".as_slice());
+    let text = "
+        new 'abcdef
+        message trim 2
+        message number 1
+        copies
+        drops
+        copy is '\0\0\0\x01 'cdef
+        copy insert 'AB
+        copy append 'gh
+        copy is '\0\0\0\x01 'ABcdefgh
+    ";
+    message_plays(&rt, rt.alloc(), text);
 }

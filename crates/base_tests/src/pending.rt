@@ -1,5 +1,5 @@
 //! Pending operations by their slot and in the line of their context.
-use crate::checks::{made, same};
+use crate::checks::{made, same, some};
 use sp_base::{Ctx, OpName};
 use sp_pending::PendingOps;
 
@@ -28,11 +28,8 @@ fn the_line_of_a_context_has_its_operations_in_order(rt: HostRuntime) {
     same(&rt, pending.some_on(Ctx(1)), Some(FIRST));
     same(&rt, pending.some_on(Ctx(5)), Some(SECOND));
     same(&rt, pending.some_on(Ctx(2)), None);
-    let mut slots = Vec::new(rt.alloc());
-    if let Some(x) = pending.first_in_bucket(Ctx(1)) {
-        made(&rt, slots.push(x.name().slot));
-    }
-    same(&rt, slots.as_slice(), [2].as_slice());
+    let first = some(&rt, pending.first_in_bucket(Ctx(1)));
+    same(&rt, first.name().slot, 2);
 }
 
 fn is_send<T: Send>() {}

@@ -3,55 +3,74 @@ ghost use Rattle.std.specs.Prelude.{◌≡◌, true};
 ghost use Rattle.sp_base.specs.Addresses.{is_dialable};
 
 use crate::checks::{holds, made, same};
-use sp_base::{Addr, Bytes, Files, Host, Link, LinkRead, Linked, Net, Role, Whole, next_value};
+use crate::plays::{PlayedLine, Playing, plays};
+use sp_base::{Addr, Bytes, Files, Host, Link, LinkRead, Linked, Net, Role, next_value};
 use sp_fakes::{LinkStep, MemFiles, MemLink, MemNet, Returned};
 use sp_tcp::Greeting;
 use std::alloc::Global;
-use std::process::Abort;
+use std::sync::Wait;
 
-// The role of the number that a row begins with.
-fn role_of(rt: &impl Abort, row: &[u8]) -> Role {
-    let word = row.split(|byte| *byte == b' ').next().unwrap_or(b"");
-    let number = made(rt, made(rt, std::str::from_utf8(word)).parse::<u16>());
-    match Role::from_number(number) {
-        Some(role) => role,
-        None => panic!(rt; "no role has the number {number}"),
+// Each line is a number with what it stands for:
+//
+// | row | what it says |
+// |---|---|
+// | `role 33 Sub 32 sub false true true` | its role, its peer, its name; whether it sends, receives, has contexts |
+// | `greeting 16 Pair0 [0, 83, 80, 0, 0, 16, 0, 0]` | the role and its greeting |
+// | `none 17` | no role has the number |
+#[derive(Drop)]
+struct Roles;
+
+impl Playing for Roles {
+    fn is_right<R: Wait>(&mut self, _rt: &R, alloc: Global, line: &mut PlayedLine<'_>) -> bool {
+        let row = line.word();
+        let Ok(number) = u16::try_from(line.small()) else {
+            return false;
+        };
+        match Role::from_number(number) {
+            Some(role) => role.number() == number && is_role(alloc, role, row, line),
+            None => row == "none",
+        }
     }
 }
 
-// A role as a row: its number, the role, its peer's number, its name, and whether it sends, receives and has contexts.
-fn role_row(rt: &impl Abort, alloc: Global, role: Role) -> String {
-    let number = role.number();
+fn is_role(alloc: Global, role: Role, row: &str, line: &mut PlayedLine<'_>) -> bool {
+    let text = match row {
+        "role" => role_text(alloc, role),
+        "greeting" => format!(in alloc; "{role:?} {:?}", Greeting::new(role).hello()).ok(),
+        _ => None,
+    };
+    match text {
+        Some(text) => text.as_str() == line.rest(),
+        None => false,
+    }
+}
+
+fn role_text(alloc: Global, role: Role) -> Option<String> {
     let peer = role.peer().number();
     let name = role.name();
     let (sends, receives, contexts) = (role.sends(), role.receives(), role.contexts());
-    made(
-        rt,
-        format!(in alloc; "{number} {role:?} {peer} {name} {sends} {receives} {contexts}"),
-    )
+    format!(in alloc; "{role:?} {peer} {name} {sends} {receives} {contexts}").ok()
 }
 
 const ROLES: &str = "\
-16 Pair0 16 pair true true false
-32 Pub 33 pub true false false
-33 Sub 32 sub false true true
-48 Req 49 req true true true
-49 Rep 48 rep true true true
-80 Push 81 push true false false
-81 Pull 80 pull false true false
-98 Surveyor 99 surveyor true true true
-99 Respondent 98 respondent true true true
-112 Bus 112 bus true true false";
+role 16 Pair0 16 pair true true false
+role 32 Pub 33 pub true false false
+role 33 Sub 32 sub false true true
+role 48 Req 49 req true true true
+role 49 Rep 48 rep true true true
+role 80 Push 81 push true false false
+role 81 Pull 80 pull false true false
+role 98 Surveyor 99 surveyor true true true
+role 99 Respondent 98 respondent true true true
+role 112 Bus 112 bus true true false
+none 0
+none 17
+none 34
+none 65535";
 
 #[test]
 fn roles_have_their_numbers(rt: HostRuntime) {
-    for row in ROLES.as_bytes().split(|byte| *byte == b'\n') {
-        let shown = role_row(&rt, rt.alloc(), role_of(&rt, row));
-        same(&rt, shown.as_str(), made(&rt, std::str::from_utf8(row)));
-    }
-    for number in [0, 17, 34, 65_535] {
-        same(&rt, Role::from_number(number), None);
-    }
+    plays(&rt, rt.alloc(), &mut Roles, ROLES);
 }
 
 #[test]
@@ -75,52 +94,33 @@ fn bytes_grow(rt: HostRuntime) {
 #[test]
 fn files_in_memory_are_read_by_their_names(rt: HostRuntime) {
     let alloc = rt.alloc();
-    let mut pairs = Vec::new(alloc);
-    made(
-        &rt,
-        pairs.push((
-            made(&rt, String::from_str(alloc, "a")),
-            made(&rt, Bytes::from_slice(alloc, b"one")),
-        )),
-    );
+    let name = made(&rt, String::from_str(alloc, "a"));
+    let bytes = made(&rt, Bytes::from_slice(alloc, b"one"));
+    let pairs = made(&rt, vec![in alloc; (name, bytes)]);
     let mut files = MemFiles::new(alloc, pairs, Vec::new(alloc));
     let found = files.whole("a");
     holds(
         &rt,
-        matches!(&found, Whole::Bytes(b) if b.as_slice() == b"one".as_slice()),
+        PlayedLine::new("Bytes(Bytes { items: [111, 110, 101] })").says(alloc, found),
     );
-    let missing = files.whole("b");
-    holds(&rt, matches!(&missing, Whole::Failed));
+    holds(&rt, PlayedLine::new("Failed").says(alloc, files.whole("b")));
 }
 
-// The number of each role, the role and its greeting.
 const GREETINGS: &str = "\
-16 Pair0 [0, 83, 80, 0, 0, 16, 0, 0]
-32 Pub [0, 83, 80, 0, 0, 32, 0, 0]
-33 Sub [0, 83, 80, 0, 0, 33, 0, 0]
-48 Req [0, 83, 80, 0, 0, 48, 0, 0]
-49 Rep [0, 83, 80, 0, 0, 49, 0, 0]
-80 Push [0, 83, 80, 0, 0, 80, 0, 0]
-81 Pull [0, 83, 80, 0, 0, 81, 0, 0]
-98 Surveyor [0, 83, 80, 0, 0, 98, 0, 0]
-99 Respondent [0, 83, 80, 0, 0, 99, 0, 0]
-112 Bus [0, 83, 80, 0, 0, 112, 0, 0]";
-
-fn greeting_row(rt: &impl Abort, alloc: Global, role: Role) -> String {
-    let number = role.number();
-    let greeting = Greeting::new(role);
-    made(
-        rt,
-        format!(in alloc; "{number} {role:?} {:?}", greeting.hello()),
-    )
-}
+greeting 16 Pair0 [0, 83, 80, 0, 0, 16, 0, 0]
+greeting 32 Pub [0, 83, 80, 0, 0, 32, 0, 0]
+greeting 33 Sub [0, 83, 80, 0, 0, 33, 0, 0]
+greeting 48 Req [0, 83, 80, 0, 0, 48, 0, 0]
+greeting 49 Rep [0, 83, 80, 0, 0, 49, 0, 0]
+greeting 80 Push [0, 83, 80, 0, 0, 80, 0, 0]
+greeting 81 Pull [0, 83, 80, 0, 0, 81, 0, 0]
+greeting 98 Surveyor [0, 83, 80, 0, 0, 98, 0, 0]
+greeting 99 Respondent [0, 83, 80, 0, 0, 99, 0, 0]
+greeting 112 Bus [0, 83, 80, 0, 0, 112, 0, 0]";
 
 #[test]
 fn greetings_of_all_roles(rt: HostRuntime) {
-    for row in GREETINGS.as_bytes().split(|byte| *byte == b'\n') {
-        let shown = greeting_row(&rt, rt.alloc(), role_of(&rt, row));
-        same(&rt, shown.as_str(), made(&rt, std::str::from_utf8(row)));
-    }
+    plays(&rt, rt.alloc(), &mut Roles, GREETINGS);
 }
 
 // Reads once, and says what came: the first byte, or a mark.
@@ -156,19 +156,19 @@ fn reads_of<L: Link>(link: &mut L) -> [u8; 8]
 #[test]
 fn a_link_in_memory_goes_by_its_script(rt: HostRuntime) {
     let alloc = rt.alloc();
-    let mut script = Vec::new(alloc);
-    made(
+    let first = LinkStep::Bytes(made(&rt, Bytes::from_slice(alloc, b"a")));
+    let second = LinkStep::Bytes(made(&rt, Bytes::from_slice(alloc, b"b")));
+    let script = made(
         &rt,
-        script.push(LinkStep::Bytes(made(&rt, Bytes::from_slice(alloc, b"a")))),
+        vec![in alloc;
+            first,
+            LinkStep::Fail,
+            LinkStep::NotYet,
+            LinkStep::After(3),
+            second,
+            LinkStep::End,
+        ],
     );
-    made(&rt, script.push(LinkStep::Fail));
-    made(&rt, script.push(LinkStep::NotYet));
-    made(&rt, script.push(LinkStep::After(3)));
-    made(
-        &rt,
-        script.push(LinkStep::Bytes(made(&rt, Bytes::from_slice(alloc, b"b")))),
-    );
-    made(&rt, script.push(LinkStep::End));
     let mut link = MemLink::new(alloc, script, 9, Vec::new(alloc));
     same(&rt, reads_of(&mut link), *b"a!---b..");
     same(&rt, link.written(), b"xyz".as_slice());
@@ -219,22 +219,11 @@ fn address() -> Addr
 #[test]
 fn a_failed_dial_uses_up_no_link(rt: HostRuntime) {
     let alloc = rt.alloc();
-    let mut links = Vec::new(alloc);
-    made(
-        &rt,
-        links.push(MemLink::new(alloc, Vec::new(alloc), 9, Vec::new(alloc))),
-    );
-    let mut outgoing = Vec::new(alloc);
-    made(&rt, outgoing.push((address(), links)));
-    let mut net = made(
-        &rt,
-        MemNet::new(
-            alloc,
-            Vec::new(alloc),
-            outgoing,
-            made(&rt, vec![in alloc; 0]),
-        ),
-    );
+    let link = MemLink::new(alloc, Vec::new(alloc), 9, Vec::new(alloc));
+    let links = made(&rt, vec![in alloc; link]);
+    let outgoing = made(&rt, vec![in alloc; (address(), links)]);
+    let fails = made(&rt, vec![in alloc; 0]);
+    let mut net = made(&rt, MemNet::new(alloc, Vec::new(alloc), outgoing, fails));
     holds(&rt, dials(&mut net, &address()));
     same(&rt, net.opened(), 1);
 }

@@ -1,10 +1,12 @@
 //! Turns of a lock: passes, threads that take turns, and what the end gives back.
-ghost use Rattle.std.specs.Prelude.{◌≡◌, ◌^◌, ◌-◌, min, length, []};
+ghost use Rattle.std.specs.Prelude.{◌≡◌, ◌≤◌, ◌^◌, ◌-◌, min, length, [], Some};
 ghost use Rattle.turn_lock.specs.declared.turn.Turn.{Turn};
-ghost use Rattle.turn_lock.specs.Passes.{IsReady, OwnTurn};
+ghost use Rattle.turn_lock.specs.Passes.{IsReady, OwnTurn, new_list};
 
-use crate::checks::{holds, same};
+use crate::checks::{holds, same, some};
+use std::alloc::Global;
 use std::marker::Brand;
+use std::process::Abort;
 use std::sync::Wait;
 use std::thread::join;
 use turn_lock::{Offers, PassList, Picks, Stands, TurnLock, TurnPass};
@@ -34,8 +36,8 @@ fn take_turn<R: Wait>(rt: &R, lock: &TurnLock<Count>, mut pass: TurnPass<Count>)
     pass
 }
 
-// Takes a turn of which it knows no more than that there is one.
-fn take_some_turn<R: Wait>(
+// Takes a turn of which it knows no more than that there is one. The pass is inside from enter to leave.
+fn take_some_turn<R: Wait + Abort>(
     rt: &R,
     lock: &TurnLock<Count>,
     mut pass: TurnPass<Count>,
@@ -44,9 +46,12 @@ fn take_some_turn<R: Wait>(
     ensures ready { IsReady lock.now result }
     ensures turn { (past : _) × (t : Turn _) × OwnTurn pass past t result }
 {
+    holds(rt, !pass.is_inside());
     let Count(count) = lock.enter(rt, &mut pass);
+    holds(rt, pass.is_inside());
     let counted = Count(count.saturating_add(1));
     lock.leave_some::<Brand, ()>(&mut pass, counted, &());
+    holds(rt, !pass.is_inside());
     pass
 }
 
@@ -118,40 +123,48 @@ fn a_lock_of_what_can_be_sent_is_shared(_rt: HostRuntime) {
     is_shared::<Count>();
 }
 
-#[test]
-fn types_name_the_turns(rt: HostRuntime) {
-    let made = TurnLock::new(rt.alloc(), Count(0), 2);
-    let Ok((lock, mut list)) = made else {
+// A lock of so many callers, of which none took a turn.
+fn locked(rt: &impl Abort, alloc: Global, callers: u32) -> (TurnLock<Count>, PassList<Count>)
+    requires { (1 ≤ callers) × (callers ≤ 64) }
+    ensures { result.1 ≡ new_list result.0 (Some tt) callers }
+{
+    let made = TurnLock::new(alloc, Count(0), callers);
+    let Ok((lock, list)) = made else {
         panic!(rt; "no memory")
     };
-    let Some(second) = list.pop() else {
-        unreachable!()
-    };
-    let Some(first) = list.pop() else {
-        unreachable!()
-    };
+    (lock, list)
+}
+
+// Ends the lock, in which so many turns were taken. The number of the pass that stays.
+fn ends<R: Wait + Abort>(rt: &R, lock: TurnLock<Count>, list: PassList<Count>, turns: u64) -> u32
+    requires lock { list.lock ≡ lock }
+    requires all { length list.items ≡ list.callers }
+{
+    let (Count(count), pass) = lock.end(rt, list);
+    same(rt, count, turns);
+    holds(rt, !pass.is_inside());
+    pass.number()
+}
+
+#[test]
+fn types_name_the_turns(rt: HostRuntime) {
+    let (lock, mut list) = locked(&rt, rt.alloc(), 2);
+    let second = some(&rt, list.pop());
+    let first = some(&rt, list.pop());
     same(&rt, first.number(), 1);
     let first = take_first_turn(&rt, &lock, first);
     let second = take_bare_turn(&rt, &lock, second);
     list.give(first);
     list.give(second);
-    let (Count(count), _pass) = lock.end(&rt, list);
-    same(&rt, count, 2);
+    ends(&rt, lock, list, 2);
 }
 
 #[test]
 fn two_threads_take_a_turn_each(rt: HostRuntime) {
-    let made = TurnLock::new(rt.alloc(), Count(0), 2);
-    let Ok((lock, mut list)) = made else {
-        panic!(rt; "no memory")
-    };
+    let (lock, mut list) = locked(&rt, rt.alloc(), 2);
     holds(&rt, list.is_full());
-    let Some(second) = list.pop() else {
-        unreachable!()
-    };
-    let Some(first) = list.pop() else {
-        unreachable!()
-    };
+    let second = some(&rt, list.pop());
+    let first = some(&rt, list.pop());
     holds(&rt, !list.is_full());
     same(&rt, first.number(), 1);
     same(&rt, second.number(), 2);
@@ -168,42 +181,22 @@ fn two_threads_take_a_turn_each(rt: HostRuntime) {
     );
     list.give(second);
     list.give(first);
-    let (Count(count), pass) = lock.end(&rt, list);
-    same(&rt, count, 2);
-    same(&rt, pass.number(), 1);
-    holds(&rt, !pass.is_inside());
+    same(&rt, ends(&rt, lock, list, 2), 1);
 }
 
 #[test]
 fn a_pass_is_inside_from_enter_to_leave(rt: HostRuntime) {
-    let made = TurnLock::new(rt.alloc(), Count(0), 1);
-    let Ok((lock, mut list)) = made else {
-        panic!(rt; "no memory")
-    };
-    let Some(mut pass) = list.pop() else {
-        unreachable!()
-    };
-    holds(&rt, !pass.is_inside());
-    let state = lock.enter(&rt, &mut pass);
-    holds(&rt, pass.is_inside());
-    let Count(count) = state;
-    let counted = Count(count.saturating_add(1));
-    lock.leave_some::<Brand, ()>(&mut pass, counted, &());
-    holds(&rt, !pass.is_inside());
+    let (lock, mut list) = locked(&rt, rt.alloc(), 1);
+    let pass = some(&rt, list.pop());
+    let pass = take_some_turn(&rt, &lock, pass);
     list.give(pass);
-    let (Count(count), _pass) = lock.end(&rt, list);
-    same(&rt, count, 1);
+    ends(&rt, lock, list, 1);
 }
 
 #[test]
 fn a_lock_has_up_to_64_passes(rt: HostRuntime) {
     for callers in [1, 17, 64] {
-        let made = TurnLock::new(rt.alloc(), Count(0), callers);
-        let Ok((lock, list)) = made else {
-            panic!(rt; "no memory")
-        };
-        let (Count(count), pass) = lock.end(&rt, list);
-        same(&rt, count, 0);
-        same(&rt, pass.number(), callers);
+        let (lock, list) = locked(&rt, rt.alloc(), callers);
+        same(&rt, ends(&rt, lock, list, 0), callers);
     }
 }

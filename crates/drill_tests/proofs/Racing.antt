@@ -11,7 +11,7 @@ use Rattle.proto_pipeline.specs.PullLaws as laws
 use Rattle.sp_socket.specs.Passes.{SocketName, PassView}
 use Rattle.sp_socket.proofs.Held.{all_keep}
 use Rattle.cat_play.specs.Drilling.{drill_setting}
-use Rattle.drill_rounds.specs.Calling.{Calls, Worked}
+use Rattle.drill_rounds.specs.Calling.{IsDrillPass, Calls, Worked}
 
 -- a call that collects nothing leaves open what was
 pub still_calls : (s : SocketName) (p q : PassView) (ops : List OpName) → Worked p q → Calls s p ops → Calls s q ops
@@ -19,6 +19,10 @@ still_calls s p q ops w c = record {
   own = (w.same.1 ∙ c.own.0, w.same.2 ∙ c.own.1, c.own.2, c.own.3);
   open_ = all_keep p q ops w.open_ c.open_;
 }
+
+-- nor does it take the pass from its socket
+pub still_own : (s : SocketName) (p q : PassView) → Worked p q → IsDrillPass s p → IsDrillPass s q
+still_own s p q w own = (w.same.1 ∙ own.0, w.same.2 ∙ own.1, own.2, own.3)
 
 -- a socket over a new machine has the setting of a drill
 pub new_setting : (m : Pull) (o : Options) → o ≡ usual RolePull 0 → Starts Ties m (pull_kind false o) → setting_of (pull_kind m.raw m.options) 256 4 ≡ drill_setting

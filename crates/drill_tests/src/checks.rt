@@ -1,4 +1,4 @@
-//! What a test asks: it stops where a result is another one. Calls cost less to prove than the macros written out.
+//! What a test asks: it stops where a result is another one.
 ghost use Rattle.std.specs.Prelude.{◌≡◌, Ok, true};
 
 use std::fmt::Debug;
@@ -14,11 +14,6 @@ pub fn made<T, E: Debug + Drop>(rt: &impl Abort, returned: Result<T, E>) -> T
     }
 }
 
-/// Both are the same.
-pub fn same<T: PartialEq + Debug + Drop>(rt: &impl Abort, left: T, right: T) {
-    assert_eq!(rt; left, right);
-}
-
 /// It holds.
 pub fn holds(rt: &impl Abort, it: bool)
     ensures { it ≡ true }
@@ -26,7 +21,14 @@ pub fn holds(rt: &impl Abort, it: bool)
     assert!(rt; it);
 }
 
-/// It succeeded.
-pub fn is_ok<T: Drop, E: Drop>(rt: &impl Abort, returned: Result<T, E>) {
-    assert!(rt; returned.is_ok());
+/// No line is wrong.
+pub fn is_right(rt: &impl Abort, wrong: Option<usize>) {
+    if let Some(line) = wrong {
+        panic!(rt; "line {line}");
+    }
+}
+
+/// It is so, as the text says.
+pub fn is_so(rt: &impl Abort, it: bool, text: &str) {
+    assert!(rt; it, "{text}");
 }

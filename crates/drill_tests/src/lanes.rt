@@ -1,89 +1,145 @@
-//! Worked runs of lanes, and of the wire over two of them.
-ghost use Rattle.std.specs.Prelude.{◌≡◌, ◌<◌, ◌+◌, false, true, length, IsTrue};
+//! Worked runs of lanes, and of the wire over two of them. What is done at the ends of a lane stands in a text:
+//!
+//! | line | what it says |
+//! |---|---|
+//! | `put a` | a message of this word is put |
+//! | `full b` | the lane is full, and the message comes back |
+//! | `take a` | the oldest message is of this word |
+//! | `empty` | there is none |
+//! | `fill 8192` | messages are put until the lane is full: so many were put |
+ghost use Rattle.std.specs.Prelude.{◌≡◌, ◌<◌, ◌≤◌, ◌+◌, false, true, length, IsTrue};
 ghost use Rattle.sp_msg.specs.Wires.{AfterRoom};
 ghost use Rattle.sp_lane.specs.Lanes.{has_end};
 
-use crate::checks::{holds, is_ok, made, same};
+use crate::checks::{holds, is_right, made};
 use sp_base::Role;
 use sp_lane::{Inproc, LaneIn, LaneOut, LaneWire, Put, Taken, finish, lane, tell};
 use sp_msg::{Message, Room, Wire, WireFlush, WireIn};
 use std::alloc::Global;
+use std::process::Abort;
 use std::sync::Wait;
-use std::test::Fail;
 
-/// What a put of a text came to.
-#[derive(Clone, Copy, Debug, PartialEq, Eq)]
-enum PutResult {
-    Done,
-    /// The same message came back.
-    Full,
-    /// Another message came back, or the end mark was in.
-    Wrong,
-}
+/// How many messages are put at the most.
+const MOST: u32 = 10_000;
 
-// Puts a message of this text.
-fn put<R: Wait>(rt: &R, alloc: Global, input: &mut LaneIn, text: &[u8]) -> Result<PutResult, Fail>
+// Puts a message of this word. Whether that was done, or, where the lane is to be full, the same message came back.
+fn is_put<R: Wait>(rt: &R, alloc: Global, input: &mut LaneIn, word: &str, full: bool) -> bool
     ensures { input.new.name ≡ input.old.name }
 {
-    let m = Message::from_body(alloc, text)?;
+    let Ok(m) = Message::from_body(alloc, word.as_bytes()) else {
+        return false;
+    };
     if input.is_ended() {
-        return Ok(PutResult::Wrong);
+        return false;
     }
-    Ok(match input.put(rt, m) {
-        Put::Done => PutResult::Done,
-        Put::Full(back) => {
-            if back.body() == text {
-                PutResult::Full
-            } else {
-                PutResult::Wrong
-            }
-        }
-    })
+    match input.put(rt, m) {
+        Put::Done => !full,
+        Put::Full(back) => full && back.body() == word.as_bytes(),
+    }
 }
 
-// Whether a take gives this text.
-fn gives<R: Wait>(rt: &R, output: &mut LaneOut, text: &[u8]) -> bool
+// Whether a take gives this word; none where the lane is to be empty.
+fn is_taken<R: Wait>(rt: &R, output: &mut LaneOut, word: Option<&str>) -> bool
     ensures { output.new.name ≡ output.old.name }
 {
     match output.take(rt) {
-        Taken::Message(m) => m.body() == text,
-        Taken::Empty => false,
+        Taken::Message(m) => match word {
+            Some(word) => m.body() == word.as_bytes(),
+            None => false,
+        },
+        Taken::Empty => word.is_none(),
         Taken::End => false,
     }
 }
 
-#[test]
-fn a_full_lane_takes_again_and_an_empty_one_gives_again(rt: HostRuntime) -> Result<(), Fail> {
-    let alloc = rt.alloc();
-    let (mut input, mut output) = lane(alloc, 1)?;
-    holds(&rt, matches!(output.take(&rt), Taken::Empty));
-    same(&rt, put(&rt, alloc, &mut input, b"a")?, PutResult::Done);
-    same(&rt, put(&rt, alloc, &mut input, b"b")?, PutResult::Full);
-    holds(&rt, gives(&rt, &mut output, b"a"));
-    holds(&rt, matches!(output.take(&rt), Taken::Empty));
-    same(&rt, put(&rt, alloc, &mut input, b"b")?, PutResult::Done);
-    holds(&rt, gives(&rt, &mut output, b"b"));
-    Ok(())
-}
-
-// Puts so many messages, while they are done. How many were.
-fn fill<R: Wait>(rt: &R, alloc: Global, input: &mut LaneIn, most: u32) -> Result<u32, Fail>
+// Puts messages until the lane is full. Whether so many were put.
+fn is_filled<R: Wait>(rt: &R, alloc: Global, input: &mut LaneIn, count: &str) -> bool
     ensures { input.new.name ≡ input.old.name }
 {
-    for n in 0..most {
-        if put(rt, alloc, input, b"x")? != PutResult::Done {
-            return Ok(n);
+    for n in 0..MOST {
+        if !is_put(rt, alloc, input, "x", false) {
+            return matches!(count.parse::<u32>(), Ok(count) if count == n);
         }
     }
-    Ok(most)
+    false
+}
+
+// Whether the line is so.
+fn is_so<R: Wait>(
+    rt: &R,
+    alloc: Global,
+    input: &mut LaneIn,
+    output: &mut LaneOut,
+    line: &str,
+) -> bool
+    ensures input { input.new.name ≡ input.old.name }
+    ensures output { output.new.name ≡ output.old.name }
+{
+    let Some((name, word)) = line.split_once(' ') else {
+        return line == "empty" && is_taken(rt, output, None);
+    };
+    if word.contains(' ') {
+        return false;
+    }
+    match name {
+        "put" => is_put(rt, alloc, input, word, false),
+        "full" => is_put(rt, alloc, input, word, true),
+        "take" => is_taken(rt, output, Some(word)),
+        "fill" => is_filled(rt, alloc, input, word),
+        _ => false,
+    }
+}
+
+// The number of the first line that is not so, from 1 on.
+fn wrong_line<R: Wait>(
+    rt: &R,
+    alloc: Global,
+    input: &mut LaneIn,
+    output: &mut LaneOut,
+    lines: &str,
+) -> Option<usize>
+    ensures input { input.new.name ≡ input.old.name }
+    ensures output { output.new.name ≡ output.old.name }
+{
+    let mut n = 0usize;
+    for line in lines.lines() {
+        n = n.saturating_add(1);
+        let line = line.trim();
+        if !line.is_empty() && !is_so(rt, alloc, input, output, line) {
+            return Some(n);
+        }
+    }
+    None
+}
+
+// Each line is so at the ends of a lane for so many items, and so many are left in it.
+fn plays<R: AllocGlobal + Wait + Abort>(rt: &R, cap: u32, lines: &str, left: u64)
+    requires some { 1 ≤ cap }
+    requires most { cap ≤ 8192 }
+{
+    let (mut input, mut output) = made(rt, lane(rt.alloc(), cap));
+    let wrong = wrong_line(rt, rt.alloc(), &mut input, &mut output, lines);
+    is_right(rt, wrong);
+    holds(rt, finish(input, output).left == left);
 }
 
 #[test]
-fn the_longest_lane_holds_8192(rt: HostRuntime) -> Result<(), Fail> {
-    let (mut input, output) = lane(rt.alloc(), 8_192)?;
-    same(&rt, fill(&rt, rt.alloc(), &mut input, 10_000)?, 8_192);
-    same(&rt, finish(input, output).left, 8_192);
-    Ok(())
+fn a_full_lane_takes_again_and_an_empty_one_gives_again(rt: HostRuntime) {
+    let lines = "
+        empty
+        put a
+        full b
+        take a
+        empty
+        put b
+        take b
+    ";
+    plays(&rt, 1, lines, 0);
+}
+
+#[test]
+fn the_longest_lane_holds_8192(rt: HostRuntime) {
+    plays(&rt, 8_192, "fill 8192", 8_192);
 }
 
 // Puts a message where there is room, by what both ends have done. It isn't refused.
@@ -124,36 +180,14 @@ fn takes_what_is_left<R: Wait>(rt: &R, input: &mut LaneIn, output: &mut LaneOut)
 #[test]
 fn ends_that_were_told_go_by_it(rt: HostRuntime) {
     let (mut input, mut output) = made(&rt, lane(rt.alloc(), 1));
-    let m = made(&rt, Message::from_body(rt.alloc(), b"a"));
+    let m = message(&rt, b"a");
     holds(
         &rt,
         puts_where_there_is_room(&rt, &mut input, &mut output, m),
     );
     holds(&rt, takes_what_is_left(&rt, &mut input, &mut output));
-}
-
-// A message with a header of 64 bytes and a body of 1 MiB.
-fn long_message(alloc: Global) -> Result<Message, Fail> {
-    let body = vec![in alloc; b'x'; 1_048_576]?;
-    let mut m = Message::from_body(alloc, &body)?;
-    for _ in 0..16 {
-        let _ = m.header_append_u32(0x6868_6868);
-    }
-    Ok(m)
-}
-
-// Whether these are its bytes as one body.
-fn is_long(body: &[u8]) -> bool {
-    if body.len() != 1_048_640 {
-        return false;
-    }
-    for i in 0..body.len() {
-        let wanted = if i < 64 { b'h' } else { b'x' };
-        if body[i] != wanted {
-            return false;
-        }
-    }
-    true
+    drop(input);
+    drop(output);
 }
 
 // Asks a wire for room. Its lanes keep their names.
@@ -183,66 +217,92 @@ fn sends<R: Wait>(rt: &R, wire: &mut LaneWire, m: Message) -> bool
     }
 }
 
-#[test]
-fn a_long_message_comes_through_a_lane_wire(rt: HostRuntime) -> Result<(), Fail> {
-    let alloc = rt.alloc();
-    let (to, from) = lane(alloc, 4)?;
-    let (back, home) = lane(alloc, 4)?;
-    let mut near = LaneWire::new(to, home);
-    let mut far = LaneWire::new(back, from);
-    holds(&rt, sends(&rt, &mut near, long_message(alloc)?));
-    holds(&rt, near.is_open());
-    holds(&rt, matches!(near.flush(&rt), WireFlush::Empty));
-    if !far.is_open() {
-        assert!(rt; false);
-        return Ok(());
-    }
-    match far.pull(&rt) {
-        WireIn::Message(m) => {
-            holds(&rt, m.header().is_empty());
-            holds(&rt, is_long(m.body()))
-        },
-        _ => assert!(rt; false),
-    }
-    Ok(())
+// Whether all that was put is written.
+fn is_flushed<R: Wait>(rt: &R, wire: &mut LaneWire) -> bool {
+    wire.is_open() && matches!(wire.flush(rt), WireFlush::Empty)
 }
 
-// Whether a message of this text goes from one wire to the other.
+// Whether the next message of a wire is this one, all of which is body.
+fn pulls<R: Wait>(rt: &R, wire: &mut LaneWire, body: &[u8]) -> bool {
+    if !wire.is_open() {
+        return false;
+    }
+    match wire.pull(rt) {
+        WireIn::Message(m) => m.header().is_empty() && m.body() == body,
+        _ => false,
+    }
+}
+
+// Whether the message goes from one wire to the other, where it is this body.
 fn carries<R: Wait>(
     rt: &R,
-    alloc: Global,
     from: &mut LaneWire,
     to: &mut LaneWire,
-    text: &[u8],
-) -> Result<bool, Fail> {
-    let is_sent = sends(rt, from, Message::from_body(alloc, text)?);
-    if !is_sent || !from.is_open() || !to.is_open() {
-        return Ok(false);
+    m: Message,
+    body: &[u8],
+) -> bool {
+    sends(rt, from, m) && is_flushed(rt, from) && pulls(rt, to, body)
+}
+
+// A message of this text.
+fn message<R: AllocGlobal + Abort>(rt: &R, text: &[u8]) -> Message {
+    made(rt, Message::from_body(rt.alloc(), text))
+}
+
+// 64 bytes, and 1 MiB behind them.
+fn long_bytes<R: AllocGlobal + Abort>(rt: &R) -> Vec<u8> {
+    let mut bytes = made(rt, vec![in rt.alloc(); b'h'; 64]);
+    made(rt, bytes.resize(1_048_640, b'x'));
+    bytes
+}
+
+// A message whose header is the first 64 of these bytes, and its body the others.
+fn long_message<R: AllocGlobal + Abort>(rt: &R, bytes: &[u8]) -> Message {
+    let mut m = message(rt, bytes.get(64..).unwrap_or(b""));
+    for _ in 0..16 {
+        let _ = m.header_append_u32(0x6868_6868);
     }
-    let _ = from.flush(rt);
-    Ok(match to.pull(rt) {
-        WireIn::Message(m) => m.header().is_empty() && m.body() == text,
-        _ => false,
-    })
+    m
+}
+
+// Whether it comes through a lane.
+fn comes_through<R: AllocGlobal + Wait + Abort>(
+    rt: &R,
+    near: &mut LaneWire,
+    far: &mut LaneWire,
+) -> bool {
+    let bytes = long_bytes(rt);
+    carries(rt, near, far, long_message(rt, &bytes), &bytes)
+}
+
+#[test]
+fn a_long_message_comes_through_a_lane_wire(rt: HostRuntime) {
+    let (to, from) = made(&rt, lane(rt.alloc(), 4));
+    let (back, home) = made(&rt, lane(rt.alloc(), 4));
+    let mut near = LaneWire::new(to, home);
+    let mut far = LaneWire::new(back, from);
+    holds(&rt, comes_through(&rt, &mut near, &mut far));
+    drop(near);
+    drop(far);
+}
+
+// Whether a text goes each way between two wires.
+fn carry<R: AllocGlobal + Wait + Abort>(rt: &R, one: &mut LaneWire, other: &mut LaneWire) -> bool {
+    carries(rt, one, other, message(rt, b"there"), b"there")
+        && carries(rt, other, one, message(rt, b"back"), b"back")
 }
 
 // Whoever dials a name within the process and who accepts there send to each other.
 #[test]
-fn a_name_carries_both_ways(rt: HostRuntime) -> Result<(), Fail> {
-    let alloc = rt.alloc();
-    let mut names = Inproc::new(alloc);
-    is_ok(&rt, names.listen(b"x", Role::Pair0));
-    let Ok(mut dialed) = names.dial(b"x", Role::Pair0) else {
-        assert!(rt; false);
-        return Ok(());
-    };
-    let Some(mut met) = names.accept(b"x") else {
-        assert!(rt; false);
-        return Ok(());
-    };
-    holds(&rt, carries(&rt, alloc, &mut met, &mut dialed, b"there")?);
-    holds(&rt, carries(&rt, alloc, &mut dialed, &mut met, b"back")?);
-    Ok(())
+fn a_name_carries_both_ways(rt: HostRuntime) {
+    let mut names = Inproc::new(rt.alloc());
+    made(&rt, names.listen(b"x", Role::Pair0));
+    let mut dialed = made(&rt, names.dial(b"x", Role::Pair0));
+    let mut met = made(&rt, names.accept(b"x").ok_or("nobody came"));
+    holds(&rt, carry(&rt, &mut met, &mut dialed));
+    drop(met);
+    drop(dialed);
+    drop(names);
 }
 
 // Flushes a wire that was shut.
@@ -271,25 +331,28 @@ fn end_comes<R: Wait>(rt: &R, wire: &mut LaneWire, other: &mut LaneOut) -> bool
     false
 }
 
+// Whether there is no room.
+fn is_full<R: Wait>(rt: &R, wire: &mut LaneWire) -> bool
+    ensures inp { wire.new.inp ≡ wire.old.inp }
+    ensures out { wire.new.out.name ≡ wire.old.out.name }
+{
+    if !wire.is_open() {
+        return false;
+    }
+    matches!(room_once(rt, wire), Room::Full)
+}
+
 // The lane is full as the wire is shut, with a message in hand.
 #[test]
 fn a_lane_wire_is_shut_and_taken_apart(rt: HostRuntime) {
-    let alloc = rt.alloc();
-    let (out, mut other_out) = made(&rt, lane(alloc, 1));
-    let (other_in, inp) = made(&rt, lane(alloc, 1));
+    let (out, mut other_out) = made(&rt, lane(rt.alloc(), 1));
+    let (other_in, inp) = made(&rt, lane(rt.alloc(), 1));
     let mut wire = LaneWire::new(out, inp);
-    holds(
-        &rt,
-        sends(&rt, &mut wire, made(&rt, Message::from_body(alloc, b"a"))),
-    );
-    holds(
-        &rt,
-        sends(&rt, &mut wire, made(&rt, Message::from_body(alloc, b"b"))),
-    );
-    holds(&rt, wire.is_open());
-    holds(&rt, matches!(room_once(&rt, &mut wire), Room::Full));
+    holds(&rt, sends(&rt, &mut wire, message(&rt, b"a")));
+    holds(&rt, sends(&rt, &mut wire, message(&rt, b"b")));
+    holds(&rt, is_full(&rt, &mut wire));
     holds(&rt, end_comes(&rt, &mut wire, &mut other_out));
     let (out, inp) = wire.into_halves();
-    same(&rt, finish(out, other_out).left, 0);
-    same(&rt, finish(other_in, inp).left, 0);
+    holds(&rt, finish(out, other_out).left == 0);
+    holds(&rt, finish(other_in, inp).left == 0);
 }

@@ -1,4 +1,4 @@
-//! Worked drills and lanes.
+//! Worked drills and lanes. What tasks, wires and sockets do stands in texts (`marks`, `plays`).
 #![tactic(auto)]
 
 #[cfg(test)]
@@ -8,6 +8,12 @@ mod held;
 #[cfg(test)]
 mod lanes;
 #[cfg(test)]
+mod marks;
+#[cfg(test)]
+mod plays;
+#[cfg(test)]
 mod race;
 #[cfg(test)]
 mod tests;
+#[cfg(test)]
+mod words;

@@ -1,217 +1,133 @@
 //! What drills print, and that their tasks go through their gates and meet there.
-ghost use Rattle.std.specs.Prelude.{◌≡◌};
+ghost use Rattle.std.specs.Prelude.{◌≤◌};
 
-use crate::checks::{holds, is_ok, same};
+use crate::checks::{is_so, made};
+use crate::marks::marks_of;
 use cat_drill::{Gate, OpenGate, drill};
 use cat_play::status::Status;
 use sp_fakes::MemSink;
 use std::process::Abort;
 use std::sync::Wait;
-use std::sync::atomic::{AtomicU64, Ordering};
-use std::thread::{self, Threads};
+use std::thread::Threads;
 
-/// How often a task that waits for another one looks at the most.
-const LOOKS: u32 = 1_000_000;
-
-// Whether a drill of so many messages ends Done and prints this text.
-fn prints<R: AllocGlobal + Wait + Threads + Sync, G: Gate + Sync>(
+// Whether a drill of so many messages prints this. Where the first put of its sink fails, it is a fault of the output,
+// and not more than this is printed.
+fn prints<R: AllocGlobal + Abort + Wait + Threads + Sync, G: Gate + Sync>(
     rt: &R,
     gate: &G,
     count: u32,
-    text: &[u8],
-) -> bool {
-    if count < 1 || 1_000_000 < count {
-        return false;
+    fails: bool,
+    text: &str,
+) -> bool
+    requires { (1 ≤ count) × (count ≤ 1000000) }
+{
+    let mut calls = Vec::new(rt.alloc());
+    if fails {
+        made(rt, calls.push(0));
     }
-    let mut out = MemSink::new(rt.alloc(), Vec::new(rt.alloc()));
+    let mut out = MemSink::new(rt.alloc(), calls);
     let end = drill(rt, count, gate, &mut out);
-    end.status == Status::Done && end.record_.is_some() && out.text() == text
+    let status = end.status;
+    let printed = if fails {
+        status == Status::OutFault && text.as_bytes().starts_with(out.text())
+    } else {
+        status == Status::Done && out.text() == text.as_bytes()
+    };
+    printed && end.record_.is_some()
+}
+
+// A drill whose gates are open prints this.
+fn is_drilled<R: AllocGlobal + Abort + Wait + Threads + Sync>(rt: &R, count: u32, text: &str)
+    requires { (1 ≤ count) × (count ≤ 1000000) }
+{
+    is_so(rt, prints(rt, &OpenGate, count, false, text), text);
+}
+
+// So does one whose tasks make these steps, and the marks come to these counts.
+fn is_gated<R: AllocGlobal + Abort + Wait + Threads + Sync>(
+    rt: &R,
+    names: &str,
+    steps: &str,
+    count: u32,
+    text: &str,
+    counts: &str,
+)
+    requires { (1 ≤ count) × (count ≤ 1000000) }
+{
+    let marks = marks_of(rt, names, steps);
+    is_so(rt, prints(rt, &marks, count, false, text), text);
+    is_so(rt, marks.are(counts), counts);
 }
 
 #[test]
 fn one_value_drilled(rt: HostRuntime) {
-    holds(
-        &rt,
-        prints(
-            &rt,
-            &OpenGate,
-            1,
-            b"given 1\nsum 1442695040888963407\nopen 0\n",
-        ),
-    );
+    is_drilled(&rt, 1, "given 1\nsum 1442695040888963407\nopen 0\n");
 }
 
 #[test]
 fn two_values_drilled(rt: HostRuntime) {
-    holds(
-        &rt,
-        prints(
-            &rt,
-            &OpenGate,
-            2,
-            b"given 2\nsum 3318706044697439873\nopen 0\n",
-        ),
-    );
+    is_drilled(&rt, 2, "given 2\nsum 3318706044697439873\nopen 0\n");
 }
 
 #[test]
 fn a_thousand_values_drilled_twice(rt: HostRuntime) {
-    let text = b"given 1000\nsum 14181103648077852572\nopen 0\n";
-    holds(&rt, prints(&rt, &OpenGate, 1000, text));
-    holds(&rt, prints(&rt, &OpenGate, 1000, text));
+    let text = "given 1000\nsum 14181103648077852572\nopen 0\n";
+    is_drilled(&rt, 1_000, text);
+    is_drilled(&rt, 1_000, text);
 }
 
 // A sink that fails at its first put.
 #[test]
 fn a_sink_that_fails(rt: HostRuntime) {
-    let mut fails = Vec::new(rt.alloc());
-    is_ok(&rt, fails.push(0));
-    let mut out = MemSink::new(rt.alloc(), fails);
-    let end = drill(&rt, 2, &OpenGate, &mut out);
-    same(&rt, end.status, Status::OutFault);
-    holds(&rt, end.record_.is_some());
-    holds(
-        &rt,
-        b"given 2\nsum 3318706044697439873\nopen 0\n".starts_with(out.text()),
-    );
-}
-
-// One more.
-fn count_up(n: &AtomicU64) {
-    n.fetch_add(1, Ordering::SeqCst);
-}
-
-/// Counts how often each task passes.
-#[derive(Drop)]
-struct Counted {
-    passed: [AtomicU64; 4],
-}
-
-impl Gate for Counted {
-    fn pass(&self, task: u32) {
-        match task {
-            1 => count_up(&self.passed[0]),
-            2 => count_up(&self.passed[1]),
-            3 => count_up(&self.passed[2]),
-            4 => count_up(&self.passed[3]),
-            _ => (),
-        }
-    }
+    let text = "given 2\nsum 3318706044697439873\nopen 0\n";
+    is_so(&rt, prints(&rt, &OpenGate, 2, true, text), text);
 }
 
 // 130 messages go in rounds of 64, 64 and 2.
 #[test]
 fn each_task_passes_its_gate_once_a_round(rt: HostRuntime) {
-    let counted = Counted {
-        passed: [
-            AtomicU64::new(0),
-            AtomicU64::new(0),
-            AtomicU64::new(0),
-            AtomicU64::new(0),
-        ],
-    };
-    holds(
-        &rt,
-        prints(
-            &rt,
-            &counted,
-            130,
-            b"given 130\nsum 7217736577016058945\nopen 0\n",
-        ),
-    );
-    for i in 0..4 {
-        same(&rt, counted.passed[i].load(Ordering::SeqCst), 3);
-    }
-}
-
-/// Holds the first and the last task until each has seen the other.
-#[derive(Drop)]
-struct MeetingGate {
-    first: AtomicU64,
-    last: AtomicU64,
-    /// How many tasks saw the other one.
-    met: AtomicU64,
-}
-
-// Marks that it is there, and looks for the other one, yielding between two looks.
-fn meets(mine: &AtomicU64, other: &AtomicU64, met: &AtomicU64) {
-    mine.store(1, Ordering::SeqCst);
-    for _ in 0..LOOKS {
-        if other.load(Ordering::SeqCst) == 1 {
-            count_up(met);
-            return;
-        }
-        thread::yield_now();
-    }
-}
-
-impl Gate for MeetingGate {
-    fn pass(&self, task: u32) {
-        match task {
-            1 => meets(&self.first, &self.last, &self.met),
-            4 => meets(&self.last, &self.first, &self.met),
-            _ => (),
-        }
-    }
+    let steps = "
+        1 add one 1
+        2 add two 1
+        3 add three 1
+        4 add four 1
+    ";
+    let text = "given 130\nsum 7217736577016058945\nopen 0\n";
+    is_gated(&rt, "one two three four", steps, 130, text, "3 3 3 3");
 }
 
 // In one round the first and the last task run at the same time.
 #[test]
 fn held_drill(rt: HostRuntime) {
-    let held = MeetingGate {
-        first: AtomicU64::new(0),
-        last: AtomicU64::new(0),
-        met: AtomicU64::new(0),
-    };
-    holds(
-        &rt,
-        prints(
-            &rt,
-            &held,
-            64,
-            b"given 64\nsum 16369505803417403232\nopen 0\n",
-        ),
-    );
-    same(&rt, held.met.load(Ordering::SeqCst), 2);
-}
-
-/// Holds each task until all four are there.
-#[derive(Drop)]
-struct Assembled {
-    /// How many tasks are there.
-    there: AtomicU64,
-    /// How many tasks saw all four.
-    met: AtomicU64,
-}
-
-impl Gate for Assembled {
-    fn pass(&self, _task: u32) {
-        count_up(&self.there);
-        for _ in 0..LOOKS {
-            if self.there.load(Ordering::SeqCst) == 4 {
-                count_up(&self.met);
-                return;
-            }
-            thread::yield_now();
-        }
-    }
+    let steps = "
+        1 add first 1
+        1 meet last 1
+        1 add met 1
+        4 add last 1
+        4 meet first 1
+        4 add met 1
+    ";
+    let text = "given 64\nsum 16369505803417403232\nopen 0\n";
+    is_gated(&rt, "first last met", steps, 64, text, "1 1 2");
 }
 
 // In one round all four tasks run at the same time.
 #[test]
 fn all_four_tasks_meet(rt: HostRuntime) {
-    let assembled = Assembled {
-        there: AtomicU64::new(0),
-        met: AtomicU64::new(0),
-    };
-    holds(
-        &rt,
-        prints(
-            &rt,
-            &assembled,
-            64,
-            b"given 64\nsum 16369505803417403232\nopen 0\n",
-        ),
-    );
-    same(&rt, assembled.met.load(Ordering::SeqCst), 4);
+    let steps = "
+        1 add there 1
+        1 meet there 4
+        1 add met 1
+        2 add there 1
+        2 meet there 4
+        2 add met 1
+        3 add there 1
+        3 meet there 4
+        3 add met 1
+        4 add there 1
+        4 meet there 4
+        4 add met 1
+    ";
+    let text = "given 64\nsum 16369505803417403232\nopen 0\n";
+    is_gated(&rt, "there met", steps, 64, text, "4 4");
 }

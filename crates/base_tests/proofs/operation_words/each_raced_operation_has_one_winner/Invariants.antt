@@ -1,4 +1,4 @@
-use Rattle.std.proofs.Common.{◌≡◌, ◌<◌, ◌≤◌}
+use Rattle.std.proofs.Common.{◌≡◌, ◌<◌}
 use Rattle.aio_word.specs.Results.{HasSeen}
 use Rattle.base_tests.proofs.operation_words.each_raced_operation_has_one_winner.Given as goal
 
@@ -8,6 +8,4 @@ invariant-loop g l = record {
   seat : l.seat.words ≡ l.words.id;
   slots : 0 < l.words.slots;
   seen : HasSeen l.core.view 0;
-  decided : l.decided ≤ l.counter;
-  cancelled : l.cancelled ≤ l.counter;
 }
