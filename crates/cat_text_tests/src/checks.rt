@@ -28,8 +28,3 @@ pub fn same_at<T: PartialEq + Debug + Drop>(rt: &impl Abort, number: u32, left: 
 pub fn holds(rt: &impl Abort, it: bool) {
     assert!(rt; it);
 }
-
-/// It succeeded, and holds.
-pub fn is_true<E: Drop>(rt: &impl Abort, returned: Result<bool, E>) {
-    assert!(rt; matches!(returned, Ok(true)));
-}

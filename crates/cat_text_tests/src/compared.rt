@@ -1,92 +1,30 @@
 //! `Plan::read` and `print` beside the plainest readings, over generated words and bodies.
 
-use crate::checks::{is_true, made, same};
+use crate::checks::{holds, made, same};
 use crate::plain_texts::text_of;
 use crate::plain_words::{
     ListedOption, OptionKind, address_of, drill_of, formats_of, is_right, number_of, plan_of,
-    roles_of, stop_of, times, value_of,
+    pushed, roles_of, stop_of, times, value_of,
 };
 use cat_text::{CatPlan, Data, End, Format, Plan, PlanError, print};
-use sp_base::{Addr, Bytes, NoMemory, Role};
+use sp_base::{Addr, Bytes, Role};
 use std::alloc::Global;
+use std::process::Abort;
 
-/// Words of which lists are made.
-const POOL: [&str; 48] = [
-    "--pull",
-    "--push",
-    "--sub0",
-    "--req",
-    "--rep",
-    "--pair",
-    "--bus0",
-    "--pub",
-    "--surveyor",
-    "--respondent0",
-    "--listen",
-    "--listen=tcp://*:0",
-    "--listen=inproc://a",
-    "--dial",
-    "--dial=tcp://1.2.3.4:5",
-    "--dial=tcp://*:1",
-    "--dial=tcp://1.2.3.4:0",
-    "tcp://127.0.0.1:5555",
-    "tcp://*:5",
-    "tcp://127.0.0.1:0",
-    "inproc://x",
-    "tcp://1.2.3",
-    "--data",
-    "--data=a=b",
-    "--file",
-    "--file=",
-    "--file=f",
-    "--subscribe",
-    "--subscribe=a",
-    "--count",
-    "--count=2",
-    "--count=4294967296",
-    "--interval",
-    "--interval=86400",
-    "--recv-timeout=86401",
-    "--send-timeout=0",
-    "0",
-    "3",
-    "01",
-    "x",
-    "",
-    "--ascii",
-    "--hex",
-    "--pull=x",
-    "--drill",
-    "--drill=1",
-    "--drill=0",
-    "--bogus",
-];
+/// Words of which lists are made; two apostrophes are the empty one.
+const POOL: &str = "\
+    --pull --push --sub0 --req --rep --pair --bus0 --pub --surveyor --respondent0 --listen --listen=tcp://*:0 \
+    --listen=inproc://a --dial --dial=tcp://1.2.3.4:5 --dial=tcp://*:1 --dial=tcp://1.2.3.4:0 \
+    tcp://127.0.0.1:5555 tcp://*:5 tcp://127.0.0.1:0 inproc://x tcp://1.2.3 --data --data=a=b --file --file= \
+    --file=f --subscribe --subscribe=a --count --count=2 --count=4294967296 --interval --interval=86400 \
+    --recv-timeout=86401 --send-timeout=0 0 3 01 x '' --ascii --hex --pull=x --drill --drill=1 --drill=0 --bogus";
 
 /// Whole options that most often go together.
-const PARTS: [&str; 22] = [
-    "--listen=tcp://127.0.0.1:5555",
-    "--dial=tcp://10.0.0.1:1",
-    "--listen=inproc://x",
-    "--dial=inproc://y",
-    "--listen=ws://*:80/a",
-    "--dial=ws://1.2.3.4:80",
-    "--data=",
-    "--data=hello",
-    "--file=f",
-    "--subscribe=",
-    "--subscribe=a",
-    "--subscribe=b=c",
-    "--count=0",
-    "--count=7",
-    "--interval=0",
-    "--interval=3",
-    "--recv-timeout=4",
-    "--send-timeout=86400",
-    "--raw",
-    "--quoted",
-    "--msgpack",
-    "--ascii",
-];
+const PARTS: &str = "\
+    --listen=tcp://127.0.0.1:5555 --dial=tcp://10.0.0.1:1 --listen=inproc://x --dial=inproc://y \
+    --listen=ws://*:80/a --dial=ws://1.2.3.4:80 --data= --data=hello --file=f --subscribe= --subscribe=a \
+    --subscribe=b=c --count=0 --count=7 --interval=0 --interval=3 --recv-timeout=4 --send-timeout=86400 --raw \
+    --quoted --msgpack --ascii";
 
 /// The next of a row of numbers that look random (a linear congruence).
 fn next(seed: u32) -> u32 {
@@ -99,38 +37,38 @@ fn below(seed: u32, n: usize) -> usize {
 }
 
 /// A word among the first `n`.
-fn word(words: &[&'static str], seed: u32, n: usize) -> &'static str {
-    match words.get(below(seed, n)) {
-        Some(word) => *word,
-        None => "",
+fn word(words: &'static str, seed: u32, n: usize) -> &'static str {
+    match words.split(' ').nth(below(seed, n)) {
+        Some("''") | None => "",
+        Some(word) => word,
     }
 }
 
 /// So many words of the pool.
-fn any_words(alloc: Global, seed: &mut u32, len: usize) -> Result<Vec<String>, NoMemory> {
+fn any_words(rt: &impl Abort, alloc: Global, seed: &mut u32, len: usize) -> Vec<String> {
     let mut list = Vec::new(alloc);
     for _ in 0..len {
         *seed = next(*seed);
-        list.push(String::from_str(alloc, word(POOL.as_slice(), *seed, 48))?)?;
+        pushed(rt, &mut list, alloc, word(POOL, *seed, 48));
     }
-    Ok(list)
+    list
 }
 
 /// So many options, with a role somewhere among them.
-fn likely_words(alloc: Global, seed: &mut u32, len: usize) -> Result<Vec<String>, NoMemory> {
+fn likely_words(rt: &impl Abort, alloc: Global, seed: &mut u32, len: usize) -> Vec<String> {
     let mut list = Vec::new(alloc);
     *seed = next(*seed);
     let place = below(*seed, len.saturating_add(1));
     for n in 0..len.saturating_add(1) {
         *seed = next(*seed);
         let text = if n == place {
-            word(POOL.as_slice(), *seed, 10)
+            word(POOL, *seed, 10)
         } else {
-            word(PARTS.as_slice(), *seed, 22)
+            word(PARTS, *seed, 22)
         };
-        list.push(String::from_str(alloc, text)?)?;
+        pushed(rt, &mut list, alloc, text);
     }
-    Ok(list)
+    list
 }
 
 fn is_same_address(a: &Addr, b: &Addr) -> bool {
@@ -158,40 +96,41 @@ fn is_same_address(a: &Addr, b: &Addr) -> bool {
 }
 
 /// Whether the value is this address.
-fn is_address(alloc: Global, addr: &Addr, value: &[u8]) -> Result<bool, NoMemory> {
-    match address_of(alloc, value)? {
-        Some(wanted) => Ok(is_same_address(addr, &wanted)),
-        None => Ok(false),
+fn is_address(rt: &impl Abort, alloc: Global, addr: &Addr, value: &[u8]) -> bool {
+    match address_of(rt, alloc, value) {
+        Some(wanted) => is_same_address(addr, &wanted),
+        None => false,
     }
 }
 
 /// Whether the end is the one that an option of this number says.
-fn is_end(alloc: Global, end: Option<&End>, n: usize, value: &[u8]) -> Result<bool, NoMemory> {
+fn is_end(rt: &impl Abort, alloc: Global, end: Option<&End>, n: usize, value: &[u8]) -> bool {
     match (end, n) {
-        (Some(End::Dial(addr)), 0) => is_address(alloc, addr, value),
-        (Some(End::Listen(addr)), 1) => is_address(alloc, addr, value),
-        _ => Ok(false),
+        (Some(End::Dial(addr)), 0) => is_address(rt, alloc, addr, value),
+        (Some(End::Listen(addr)), 1) => is_address(rt, alloc, addr, value),
+        _ => false,
     }
 }
 
 fn has_ends(
+    rt: &impl Abort,
     alloc: Global,
     ends: &[End],
     words: &[String],
     list: &[ListedOption],
-) -> Result<bool, NoMemory> {
+) -> bool {
     let mut k: usize = 0;
     for said in list {
         if let OptionKind::Valued(n) = said.kind {
             if n < 2 {
-                if !is_end(alloc, ends.get(k), n, value_of(words, *said))? {
-                    return Ok(false);
+                if !is_end(rt, alloc, ends.get(k), n, value_of(words, *said)) {
+                    return false;
                 }
                 k = k.saturating_add(1);
             }
         }
     }
-    Ok(k == ends.len())
+    k == ends.len()
 }
 
 fn has_topics(topics: &[Bytes], role: Role, words: &[String], list: &[ListedOption]) -> bool {
@@ -274,40 +213,41 @@ fn is_number(said: Option<u32>, wanted: Option<u64>) -> bool {
 }
 
 fn agrees(
+    rt: &impl Abort,
     alloc: Global,
     plan: &CatPlan,
     words: &[String],
     list: &[ListedOption],
-) -> Result<bool, NoMemory> {
+) -> bool {
     let role = plan.role;
-    let ends = has_ends(alloc, plan.ends.as_slice(), words, list)?;
-    Ok(
-        ends && roles_of(list).0 == Some(role)
-            && has_data(&plan.data_, words, list)
-            && has_topics(plan.topics.as_slice(), role, words, list)
-            && is_number(plan.count, count_of(role, words, list))
-            && is_number(plan.interval, number_at(words, list, 6))
-            && is_number(plan.recv_timeout, number_at(words, list, 7))
-            && is_number(plan.send_timeout, number_at(words, list, 8))
-            && plan.format == formats_of(list).0,
-    )
+    has_ends(rt, alloc, plan.ends.as_slice(), words, list)
+        && roles_of(list).0 == Some(role)
+        && has_data(&plan.data_, words, list)
+        && has_topics(plan.topics.as_slice(), role, words, list)
+        && is_number(plan.count, count_of(role, words, list))
+        && is_number(plan.interval, number_at(words, list, 6))
+        && is_number(plan.recv_timeout, number_at(words, list, 7))
+        && is_number(plan.send_timeout, number_at(words, list, 8))
+        && plan.format == formats_of(list).0
+}
+
+/// Whether the plainest reading reads the words as this plan.
+fn is_plan(rt: &impl Abort, alloc: Global, plan: &CatPlan, words: &[String]) -> bool {
+    match plan_of(rt, alloc, words) {
+        Some(list) => agrees(rt, alloc, plan, words, &list),
+        None => false,
+    }
 }
 
 /// Whether the words are read as the plainest reading reads them.
-fn is_read_right(alloc: Global, words: &[String]) -> Result<bool, NoMemory> {
+fn is_read_right(rt: &impl Abort, alloc: Global, words: &[String]) -> bool {
     match Plan::read(alloc, words) {
-        Ok(Plan::Drill { count }) => Ok(drill_of(words) == Some(u64::from(count))),
-        Ok(Plan::Cat(plan)) => match plan_of(alloc, words)? {
-            Some(list) => agrees(alloc, &plan, words, &list),
-            None => Ok(false),
-        },
+        Ok(Plan::Drill { count }) => drill_of(words) == Some(u64::from(count)),
+        Ok(Plan::Cat(plan)) => is_plan(rt, alloc, &plan, words),
         Err(PlanError::Usage { at }) => {
-            if is_right(alloc, words)? {
-                return Ok(false);
-            }
-            Ok(stop_of(alloc, words)? == at as usize)
+            !is_right(rt, alloc, words) && stop_of(rt, alloc, words) == at as usize
         }
-        Err(PlanError::NoMemory) => Err(NoMemory),
+        Err(PlanError::NoMemory) => panic!(rt; "no memory"),
     }
 }
 
@@ -315,8 +255,8 @@ fn is_read_right(alloc: Global, words: &[String]) -> Result<bool, NoMemory> {
 fn any_words_are_read_as_the_plain_reading_reads_them(rt: HostRuntime) {
     let mut seed: u32 = 7;
     for n in 0..1_000usize {
-        let words = made(&rt, any_words(rt.alloc(), &mut seed, n % 7));
-        is_true(&rt, is_read_right(rt.alloc(), &words));
+        let words = any_words(&rt, rt.alloc(), &mut seed, n % 7);
+        holds(&rt, is_read_right(&rt, rt.alloc(), &words));
     }
 }
 
@@ -324,19 +264,19 @@ fn any_words_are_read_as_the_plain_reading_reads_them(rt: HostRuntime) {
 fn likely_words_are_read_as_the_plain_reading_reads_them(rt: HostRuntime) {
     let mut seed: u32 = 11;
     for n in 0..2_000usize {
-        let words = made(&rt, likely_words(rt.alloc(), &mut seed, n % 6));
-        is_true(&rt, is_read_right(rt.alloc(), &words));
+        let words = likely_words(&rt, rt.alloc(), &mut seed, n % 6);
+        holds(&rt, is_read_right(&rt, rt.alloc(), &words));
     }
 }
 
 /// So many bytes, of which most are printed in a special way.
-fn any_body(alloc: Global, seed: &mut u32, len: usize) -> Result<Vec<u8>, NoMemory> {
+fn any_body(rt: &impl Abort, alloc: Global, seed: &mut u32, len: usize) -> Vec<u8> {
     let mut body = Vec::new(alloc);
     for _ in 0..len {
         *seed = next(*seed);
-        body.push((*seed >> 24) as u8)?;
+        made(rt, body.push((*seed >> 24) as u8));
     }
-    Ok(body)
+    body
 }
 
 fn format_of(n: usize) -> Format {
@@ -350,15 +290,19 @@ fn format_of(n: usize) -> Format {
     }
 }
 
+/// The body is printed as the plainest printing prints it, behind two letters.
+fn is_printed(rt: &impl Abort, alloc: Global, format: Format, body: &[u8]) {
+    let mut out = made(rt, Bytes::from_slice(alloc, b"ab"));
+    made(rt, print(alloc, format, body, &mut out));
+    let wanted = text_of(rt, alloc, format, body, b"ab");
+    same(rt, out.as_slice(), wanted.as_slice());
+}
+
 #[test]
 fn bodies_are_printed_as_the_plain_printing_prints_them(rt: HostRuntime) {
     let mut seed: u32 = 13;
     for n in 0..6_000usize {
-        let body = made(&rt, any_body(rt.alloc(), &mut seed, n % 97));
-        let format = format_of(n);
-        let mut out = made(&rt, Bytes::from_slice(rt.alloc(), b"ab"));
-        made(&rt, print(rt.alloc(), format, &body, &mut out));
-        let wanted = made(&rt, text_of(rt.alloc(), format, &body, b"ab"));
-        same(&rt, out.as_slice(), wanted.as_slice());
+        let body = any_body(&rt, rt.alloc(), &mut seed, n % 97);
+        is_printed(&rt, rt.alloc(), format_of(n), &body);
     }
 }

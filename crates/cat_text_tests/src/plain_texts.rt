@@ -1,8 +1,9 @@
 //! The texts of bodies, made in the plainest way, from their rules alone. Slow, and only for comparing.
 
+use crate::checks::made;
 use cat_text::Format;
-use sp_base::NoMemory;
 use std::alloc::Global;
+use std::process::Abort;
 
 fn is_visible(byte: u8) -> bool {
     byte >= 0x20 && byte <= 0x7e
@@ -13,106 +14,91 @@ fn digit(n: u8) -> u8 {
     b"0123456789abcdef"[n as usize % 16]
 }
 
-fn escape(text: &mut Vec<u8>, byte: u8) -> Result<(), NoMemory> {
-    text.push(b'\\')?;
-    text.push(b'x')?;
-    text.push(digit(byte / 16))?;
-    text.push(digit(byte % 16))?;
-    Ok(())
+fn push(rt: &impl Abort, text: &mut Vec<u8>, byte: u8) {
+    made(rt, text.push(byte));
 }
 
-fn backslash(text: &mut Vec<u8>, letter: u8) -> Result<(), NoMemory> {
-    text.push(b'\\')?;
-    text.push(letter)?;
-    Ok(())
+fn escape(rt: &impl Abort, text: &mut Vec<u8>, byte: u8) {
+    backslash(rt, text, b'x');
+    push(rt, text, digit(byte / 16));
+    push(rt, text, digit(byte % 16));
 }
 
-fn quote(text: &mut Vec<u8>, byte: u8) -> Result<(), NoMemory> {
+fn backslash(rt: &impl Abort, text: &mut Vec<u8>, letter: u8) {
+    push(rt, text, b'\\');
+    push(rt, text, letter);
+}
+
+fn quote(rt: &impl Abort, text: &mut Vec<u8>, byte: u8) {
     match byte {
-        b'"' => backslash(text, b'"'),
-        b'\\' => backslash(text, b'\\'),
-        b'\n' => backslash(text, b'n'),
-        b'\r' => backslash(text, b'r'),
-        b'\t' => backslash(text, b't'),
+        b'"' | b'\\' => backslash(rt, text, byte),
+        b'\n' => backslash(rt, text, b'n'),
+        b'\r' => backslash(rt, text, b'r'),
+        b'\t' => backslash(rt, text, b't'),
         _ => {
             if is_visible(byte) {
-                text.push(byte)?;
-                Ok(())
+                push(rt, text, byte);
             } else {
-                escape(text, byte)
+                escape(rt, text, byte);
             }
         }
     }
 }
 
 /// The big-endian bytes of a length, so many.
-fn push_length(text: &mut Vec<u8>, len: usize, bytes: u32) -> Result<(), NoMemory> {
+fn push_length(rt: &impl Abort, text: &mut Vec<u8>, len: usize, bytes: u32) {
     for k in 0..bytes {
         let mut rest = len;
         for _ in 0..bytes - 1 - k {
             rest = rest / 256;
         }
-        text.push((rest % 256) as u8)?;
+        push(rt, text, (rest % 256) as u8);
     }
-    Ok(())
 }
 
-fn push_head(text: &mut Vec<u8>, len: usize) -> Result<(), NoMemory> {
-    if len <= 255 {
-        text.push(0xc4)?;
-        push_length(text, len, 1)
+fn push_head(rt: &impl Abort, text: &mut Vec<u8>, len: usize) {
+    let (head, bytes) = if len <= 255 {
+        (0xc4, 1)
     } else if len <= 65_535 {
-        text.push(0xc5)?;
-        push_length(text, len, 2)
+        (0xc5, 2)
     } else {
-        text.push(0xc6)?;
-        push_length(text, len, 4)
-    }
+        (0xc6, 4)
+    };
+    push(rt, text, head);
+    push_length(rt, text, len, bytes);
 }
 
-fn push_byte(text: &mut Vec<u8>, format: Format, byte: u8) -> Result<(), NoMemory> {
+fn push_byte(rt: &impl Abort, text: &mut Vec<u8>, format: Format, byte: u8) {
     match format {
-        Format::None => Ok(()),
-        Format::Ascii => {
-            text.push(if is_visible(byte) { byte } else { b'.' })?;
-            Ok(())
-        }
-        Format::Quoted => quote(text, byte),
-        Format::Hex => escape(text, byte),
-        Format::Raw => {
-            text.push(byte)?;
-            Ok(())
-        }
-        Format::Msgpack => {
-            text.push(byte)?;
-            Ok(())
-        }
+        Format::None => (),
+        Format::Ascii => push(rt, text, if is_visible(byte) { byte } else { b'.' }),
+        Format::Quoted => quote(rt, text, byte),
+        Format::Hex => escape(rt, text, byte),
+        Format::Raw | Format::Msgpack => push(rt, text, byte),
     }
 }
 
 /// What stands in `prefix`, and the text of the body behind it.
 pub fn text_of(
+    rt: &impl Abort,
     alloc: Global,
     format: Format,
     body: &[u8],
     prefix: &[u8],
-) -> Result<Vec<u8>, NoMemory> {
-    let is_quoted = format == Format::Quoted || format == Format::Hex;
-    let mut text = Vec::from_slice(alloc, prefix)?;
+) -> Vec<u8> {
+    let (begin, end): (&[u8], &[u8]) = match format {
+        Format::Quoted | Format::Hex => (b"\"", b"\"\n"),
+        Format::Ascii => (b"", b"\n"),
+        Format::None | Format::Raw | Format::Msgpack => (b"", b""),
+    };
+    let mut text = made(rt, Vec::from_slice(alloc, prefix));
     if format == Format::Msgpack {
-        push_head(&mut text, body.len())?;
+        push_head(rt, &mut text, body.len());
     }
-    if is_quoted {
-        text.push(b'"')?;
-    }
+    made(rt, text.extend_from_slice(begin));
     for byte in body {
-        push_byte(&mut text, format, *byte)?;
+        push_byte(rt, &mut text, format, *byte);
     }
-    if is_quoted {
-        text.push(b'"')?;
-    }
-    if is_quoted || format == Format::Ascii {
-        text.push(b'\n')?;
-    }
-    Ok(text)
+    made(rt, text.extend_from_slice(end));
+    text
 }

@@ -2,53 +2,36 @@
 //! then looked up over the whole list. How far a list can be the beginning of a right one is found by trying what could
 //! follow. Slow, and only for comparing.
 
+use crate::checks::made;
 use cat_text::Format;
-use sp_base::{Addr, AddrError, Host, NoMemory, Role};
+use sp_base::{Addr, AddrError, Host, Role};
 use std::alloc::Global;
+use std::process::Abort;
 
-/// The names of the options with a value; their places are their numbers.
-const VALUED: [&str; 9] = [
-    "--dial",
-    "--listen",
-    "--data",
-    "--file",
-    "--subscribe",
-    "--count",
-    "--interval",
-    "--recv-timeout",
-    "--send-timeout",
-];
+/// The names of the options with a value, one a line; their places are their numbers.
+const VALUED: &str = "\
+--dial
+--listen
+--data
+--file
+--subscribe
+--count
+--interval
+--recv-timeout
+--send-timeout";
 
-const ROLES: [(&str, Role); 20] = [
-    ("--pair", Role::Pair0),
-    ("--pair0", Role::Pair0),
-    ("--pub", Role::Pub),
-    ("--pub0", Role::Pub),
-    ("--sub", Role::Sub),
-    ("--sub0", Role::Sub),
-    ("--req", Role::Req),
-    ("--req0", Role::Req),
-    ("--rep", Role::Rep),
-    ("--rep0", Role::Rep),
-    ("--push", Role::Push),
-    ("--push0", Role::Push),
-    ("--pull", Role::Pull),
-    ("--pull0", Role::Pull),
-    ("--surveyor", Role::Surveyor),
-    ("--surveyor0", Role::Surveyor),
-    ("--respondent", Role::Respondent),
-    ("--respondent0", Role::Respondent),
-    ("--bus", Role::Bus),
-    ("--bus0", Role::Bus),
-];
-
-const FORMATS: [(&str, Format); 5] = [
-    ("--ascii", Format::Ascii),
-    ("--raw", Format::Raw),
-    ("--quoted", Format::Quoted),
-    ("--hex", Format::Hex),
-    ("--msgpack", Format::Msgpack),
-];
+/// The options for roles, one a line. Each may have a 0 behind it.
+const ROLES: &str = "\
+--pair
+--pub
+--sub
+--req
+--rep
+--push
+--pull
+--surveyor
+--respondent
+--bus";
 
 /// What an option is.
 #[derive(Clone, Copy, Debug, PartialEq, Eq)]
@@ -67,27 +50,38 @@ pub struct ListedOption {
     pub from: usize,
 }
 
-fn role_of(text: &[u8]) -> Option<OptionKind> {
-    for (name, role) in &ROLES {
-        if name.as_bytes() == text {
-            return Some(OptionKind::Role(*role));
-        }
-    }
-    None
+fn role_of(text: &str) -> Option<OptionKind> {
+    let role = match text.strip_suffix('0').unwrap_or(text) {
+        "--pair" => Role::Pair0,
+        "--pub" => Role::Pub,
+        "--sub" => Role::Sub,
+        "--req" => Role::Req,
+        "--rep" => Role::Rep,
+        "--push" => Role::Push,
+        "--pull" => Role::Pull,
+        "--surveyor" => Role::Surveyor,
+        "--respondent" => Role::Respondent,
+        "--bus" => Role::Bus,
+        _ => return None,
+    };
+    Some(OptionKind::Role(role))
 }
 
-fn format_of(text: &[u8]) -> Option<OptionKind> {
-    for (name, format) in &FORMATS {
-        if name.as_bytes() == text {
-            return Some(OptionKind::Format(*format));
-        }
-    }
-    None
+fn format_of(text: &str) -> Option<OptionKind> {
+    let format = match text {
+        "--ascii" => Format::Ascii,
+        "--raw" => Format::Raw,
+        "--quoted" => Format::Quoted,
+        "--hex" => Format::Hex,
+        "--msgpack" => Format::Msgpack,
+        _ => return None,
+    };
+    Some(OptionKind::Format(format))
 }
 
-fn valued_of(text: &[u8]) -> Option<OptionKind> {
-    for i in 0..VALUED.len() {
-        if VALUED[i].as_bytes() == text {
+fn valued_of(text: &str) -> Option<OptionKind> {
+    for (i, name) in VALUED.lines().enumerate() {
+        if name == text {
             return Some(OptionKind::Valued(i));
         }
     }
@@ -95,6 +89,7 @@ fn valued_of(text: &[u8]) -> Option<OptionKind> {
 }
 
 fn kind_of(text: &[u8]) -> Option<OptionKind> {
+    let text = std::str::from_utf8(text).ok()?;
     if let Some(kind) = role_of(text) {
         return Some(kind);
     }
@@ -146,25 +141,23 @@ fn option_at(words: &[String], i: usize) -> Option<ListedOption> {
 }
 
 /// The list cut into options; None where it can't be cut so.
-pub fn options_of(alloc: Global, words: &[String]) -> Result<Option<Vec<ListedOption>>, NoMemory> {
+pub fn options_of(rt: &impl Abort, alloc: Global, words: &[String]) -> Option<Vec<ListedOption>> {
     let mut list: Vec<ListedOption> = Vec::new(alloc);
     let mut next: usize = 0;
     for i in 0..words.len() {
         if i == next {
-            let Some(said) = option_at(words, i) else {
-                return Ok(None);
-            };
+            let said = option_at(words, i)?;
             next = i + 1;
             if let OptionKind::Valued(_) = said.kind {
                 next = said.word.max(i).saturating_add(1);
             }
-            list.push(said)?;
+            made(rt, list.push(said));
         }
     }
     if next == words.len() {
-        Ok(Some(list))
+        Some(list)
     } else {
-        Ok(None)
+        None
     }
 }
 
@@ -195,14 +188,11 @@ pub fn number_of(text: &[u8], most: u64) -> Option<u64> {
 }
 
 /// The address of a text.
-pub fn address_of(alloc: Global, text: &[u8]) -> Result<Option<Addr>, NoMemory> {
-    let Ok(text) = std::str::from_utf8(text) else {
-        return Ok(None);
-    };
-    match Addr::read(alloc, text) {
-        Ok(addr) => Ok(Some(addr)),
-        Err(AddrError::Fault { at: _ }) => Ok(None),
-        Err(AddrError::NoMemory) => Err(NoMemory),
+pub fn address_of(rt: &impl Abort, alloc: Global, text: &[u8]) -> Option<Addr> {
+    match Addr::read(alloc, std::str::from_utf8(text).ok()?) {
+        Ok(addr) => Some(addr),
+        Err(AddrError::Fault { at: _ }) => None,
+        Err(AddrError::NoMemory) => panic!(rt; "no memory"),
     }
 }
 
@@ -219,18 +209,18 @@ fn may_be_dialed(addr: &Addr) -> bool {
 }
 
 /// Whether an option of this number takes the value.
-fn is_value(alloc: Global, n: usize, value: &[u8]) -> Result<bool, NoMemory> {
+fn is_value(rt: &impl Abort, alloc: Global, n: usize, value: &[u8]) -> bool {
     match n {
-        0 => match address_of(alloc, value)? {
-            Some(addr) => Ok(may_be_dialed(&addr)),
-            None => Ok(false),
+        0 => match address_of(rt, alloc, value) {
+            Some(addr) => may_be_dialed(&addr),
+            None => false,
         },
-        1 => Ok(address_of(alloc, value)?.is_some()),
-        2 => Ok(true),
-        3 => Ok(!value.is_empty()),
-        4 => Ok(value.len() <= 1_024),
-        5 => Ok(number_of(value, 4_294_967_295).is_some()),
-        _ => Ok(number_of(value, 86_400).is_some()),
+        1 => address_of(rt, alloc, value).is_some(),
+        2 => true,
+        3 => !value.is_empty(),
+        4 => value.len() <= 1_024,
+        5 => number_of(value, 4_294_967_295).is_some(),
+        _ => number_of(value, 86_400).is_some(),
     }
 }
 
@@ -303,162 +293,150 @@ fn is_counted(list: &[ListedOption]) -> bool {
         && (role == Role::Sub || topics == 0)
 }
 
-fn has_values(alloc: Global, words: &[String], list: &[ListedOption]) -> Result<bool, NoMemory> {
+fn has_values(rt: &impl Abort, alloc: Global, words: &[String], list: &[ListedOption]) -> bool {
     for said in list {
         if let OptionKind::Valued(n) = said.kind {
-            if said.word >= words.len() || !is_value(alloc, n, value_of(words, *said))? {
-                return Ok(false);
+            if said.word >= words.len() || !is_value(rt, alloc, n, value_of(words, *said)) {
+                return false;
             }
         }
     }
-    Ok(true)
+    true
 }
 
 /// The options of a list that has a plan without a drill.
-pub fn plan_of(alloc: Global, words: &[String]) -> Result<Option<Vec<ListedOption>>, NoMemory> {
-    let Some(list) = options_of(alloc, words)? else {
-        return Ok(None);
-    };
-    if is_counted(&list) && has_values(alloc, words, &list)? {
-        Ok(Some(list))
+pub fn plan_of(rt: &impl Abort, alloc: Global, words: &[String]) -> Option<Vec<ListedOption>> {
+    let list = options_of(rt, alloc, words)?;
+    if is_counted(&list) && has_values(rt, alloc, words, &list) {
+        Some(list)
     } else {
-        Ok(None)
+        None
     }
 }
 
 /// The number of a drill, where the list is one.
 pub fn drill_of(words: &[String]) -> Option<u64> {
-    let Some(first) = words.get(0) else {
+    let (name, number) = match words {
+        [word] => word.as_str().split_once('=')?,
+        [name, number] => (name.as_str(), number.as_str()),
+        _ => return None,
+    };
+    if name != "--drill" {
         return None;
-    };
-    let bytes = first.as_bytes();
-    let found = match equals_of(bytes) {
-        Some(cut) => {
-            if words.len() != 1 || cut >= bytes.len() || &bytes[..cut] != b"--drill".as_slice() {
-                return None;
-            }
-            number_of(&bytes[cut + 1..], 1_000_000)
-        }
-        None => {
-            let Some(second) = words.get(1) else {
-                return None;
-            };
-            if words.len() != 2 || bytes != b"--drill".as_slice() {
-                return None;
-            }
-            number_of(second.as_bytes(), 1_000_000)
-        }
-    };
-    match found {
+    }
+    match number_of(number.as_bytes(), 1_000_000) {
         Some(0) => None,
         other => other,
     }
 }
 
 /// Whether the list has a plan.
-pub fn is_right(alloc: Global, words: &[String]) -> Result<bool, NoMemory> {
-    if drill_of(words).is_some() {
-        return Ok(true);
-    }
-    Ok(plan_of(alloc, words)?.is_some())
+pub fn is_right(rt: &impl Abort, alloc: Global, words: &[String]) -> bool {
+    drill_of(words).is_some() || plan_of(rt, alloc, words).is_some()
 }
 
 /// What can follow the beginning of a right list: a value that is under way, a role, a body, an end.
 const VALUES: [&str; 4] = ["", "1", "x", "tcp://127.0.0.1:1"];
 
-fn pushed(list: &mut Vec<String>, alloc: Global, word: &str) -> Result<(), NoMemory> {
-    list.push(String::from_str(alloc, word)?)?;
-    Ok(())
+/// Pushes a word.
+pub fn pushed(rt: &impl Abort, list: &mut Vec<String>, alloc: Global, word: &str) {
+    made(rt, list.push(made(rt, String::from_str(alloc, word))));
 }
 
 /// The prefix with a value behind it, if one is under way.
-fn valued(alloc: Global, prefix: &[String], value: usize) -> Result<Vec<String>, NoMemory> {
+fn valued(rt: &impl Abort, alloc: Global, prefix: &[String], value: usize) -> Vec<String> {
     let mut list = Vec::new(alloc);
     for word in prefix {
-        pushed(&mut list, alloc, word.as_str())?;
+        pushed(rt, &mut list, alloc, word.as_str());
     }
     if value > 0 && value <= VALUES.len() {
-        pushed(&mut list, alloc, VALUES[value - 1])?;
+        pushed(rt, &mut list, alloc, VALUES[value - 1]);
     }
-    Ok(list)
+    list
+}
+
+/// The option of the role with this place, from 1 on.
+fn role_name(place: usize) -> Option<&'static str> {
+    ROLES.lines().nth(place.checked_sub(1)?)
 }
 
 /// The list with a role, a body and an end behind it, each if it is asked for.
 fn followed(
+    rt: &impl Abort,
     alloc: Global,
     prefix: &[String],
     role: usize,
     body: bool,
     end: bool,
-) -> Result<Vec<String>, NoMemory> {
-    let mut list = valued(alloc, prefix, 0)?;
-    if role > 0 && role <= ROLES.len() {
-        pushed(&mut list, alloc, ROLES[role - 1].0)?;
+) -> Vec<String> {
+    let mut list = valued(rt, alloc, prefix, 0);
+    if let Some(name) = role_name(role) {
+        pushed(rt, &mut list, alloc, name);
     }
     if body {
-        pushed(&mut list, alloc, "--data=")?;
+        pushed(rt, &mut list, alloc, "--data=");
     }
     if end {
-        pushed(&mut list, alloc, "--listen=tcp://127.0.0.1:1")?;
+        pushed(rt, &mut list, alloc, "--listen=tcp://127.0.0.1:1");
     }
-    Ok(list)
+    list
 }
 
-fn is_right_with_role(alloc: Global, prefix: &[String], role: usize) -> Result<bool, NoMemory> {
+fn is_right_with_role(rt: &impl Abort, alloc: Global, prefix: &[String], role: usize) -> bool {
     for more in 0..4u32 {
-        let list = followed(alloc, prefix, role, more % 2 == 1, more / 2 == 1)?;
-        if is_right(alloc, &list)? {
-            return Ok(true);
+        let list = followed(rt, alloc, prefix, role, more % 2 == 1, more / 2 == 1);
+        if is_right(rt, alloc, &list) {
+            return true;
         }
     }
-    Ok(false)
+    false
 }
 
 /// Whether something can follow these words, which are whole options.
-fn is_right_with_more(alloc: Global, prefix: &[String], has_role: bool) -> Result<bool, NoMemory> {
-    if is_right_with_role(alloc, prefix, 0)? {
-        return Ok(true);
+fn is_right_with_more(rt: &impl Abort, alloc: Global, prefix: &[String], has_role: bool) -> bool {
+    if is_right_with_role(rt, alloc, prefix, 0) {
+        return true;
     }
     if has_role {
-        return Ok(false);
+        return false;
     }
-    for half in 0..10usize {
-        if is_right_with_role(alloc, prefix, 2 * half + 1)? {
-            return Ok(true);
+    for role in 1..11usize {
+        if is_right_with_role(rt, alloc, prefix, role) {
+            return true;
         }
     }
-    Ok(false)
+    false
 }
 
-fn is_right_with_value(alloc: Global, prefix: &[String], value: usize) -> Result<bool, NoMemory> {
-    let list = valued(alloc, prefix, value)?;
+fn is_right_with_value(rt: &impl Abort, alloc: Global, prefix: &[String], value: usize) -> bool {
+    let list = valued(rt, alloc, prefix, value);
     if drill_of(&list).is_some() {
-        return Ok(true);
+        return true;
     }
-    match options_of(alloc, &list)? {
-        Some(options) => is_right_with_more(alloc, &list, roles_of(&options).1 > 0),
-        None => Ok(false),
+    match options_of(rt, alloc, &list) {
+        Some(options) => is_right_with_more(rt, alloc, &list, roles_of(&options).1 > 0),
+        None => false,
     }
 }
 
 /// Whether the words are a prefix of some right list.
-pub fn is_prefix(alloc: Global, prefix: &[String]) -> Result<bool, NoMemory> {
+pub fn is_prefix(rt: &impl Abort, alloc: Global, prefix: &[String]) -> bool {
     for value in 0..5usize {
-        if is_right_with_value(alloc, prefix, value)? {
-            return Ok(true);
+        if is_right_with_value(rt, alloc, prefix, value) {
+            return true;
         }
     }
-    Ok(false)
+    false
 }
 
 /// How many words the longest prefix has with which some right list begins.
-pub fn stop_of(alloc: Global, words: &[String]) -> Result<usize, NoMemory> {
+pub fn stop_of(rt: &impl Abort, alloc: Global, words: &[String]) -> usize {
     let mut most: usize = 0;
     for n in 0..words.len() {
-        if !is_prefix(alloc, &words[..n + 1])? {
-            return Ok(most);
+        if !is_prefix(rt, alloc, &words[..n + 1]) {
+            return most;
         }
         most = n + 1;
     }
-    Ok(most)
+    most
 }

@@ -1,138 +1,110 @@
 //! Which plan words are read as: a plan is shown as a text and compared with it.
 
 use crate::checks::{holds, made, same, same_at};
-use crate::rows::{cut, words_of};
+use crate::rows::words_of;
 use cat_text::{CatPlan, Data, End, Plan, PlanError};
-use sp_base::{Addr, Bytes, Host, NoMemory};
+use sp_base::{Addr, Bytes, Host};
 use std::alloc::Global;
+use std::fmt::Write;
 use std::process::Abort;
 
-fn push_bytes(text: &mut String, bytes: &[u8]) -> Result<(), NoMemory> {
-    for byte in bytes {
-        if byte.is_ascii() {
-            text.push(*byte as char)?;
-        }
-    }
-    Ok(())
+// A name, and bytes between apostrophes.
+fn push_bytes(rt: &impl Abort, text: &mut String, name: &str, bytes: &Bytes) {
+    let bytes = made(rt, std::str::from_utf8(bytes.as_slice()));
+    made(rt, write!(text, " {name} '{bytes}'"));
 }
 
-fn push_host(alloc: Global, text: &mut String, host: &Host, port: u16) -> Result<(), NoMemory> {
+fn push_host(rt: &impl Abort, text: &mut String, host: &Host, port: u16) {
     match host {
-        Host::Any => text.push_str(format!(in alloc; "*:{port}")?.as_str())?,
-        Host::V4(a, b, c, d) => {
-            text.push_str(format!(in alloc; "{a}.{b}.{c}.{d}:{port}")?.as_str())?
-        }
+        Host::Any => made(rt, write!(text, "*:{port}")),
+        Host::V4(a, b, c, d) => made(rt, write!(text, "{a}.{b}.{c}.{d}:{port}")),
     }
-    Ok(())
 }
 
-fn push_address(alloc: Global, text: &mut String, addr: &Addr) -> Result<(), NoMemory> {
+fn push_address(rt: &impl Abort, text: &mut String, addr: &Addr) {
     match addr {
-        Addr::Tcp { host, port } => push_host(alloc, text, host, *port)?,
+        Addr::Tcp { host, port } => push_host(rt, text, host, *port),
         Addr::Ws { host, port, path } => {
-            text.push_str("ws ")?;
-            push_host(alloc, text, host, *port)?;
-            push_bytes(text, path.as_slice())?;
+            made(rt, text.push_str("ws "));
+            push_host(rt, text, host, *port);
+            made(
+                rt,
+                text.push_str(made(rt, std::str::from_utf8(path.as_slice()))),
+            );
         }
-        Addr::Inproc { name } => push_bytes(text, name.as_slice())?,
-    }
-    Ok(())
-}
-
-fn push_ends(alloc: Global, text: &mut String, ends: &[End]) -> Result<(), NoMemory> {
-    for end in ends {
-        match end {
-            End::Dial(addr) => {
-                text.push_str(" dial ")?;
-                push_address(alloc, text, addr)?;
-            }
-            End::Listen(addr) => {
-                text.push_str(" listen ")?;
-                push_address(alloc, text, addr)?;
-            }
+        Addr::Inproc { name } => {
+            made(
+                rt,
+                text.push_str(made(rt, std::str::from_utf8(name.as_slice()))),
+            )
         }
     }
-    Ok(())
 }
 
-fn push_data(text: &mut String, data: &Data) -> Result<(), NoMemory> {
+fn push_end(rt: &impl Abort, text: &mut String, end: &End) {
+    match end {
+        End::Dial(addr) => {
+            made(rt, text.push_str(" dial "));
+            push_address(rt, text, addr);
+        }
+        End::Listen(addr) => {
+            made(rt, text.push_str(" listen "));
+            push_address(rt, text, addr);
+        }
+    }
+}
+
+fn push_data(rt: &impl Abort, text: &mut String, data: &Data) {
     match data {
-        Data::None => Ok(()),
-        Data::Text(bytes) => {
-            text.push_str(" text '")?;
-            push_bytes(text, bytes.as_slice())?;
-            text.push_str("'")?;
-            Ok(())
-        }
-        Data::File(bytes) => {
-            text.push_str(" file '")?;
-            push_bytes(text, bytes.as_slice())?;
-            text.push_str("'")?;
-            Ok(())
-        }
+        Data::None => (),
+        Data::Text(bytes) => push_bytes(rt, text, "text", bytes),
+        Data::File(bytes) => push_bytes(rt, text, "file", bytes),
     }
 }
 
-fn push_topics(text: &mut String, topics: &[Bytes]) -> Result<(), NoMemory> {
-    for topic in topics {
-        text.push_str(" topic '")?;
-        push_bytes(text, topic.as_slice())?;
-        text.push_str("'")?;
-    }
-    Ok(())
-}
-
-fn push_number(
-    alloc: Global,
-    text: &mut String,
-    name: &str,
-    number: Option<u32>,
-) -> Result<(), NoMemory> {
+fn push_number(rt: &impl Abort, text: &mut String, name: &str, number: Option<u32>) {
     if let Some(n) = number {
-        text.push_str(format!(in alloc; " {name} {n}")?.as_str())?;
+        made(rt, write!(text, " {name} {n}"));
     }
-    Ok(())
 }
 
-fn show_cat(alloc: Global, plan: &CatPlan) -> Result<String, NoMemory> {
-    let mut text = format!(in alloc; "{:?}", plan.role)?;
-    push_ends(alloc, &mut text, plan.ends.as_slice())?;
-    push_data(&mut text, &plan.data_)?;
-    push_topics(&mut text, plan.topics.as_slice())?;
-    push_number(alloc, &mut text, "count", plan.count)?;
-    push_number(alloc, &mut text, "interval", plan.interval)?;
-    push_number(alloc, &mut text, "recv", plan.recv_timeout)?;
-    push_number(alloc, &mut text, "send", plan.send_timeout)?;
-    text.push_str(format!(in alloc; " {:?}", plan.format)?.as_str())?;
-    Ok(text)
+fn show_cat(rt: &impl Abort, alloc: Global, plan: &CatPlan) -> String {
+    let mut text = made(rt, format!(in alloc; "{:?}", plan.role));
+    for end in plan.ends.as_slice() {
+        push_end(rt, &mut text, end);
+    }
+    push_data(rt, &mut text, &plan.data_);
+    for topic in plan.topics.as_slice() {
+        push_bytes(rt, &mut text, "topic", topic);
+    }
+    push_number(rt, &mut text, "count", plan.count);
+    push_number(rt, &mut text, "interval", plan.interval);
+    push_number(rt, &mut text, "recv", plan.recv_timeout);
+    push_number(rt, &mut text, "send", plan.send_timeout);
+    made(rt, write!(text, " {:?}", plan.format));
+    text
 }
 
 /// The plan of the words as a text.
-fn show_words(alloc: Global, list: &[String]) -> Result<String, NoMemory> {
+fn show_words(rt: &impl Abort, alloc: Global, list: &[String]) -> String {
     match Plan::read(alloc, list) {
-        Ok(Plan::Drill { count }) => Ok(format!(in alloc; "drill {count}")?),
-        Ok(Plan::Cat(plan)) => show_cat(alloc, &plan),
-        Err(PlanError::Usage { at }) => Ok(format!(in alloc; "wrong at {at}")?),
-        Err(PlanError::NoMemory) => Err(NoMemory),
+        Ok(Plan::Drill { count }) => made(rt, format!(in alloc; "drill {count}")),
+        Ok(Plan::Cat(plan)) => show_cat(rt, alloc, &plan),
+        Err(PlanError::Usage { at }) => made(rt, format!(in alloc; "wrong at {at}")),
+        Err(PlanError::NoMemory) => panic!(rt; "no memory"),
     }
 }
 
 /// The words of each row have the plan that stands behind the bar.
 pub fn check_plans(rt: &impl Abort, alloc: Global, rows: &str) {
     let mut number: u32 = 0;
-    for row in rows.as_bytes().split(|byte| *byte == b'\n') {
+    for row in rows.lines() {
         number = number.saturating_add(1);
-        let Some((given, wanted)) = cut(row) else {
+        let Some((given, wanted)) = row.split_once(" | ") else {
             panic!(rt; "row {number} has no bar")
         };
-        let list = words_of(rt, alloc, given);
-        let shown = made(rt, show_words(alloc, &list));
-        same_at(
-            rt,
-            number,
-            shown.as_str(),
-            made(rt, std::str::from_utf8(wanted)),
-        );
+        let shown = show_words(rt, alloc, &words_of(rt, alloc, given));
+        same_at(rt, number, shown.as_str(), wanted);
     }
 }
 
@@ -244,7 +216,7 @@ fn each_name_of_a_role_is_that_role(rt: HostRuntime) {
 }
 
 // The data of a push of these words and this value.
-fn data_of(rt: &impl Abort, alloc: Global, row: &[u8], value: &str) -> Data {
+fn data_of(rt: &impl Abort, alloc: Global, row: &str, value: &str) -> Data {
     let mut list = words_of(rt, alloc, row);
     made(rt, list.push(made(rt, String::from_str(alloc, value))));
     match Plan::read(alloc, &list) {
@@ -256,7 +228,7 @@ fn data_of(rt: &impl Abort, alloc: Global, row: &[u8], value: &str) -> Data {
 
 // Whether a push with this text sends these bytes.
 fn sends(rt: &impl Abort, alloc: Global, text: &str, bytes: &[u8]) -> bool {
-    match data_of(rt, alloc, b"--push --listen A --data", text) {
+    match data_of(rt, alloc, "--push --listen A --data", text) {
         Data::Text(data_) => data_.as_slice() == bytes,
         Data::None | Data::File(_) => false,
     }
@@ -264,7 +236,7 @@ fn sends(rt: &impl Abort, alloc: Global, text: &str, bytes: &[u8]) -> bool {
 
 // Whether a push with this name sends the file of this name.
 fn sends_file(rt: &impl Abort, alloc: Global, name: &str) -> bool {
-    match data_of(rt, alloc, b"--push --listen A --file", name) {
+    match data_of(rt, alloc, "--push --listen A --file", name) {
         Data::File(file) => file.as_slice() == name.as_bytes(),
         Data::None | Data::Text(_) => false,
     }
@@ -307,7 +279,7 @@ fn the_longest_list_is_read(rt: HostRuntime) {
         &rt,
         row.push_str(" --count 1 --interval 2 --recv-timeout 3 --send-timeout 4 --hex"),
     );
-    let list = words_of(&rt, alloc, row.as_bytes());
+    let list = words_of(&rt, alloc, row.as_str());
     same(&rt, list.len(), 266);
     let ends = repeated(
         &rt,
@@ -321,6 +293,6 @@ fn the_longest_list_is_read(rt: HostRuntime) {
         &rt,
         wanted.push_str(" count 1 interval 2 recv 3 send 4 Hex"),
     );
-    let shown = made(&rt, show_words(alloc, &list));
+    let shown = show_words(&rt, alloc, &list);
     same(&rt, shown.as_str(), wanted.as_str());
 }

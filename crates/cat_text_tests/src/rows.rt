@@ -3,23 +3,10 @@ use crate::checks::made;
 use std::alloc::Global;
 use std::process::Abort;
 
-/// What stands before the first byte of this value, and behind it.
-pub fn cut_at(text: &[u8], mark: u8) -> Option<(&[u8], &[u8])> {
-    let at = text.iter().position(|byte| *byte == mark)?;
-    let (before, after) = text.split_at_checked(at)?;
-    Some((before, after.split_first()?.1))
-}
-
-/// What stands before the bar of a row and behind it; a space stands on each side of the bar.
-pub fn cut(row: &[u8]) -> Option<(&[u8], &[u8])> {
-    let (before, after) = cut_at(row, b'|')?;
-    Some((before.strip_suffix(b" ")?, after.strip_prefix(b" ")?))
-}
-
 // What a word of a row stands for: two apostrophes for the empty word, `A` and `B` for addresses, each other word for
 // itself.
-fn meant<'a>(rt: &impl Abort, word: &'a [u8]) -> &'a str {
-    match made(rt, std::str::from_utf8(word)) {
+fn meant(word: &str) -> &str {
+    match word {
         "''" => "",
         "A" => "tcp://127.0.0.1:5555",
         "B" => "tcp://127.0.0.1:5556",
@@ -28,26 +15,22 @@ fn meant<'a>(rt: &impl Abort, word: &'a [u8]) -> &'a str {
 }
 
 /// The words of a row as a list; an empty text has none.
-pub fn words_of(rt: &impl Abort, alloc: Global, row: &[u8]) -> Vec<String> {
+pub fn words_of(rt: &impl Abort, alloc: Global, row: &str) -> Vec<String> {
     let mut list = Vec::new(alloc);
     if row.is_empty() {
         return list;
     }
-    for word in row.split(|byte| *byte == b' ') {
-        made(
-            rt,
-            list.push(made(rt, String::from_str(alloc, meant(rt, word)))),
-        );
+    for word in row.split(' ') {
+        let word = made(rt, String::from_str(alloc, meant(word)));
+        made(rt, list.push(word));
     }
     list
 }
 
 /// The bytes of a text: two hex digits a byte up to an apostrophe, and behind it the bytes themselves.
-pub fn bytes_of(rt: &impl Abort, alloc: Global, text: &[u8]) -> Vec<u8> {
-    let Some((digits, rest)) = cut_at(text, b'\'') else {
-        panic!(rt; "bytes without an apostrophe")
-    };
+pub fn bytes_of(rt: &impl Abort, alloc: Global, text: &str) -> Option<Vec<u8>> {
+    let (digits, rest) = text.split_once('\'')?;
     let mut bytes = made(rt, hex::decode(alloc, digits));
-    made(rt, bytes.extend_from_slice(rest));
-    bytes
+    made(rt, bytes.extend_from_slice(rest.as_bytes()));
+    Some(bytes)
 }

@@ -1,5 +1,5 @@
 //! The calls of a socket as a test makes them.
-ghost use Rattle.std.specs.Prelude.{◌≡◌, ◌++◌, ◌∷◌, [], IfErr};
+ghost use Rattle.std.specs.Prelude.{◌≡◌, ◌++◌, ◌∷◌, [], IfErr, IfOk};
 ghost use Rattle.aio_word.specs.Views.{Each};
 ghost use Rattle.sp_proto.specs.Kinds.{Kind, Starts};
 ghost use Rattle.core_parts.specs.Wires.{IsUnused};
@@ -8,7 +8,7 @@ ghost use Rattle.sp_socket.specs.Open.{IsOpenFor};
 ghost use Rattle.sp_socket.specs.Finishing.{HasSeenClose};
 ghost use Rattle.socket_tests.specs.Calls.{IsListOf, Calls};
 
-use sp_base::{Ctx, OpName, PipeId, Tick};
+use sp_base::{Ctx, OpName, PipeId, SpError, Tick};
 use sp_msg::{Message, Wire};
 use sp_proto::Proto;
 use sp_socket::{
@@ -26,20 +26,19 @@ pub struct Caller<P: Proto, W: Wire> {
     pub ops: Vec<Op>,
 }
 
-/// A socket with all its passes.
+/// A socket with all its passes, or the number of the error for which there is none.
 pub fn opened<P: Proto, W: Wire>(
-    rt: &impl Abort,
     alloc: Global,
     proto: P,
     slots: u32,
     callers: u32,
-) -> (Socket<P, W>, SocketPasses<P, W>)
+) -> Result<(Socket<P, W>, SocketPasses<P, W>), u32>
     requires { (k : Kind) × Starts P.ties proto k }
-    ensures { IsListOf result.0 result.1 }
+    ensures { IfOk result (λ made. IsListOf made.0 made.1) }
 {
     match open(alloc, proto, Config { slots, callers }) {
-        Ok(made) => made,
-        Err(_) => panic!(rt; "no socket"),
+        Ok(made) => Ok(made),
+        Err((e, _machine)) => Err(SpError::from(e).code()),
     }
 }
 
@@ -311,13 +310,12 @@ pub fn give_back<P: Proto, W: Wire, R: Wait + Abort>(
     totals
 }
 
-/// Ends the socket; returns its wires, the last one first.
+/// Ends the socket; returns how many wires are left.
 pub fn finish<P: Proto, W: Wire + Drop, R: Wait + Abort>(
     rt: &R,
-    alloc: Global,
     socket: Socket<P, W>,
     list: SocketPasses<P, W>,
-) -> Vec<(PipeId, W)>
+) -> usize
     requires list { IsListOf socket list }
     requires closed { HasSeenClose socket list.items }
 {
@@ -326,19 +324,13 @@ pub fn finish<P: Proto, W: Wire + Drop, R: Wait + Abort>(
     }
     let Finished { wires, record_: _ } = socket.finish(rt, list);
     let mut wires = wires;
-    let mut all = Vec::new(alloc);
+    let mut count = 0usize;
     for _ in rt.forever() {
-        match wires.pop() {
-            None => {
-                wires.destroy_empty();
-                return all;
-            }
-            Some(pipe) => {
-                if all.push(pipe).is_err() {
-                    panic!(rt; "no memory for a pipe")
-                }
-            }
+        if wires.pop().is_none() {
+            wires.destroy_empty();
+            return count;
         }
+        count = count.saturating_add(1);
     }
     unreachable!()
 }

@@ -1,18 +1,6 @@
 //! What a test asks: it stops where a result is another one. Calls cost less to prove than the macros written out.
-ghost use Rattle.std.specs.Prelude.{◌≡◌, Ok, true};
-
 use std::fmt::Debug;
 use std::process::Abort;
-
-/// What was made.
-pub fn made<T, E: Debug + Drop>(rt: &impl Abort, returned: Result<T, E>) -> T
-    ensures { returned ≡ Ok result }
-{
-    match returned {
-        Ok(it) => it,
-        Err(e) => panic!(rt; "{e:?}"),
-    }
-}
 
 /// Both are the same.
 pub fn same<T: PartialEq + Debug + Drop>(rt: &impl Abort, left: T, right: T) {
@@ -20,18 +8,13 @@ pub fn same<T: PartialEq + Debug + Drop>(rt: &impl Abort, left: T, right: T) {
 }
 
 /// It holds.
-pub fn holds(rt: &impl Abort, it: bool)
-    ensures { it ≡ true }
-{
+pub fn holds(rt: &impl Abort, it: bool) {
     assert!(rt; it);
 }
 
-/// It succeeded.
-pub fn is_ok<T: Drop, E: Drop>(rt: &impl Abort, returned: Result<T, E>) {
-    assert!(rt; returned.is_ok());
-}
-
-/// Nothing is there.
-pub fn is_none<T: Drop>(rt: &impl Abort, returned: Option<T>) {
-    assert!(rt; returned.is_none());
+/// Stops where a line is wrong, and tells its number.
+pub fn is_right(rt: &impl Abort, wrong: Option<usize>) {
+    if let Some(line) = wrong {
+        panic!(rt; "line {line} is wrong");
+    }
 }

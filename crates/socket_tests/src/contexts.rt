@@ -1,35 +1,10 @@
 //! Replies that come in the other order than the requests went out.
-ghost use Rattle.std.specs.Prelude.{◌≡◌};
-ghost use Rattle.core_parts.specs.Wires.{IsUnused};
-
 use crate::checks::{holds, same};
+use crate::machines::wire;
 use crate::two::ask_two;
-use sp_base::Bytes;
-use sp_fakes::{MemWire, WireStep};
 use sp_msg::Message;
 use sp_socket::Outcome;
-use std::alloc::Global;
 use std::process::Abort;
-
-// One frame more.
-fn add(rt: &impl Abort, alloc: Global, script: &mut Vec<WireStep>, body: &[u8]) {
-    let Ok(bytes) = Bytes::from_slice(alloc, body) else {
-        panic!(rt; "no memory for a frame")
-    };
-    if script.push(WireStep::Bytes(bytes)).is_err() {
-        panic!(rt; "no memory for a script")
-    }
-}
-
-// A wire that takes two requests, and gives the reply to the second one first.
-fn asked_twice(rt: &impl Abort, alloc: Global) -> MemWire
-    ensures { IsUnused result.wire }
-{
-    let mut script = Vec::new(alloc);
-    add(rt, alloc, &mut script, b"\x80\0\0\x01B");
-    add(rt, alloc, &mut script, b"\x80\0\0\0A");
-    MemWire::new(alloc, script, 2, Vec::new(alloc))
-}
 
 // The receive got this body, and no header.
 fn is_received(rt: &impl Abort, outcome: Outcome, body: &[u8]) {
@@ -51,7 +26,9 @@ fn is_message(rt: &impl Abort, m: &Message, header: &[u8], body: &[u8]) {
 #[test]
 fn replies_reach_the_contexts_that_asked(rt: HostRuntime) {
     let alloc = rt.alloc();
-    let ((first, second), mut wires) = ask_two(&rt, alloc, asked_twice(&rt, alloc));
+    // It takes two requests, and gives the reply to the second one first.
+    let wire = wire(&rt, alloc, 2, "80000001'B 80000000'A");
+    let ((first, second), mut wires) = ask_two(&rt, alloc, wire);
     is_received(&rt, first, b"A");
     is_received(&rt, second, b"B");
     let Some((_, wire)) = wires.pop() else {

@@ -1,20 +1,15 @@
 //! A turn that is held up by its wire: others wait for no more than that turn, and a cancel doesn't wait at all. No
 //! socket shuts a wire.
 ghost use Rattle.std.specs.Prelude.{◌≡◌};
-ghost use Rattle.sp_proto.specs.Kinds.{Kind, Starts};
 ghost use Rattle.core_parts.specs.Wires.{IsUnused};
 
-use crate::callers::{finish, give_back, next, opened};
-use crate::checks::{holds, is_ok, same};
+use crate::checks::{holds, is_right};
+use crate::machines::{pull, wire};
 use crate::marks::{ThreadMarks, shared, unmarked};
-use crate::parts::{add, begun, giving_x, is_gone, is_received, pull, totals, wire};
-use crate::threads::do_all;
-use crate::workers::{Job, Task};
-use sp_base::{Ctx, Tick};
-use sp_fakes::{MemWire, WireStep};
+use crate::plays::wrong_line;
+use crate::wires::UnusedWires;
+use sp_fakes::MemWire;
 use sp_msg::{Message, Room, Wire, WireFlush, WireIn};
-use sp_proto::Proto;
-use sp_socket::Cause;
 use std::alloc::Global;
 use std::process::Abort;
 use std::sync::{Arc, Wait};
@@ -63,101 +58,87 @@ impl Wire for HeldWire {
     }
 
     fn shut(&mut self) {
-        self.marks.shut();
+        self.marks.shut.set(1);
         self.wire.shut()
     }
 }
 
-// A wire that holds nothing up.
-fn unheld(rt: &impl Abort, wire: MemWire, marks: &Arc<ThreadMarks>) -> HeldWire
-    ensures { result.wire ≡ wire }
+// A wire that gives this; whether it holds nothing up.
+fn held(
+    rt: &impl Abort,
+    alloc: Global,
+    marks: &Arc<ThreadMarks>,
+    gives: &str,
+    done: bool,
+) -> HeldWire
+    ensures { IsUnused result.wire.wire }
 {
     HeldWire {
-        wire,
+        wire: wire(rt, alloc, 0, gives),
         marks: shared(rt, marks),
-        done: true,
+        done,
     }
 }
 
-// The wire holds the first turn up. Within it a receive is cancelled, and a caller comes that lets a moment come.
-fn cancel_within_a_turn<P: Proto + Send, W: Wire + Send + Drop>(
-    rt: &(impl Wait + Abort + Threads + Sync),
+// A pull of such wires plays.
+fn plays<R: Wait + Abort + Threads + Sync>(
+    rt: &R,
     alloc: Global,
-    proto: P,
-    w: W,
-    marks: &Arc<ThreadMarks>,
-)
-    requires starts { (k : Kind) × Starts P.ties proto k }
-    requires unused { IsUnused (W.shown w) }
-{
-    let (socket, mut list) = opened(rt, alloc, proto, 4, 4);
-    let mut main = next(rt, alloc, &socket, &mut list);
-    is_ok(rt, main.attach(rt, &socket, w));
-    let a = begun(rt, main.begin_recv(rt, &socket, Ctx(0), None));
-    let tasks = [
-        Task::new(Job::Serve(1)),
-        Task::new(Job::CancelWhenHeld(a, shared(rt, marks))),
-        Task::new(Job::TickWhenHeld(Tick(1), shared(rt, marks))),
-    ];
-    do_all(rt, alloc, &socket, &mut list, &tasks);
-    same(rt, tasks[1].ended(), 1);
-    same(rt, tasks[2].ended(), 1);
-    holds(rt, marks.was_held());
-    begun(rt, main.begin_recv(rt, &socket, Ctx(0), None));
-    holds(rt, main.serve(rt, &socket).moved);
-    holds(rt, is_received(main.collect(rt, &socket), b"x"));
-    holds(rt, is_gone(main.collect(rt, &socket), Cause::Cancelled, 2));
-    same(
-        rt,
-        give_back(rt, &socket, &mut list, main),
-        totals(2, 1, 1, 1),
-    );
-    finish(rt, alloc, socket, list);
+    size: &str,
+    wires: UnusedWires<HeldWire>,
+    marks: &ThreadMarks,
+    play: &str,
+) {
+    let wrong = wrong_line(rt, alloc, pull(rt, alloc), size, wires, None, marks, play);
+    is_right(rt, wrong)
 }
 
+// The wire holds the first turn up. Within it a receive is cancelled, and a caller comes that lets a moment come.
 #[test]
 fn a_cancel_returns_within_a_held_turn(rt: HostRuntime) {
+    let play = "
+        takes 4
+        4 attaches 1
+        4 receives 0 0.1
+        takes 3
+        takes 2
+        takes 1
+        together
+        + 3 serves no
+        + 2 sees held | sees entered | cancels 0.1 won | marks answered
+        + 1 sees held | marks entered | ticks 1 0 0
+        4 sees held
+        4 receives 0 1.1
+        4 serves yes
+        4 collects received 'x
+        4 collects gone cancelled 2
+        all_give_back 2 1 1 1 0 0
+        left 1
+    ";
     let alloc = rt.alloc();
     let marks = unmarked(&rt, alloc);
-    let wire = HeldWire {
-        wire: giving_x(&rt, alloc, 1),
-        marks: shared(&rt, &marks),
-        done: false,
-    };
-    cancel_within_a_turn(&rt, alloc, pull(&rt, alloc), wire, &marks);
-}
-
-// The one wire ends and is taken, the other is up at the close.
-fn take_and_close<P: Proto, W: Wire + Drop>(
-    rt: &(impl Wait + Abort),
-    alloc: Global,
-    proto: P,
-    ending: W,
-    silent: W,
-)
-    requires starts { (k : Kind) × Starts P.ties proto k }
-    requires unused { IsUnused (W.shown ending) }
-    requires unused_silent { IsUnused (W.shown silent) }
-{
-    let (socket, mut list) = opened(rt, alloc, proto, 4, 1);
-    let mut main = next(rt, alloc, &socket, &mut list);
-    is_ok(rt, main.attach(rt, &socket, ending));
-    is_ok(rt, main.attach(rt, &socket, silent));
-    main.serve(rt, &socket);
-    holds(rt, main.take_ended(rt, &socket).is_some());
-    give_back(rt, &socket, &mut list, main);
-    same(rt, finish(rt, alloc, socket, list).len(), 1);
+    let mut wires = UnusedWires::new(alloc);
+    wires.add(&rt, held(&rt, alloc, &marks, "pause 'x", false));
+    plays(&rt, alloc, "4 4", wires, &marks, play);
 }
 
 // A wire that ends is taken as it is, and one that is up at the close comes back with the socket: neither is shut.
 #[test]
 fn a_socket_shuts_no_wire(rt: HostRuntime) {
+    let play = "
+        takes 1
+        1 attaches 1
+        1 attaches 2
+        1 serves yes
+        1 down 1 ended
+        1 gives_back 0 0 0 0 0 0
+        left 1
+    ";
     let alloc = rt.alloc();
     let marks = unmarked(&rt, alloc);
-    let mut ends = Vec::new(alloc);
-    add(&rt, &mut ends, WireStep::End);
-    let ending = unheld(&rt, wire(alloc, ends), &marks);
-    let silent = unheld(&rt, wire(alloc, Vec::new(alloc)), &marks);
-    take_and_close(&rt, alloc, pull(&rt, alloc), ending, silent);
-    holds(&rt, !marks.was_shut());
+    let mut wires = UnusedWires::new(alloc);
+    wires.add(&rt, held(&rt, alloc, &marks, "end", true));
+    wires.add(&rt, held(&rt, alloc, &marks, "silent", true));
+    plays(&rt, alloc, "4 1", wires, &marks, play);
+    holds(&rt, marks.shut.now() == 0);
 }

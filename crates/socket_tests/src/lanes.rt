@@ -1,19 +1,17 @@
 //! Sockets over lanes within the process.
 ghost use Rattle.std.specs.Prelude.{◌≡◌, ◌≤◌, []};
-ghost use Rattle.sp_proto.specs.Kinds.{Kind, Starts};
-ghost use Rattle.core_parts.specs.Wires.{IsUnused};
 
-use crate::callers::{finish, give_back, next, opened};
-use crate::checks::{holds, is_ok, same};
-use crate::parts::{begun, is_received, pull, push, x};
-use sp_base::Ctx;
-use sp_lane::{LaneIn, LaneOut, LaneWire, Put, PutEnd, Taken, lane};
+use crate::checks::is_right;
+use crate::machines::{pull, push};
+use crate::marks::{ThreadMarks, unmarked};
+use crate::plays::wrong_line;
+use crate::wires::UnusedWires;
+use sp_lane::{LaneIn, LaneOut, LaneWire, Put, PutEnd, lane};
 use sp_msg::{Message, Room, Wire, WireFlush, WireIn};
-use sp_proto::Proto;
-use sp_socket::{Outcome, Polled, Why};
 use std::alloc::Global;
 use std::process::Abort;
 use std::sync::Wait;
+use std::thread::Threads;
 
 // A lane of so many items; it aborts when out of memory.
 fn lane_of(rt: &impl Abort, alloc: Global, cap: u32) -> (LaneIn, LaneOut)
@@ -25,14 +23,6 @@ fn lane_of(rt: &impl Abort, alloc: Global, cap: u32) -> (LaneIn, LaneOut)
         Ok(ends) => ends,
         Err(_) => panic!(rt; "no memory for a lane"),
     }
-}
-
-// A wire that puts into the one lane and takes from the other.
-fn over(out: LaneIn, inp: LaneOut) -> LaneWire
-    requires { out.put ≡ [] }
-    ensures { IsUnused result.wire }
-{
-    LaneWire::new(out, inp)
 }
 
 // Puts a message with this body.
@@ -52,82 +42,13 @@ fn put_end<R: Wait + Abort>(rt: &R, input: &mut LaneIn) {
     }
 }
 
-// The wire gives a and b, and ends.
-fn receive_two<P: Proto, W: Wire + Drop>(rt: &(impl Wait + Abort), alloc: Global, proto: P, w: W)
-    requires starts { (k : Kind) × Starts P.ties proto k }
-    requires unused { IsUnused (W.shown w) }
-{
-    let (socket, mut list) = opened(rt, alloc, proto, 2, 1);
-    let mut first = next(rt, alloc, &socket, &mut list);
-    is_ok(rt, first.attach(rt, &socket, w));
-    begun(rt, first.begin_recv(rt, &socket, Ctx(0), None));
-    first.serve(rt, &socket);
-    holds(rt, is_received(first.collect(rt, &socket), b"a"));
-    begun(rt, first.begin_recv(rt, &socket, Ctx(0), None));
-    first.serve(rt, &socket);
-    holds(rt, is_received(first.collect(rt, &socket), b"b"));
-    first.serve(rt, &socket);
-    match first.take_ended(rt, &socket) {
-        Some(gone) => same(rt, gone.why, Why::Ended),
-        None => panic!(rt; "the pipe has not ended"),
-    }
-    give_back(rt, &socket, &mut list, first);
-    finish(rt, alloc, socket, list);
-}
-
-// Frames come in the order in which they were put, and the pipe ends behind them.
-#[test]
-fn a_lane_gives_its_frames_in_order(rt: HostRuntime) {
-    let alloc = rt.alloc();
-    let (silent, _) = lane_of(&rt, alloc, 1);
-    let (mut input, output) = lane_of(&rt, alloc, 4);
-    put(&rt, alloc, &mut input, b"a");
-    put(&rt, alloc, &mut input, b"b");
-    put_end(&rt, &mut input);
-    receive_two(&rt, alloc, pull(&rt, alloc), over(silent, output));
-}
-
-// The wire has room for one message, which is then taken from the other end.
-fn send_three<P: Proto, W: Wire + Drop>(
-    rt: &(impl Wait + Abort),
-    alloc: Global,
-    proto: P,
-    w: W,
-    mut output: LaneOut,
-)
-    requires starts { (k : Kind) × Starts P.ties proto k }
-    requires unused { IsUnused (W.shown w) }
-{
-    let (socket, mut list) = opened(rt, alloc, proto, 4, 1);
-    let mut first = next(rt, alloc, &socket, &mut list);
-    is_ok(rt, first.attach(rt, &socket, w));
-    is_ok(rt, first.begin_send(rt, &socket, x(rt, alloc)));
-    is_ok(rt, first.begin_send(rt, &socket, x(rt, alloc)));
-    let Ok(last) = first.begin_send(rt, &socket, x(rt, alloc)) else {
-        panic!(rt; "no send began")
-    };
-    same(rt, first.poll(&socket, last), Polled::Pending);
-    holds(rt, matches!(output.take(rt), Taken::Message(_)));
-    holds(rt, matches!(first.wait(rt, &socket), Outcome::Sent));
-    give_back(rt, &socket, &mut list, first);
-    finish(rt, alloc, socket, list);
-}
-
-// A send that waits goes out as soon as the lane has room, with no other caller there.
-#[test]
-fn a_waiting_send_finds_room(rt: HostRuntime) {
-    let alloc = rt.alloc();
-    let (input, output) = lane_of(&rt, alloc, 1);
-    let (_, silent) = lane_of(&rt, alloc, 1);
-    send_three(&rt, alloc, push(&rt, alloc), over(input, silent), output);
-}
-
-// A wire over lanes that makes room by itself once it was full three times.
+// A wire over lanes. If it has the other end of the lane in which it puts, it makes room by itself once it was full
+// three times.
 #[derive(Drop)]
 struct LateWire {
     wire: LaneWire,
-    // The other end of the lane in which it puts.
-    other: LaneOut,
+    // The other end of the lane in which it puts, where the wire has it.
+    other: Option<LaneOut>,
     // How often it was full.
     fulls: u32,
 }
@@ -138,8 +59,10 @@ impl LateWire {
         ensures { self.new.wire ≡ self.old.wire }
     {
         self.fulls = self.fulls.saturating_add(1);
-        if self.fulls == 3 {
-            self.other.take(rt);
+        if self.fulls == 3
+            && let Some(other) = &mut self.other
+        {
+            other.take(rt);
         }
     }
 }
@@ -172,36 +95,118 @@ impl Wire for LateWire {
     }
 }
 
-// The wire has room for one message, and for one more once it was full three times.
-fn send_and_wait<P: Proto, W: Wire + Drop>(rt: &(impl Wait + Abort), alloc: Global, proto: P, w: W)
-    requires starts { (k : Kind) × Starts P.ties proto k }
-    requires unused { IsUnused (W.shown w) }
+// One wire, which puts into the one lane and takes from the other.
+fn over(
+    rt: &impl Abort,
+    alloc: Global,
+    out: LaneIn,
+    inp: LaneOut,
+    other: Option<LaneOut>,
+) -> UnusedWires<LateWire>
+    requires { out.put ≡ [] }
 {
-    let (socket, mut list) = opened(rt, alloc, proto, 4, 1);
-    let mut first = next(rt, alloc, &socket, &mut list);
-    is_ok(rt, first.attach(rt, &socket, w));
-    is_ok(rt, first.begin_send(rt, &socket, x(rt, alloc)));
-    is_ok(rt, first.begin_send(rt, &socket, x(rt, alloc)));
-    let Ok(last) = first.begin_send(rt, &socket, x(rt, alloc)) else {
-        panic!(rt; "no send began")
+    let mut wires = UnusedWires::new(alloc);
+    let wire = LateWire {
+        wire: LaneWire::new(out, inp),
+        other,
+        fulls: 0,
     };
-    same(rt, first.poll(&socket, last), Polled::Pending);
-    holds(rt, matches!(first.wait(rt, &socket), Outcome::Sent));
-    same(rt, give_back(rt, &socket, &mut list, first).fulls, 3);
-    finish(rt, alloc, socket, list);
+    wires.add(rt, wire);
+    wires
+}
+
+// A pull over such a wire plays.
+fn pull_plays<R: Wait + Abort + Threads + Sync>(
+    rt: &R,
+    alloc: Global,
+    wires: UnusedWires<LateWire>,
+    marks: &ThreadMarks,
+    play: &str,
+) {
+    let wrong = wrong_line(rt, alloc, pull(rt, alloc), "2 1", wires, None, marks, play);
+    is_right(rt, wrong)
+}
+
+// A push over such a wire plays, of which this is the other end.
+fn push_plays<R: Wait + Abort + Threads + Sync>(
+    rt: &R,
+    alloc: Global,
+    wires: UnusedWires<LateWire>,
+    lane: Option<LaneOut>,
+    marks: &ThreadMarks,
+    play: &str,
+) {
+    let wrong = wrong_line(rt, alloc, push(rt, alloc), "4 1", wires, lane, marks, play);
+    is_right(rt, wrong)
+}
+
+// Frames come in the order in which they were put, and the pipe ends behind them.
+#[test]
+fn a_lane_gives_its_frames_in_order(rt: HostRuntime) {
+    let play = "
+        takes 1
+        1 attaches 1
+        1 receives 0 0.1
+        1 serves yes
+        1 collects received 'a
+        1 receives 0 0.2
+        1 serves yes
+        1 collects received 'b
+        1 serves yes
+        1 down 1 ended
+        1 gives_back 2 2 0 2 0 0
+        left 0
+    ";
+    let alloc = rt.alloc();
+    let (silent, _) = lane_of(&rt, alloc, 1);
+    let (mut input, output) = lane_of(&rt, alloc, 4);
+    put(&rt, alloc, &mut input, b"a");
+    put(&rt, alloc, &mut input, b"b");
+    put_end(&rt, &mut input);
+    let wires = over(&rt, alloc, silent, output, None);
+    pull_plays(&rt, alloc, wires, &unmarked(&rt, alloc), play);
+}
+
+// A send that waits goes out as soon as the lane has room, with no other caller there.
+#[test]
+fn a_waiting_send_finds_room(rt: HostRuntime) {
+    let play = "
+        takes 1
+        1 attaches 1
+        1 sends 'x 0.1
+        1 sends 'x 1.1
+        1 sends 'x 2.1
+        1 polls 2.1 pending
+        lane 'x
+        1 waits sent
+        1 gives_back 3 3 0 0 3 1
+        left 1
+    ";
+    let alloc = rt.alloc();
+    let (input, output) = lane_of(&rt, alloc, 1);
+    let (_, silent) = lane_of(&rt, alloc, 1);
+    let wires = over(&rt, alloc, input, silent, None);
+    push_plays(&rt, alloc, wires, Some(output), &unmarked(&rt, alloc), play);
 }
 
 // A send whose room comes while its caller waits goes out, with no other caller there: a wait takes turn after turn.
 // The wire is full as the send begins and in the first two turns of the wait.
 #[test]
 fn a_send_waits_for_room(rt: HostRuntime) {
+    let play = "
+        takes 1
+        1 attaches 1
+        1 sends 'x 0.1
+        1 sends 'x 1.1
+        1 sends 'x 2.1
+        1 polls 2.1 pending
+        1 waits sent
+        1 gives_back 3 3 0 0 3 3
+        left 1
+    ";
     let alloc = rt.alloc();
     let (input, output) = lane_of(&rt, alloc, 1);
     let (_, silent) = lane_of(&rt, alloc, 1);
-    let wire = LateWire {
-        wire: over(input, silent),
-        other: output,
-        fulls: 0,
-    };
-    send_and_wait(&rt, alloc, push(&rt, alloc), wire);
+    let wires = over(&rt, alloc, input, silent, Some(output));
+    push_plays(&rt, alloc, wires, None, &unmarked(&rt, alloc), play);
 }

@@ -1,5 +1,6 @@
-//! Tests of sockets over machines and wires in memory, with one caller and with several. A caller keeps its pass and
-//! what it has begun and did not collect, so that a test says only what it does.
+//! Tests of sockets over machines and wires in memory, with one caller and with several. Most are plays: texts, whose
+//! lines are the calls of callers with what they return. A caller keeps its pass and what it has begun and did not
+//! collect.
 #![tactic(auto)]
 
 #[cfg(test)]
@@ -13,11 +14,17 @@ mod held;
 #[cfg(test)]
 mod lanes;
 #[cfg(test)]
+mod line;
+#[cfg(test)]
+mod machines;
+#[cfg(test)]
 mod marks;
 #[cfg(test)]
 mod one;
 #[cfg(test)]
-mod parts;
+mod plays;
+#[cfg(test)]
+mod steps;
 #[cfg(test)]
 mod subs;
 #[cfg(test)]
@@ -27,4 +34,6 @@ mod threads;
 #[cfg(test)]
 mod two;
 #[cfg(test)]
-mod workers;
+mod wires;
+#[cfg(test)]
+mod words;

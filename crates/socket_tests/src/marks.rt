@@ -8,19 +8,62 @@ use std::thread;
 // How often one who waits for a mark looks at the most.
 const LOOKS: u32 = 1_000_000;
 
-/// Numbers that threads share, each 0 until it is set.
+/// A number that threads share, 0 until it is set.
+#[derive(Drop)]
+pub struct ThreadMark(AtomicU64);
+
+impl ThreadMark {
+    fn new() -> ThreadMark {
+        ThreadMark(AtomicU64::new(0))
+    }
+
+    /// Sets it.
+    pub fn set(&self, value: u64) {
+        self.0.store(value, Ordering::SeqCst)
+    }
+
+    /// Adds to it.
+    pub fn add(&self, more: u64) {
+        self.0.fetch_add(more, Ordering::SeqCst);
+    }
+
+    /// What it is now.
+    pub fn now(&self) -> u64 {
+        self.0.load(Ordering::SeqCst)
+    }
+
+    /// Looks for it to be set, yielding between two looks: what it was set to, 0 where that wasn't seen.
+    pub fn seen(&self) -> u64 {
+        for _ in 0..LOOKS {
+            let value = self.now();
+            if value != 0 {
+                return value;
+            }
+            thread::yield_now();
+        }
+        0
+    }
+}
+
+/// The marks of a test.
 #[derive(Drop)]
 pub struct ThreadMarks {
-    // 1 while a wire holds its turn up, 2 where it gave up.
-    held: AtomicU64,
-    // 1 once another caller was about to ask for a turn while one was held up.
-    entered: AtomicU64,
-    // 1 once the cancel has returned.
-    answered: AtomicU64,
-    // 1 once a wire was shut.
-    shut: AtomicU64,
-    // The generation of the receive that has begun, in slot 0.
-    begun: AtomicU64,
+    /// 1 while a wire holds its turn up, and once it has; 2 where it gave up.
+    pub held: ThreadMark,
+    /// 1 once another caller was about to ask for a turn while one was held up.
+    pub entered: ThreadMark,
+    /// 1 once the cancel has returned.
+    pub answered: ThreadMark,
+    /// 1 once a receive has begun.
+    pub begun: ThreadMark,
+    /// 1 once a wire was shut.
+    pub shut: ThreadMark,
+    /// How many messages were received, of those that are counted.
+    pub received: ThreadMark,
+    /// How many operations callers have ended, of those that are counted.
+    pub ended: ThreadMark,
+    /// The number of a line that a thread found wrong.
+    pub wrong: ThreadMark,
 }
 
 /// No mark is set.
@@ -28,11 +71,14 @@ pub fn unmarked(rt: &impl Abort, alloc: Global) -> Arc<ThreadMarks> {
     match Arc::new(
         alloc,
         ThreadMarks {
-            held: AtomicU64::new(0),
-            entered: AtomicU64::new(0),
-            answered: AtomicU64::new(0),
-            shut: AtomicU64::new(0),
-            begun: AtomicU64::new(0),
+            held: ThreadMark::new(),
+            entered: ThreadMark::new(),
+            answered: ThreadMark::new(),
+            begun: ThreadMark::new(),
+            shut: ThreadMark::new(),
+            received: ThreadMark::new(),
+            ended: ThreadMark::new(),
+            wrong: ThreadMark::new(),
         },
     ) {
         Ok(marks) => marks,
@@ -48,69 +94,23 @@ pub fn shared(rt: &impl Abort, marks: &Arc<ThreadMarks>) -> Arc<ThreadMarks> {
     }
 }
 
-// Looks for the mark, yielding between two looks: what it was set to, 0 where that wasn't seen.
-fn seen(mark: &AtomicU64) -> u64 {
-    for _ in 0..LOOKS {
-        let value = mark.load(Ordering::SeqCst);
-        if value != 0 {
-            return value;
-        }
-        thread::yield_now();
-    }
-    0
-}
-
 impl ThreadMarks {
     /// Holds up until the cancel has returned.
     pub fn hold(&self) {
-        self.held.store(1, Ordering::SeqCst);
-        if seen(&self.answered) == 0 {
-            self.held.store(2, Ordering::SeqCst);
+        self.held.set(1);
+        if self.answered.seen() == 0 {
+            self.held.set(2);
         }
     }
 
-    /// Looks for a turn to be held up. Whether it is.
-    pub fn is_held(&self) -> bool {
-        seen(&self.held) == 1
-    }
-
-    /// Whether a turn was held up, until the cancel had returned.
-    pub fn was_held(&self) -> bool {
-        self.held.load(Ordering::SeqCst) == 1
-    }
-
-    /// A caller is about to ask for a turn.
-    pub fn enter(&self) {
-        self.entered.store(1, Ordering::SeqCst)
-    }
-
-    /// Looks for a caller to be about to ask for a turn. Whether one is.
-    pub fn is_entered(&self) -> bool {
-        seen(&self.entered) == 1
-    }
-
-    /// The cancel has returned.
-    pub fn returned(&self) {
-        self.answered.store(1, Ordering::SeqCst)
-    }
-
-    /// A wire was shut.
-    pub fn shut(&self) {
-        self.shut.store(1, Ordering::SeqCst)
-    }
-
-    /// Whether a wire was shut.
-    pub fn was_shut(&self) -> bool {
-        self.shut.load(Ordering::SeqCst) == 1
-    }
-
-    /// A receive of this generation has begun.
-    pub fn begin(&self, generation: u64) {
-        self.begun.store(generation, Ordering::SeqCst)
-    }
-
-    /// Looks for a receive to have begun: its generation, 0 where that wasn't seen.
-    pub fn begun(&self) -> u64 {
-        seen(&self.begun)
+    /// The mark that callers set and look for by this name.
+    pub fn named(&self, name: &str) -> Option<&ThreadMark> {
+        match name {
+            "held" => Some(&self.held),
+            "entered" => Some(&self.entered),
+            "answered" => Some(&self.answered),
+            "begun" => Some(&self.begun),
+            _ => None,
+        }
     }
 }

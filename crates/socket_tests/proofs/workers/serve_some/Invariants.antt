@@ -1,6 +1,0 @@
-use Rattle.std.proofs.Common.{[]}
-use Rattle.socket_tests.specs.Calls.{Calls}
-use Rattle.socket_tests.proofs.workers.serve_some.Given as goal
-
-abbrev pub invariant-loop : goal.invariant-loop
-invariant-loop g l = record { calls : Calls l.socket l.pass [] }

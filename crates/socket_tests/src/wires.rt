@@ -1,0 +1,57 @@
+//! The wires of a play.
+ghost use Rattle.std.specs.Prelude.{◌≡◌, IfSome};
+ghost use Rattle.core_parts.specs.Wires.{IsUnused};
+
+use sp_msg::Wire;
+use std::alloc::Global;
+use std::marker::Model;
+use std::process::Abort;
+
+/// Wires that were not used yet, in the order in which they become pipes.
+#[derive(Drop)]
+pub struct UnusedWires<W: Wire> {
+    left: Vec<W>,
+}
+
+// Contracts see how many they are.
+impl<W: Wire> Model for UnusedWires<W> {
+    ghost use Rattle.std.specs.Prelude.{ℕ, length};
+    ghost use Rattle.aio_word.specs.Views.{Each};
+    ghost use Rattle.core_parts.specs.Wires.{IsUnused};
+
+    ghost Value = { ℕ };
+
+    ghost view = { λ u. length u.left.items };
+
+    ghost invariant = { λ u. Each (λ w. IsUnused (W.shown w)) u.left.items };
+}
+
+impl<W: Wire> UnusedWires<W> {
+    /// None.
+    pub fn new(alloc: Global) -> UnusedWires<W> {
+        UnusedWires {
+            left: Vec::new(alloc),
+        }
+    }
+
+    /// One more, the last one.
+    pub fn add(&mut self, rt: &impl Abort, wire: W)
+        requires { IsUnused (W.shown wire) }
+    {
+        match self.left.push(wire) {
+            Ok(()) => (),
+            Err(_) => panic!(rt; "no memory for a wire"),
+        }
+    }
+
+    /// The first one.
+    pub fn take(&mut self) -> Option<W>
+        ensures { IfSome result (λ w. IsUnused (W.shown w)) }
+    {
+        if self.left.is_empty() {
+            None
+        } else {
+            Some(self.left.remove(0))
+        }
+    }
+}
