@@ -1,6 +1,6 @@
 //! What words say, as far as a complaint speaks of it. The words are right, or the beginning of words that are.
 
-/// An option: its name, its value, and the place of the word that its value stands in.
+/// An option (nngcat(1)): its name, its value, and the place of the word that its value stands in.
 #[derive(Clone, Copy)]
 pub struct Said<'a> {
     /// The option's name, with its dashes.
