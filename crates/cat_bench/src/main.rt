@@ -4,23 +4,24 @@
 
 mod texts;
 
+use bench_base::timing::{now, since};
 use cat_run::{Status, run};
 use sp_base::{Bytes, NoMemory};
 use sp_fakes::{LinkStep, MemFiles, MemLink, MemNet, MemPace, MemSink};
 use std::alloc::Global;
-use std::io;
+use std::io::{self, Eprint, Print};
 use std::sync::Wait;
 use std::thread::Threads;
-use std::time::{Clock, Instant};
-
-/// The sizes of bodies in bytes, and how many messages of each size go through.
-const RUNS: [(usize, u32); 3] = [(16, 20_000), (1_024, 5_000), (65_536, 100)];
+use std::time::Clock;
 
 /// How many turns a run has at most.
 const TURNS: u64 = 1_000_000;
 
+/// The option before the body that a push sends.
+const DATA: &str = "--data=";
+
 /// What a run came to.
-#[derive(Clone, Copy, Debug)]
+#[derive(Clone, Copy)]
 struct MeasuredRun {
     status: Status,
     printed: usize,
@@ -38,20 +39,24 @@ fn text_of(alloc: Global, number: u8, body: &[u8], count: u32) -> Result<Vec<u8>
     Ok(text)
 }
 
-// Runs the words over one link that brings this text.
-fn over<R: AllocGlobal + Wait + Threads + Sync>(
-    rt: &R,
-    words: &[String],
-    text: Vec<u8>,
-) -> Result<MeasuredRun, NoMemory> {
-    let alloc = rt.alloc();
+// A net over which one link comes, which brings this text.
+fn net_of(alloc: Global, text: Vec<u8>) -> Result<MemNet, NoMemory> {
     let mut script = Vec::new(alloc);
     script.push(LinkStep::Bytes(Bytes::from_vec(text)))?;
     let mut links = Vec::new(alloc);
     links.push(MemLink::new(alloc, script, 65_536, Vec::new(alloc)))?;
     let mut incoming = Vec::new(alloc);
     incoming.push(links)?;
-    let mut net = MemNet::new(alloc, incoming, Vec::new(alloc), Vec::new(alloc))?;
+    MemNet::new(alloc, incoming, Vec::new(alloc), Vec::new(alloc))
+}
+
+// Runs the words over the net.
+fn over<R: AllocGlobal + Wait + Threads + Sync>(
+    rt: &R,
+    words: &[String],
+    mut net: MemNet,
+) -> MeasuredRun {
+    let alloc = rt.alloc();
     let mut files = MemFiles::new(alloc, Vec::new(alloc), Vec::new(alloc));
     let mut pace = MemPace::new(TURNS, 1);
     let mut out = MemSink::new(alloc, Vec::new(alloc));
@@ -60,103 +65,100 @@ fn over<R: AllocGlobal + Wait + Threads + Sync>(
         Some(link) => link.written().len(),
         None => 0,
     };
-    Ok(MeasuredRun {
+    MeasuredRun {
         status: end.status,
         printed: out.text().len(),
         written,
         left: pace.left(),
-    })
+    }
 }
 
-// The words of a role, what it has behind its address, and how many messages it is to count.
-fn words(
-    alloc: Global,
-    role: &str,
-    option: &str,
-    value: &[u8],
-    count: u32,
-) -> Result<Vec<String>, NoMemory> {
+// The words of a line.
+fn words_of(alloc: Global, line: &str) -> Result<Vec<String>, NoMemory> {
     let mut words = Vec::new(alloc);
-    words.push(String::from_str(alloc, role)?)?;
-    words.push(String::from_str(alloc, "--listen=tcp://127.0.0.1:5555")?)?;
-    let mut text = String::from_str(alloc, option)?;
-    for byte in value {
-        text.push(*byte as char)?;
+    for word in line.split(' ') {
+        words.push(String::from_str(alloc, word)?)?;
     }
-    words.push(text)?;
-    words.push(format!(in alloc; "--count={count}")?)?;
     Ok(words)
 }
 
-// A pull that prints so many messages, raw.
-fn pull<R: AllocGlobal + Wait + Threads + Sync>(
+// A role with this option sends or prints so many messages, over one link with these frames of a peer with this number.
+// Says what the run came to, and how fast it was. Whether it could.
+fn measure<R: AllocGlobal + Clock + Eprint + Print + Sync + Threads + Wait>(
     rt: &R,
+    role: &str,
+    option: &str,
+    size: u32,
+    count: u32,
+    number: u8,
     body: &[u8],
-    count: u32,
-) -> Result<MeasuredRun, NoMemory> {
-    let words = words(rt.alloc(), "--pull", "--raw", &[], count)?;
-    let text = text_of(rt.alloc(), 0x50, body, count)?;
-    over(rt, &words, text)
-}
-
-// A push that sends so many messages.
-fn push<R: AllocGlobal + Wait + Threads + Sync>(
-    rt: &R,
-    body: &[u8],
-    count: u32,
-) -> Result<MeasuredRun, NoMemory> {
-    let words = words(rt.alloc(), "--push", "--data=", body, count)?;
-    let text = text_of(rt.alloc(), 0x51, &[], 0)?;
-    over(rt, &words, text)
-}
-
-// Says what a run came to, and how fast it was.
-fn tell(
-    rt: &HostRuntime,
-    name: &str,
-    size: usize,
-    count: u32,
-    ran: MeasuredRun,
-    start: Instant,
-) -> io::Result<()> {
-    let micros = start.elapsed(rt)?.as_micros().max(1);
-    let rate = u128::from(count) * 1_000_000 / micros;
-    println!(rt;
-        "{name} {size}: {:?}, {} bytes printed, {} written",
-        ran.status, ran.printed, ran.written
+    frames: u32,
+) -> Result<bool, NoMemory> {
+    let alloc = rt.alloc();
+    let start = now(rt);
+    let line = format!(in alloc;
+        "--{role} --listen=tcp://127.0.0.1:5555 {option} --count={count}"
     )?;
-    eprintln!(rt;
-        "{name} {size}: {rate} messages/s, {} turns",
-        TURNS.saturating_sub(ran.left)
+    let words = words_of(alloc, &line)?;
+    let net = net_of(alloc, text_of(alloc, number, body, frames)?)?;
+    let ran = over(rt, &words, net);
+    let micros = (since(rt, start) / 1_000).max(1);
+    let rate = u128::from(count) * 1_000_000 / micros;
+    let printed = println!(rt;
+        "{role} {size}: {:?}, {} bytes printed, {} written",
+        ran.status, ran.printed, ran.written
+    );
+    let turns = TURNS.saturating_sub(ran.left);
+    Ok(printed.is_ok() && eprintln!(rt; "{role} {size}: {rate} messages/s, {turns} turns").is_ok())
+}
+
+// The option for a body of so many bytes.
+fn data_of(alloc: Global, size: u32) -> Result<String, NoMemory> {
+    let mut option = String::from_str(alloc, DATA)?;
+    for _ in 0..size {
+        option.push('x')?;
+    }
+    Ok(option)
+}
+
+// A pull that prints so many messages of this size, raw, and a push that sends them. Whether it could.
+fn both<R: AllocGlobal + Clock + Eprint + Print + Sync + Threads + Wait>(
+    rt: &R,
+    size: u32,
+    count: u32,
+) -> Result<bool, NoMemory> {
+    let data = data_of(rt.alloc(), size)?;
+    let Some(body) = data.strip_prefix(DATA) else {
+        return Ok(false);
+    };
+    let pulled = measure(
+        rt,
+        "pull",
+        "--raw",
+        size,
+        count,
+        0x50,
+        body.as_bytes(),
+        count,
+    )?;
+    Ok(pulled && measure(rt, "push", &data, size, count, 0x51, &[], 0)?)
+}
+
+// The runs, and then the prints. Whether it could.
+fn all<R: AllocGlobal + Clock + Eprint + Print + Sync + Threads + Wait>(
+    rt: &R,
+) -> Result<bool, NoMemory> {
+    Ok(
+        both(rt, 16, 20_000)?
+            && both(rt, 1_024, 5_000)?
+            && both(rt, 65_536, 100)?
+            && texts::bench(rt)?,
     )
 }
 
-fn bench<R: AllocGlobal + Wait + Threads + Sync>(rt: &HostRuntime, waits: &R) -> io::Result<()> {
-    for (size, count) in RUNS {
-        let Ok(body) = body_of(rt.alloc(), size) else {
-            return Err(io::Error::from(io::ErrorKind::OutOfMemory));
-        };
-        let start = Instant::now(rt)?;
-        let Ok(ran) = pull(waits, &body, count) else {
-            return Err(io::Error::from(io::ErrorKind::OutOfMemory));
-        };
-        tell(rt, "pull", size, count, ran, start)?;
-        let start = Instant::now(rt)?;
-        let Ok(ran) = push(waits, &body, count) else {
-            return Err(io::Error::from(io::ErrorKind::OutOfMemory));
-        };
-        tell(rt, "push", size, count, ran, start)?;
-    }
-    Ok(())
-}
-
-fn body_of(alloc: Global, size: usize) -> Result<Vec<u8>, NoMemory> {
-    let mut body = Vec::new(alloc);
-    body.resize(size, b'x')?;
-    Ok(body)
-}
-
 fn main(rt: HostRuntime) -> io::Result<()> {
-    bench(&rt, &rt)?;
-    texts::bench(&rt)
+    match all(&rt) {
+        Ok(true) => Ok(()),
+        _ => Err(io::Error::from(io::ErrorKind::OutOfMemory)),
+    }
 }

@@ -1,24 +1,17 @@
 //! How fast bodies are printed in each format, beside a plain loop over their bytes.
 
+use bench_base::timing::{now, since};
 use cat_text::{Format, print};
 use sp_base::{Bytes, NoMemory};
 use std::alloc::Global;
-use std::io;
-use std::time::Instant;
+use std::io::{Eprint, Print};
+use std::time::Clock;
 
 /// The size of a body in bytes.
 const SIZE: usize = 1_048_576;
 
 /// How often each is measured; the least counts.
 const TIMES: u32 = 30;
-
-const FORMATS: [(&str, Format); 5] = [
-    ("raw", Format::Raw),
-    ("ascii", Format::Ascii),
-    ("quoted", Format::Quoted),
-    ("hex", Format::Hex),
-    ("msgpack", Format::Msgpack),
-];
 
 // Bytes that look random, so that each byte is as likely as any other (a linear congruence).
 fn body_of(alloc: Global) -> Result<Vec<u8>, NoMemory> {
@@ -91,54 +84,84 @@ fn plain_loop(out: &mut Vec<u8>, format: Format, body: &[u8]) -> Result<(), NoMe
     Ok(())
 }
 
-fn no_memory() -> io::Error {
-    io::Error::from(io::ErrorKind::OutOfMemory)
-}
-
 // The microseconds of a plain loop.
-fn time_loop(rt: &HostRuntime, format: Format, body: &[u8]) -> io::Result<u128> {
+fn time_loop<R: AllocGlobal + Clock>(
+    rt: &R,
+    format: Format,
+    body: &[u8],
+) -> Result<u128, NoMemory> {
     let mut least = u128::MAX;
     let mut out: Vec<u8> = Vec::new(rt.alloc());
     for _ in 0..TIMES {
         out.clear();
-        let start = Instant::now(rt)?;
-        plain_loop(&mut out, format, body).map_err(|_| no_memory())?;
-        least = least.min(start.elapsed(rt)?.as_micros());
+        let start = now(rt);
+        plain_loop(&mut out, format, body)?;
+        least = least.min(since(rt, start) / 1_000);
     }
     Ok(least)
 }
 
-// The microseconds of a print in the format, into a buffer that is used again, and how many bytes it puts.
-fn time_print(rt: &HostRuntime, format: Format, body: &[u8]) -> io::Result<(u128, usize)> {
-    let mut least = u128::MAX;
+/// How long prints in a format took, and how many bytes each of them put.
+#[derive(Clone, Copy)]
+struct Printed {
+    micros: u128,
+    len: usize,
+}
+
+// The least of prints into a buffer that is used again.
+fn time_print<R: AllocGlobal + Clock>(
+    rt: &R,
+    format: Format,
+    body: &[u8],
+) -> Result<Printed, NoMemory> {
+    let mut micros = u128::MAX;
     let mut text: Vec<u8> = Vec::new(rt.alloc());
-    let mut len: usize = 0;
     for _ in 0..TIMES {
         text.clear();
         let mut out = Bytes::from_vec(text);
-        let start = Instant::now(rt)?;
-        print(rt.alloc(), format, body, &mut out).map_err(|_| no_memory())?;
-        least = least.min(start.elapsed(rt)?.as_micros());
+        let start = now(rt);
+        print(rt.alloc(), format, body, &mut out)?;
+        micros = micros.min(since(rt, start) / 1_000);
         text = out.into_vec();
-        len = text.len();
     }
-    Ok((least, len))
+    let len = text.len();
+    Ok(Printed { micros, len })
 }
 
-fn compare(rt: &HostRuntime, what: &str, body: &[u8]) -> io::Result<()> {
-    for (name, format) in FORMATS {
-        let plain = time_loop(rt, format, body)?;
-        let (took, len) = time_print(rt, format, body)?;
-        println!(rt; "print {name}, {what}: {len} bytes")?;
-        eprintln!(rt; "print {name}, {what}: {took} us, a plain loop {plain} us")?;
-    }
-    Ok(())
+// Prints how long the text of a format is, and to standard error how long it took. Whether it could.
+fn compare<R: AllocGlobal + Clock + Eprint + Print>(
+    rt: &R,
+    name: &str,
+    format: Format,
+    what: &str,
+    body: &[u8],
+) -> Result<bool, NoMemory> {
+    let plain = time_loop(rt, format, body)?;
+    let Printed { micros, len } = time_print(rt, format, body)?;
+    Ok(
+        println!(rt; "print {name}, {what}: {len} bytes").is_ok()
+            && eprintln!(rt; "print {name}, {what}: {micros} us, a plain loop {plain} us").is_ok(),
+    )
 }
 
-/// Prints how long each text is, and to standard error how long it took.
-pub fn bench(rt: &HostRuntime) -> io::Result<()> {
-    let body = body_of(rt.alloc()).map_err(|_| no_memory())?;
-    compare(rt, "any bytes", &body)?;
-    let body = letters_of(rt.alloc()).map_err(|_| no_memory())?;
-    compare(rt, "letters", &body)
+// The same of each format.
+fn compare_all<R: AllocGlobal + Clock + Eprint + Print>(
+    rt: &R,
+    what: &str,
+    body: &[u8],
+) -> Result<bool, NoMemory> {
+    Ok(
+        compare(rt, "raw", Format::Raw, what, body)?
+            && compare(rt, "ascii", Format::Ascii, what, body)?
+            && compare(rt, "quoted", Format::Quoted, what, body)?
+            && compare(rt, "hex", Format::Hex, what, body)?
+            && compare(rt, "msgpack", Format::Msgpack, what, body)?,
+    )
+}
+
+/// Bodies of any bytes, and of letters alone. Whether it could.
+pub fn bench<R: AllocGlobal + Clock + Eprint + Print>(rt: &R) -> Result<bool, NoMemory> {
+    let any = body_of(rt.alloc())?;
+    let letters = letters_of(rt.alloc())?;
+    Ok(compare_all(rt, "any bytes", &any)? && compare_all(rt, "letters", &letters)?)
 }

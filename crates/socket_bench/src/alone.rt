@@ -65,7 +65,7 @@ fn once_alone<P: Proto, W: Wire, R: Wait>(rt: &R, core: &mut Core<P, W>, work: W
     requires { IsAlone P.ties P.room W.shown core.old }
     ensures { IsAlone P.ties P.room W.shown core.new }
 {
-    if work == Work::Now {
+    if matches!(work, Work::Now) {
         serve_alone(rt, core);
         return receive_alone(rt, core);
     }

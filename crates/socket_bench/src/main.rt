@@ -5,147 +5,143 @@
 
 mod alone;
 mod callers;
-mod timing;
+mod makers;
 mod work;
 
-ghost use Rattle.std.specs.Prelude.{IfOk};
-ghost use Rattle.core_parts.specs.Wires.{IsUnused};
-
 use alone::{attach_alone, core_over, end_alone, many_alone};
+use bench_base::timing::{now, since};
 use callers::{attach, do_all, end, let_go, opened};
+use makers::{ScriptedWire, SocketMachine, script};
 use proto_pipeline::Pull;
-use sp_base::{Bytes, NoMemory, Role};
-use sp_fakes::{MemWire, WireStep};
-use sp_socket::Options;
-use std::alloc::Global;
+use sp_base::NoMemory;
+use sp_fakes::MemWire;
 use std::env;
 use std::io::{self, Eprint, Print};
 use std::sync::Wait;
 use std::sync::atomic::{AtomicU64, Ordering};
 use std::thread::Threads;
 use std::time::Clock;
-use timing::{Ran, nanos_since, now};
 use work::Work;
 
 /// How many of each there are, of all callers together, where no word says it. Four share them.
 const TIMES: u32 = 4_000;
 
-// A wire that gives so many frames of one byte.
-fn giving(alloc: Global, frames: u32) -> Result<MemWire, NoMemory>
-    ensures { IfOk result (λ w. IsUnused w.wire) }
-{
-    Ok(MemWire::new(alloc, script(alloc, frames)?, 0, Vec::new(alloc)))
-}
+/// What is measured: the work, by a core alone or by so many callers of a socket. What is printed begins with the line.
+const ROWS: &str = "Turns by a core alone
+Turns by 1
+Turns by 2
+Turns by 4
+Now by a core alone
+Now by 1
+Cancels by 1
+Cancels by 2
+Cancels by 4
+Receives by 1
+Receives by 2
+Receives by 4
+Races by 1
+Races by 2
+Races by 4";
 
-fn script(alloc: Global, frames: u32) -> Result<Vec<WireStep>, NoMemory> {
-    let mut steps = Vec::new(alloc);
-    for _ in 0..frames {
-        steps.push(WireStep::Bytes(Bytes::from_slice(alloc, b"x")?))?;
-    }
-    Ok(steps)
-}
-
-// How many frames the wire has: one for each that is received.
-fn frames_for(work: Work, times: u32) -> u32 {
-    match work {
-        Work::Turns | Work::Cancels => 0,
-        _ => times,
-    }
+// What came of a run: how often it was done, in how many nanoseconds, and whether its wire was attached.
+#[derive(Clone, Copy)]
+struct Ran {
+    attached: bool,
+    done: u64,
+    nanos: u128,
 }
 
 // Does the work so many times by so many callers of a socket, over a wire that has a frame for each receive.
-fn run<R: Threads + Wait + Clock + Sync>(
-    rt: &R,
-    alloc: Global,
-    work: Work,
-    times: u32,
-    callers: u32,
-) -> Result<Ran, NoMemory> {
-    let wire = giving(alloc, frames_for(work, times))?;
-    let machine = Pull::new(alloc, Options::usual(Role::Pull, 0), false)?;
-    let (socket, mut list) = opened(alloc, machine)?;
-    let attached = attach(rt, &socket, &mut list, wire);
+fn run<
+    P: SocketMachine + Send,
+    W: ScriptedWire + Send,
+    R: AllocGlobal + Threads + Wait + Clock + Sync,
+>(rt: &R, work: Work, times: u32, callers: u32) -> Result<Ran, NoMemory> {
+    let alloc = rt.alloc();
+    let script = script(alloc, work.frames(times))?;
+    let (socket, mut list) = opened(alloc, P::made(alloc)?)?;
+    let attached = attach(rt, &socket, &mut list, W::scripted(alloc, script));
     let done = AtomicU64::new(0);
     let each = times / callers.max(1);
     let start = now(rt);
     do_all(rt, alloc, &socket, &mut list, callers, work, each, &done);
-    let nanos = nanos_since(rt, start);
+    let nanos = since(rt, start);
     end(rt, socket, list);
-    ran(attached, done.load(Ordering::SeqCst), nanos)
+    Ok(Ran {
+        attached,
+        done: done.load(Ordering::SeqCst),
+        nanos,
+    })
 }
 
 // Does the work so many times by a core alone.
-fn run_alone<R: Wait + Clock>(
+fn run_alone<P: SocketMachine, W: ScriptedWire, R: AllocGlobal + Wait + Clock>(
     rt: &R,
-    alloc: Global,
     work: Work,
     times: u32,
 ) -> Result<Ran, NoMemory> {
-    let wire = giving(alloc, frames_for(work, times))?;
-    let machine = Pull::new(alloc, Options::usual(Role::Pull, 0), false)?;
-    let mut core = core_over(alloc, machine)?;
-    let attached = attach_alone(rt, &mut core, wire);
+    let alloc = rt.alloc();
+    let script = script(alloc, work.frames(times))?;
+    let mut core = core_over(alloc, P::made(alloc)?)?;
+    let attached = attach_alone(rt, &mut core, W::scripted(alloc, script));
     let start = now(rt);
     let done = many_alone(rt, &mut core, work, times);
-    let nanos = nanos_since(rt, start);
+    let nanos = since(rt, start);
     let_go(rt, end_alone(rt, core));
-    ran(attached, u64::from(done), nanos)
+    Ok(Ran {
+        attached,
+        done: u64::from(done),
+        nanos,
+    })
 }
 
-// What came of a run, where its wire was attached.
-fn ran(attached: bool, done: u64, nanos: u128) -> Result<Ran, NoMemory> {
-    if attached {
-        Ok(Ran { done, nanos })
-    } else {
-        Err(NoMemory)
+// Says how often it was done, and on standard error how long each took. Whether it could.
+fn report<R: Print + Eprint>(rt: &R, row: &str, ran: Ran) -> bool {
+    let nanos = ran.nanos / u128::from(ran.done.max(1));
+    ran.attached
+        && println!(rt; "{row}: {}", ran.done).is_ok()
+        && eprintln!(rt; "{row}: {nanos} ns each").is_ok()
+}
+
+// Measures a row, if it is one. Whether there was memory, and it could be printed.
+fn is_measured<
+    P: SocketMachine + Send,
+    W: ScriptedWire + Send,
+    R: AllocGlobal + Threads + Wait + Clock + Print + Eprint + Sync,
+>(rt: &R, row: &str, times: u32) -> bool {
+    let Some((work, by)) = row.split_once(" by ") else {
+        return false;
+    };
+    let Some(work) = Work::named(work) else {
+        return false;
+    };
+    let ran = match by {
+        "a core alone" => run_alone::<P, W, R>(rt, work, times),
+        _ => {
+            let Ok(callers) = by.parse::<u32>() else {
+                return false;
+            };
+            run::<P, W, R>(rt, work, times, callers)
+        }
+    };
+    match ran {
+        Ok(ran) => report(rt, row, ran),
+        Err(_) => false,
     }
 }
 
-// Says how often it was done, and on standard error how long each took.
-fn report<R: Print + Eprint>(
-    rt: &R,
-    work: Work,
-    by: &str,
-    ran: Result<Ran, NoMemory>,
-) -> io::Result<()> {
-    let Ok(ran) = ran else {
-        return Err(io::Error::from(io::ErrorKind::OutOfMemory));
-    };
-    println!(rt; "{work:?} by {by}: {}", ran.done)?;
-    eprintln!(rt; "{work:?} by {by}: {} ns each", ran.nanos_each())
-}
-
-// By a core alone, and by one caller of a socket.
-fn beside_core<R: Threads + Wait + Clock + Print + Eprint + Sync>(
-    rt: &R,
-    alloc: Global,
-    work: Work,
-    times: u32,
-) -> io::Result<()> {
-    report(rt, work, "a core alone", run_alone(rt, alloc, work, times))?;
-    report(rt, work, "1", run(rt, alloc, work, times, 1))
-}
-
-// By two callers and by four.
-fn by_several<R: Threads + Wait + Clock + Print + Eprint + Sync>(
-    rt: &R,
-    alloc: Global,
-    work: Work,
-    times: u32,
-) -> io::Result<()> {
-    report(rt, work, "2", run(rt, alloc, work, times, 2))?;
-    report(rt, work, "4", run(rt, alloc, work, times, 4))
-}
-
-// By one caller, by two and by four.
-fn by_callers<R: Threads + Wait + Clock + Print + Eprint + Sync>(
-    rt: &R,
-    alloc: Global,
-    work: Work,
-    times: u32,
-) -> io::Result<()> {
-    report(rt, work, "1", run(rt, alloc, work, times, 1))?;
-    by_several(rt, alloc, work, times)
+// Measures all rows. Whether it could.
+fn all<
+    P: SocketMachine + Send,
+    W: ScriptedWire + Send,
+    R: AllocGlobal + Threads + Wait + Clock + Print + Eprint + Sync,
+>(rt: &R, times: u32) -> bool {
+    for row in ROWS.lines() {
+        if !is_measured::<P, W, R>(rt, row, times) {
+            return false;
+        }
+    }
+    true
 }
 
 // How many of each there are: the program's first word, or `TIMES`.
@@ -159,13 +155,18 @@ fn times_of(word: Option<String>) -> u32 {
     }
 }
 
+// Of pulls, over wires in memory.
+fn of_a_pull<R: AllocGlobal + Threads + Wait + Clock + Print + Eprint + Sync>(
+    rt: &R,
+    times: u32,
+) -> bool {
+    all::<Pull, MemWire, R>(rt, times)
+}
+
 fn main(rt: HostRuntime) -> io::Result<()> {
-    let alloc = rt.alloc();
     let times = times_of(env::args(&rt)?.skip(1).next());
-    beside_core(&rt, alloc, Work::Turns, times)?;
-    by_several(&rt, alloc, Work::Turns, times)?;
-    beside_core(&rt, alloc, Work::Now, times)?;
-    by_callers(&rt, alloc, Work::Cancels, times)?;
-    by_callers(&rt, alloc, Work::Receives, times)?;
-    by_callers(&rt, alloc, Work::Races, times)
+    if !of_a_pull(&rt, times) {
+        return Err(io::Error::from(io::ErrorKind::OutOfMemory));
+    }
+    Ok(())
 }

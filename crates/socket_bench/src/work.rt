@@ -13,7 +13,7 @@ use std::sync::atomic::{AtomicU64, Ordering};
 use std::thread::{self, Threads};
 
 /// What the callers do.
-#[derive(Clone, Copy, PartialEq, Eq, Debug)]
+#[derive(Clone, Copy)]
 pub enum Work {
     /// A turn that notes a link and no more.
     Turns,
@@ -25,6 +25,28 @@ pub enum Work {
     Races,
     /// The pipes are served, and what is kept is received at once: two turns. For one caller.
     Now,
+}
+
+impl Work {
+    /// The work of this name in rows.
+    pub fn named(name: &str) -> Option<Work> {
+        match name {
+            "Turns" => Some(Work::Turns),
+            "Cancels" => Some(Work::Cancels),
+            "Receives" => Some(Work::Receives),
+            "Races" => Some(Work::Races),
+            "Now" => Some(Work::Now),
+            _ => None,
+        }
+    }
+
+    /// How many frames its wire has: one for each that is received.
+    pub fn frames(self, times: u32) -> u32 {
+        match self {
+            Work::Turns | Work::Cancels => 0,
+            _ => times,
+        }
+    }
 }
 
 // Begins a receive, if there is a free slot.

@@ -5,20 +5,18 @@
 ghost use Rattle.std.specs.Prelude.{◌≡◌, true, IfOk};
 ghost use Rattle.wire_tests.specs.Untolds.{tube_view};
 
+use bench_base::timing::{now, since};
 use sp_base::NoMemory;
 use sp_msg::{Message, Room, Wire, WireFlush, WireIn};
 use sp_tcp::TcpWire;
 use std::alloc::Global;
-use std::io;
+use std::io::{self, Eprint, Print};
 use std::sync::Wait;
-use std::time::{Clock, Instant};
+use std::time::Clock;
 use wire_tests::Tube;
 
-/// The sizes of bodies in bytes, and how many messages of each size go through.
-const RUNS: [(usize, u32); 3] = [(16, 20_000), (1_024, 5_000), (65_536, 100)];
-
 /// What came of a run.
-#[derive(Clone, Copy, Debug)]
+#[derive(Clone, Copy)]
 struct WireRun {
     messages: u32,
     bytes: u64,
@@ -102,30 +100,35 @@ fn run<R: Wait>(
     }))
 }
 
-fn body_of(alloc: Global, size: usize) -> Result<Vec<u8>, NoMemory> {
-    let mut body = Vec::new(alloc);
+// Messages of so many bytes, of which so many go through. Whether all were written, and it could be printed.
+fn measure<R: AllocGlobal + Clock + Eprint + Print + Wait>(
+    rt: &R,
+    size: usize,
+    count: u32,
+) -> Result<bool, NoMemory> {
+    let mut body = Vec::new(rt.alloc());
     body.resize(size, 7)?;
-    Ok(body)
+    let start = now(rt);
+    let Some(ran) = run(rt.alloc(), rt, &body, count)? else {
+        return Ok(false);
+    };
+    let micros = (since(rt, start) / 1_000).max(1);
+    let messages = u128::from(ran.messages) * 1_000_000 / micros;
+    let bytes = u128::from(ran.bytes) * 1_000_000 / micros;
+    let printed = println!(rt;
+        "{size}: {} messages, {} bytes, {} writes",
+        ran.messages, ran.bytes, ran.writes
+    );
+    Ok(printed.is_ok() && eprintln!(rt; "{size}: {messages} messages/s, {bytes} bytes/s").is_ok())
+}
+
+fn all<R: AllocGlobal + Clock + Eprint + Print + Wait>(rt: &R) -> Result<bool, NoMemory> {
+    Ok(measure(rt, 16, 20_000)? && measure(rt, 1_024, 5_000)? && measure(rt, 65_536, 100)?)
 }
 
 fn main(rt: HostRuntime) -> io::Result<()> {
-    let alloc = rt.alloc();
-    for (size, count) in RUNS {
-        let Ok(body) = body_of(alloc, size) else {
-            return Err(io::Error::from(io::ErrorKind::OutOfMemory));
-        };
-        let start = Instant::now(&rt)?;
-        let Ok(Some(ran)) = run(alloc, &rt, &body, count) else {
-            return Err(io::Error::from(io::ErrorKind::OutOfMemory));
-        };
-        let micros = start.elapsed(&rt)?.as_micros().max(1);
-        let messages = u128::from(ran.messages) * 1_000_000 / micros;
-        let bytes = u128::from(ran.bytes) * 1_000_000 / micros;
-        println!(rt;
-            "{size}: {} messages, {} bytes, {} writes",
-            ran.messages, ran.bytes, ran.writes
-        )?;
-        eprintln!(rt; "{size}: {messages} messages/s, {bytes} bytes/s")?;
+    match all(&rt) {
+        Ok(true) => Ok(()),
+        _ => Err(io::Error::from(io::ErrorKind::OutOfMemory)),
     }
-    Ok(())
 }
