@@ -1,5 +1,5 @@
-//! What a test asks: it stops where a result is another one. Calls cost less to prove than the macros written out.
-ghost use Rattle.std.specs.Prelude.{◌≡◌, Ok, true};
+//! What a test asks: it stops where a result is another one.
+ghost use Rattle.std.specs.Prelude.{◌≡◌, Ok};
 
 use std::fmt::Debug;
 use std::process::Abort;
@@ -14,14 +14,14 @@ pub fn made<T, E: Debug + Drop>(rt: &impl Abort, returned: Result<T, E>) -> T
     }
 }
 
-/// Both are the same.
-pub fn same<T: PartialEq + Debug + Drop>(rt: &impl Abort, left: T, right: T) {
-    assert_eq!(rt; left, right);
+/// It holds.
+pub fn holds(rt: &impl Abort, it: bool) {
+    assert!(rt; it);
 }
 
-/// It holds.
-pub fn holds(rt: &impl Abort, it: bool)
-    ensures { it ≡ true }
-{
-    assert!(rt; it);
+/// No line is wrong.
+pub fn is_right(rt: &impl Abort, wrong: Option<usize>) {
+    if let Some(line) = wrong {
+        panic!(rt; "line {line}");
+    }
 }

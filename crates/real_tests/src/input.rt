@@ -1,11 +1,11 @@
 //! Standard input as the file `-`: one that ends, one that fails.
 
-use crate::checks::{holds, made};
-use cat_run::real::RealFiles;
-use sp_base::{Files, Whole};
+use crate::checks::made;
+use crate::files::files_give;
 use std::alloc::{Allocator, Global};
 use std::fs::{Metadata, OpenOptions};
 use std::io::{BufRead, Error, ErrorKind, Lines, Read, Result as IoResult};
+use std::process::Abort;
 use std::rt::Files as SystemFiles;
 
 /// Gives so many bytes, one at a read, and then its end or a fault.
@@ -121,59 +121,38 @@ impl<R: SystemFiles + Drop> SystemFiles for MachineFiles<R> {
     }
 }
 
+// What standard input gives that has so many bytes, and then fails or ends, and other files beside it.
+fn input_gives<R: SystemFiles + AllocGlobal + Abort + Clone + Drop>(
+    rt: &R,
+    left: u32,
+    fails: bool,
+    lines: &str,
+) {
+    let system = MachineFiles {
+        rt: made(rt, rt.clone()),
+        input: CountedInput { left, fails },
+    };
+    files_give(rt, system, lines);
+}
+
 #[test]
 fn an_empty_input_is_an_empty_file(rt: HostRuntime) {
-    let input = CountedInput {
-        left: 0,
-        fails: false,
-    };
-    let mut files = RealFiles::new(MachineFiles {
-        rt: made(&rt, rt.clone()),
-        input,
-    });
-    let whole = files.whole("-");
-    holds(
-        &rt,
-        matches!(&whole, Whole::Bytes(b) if b.as_slice().is_empty()),
-    );
+    input_gives(&rt, 0, false, "empty -");
 }
 
 #[test]
 fn an_input_gives_all_its_bytes(rt: HostRuntime) {
-    let input = CountedInput {
-        left: 20_000,
-        fails: false,
-    };
-    let mut files = RealFiles::new(MachineFiles {
-        rt: made(&rt, rt.clone()),
-        input,
-    });
-    let mut wanted = Vec::new(rt.alloc());
-    for gone in 0..20_000u32 {
-        made(&rt, wanted.push(((20_000 - gone) % 251) as u8));
-    }
-    let whole = files.whole("-");
-    holds(
-        &rt,
-        matches!(&whole, Whole::Bytes(b) if b.as_slice() == wanted.as_slice()),
-    );
+    input_gives(&rt, 20_000, false, "counted 20000 -");
 }
 
 // Also where bytes came before: a part of an input is no file.
 #[test]
 fn an_input_that_fails_is_a_fault(rt: HostRuntime) {
-    for left in [0u32, 1, 20_000] {
-        let input = CountedInput { left, fails: true };
-        let mut files = RealFiles::new(MachineFiles {
-            rt: made(&rt, rt.clone()),
-            input,
-        });
-        let whole = files.whole("-");
-        holds(&rt, matches!(&whole, Whole::Failed));
-        let other = files.whole("/dev/null");
-        holds(
-            &rt,
-            matches!(&other, Whole::Bytes(b) if b.as_slice().is_empty()),
-        );
-    }
+    let lines = "
+        fails -
+        empty /dev/null
+    ";
+    input_gives(&rt, 0, true, lines);
+    input_gives(&rt, 1, true, lines);
+    input_gives(&rt, 20_000, true, lines);
 }

@@ -1,12 +1,21 @@
-//! Tests of the real outside on this machine: its net, its pace, its output and its files, byte for byte.
+//! Tests of the real outside on this machine: its net, its pace, its output and its files, byte for byte. What of the
+//! net, the pace and the files is told stands in texts (`nets`, `files`).
 #![tactic(auto)]
 
 #[cfg(test)]
 mod adapters;
 #[cfg(test)]
+mod bytes;
+#[cfg(test)]
 mod checks;
 #[cfg(test)]
+mod files;
+#[cfg(test)]
 mod input;
+#[cfg(test)]
+mod nets;
+#[cfg(test)]
+mod outputs;
 #[cfg(test)]
 mod real;
 #[cfg(test)]

@@ -1,14 +1,16 @@
 //! Runs over WebSocket on the machine's sockets, byte for byte: the peer writes and hears plain bytes.
 
-use crate::checks::same;
+use crate::checks::{holds, made};
 use cat_run::real::{RealFiles, RealPace, TcpNet};
 use cat_run::{Status, run};
 use sp_base::{Pace, Paced};
 use sp_fakes::MemSink;
+use std::alloc::Global;
 use std::io::{Read, Write};
 use std::net::{IpAddr, Ipv4Addr, OpenListener, OpenStream, SocketAddr, TcpListener, TcpStream};
+use std::process::Abort;
+use std::rt::{Clock, Files as SystemFiles};
 use std::sync::Wait;
-use std::test::Fail;
 use std::thread::Threads;
 
 // The sample head of the standard, of a req that asks a rep.
@@ -63,18 +65,19 @@ fn hear<S: Read>(stream: &mut S, came: &mut Vec<u8>) {
     }
 }
 
-/// A peer over a socket of this machine: it says each text once so many bytes came in all.
+/// A peer over a socket of this machine: once so many bytes came in all it says a text at each turn.
 #[derive(Drop)]
-struct Peer<R: std::net::Net + Drop> {
+struct Peer<'a, R: std::net::Net + Drop> {
     rt: R,
     door: Door<R>,
     stream: Option<R::Stream>,
-    says: Vec<(usize, &'static [u8])>,
+    after: usize,
+    says: &'a [&'a [u8]],
     said: usize,
     came: Vec<u8>,
 }
 
-impl<R: std::net::Net + Drop> Peer<R> {
+impl<'a, R: std::net::Net + Drop> Peer<'a, R> {
     // Takes what came, and says the next text.
     fn turn(&mut self) {
         if self.stream.is_none() {
@@ -84,11 +87,10 @@ impl<R: std::net::Net + Drop> Peer<R> {
             return;
         };
         hear(stream, &mut self.came);
-        let Some(next) = self.says.get(self.said) else {
+        let Some(text) = self.says.get(self.said) else {
             return;
         };
-        let (after, text) = *next;
-        if self.came.len() >= after {
+        if self.came.len() >= self.after {
             let _ = stream.write_all(text);
             self.said = self.said.saturating_add(1);
         }
@@ -100,6 +102,7 @@ impl<R: std::net::Net + Drop> Peer<R> {
             rt: _,
             door: _,
             mut stream,
+            after: _,
             says: _,
             said: _,
             mut came,
@@ -115,12 +118,12 @@ impl<R: std::net::Net + Drop> Peer<R> {
 
 /// A pace with a peer that has its turn before each of the run's.
 #[derive(Drop)]
-struct Beside<P: Pace + Drop, R: std::net::Net + Drop> {
+struct Beside<'a, P: Pace + Drop, R: std::net::Net + Drop> {
     pace: P,
-    peer: Peer<R>,
+    peer: Peer<'a, R>,
 }
 
-impl<P: Pace + Drop, R: std::net::Net + Drop> Pace for Beside<P, R> {
+impl<'a, P: Pace + Drop, R: std::net::Net + Drop> Pace for Beside<'a, P, R> {
     ghost seen = { λ b. P.seen b.pace };
 
     fn turn(&mut self, moved: bool) -> Paced {
@@ -129,50 +132,64 @@ impl<P: Pace + Drop, R: std::net::Net + Drop> Pace for Beside<P, R> {
     }
 }
 
-/// What a run came to, and what its peer heard.
-#[derive(Drop)]
-struct PlayedRun {
-    status: Status,
-    printed: Vec<u8>,
-    heard: Vec<u8>,
+/// What a peer says and hears, and what the run prints.
+#[derive(Clone, Copy)]
+struct Talk<'a> {
+    /// How many bytes come before it says something.
+    after: usize,
+    says: &'a [&'a [u8]],
+    hears: &'a [u8],
+    prints: &'a [u8],
 }
 
-// Runs these words with such a peer.
-fn played<R: AllocGlobal + Wait + Threads + Sync>(
-    rt: &HostRuntime,
-    waits: &R,
-    texts: &[&str],
-    door: Door<HostRuntime>,
-    says: Vec<(usize, &'static [u8])>,
-) -> Result<PlayedRun, Fail> {
+// The words of a run, and its peer's talk. Whether the run was done and all was so; none where the net failed.
+fn is_so<
+    R: std::net::Net
+        + SystemFiles
+        + Input
+        + Clock
+        + AllocGlobal
+        + Abort
+        + Wait
+        + Threads
+        + Sync
+        + Clone
+        + Drop,
+>(rt: &R, text: &str, door: Door<R>, talk: Talk<'_>) -> Option<bool> {
     let alloc = rt.alloc();
-    let mut words = Vec::new(alloc);
-    for text in texts {
-        words.push(String::from_str(alloc, text)?)?;
-    }
-    let own = RealPace::new(rt.clone()?, rt, alloc)?;
-    let mut net = TcpNet::new(rt.clone()?, own.registry()?, alloc);
-    let mut files = RealFiles::new(rt.clone()?);
+    let words = words_of(rt, alloc, text);
+    let own = made(rt, RealPace::new(made(rt, rt.clone()), rt, alloc));
+    let mut net = TcpNet::new(made(rt, rt.clone()), made(rt, own.registry()), alloc);
+    let mut files = RealFiles::new(made(rt, rt.clone()));
     let mut out = MemSink::new(alloc, Vec::new(alloc));
-    let mut pace = Beside {
-        pace: own,
-        peer: Peer {
-            rt: rt.clone()?,
-            door,
-            stream: None,
-            says,
-            said: 0,
-            came: Vec::new(alloc),
-        },
+    let peer = Peer {
+        rt: made(rt, rt.clone()),
+        door,
+        stream: None,
+        after: talk.after,
+        says: talk.says,
+        said: 0,
+        came: Vec::new(alloc),
     };
-    let end = run(waits, &words, &mut net, &mut files, &mut pace, &mut out, 0);
+    let mut pace = Beside { pace: own, peer };
+    let end = run(rt, &words, &mut net, &mut files, &mut pace, &mut out, 0);
     drop(net);
     let Beside { pace: _, peer } = pace;
-    Ok(PlayedRun {
-        status: end.status,
-        printed: Vec::from_slice(alloc, out.text())?,
-        heard: peer.heard(),
-    })
+    let heard = peer.heard();
+    if end.status == Status::NetFault {
+        return None;
+    }
+    let done = end.status == Status::Done && out.text() == talk.prints;
+    Some(done && heard.as_slice() == talk.hears)
+}
+
+// The words between spaces.
+fn words_of(rt: &impl Abort, alloc: Global, text: &str) -> Vec<String> {
+    let mut words = Vec::new(alloc);
+    for word in text.split(' ') {
+        made(rt, words.push(made(rt, String::from_str(alloc, word))));
+    }
+    words
 }
 
 fn here(port: u16) -> SocketAddr {
@@ -180,74 +197,85 @@ fn here(port: u16) -> SocketAddr {
 }
 
 // A rep at this port; its peer sends the head in two pieces, the second one with the request behind it.
-fn rep_at<R: AllocGlobal + Wait + Threads + Sync>(
-    rt: &HostRuntime,
-    waits: &R,
-    port: u16,
-) -> Result<PlayedRun, Fail> {
-    let alloc = rt.alloc();
-    let address = format!(in alloc; "ws://127.0.0.1:{port}/")?;
+fn rep_answers<
+    R: std::net::Net
+        + SystemFiles
+        + Input
+        + Clock
+        + AllocGlobal
+        + Abort
+        + Wait
+        + Threads
+        + Sync
+        + Clone
+        + Drop,
+>(rt: &R, port: u16) -> Option<bool> {
+    let words = made(
+        rt,
+        format!(in rt.alloc();
+            "--rep --listen ws://127.0.0.1:{port}/ --data OK --ascii --count 1 --recv-timeout 20"
+        ),
+    );
     let (begun, rest) = HEAD.split_at(100.min(HEAD.len()));
-    let mut says = Vec::new(alloc);
-    says.push((0, begun))?;
-    says.push((0, rest))?;
-    says.push((0, REQUEST))?;
-    let words = [
-        "--rep",
-        "--listen",
-        address.as_str(),
-        "--data",
-        "OK",
-        "--ascii",
-        "--count",
-        "1",
-        "--recv-timeout",
-        "20",
-    ];
-    played(rt, waits, &words, Door::Calls(here(port)), says)
+    let talk = Talk {
+        after: 0,
+        says: &[begun, rest, REQUEST],
+        hears: REPLIED,
+        prints: b"q\n",
+    };
+    is_so(rt, &words, Door::Calls(here(port)), talk)
 }
 
 #[test]
-fn a_rep_answers_a_websocket_of_this_machine(rt: HostRuntime) -> Result<(), Fail> {
+fn a_rep_answers_a_websocket_of_this_machine(rt: HostRuntime) {
     for port in 28_275..28_305 {
-        let came = rep_at(&rt, &rt, port)?;
-        if came.status != Status::NetFault {
-            same(&rt, came.status, Status::Done);
-            same(&rt, came.printed.as_slice(), b"q\n".as_slice());
-            same(&rt, came.heard.as_slice(), REPLIED);
-            return Ok(());
+        if let Some(so) = rep_answers(&rt, port) {
+            holds(&rt, so);
+            return;
         }
     }
     assert!(rt; false, "no port is free");
-    Ok(())
 }
 
 #[test]
-fn a_pull_dials_a_websocket_of_this_machine(rt: HostRuntime) -> Result<(), Fail> {
-    let alloc = rt.alloc();
-    let listener = TcpListener::bind(&rt, here(0))?;
-    listener.set_nonblocking(true)?;
-    let port = listener.local_addr()?.port();
-    let address = format!(in alloc; "ws://127.0.0.1:{port}/")?;
-    let asks = format!(in alloc;
-        "GET / HTTP/1.1\r\nHost: 127.0.0.1:{port}\r\nUpgrade: websocket\r\nConnection: Upgrade\r\nSec-WebSocket-Key: FAV7fvdngU8aCO4RhLptMg==\r\nSec-WebSocket-Version: 13\r\nSec-WebSocket-Protocol: push.sp.nanomsg.org\r\n\r\n"
-    )?;
-    let mut says = Vec::new(alloc);
-    says.push((asks.len(), GRANTS))?;
-    says.push((asks.len(), b"\x82\x05hello".as_slice()))?;
-    let words = [
-        "--pull",
-        "--dial",
-        address.as_str(),
-        "--ascii",
-        "--count",
-        "1",
-        "--recv-timeout",
-        "20",
-    ];
-    let came = played(&rt, &rt, &words, Door::Waits(listener), says)?;
-    same(&rt, came.status, Status::Done);
-    same(&rt, came.printed.as_slice(), b"hello\n".as_slice());
-    same(&rt, came.heard.as_slice(), asks.as_bytes());
-    Ok(())
+fn a_pull_dials_a_websocket_of_this_machine(rt: HostRuntime) {
+    holds(&rt, pull_dials(&rt) == Some(true));
+}
+
+// A pull that dials; its peer takes what it asks, and sends a message.
+fn pull_dials<
+    R: std::net::Net
+        + SystemFiles
+        + Input
+        + Clock
+        + AllocGlobal
+        + Abort
+        + Wait
+        + Threads
+        + Sync
+        + Clone
+        + Drop,
+>(rt: &R) -> Option<bool> {
+    let listener = made(rt, TcpListener::bind(rt, here(0)));
+    made(rt, listener.set_nonblocking(true));
+    let port = made(rt, listener.local_addr()).port();
+    let words = made(
+        rt,
+        format!(in rt.alloc();
+            "--pull --dial ws://127.0.0.1:{port}/ --ascii --count 1 --recv-timeout 20"
+        ),
+    );
+    let asks = made(
+        rt,
+        format!(in rt.alloc();
+            "GET / HTTP/1.1\r\nHost: 127.0.0.1:{port}\r\nUpgrade: websocket\r\nConnection: Upgrade\r\nSec-WebSocket-Key: FAV7fvdngU8aCO4RhLptMg==\r\nSec-WebSocket-Version: 13\r\nSec-WebSocket-Protocol: push.sp.nanomsg.org\r\n\r\n"
+        ),
+    );
+    let talk = Talk {
+        after: asks.len(),
+        says: &[GRANTS, b"\x82\x05hello"],
+        hears: asks.as_bytes(),
+        prints: b"hello\n",
+    };
+    is_so(rt, &words, Door::Waits(listener), talk)
 }

@@ -1,5 +1,5 @@
 use Rattle.std.proofs.Common.{◌≡◌, true, length}
-use Rattle.real_tests.proofs.adapters.carries.Given as goal
+use Rattle.real_tests.proofs.nets.carries.Given as goal
 
 abbrev pub invariant-loop-turn : goal.invariant-loop-turn
 invariant-loop-turn g l = record {
@@ -7,5 +7,5 @@ invariant-loop-turn g l = record {
   from_place : (g.A.Link.seen l.from).place ≡ (g.A.Link.seen l.fn.from).place;
   to_open : (g.B.Link.seen l.to).is_open ≡ true;
   to_place : (g.B.Link.seen l.to).place ≡ (g.B.Link.seen l.fn.to).place;
-  room : length l.buffer.items ≡ length l.fn.buffer.items;
+  room : length l.buffer ≡ length l.fn.buffer;
 }

@@ -1,5 +1,5 @@
 use Rattle.std.proofs.Common.{◌≡◌, length}
-use Rattle.real_tests.proofs.adapters.patterned.Given as goal
+use Rattle.real_tests.proofs.bytes.patterned.Given as goal
 
 abbrev pub invariant-loop-at : goal.invariant-loop-at
 invariant-loop-at l = length l.bytes.items ≡ l.at

@@ -1,0 +1,109 @@
+//! What files give, as lines of a text:
+//!
+//! | line | what it says |
+//! |---|---|
+//! | `empty /dev/null` | the file has no byte |
+//! | `some /etc/passwd` | it has some |
+//! | `fails /no/such/file` | it can't be read |
+//! | `write 200000 bytes_of_a_test` | so many bytes are written to it |
+//! | `whole 200000 bytes_of_a_test` | it gives just these |
+//! | `remove bytes_of_a_test` | it is removed |
+//! | `counted 20000 -` | it gives so many bytes, each of which says how many are left |
+use crate::bytes::{counted, patterned};
+use crate::checks::is_right;
+use cat_run::real::RealFiles;
+use sp_base::{Files, Whole};
+use std::alloc::Global;
+use std::fs;
+use std::process::Abort;
+use std::rt::Files as SystemFiles;
+
+// Whether the file gives these bytes; none where it can't be read.
+fn gives<F: Files>(files: &mut F, name: &str, wanted: Option<&[u8]>) -> bool {
+    match files.whole(name) {
+        Whole::Bytes(bytes) => match wanted {
+            Some(wanted) => bytes.as_slice() == wanted,
+            None => false,
+        },
+        Whole::Failed => wanted.is_none(),
+        Whole::NoMemory => false,
+    }
+}
+
+fn gives_some<F: Files>(files: &mut F, name: &str) -> bool {
+    match files.whole(name) {
+        Whole::Bytes(bytes) => !bytes.as_slice().is_empty(),
+        Whole::Failed | Whole::NoMemory => false,
+    }
+}
+
+fn is_counted_so<F: Files, S: SystemFiles>(
+    system: &S,
+    files: &mut F,
+    alloc: Global,
+    call: &str,
+    count: &str,
+    name: &str,
+) -> Option<bool> {
+    let count = count.parse::<u32>().ok()?;
+    let bytes = if call == "counted" {
+        counted(alloc, count).ok()?
+    } else {
+        patterned(alloc, count as usize).ok()?
+    };
+    match call {
+        "write" => Some(fs::write(system, name, &bytes).is_ok()),
+        "whole" | "counted" => Some(gives(files, name, Some(&bytes))),
+        _ => None,
+    }
+}
+
+// Whether the line is so; none where it is no line.
+fn is_so<F: Files, S: SystemFiles>(
+    system: &S,
+    files: &mut F,
+    alloc: Global,
+    line: &str,
+) -> Option<bool> {
+    let (call, words) = line.split_once(' ')?;
+    if let Some((count, name)) = words.split_once(' ') {
+        if name.contains(' ') {
+            return None;
+        }
+        return is_counted_so(system, files, alloc, call, count, name);
+    }
+    match call {
+        "empty" => Some(gives(files, words, Some(&[]))),
+        "some" => Some(gives_some(files, words)),
+        "fails" => Some(gives(files, words, None)),
+        "remove" => Some(fs::remove_file(system, words).is_ok()),
+        _ => None,
+    }
+}
+
+// The number of the first line that is not so, from 1 on.
+fn wrong_line<F: Files, S: SystemFiles>(
+    system: &S,
+    files: &mut F,
+    alloc: Global,
+    lines: &str,
+) -> Option<usize> {
+    let mut n = 0usize;
+    for line in lines.lines() {
+        n = n.saturating_add(1);
+        let line = line.trim();
+        if !line.is_empty() && is_so(system, files, alloc, line) != Some(true) {
+            return Some(n);
+        }
+    }
+    None
+}
+
+/// The files of this system give what the lines say.
+pub fn files_give<
+    R: SystemFiles + Input + AllocGlobal + Drop,
+    S: SystemFiles + AllocGlobal + Abort,
+>(rt: &S, system: R, lines: &str) {
+    let mut files = RealFiles::new(system);
+    is_right(rt, wrong_line(rt, &mut files, rt.alloc(), lines));
+}
