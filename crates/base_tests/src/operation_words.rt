@@ -1,4 +1,4 @@
-//! Words of operations: ends that race, and names that are worn.
+//! Words of operations: ends that race, and names that are stale.
 ghost use Rattle.std.specs.Prelude.{◌≡◌, ◌<◌, ◌≤◌, true, false, IfSome};
 ghost use Rattle.aio_word.specs.Word.{is_core_end};
 ghost use Rattle.aio_word.specs.Results.{HasSeen, IsName};

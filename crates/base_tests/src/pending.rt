@@ -1,4 +1,4 @@
-//! Pending operations by their slot and in the line of their context.
+//! Pending operations by their slot and in the bucket of their context.
 use crate::checks::{made, same, some};
 use sp_base::{Ctx, OpName};
 use sp_pending::PendingOps;
@@ -18,9 +18,9 @@ const THIRD: OpName = OpName {
     generation: 1,
 };
 
-// With four slots, contexts 1 and 5 share a line.
+// With four slots, contexts 1 and 5 share a bucket.
 #[test]
-fn the_line_of_a_context_has_its_operations_in_order(rt: HostRuntime) {
+fn the_bucket_of_a_context_has_its_operations_in_order(rt: HostRuntime) {
     let mut pending = made(&rt, PendingOps::new(rt.alloc(), 4));
     pending.add(FIRST, Ctx(1));
     pending.add(SECOND, Ctx(5));

@@ -78,8 +78,8 @@ fn say_options<E: Print>(err: &E, alloc: Global, words: &[String], name: &str) {
     }
 }
 
-/// Says how a run of these words ended: where a word is wrong, which one; where a file or an address failed, each that
-/// was named.
+/// Says how a run of these words ended: where a word is wrong, which one; where a file failed, or an address that is
+/// listened at, each that was named.
 pub fn say<E: Print>(err: &E, alloc: Global, words: &[String], status: Status) {
     match status {
         Status::Usage { at } => say_wrong(err, alloc, words, at),

@@ -30,18 +30,18 @@ const GRANTS: &[u8] =
 
 /// How a peer meets a run.
 #[derive(Drop)]
-enum Door<R: std::net::Net> {
+enum PeerEnd<R: std::net::Net> {
     /// It connects to this address.
-    Calls(SocketAddr),
+    Dials(SocketAddr),
     /// It waits at this listener.
-    Waits(R::Listener),
+    Listens(R::Listener),
 }
 
 // The peer's socket, which doesn't wait.
-fn met<R: std::net::Net>(rt: &R, door: &Door<R>) -> Option<R::Stream> {
-    let stream = match door {
-        Door::Calls(to) => TcpStream::connect(rt, *to).ok()?,
-        Door::Waits(listener) => {
+fn met<R: std::net::Net>(rt: &R, end: &PeerEnd<R>) -> Option<R::Stream> {
+    let stream = match end {
+        PeerEnd::Dials(to) => TcpStream::connect(rt, *to).ok()?,
+        PeerEnd::Listens(listener) => {
             let (stream, _) = listener.accept().ok()?;
             stream
         }
@@ -69,7 +69,7 @@ fn hear<S: Read>(stream: &mut S, came: &mut Vec<u8>) {
 #[derive(Drop)]
 struct Peer<'a, R: std::net::Net + Drop> {
     rt: R,
-    door: Door<R>,
+    end: PeerEnd<R>,
     stream: Option<R::Stream>,
     after: usize,
     says: &'a [&'a [u8]],
@@ -81,7 +81,7 @@ impl<'a, R: std::net::Net + Drop> Peer<'a, R> {
     // Takes what came, and says the next text.
     fn turn(&mut self) {
         if self.stream.is_none() {
-            self.stream = met(&self.rt, &self.door);
+            self.stream = met(&self.rt, &self.end);
         }
         let Some(stream) = &mut self.stream else {
             return;
@@ -100,7 +100,7 @@ impl<'a, R: std::net::Net + Drop> Peer<'a, R> {
     fn heard(self) -> Vec<u8> {
         let Peer {
             rt: _,
-            door: _,
+            end: _,
             mut stream,
             after: _,
             says: _,
@@ -118,12 +118,12 @@ impl<'a, R: std::net::Net + Drop> Peer<'a, R> {
 
 /// A pace with a peer that has its turn before each of the run's.
 #[derive(Drop)]
-struct Beside<'a, P: Pace + Drop, R: std::net::Net + Drop> {
+struct PaceWithPeer<'a, P: Pace + Drop, R: std::net::Net + Drop> {
     pace: P,
     peer: Peer<'a, R>,
 }
 
-impl<'a, P: Pace + Drop, R: std::net::Net + Drop> Pace for Beside<'a, P, R> {
+impl<'a, P: Pace + Drop, R: std::net::Net + Drop> Pace for PaceWithPeer<'a, P, R> {
     ghost seen = { λ b. P.seen b.pace };
 
     fn turn(&mut self, moved: bool) -> Paced {
@@ -155,7 +155,7 @@ fn is_so<
         + Sync
         + Clone
         + Drop,
->(rt: &R, text: &str, door: Door<R>, talk: Talk<'_>) -> Option<bool> {
+>(rt: &R, text: &str, end: PeerEnd<R>, talk: Talk<'_>) -> Option<bool> {
     let alloc = rt.alloc();
     let words = words_of(rt, alloc, text);
     let own = made(rt, RealPace::new(made(rt, rt.clone()), rt, alloc));
@@ -164,22 +164,22 @@ fn is_so<
     let mut out = MemSink::new(alloc, Vec::new(alloc));
     let peer = Peer {
         rt: made(rt, rt.clone()),
-        door,
+        end,
         stream: None,
         after: talk.after,
         says: talk.says,
         said: 0,
         came: Vec::new(alloc),
     };
-    let mut pace = Beside { pace: own, peer };
-    let end = run(rt, &words, &mut net, &mut files, &mut pace, &mut out, 0);
+    let mut pace = PaceWithPeer { pace: own, peer };
+    let ran = run(rt, &words, &mut net, &mut files, &mut pace, &mut out, 0);
     drop(net);
-    let Beside { pace: _, peer } = pace;
+    let PaceWithPeer { pace: _, peer } = pace;
     let heard = peer.heard();
-    if end.status == Status::NetFault {
+    if ran.status == Status::NetFault {
         return None;
     }
-    let done = end.status == Status::Done && out.text() == talk.prints;
+    let done = ran.status == Status::Done && out.text() == talk.prints;
     Some(done && heard.as_slice() == talk.hears)
 }
 
@@ -223,7 +223,7 @@ fn rep_answers<
         hears: REPLIED,
         prints: b"q\n",
     };
-    is_so(rt, &words, Door::Calls(here(port)), talk)
+    is_so(rt, &words, PeerEnd::Dials(here(port)), talk)
 }
 
 #[test]
@@ -277,5 +277,5 @@ fn pull_dials<
         hears: asks.as_bytes(),
         prints: b"hello\n",
     };
-    is_so(rt, &words, Door::Waits(listener), talk)
+    is_so(rt, &words, PeerEnd::Listens(listener), talk)
 }

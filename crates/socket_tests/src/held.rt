@@ -105,7 +105,7 @@ fn a_cancel_returns_within_a_held_turn(rt: HostRuntime) {
         takes 1
         together
         + 3 serves no
-        + 2 sees held | sees entered | cancels 0.1 won | marks answered
+        + 2 sees held | sees entered | cancels 0.1 won | marks returned
         + 1 sees held | marks entered | ticks 1 0 0
         4 sees held
         4 receives 0 1.1

@@ -53,7 +53,7 @@ pub struct ThreadMarks {
     /// 1 once another caller was about to ask for a turn while one was held up.
     pub entered: ThreadMark,
     /// 1 once the cancel has returned.
-    pub answered: ThreadMark,
+    pub returned: ThreadMark,
     /// 1 once a receive has begun.
     pub begun: ThreadMark,
     /// 1 once a wire was shut.
@@ -73,7 +73,7 @@ pub fn unmarked(rt: &impl Abort, alloc: Global) -> Arc<ThreadMarks> {
         ThreadMarks {
             held: ThreadMark::new(),
             entered: ThreadMark::new(),
-            answered: ThreadMark::new(),
+            returned: ThreadMark::new(),
             begun: ThreadMark::new(),
             shut: ThreadMark::new(),
             received: ThreadMark::new(),
@@ -98,7 +98,7 @@ impl ThreadMarks {
     /// Holds up until the cancel has returned.
     pub fn hold(&self) {
         self.held.set(1);
-        if self.answered.seen() == 0 {
+        if self.returned.seen() == 0 {
             self.held.set(2);
         }
     }
@@ -108,7 +108,7 @@ impl ThreadMarks {
         match name {
             "held" => Some(&self.held),
             "entered" => Some(&self.entered),
-            "answered" => Some(&self.answered),
+            "returned" => Some(&self.returned),
             "begun" => Some(&self.begun),
             _ => None,
         }

@@ -40,12 +40,15 @@
 //! | `marks held`, `sees held` | the mark is set; it is seen to be set, within a bounded time |
 //! | `has_received 200`, `in_all 64` | so many messages were counted; so many with operations that were ended |
 //!
-//! A NAME is an operation's slot and generation, as `0.1`, or `any`. A BODY and a TOPIC are hexadecimal digits, an
-//! apostrophe, and text, as `80000000'a` or `'x`; a body may be `any`. Errors stand by their numbers. OUTCOME is
+//! `attaches` and `gives_back` stand alone on their line.
+//!
+//! A NAME is an operation's slot and generation, as `0.1`, or `any` where one begins. A BODY and a TOPIC are hexadecimal
+//! digits, an apostrophe, and text, as `80000000'a` or `'x`; a body that comes may be `any`. Errors stand by their
+//! numbers. WHY, CAUSE, PHASE and MISS are words of `words`, as `closed`, `timedout`, `expired` and `late`. OUTCOME is
 //! `received BODY`, `sent`, `gone CAUSE CALLER`, or, of a send, `gone CAUSE CALLER BODY`. RACED and POLLED are `won`,
 //! `pending`, `stale`, or `ended PHASE CALLER`. TOTALS are what was begun, won and gone, and the frames, outs and
 //! fulls; or `counted LEAST MOST`, which is what was counted, with from LEAST to MOST frames. The names of marks are
-//! `held`, `entered`, `answered` and `begun`. Blank lines and those that begin with `//` say nothing.
+//! `held`, `entered`, `returned` and `begun`. Blank lines and those that begin with `//` say nothing.
 //!
 //! The reader stands for any machine and wire, since calls on types that are written out are dear to prove.
 ghost use Rattle.std.specs.Prelude.{◌≡◌, ◌++◌, ◌∷◌, []};
