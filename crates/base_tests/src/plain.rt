@@ -191,7 +191,7 @@ fn dials<N: Net>(net: &mut N, addr: &Addr) -> bool
 {
     let failed = match net.dial(addr) {
         Linked::Failed => true,
-        Linked::NotYet => false,
+        Linked::NotYet | Linked::Begun => false,
         Linked::Got(link) => {
             net.give_back(link);
             false
@@ -202,7 +202,7 @@ fn dials<N: Net>(net: &mut N, addr: &Addr) -> bool
             net.give_back(link);
             failed
         }
-        Linked::NotYet | Linked::Failed => false,
+        Linked::NotYet | Linked::Begun | Linked::Failed => false,
     }
 }
 

@@ -63,6 +63,7 @@ impl Net for CountedNet {
         match self.net.accept(at) {
             Linked::Got(link) => Linked::Got(CountedLink { link, reads: 0 }),
             Linked::NotYet => Linked::NotYet,
+            Linked::Begun => Linked::Begun,
             Linked::Failed => Linked::Failed,
         }
     }
@@ -72,6 +73,7 @@ impl Net for CountedNet {
         match self.net.dial(addr) {
             Linked::Got(link) => Linked::Got(CountedLink { link, reads: 0 }),
             Linked::NotYet => Linked::NotYet,
+            Linked::Begun => Linked::Begun,
             Linked::Failed => Linked::Failed,
         }
     }

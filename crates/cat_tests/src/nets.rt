@@ -19,7 +19,7 @@ fn first_read(net: &mut MemNet, port: u16) -> Option<(u32, usize)> {
     };
     let mut link = match net.accept(at) {
         Linked::Got(link) => link,
-        Linked::NotYet | Linked::Failed => return None,
+        Linked::NotYet | Linked::Begun | Linked::Failed => return None,
     };
     let mut buffer = [0u8; 16];
     let came = match link.read(&mut buffer) {

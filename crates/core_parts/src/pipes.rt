@@ -234,6 +234,17 @@ impl<W: Wire> Pipes<W> {
         }
     }
 
+    /// How much the wires of all pipes have passed on, in a unit of their own; it wraps at its type's end.
+    pub fn taken(&self) -> u64 {
+        let mut sum: u64 = 0;
+        for place in self.places.iter() {
+            if let Some(wire) = &place.wire {
+                sum = sum.wrapping_add(wire.taken());
+            }
+        }
+        sum
+    }
+
     /// The pipe at this place goes down for the close.
     pub fn close_pipe(&mut self, i: usize)
         requires { (t : Moment) × (p : ℕ) × PipesStand W.shown self.old t × IsPipeAt self.old i p }

@@ -11,4 +11,7 @@ pub struct Served {
     pub waiting: u32,
     /// How many pipes are up now, 0 to 4,096.
     pub up: u32,
+    /// How much the pipes that are up have passed on, where one of them had something left to write; else 0. While only
+    /// that changes, links take bytes. Nothing is claimed of it.
+    pub taken: u64,
 }

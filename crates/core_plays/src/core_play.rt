@@ -181,6 +181,7 @@ impl<P: Proto> CorePlay<P> {
                     ended: line.number(),
                     waiting: line.number(),
                     up: line.number(),
+                    taken: 0,
                 };
                 self.driver.serve(rt) == served
             }

@@ -162,6 +162,10 @@ impl Wire for PlayWire {
         WireFlush::Empty
     }
 
+    fn taken(&self) -> u64 {
+        0
+    }
+
     fn shut(&mut self) {
         self.marks.shut();
     }

@@ -99,6 +99,10 @@ impl Wire for DrillWire {
         self.wire.flush(rt)
     }
 
+    fn taken(&self) -> u64 {
+        self.wire.taken()
+    }
+
     fn shut(&mut self) {
         self.wire.shut()
     }

@@ -223,6 +223,10 @@ impl<'a, W: Wire + Drop> Wire for MarkedWire<'a, W> {
         self.wire.flush(rt)
     }
 
+    fn taken(&self) -> u64 {
+        self.wire.taken()
+    }
+
     fn shut(&mut self) {
         self.wire.shut()
     }

@@ -116,6 +116,10 @@ impl<L: Link> Wire for OpenedWire<L> {
         self.wire.flush(rt)
     }
 
+    fn taken(&self) -> u64 {
+        self.wire.taken()
+    }
+
     fn shut(&mut self)
         ensures after { AfterShut self.old.wire self.new.wire }
         ensures link { LinkShut self.old.ws.link self.new.ws.link }

@@ -102,6 +102,14 @@ impl<L: Link> Wire for EndWire<L> {
         }
     }
 
+    fn taken(&self) -> u64 {
+        match self {
+            EndWire::Tcp(wire) => wire.taken(),
+            EndWire::Ws(wire) => wire.taken(),
+            EndWire::Lane(wire) => wire.taken(),
+        }
+    }
+
     fn shut(&mut self)
         ensures after { AfterShut (shown self.old) (shown self.new) }
         ensures shuts { Shuts self.old self.new }

@@ -57,6 +57,10 @@ impl Wire for HeldWire {
         self.wire.flush(rt)
     }
 
+    fn taken(&self) -> u64 {
+        self.wire.taken()
+    }
+
     fn shut(&mut self) {
         self.marks.shut.set(1);
         self.wire.shut()

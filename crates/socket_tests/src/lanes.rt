@@ -90,6 +90,10 @@ impl Wire for LateWire {
         self.wire.flush(rt)
     }
 
+    fn taken(&self) -> u64 {
+        self.wire.taken()
+    }
+
     fn shut(&mut self) {
         self.wire.shut()
     }

@@ -102,12 +102,14 @@ GoesTo addr (first ∷ rest) new queue queue' =
 abbrev pub AcceptsBy : Linked NetLink → ℕ → Bool → ℕ → List Queue → List Queue → Type 0
 AcceptsBy (linked.Got link) at listed opened old new = RefusedAs false listed opened × ((queue : Queue) × GoesAt at old new (link_script link.link ∷ queue) queue)
 AcceptsBy linked.NotYet at listed opened old new = RefusedAs false listed opened × GoesAt at old new [] []
+AcceptsBy linked.Begun at listed opened old new = ⊥
 AcceptsBy linked.Failed at listed opened old new = RefusedAs true listed opened × (new ≡ old)
 
 -- and so it is with those that wait for the address
 abbrev pub DialsBy : Linked NetLink → Addr → Bool → ℕ → List (Addr × Queue) → List (Addr × Queue) → Type 0
 DialsBy (linked.Got link) addr listed opened old new = RefusedAs false listed opened × ((queue : Queue) × GoesTo addr old new (link_script link.link ∷ queue) queue)
 DialsBy linked.NotYet addr listed opened old new = RefusedAs false listed opened × GoesTo addr old new [] []
+DialsBy linked.Begun addr listed opened old new = ⊥
 DialsBy linked.Failed addr listed opened old new = RefusedAs true listed opened × (new ≡ old)
 
 -- listeners have the numbers 0, 1, 2 and so on; a call that is listed fails
@@ -141,6 +143,7 @@ faults_listened listened.Failed faults = one_more faults
 abbrev pub faults_linked : Linked NetLink → ℕ → ℕ
 faults_linked (linked.Got link) faults = faults
 faults_linked linked.NotYet faults = faults
+faults_linked linked.Begun faults = faults
 faults_linked linked.Failed faults = one_more faults
 
 -- none of the first lists is for this address
@@ -160,9 +163,11 @@ IsFirst (Some l) queue queue' = queue ≡ as_made l.link ∷ queue'
 abbrev pub IsHandedOn : Option NetLink → Linked NetLink → Type 0
 IsHandedOn None (linked.Got link) = ⊥
 IsHandedOn None linked.NotYet = Unit {0}
+IsHandedOn None linked.Begun = ⊥
 IsHandedOn None linked.Failed = ⊥
 IsHandedOn (Some l) (linked.Got link) = link_script link.link ≡ as_made l.link
 IsHandedOn (Some l) linked.NotYet = ⊥
+IsHandedOn (Some l) linked.Begun = ⊥
 IsHandedOn (Some l) linked.Failed = ⊥
 
 -- nothing was asked of it

@@ -183,6 +183,10 @@ impl Wire for MemWire {
         WireFlush::Empty
     }
 
+    fn taken(&self) -> u64 {
+        0
+    }
+
     fn shut(&mut self)
         ensures after { AfterShut self.old.wire self.new.wire }
         ensures rest { OnlyWire self.old self.new }

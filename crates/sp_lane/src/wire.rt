@@ -231,6 +231,10 @@ impl Wire for LaneWire {
         returned
     }
 
+    fn taken(&self) -> u64 {
+        0
+    }
+
     fn shut(&mut self)
         ensures after { AfterShut self.old.wire self.new.wire }
         ensures drains { self.new.wire.drains ≡ true }

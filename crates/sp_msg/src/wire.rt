@@ -68,7 +68,8 @@ pub trait Wire {
         requires { (shown self.old).is_open ≡ true }
         ensures { AfterPull result (shown self.old) (shown self.new) };
 
-    /// Writes what it can of what waits, as `flush` does, and then says whether one message more can be put.
+    /// Says whether one message more can be put. Where as many messages wait as the wire holds it first writes what it
+    /// can of them, as `flush` does; else it leaves that to `flush`.
     fn room<R: Wait>(&mut self, rt: &R) -> Room
         requires { (shown self.old).is_open ≡ true }
         ensures { AfterRoom result (shown self.old) (shown self.new) };
@@ -83,6 +84,10 @@ pub trait Wire {
     fn flush<R: Wait>(&mut self, rt: &R) -> WireFlush
         requires { may_flush (shown self.old) ≡ true }
         ensures { AfterFlush result (shown self.old) (shown self.new) };
+
+    /// How much the wire has passed on so far, in a unit of its own: it rises where a flush is taken in part. Nothing is
+    /// claimed of it.
+    fn taken(&self) -> u64;
 
     /// Ends the wire; one that has ended may be shut again.
     fn shut(&mut self)

@@ -30,6 +30,8 @@ pub struct Outlet {
     sent: usize,
     /// Where small frames are put together.
     stage: WriteStage,
+    /// How many bytes the link took in all, up to the type's end.
+    taken: u64,
 }
 
 impl Model for Outlet {
@@ -124,6 +126,7 @@ impl Outlet {
             waiting,
             sent: 0,
             stage,
+            taken: 0,
         })
     }
 
@@ -132,6 +135,11 @@ impl Outlet {
         ensures { result ≡ length self.now.waiting }
     {
         self.waiting.len()
+    }
+
+    /// How many bytes the link took in all, up to the type's end.
+    pub fn taken(&self) -> u64 {
+        self.taken
     }
 
     /// Takes one message more, without memory.
@@ -175,6 +183,7 @@ impl Outlet {
     {
         match self.write_prefix(mark, link) {
             LinkWrite::Took(n) => {
+                self.taken = self.taken.saturating_add(n as u64);
                 let written = self.sent + n;
                 self.sent = pass_frames(mark, &mut self.waiting, written);
                 LinkWrite::Took(n)

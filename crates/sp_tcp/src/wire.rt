@@ -177,6 +177,10 @@ impl<L: Link> Wire for TcpWire<L> {
         returned
     }
 
+    fn taken(&self) -> u64 {
+        self.outlet.taken()
+    }
+
     fn shut(&mut self)
         ensures after { AfterShut self.old.wire self.new.wire }
         ensures link { LinkShut self.old.link self.new.link }

@@ -210,6 +210,10 @@ impl<L: Link> Wire for WsWire<L> {
         returned
     }
 
+    fn taken(&self) -> u64 {
+        0
+    }
+
     fn shut(&mut self)
         ensures after { AfterShut self.old.wire self.new.wire }
         ensures link { LinkShut self.old.link self.new.link }
