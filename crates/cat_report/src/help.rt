@@ -1,4 +1,5 @@
 //! What `--help` and `--version` print.
+use cat_run::Status;
 
 /// What is printed for `--help` alone.
 pub const HELP: &str = "\
@@ -66,3 +67,23 @@ Examples:
 
 /// What is printed for `--version` alone.
 pub const VERSION: &str = "nngcat (Goshwelib) 0.1.0, with the behaviour of NNG 1.x\n";
+
+/// The text that a word asks for which stands alone and names nothing to run.
+pub fn asked_text(words: &[String]) -> Option<&'static str> {
+    if words.len() != 1 {
+        return None;
+    }
+    match words[0].as_str() {
+        "--help" => Some(HELP),
+        "--version" => Some(VERSION),
+        _ => None,
+    }
+}
+
+/// Prints a text. `OutFault` where the output failed.
+pub fn print_text<P: Print>(out: &P, text: &str) -> Status {
+    match out.write_all(text.as_bytes()) {
+        Ok(()) => Status::Done,
+        Err(_) => Status::OutFault,
+    }
+}

@@ -26,7 +26,8 @@ fn is_format(name: &str) -> bool {
     )
 }
 
-fn is_end(name: &str) -> bool {
+/// Whether an option of this name adds an end.
+pub fn is_end(name: &str) -> bool {
     matches!(name, "--listen" | "--dial")
 }
 

@@ -1,0 +1,45 @@
+//! Options of NNG's own nngcat 1.5.2 that have another spelling here, or nothing in their place.
+
+const LISTEN: &str = "--listen tcp://127.0.0.1:PORT";
+
+const DIAL: &str = "--dial tcp://127.0.0.1:PORT";
+
+const FORMATS: &str = "--raw, --ascii, --quoted, --hex, --msgpack or none of them";
+
+const PAIR: &str = "--pair, to a peer that speaks version 0 of the protocol";
+
+const NOTHING: &str = "nothing stands in its place here";
+
+/// What to write here in place of an option of NNG's own nngcat; None where it is none of those, or is spelt alike.
+pub fn spelling_of(name: &str) -> Option<&'static str> {
+    match name {
+        "-A" => Some("--ascii"),
+        "-Q" => Some("--quoted"),
+        "-D" => Some("--data"),
+        "-F" => Some("--file"),
+        "-C" => Some("--count"),
+        "-i" => Some("--interval"),
+        "-h" => Some("--help"),
+        "-V" => Some("--version"),
+        "--bind" => Some("--listen"),
+        "--connect" => Some("--dial"),
+        "-L" | "--bind-local" => Some(LISTEN),
+        "-l" | "--connect-local" => Some(DIAL),
+        "--format" => Some(FORMATS),
+        "--pair1" => Some(PAIR),
+        _ => nothing_for(name),
+    }
+}
+
+// The same of those in whose place nothing stands.
+fn nothing_for(name: &str) -> Option<&'static str> {
+    match name {
+        "-X" | "--bind-ipc" | "-x" | "--connect-ipc" => Some(NOTHING),
+        "-d" | "--delay" | "-Z" | "--recv-maxsz" => Some(NOTHING),
+        "-q" | "--silent" | "-v" | "--verbose" => Some(NOTHING),
+        "--compat" | "--async" | "--zt-home" => Some(NOTHING),
+        "-k" | "--insecure" | "--cacert" => Some(NOTHING),
+        "-E" | "--cert" | "--key" => Some(NOTHING),
+        _ => None,
+    }
+}
