@@ -1,5 +1,5 @@
 -- What each call of the wire comes to.
-use Rattle.std.proofs.Common.{◌≡◌, ◌≤◌, ◌<◌, ◌+◌, ◌-◌, ◌++◌, ℕ, Bool, true, false, List, [], ◌∷◌, length, take, Some, None, refl, sym, ap, subst, ◌∙◌, inl, inr, append_assoc, arith}
+use Rattle.std.proofs.Common.{◌≡◌, ◌≤◌, ◌<◌, ◌+◌, ◌-◌, ◌++◌, ℕ, Bool, true, false, List, [], ◌∷◌, length, take, Some, None, refl, sym, ap, subst, ◌∙◌, inl, inr, append-nil, append_assoc, arith}
 use Rattle.std.proofs.lemmas.List.{length-append, take_at}
 use Rattle.sp_base.specs.Views.{LinkView}
 use Rattle.sp_base.specs.Steps.{AfterShut as LinkShut}
@@ -20,12 +20,12 @@ use Rattle.sp_ws.specs.Views.{FramesView, FrameOutletView, count_of, fresh_frame
 use Rattle.sp_ws.specs.Sides.{role_of}
 use Rattle.websocket.specs.declared.protocol.config.WebSocketConfig.{WebSocketConfig}
 use Rattle.sp_ws.specs.declared.side.Side.{Side}
-use Rattle.sp_ws.specs.Outlets.{AreWithin, passed, FlushResult, FlushedFrom}
+use Rattle.sp_ws.specs.Outlets.{AreWithin, passed, FlushResult, FlushedFrom, IsLeft, IsMade, RoomFrom}
 use Rattle.sp_ws.specs.Pulls.{NoneCame, OneLost, PullResult, PulledFrom}
 use Rattle.sp_msg.specs.Wires.{RoomAfter}
-use Rattle.sp_ws.specs.Wires.{came_in, wire_name, WsState, ws_state, wire_of, ws_view, MarksHold, Holds, Tied, PullCause, WsPulled, WsWrote, RoomCause, FlushCause, IsNewWire}
-use Rattle.sp_ws.proofs.Outlets.{within_more, wrote_within, fewer}
-use Rattle.sp_ws.proofs.Marks.{RoomFacts, pulled_marks, ready_pulled, flushed_marks, ready_flushed, roomed_marks, ready_roomed, put_marks, shut_marks}
+use Rattle.sp_ws.specs.Wires.{came_in, wire_name, WsState, ws_state, wire_of, ws_view, MarksHold, Holds, Tied, PullCause, WsPulled, WsWrote, RoomMade, RoomCause, FlushCause, IsNewWire}
+use Rattle.sp_ws.proofs.Outlets.{within_more, wrote_within, fewer, passed_zero, went_none, quiet_refl, counts_refl}
+use Rattle.sp_ws.proofs.Marks.{RoomFacts, pulled_marks, ready_pulled, flushed_marks, ready_flushed, roomed_marks, ready_roomed, ready_marks, shut_marks}
 
 pub tied : (t : WsState) → Holds t → Tied (ws_view t)
 tied t h = record {
@@ -189,12 +189,15 @@ room_facts flushes.Failed room waits f f2 l l2 a e = subst (λ r. RoomFacts r wa
 room_facts flushes.Refused room waits f f2 l l2 a e = absurd a
 room_facts flushes.NoMemory room waits f f2 l l2 a e = subst (λ r. RoomFacts r waits f f2 l l2) (sym e) a.1
 
-room_cause : (room : Room) (t : WsState) (l : LinkView) (f : FramesView) (o : FrameOutletView) (k : WireMarks) → count_of o ≤ 16 → RoomFacts room (count_of o) t.frames f t.link l → RoomCause room (ws_view t) (ws_view (with_write t l f o k))
-room_cause rooms.Yes t l f o k le a = (a.0, a.1)
-room_cause rooms.Full t l f o k le a = (omega (arith, le, a.0), a.1)
-room_cause rooms.Failed t l f o k le a = a.0
-room_cause rooms.Refused t l f o k le a = a
-room_cause rooms.NoMemory t l f o k le a = tt
+made_cause : (room : Room) (t : WsState) (l : LinkView) (f : FramesView) (o : FrameOutletView) (k : WireMarks) → count_of o ≤ 16 → RoomFacts room (count_of o) t.frames f t.link l → RoomMade room (ws_view t) (ws_view (with_write t l f o k))
+made_cause rooms.Yes t l f o k le a = (a.0, a.1)
+made_cause rooms.Full t l f o k le a = (omega (arith, le, a.0), a.1)
+made_cause rooms.Failed t l f o k le a = a.0
+made_cause rooms.Refused t l f o k le a = a
+made_cause rooms.NoMemory t l f o k le a = tt
+
+not_few : (n : ℕ) → 16 ≤ n → n < 16 → ⊥
+not_few n a b = omega (arith, a, b)
 
 pub record Roomed (room : Room) (t t2 : WsState) : Type 0 where
   pub holds : Holds t2
@@ -203,20 +206,68 @@ pub record Roomed (room : Room) (t t2 : WsState) : Type 0 where
   pub ws : WsWrote (ws_view t) (ws_view t2)
   pub is_tied : Tied (ws_view t2)
 
-pub roomed : (flush : WireFlush) (room : Room) (t : WsState) (l : LinkView) (f : FramesView) (o : FrameOutletView) → Holds t → t.marks.is_open ≡ true → FlushedFrom flush t.outlet o t.frames f t.link l → RoomAfter flush (count_of o) room → Roomed room t (with_write t l f o (marks_roomed room t.marks))
-roomed flush room t l f o h open_is p r =
+-- 16 waited
+made : (room : Room) (t : WsState) (l : LinkView) (f : FramesView) (o : FrameOutletView) → Holds t → t.marks.is_open ≡ true → IsMade room t.outlet o t.frames f t.link l → Roomed room t (with_write t l f o (marks_roomed room t.marks))
+made room t l f o h open_is m =
+    let p = m.flushed in
     let k : WireMarks = marks_roomed room t.marks in
-    let e = kept flush t l f o h p in
-    let a = room_facts flush room (count_of o) t.frames f t.link l p.returned r in
+    let e = kept m.ended t l f o h p in
+    let a = room_facts m.ended room (count_of o) t.frames f t.link l p.returned m.returned in
     let marks = roomed_marks room t.max t.link l t.frames f t.lost (count_of o) t.marks open_is h.marks p.wrote.counts p.wrote.went.is_open a in
     let h2 : Holds (with_write t l f o k) = write_holds t l f o k h e (ready_roomed room t.frames f t.link l (count_of o) t.marks a (still_room t l f o h e)) p.wrote.counts marks in
     record {
       holds = h2;
       after = after_room room (wire_name t.link t.max t.spent) (wire_name l t.max t.spent) (Some (came_in t.lost t.frames.came)) (Some (came_in t.lost f.came)) (Some (t.frames.sent ++ t.outlet.held)) (Some (f.sent ++ o.held)) (count_of t.outlet) (count_of o) false t.marks (name_at t l p.wrote.went.place p.wrote.went.scheme) (came_kept t f e.came) e.outs e.few;
-      cause = room_cause room t l f o k (omega (arith, h.most, e.few)) a;
-      ws = ws_wrote flush t l f o k p;
+      cause = record { few = (λ lt. absurd (not_few (count_of t.outlet) m.many lt)); many = (λ _. made_cause room t l f o k (omega (arith, h.most, e.few)) a) };
+      ws = ws_wrote m.ended t l f o k p;
       is_tied = tied (with_write t l f o k) h2;
     }
+
+-- the state with room found
+abbrev with_room : WsState → WsState
+with_room t = with_write t t.link t.frames t.outlet (marks_roomed rooms.Yes t.marks)
+
+left_wrote : (t : WsState) → Holds t → WsWrote (ws_view t) (ws_view (with_room t))
+left_wrote t h = record {
+  gone = [];
+  places = [];
+  bytes = [];
+  piece = [];
+  held = refl;
+  sent = sym (append-nil t.frames.sent);
+  frames = refl;
+  ends = sym (ap (passed 0) (append-nil t.outlet.ends) ∙ passed_zero t.outlet.ends (length t.frames.waiting) h.within);
+  waiting = append-nil t.frames.waiting;
+  went = went_none t.link t.link (quiet_refl t.link);
+  counts = counts_refl t.link;
+  kept = refl;
+  max = refl;
+}
+
+left_at : (t : WsState) → Holds t → count_of t.outlet < 16 → Roomed rooms.Yes t (with_room t)
+left_at t h lt =
+    let h2 : Holds (with_room t) = record { within = h.within; most = h.most; room = (λ _. lt); waited = h.waited; marks = ready_marks t.max t.link t.frames t.lost t.marks true h.marks } in
+    record {
+      holds = h2;
+      after = record { shows = refl; waits = omega arith };
+      cause = record { few = (λ _. (refl, refl)); many = (λ le. absurd (not_few (count_of t.outlet) le lt)) };
+      ws = left_wrote t h;
+      is_tied = tied (with_room t) h2;
+    }
+
+-- fewer waited
+left : (room : Room) (t : WsState) (l : LinkView) (f : FramesView) (o : FrameOutletView) → Holds t → IsLeft room t.outlet o t.frames f t.link l → Roomed room t (with_write t l f o (marks_roomed room t.marks))
+left room t l f o h a =
+    let at_room = subst (λ (r : Room). Roomed r t (with_write t t.link t.frames t.outlet (marks_roomed r t.marks))) (sym a.returned) (left_at t h a.few) in
+    let at_outlet = subst (λ (x : FrameOutletView). Roomed room t (with_write t t.link t.frames x (marks_roomed room t.marks))) (sym a.outlet) at_room in
+    let at_frames = subst (λ (x : FramesView). Roomed room t (with_write t t.link x o (marks_roomed room t.marks))) (sym a.frames) at_outlet in
+    subst (λ (x : LinkView). Roomed room t (with_write t x f o (marks_roomed room t.marks))) (sym a.link_is) at_frames
+
+pub roomed : (room : Room) (t : WsState) (l : LinkView) (f : FramesView) (o : FrameOutletView) → Holds t → t.marks.is_open ≡ true → RoomFrom room t.outlet o t.frames f t.link l → Roomed room t (with_write t l f o (marks_roomed room t.marks))
+roomed room t l f o h open_is r = elim r [
+  | inl a ↦ left room t l f o h a
+  | inr m ↦ made room t l f o h open_is m
+]
 
 -- ---- flush
 
@@ -279,7 +330,7 @@ put_to t o m h ready is =
       most = omega (arith, count, h.room ready);
       room = (λ e. absurd (none_ready e));
       waited = h.waited;
-      marks = put_marks t.max t.link t.frames t.lost t.marks h.marks;
+      marks = ready_marks t.max t.link t.frames t.lost t.marks false h.marks;
     } in
     record {
       holds = h2;

@@ -5,12 +5,15 @@ use Rattle.sp_base.specs.Views.{LinkView}
 use Rattle.sp_base.specs.Steps.{Went}
 use Rattle.sp_base.specs.declared.outside.LinkWrite.{LinkWrite}
 use Rattle.sp_base.specs.declared.outside.LinkWrite.TheVariants as writes
+use Rattle.sp_msg.specs.declared.wire.Room.{Room}
+use Rattle.sp_msg.specs.declared.wire.Room.TheVariants as rooms
 use Rattle.sp_msg.specs.declared.wire.WireFlush.{WireFlush}
 use Rattle.sp_msg.specs.declared.wire.WireFlush.TheVariants as flushes
 use Rattle.sp_ws.specs.Views.{FramesView, FrameOutletView, count_of}
 use Rattle.websocket.specs.declared.protocol.config.Role.{Role}
 use Rattle.sp_ws.specs.Frames.{IsFrame, AfterSend}
 use Rattle.sp_msg.specs.Links.{WriteCounts}
+use Rattle.sp_msg.specs.Wires.{RoomAfter}
 use Rattle.sp_ws.specs.declared.frames.FrameOut.{FrameOut}
 use Rattle.sp_ws.specs.declared.frames.FrameOut.TheVariants as outs
 
@@ -98,3 +101,21 @@ pub record FlushedFrom (result : WireFlush) (old new : FrameOutletView) (f f' : 
   pub gave : Gave old mid f framed
   pub wrote : Wrote mid new framed f' link link'
   pub returned : FlushResult result (count_of new) f f' link link'
+
+-- fewer than 16 wait, and nothing is done
+pub record IsLeft (room : Room) (old new : FrameOutletView) (f f' : FramesView) (link link' : LinkView) : Type 0 where
+  pub few : count_of old < 16
+  pub returned : room ≡ rooms.Yes
+  pub outlet : new ≡ old
+  pub frames : f' ≡ f
+  pub link_is : link' ≡ link
+
+-- 16 wait, and what is in hand is sent and what the link takes is written first
+pub record IsMade (room : Room) (old new : FrameOutletView) (f f' : FramesView) (link link' : LinkView) : Type 0 where
+  pub many : 16 ≤ count_of old
+  pub ended : WireFlush
+  pub flushed : FlushedFrom ended old new f f' link link'
+  pub returned : RoomAfter ended (count_of new) room
+
+abbrev pub RoomFrom : Room → FrameOutletView → FrameOutletView → FramesView → FramesView → LinkView → LinkView → Type 0
+RoomFrom room old new f f' link link' = IsLeft room old new f f' link link' ⊎ IsMade room old new f f' link link'

@@ -147,12 +147,21 @@ pub record WsWrote (old new : WsView) : Type 0 where
   pub kept : new.frames ≡ record old.frames { waiting = new.frames.waiting; sent = new.frames.sent }
   pub max : new.max ≡ old.max
 
-abbrev pub RoomCause : Room → WsView → WsView → Type 0
-RoomCause rooms.Yes old new = (new.wire.waits < 16) × (((new.wire.waits ≡ 0) × Written new.frames old.link new.link) ⊎ Rose old.link.stalls new.link.stalls)
-RoomCause rooms.Full old new = (new.wire.waits ≡ 16) × Rose old.link.stalls new.link.stalls
-RoomCause rooms.Failed old new = Rose old.link.faults new.link.faults
-RoomCause rooms.Refused old new = ⊥
-RoomCause rooms.NoMemory old new = Unit {0}
+-- fewer than 16 wait: nothing is sent or written, one message more may be put, and all else is as it was
+abbrev pub IsLeft : Room → WsView → WsView → Type 0
+IsLeft room old new = (room ≡ rooms.Yes) × (new ≡ record old { wire = record old.wire { is_ready = true } })
+
+-- 16 wait: room comes after all was written that the link takes
+abbrev pub RoomMade : Room → WsView → WsView → Type 0
+RoomMade rooms.Yes old new = (new.wire.waits < 16) × (((new.wire.waits ≡ 0) × Written new.frames old.link new.link) ⊎ Rose old.link.stalls new.link.stalls)
+RoomMade rooms.Full old new = (new.wire.waits ≡ 16) × Rose old.link.stalls new.link.stalls
+RoomMade rooms.Failed old new = Rose old.link.faults new.link.faults
+RoomMade rooms.Refused old new = ⊥
+RoomMade rooms.NoMemory old new = Unit {0}
+
+pub record RoomCause (room : Room) (old new : WsView) : Type 0 where
+  pub few : old.wire.waits < 16 → IsLeft room old new
+  pub many : 16 ≤ old.wire.waits → RoomMade room old new
 
 abbrev pub FlushCause : WireFlush → WsView → WsView → Type 0
 FlushCause flushes.Empty old new = Written new.frames old.link new.link
