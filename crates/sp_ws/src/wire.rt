@@ -190,7 +190,7 @@ impl<L: Link> Wire for WsWire<L> {
     }
 
     fn taken(&self) -> u64 {
-        0
+        self.outlet.taken()
     }
 
     fn shut(&mut self)
