@@ -119,3 +119,22 @@ pub record IsMade (room : Room) (old new : FrameOutletView) (f f' : FramesView) 
 
 abbrev pub RoomFrom : Room → FrameOutletView → FrameOutletView → FramesView → FramesView → LinkView → LinkView → Type 0
 RoomFrom room old new f f' link link' = IsLeft room old new f f' link link' ⊎ IsMade room old new f f' link link'
+
+-- ---- replies
+
+-- replies that are new go to the link at once, in one write, where no frame of a message waits before them; else nothing
+-- is written. These bytes are what it took
+pub record AtOnce (is_new : Type 0) (ends took : List ℕ) (link link' : LinkView) : Type 0 where
+  pub tried : is_new → ends ≡ [] → (0 < length took) ⊎ Rose link.stalls link'.stalls ⊎ Rose link.faults link'.faults
+  pub none_new : (is_new → ⊥) → (took ≡ []) × (link'.stalls ≡ link.stalls)
+  pub none_first : 0 < length ends → (took ≡ []) × (link'.stalls ≡ link.stalls)
+
+-- so many bytes waited before they came
+pub record Answered (had : ℕ) (old new : FrameOutletView) (f f' : FramesView) (link link' : LinkView) : Type 0 where
+  pub took : List ℕ
+  pub outlet : new ≡ old
+  pub waiting : f.waiting ≡ took ++ f'.waiting
+  pub frames : f' ≡ record f { waiting = f'.waiting }
+  pub went : Went took link link'
+  pub counts : WriteCounts link link'
+  pub at_once : AtOnce (had < length f.waiting) old.ends took link link'

@@ -140,6 +140,7 @@ impl<L: Link> Wire for WsWire<L> {
         ensures ws { WsPulled result self.old self.new }
         ensures tied { Tied self.new }
     {
+        let had = self.frames.waiting().len();
         let (returned, lost) = pull_from(
             self.alloc,
             &mut self.frames,
@@ -147,6 +148,7 @@ impl<L: Link> Wire for WsWire<L> {
             &mut self.room,
             self.max,
         );
+        self.outlet.answer(&mut self.frames, &mut self.link, had);
         self.lost = lost;
         self.marks.pulled(&returned);
         returned
