@@ -2,7 +2,7 @@
 use Rattle.std.proofs.Common.{◌≡◌, ◌++◌, ℕ, false, List, Option, Some, None, sym, ap, subst, ◌∙◌, append_assoc}
 use Rattle.sp_spec.specs.Outside.{Told, grown, IsPrefix}
 use Rattle.sp_base.specs.Views.{LinkView}
-use Rattle.sp_base.specs.Steps.{Came, Went}
+use Rattle.sp_base.specs.Steps.{Moved, Went}
 use Rattle.sp_base.specs.declared.role.Role.{Role}
 use Rattle.link_opening.specs.declared.way.Way.{Way}
 use Rattle.link_opening.specs.Openings.{IsGood, Owes}
@@ -29,8 +29,9 @@ went_on role way piece (Some c) (Some w) t = (t.0, λ owed o. prefix_on owed w p
 moved : (role : Role) (way : Way) (a b : LinkView) (c w : Option (List ℕ)) → b.came ≡ c → b.written ≡ w → Tells role way c w → IsBegun role way b
 moved role way a b c w e f t = subst (λ (x : Option (List ℕ)). Tells role way x b.written) (sym e) (subst (λ (y : Option (List ℕ)). Tells role way c y) (sym f) t)
 
-pub begun_came : (role : Role) (way : Way) (piece : List ℕ) (a b : LinkView) → Came piece a b → IsBegun role way a → IsBegun role way b
-begun_came role way piece a b x t = moved role way a b (grown a.came piece) a.written x.came x.written (came_on role way piece a.came a.written t)
+pub begun_moved : (role : Role) (way : Way) (piece took : List ℕ) (a b : LinkView) → Moved (grown a.came piece) (grown a.written took) a b → IsBegun role way a → IsBegun role way b
+begun_moved role way piece took a b x t =
+    moved role way a b (grown a.came piece) (grown a.written took) x.came x.written (went_on role way took (grown a.came piece) a.written (came_on role way piece a.came a.written t))
 
 pub begun_went : (role : Role) (way : Way) (piece : List ℕ) (a b : LinkView) → Went piece a b → IsBegun role way a → IsBegun role way b
 begun_went role way piece a b x t = moved role way a b a.came (grown a.written piece) x.came x.written (went_on role way piece a.came a.written t)

@@ -172,10 +172,11 @@ ready_roomed rooms.Failed l l2 waits k f h e = h e
 ready_roomed rooms.Refused l l2 waits k f h e = absurd f
 ready_roomed rooms.NoMemory l l2 waits k f h e = absurd f
 
--- ---- put and shut
+-- ---- calls that write nothing
 
-pub put_marks : (max : ℕ) (l : LinkView) (u : List ℕ) (k : WireMarks) → MarksHold max l u k → MarksHold max l u (record k { is_ready = false })
-put_marks max l u k h = record {
+-- whether room was found and isn't used yet
+pub ready_marks : (max : ℕ) (l : LinkView) (u : List ℕ) (k : WireMarks) (is_ready : Bool) → MarksHold max l u k → MarksHold max l u (record k { is_ready = is_ready })
+ready_marks max l u k is_ready h = record {
   link_open = h.link_open;
   going = h.going;
   at_end = h.at_end;

@@ -28,7 +28,7 @@ went_more p q l m n a b = record {
   is_open = b.is_open ∙ a.is_open;
 }
 
-wrote_counts_refl : (l : LinkView) → WriteCounts l l
+pub wrote_counts_refl : (l : LinkView) → WriteCounts l l
 wrote_counts_refl l = record { faults = omega arith; idles = refl; stalls = omega arith; ended = refl }
 
 wrote_counts_more : (l m n : LinkView) → WriteCounts l m → WriteCounts m n → WriteCounts l n

@@ -17,12 +17,13 @@ use Rattle.sp_msg.specs.declared.wire.WireFlush.{WireFlush}
 use Rattle.sp_msg.specs.declared.wire.WireFlush.TheVariants as flushes
 use Rattle.sp_msg.proofs.Shown.{WaitsAs, after_room, after_flush, after_put}
 use Rattle.sp_tcp.specs.Views.{OutletView}
-use Rattle.sp_tcp.specs.Outlets.{SentWithin, Wrote, FlushResult, FlushedFrom}
+use Rattle.sp_tcp.specs.Outlets.{SentWithin, Wrote, FlushResult, FlushedFrom, IsLeft, IsMade, RoomFrom}
 use Rattle.sp_msg.specs.Wires.{RoomAfter}
-use Rattle.sp_tcp.specs.TcpWires.{greatest, told_number, taken_in, put_in, ReadsAs, WritesAs, MarksHold, TcpState, wire_name, wire_of, tcp_view, Holds, Framed, TcpWrote, RoomCause, FlushCause}
-use Rattle.sp_tcp.proofs.MarksKept.{RoomFacts, flushed_marks, roomed_marks, put_marks, shut_marks, ready_flushed, ready_roomed}
+use Rattle.sp_tcp.specs.TcpWires.{greatest, told_number, taken_in, put_in, ReadsAs, WritesAs, MarksHold, TcpState, wire_name, wire_of, tcp_view, Holds, Framed, TcpWrote, RoomMade, RoomCause, FlushCause}
+use Rattle.sp_tcp.proofs.MarksKept.{RoomFacts, flushed_marks, roomed_marks, ready_marks, shut_marks, ready_flushed, ready_roomed}
 use Rattle.sp_tcp.proofs.Framing.{Fit-apart, told_writes, own_on, put_on, told_more, put_more}
 use Rattle.sp_tcp.proofs.Framed.{framed}
+use Rattle.sp_tcp.proofs.Writes.{went_none, wrote_counts_refl}
 use Rattle.sp_tcp.proofs.MarkedFrames.{plain_text}
 
 -- the state with another link, another outlet and other marks
@@ -91,12 +92,15 @@ room_facts flushes.Failed room w l l2 a e = subst (λ r. RoomFacts r (length w) 
 room_facts flushes.Refused room w l l2 a e = absurd a
 room_facts flushes.NoMemory room w l l2 a e = absurd a
 
-room_cause : (room : Room) (t : TcpState) (l : LinkView) (o : OutletView) (k : WireMarks) → length o.waiting ≤ 16 → RoomFacts room (length o.waiting) t.link l → RoomCause room (tcp_view t) (tcp_view (with_write t l o k))
-room_cause rooms.Yes t l o k le f = f
-room_cause rooms.Full t l o k le f = (omega (arith, le, f.0), f.1)
-room_cause rooms.Failed t l o k le f = f
-room_cause rooms.Refused t l o k le f = f
-room_cause rooms.NoMemory t l o k le f = f
+made_cause : (room : Room) (t : TcpState) (l : LinkView) (o : OutletView) (k : WireMarks) → length o.waiting ≤ 16 → RoomFacts room (length o.waiting) t.link l → RoomMade room (tcp_view t) (tcp_view (with_write t l o k))
+made_cause rooms.Yes t l o k le f = f
+made_cause rooms.Full t l o k le f = (omega (arith, le, f.0), f.1)
+made_cause rooms.Failed t l o k le f = f
+made_cause rooms.Refused t l o k le f = f
+made_cause rooms.NoMemory t l o k le f = f
+
+not_few : (n : ℕ) → 16 ≤ n → n < 16 → ⊥
+not_few n a b = omega (arith, a, b)
 
 pub record Roomed (room : Room) (t t2 : TcpState) : Type 0 where
   pub holds : Holds t2
@@ -105,21 +109,61 @@ pub record Roomed (room : Room) (t t2 : TcpState) : Type 0 where
   pub tcp : TcpWrote (tcp_view t) (tcp_view t2)
   pub is_framed : Framed (tcp_view t2)
 
-pub roomed : (flush : WireFlush) (room : Room) (t : TcpState) (o : OutletView) (l : LinkView) → Holds t → FlushedFrom [] flush (outlet_in t) o t.link l → RoomAfter flush (length o.waiting) room → Roomed room t (with_write t l o (marks_roomed room t.marks))
-roomed flush room t o l h p r =
+-- 16 waited
+made : (room : Room) (t : TcpState) (o : OutletView) (l : LinkView) → Holds t → IsMade [] room (outlet_in t) o t.link l → Roomed room t (with_write t l o (marks_roomed room t.marks))
+made room t o l h m =
+    let p = m.flushed in
     let w = p.wrote in
     let k : WireMarks = marks_roomed room t.marks in
-    let f = room_facts flush room o.waiting t.link l p.returned r in
+    let f = room_facts m.ended room o.waiting t.link l p.returned m.returned in
     let marks = roomed_marks room t.max t.link l t.unread (length o.waiting) t.marks h.marks w.counts w.went.is_open f in
     let h2 : Holds (with_write t l o k) = write_holds t l o k h w p.within (ready_roomed room t.link l (length o.waiting) t.marks f (still_room t l o h w)) marks in
     let e = kept t l o h w p.within in
     record {
       holds = h2;
       after = after_room room (wire_name t.link t.max t.spent) (wire_name l t.max t.spent) (taken_in t.max t.unread t.link.came) (taken_in t.max t.unread l.came) (put_in t.waiting t.sent t.link.written) (put_in o.waiting o.sent l.written) (length t.waiting) (length o.waiting) false t.marks e.name e.came e.outs (fewer t l o w);
-      cause = room_cause room t l o k (omega (arith, fewer t l o w, h.most)) f;
+      cause = record { few = (λ lt. absurd (not_few (length t.waiting) m.many lt)); many = (λ _. made_cause room t l o k (omega (arith, fewer t l o w, h.most)) f) };
       tcp = tcp_wrote t l o k w;
       is_framed = framed (with_write t l o k) h2;
     }
+
+-- the state with room found
+abbrev with_room : TcpState → TcpState
+with_room t = with_write t t.link (outlet_in t) (marks_roomed rooms.Yes t.marks)
+
+left_at : (t : TcpState) → Holds t → length t.waiting < 16 → Roomed rooms.Yes t (with_room t)
+left_at t h lt =
+    let h2 : Holds (with_room t) = record {
+      reads = h.reads;
+      writes = h.writes;
+      within = h.within;
+      fit = h.fit;
+      small = h.small;
+      most = h.most;
+      room = (λ _. lt);
+      waited = h.waited;
+      marks = ready_marks t.max t.link t.unread t.marks true h.marks;
+    } in
+    record {
+      holds = h2;
+      after = record { shows = refl; waits = omega arith };
+      cause = record { few = (λ _. (refl, refl)); many = (λ le. absurd (not_few (length t.waiting) le lt)) };
+      tcp = record { piece = []; went = went_none t.link; counts = wrote_counts_refl t.link; max = refl };
+      is_framed = framed (with_room t) h2;
+    }
+
+-- fewer waited
+left : (room : Room) (t : TcpState) (o : OutletView) (l : LinkView) → Holds t → IsLeft room (outlet_in t) o t.link l → Roomed room t (with_write t l o (marks_roomed room t.marks))
+left room t o l h a =
+    let at_room = subst (λ (r : Room). Roomed r t (with_write t t.link (outlet_in t) (marks_roomed r t.marks))) (sym a.returned) (left_at t h a.few) in
+    let at_outlet = subst (λ (x : OutletView). Roomed room t (with_write t t.link x (marks_roomed room t.marks))) (sym a.outlet) at_room in
+    subst (λ (x : LinkView). Roomed room t (with_write t x o (marks_roomed room t.marks))) (sym a.link_is) at_outlet
+
+pub roomed : (room : Room) (t : TcpState) (o : OutletView) (l : LinkView) → Holds t → RoomFrom [] room (outlet_in t) o t.link l → Roomed room t (with_write t l o (marks_roomed room t.marks))
+roomed room t o l h r = elim r [
+  | inl a ↦ left room t o l h a
+  | inr m ↦ made room t o l h m
+]
 
 -- ---- flush
 
@@ -182,7 +226,7 @@ put_holds t o m h ready is lt within =
       most = omega (arith, count, h.room ready);
       room = (λ e. absurd (none_ready e));
       waited = h.waited;
-      marks = put_marks t.max t.link t.unread t.marks h.marks;
+      marks = ready_marks t.max t.link t.unread t.marks false h.marks;
     }
 
 pub put_shows : (t : TcpState) (o : OutletView) (m : MessageView) → o ≡ record { waiting = t.waiting ++ wire_text m ∷ []; sent = t.sent } → AfterPut m (wire_of t) (wire_of (with_put t o))

@@ -1,5 +1,5 @@
 -- What writing does to what waits.
-use Rattle.std.specs.Prelude.{◌≡◌, ◌<◌, ◌+◌, ◌^◌, ◌++◌, ℕ, List, [], ◌∷◌, length, take, drop}
+use Rattle.std.specs.Prelude.{◌≡◌, ◌≤◌, ◌<◌, ◌+◌, ◌^◌, ◌++◌, ◌⊎◌, ℕ, List, [], ◌∷◌, length, take, drop}
 use Rattle.sp_tcp.specs.Marked.{marked, marked_all, head_of}
 use Rattle.sp_spec.specs.Outside.{Rose, IsPrefix}
 use Rattle.sp_base.specs.Views.{LinkView}
@@ -7,10 +7,13 @@ use Rattle.sp_base.specs.Steps.{Went, Quiet, AfterWrite}
 use Rattle.sp_base.specs.declared.outside.LinkWrite.{LinkWrite}
 use Rattle.sp_base.specs.declared.outside.LinkWrite.TheVariants as writes
 use Rattle.sp_msg.specs.Views.{MessageView, wire_text}
+use Rattle.sp_msg.specs.declared.wire.Room.{Room}
+use Rattle.sp_msg.specs.declared.wire.Room.TheVariants as rooms
 use Rattle.sp_msg.specs.declared.wire.WireFlush.{WireFlush}
 use Rattle.sp_msg.specs.declared.wire.WireFlush.TheVariants as flushes
 use Rattle.sp_tcp.specs.Views.{OutletView}
 use Rattle.sp_msg.specs.Links.{WriteCounts}
+use Rattle.sp_msg.specs.Wires.{RoomAfter}
 
 -- a part of the first frame, and not all of it
 abbrev pub SentWithin : List ℕ → ℕ → List (List ℕ) → Type 0
@@ -60,3 +63,20 @@ pub record FlushedFrom (mark : List ℕ) (result : WireFlush) (old new : OutletV
   pub within : SentWithin mark new.sent new.waiting
   pub wrote : Wrote mark old new link link'
   pub returned : FlushResult result new.waiting link link'
+
+-- fewer than 16 wait, and nothing is done
+pub record IsLeft (room : Room) (old new : OutletView) (link link' : LinkView) : Type 0 where
+  pub few : length old.waiting < 16
+  pub returned : room ≡ rooms.Yes
+  pub outlet : new ≡ old
+  pub link_is : link' ≡ link
+
+-- 16 wait, and what the link takes is written first
+pub record IsMade (mark : List ℕ) (room : Room) (old new : OutletView) (link link' : LinkView) : Type 0 where
+  pub many : 16 ≤ length old.waiting
+  pub ended : WireFlush
+  pub flushed : FlushedFrom mark ended old new link link'
+  pub returned : RoomAfter ended (length new.waiting) room
+
+abbrev pub RoomFrom : List ℕ → Room → OutletView → OutletView → LinkView → LinkView → Type 0
+RoomFrom mark room old new link link' = IsLeft room old new link link' ⊎ IsMade mark room old new link link'

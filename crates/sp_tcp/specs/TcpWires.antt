@@ -180,13 +180,21 @@ pub record TcpWrote (old new : TcpView) : Type 0 where
   pub counts : WriteCounts old.link new.link
   pub max : new.max ≡ old.max
 
--- room comes after all was written that the link takes
-abbrev pub RoomCause : Room → TcpView → TcpView → Type 0
-RoomCause rooms.Yes old new = (new.wire.waits < 16) × ((new.wire.waits ≡ 0) ⊎ Rose old.link.stalls new.link.stalls)
-RoomCause rooms.Full old new = (new.wire.waits ≡ 16) × Rose old.link.stalls new.link.stalls
-RoomCause rooms.Failed old new = Rose old.link.faults new.link.faults
-RoomCause rooms.Refused old new = ⊥
-RoomCause rooms.NoMemory old new = ⊥
+-- fewer than 16 wait: nothing is written, one message more may be put, and all else is as it was
+abbrev pub IsLeft : Room → TcpView → TcpView → Type 0
+IsLeft room old new = (room ≡ rooms.Yes) × (new ≡ record old { wire = record old.wire { is_ready = true } })
+
+-- 16 wait: room comes after all was written that the link takes
+abbrev pub RoomMade : Room → TcpView → TcpView → Type 0
+RoomMade rooms.Yes old new = (new.wire.waits < 16) × ((new.wire.waits ≡ 0) ⊎ Rose old.link.stalls new.link.stalls)
+RoomMade rooms.Full old new = (new.wire.waits ≡ 16) × Rose old.link.stalls new.link.stalls
+RoomMade rooms.Failed old new = Rose old.link.faults new.link.faults
+RoomMade rooms.Refused old new = ⊥
+RoomMade rooms.NoMemory old new = ⊥
+
+pub record RoomCause (room : Room) (old new : TcpView) : Type 0 where
+  pub few : old.wire.waits < 16 → IsLeft room old new
+  pub many : 16 ≤ old.wire.waits → RoomMade room old new
 
 abbrev pub FlushCause : WireFlush → TcpView → TcpView → Type 0
 FlushCause flushes.Empty old new = Unit {0}

@@ -5,17 +5,18 @@ ghost use Rattle.sp_spec.specs.SpTcp.{frame};
 ghost use Rattle.sp_tcp.specs.Marked.{marked, marked_all, head_of, IsMark};
 ghost use Rattle.sp_msg.specs.Views.{wire_text};
 ghost use Rattle.sp_tcp.specs.Stages.{added, gathered};
-ghost use Rattle.sp_tcp.specs.Outlets.{SentWithin, IsLongRest, Passed, WrotePrefix, WrotePiece, FlushedFrom};
+ghost use Rattle.sp_msg.specs.Wires.{RoomAfter};
+ghost use Rattle.sp_tcp.specs.Outlets.{SentWithin, IsLongRest, Passed, WrotePrefix, WrotePiece, FlushedFrom, RoomFrom};
 
 use crate::stage::WriteStage;
 use sp_base::{Link, LinkWrite, NoMemory};
-use sp_msg::{Message, WireFlush};
+use sp_msg::{Message, Room, WireFlush};
 use std::alloc::Global;
 use std::collections::VecDeque;
 use std::marker::Model;
 
 /// How many messages may wait.
-pub const MOST_WAITING: usize = 16;
+const MOST_WAITING: usize = 16;
 
 /// How many bytes are gathered for one write. A body of which more is left goes out from where it lies.
 const STAGE_ROOM: usize = 16_384;
@@ -209,4 +210,37 @@ pub fn write_from<L: Link>(outlet: &mut Outlet, mark: &[u8], link: &mut L) -> Wi
         }
     }
     WireFlush::Empty
+}
+
+// Whether there is room for one message more, after the writing ended so, where so many are not wholly written.
+fn room_after(flushed: WireFlush, waiting: usize) -> Room
+    ensures { RoomAfter flushed waiting result }
+{
+    match flushed {
+        WireFlush::Empty => Room::Yes,
+        WireFlush::NotYet => {
+            if waiting < MOST_WAITING {
+                Room::Yes
+            } else {
+                Room::Full
+            }
+        }
+        WireFlush::Failed => Room::Failed,
+        WireFlush::Refused => Room::Refused,
+        WireFlush::NoMemory => Room::NoMemory,
+    }
+}
+
+/// Whether there is room for one message more. Where as many wait as may, what the link takes is written first.
+pub fn room_from<L: Link>(outlet: &mut Outlet, mark: &[u8], link: &mut L) -> Room
+    requires is_open { (L.seen link.old).is_open ≡ true }
+    requires few { IsMark mark.now }
+    requires within { SentWithin mark.now outlet.old.sent outlet.old.waiting }
+    ensures { RoomFrom mark.now result outlet.old outlet.new (L.seen link.old) (L.seen link.new) }
+{
+    if outlet.len() < MOST_WAITING {
+        return Room::Yes;
+    }
+    let flushed = write_from(outlet, mark, link);
+    room_after(flushed, outlet.len())
 }

@@ -3,11 +3,10 @@ ghost use Rattle.std.specs.Prelude.{◌≡◌, ℕ, true, MatchResult};
 ghost use Rattle.sp_base.specs.Steps.{AfterShut as LinkShut};
 ghost use Rattle.sp_msg.specs.Wires.{AfterPull, AfterRoom, AfterPut, AfterFlush, AfterShut, may_flush};
 ghost use Rattle.sp_msg.specs.Marks.{fresh_marks};
-ghost use Rattle.sp_msg.specs.Wires.{RoomAfter};
 ghost use Rattle.sp_tcp.specs.TcpWires.{tcp_state, tcp_view, Holds, Met, IsNewWire, Framed, TcpPulled, TcpWrote, RoomCause, FlushCause};
 
 use crate::inlet::{Inlet, pull_from};
-use crate::outlet::{MOST_WAITING, Outlet, write_from};
+use crate::outlet::{Outlet, room_from, write_from};
 use crate::spent::Spent;
 use sp_base::{Link, NoMemory};
 use sp_msg::{Message, Room, Wire, WireFlush, WireIn, WireMarks};
@@ -42,25 +41,6 @@ impl<L: Link> Model for TcpWire<L> {
     ghost view = { λ w. tcp_view (tcp_state (L.seen w.link) w.inlet w.outlet w.max w.spent.ticks w.marks) };
 
     ghost invariant = { λ w. Holds (tcp_state (L.seen w.link) w.inlet w.outlet w.max w.spent.ticks w.marks) };
-}
-
-// What `room` returns after the writing ended so, where so many messages are not wholly written.
-fn room_after(flushed: WireFlush, waiting: usize) -> Room
-    ensures { RoomAfter flushed waiting result }
-{
-    match flushed {
-        WireFlush::Empty => Room::Yes,
-        WireFlush::NotYet => {
-            if waiting < MOST_WAITING {
-                Room::Yes
-            } else {
-                Room::Full
-            }
-        }
-        WireFlush::Failed => Room::Failed,
-        WireFlush::Refused => Room::Refused,
-        WireFlush::NoMemory => Room::NoMemory,
-    }
 }
 
 impl<L: Link> TcpWire<L> {
@@ -148,8 +128,7 @@ impl<L: Link> Wire for TcpWire<L> {
         ensures tcp { TcpWrote self.old self.new }
         ensures framed { Framed self.new }
     {
-        let flushed = write_from(&mut self.outlet, &[], &mut self.link);
-        let returned = room_after(flushed, self.outlet.len());
+        let returned = room_from(&mut self.outlet, &[], &mut self.link);
         self.marks.roomed(returned);
         returned
     }

@@ -118,6 +118,11 @@ pub other_accept : found (answer 1 (codes "101") (codes "x")) ≡ Some faults.Ac
 unfolding same_word tokens trim_ows accept_of base64 encode_symbols first_words schedule rounds compress hash_after digest_bytes sha1
 other_accept = refl
 
+-- an extension is refused before another subprotocol is
+pub an_extension : response_fault roles.Rep (codes "the sample nonce") (record (answer 1 (codes "101") (codes "s3pPLMBiTxaQ9kYGzzhZRbK+xOo=")) { fields = line (codes "sec-websocket-extensions") (codes "x") ∷ (answer 1 (codes "101") (codes "s3pPLMBiTxaQ9kYGzzhZRbK+xOo=")).fields }) ≡ Some faults.Extension
+unfolding same_word tokens trim_ows accept_of base64 encode_symbols first_words schedule rounds compress hash_after digest_bytes sha1
+an_extension = refl
+
 pub good_answer : found (answer 1 (codes "101") (codes "s3pPLMBiTxaQ9kYGzzhZRbK+xOo=")) ≡ None
 unfolding same_word tokens trim_ows accept_of base64 encode_symbols first_words schedule rounds compress hash_after digest_bytes sha1
 good_answer = refl

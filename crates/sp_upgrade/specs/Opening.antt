@@ -101,6 +101,7 @@ client_faults role nonce minor status lines =
     ∷ (faults.Upgrade, not (has_word (codes "websocket") (values (codes "Upgrade") lines)))
     ∷ (faults.Connection, not (has_word (codes "upgrade") (values (codes "Connection") lines)))
     ∷ (faults.Accept, not (is_text (sole (values (codes "Sec-WebSocket-Accept") lines)) (accept_of (base64 nonce))))
+    ∷ (faults.Extension, has_line (codes "Sec-WebSocket-Extensions") lines)
     ∷ (faults.Protocol, not (is_text (sole (values (codes "Sec-WebSocket-Protocol") lines)) (subprotocol (role_peer role))))
     ∷ []
 

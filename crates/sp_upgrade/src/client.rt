@@ -9,7 +9,7 @@ ghost use Rattle.sp_upgrade.specs.Texts.{Dials, IsDialed, request_text};
 use crate::blank::end_of_head;
 use crate::head::{Head, HeadFault};
 use crate::keys::{accept_value, key_text};
-use crate::lines::{any_has_token, sole_is};
+use crate::lines::{any_has_token, has_line, sole_is};
 use crate::server::MOST;
 use crate::texts::{host_text, request_text, subprotocol};
 use httparse::Status;
@@ -68,6 +68,9 @@ fn fault_of(
     if !sole_is(head, lines, b"Sec-WebSocket-Accept", &accept) {
         return Some(HeadFault::Accept);
     }
+    if has_line(head, lines, b"Sec-WebSocket-Extensions") {
+        return Some(HeadFault::Extension);
+    }
     let asked = subprotocol(role.peer()).as_bytes();
     if !sole_is(head, lines, b"Sec-WebSocket-Protocol", asked) {
         return Some(HeadFault::Protocol);
@@ -100,7 +103,7 @@ fn read_response(alloc: Global, head: &[u8], key: &[u8], role: Role) -> Head
 
 /// What the bytes that came to a dialing socket of this role come to, which wrote these 16 bytes of key (RFC 6455
 /// section 4.1): as `server_head`, with an empty answer. The lines of the accept value and of the subprotocol stand
-/// exactly once.
+/// exactly once, and none of an extension stands, since none was asked for.
 pub fn client_answer(alloc: Global, came: &[u8], key: &[u8], role: Role) -> Head
     requires { length key.now ≡ 16 }
     ensures { ClientAnswers result came.now key.now role }

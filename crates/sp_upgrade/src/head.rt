@@ -6,8 +6,8 @@ ghost use Rattle.sp_upgrade.specs.Opening.{AreOne, ServerAnswers, ClientAnswers}
 use sp_base::Bytes;
 
 /// Why a head opens no WebSocket, by the rules of RFC 6455, section 4.2.1 for a server and 4.1 for a client. A server
-/// finds the first eleven, a client `TooLong`, `NotHttp`, `Version`, `Status`, `Upgrade`, `Connection`, `Accept` and
-/// `Protocol`, each in this order.
+/// finds the first eleven, a client `TooLong`, `NotHttp`, `Version`, `Status`, `Upgrade`, `Connection`, `Accept`,
+/// `Extension` and `Protocol`, each in this order.
 #[derive(Clone, Copy, Debug, PartialEq, Eq)]
 pub enum HeadFault {
     /// 8,192 bytes have no blank line.
@@ -36,6 +36,8 @@ pub enum HeadFault {
     Status,
     /// Not exactly one Sec-WebSocket-Accept line, of the value that answers the key.
     Accept,
+    /// A Sec-WebSocket-Extensions line: no extension was asked for.
+    Extension,
 }
 
 /// What came of a head (RFC 6455 section 4).

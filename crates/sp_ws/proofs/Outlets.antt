@@ -1,5 +1,5 @@
 -- What sending and writing come to, step by step.
-use Rattle.std.proofs.Common.{◌≡◌, ◌≤◌, ◌<◌, ◌+◌, ◌-◌, ◌++◌, ℕ, true, false, nat_lt, List, [], ◌∷◌, length, take, drop, get_or, Option, Some, None, refl, sym, ap, subst, ◌∙◌, inl, inr, append-nil, append_assoc, arith}
+use Rattle.std.proofs.Common.{◌≡◌, ◌≤◌, ◌<◌, ◌+◌, ◌-◌, ◌++◌, ◌⊎◌, ℕ, true, false, nat_lt, List, [], ◌∷◌, length, take, drop, get_or, Option, Some, None, refl, sym, ap, subst, ◌∙◌, inl, inr, append-nil, append_assoc, arith}
 use Rattle.std.proofs.lemmas.Bool.{cond-true, cond-false}
 use Rattle.std.proofs.lemmas.Bool.Decides.{nat_tests, leb_tells}
 use Rattle.std.proofs.lemmas.List.{length-append, drop_more, take_more, take-append-drop, length-take}
@@ -15,7 +15,7 @@ use Rattle.websocket.specs.declared.protocol.frame.coding.Data.TheVariants as da
 use Rattle.websocket.specs.Frame.{encode_frame}
 use Rattle.websocket.specs.FrameHeader.{encode_header}
 use Rattle.websocket.specs.Connection.{whole_header}
-use Rattle.sp_ws.specs.Outlets.{passed, AreWithin, AreFrames, GaveOldest, Gave, Wrote, WroteAll, Written, FlushResult, FlushedFrom}
+use Rattle.sp_ws.specs.Outlets.{passed, AreWithin, AreFrames, GaveOldest, Gave, Wrote, WroteAll, Written, FlushResult, FlushedFrom, Answered}
 use Rattle.sp_msg.specs.declared.wire.WireFlush.{WireFlush}
 use Rattle.sp_msg.specs.declared.wire.WireFlush.TheVariants as flushes
 use Rattle.sp_ws.specs.declared.frames.FrameOut.TheVariants as outs
@@ -324,3 +324,27 @@ written flushes.NoMemory f l m a = absurd a
 
 pub flush_empty : (result : WireFlush) (o mid o3 : FrameOutletView) (f0 f f2 : FramesView) (l m : LinkView) → Gave o mid f0 f → f.refusals ≡ f0.refusals → Wrote mid o3 f f2 l m → WroteAll result f2 l m → count_of o3 ≡ 0 → FlushedFrom flushes.Empty o o3 f0 f2 l m
 flush_empty result o mid o3 f0 f f2 l m g r w a none = record { mid = mid; framed = f; gave = g; wrote = w; returned = (none, ap (λ (v : FramesView). v.refusals) w.frames ∙ r, written result f2 l m a) }
+
+-- ---- replies
+
+not_some : (ends : List ℕ) → 0 < length ends → ends ≡ [] → ⊥
+not_some ends some none = omega (arith, some, ap length none)
+
+not_new : (had n : ℕ) → n ≤ had → had < n → ⊥
+not_new had n le lt = omega (arith, le, lt)
+
+-- no write is tried
+pub answered_none : (had : ℕ) (o : FrameOutletView) (f : FramesView) (l : LinkView) → (0 < length o.ends) ⊎ (length f.waiting ≤ had) → Answered had o o f f l l
+answered_none had o f l why = record {
+  took = [];
+  outlet = refl;
+  waiting = refl;
+  frames = refl;
+  went = went_none l l (quiet_refl l);
+  counts = counts_refl l;
+  at_once = record {
+    tried = (λ is_new none. elim why [ inl some ↦ absurd (not_some o.ends some none) | inr le ↦ absurd (not_new had (length f.waiting) le is_new) ]);
+    none_new = (λ _. (refl, refl));
+    none_first = (λ _. (refl, refl));
+  };
+}

@@ -5,12 +5,15 @@ use Rattle.sp_base.specs.Views.{LinkView}
 use Rattle.sp_base.specs.Steps.{Went}
 use Rattle.sp_base.specs.declared.outside.LinkWrite.{LinkWrite}
 use Rattle.sp_base.specs.declared.outside.LinkWrite.TheVariants as writes
+use Rattle.sp_msg.specs.declared.wire.Room.{Room}
+use Rattle.sp_msg.specs.declared.wire.Room.TheVariants as rooms
 use Rattle.sp_msg.specs.declared.wire.WireFlush.{WireFlush}
 use Rattle.sp_msg.specs.declared.wire.WireFlush.TheVariants as flushes
 use Rattle.sp_ws.specs.Views.{FramesView, FrameOutletView, count_of}
 use Rattle.websocket.specs.declared.protocol.config.Role.{Role}
 use Rattle.sp_ws.specs.Frames.{IsFrame, AfterSend}
 use Rattle.sp_msg.specs.Links.{WriteCounts}
+use Rattle.sp_msg.specs.Wires.{RoomAfter}
 use Rattle.sp_ws.specs.declared.frames.FrameOut.{FrameOut}
 use Rattle.sp_ws.specs.declared.frames.FrameOut.TheVariants as outs
 
@@ -98,3 +101,40 @@ pub record FlushedFrom (result : WireFlush) (old new : FrameOutletView) (f f' : 
   pub gave : Gave old mid f framed
   pub wrote : Wrote mid new framed f' link link'
   pub returned : FlushResult result (count_of new) f f' link link'
+
+-- fewer than 16 wait, and nothing is done
+pub record IsLeft (room : Room) (old new : FrameOutletView) (f f' : FramesView) (link link' : LinkView) : Type 0 where
+  pub few : count_of old < 16
+  pub returned : room ≡ rooms.Yes
+  pub outlet : new ≡ old
+  pub frames : f' ≡ f
+  pub link_is : link' ≡ link
+
+-- 16 wait, and what is in hand is sent and what the link takes is written first
+pub record IsMade (room : Room) (old new : FrameOutletView) (f f' : FramesView) (link link' : LinkView) : Type 0 where
+  pub many : 16 ≤ count_of old
+  pub ended : WireFlush
+  pub flushed : FlushedFrom ended old new f f' link link'
+  pub returned : RoomAfter ended (count_of new) room
+
+abbrev pub RoomFrom : Room → FrameOutletView → FrameOutletView → FramesView → FramesView → LinkView → LinkView → Type 0
+RoomFrom room old new f f' link link' = IsLeft room old new f f' link link' ⊎ IsMade room old new f f' link link'
+
+-- ---- replies
+
+-- replies that are new go to the link at once, in one write, where no frame of a message waits before them; else nothing
+-- is written. These bytes are what it took
+pub record AtOnce (is_new : Type 0) (ends took : List ℕ) (link link' : LinkView) : Type 0 where
+  pub tried : is_new → ends ≡ [] → (0 < length took) ⊎ Rose link.stalls link'.stalls ⊎ Rose link.faults link'.faults
+  pub none_new : (is_new → ⊥) → (took ≡ []) × (link'.stalls ≡ link.stalls)
+  pub none_first : 0 < length ends → (took ≡ []) × (link'.stalls ≡ link.stalls)
+
+-- so many bytes waited before they came
+pub record Answered (had : ℕ) (old new : FrameOutletView) (f f' : FramesView) (link link' : LinkView) : Type 0 where
+  pub took : List ℕ
+  pub outlet : new ≡ old
+  pub waiting : f.waiting ≡ took ++ f'.waiting
+  pub frames : f' ≡ record f { waiting = f'.waiting }
+  pub went : Went took link link'
+  pub counts : WriteCounts link link'
+  pub at_once : AtOnce (had < length f.waiting) old.ends took link link'

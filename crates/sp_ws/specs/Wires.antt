@@ -1,8 +1,8 @@
 -- What a wire over WebSocket shows, and what ties it to its link and its frames.
 use Rattle.std.specs.Prelude.{◌≡◌, ◌≤◌, ◌<◌, ◌+◌, ◌-◌, ◌++◌, ◌⊎◌, ℕ, Bool, true, false, cond, List, [], ◌∷◌, length, take, Some, None}
-use Rattle.sp_spec.specs.Outside.{Rose}
+use Rattle.sp_spec.specs.Outside.{Rose, grown}
 use Rattle.sp_base.specs.Views.{LinkView}
-use Rattle.sp_base.specs.Steps.{Came, Went}
+use Rattle.sp_base.specs.Steps.{Moved, Went}
 use Rattle.sp_base.specs.Wires.{scheme_number}
 use Rattle.sp_msg.specs.Views.{WireView, WireName, OverLink}
 use Rattle.sp_msg.specs.Marks.{wire_view, fresh_marks}
@@ -14,8 +14,8 @@ use Rattle.sp_msg.specs.declared.wire.Room.TheVariants as rooms
 use Rattle.sp_msg.specs.declared.wire.WireFlush.{WireFlush}
 use Rattle.sp_msg.specs.declared.wire.WireFlush.TheVariants as flushes
 use Rattle.sp_ws.specs.Views.{FramesView, FrameOutletView, count_of, fresh_frames, HasLimits}
-use Rattle.sp_msg.specs.Links.{ReadCounts, WriteCounts}
-use Rattle.sp_ws.specs.Outlets.{AreWithin, AreFrames, passed, Written}
+use Rattle.sp_msg.specs.Links.{WriteCounts}
+use Rattle.sp_ws.specs.Outlets.{AreWithin, AreFrames, passed, Written, AtOnce}
 use Rattle.sp_ws.specs.Sides.{role_of}
 use Rattle.sp_ws.specs.declared.side.Side.{Side}
 use Rattle.sp_ws.specs.Pulls.{IsIdle, PullReads, WasFed}
@@ -113,16 +113,25 @@ PullCause ins.Failed old new = IsIdle new.frames × Rose old.link.faults new.lin
 PullCause ins.Refused old new = ⊥
 PullCause ins.NoMemory old new = Unit {0}
 
--- a pull sends nothing and writes nothing; what the link gave was fed; what the rules of frames answer by themselves
--- waits behind the rest; what came is what the crate that frames read
+-- how the counts of a link stand after reads and a write
+pub record PullCounts (old new : LinkView) : Type 0 where
+  pub faults : old.faults ≤ new.faults
+  pub idles : old.idles ≤ new.idles
+  pub stalls : old.stalls ≤ new.stalls
+
+-- a pull sends nothing; what the link gave was fed; what the rules of frames answer by themselves stands behind what
+-- waited, and goes to the link at once where no frame of a message waits; what the link took is the prefix of what waits
+-- then; what came is what the crate that frames read
 pub record WsPulled (result : WireIn) (old new : WsView) : Type 0 where
   pub cause : PullCause result old new
   pub piece : List ℕ
-  pub came : Came piece old.link new.link
+  pub took : List ℕ
+  pub moved : Moved (grown old.link.came piece) (grown old.link.written took) old.link new.link
   pub fed : WasFed result piece old.frames new.frames
-  pub counts : ReadCounts old.link new.link
+  pub counts : PullCounts old.link new.link
   pub replies : List ℕ
-  pub waiting : new.frames.waiting ≡ old.frames.waiting ++ replies
+  pub waiting : old.frames.waiting ++ replies ≡ took ++ new.frames.waiting
+  pub at_once : AtOnce (0 < length replies) old.outlet.ends took old.link new.link
   pub sent : new.frames.sent ≡ old.frames.sent
   pub outlet : new.outlet ≡ old.outlet
   pub max : new.max ≡ old.max
@@ -147,12 +156,21 @@ pub record WsWrote (old new : WsView) : Type 0 where
   pub kept : new.frames ≡ record old.frames { waiting = new.frames.waiting; sent = new.frames.sent }
   pub max : new.max ≡ old.max
 
-abbrev pub RoomCause : Room → WsView → WsView → Type 0
-RoomCause rooms.Yes old new = (new.wire.waits < 16) × (((new.wire.waits ≡ 0) × Written new.frames old.link new.link) ⊎ Rose old.link.stalls new.link.stalls)
-RoomCause rooms.Full old new = (new.wire.waits ≡ 16) × Rose old.link.stalls new.link.stalls
-RoomCause rooms.Failed old new = Rose old.link.faults new.link.faults
-RoomCause rooms.Refused old new = ⊥
-RoomCause rooms.NoMemory old new = Unit {0}
+-- fewer than 16 wait: nothing is sent or written, one message more may be put, and all else is as it was
+abbrev pub IsLeft : Room → WsView → WsView → Type 0
+IsLeft room old new = (room ≡ rooms.Yes) × (new ≡ record old { wire = record old.wire { is_ready = true } })
+
+-- 16 wait: room comes after all was written that the link takes
+abbrev pub RoomMade : Room → WsView → WsView → Type 0
+RoomMade rooms.Yes old new = (new.wire.waits < 16) × (((new.wire.waits ≡ 0) × Written new.frames old.link new.link) ⊎ Rose old.link.stalls new.link.stalls)
+RoomMade rooms.Full old new = (new.wire.waits ≡ 16) × Rose old.link.stalls new.link.stalls
+RoomMade rooms.Failed old new = Rose old.link.faults new.link.faults
+RoomMade rooms.Refused old new = ⊥
+RoomMade rooms.NoMemory old new = Unit {0}
+
+pub record RoomCause (room : Room) (old new : WsView) : Type 0 where
+  pub few : old.wire.waits < 16 → IsLeft room old new
+  pub many : 16 ≤ old.wire.waits → RoomMade room old new
 
 abbrev pub FlushCause : WireFlush → WsView → WsView → Type 0
 FlushCause flushes.Empty old new = Written new.frames old.link new.link

@@ -169,6 +169,18 @@ impl Stream {
         true
     }
 
+    /// Has the socket write what it keeps to its stream: the answer to a close frame (RFC 6455 section 5.5.1), which it
+    /// would write at its next read.
+    fn flush_socket(&mut self) -> bool
+        ensures kept { KeptUnread result self.old self.new }
+        ensures out { self.new.out ≡ self.old.out }
+        ensures reads { self.new.reads ≡ self.old.reads }
+    {
+        let unread = self.socket.get_ref().unread();
+        let flushed = self.socket.flush().is_ok();
+        flushed && self.socket.get_ref().unread() == unread
+    }
+
     /// Puts what the socket wrote behind what waits; the first `late` bytes of it were written before this call. Where
     /// many replies wait, those of this call stay in the socket's stream, in place of those before: the last pong may
     /// stand for all (RFC 6455 section 5.5.3).
@@ -176,6 +188,9 @@ impl Stream {
         ensures fetched { Fetched result self.old self.new }
         ensures reads { self.new.reads ≡ self.old.reads }
     {
+        if !self.flush_socket() {
+            return false;
+        }
         let written = self.socket.get_ref().out.len();
         if written == 0 {
             return true;

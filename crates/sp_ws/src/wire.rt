@@ -4,13 +4,12 @@ ghost use Rattle.sp_base.specs.Steps.{AfterShut as LinkShut};
 ghost use Rattle.sp_msg.specs.Views.{wire_text};
 ghost use Rattle.sp_msg.specs.Marks.{fresh_marks};
 ghost use Rattle.sp_msg.specs.Wires.{AfterPull, AfterRoom, AfterPut, AfterFlush, AfterShut, may_flush};
-ghost use Rattle.sp_msg.specs.Wires.{RoomAfter};
 ghost use Rattle.sp_ws.specs.Wires.{IsNewWire, Tied, WsPulled, WsWrote, RoomCause, FlushCause, Holds, ws_state, ws_view};
 
 use crate::counts_at_start::CountsAtStart;
 use crate::frames::Frames;
 use crate::inlet::{pull_from, read_room};
-use crate::outlet::{FrameOutlet, MOST_WAITING, flush_from};
+use crate::outlet::{FrameOutlet, flush_from, room_from};
 use crate::side::Side;
 use crate::socket::MemorySocket;
 use sp_base::{Link, NoMemory};
@@ -51,25 +50,6 @@ impl<L: Link> Model for WsWire<L> {
     ghost view = { λ w. ws_view (ws_state (L.seen w.link) w.frames w.outlet w.lost w.max w.spent.ticks w.marks) };
 
     ghost invariant = { λ w. Holds (ws_state (L.seen w.link) w.frames w.outlet w.lost w.max w.spent.ticks w.marks) × (0 < length w.room.items) };
-}
-
-// What `room` returns after the writing ended so, where so many messages are not wholly written.
-fn room_after(flushed: WireFlush, waiting: usize) -> Room
-    ensures { RoomAfter flushed waiting result }
-{
-    match flushed {
-        WireFlush::Empty => Room::Yes,
-        WireFlush::NotYet => {
-            if waiting < MOST_WAITING {
-                Room::Yes
-            } else {
-                Room::Full
-            }
-        }
-        WireFlush::Failed => Room::Failed,
-        WireFlush::Refused => Room::Refused,
-        WireFlush::NoMemory => Room::NoMemory,
-    }
 }
 
 impl<L: Link> WsWire<L> {
@@ -160,6 +140,7 @@ impl<L: Link> Wire for WsWire<L> {
         ensures ws { WsPulled result self.old self.new }
         ensures tied { Tied self.new }
     {
+        let had = self.frames.waiting().len();
         let (returned, lost) = pull_from(
             self.alloc,
             &mut self.frames,
@@ -167,6 +148,7 @@ impl<L: Link> Wire for WsWire<L> {
             &mut self.room,
             self.max,
         );
+        self.outlet.answer(&mut self.frames, &mut self.link, had);
         self.lost = lost;
         self.marks.pulled(&returned);
         returned
@@ -179,8 +161,7 @@ impl<L: Link> Wire for WsWire<L> {
         ensures ws { WsWrote self.old self.new }
         ensures tied { Tied self.new }
     {
-        let flushed = flush_from(&mut self.outlet, &mut self.frames, &mut self.link);
-        let returned = room_after(flushed, self.outlet.len());
+        let returned = room_from(&mut self.outlet, &mut self.frames, &mut self.link);
         self.marks.roomed(returned);
         returned
     }
@@ -211,7 +192,7 @@ impl<L: Link> Wire for WsWire<L> {
     }
 
     fn taken(&self) -> u64 {
-        0
+        self.outlet.taken()
     }
 
     fn shut(&mut self)

@@ -430,20 +430,27 @@ fn a_wire_holds_sixteen_messages(rt: HostRuntime) {
         "yyyyyyyyyyyyyyyyf",
     );
     let mut slow = wire(&rt, alloc, b"", 1, 1, &[], 100);
-    same(&rt, puts(alloc, &rt, &mut slow, 2).as_str(), "yy");
-    let link = slow.into_link();
     same(
         &rt,
-        link.link.written(),
-        b"\x00\x00\x00\x00\x00\x00\x00\x09\x00\x00\x00\x07hello".as_slice(),
+        puts(alloc, &rt, &mut slow, 17).as_str(),
+        "yyyyyyyyyyyyyyyyy",
     );
+    let link = slow.into_link();
+    let written = link.link.written();
+    same(&rt, written.len(), 16 * 17);
+    let first = b"\x00\x00\x00\x00\x00\x00\x00\x09\x00\x00\x00\x07hello";
+    holds(&rt, written.starts_with(first));
 }
 
 #[test]
 fn a_write_that_fails_ends_the_wire(rt: HostRuntime) {
     let alloc = rt.alloc();
     let mut fails = wire(&rt, alloc, b"", 1, 5, &[1], 100);
-    same(&rt, puts(alloc, &rt, &mut fails, 3).as_str(), "yx");
+    same(
+        &rt,
+        puts(alloc, &rt, &mut fails, 20).as_str(),
+        "yyyyyyyyyyyyyyyyx",
+    );
     let link = fails.into_link();
     same(&rt, link.link.written(), b"\x00\x00\x00\x00\x00".as_slice());
 }
@@ -458,13 +465,31 @@ fn tube(rt: &impl Abort, alloc: Global, held: u64) -> TcpWire<Tube>
 }
 
 #[test]
-fn frames_that_wait_go_out_in_one_write(rt: HostRuntime) {
+fn sixteen_frames_go_out_in_one_write(rt: HostRuntime) {
     let alloc = rt.alloc();
-    let mut wire = tube(&rt, alloc, 2);
-    same(&rt, puts(alloc, &rt, &mut wire, 4).as_str(), "yyyy");
+    let mut wire = tube(&rt, alloc, 1);
+    same(
+        &rt,
+        puts(alloc, &rt, &mut wire, 18).as_str(),
+        "yyyyyyyyyyyyyyyyfy",
+    );
+    same(&rt, wire.taken(), 16 * 17);
     let link = wire.into_link();
-    same(&rt, link.writes(), 3);
-    same(&rt, link.len(), 3 * 17);
+    same(&rt, link.writes(), 2);
+    same(&rt, link.len(), 16 * 17);
+}
+
+#[test]
+fn nothing_is_written_while_there_is_room(rt: HostRuntime) {
+    let alloc = rt.alloc();
+    let mut wire = tube(&rt, alloc, 0);
+    same(
+        &rt,
+        puts(alloc, &rt, &mut wire, 16).as_str(),
+        "yyyyyyyyyyyyyyyy",
+    );
+    same(&rt, wire.taken(), 0);
+    same(&rt, wire.into_link().writes(), 0);
 }
 
 // Puts a message, says what so many flushes returned, and shuts the wire.

@@ -227,6 +227,9 @@ const ANSWERS: &[u8] = b"\
     Accept^Sec-WebSocket-Accept: s3pPLMBiTxaQ9kYGzzhZRbK+xOo=\r\n\
     ^Sec-WebSocket-Accept: s3pPLMBiTxaQ9kYGzzhZRbK+xOo=\r\n\
     Sec-WebSocket-Accept: s3pPLMBiTxaQ9kYGzzhZRbK+xOo=\r\n|\
+    Extension^Upgrade: websocket\r\n^Upgrade: websocket\r\nSec-WebSocket-Extensions: permessage-deflate\r\n|\
+    Extension^rep.sp.nanomsg.org\r\n^req.sp.nanomsg.org\r\nsec-websocket-extensions: x; y=1\r\n|\
+    Accept^Accept: s3p^Extensions: x\r\nSec-WebSocket-Accept: t3p|\
     Protocol^rep.sp^x, rep.sp|\
     Protocol^rep.sp^req.sp|\
     Protocol^Sec-WebSocket-Protocol: rep.sp.nanomsg.org\r\n^|\

@@ -119,9 +119,9 @@ fn until_it_fails<R: Wait + Abort>(
 #[test]
 fn a_write_that_fails_fails_its_wire(rt: HostRuntime) {
     let first = until_it_fails(rt.alloc(), &rt, Side::Server, 100, 0);
-    same(&rt, first, (1, Room::Failed, 0));
+    same(&rt, first, (16, Room::Failed, 0));
     let third = until_it_fails(rt.alloc(), &rt, Side::Client { seed: 1 }, 2, 2);
-    same(&rt, third, (1, Room::Failed, 4));
+    same(&rt, third, (16, Room::Failed, 4));
 }
 
 // A wire that sends one message in writes of so many bytes; what it wrote.
