@@ -36,7 +36,7 @@ case_is --pul -- --pull --pull0
 case_is --pull0 -- --pull0
 case_is --surv -- --surveyor --surveyor0
 case_is --help -- --help
-case_is --dr --
+case_is --dr -- --drill
 case_is --pull --li -- --listen
 case_is --listen '' -- tcp:// ws:// inproc://
 case_is --listen t -- tcp://

@@ -60,12 +60,12 @@ _nngcat() {
     local roles='--pair --bus --pub --sub --push --pull --req --rep --surveyor --respondent
         --pair0 --bus0 --pub0 --sub0 --push0 --pull0 --req0 --rep0 --surveyor0 --respondent0'
     local others='--dial --listen --data --file --subscribe --count --interval --recv-timeout --send-timeout
-        --ascii --raw --quoted --hex --msgpack --help --version'
+        --ascii --raw --quoted --hex --msgpack --drill --help --version'
     COMPREPLY=()
     _nngcat_words
     value=$word
     case $before in
-        --file | --dial | --listen | --data | --subscribe | --count | --interval | --recv-timeout | --send-timeout)
+        --file | --dial | --listen | --data | --subscribe | --count | --interval | --recv-timeout | --send-timeout | --drill)
             _nngcat_value "$before" ;;
         *)
             if [[ $word == --*=* ]]; then
