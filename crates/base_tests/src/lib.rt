@@ -7,6 +7,8 @@ mod addresses;
 #[cfg(test)]
 mod checks;
 #[cfg(test)]
+mod deadline_calls;
+#[cfg(test)]
 mod deadlines;
 #[cfg(test)]
 mod lanes;

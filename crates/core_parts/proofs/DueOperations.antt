@@ -3,7 +3,7 @@ use Rattle.std.proofs.Common.{◌≡◌, refl, ap, ◌∙◌, List, [], ◌∷�
 use Rattle.std.specs.Prelude.{map, filter, not}
 use Rattle.std.proofs.lemmas.List.Elements.{All-nil}
 use Rattle.aio_expire.specs.declared.deadlines.Deadline.{Deadline}
-use Rattle.aio_expire.specs.Schedule.{Schedule, due_of, later_than, op_of}
+use Rattle.aio_expire.specs.Schedule.{Schedule, Turning, due_of, later_than, op_of}
 use Rattle.sp_base.specs.declared.OpName.{OpName}
 use Rattle.sp_history.specs.declared.parts.Timer.{Timer}
 use Rattle.sp_history.specs.declared.entry.Entry.TheVariants.{Tick}
@@ -39,10 +39,10 @@ left_due ts at = filter_map (λ d. not (is_due at (record { due = d.at; op = d.o
 
 -- ---- the lists of operations
 
-pub due_names : (s : Operations) (t : Moment) (at : ℕ) (old new : List OpName) → OperationsStand [] s t → new ≡ old ++ map op_of (due_of at s.deadlines.entries) → new ≡ old ++ due_at (past t) at
+pub due_names : (s : Operations) (t : Moment) (at : ℕ) (old new : List OpName) → OperationsStand [] s t → new ≡ old ++ map op_of (due_of at s.deadlines.schedule.entries) → new ≡ old ++ due_at (past t) at
 due_names s t at old new h n = n ∙ ap (λ (v : Schedule). old ++ map op_of (due_of at v.entries)) h.deadlines_are ∙ ap (λ (xs : List OpName). old ++ xs) (names_due (timers (past t)) at)
 
-pub operations_ticked : (s : Operations) (d : Schedule) (t : Moment) (at : ℕ) (due : List OpName) → OperationsStand [] s t → d ≡ record s.deadlines { entries = later_than at s.deadlines.entries } → OperationsStand [] (record s { deadlines = d }) (also t (Tick at due))
+pub operations_ticked : (s : Operations) (d : Turning) (t : Moment) (at : ℕ) (due : List OpName) → OperationsStand [] s t → d.schedule ≡ record s.deadlines.schedule { entries = later_than at s.deadlines.schedule.entries } → OperationsStand [] (record s { deadlines = d }) (also t (Tick at due))
 operations_ticked s d t at due h e =
     record {
       pending_is = h.pending_is;

@@ -42,7 +42,7 @@ pub one_more_done : (s : Operations) (t : Moment) (op : OpName) (b : Begun) (d :
 one_more_done s t op b d h l p = one_more_counted s.done.items op.slot d (empty_place s t op b h l p) (has_place s t op b h l p)
 
 pub ended : (s r : Operations) (t : Moment) (op : OpName) (b : Begun) (ending : Ending) (outcome : Outcome) → OperationsStand [] s t → Lawful t → pending (past t) op ≡ Some b → outcome ≡ outcome_of b ending
-    → r.pending ≡ record s.pending { items = others_than op s.pending.items } → r.done.items ≡ set s.done.items op.slot (Some (record { op = op; outcome = outcome })) → r.free ≡ s.free → r.deadlines ≡ record s.deadlines { entries = deadlines_but op.slot s.deadlines.entries }
+    → r.pending ≡ record s.pending { items = others_than op s.pending.items } → r.done.items ≡ set s.done.items op.slot (Some (record { op = op; outcome = outcome })) → r.free ≡ s.free → r.deadlines.schedule ≡ record s.deadlines.schedule { entries = deadlines_but op.slot s.deadlines.schedule.entries }
     → OperationsStand [] r (also t (End op ending))
 ended s r t op b ending outcome h l p o left de fe dl =
     let before = past t in
@@ -55,7 +55,7 @@ ended s r t op b ending outcome h l p o left de fe dl =
     let set_is : AreBySlot r.done.items (uncollected before ++ x ∷ []) =
     subst (λ (xs : List (Option EndedOperation)). AreBySlot xs (uncollected before ++ x ∷ [])) (sym de) (put_in s.done.items (uncollected before) op.slot x one h.done_is (has_place s t op b h l p) (ap (λ (o : OpName). o.slot) named) one_is (none_ended_yet t op b l p)) in
     let done_is : AreBySlot r.done.items (uncollected before ++ ended_as ending (pending before op)) = rw p set_is in
-    let due : r.deadlines ≡ record { slots = t.z.slots; entries = deadlines_of (filter (λ x. not (same_op x.op op)) (timers before)) } =
+    let due : r.deadlines.schedule ≡ record { slots = t.z.slots; entries = deadlines_of (filter (λ x. not (same_op x.op op)) (timers before)) } =
     dl ∙ ap (λ (v : Schedule). record v { entries = deadlines_but op.slot v.entries }) h.deadlines_are ∙ ap (λ xs. record { slots = t.z.slots; entries = xs }) (deadlines_others op.slot (timers before) ∙ ap deadlines_of (timers_left t op b l p)) in
     let less = without_shorter (pend before) op b p in
     record {

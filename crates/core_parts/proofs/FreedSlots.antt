@@ -315,7 +315,7 @@ collected s r t op k it l h there named inside de fe pe dl fc =
       record {
         pending_is = ap (λ v. v.items) pe ∙ h.pending_is;
         done_is = subst (λ (xs : List (Option EndedOperation)). AreBySlot xs (uncollected (Took op k ∷ before))) (sym de) (taken_from s.done.items es op it h.done_is inside there named);
-        deadlines_are = dl ∙ h.deadlines_are;
+        deadlines_are = ap (λ v. v.schedule) dl ∙ h.deadlines_are;
         free_is = subst (All (λ j. (j < t.z.slots) × (is_free (Took op k ∷ before) j ≡ true))) (sym fe) (All-push (λ j. (j < t.z.slots) × (is_free (Took op k ∷ before) j ≡ true)) s.free.items op.slot (All-weaker (λ j. (j < t.z.slots) × (is_free before j ≡ true)) (λ j. (j < t.z.slots) × (is_free (Took op k ∷ before) j ≡ true)) (λ j m. (m.0, free_still before op k j here m.1)) s.free.items h.free_is) (slot_in, here));
         drawn_is = All-nil (λ j. (j < t.z.slots) × (is_free (Took op k ∷ before) j ≡ true) × (has r.free.items j ≡ false));
         free_apart = subst Apart (sym fe) (apart_push s.free.items op.slot h.free_apart (not_had before op.slot s.free.items (omega (arith, less)) (recursion_from_All (λ j. is_free before j ≡ true) s.free.items (All-weaker (λ j. (j < t.z.slots) × (is_free before j ≡ true)) (λ j. is_free before j ≡ true) (λ j m. m.1) s.free.items h.free_is))));

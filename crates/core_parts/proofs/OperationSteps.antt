@@ -121,7 +121,7 @@ module _ (slots : ℕ) (free : ℕ → Bool) (gens : ℕ → ℕ) where
           record {
             pending_is = ap (λ v. v.items) pe ∙ h.pending_is;
             done_is = rw de h.done_is;
-            deadlines_are = dl ∙ h.deadlines_are;
+            deadlines_are = ap (λ v. v.schedule) dl ∙ h.deadlines_are;
             free_is = all.0;
             drawn_is = All-cons (λ i. (i < slots) × (free i ≡ true) × (has r.free.items i ≡ false)) slot [] (all.1.0, all.1.1, apart.1) (All-nil _);
             free_apart = apart.0;
@@ -142,7 +142,7 @@ module _ (slots : ℕ) (free : ℕ → Bool) (gens : ℕ → ℕ) where
         record {
           pending_is = ap (λ v. v.items) pe ∙ h.pending_is;
           done_is = rw de h.done_is;
-          deadlines_are = dl ∙ h.deadlines_are;
+          deadlines_are = ap (λ v. v.schedule) dl ∙ h.deadlines_are;
           free_is = subst (All (λ i. (i < slots) × (free i ≡ true))) (sym f) (All-push (λ i. (i < slots) × (free i ≡ true)) s.free.items slot h.free_is (one.0, one.1));
           drawn_is = All-nil _;
           free_apart = subst Apart (sym f) (apart_push s.free.items slot h.free_apart one.2);
@@ -167,7 +167,7 @@ module _ (slots : ℕ) (free : ℕ → Bool) (gens : ℕ → ℕ) where
         go false f = inl refl
 
 -- no operation, and every slot free
-pub made : (s : Operations) (slots : ℕ) → s.pending ≡ record { slots = slots; items = [] } → s.done.items ≡ replicate slots None → s.deadlines ≡ record { slots = slots; entries = [] } → EverySlot slots s.free.items → slots ≤ vec_capacity s.free
+pub made : (s : Operations) (slots : ℕ) → s.pending ≡ record { slots = slots; items = [] } → s.done.items ≡ replicate slots None → s.deadlines.schedule ≡ record { slots = slots; entries = [] } → EverySlot slots s.free.items → slots ≤ vec_capacity s.free
     → Holds [] s slots [] [] [] (λ i. true) (λ i. 0)
 made s slots pe de dl all fc =
     record {

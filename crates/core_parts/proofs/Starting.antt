@@ -56,19 +56,19 @@ other_way x y h = grind (arith, nat_tests)
 pub drawn_free : (s : Operations) (t : Moment) (slot : ℕ) → OperationsStand (slot ∷ []) s t → (slot < t.z.slots) × (is_free (past t) slot ≡ true) × (has s.free.items slot ≡ false)
 drawn_free s t slot h = All-head (λ i. (i < t.z.slots) × (is_free (past t) i ≡ true) × (has s.free.items i ≡ false)) slot [] h.drawn_is
 
-pub slot_idle : (s : Operations) (t : Moment) (slot : ℕ) → OperationsStand (slot ∷ []) s t → Lawful t → count_of slot s.deadlines.entries ≡ 0
+pub slot_idle : (s : Operations) (t : Moment) (slot : ℕ) → OperationsStand (slot ∷ []) s t → Lawful t → count_of slot s.deadlines.schedule.entries ≡ 0
 slot_idle s t slot h l =
     let apart = apart_timers t slot l (drawn_free s t slot h).1 in
     ap (λ (v : Schedule). count_of slot v.entries) h.deadlines_are ∙ deadlines_none slot (timers (past t)) (Each-weaker (λ (x : Timer). (slot == x.op.slot) ≡ false) (λ (x : Timer). (x.op.slot == slot) ≡ false) (λ x k. other_way slot x.op.slot k) (timers (past t)) apart)
 
 pub with_deadline : (s : Operations) (t : Moment) (op : OpName) (due : ℕ) → OperationsStand (op.slot ∷ []) s t → Lawful t
-    → record s.deadlines { entries = put_in (record { at = due; op = op }) s.deadlines.entries } ≡ record { slots = t.z.slots; entries = deadlines_of (timers (past t) ++ timer_of op (Some due)) }
+    → record s.deadlines.schedule { entries = put_in (record { at = due; op = op }) s.deadlines.schedule.entries } ≡ record { slots = t.z.slots; entries = deadlines_of (timers (past t) ++ timer_of op (Some due)) }
 with_deadline s t op due h l =
     let apart = apart_timers t op.slot l (drawn_free s t op.slot h).1 in
     let d : Timer = record { due = due; op = op } in
     ap (λ (v : Schedule). record v { entries = put_in (deadline_of d) v.entries }) h.deadlines_are ∙ ap (λ xs. record { slots = t.z.slots; entries = xs }) (sym (deadlines_put (timers (past t)) d apart))
 
-pub with_none : (s : Operations) (t : Moment) (op : OpName) → OperationsStand (op.slot ∷ []) s t → s.deadlines ≡ record { slots = t.z.slots; entries = deadlines_of (timers (past t) ++ timer_of op None) }
+pub with_none : (s : Operations) (t : Moment) (op : OpName) → OperationsStand (op.slot ∷ []) s t → s.deadlines.schedule ≡ record { slots = t.z.slots; entries = deadlines_of (timers (past t) ++ timer_of op None) }
 with_none s t op h = h.deadlines_are ∙ ap (λ xs. record { slots = t.z.slots; entries = deadlines_of xs }) (sym (append-nil (timers (past t))))
 
 -- no operation of a free slot is pending
@@ -132,7 +132,7 @@ apart_from (x ∷ xs) slot h =
 -- ---- The begin
 
 pub begun : (s r : Operations) (t : Moment) (op : OpName) (c : ℕ) (act : RecordedAct) (d : Option ℕ) → OperationsStand (op.slot ∷ []) s t → r.pending ≡ record s.pending { items = s.pending.items ++ record { op = op; ctx = c } ∷ [] } → r.free ≡ s.free → r.done ≡ s.done
-    → r.deadlines ≡ record { slots = t.z.slots; entries = deadlines_of (timers (past t) ++ timer_of op d) } → OperationsStand [] r (also t (Begin op t.caller c act d))
+    → r.deadlines.schedule ≡ record { slots = t.z.slots; entries = deadlines_of (timers (past t) ++ timer_of op d) } → OperationsStand [] r (also t (Begin op t.caller c act d))
 begun s r t op c act d h pe fe de dl =
     let before = past t in
     let p : r.pending.items ≡ s.pending.items ++ record { op = op; ctx = c } ∷ [] = ap (λ v. v.items) pe in

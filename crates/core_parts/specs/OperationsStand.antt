@@ -64,7 +64,7 @@ AreBySlot xs es = (slot : ℕ) (d : EndedOperation) → (done_at xs slot ≡ Som
 pub record Holds (drawn : List ℕ) (s : Operations) (slots : ℕ) (ss : List Begun) (es : List OperationEnd) (ds : List Timer) (free : ℕ → Bool) (gens : ℕ → ℕ) : Type 0 where
   pub pending_is : s.pending.items ≡ map pending_of ss
   pub done_is : AreBySlot s.done.items es
-  pub deadlines_are : s.deadlines ≡ record { slots = slots; entries = deadlines_of ds }
+  pub deadlines_are : s.deadlines.schedule ≡ record { slots = slots; entries = deadlines_of ds }
   pub free_is : All (λ i. (i < slots) × (free i ≡ true)) s.free.items
   pub drawn_is : All (λ i. (i < slots) × (free i ≡ true) × (has s.free.items i ≡ false)) drawn
   pub free_apart : Apart s.free.items

@@ -26,7 +26,7 @@ fn is_there(done: &[Option<EndedOperation>], op: OpName) -> bool
 impl Operations {
     /// Names the operations whose deadline is `now` or earlier, by deadline and then by slot. No one is named again.
     pub fn due(&mut self, now: Tick, out: &mut NameList)
-        requires { self.old.deadlines.slots ≤ out.old.spare }
+        requires { self.old.deadlines.schedule.slots ≤ out.old.spare }
         ensures names { (t : Moment) → OperationsStand [] self.old t → out.new.names ≡ out.old.names ++ due_at (past t) now }
         ensures spare { out.new.spare + length out.new.names ≡ out.old.spare + length out.old.names }
         ensures due { (t : Moment) (due : List OpName) → OperationsStand [] self.old t → OperationsStand [] self.new (also t (entries.Tick now due)) }

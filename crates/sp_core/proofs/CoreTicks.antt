@@ -88,7 +88,7 @@ module _ {P W : Type 0} (ties : P → Moment → Type 0) (room : P → ℕ) (sho
   pub not_ticked : (c : Core P W) (t : Moment) (at : ℕ) (names : List OpName) → Owns ties room shown [] c t → c.closed ≡ true → Ticks (is_closed (past t)) (Owns ties room shown [] c) t at names names
   not_ticked c t at names g closed = subst (λ (b : Bool). Ticks b (Owns ties room shown [] c) t at names names) (sym (g.closed ∙ closed)) (g, refl)
 
-  pub enough_room : (c : Core P W) (t : Moment) (spare : ℕ) → Owns ties room shown [] c t → c.op_words.words.slots ≤ spare → c.operations.deadlines.slots ≤ spare
+  pub enough_room : (c : Core P W) (t : Moment) (spare : ℕ) → Owns ties room shown [] c t → c.op_words.words.slots ≤ spare → c.operations.deadlines.schedule.slots ≤ spare
   enough_room c t spare g h = omega (arith, h, g.op_words.slots_are, ap (λ (v : Schedule). v.slots) g.operations.deadlines_are)
 
   -- where the core stands after the tick

@@ -1,37 +1,21 @@
-use Rattle.std.proofs.Common.{◌≡◌, List, sym, ap, subst, ◌∙◌, arith}
-use Rattle.aio_expire.specs.declared.deadlines.Deadline.{Deadline}
-use Rattle.aio_expire.specs.Schedule.{Schedule, IsSchedule, AreTimed, IsEntryOf, others_than, count_of}
-use Rattle.aio_expire.proofs.Schedules.{schedule_filter}
-use Rattle.aio_expire.proofs.EntriesByTick.{Each-filter, others}
-use Rattle.aio_expire.proofs.Found.{none_of}
+use Rattle.std.proofs.Common.{◌<◌, None, length, set, ap, subst, ◌∙◌}
+use Rattle.std.specs.Prelude.{is_some, IsTrue, ◌↔◌}
+use Rattle.aio_expire.specs.Schedule.{Schedule, Turning, count_of, others_than}
+use Rattle.aio_expire.specs.SlotEntries.{SlotEntries, AreOwn, in_order}
+use Rattle.aio_expire.proofs.WheelSchedules.{had-entry, take-schedule, schedule-of}
 use Rattle.aio_expire.proofs.deadlines.Deadlines.remove.Goals as goal
 
-pub returns-in_default-clause-rest : goal.returns-in_default-clause-rest
-returns-in_default-clause-rest c =
-    let s : Schedule = c.args.self.now in
-    let items = c.deref.ensures.value ∙ ap (λ (v : Schedule). v.entries) c.self.view_is in
-    let none : count_of c.args.slot s.entries ≡ 0 = subst (λ (es : List Deadline). count_of c.args.slot es ≡ 0) items (c.found.ensures.none c.in_default.is) in
-    ap (λ (es : List Deadline). record s { entries = es }) (sym (none_of c.args.slot s.entries (others c.args.slot s.entries none)).1)
+pub returns-clause-had : goal.returns-clause-had
+returns-clause-had c =
+    subst (λ (v : Turning). IsTrue c.is_some.result ↔ (0 < count_of c.args.slot v.schedule.entries)) c.self.view_is
+    (had-entry c.self.inside.by_slot.cells c.args.slot c.is_some.result c.self.invariant.0 (c.is_some.ensures ∙ ap is_some c.take.ensures.entry))
 
-pub remove-requires : goal.remove-requires
-remove-requires c =
-    let e : IsEntryOf c.args.slot c.in-Some.place c.self.inside.entries.items = subst (λ (es : List Deadline). IsEntryOf c.args.slot c.in-Some.place es) c.deref.ensures.value (c.found.ensures.some c.in-Some.place c.in-Some.is) in
-    omega (arith, e.inside, c.self.inside.entries.ok)
-
-pub invariant_of-self : goal.invariant_of-self
-invariant_of-self c =
-    let s : Schedule = record { slots = c.self.inside.slots; entries = c.self.inside.entries.items } in
-    let e : IsEntryOf c.args.slot c.in-Some.place s.entries = subst (λ (es : List Deadline). IsEntryOf c.args.slot c.in-Some.place es) c.deref.ensures.value (c.found.ensures.some c.in-Some.place c.in-Some.is) in
-    let left : c.remove.new.self.items ≡ others_than c.args.slot s.entries = c.remove.ensures.by_index.2 ∙ e.others in (
-      subst (λ (es : List Deadline). IsSchedule record s { entries = es }) (sym left) (schedule_filter s _ c.self.invariant.0),
-      omega (arith, c.remove.ensures.capacity, c.self.invariant.1),
-      c.self.invariant.2,
-      subst (λ (es : List Deadline). AreTimed c.self.inside.times.items es) (sym left) (Each-filter _ _ s.entries c.self.invariant.3),
-    )
+pub returns-clause-rest : goal.returns-clause-rest
+returns-clause-rest c =
+    let cells = c.self.inside.by_slot.cells in
+    let own' : AreOwn (set cells c.args.slot None) = subst (λ (v : SlotEntries). AreOwn v.cells) c.take.ensures.rest c.take.ensures.own in
+    ap (λ (v : SlotEntries). let s : Schedule = record { slots = length v.cells; entries = in_order v.cells } in s) c.take.ensures.rest ∙ take-schedule cells c.args.slot c.self.invariant.0 own'
+    ∙ ap (λ (v : Turning). let s : Schedule = record { slots = v.schedule.slots; entries = others_than c.args.slot v.schedule.entries } in s) c.self.view_is
 
 pub returns-clause-schedule : goal.returns-clause-schedule
-returns-clause-schedule c =
-    let s : Schedule = record { slots = c.self.inside.slots; entries = c.self.inside.entries.items } in
-    let e : IsEntryOf c.args.slot c.in-Some.place s.entries = subst (λ (es : List Deadline). IsEntryOf c.args.slot c.in-Some.place es) c.deref.ensures.value (c.found.ensures.some c.in-Some.place c.in-Some.is) in
-    let left : c.remove.new.self.items ≡ others_than c.args.slot s.entries = c.remove.ensures.by_index.2 ∙ e.others in
-    subst (λ (es : List Deadline). IsSchedule record s { entries = es }) (sym left) (schedule_filter s _ c.self.invariant.0)
+returns-clause-schedule c = schedule-of c.take.new.self.cells c.take.ensures.own

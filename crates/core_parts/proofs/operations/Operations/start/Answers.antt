@@ -23,11 +23,11 @@ pub returns-in-Some-clause-started : goal.returns-in-Some-clause-started
 returns-in-Some-clause-started c =
     λ t act h l.
     let due = c.put.ensures.put ∙ with_deadline c.args.self.now t c.args.op c.in-Some.at h (lawful_before t _ l) in
-    let due' = subst (λ (d : Option ℕ). c.put.new.self ≡ record { slots = t.z.slots; entries = deadlines_of (timers (past t) ++ timer_of c.args.op d) }) (sym c.in-Some.is) due in
+    let due' = subst (λ (d : Option ℕ). c.put.new.self.schedule ≡ record { slots = t.z.slots; entries = deadlines_of (timers (past t) ++ timer_of c.args.op d) }) (sym c.in-Some.is) due in
     begun c.args.self.now _ t c.args.op c.args.ctx act c.args.deadline h c.add.ensures refl refl due'
 
 pub returns-in_default-clause-started : goal.returns-in_default-clause-started
 returns-in_default-clause-started c =
     λ t act h l.
-    let due = subst (λ (d : Option ℕ). c.args.self.now.deadlines ≡ record { slots = t.z.slots; entries = deadlines_of (timers (past t) ++ timer_of c.args.op d) }) (sym c.in_default.is) (with_none c.args.self.now t c.args.op h) in
+    let due = subst (λ (d : Option ℕ). c.args.self.now.deadlines.schedule ≡ record { slots = t.z.slots; entries = deadlines_of (timers (past t) ++ timer_of c.args.op d) }) (sym c.in_default.is) (with_none c.args.self.now t c.args.op h) in
     begun c.args.self.now _ t c.args.op c.args.ctx act c.args.deadline h c.add.ensures refl refl due

@@ -18,7 +18,7 @@ at_start s slots t none n h =
 pub returns-clause-holds : goal.returns-clause-holds
 returns-clause-holds c =
     λ t none n.
-    at_start _ c.args.slots t none n (made _ c.args.slots c.in_ok-new.ensures c.in_ok-no_outcomes.ensures c.in_ok-new-2.ensures (every_slot c.args.slots _ c.in_ok-all_slots.ensures.slots) c.in_ok-all_slots.ensures.room)
+    at_start _ c.args.slots t none n (made _ c.args.slots c.in_ok-new.ensures c.in_ok-no_outcomes.ensures (ap (λ v. v.schedule) c.in_ok-new-2.ensures) (every_slot c.args.slots _ c.in_ok-all_slots.ensures.slots) c.in_ok-all_slots.ensures.room)
 
 pub returns-clause-all : goal.returns-clause-all
 returns-clause-all c = ((every_slot c.args.slots _ c.in_ok-all_slots.ensures.slots).count, ap (λ (xs : List (Option EndedOperation)). length (filter is_some xs)) c.in_ok-no_outcomes.ensures ∙ none_counted c.args.slots)
