@@ -47,7 +47,8 @@ How often and how long:
   --recv-timeout SECONDS  end with status 0 where nothing comes for so long,
                           0 to 86,400. Default: never
   --send-timeout SECONDS  end with status 2 where nothing can be sent for so
-                          long, 0 to 86,400, once all is written. Default: never
+                          long, 0 to 86,400, once all is written, or no peer
+                          took more of it for as long again. Default: never
 
 Alone:
   --drill N               tests N messages, 1 to 1,000,000, with four threads
