@@ -34,10 +34,7 @@ fn answered<R: Wait + Abort>(alloc: Global, rt: &R, side: Side, bytes: &[u8]) ->
     let has_ended = matches!(w.pull(rt), WireIn::Ended);
     w.shut();
     let link = w.into_link();
-    (
-        made(rt, Vec::from_slice(alloc, link.written())),
-        has_ended,
-    )
+    (made(rt, Vec::from_slice(alloc, link.written())), has_ended)
 }
 
 // What answers these bytes is written by the pull that found them.
@@ -57,14 +54,7 @@ fn check_answer<R: Wait + Abort>(
 #[test]
 fn a_pong_answers_a_ping(rt: HostRuntime) {
     let ping = b"\x89\x81\x00\x00\x00\x00p";
-    check_answer(
-        rt.alloc(),
-        &rt,
-        Side::Server,
-        ping,
-        b"\x8a\x01p",
-        false,
-    );
+    check_answer(rt.alloc(), &rt, Side::Server, ping, b"\x8a\x01p", false);
     let masked = b"\x8a\x81\x51\x75\xda\x14\x21";
     let side = Side::Client { seed: 7 };
     check_answer(rt.alloc(), &rt, side, b"\x89\x01p", masked, false);
