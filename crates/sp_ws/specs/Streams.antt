@@ -30,7 +30,7 @@ unread_of s = length (unread_in s.socket.stream)
 -- what a socket shows of its stream and of what it counts beside it; it refuses nothing
 abbrev pub frames_view : Stream → List (List ℕ) → List (List ℕ) → LastResult → ℕ → FramesView
 frames_view s came sent last breaks =
-    record { role = s.role; handed = handed_in s; fed = s.fed.items; left = unread_of s; waiting = s.out.items; came = came; sent = sent; last = last; refusals = 0; breaks = breaks; reads = s.reads.all; config = s.socket.conn.config }
+    record { role = s.role; handed = handed_in s; fed = s.fed.items; left = unread_of s; waiting = s.out; came = came; sent = sent; last = last; refusals = 0; breaks = breaks; reads = s.reads.all; config = s.socket.conn.config }
 
 -- behind so many bytes these bytes stand, and no more
 abbrev pub IsBehind : ℕ → List ℕ → List ℕ → Type 0
@@ -47,7 +47,7 @@ KeptUnread done old new = (new.fed ≡ old.fed) × (new.role ≡ old.role) × (d
 
 -- and more waits than before
 abbrev pub Fetched : Bool → Stream → Stream → Type 0
-Fetched done old new = KeptUnread done old new × ((replies : List ℕ) × (new.out.items ≡ old.out.items ++ replies))
+Fetched done old new = KeptUnread done old new × ((replies : List ℕ) × (new.out ≡ old.out ++ replies))
 
 -- ---- reading
 
@@ -85,7 +85,7 @@ Noted returned old new = ReadsTo returned old.reads.all new.reads.all (unread_of
 
 pub record NextIs (returned : FrameIn) (old new : Stream) : Type 0 where
   pub replies : List ℕ
-  pub waiting : new.out.items ≡ old.out.items ++ replies
+  pub waiting : new.out ≡ old.out ++ replies
   pub idle : IdleWhen returned new
   pub role : new.role ≡ old.role
   pub fed : handed_in new ++ new.fed.items ≡ handed_in old ++ old.fed.items
@@ -97,5 +97,5 @@ abbrev pub IsBeside : Stream → Stream → Type 0
 IsBeside old new = (new.fed ≡ old.fed) × (new.socket ≡ old.socket) × (new.role ≡ old.role) × (new.reads ≡ old.reads) × (new.handed ≡ old.handed)
 
 abbrev pub SendIs : Result Unit NoMemory → List ℕ → Stream → Stream → Type 0
-SendIs (Ok _) b old new = IsBeside old new × ((piece : List ℕ) × (new.out.items ≡ old.out.items ++ piece) × IsFrame old.role piece b)
-SendIs (Err _) b old new = IsBeside old new × (new.out.items ≡ old.out.items)
+SendIs (Ok _) b old new = IsBeside old new × ((piece : List ℕ) × (new.out ≡ old.out ++ piece) × IsFrame old.role piece b)
+SendIs (Err _) b old new = IsBeside old new × (new.out ≡ old.out)

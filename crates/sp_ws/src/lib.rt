@@ -12,6 +12,7 @@
 #![tactic(auto)]
 
 mod counts_at_start;
+mod cuts;
 mod frames;
 mod inlet;
 mod log;
@@ -22,6 +23,7 @@ mod replies;
 mod side;
 mod socket;
 mod stream;
+mod waiting;
 mod wire;
 
 pub use frames::{FrameIn, FrameOut, Frames, LastResult};

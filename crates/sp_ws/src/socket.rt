@@ -118,14 +118,14 @@ impl Frames for MemorySocket {
     fn waiting(&self) -> &[u8]
         ensures { result.now ≡ self.now.waiting }
     {
-        &self.stream.out
+        self.stream.out.as_slice()
     }
 
     fn taken(&mut self, n: usize)
         requires { n ≤ length self.old.waiting }
         ensures { self.new ≡ record self.old { waiting = drop n self.old.waiting } }
     {
-        self.stream.out.drain(..n);
+        self.stream.out.pass(n);
         self.stream.replies = self.stream.replies.after(n);
     }
 }

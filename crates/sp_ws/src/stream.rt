@@ -1,16 +1,18 @@
 //! A `tungstenite` socket over memory, with what goes into it and what came out of it beside.
 ghost use Rattle.std.specs.Prelude.{◌≡◌, ◌≤◌, ◌++◌, ℕ, List, [], length, drop, IsTrue, IfOk, true};
 ghost use Rattle.std.specs.Prelude.{◌∷◌};
-ghost use Rattle.sp_ws.specs.Streams.{remaining_in, handed_in, unread_of, Fetched, Loaded, ReadTo, IsNamed, Noted, NextIs, SendIs, KeptUnread};
+ghost use Rattle.sp_ws.specs.Streams.{remaining_in, handed_in, unread_in, unread_of, Fetched, Loaded, ReadTo, IsNamed, Noted, NextIs, SendIs, KeptUnread};
 ghost use Rattle.sp_ws.specs.Views.{HasLimits};
 ghost use Rattle.sp_ws.specs.Frames.{IsFrame, IsCopied, Fails};
 ghost use Rattle.tungstenite.specs.Socket.{Reads};
 
+use crate::cuts::Cuts;
 use crate::frames::FrameIn;
 use crate::log::{Log, NextBody};
 use crate::memory::{Keys, Memory};
 use crate::reads::{Given, ReadLog};
 use crate::replies::Replies;
+use crate::waiting::Waiting;
 use sp_base::{Bytes, NoMemory, next_value};
 use std::alloc::Global;
 use std::io::ErrorKind;
@@ -28,13 +30,17 @@ pub(crate) struct Stream {
     /// The side of the connection, and where a client's next masking keys start from.
     pub role: Role,
     pub seed: u64,
+    /// How many bytes a message or a frame has at most.
+    pub max: u32,
     /// What reads.
     pub socket: WebSocket<Memory, Keys>,
     pub fed: Vec<u8>,
     /// What was handed over to it. It takes no memory.
     pub handed: Log,
+    /// Where that is cut into frames.
+    pub cuts: Cuts,
     /// What waits for the link, and the replies among it.
-    pub out: Vec<u8>,
+    pub out: Waiting,
     pub replies: Replies,
     /// What each read of the socket gave. It takes no memory.
     pub reads: ReadLog,
@@ -115,36 +121,46 @@ fn name(alloc: Global, returned: Result<Message, Error>, is_empty: bool) -> Opti
     }
 }
 
+// A socket that has read nothing, over an empty stream. Messages and frames have at most `max` bytes. Its keys, which
+// mask what the rules of frames answer by themselves, are none of those that start from the seed.
+fn new_socket(alloc: Global, role: Role, seed: u64, max: u32) -> WebSocket<Memory, Keys>
+    ensures unread { unread_in result.stream ≡ [] }
+    ensures limits { HasLimits max result.conn.config }
+{
+    let memory = Memory {
+        fed: Vec::new(alloc),
+        at: 0,
+        out: Vec::new(alloc),
+    };
+    let config = WebSocketConfig::default()
+        .read_buffer_size(READ_BYTES)
+        .max_message_size(Some(max as usize))
+        .max_frame_size(Some(max as usize));
+    let keys = Keys { state: !seed };
+    WebSocket::from_raw_socket(alloc, memory, keys, role, Some(config))
+}
+
 impl Stream {
     /// Nothing was fed and nothing waits. Messages and frames have at most `max` bytes.
     pub(crate) fn new(alloc: Global, role: Role, seed: u64, max: u32) -> Stream
         ensures fed { result.fed.items ≡ [] }
         ensures handed { handed_in result ≡ [] }
-        ensures out { result.out.items ≡ [] }
+        ensures out { result.out ≡ [] }
         ensures unread { unread_of result ≡ 0 }
         ensures role { result.role ≡ role }
         ensures reads { result.reads.all ≡ [] }
         ensures limits { HasLimits max result.socket.conn.config }
     {
-        let memory = Memory {
-            fed: Vec::new(alloc),
-            at: 0,
-            out: Vec::new(alloc),
-        };
-        let config = WebSocketConfig::default()
-            .read_buffer_size(READ_BYTES)
-            .max_message_size(Some(max as usize))
-            .max_frame_size(Some(max as usize));
-        // Its keys mask what the rules of frames answer by themselves.
-        let keys = Keys { state: !seed };
         Stream {
             alloc,
             role,
             seed,
-            socket: WebSocket::from_raw_socket(alloc, memory, keys, role, Some(config)),
+            max,
+            socket: new_socket(alloc, role, seed, max),
             fed: Vec::new(alloc),
             handed: Log::none(),
-            out: Vec::new(alloc),
+            cuts: Cuts::new(),
+            out: Waiting::new(alloc),
             replies: Replies::none(),
             reads: ReadLog::none(),
         }
@@ -165,6 +181,7 @@ impl Stream {
             return false;
         }
         self.handed = self.handed.and(&NextBody { bytes: &self.fed });
+        self.cuts.pass(&self.fed);
         self.fed.clear();
         true
     }
@@ -198,11 +215,7 @@ impl Stream {
         if self.replies.are_many() {
             return written == late || self.forget(late);
         }
-        if self
-            .out
-            .extend_from_slice(&self.socket.get_ref().out)
-            .is_err()
-        {
+        if self.out.extend(&self.socket.get_ref().out).is_err() {
             return false;
         }
         self.replies = self.replies.and(written, self.out.len());
@@ -220,6 +233,23 @@ impl Stream {
         self.socket.get_mut().forget(n);
         let memory = self.socket.get_ref();
         memory.unread() == unread && memory.out.len() == left
+    }
+
+    /// Takes a new socket in place of one whose buffer a long frame took. It is open and keeps nothing then: all that it
+    /// was given were whole frames of whole messages, which it read.
+    fn renew(&mut self)
+        ensures kept { KeptUnread true self.old self.new }
+        ensures out { self.new.out ≡ self.old.out }
+        ensures reads { self.new.reads ≡ self.old.reads }
+    {
+        if !self.cuts.are_long_and_whole() || !self.socket.can_write() {
+            return;
+        }
+        let memory = self.socket.get_ref();
+        if memory.unread() == 0 && memory.out.is_empty() {
+            self.socket = new_socket(self.alloc, self.role, self.seed, self.max);
+            self.cuts = Cuts::new();
+        }
     }
 
     /// One read of the socket, which is noted. No other function reads it.
@@ -270,6 +300,9 @@ impl Stream {
         if !self.fetch(late) {
             return FrameIn::NoMemory;
         }
+        if let FrameIn::Idle = returned {
+            self.renew();
+        }
         returned
     }
 
@@ -278,7 +311,7 @@ impl Stream {
         ensures { SendIs result b.now self.old self.new }
     {
         let frame = framed(self.alloc, self.role, self.seed, b)?;
-        self.out.extend_from_slice(&frame)?;
+        self.out.extend(&frame)?;
         self.seed = next_value(self.seed);
         Ok(())
     }

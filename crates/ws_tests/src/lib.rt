@@ -5,6 +5,8 @@
 #[cfg(test)]
 mod checks;
 #[cfg(test)]
+mod floods;
+#[cfg(test)]
 mod frames;
 #[cfg(test)]
 mod heads;

@@ -110,3 +110,80 @@ fn each_ping_has_its_pong(rt: HostRuntime) {
     take(&mut socket, 15);
     holds(&rt, socket.waiting().starts_with(b"\x82\x01q\x8a\x01p"));
 }
+
+// One frame more, of 100 bytes that begin with this number.
+fn add_numbered(rt: &impl Abort, frames: &mut Vec<u8>, number: u32) {
+    made(rt, frames.extend_from_slice(b"\x82\x64"));
+    made(rt, frames.extend_from_slice(&number.to_be_bytes()));
+    made(rt, frames.extend_from_slice(&[b'a'; 96]));
+}
+
+// Whether the next message begins with this number.
+fn gives_numbered(socket: &mut MemorySocket, number: u32) -> bool {
+    match socket.next() {
+        FrameIn::Binary(body) => body.as_slice().starts_with(&number.to_be_bytes()),
+        _ => false,
+    }
+}
+
+// More than 100,000 bytes are fed at once, and more than that wait for the link: each message comes, in order.
+#[test]
+fn each_message_of_a_long_row_comes(rt: HostRuntime) {
+    let mut socket = MemorySocket::new(rt.alloc(), Side::Client { seed: 1 }, 200_000);
+    let mut long = Vec::new(rt.alloc());
+    made(&rt, long.resize(120_000, b'b'));
+    same(&rt, socket.send(&long), FrameOut::Done);
+    let mut frames = Vec::new(rt.alloc());
+    for number in 0..1_100u32 {
+        add_numbered(&rt, &mut frames, number);
+    }
+    is_ok(&rt, socket.feed(&frames));
+    let mut all = true;
+    for number in 0..1_100u32 {
+        all = all && gives_numbered(&mut socket, number);
+    }
+    holds(&rt, all);
+    holds(&rt, is_idle(&mut socket));
+    same(&rt, socket.waiting().len(), 120_014);
+}
+
+// What a server sends behind a long message: one in two frames with a ping between them, and one in one frame.
+const BEHIND: &[u8] = b"\x02\x03abc\x89\x01p\x80\x02de\x82\x05Hello";
+
+// Feeds these bytes, and adds each message that comes then, in brackets; a long one as a dash.
+fn add_given(rt: &impl Abort, socket: &mut MemorySocket, bytes: &[u8], said: &mut Vec<u8>) {
+    is_ok(rt, socket.feed(bytes));
+    for _ in 0..10u32 {
+        let FrameIn::Binary(body) = socket.next() else {
+            return;
+        };
+        let body = body.as_slice();
+        let shown: &[u8] = if body.len() > 100 { b"-" } else { body };
+        made(rt, said.push(b'['));
+        made(rt, said.extend_from_slice(shown));
+        made(rt, said.push(b']'));
+    }
+}
+
+// A socket whose buffer a long message took is replaced once it has nothing left. Wherever what comes behind that
+// message is cut in two, nothing is lost.
+#[test]
+fn nothing_is_lost_behind_a_long_message(rt: HostRuntime) {
+    let alloc = rt.alloc();
+    let mut long = made(
+        &rt,
+        Vec::from_slice(alloc, b"\x82\x7f\x00\x00\x00\x00\x00\x02\x00\x01"),
+    );
+    made(&rt, long.resize(131_083, b'a'));
+    for at in 0..BEHIND.len() {
+        let mut socket = MemorySocket::new(alloc, Side::Client { seed: 1 }, 200_000);
+        let mut said = Vec::new(alloc);
+        let (first, second) = BEHIND.split_at(at);
+        is_ok(&rt, socket.feed(&long));
+        add_given(&rt, &mut socket, first, &mut said);
+        add_given(&rt, &mut socket, second, &mut said);
+        add_given(&rt, &mut socket, BEHIND, &mut said);
+        let wanted: &[u8] = b"[-][abcde][Hello][abcde][Hello]";
+        same(&rt, said.as_slice(), wanted);
+    }
+}

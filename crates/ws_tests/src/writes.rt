@@ -26,51 +26,54 @@ fn quiet(
     over(rt, alloc, link, side, &[], MAX)
 }
 
-// What a wire on this side writes after it pulled all of these bytes, which are no message; nothing where the pull or
-// the flush returns otherwise.
-fn answered<R: Wait + Abort>(alloc: Global, rt: &R, side: Side, bytes: &[u8]) -> Vec<u8> {
+// What a wire on this side writes while it pulls all of these bytes, which are no message, and whether it has ended then.
+fn answered<R: Wait + Abort>(alloc: Global, rt: &R, side: Side, bytes: &[u8]) -> (Vec<u8>, bool) {
     let script = pieces(rt, alloc, bytes, 100, LinkStep::NotYet);
     let link = MemLink::new(alloc, script, 100, Vec::new(alloc));
     let mut w = over(rt, alloc, link, side, &[], MAX);
-    let WireIn::NotYet = w.pull(rt) else {
-        return Vec::new(alloc);
-    };
-    let WireFlush::Empty = w.flush(rt) else {
-        return Vec::new(alloc);
-    };
+    let has_ended = matches!(w.pull(rt), WireIn::Ended);
+    w.shut();
     let link = w.into_link();
-    made(rt, Vec::from_slice(alloc, link.written()))
+    (made(rt, Vec::from_slice(alloc, link.written())), has_ended)
+}
+
+// What answers these bytes is written by the pull that found them.
+fn check_answer<R: Wait + Abort>(
+    alloc: Global,
+    rt: &R,
+    side: Side,
+    bytes: &[u8],
+    wanted: &[u8],
+    has_ended: bool,
+) {
+    let (written, ended) = answered(alloc, rt, side, bytes);
+    same(rt, written.as_slice(), wanted);
+    same(rt, ended, has_ended);
 }
 
 #[test]
 fn a_pong_answers_a_ping(rt: HostRuntime) {
-    let ping: &[u8] = b"\x89\x81\x00\x00\x00\x00p";
-    let bare = answered(rt.alloc(), &rt, Side::Server, ping);
-    same(&rt, bare.as_slice(), b"\x8a\x01p".as_slice());
-    let masked = answered(rt.alloc(), &rt, Side::Client { seed: 7 }, b"\x89\x01p");
-    same(
-        &rt,
-        masked.as_slice(),
-        b"\x8a\x81\x51\x75\xda\x14\x21".as_slice(),
-    );
+    let ping = b"\x89\x81\x00\x00\x00\x00p";
+    check_answer(rt.alloc(), &rt, Side::Server, ping, b"\x8a\x01p", false);
+    let masked = b"\x8a\x81\x51\x75\xda\x14\x21";
+    let side = Side::Client { seed: 7 };
+    check_answer(rt.alloc(), &rt, side, b"\x89\x01p", masked, false);
 }
 
 #[test]
-fn nothing_is_written_after_a_close(rt: HostRuntime) {
-    let script = pieces(
-        &rt,
-        rt.alloc(),
-        b"\x88\x82\x00\x00\x00\x00\x03\xe8",
-        100,
-        LinkStep::NotYet,
-    );
-    let link = MemLink::new(rt.alloc(), script, 100, Vec::new(rt.alloc()));
-    let mut w = over(&rt, rt.alloc(), link, Side::Server, &[], MAX);
-    match w.pull(&rt) {
-        WireIn::Ended => {}
-        _ => assert!(rt; false),
-    }
-    holds(&rt, w.into_link().written().is_empty());
+fn a_close_frame_answers_a_close_frame(rt: HostRuntime) {
+    let alloc = rt.alloc();
+    let close = b"\x88\x82\x00\x00\x00\x00\x03\xe8";
+    let answer = b"\x88\x02\x03\xe8";
+    check_answer(alloc, &rt, Side::Server, close, answer, true);
+    let bare = b"\x88\x80\x00\x00\x00\x00";
+    check_answer(alloc, &rt, Side::Server, bare, b"\x88\x00", true);
+    let both = b"\x89\x81\x00\x00\x00\x00p\x88\x80\x00\x00\x00\x00";
+    let answers = b"\x8a\x01p\x88\x00";
+    check_answer(alloc, &rt, Side::Server, both, answers, true);
+    let side = Side::Client { seed: 7 };
+    let masked = b"\x88\x82\x51\x75\xda\x14\x52\x9d";
+    check_answer(alloc, &rt, side, answer, masked, true);
 }
 
 // Puts messages `q` until there is no room; how many, and what was returned then.

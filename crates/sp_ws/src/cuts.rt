@@ -1,0 +1,93 @@
+//! Where bytes stand among frames (RFC 6455 section 5.2).
+ghost use Rattle.std.specs.Prelude.{◌≤◌, length};
+
+use websocket::protocol::frame::FrameHeader;
+use websocket::protocol::frame::coding::OpCode;
+
+/// How long a frame may be whose buffer is kept.
+const USUAL_FRAME: u64 = 131_072;
+
+/// The cuts between the frames of the bytes that were passed over so far.
+#[derive(Clone, Copy, Debug, Drop)]
+pub(crate) struct Cuts {
+    /// The first `got` bytes are what came of the next frame's header.
+    head: [u8; 14],
+    got: usize,
+    /// How many bytes of the last frame's payload are yet to come.
+    left: u64,
+    /// A message of several frames was begun, and its last one is yet to come.
+    is_begun: bool,
+    /// What came is no header.
+    is_broken: bool,
+    /// A frame was longer than usual.
+    is_long: bool,
+    ghost inside: { got ≤ 14 },
+}
+
+impl Cuts {
+    /// Nothing was passed over.
+    pub(crate) fn new() -> Cuts {
+        Cuts {
+            head: [0; 14],
+            got: 0,
+            left: 0,
+            is_begun: false,
+            is_broken: false,
+            is_long: false,
+        }
+    }
+
+    /// Whether all frames came whole, and with them all messages that were begun; and one was longer than usual.
+    pub(crate) fn are_long_and_whole(&self) -> bool {
+        let is_whole = self.got == 0 && self.left == 0 && !self.is_begun;
+        self.is_long && is_whole && !self.is_broken
+    }
+
+    // A frame with this header, and so many bytes of payload, is next.
+    fn begin(&mut self, header: FrameHeader, size: u64) {
+        self.got = 0;
+        self.left = size;
+        self.is_long = self.is_long || size > USUAL_FRAME;
+        if let OpCode::Data(_) = header.opcode {
+            self.is_begun = !header.is_final;
+        }
+    }
+
+    // One byte more of a header.
+    fn add(&mut self, byte: u8) {
+        if self.got >= self.head.len() {
+            self.is_broken = true;
+            return;
+        }
+        self.head[self.got] = byte;
+        self.got += 1;
+        match FrameHeader::parse(&self.head[..self.got]) {
+            Ok(Some((header, size))) => self.begin(header, size),
+            Ok(None) => {}
+            Err(_) => self.is_broken = true,
+        }
+    }
+
+    // Passes over what these bytes bring of a payload, or over one byte of a header; how many bytes that is.
+    fn pass_some(&mut self, first: u8, long: usize) -> usize
+        requires { 1 ≤ long }
+        ensures some { 1 ≤ result }
+        ensures most { result ≤ long }
+    {
+        if self.left == 0 {
+            self.add(first);
+            return 1;
+        }
+        let n = self.left.min(long as u64);
+        self.left -= n;
+        n as usize
+    }
+
+    /// Passes over these bytes.
+    pub(crate) fn pass(&mut self, b: &[u8]) {
+        let mut at = 0;
+        'passes: while at < b.len() {
+            at += self.pass_some(b[at], b.len() - at);
+        }
+    }
+}

@@ -1,0 +1,78 @@
+//! Bytes that wait for the link.
+ghost use Rattle.std.specs.Prelude.{◌≡◌, ◌≤◌, ◌++◌, [], length, drop, OnOk, OnErr};
+
+use sp_base::NoMemory;
+use std::alloc::Global;
+use std::marker::Model;
+
+/// How much memory is kept once all of them went; more was taken for long messages.
+pub(crate) const USUAL_ROOM: usize = 131_072;
+
+/// Bytes that wait for the link, behind those that it took. The rest moves to the front once it is no longer than what
+/// was taken, so that a byte moves less than once on the average.
+#[derive(Drop)]
+pub(crate) struct Waiting {
+    bytes: Vec<u8>,
+    /// How many of the first ones the link took.
+    taken: usize,
+}
+
+impl Model for Waiting {
+    ghost use Rattle.std.specs.Prelude.{◌≤◌, ℕ, List, drop, length};
+
+    ghost Value = { List ℕ };
+
+    ghost view = { λ w. drop w.taken w.bytes.items };
+
+    ghost invariant = { λ w. w.taken ≤ length w.bytes.items };
+}
+
+impl Waiting {
+    /// None.
+    pub(crate) fn new(alloc: Global) -> Waiting
+        ensures { result ≡ [] }
+    {
+        Waiting {
+            bytes: Vec::new(alloc),
+            taken: 0,
+        }
+    }
+
+    /// All that wait.
+    pub(crate) fn as_slice(&self) -> &[u8]
+        ensures { result.now ≡ self.now }
+    {
+        &self.bytes[self.taken..]
+    }
+
+    /// How many wait.
+    pub(crate) fn len(&self) -> usize
+        ensures { result ≡ length self.now }
+    {
+        self.bytes.len() - self.taken
+    }
+
+    /// These wait behind the others.
+    pub(crate) fn extend(&mut self, b: &[u8]) -> Result<(), NoMemory>
+        ensures ok { OnOk result (self.new ≡ self.old ++ b.now) }
+        ensures err { OnErr result (self.new ≡ self.old) }
+    {
+        self.bytes.extend_from_slice(b)?;
+        Ok(())
+    }
+
+    /// The link took the first `n`. Takes no memory.
+    pub(crate) fn pass(&mut self, n: usize)
+        requires { n ≤ length self.old }
+        ensures { self.new ≡ drop n self.old }
+    {
+        self.taken += n;
+        if self.bytes.len() - self.taken <= self.taken {
+            self.bytes.drain(..self.taken);
+            self.taken = 0;
+        }
+        if self.bytes.is_empty() {
+            self.bytes.shrink_to(USUAL_ROOM);
+        }
+    }
+}
