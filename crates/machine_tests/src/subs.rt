@@ -69,6 +69,29 @@ fn a_topic_that_is_off_takes_what_no_other_matches(rt: HostRuntime) {
 }
 
 #[test]
+fn the_empty_topic_is_one_of_many(rt: HostRuntime) {
+    let play = "
+        reserve 4
+        put_on 0 ' yes
+        put_on 0 'a yes
+        put_on 0 'abc yes
+        take_off 0 ' yes
+        frame 1 'b
+        keeps 0 no
+        frame 1 'ab
+        frame 1 'a
+        receive 0 0
+        can_give 0
+        gets 0 ' 'ab
+        receive 1 0
+        can_give 1
+        gets 1 ' 'a
+        keeps 0 no
+    ";
+    plays(&rt, rt.alloc(), "sub queue=2", play);
+}
+
+#[test]
 fn contexts_keep_apart(rt: HostRuntime) {
     let play = "
         reserve 4

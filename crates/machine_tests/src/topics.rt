@@ -114,3 +114,88 @@ fn ten_thousand_topics_of_one_length(rt: HostRuntime) {
     ";
     plays(&rt, rt.alloc(), "sub", play);
 }
+
+// Topics of no byte, of one and of the most that a socket takes, among few topics and among many.
+#[test]
+fn topics_of_no_byte_and_of_the_most(rt: HostRuntime) {
+    let play = "
+        reserve 4
+        put_on 0 't*1024 yes
+        frame 1 't*1023
+        keeps 0 no
+        frame 1 't*1024
+        receive 0 0
+        can_give 0
+        gets 0 ' 't*1024
+        for 1..20: put_on 0 %' yes
+        frame 1 't*1023
+        keeps 0 no
+        frame 1 't*1024
+        receive 0 0
+        can_give 0
+        gets 0 ' 't*1024
+        frame 1 't*2000
+        receive 0 0
+        can_give 0
+        gets 0 ' 't*2000
+        put_on 0 't yes
+        take_off 0 't*1024 yes
+        frame 1 't
+        receive 0 0
+        can_give 0
+        gets 0 ' 't
+        frame 1 't*2000
+        receive 0 0
+        can_give 0
+        gets 0 ' 't*2000
+        frame 1 'x*2000
+        keeps 0 no
+        frame 1 '
+        keeps 0 no
+        put_on 0 ' yes
+        frame 1 '
+        receive 0 0
+        can_give 0
+        gets 0 ' '
+        frame 1 'x*2000
+        receive 0 0
+        can_give 0
+        gets 0 ' 'x*2000
+        take_off 0 ' yes
+        frame 1 'x*2000
+        keeps 0 no
+    ";
+    plays(&rt, rt.alloc(), "sub", play);
+}
+
+// Of 1 to 200 letters. Those of fewer than 191 are then taken off, and those of 191 to 199.
+#[test]
+fn two_hundred_topics_of_which_each_is_a_prefix_of_the_next(rt: HostRuntime) {
+    let play = "
+        reserve 4
+        for 1..200: put_on 0 't*# yes
+        for 1..200: put_on 0 't*# no
+        frame 1 't
+        receive 0 0
+        can_give 0
+        gets 0 ' 't
+        for 1..190: take_off 0 't*# yes
+        frame 1 't*190
+        keeps 0 no
+        frame 1 't*191
+        receive 0 0
+        can_give 0
+        gets 0 ' 't*191
+        for 191..199: take_off 0 't*# yes
+        frame 1 't*199
+        keeps 0 no
+        frame 1 't*2000
+        receive 0 0
+        can_give 0
+        gets 0 ' 't*2000
+        take_off 0 't*200 yes
+        frame 1 't*2000
+        keeps 0 no
+    ";
+    plays(&rt, rt.alloc(), "sub", play);
+}

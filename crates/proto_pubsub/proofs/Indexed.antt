@@ -1,12 +1,13 @@
 -- The topics of a context are found by the prefixes of a body.
 use Rattle.std.proofs.Common.{◌≡◌, refl, ap, sym, ◌∙◌, subst, List, [], ◌∷◌, ◌++◌, ℕ, zero, suc, ◌≤◌, Bool, true, false, cond, arith, length, take}
 use Rattle.std.specs.Prelude.{not, ◌||◌, ◌&&◌, ◌==◌, nat_eq, nat_le, Vec}
-use Rattle.std.specs.List.{list_any}
+use Rattle.std.specs.List.{list_any, AllByRecursion as Each}
 use Rattle.std.specs.Ordering.{is_eq, nat_cmp, eq_by_cmp}
 use Rattle.std.specs.Cmp.Lexicographic.{slice_cmp}
 use Rattle.std.specs.Map.{IsKeyTest, AreApart}
 use Rattle.std.specs.Set.{KeepsOthers}
 use Rattle.std.proofs.lemmas.Bool.Decides.{nat_tests}
+use Rattle.std.proofs.lemmas.List.Elements.{recursion_from_All}
 use Rattle.std.proofs.lemmas.List.Folds.{list_any-append}
 use Rattle.std.proofs.lemmas.Map.Text.{is_eq-slice_cmp}
 use Rattle.std.proofs.lemmas.Map.Views.{any-filter_same}
@@ -14,7 +15,7 @@ use Rattle.sp_history.specs.Lists.{has, without, same_bytes, matches}
 use Rattle.sp_history.specs.Kept.{is_wanted_by}
 use Rattle.sp_history.specs.Legal.{has_topic}
 use Rattle.proto_pubsub.specs.SubContexts.{topics_without}
-use Rattle.proto_pubsub.specs.Topics.{is_known, is_prefix, IsIndex}
+use Rattle.proto_pubsub.specs.Topics.{is_known, is_prefix, IsIndex, AreShort, IsWantedByPrefix}
 
 -- ---- Texts
 
@@ -244,3 +245,28 @@ found_by_prefix ks lens ts b h = agree (list_any (is_prefix ks b) lens) (is_want
         let known : is_known ks (take (length r.0) b) ≡ true = ap (is_known ks) (sym r.2) ∙ h.0 r.0 ∙ r.1 in
         let least : nat_le (length r.0) (length b) ≡ true = in_it (length r.0) (length b) (prefix_length r.0 b r.2) in
         any_has (is_prefix ks b) lens (length r.0) (h.1 r.0 r.1) (ap (λ (x : Bool). x && is_known ks (take (length r.0) b)) least ∙ known)
+
+-- ---- All prefixes
+
+topic_short : (ts : List (List ℕ)) (t : List ℕ) → AreShort ts → has_topic ts t ≡ true → length t ≤ 1024
+topic_short ts t short h = among ts (recursion_from_All (λ u. length u ≤ 1024) ts short) h
+  where
+    among : (us : List (List ℕ)) → Each (λ u. length u ≤ 1024) us → has_topic us t ≡ true → length t ≤ 1024
+    among [] e h = absurd cc
+    among (u ∷ us) e h = go (same_bytes u t) refl h (among us e.1)
+      where
+        go : (c : Bool) → same_bytes u t ≡ c → (c || has_topic us t) ≡ true → (has_topic us t ≡ true → length t ≤ 1024) → length t ≤ 1024
+        go true f k again = subst (λ (x : List ℕ). length x ≤ 1024) (same_is u t f) e.0
+        go false f k again = again k
+
+-- one of the topics is a prefix of the body exactly where one of its prefixes is a topic
+pub wanted_by_prefix : (ts : List (List ℕ)) (b : List ℕ) → AreShort ts → IsWantedByPrefix ts b
+wanted_by_prefix ts b short = (there, back)
+  where
+    there : is_wanted_by ts b ≡ true → (n : ℕ) × (n ≤ length b) × (n ≤ 1024) × (has_topic ts (take n b) ≡ true)
+    there e =
+        let r = wanted_has ts b e in
+        (length r.0, prefix_length r.0 b r.2, topic_short ts r.0 short r.1, ap (has_topic ts) (sym r.2) ∙ r.1)
+
+    back : (n : ℕ) × (n ≤ length b) × (n ≤ 1024) × (has_topic ts (take n b) ≡ true) → is_wanted_by ts b ≡ true
+    back k = has_wanted ts b (take k.0 b) k.3 (ap (λ (m : ℕ). take m b) (sym (take_length k.0 b k.1)))

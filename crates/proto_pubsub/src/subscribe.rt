@@ -5,7 +5,7 @@
 //! that there is. A full queue discards its oldest message or the new one, as `prefer_new` says. The last open context
 //! keeps the frame itself, each other one a copy, which is made before anything is discarded; the first that finds no
 //! memory is told, and contexts of greater numbers go without as well.
-ghost use Rattle.std.specs.Prelude.{◌≡◌, ◌-◌, ◌+◌, ◌≤◌, ◌<◌, ◌==◌, ◌≢◌, Bool, ℕ, [], ◌∷◌, true, false, Some, None, IfOk, IfSome, OnErr, nat_lt, map, filter, find, length, take, drop, ◌++◌, not, option_to_list};
+ghost use Rattle.std.specs.Prelude.{◌≡◌, ◌-◌, ◌+◌, ◌≤◌, ◌<◌, ◌==◌, ◌≢◌, Bool, ℕ, List, [], ◌∷◌, true, false, Some, None, IfOk, IfSome, OnErr, nat_lt, map, filter, find, length, take, drop, ◌++◌, not, option_to_list};
 ghost use Rattle.std.specs.VecDeque.{deque_len, deque_capacity};
 ghost use Rattle.std.specs.Option.{option_map};
 ghost use Rattle.std.specs.List.{position, list_any};
@@ -17,6 +17,7 @@ ghost use Rattle.sp_proto.specs.Kinds.{Starts};
 ghost use Rattle.sp_proto.specs.Machines.{Frames};
 ghost use Rattle.proto_pubsub.specs.SubContexts.{kept_in, takes_frame, emptied, fresh_context, given_from, is_of_context, first_in, with_found, SwitchesIn, StopsAt, SubContextView, InOrder};
 ghost use Rattle.proto_pubsub.specs.Subs.{Ties, NeedsCopy, places_left, sub_kind, is_for, is_ready, keeps_at, without_first, NoneBefore};
+ghost use Rattle.proto_pubsub.specs.Topics.{AreShort, IsWantedByPrefix};
 ghost use Rattle.proto_pubsub.specs.declared.subscribe.WaitingReceive.{WaitingReceive as WaitingReceiveType};
 
 use crate::sub_contexts::SubContext;
@@ -312,7 +313,7 @@ impl Proto for Subscribe {
     }
 
     /// It has memory for all that it keeps, and the last open context gets the frame itself, so where one alone is open
-    /// it is never out of memory.
+    /// it is never out of memory. Which topics match is found by the prefixes of the body.
     fn frame(&mut self, p: PipeId, m: Message) -> Verdict
         requires { m.header ≡ [] }
         ensures kept { (t : Moment) → Lawful (also t (Frame p m.body)) → Ties self.old t → Frames (Ties self.new) result t p m.body }
@@ -320,6 +321,7 @@ impl Proto for Subscribe {
         ensures one { (t : Moment) → Ties self.old t → length (ctxs (past t)) ≤ 1 → result ≡ Verdict.Fine }
         ensures raw { (t : Moment) → Lawful (also t (Frame p m.body)) → Ties self.old t → t.z.raw ≡ true → result ≡ Verdict.Fine }
         ensures dry { (t : Moment) (c : ℕ) → Lawful (also t (Frame p m.body)) → Ties self.old t → result ≡ Verdict.Dry c → NeedsCopy t.z (past t) c p m.body }
+        ensures prefixes { (ts : List (List ℕ)) → AreShort ts → IsWantedByPrefix ts m.body }
     {
         let _ = p;
         self.looked = 0;

@@ -5,6 +5,7 @@ use Rattle.sp_history.specs.Moments.{past}
 use Rattle.proto_pubsub.specs.declared.subscribe.Subscribe.{Subscribe}
 use Rattle.proto_pubsub.specs.SubContexts.{SubContextView, kept_in, takes_frame, StopsAt}
 use Rattle.proto_pubsub.specs.Subs.{NeedsCopy}
+use Rattle.proto_pubsub.proofs.Indexed.{wanted_by_prefix}
 use Rattle.proto_pubsub.proofs.Knowing.{allowed_before}
 use Rattle.proto_pubsub.proofs.SubContexts.{contexts_written, long_map, long_stops}
 use Rattle.proto_pubsub.proofs.Subscribed.{whole_ties, dry_ties, dry_needs, many, one_raw}
@@ -59,3 +60,9 @@ returns-in-Some-clause-dry c =
     let st : StopsAt (takes_frame was.raw was.options c.args.m.body) (kept_in was.raw was.options c.args.m) c.in-Some.c was.contexts.items c.keep_in_all.new.contexts =
     subst (λ (xs : List SubContextView). StopsAt (takes_frame was.raw was.options c.args.m.body) (kept_in was.raw was.options c.args.m) c.in-Some.c xs c.keep_in_all.new.contexts) c.deref_mut.ensures.value (c.in-Some.ensures.stops c.in-Some.c refl) in
     subst (λ (k : ℕ). NeedsCopy t.z (past t) k c.args.p c.args.m.body) is (dry_needs was t c.args.p c.args.m h (allowed_before t (Frame c.args.p c.args.m.body) l) c.requires c.keep_in_all.new.contexts c.in-Some.c st)
+
+pub returns-in-None-clause-prefixes : goal.returns-in-None-clause-prefixes
+returns-in-None-clause-prefixes c = λ ts h. wanted_by_prefix ts c.args.m.body h
+
+pub returns-in-Some-clause-prefixes : goal.returns-in-Some-clause-prefixes
+returns-in-Some-clause-prefixes c = λ ts h. wanted_by_prefix ts c.args.m.body h
