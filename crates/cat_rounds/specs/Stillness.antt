@@ -15,3 +15,8 @@ gives_up overs.Open timeout s now = false
 gives_up overs.Finished timeout s now = false
 gives_up overs.SendTimedOut None s now = false
 gives_up overs.SendTimedOut (Some seconds) s now = nat_le (1000 * seconds) (now - s.since)
+
+-- by what is known of it
+abbrev pub gives_up_at : PlayEnd → Option ℕ → Option Stillness → ℕ → Bool
+gives_up_at over timeout None now = false
+gives_up_at over timeout (Some s) now = gives_up over timeout s now

@@ -10,7 +10,7 @@ ghost use Rattle.cat_rounds.specs.Resting.{BeginsNothing, IsAtRest, MovesStill, 
 ghost use Rattle.cat_rounds.specs.RunRounds.{RunIsOpen, RunGoesOn, RoundGoesOn, SameRun, GoesTo, RoundGoesTo, Drains, WentOrOver, PacedTo, TicksOnce, PrintsRun, PrintsTo, PrintsGoing, PrintsRound, TurnsNames, IsDryAt, past_now, has_more};
 
 use crate::run_parts::RunParts;
-use crate::stillness::Stillness;
+use crate::stillness::{gives_up, note};
 use cat_play::status::Status;
 use cat_player::{PlayEnd, StepResult};
 use sp_base::{Link, Net, Pace, Paced, Sink, Tick};
@@ -216,9 +216,9 @@ impl<R: Wait, P: Proto, L: Link> RunParts<'_, R, P, L> {
         ensures rests { result ≡ Round.Goes true → ⊥ }
     {
         let served = self.single.serve(self.rt);
-        let still = Stillness::noted(self.still, served.taken, now);
-        self.still = Some(still);
-        let given_up = still.gives_up(self.player.over, self.player.script.send_timeout, now);
+        note(&mut self.still, served.taken, now);
+        let timeout = self.player.script.send_timeout;
+        let given_up = gives_up(&self.still, self.player.over, timeout, now);
         let waits = goes_on(served, given_up);
         if waits {
             return Round::Goes(false);

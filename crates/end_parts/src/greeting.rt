@@ -67,7 +67,11 @@ pub fn greet_one<R: Wait, N: Net, P: Proto>(
     ensures from { FateIsFrom newcomer.from result }
     ensures waited { FateHasWaited N.L.seen newcomer result }
 {
-    let Newcomer { mut opening, met, from } = newcomer;
+    let Newcomer {
+        mut opening,
+        met,
+        from,
+    } = newcomer;
     let progress = opening.greet(alloc);
     match decide(progress, met, now) {
         NewcomerDecision::Stays => NewcomerFate::Stays(Newcomer { opening, met, from }),

@@ -154,5 +154,7 @@ impl<L: Link> LinkEnds<L> {
 pub(crate) fn room_for(listeners: usize) -> Option<usize>
     ensures { IfSome result (λ n. n ≡ room_for listeners) }
 {
-    listeners.checked_mul(MOST_NEWCOMERS)?.checked_add(MOST_DIALED)
+    listeners
+        .checked_mul(MOST_NEWCOMERS)?
+        .checked_add(MOST_DIALED)
 }

@@ -6,7 +6,7 @@ use Rattle.cat_rounds.specs.declared.rounds.Round.{Round}
 use Rattle.sp_history.specs.Past.{past_of, now}
 use Rattle.cat_player.specs.declared.player.PlayEnd.{PlayEnd}
 use Rattle.cat_rounds.specs.declared.stillness.Stillness.{Stillness}
-use Rattle.cat_rounds.specs.Stillness.{noted_still, gives_up}
+use Rattle.cat_rounds.specs.Stillness.{noted_still, gives_up, gives_up_at}
 use Rattle.cat_rounds.specs.RunRounds.{AreCleared, IsThrough, IsThroughOrGivenUp, RoundGoesTo, DrainsFor, has_more}
 use Rattle.sp_base.specs.Views.{SinkView}
 use Rattle.cat_rounds.proofs.Opened.{running_of, at_of, stands_in}
@@ -73,20 +73,25 @@ one_false true false e = cc
 -- ---- Why it goes on, or ends
 
 -- what the links had taken is noted
-noted : (g : Over) (c : After-goes_on-waits g) → c.noted-still.result ≡ noted_still c.args.self.now.still c.serve-served.result.taken c.args.now
-noted g c = c.noted-still.ensures ∙ ap (λ (v : RunPartsView _). noted_still v.still c.serve-served.result.taken c.args.now) c.self.view_is
+abbrev still_now : (g : Over) (c : After-goes_on-waits g) → Stillness
+still_now g c = noted_still c.self.inside.still c.serve-served.result.taken c.args.now
+
+noted : (g : Over) (c : After-goes_on-waits g) → still_now g c ≡ noted_still c.args.self.now.still c.serve-served.result.taken c.args.now
+noted g c = ap (λ (v : RunPartsView _). noted_still v.still c.serve-served.result.taken c.args.now) c.self.view_is
+
+given : (g : Over) (c : After-goes_on-waits g) → c.gives_up-given_up.result ≡ gives_up c.self.inside.player.over c.self.inside.player.script.send_timeout (still_now g c) c.args.now
+given g c = c.gives_up-given_up.ensures ∙ ap (λ (s : Option Stillness). gives_up_at c.self.inside.player.over c.self.inside.player.script.send_timeout s c.args.now) c.note.ensures
 
 -- a pipe has something left to write, and it isn't given up; or one of both
-waits_so : (g : Over) (c : After-goes_on-waits g) → c.goes_on-waits.result ≡ true → (has_more c.serve-served.result ≡ true) × (gives_up c.self.inside.player.over c.self.inside.player.script.send_timeout c.noted-still.result c.args.now ≡ false)
-waits_so g c e =
-    let b = both_true _ _ (sym c.goes_on-waits.ensures ∙ e) in (b.0, sym c.gives_up-given_up.ensures ∙ b.1)
+waits_so : (g : Over) (c : After-goes_on-waits g) → c.goes_on-waits.result ≡ true → (has_more c.serve-served.result ≡ true) × (gives_up c.self.inside.player.over c.self.inside.player.script.send_timeout (still_now g c) c.args.now ≡ false)
+waits_so g c e = let b = both_true _ _ (sym c.goes_on-waits.ensures ∙ e) in (b.0, sym (given g c) ∙ b.1)
 
-ends_so : (g : Over) (c : After-goes_on-waits g) → c.goes_on-waits.result ≡ false → (has_more c.serve-served.result ≡ false) ⊎ (gives_up c.self.inside.player.over c.self.inside.player.script.send_timeout c.noted-still.result c.args.now ≡ true)
+ends_so : (g : Over) (c : After-goes_on-waits g) → c.goes_on-waits.result ≡ false → (has_more c.serve-served.result ≡ false) ⊎ (gives_up c.self.inside.player.over c.self.inside.player.script.send_timeout (still_now g c) c.args.now ≡ true)
 ends_so g c e = go (one_false _ _ (sym c.goes_on-waits.ensures ∙ e))
   where
-    go : (has_more c.serve-served.result ≡ false) ⊎ (c.gives_up-given_up.result ≡ true) → (has_more c.serve-served.result ≡ false) ⊎ (gives_up c.self.inside.player.over c.self.inside.player.script.send_timeout c.noted-still.result c.args.now ≡ true)
+    go : (has_more c.serve-served.result ≡ false) ⊎ (c.gives_up-given_up.result ≡ true) → (has_more c.serve-served.result ≡ false) ⊎ (gives_up c.self.inside.player.over c.self.inside.player.script.send_timeout (still_now g c) c.args.now ≡ true)
     go (inl none) = inl none
-    go (inr up) = inr (sym c.gives_up-given_up.ensures ∙ up)
+    go (inr up) = inr (sym (given g c) ∙ up)
 
 cleared : (g : Over) (c : After-serve-served g) → has_more c.serve-served.result ≡ false → AreCleared (past_of c.serve-served.new.self.seen)
 cleared g c none =
@@ -104,10 +109,9 @@ returns-then-waits-clause-stalls g c =
 pub returns-then-waits-clause-drains : goal.returns-then-waits-clause-drains
 returns-then-waits-clause-drains g c =
     let at = (goal.at.returns-then-waits-clause-drains g c).After-goes_on-waits in
-    let is = noted g at in
-    (
+    let is = noted g at in (
       c.serve-served.result.taken,
-      ap Some is,
+      c.note.ensures ∙ ap Some is,
       subst (λ (s : Stillness). gives_up c.self.inside.player.over c.self.inside.player.script.send_timeout s c.args.now ≡ false) is (waits_so g at c.if-waits.true).1,
     )
 
@@ -162,8 +166,8 @@ returns-clause-went g c =
     let at = (goal.at.returns-clause-went g c).After-serve-served in
     let why = ends_so g (goal.at.returns-clause-went g c).After-goes_on-waits c.if-waits.false in
     elim c.match-self.branch [
-      | in-SendTimedOut w ↦ subst (λ (r : Round). RoundGoesTo r c.serve-served.new.self c.self.inside.player) (sym w.result-is) (timed_out g at c.noted-still.result why, w.in-SendTimedOut.is)
-      | in-Finished w ↦ subst (λ (r : Round). RoundGoesTo r c.serve-served.new.self c.self.inside.player) (sym w.result-is) (finished g at c.noted-still.result why w.in-Finished.is, w.in-Finished.is)
+      | in-SendTimedOut w ↦ subst (λ (r : Round). RoundGoesTo r c.serve-served.new.self c.self.inside.player) (sym w.result-is) (timed_out g at (still_now g (goal.at.returns-clause-went g c).After-goes_on-waits) why, w.in-SendTimedOut.is)
+      | in-Finished w ↦ subst (λ (r : Round). RoundGoesTo r c.serve-served.new.self c.self.inside.player) (sym w.result-is) (finished g at (still_now g (goal.at.returns-clause-went g c).After-goes_on-waits) why w.in-Finished.is, w.in-Finished.is)
     ]
 
 pub returns-clause-drains : goal.returns-clause-drains
@@ -173,8 +177,8 @@ returns-clause-drains g c =
     let is = noted g at in
     let why = ends_so g at c.if-waits.false in
     elim c.match-self.branch [
-      | in-SendTimedOut w ↦ (c.serve-served.result.taken, ap Some is, subst (λ (r : Round). DrainsFor r c.args.now c.serve-served.new.self c.self.inside.player (noted_still c.args.self.now.still c.serve-served.result.taken c.args.now)) (sym w.result-is) (ends_for g first c.noted-still.result _ is why))
-      | in-Finished w ↦ (c.serve-served.result.taken, ap Some is, subst (λ (r : Round). DrainsFor r c.args.now c.serve-served.new.self c.self.inside.player (noted_still c.args.self.now.still c.serve-served.result.taken c.args.now)) (sym w.result-is) (ends_for g first c.noted-still.result _ is why))
+      | in-SendTimedOut w ↦ (c.serve-served.result.taken, c.note.ensures ∙ ap Some is, subst (λ (r : Round). DrainsFor r c.args.now c.serve-served.new.self c.self.inside.player (noted_still c.args.self.now.still c.serve-served.result.taken c.args.now)) (sym w.result-is) (ends_for g first (still_now g (goal.at.returns-clause-drains g c).After-goes_on-waits) _ is why))
+      | in-Finished w ↦ (c.serve-served.result.taken, c.note.ensures ∙ ap Some is, subst (λ (r : Round). DrainsFor r c.args.now c.serve-served.new.self c.self.inside.player (noted_still c.args.self.now.still c.serve-served.result.taken c.args.now)) (sym w.result-is) (ends_for g first (still_now g (goal.at.returns-clause-drains g c).After-goes_on-waits) _ is why))
     ]
 
 pub unreachable-requires : goal.unreachable-requires

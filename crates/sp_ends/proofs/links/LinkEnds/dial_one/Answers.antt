@@ -219,8 +219,7 @@ meet_newcomer-requires-clause-fresh g c =
     let d = (goal.at.meet_newcomer-requires-clause-fresh g c).After-dialed in
     let a = c.asking-way.ensures in
     let i = c.requires.in_turn in
-    let same = asked_on c.args.self.now (now_ends g d) c.asking-way.new.self (first_ends g d c.in-Got.link c.in-Got.is) a.same in
-    (
+    let same = asked_on c.args.self.now (now_ends g d) c.asking-way.new.self (first_ends g d c.in-Got.link c.in-Got.is) a.same in (
       i.0,
       g.N.Net.seen c.args.net.now,
       turned_as g.L.Link.seen i.0 c.args.self.now c.asking-way.new.self (g.N.Net.seen c.args.net.now) c.args.single.now c.args.now 0 same (ap (λ (v : LinkEndsView g.row.L.Denot). v.newcomers) a.same ∙ newcomers_are g d) i.1,

@@ -74,11 +74,10 @@ returns-in-Failed g c =
 pub returns-in-At : goal.returns-in-At
 returns-in-At g c =
     let l : Listener = record { at = c.in-At.at; addr = c.in-Ok.copy } in
-    let s = subst (λ (r : Listened). ListenedAs r c.args.addr.now (g.N.Net.seen c.args.net.now) (g.N.Net.seen c.listen.new.self)) c.in-At.is c.listen.ensures.shows in
-    (
+    let s = subst (λ (r : Listened). ListenedAs r c.args.addr.now (g.N.Net.seen c.args.net.now) (g.N.Net.seen c.listen.new.self)) c.in-At.is c.listen.ensures.shows in (
       l,
       c.in-Ok.ensures,
       grown_as (record { role = c.self.inside.role; dice = c.self.inside.dice; asked = c.self.inside.asked; listeners = c.self.inside.listeners.items; dialers = c.self.inside.dialers.items; newcomers = c.self.inside.newcomers.items }) c.args.self.now l c.push_reserved.new.self.items c.reserve-2.new.self.items
-      (c.push_reserved.ensures.items ∙ ap (λ xs. xs ++ l ∷ []) c.reserve.ensures.items) c.reserve-2.ensures.items c.self.view_is,
+          (c.push_reserved.ensures.items ∙ ap (λ xs. xs ++ l ∷ []) c.reserve.ensures.items) c.reserve-2.ensures.items c.self.view_is,
       record { fresh = s.fresh; listens = s.listens; opened = s.opened; back = s.back; faults = c.listen.ensures.faults; idles = c.listen.ensures.idles },
     )
