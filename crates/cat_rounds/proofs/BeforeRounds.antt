@@ -72,7 +72,6 @@ ends_begin seen z start =
         rose = λ i f. omega arith;
       };
       of_run = record { listens = tt; dials = tt; dice = refl };
-      few = omega arith;
     }
   where
     none_some : (n : ℕ) → None ≡ Some n → ⊥

@@ -22,6 +22,7 @@ use Rattle.end_parts.specs.declared.listener.Listener.{Listener}
 use Rattle.sp_ends.specs.EndsTurns.{addrs_of}
 use Rattle.end_parts.specs.EndViews.{Beginning, EndsView, LinkEndsView, NamesView}
 use Rattle.end_parts.specs.RunLinks.{EndsStand, LinksKept, IsListener, tries_of}
+use Rattle.end_parts.specs.DialMoments.{IsDueAt}
 use Rattle.end_parts.specs.Dialing.{IsDialed}
 use Rattle.sp_base.specs.declared.addr.Addr.{Addr}
 use Rattle.sp_base.specs.declared.addr.Addr.TheVariants as addrs
@@ -95,7 +96,6 @@ listens_more seen z start net net' e e' l linked among at is few s =
         rose = λ i f. (let r = s.asked.rose (omega (arith, at.idles, i)) (omega (arith, at.faults, f)) in omega (arith, r, at.idles, at.faults, at.opened));
       };
       of_run = record { listens = all_more (λ (x : Listener). IsAmong x.addr start.origins.listens) e.listeners l s.of_run.listens among; dials = s.of_run.dials; dice = s.of_run.dice };
-      few = s.few;
     })
 
 -- ---- One dialer more
@@ -103,6 +103,10 @@ listens_more seen z start net net' e e' l linked among at is few s =
 tries_more : (ds : List Dialer) (d : Dialer) → d.tries ≡ 0 → tries_of (ds ++ d ∷ []) ≡ tries_of ds
 tries_more [] d t = omega (arith, t)
 tries_more (x ∷ ds) d t = let r = tries_more ds d t in omega (arith, r)
+
+-- it may be dialed at once
+at_once : (d : Dialer) → d.next ≡ Some 0 → (t : ℕ) → IsDueAt d.next t
+at_once d next t = subst (λ (o : Option ℕ). IsDueAt o t) (sym next) (omega arith)
 
 pub dials_more : {L : Type 0} (seen : L → LinkView) (z : Setting) (start : Beginning) (net : NetView) (e e' : LinkEndsView L) (d : Dialer) (addr : Addr) → IsNewDialer addr d → IsAmong addr start.origins.dials → e' ≡ record e { dialers = e.dialers ++ d ∷ [] } → length e.listeners + length e.dialers < 64 → EndsStand seen z start [] net e → EndsStand seen z start [] net e'
 dials_more seen z start net e e' d addr n among is few s =
@@ -112,14 +116,13 @@ dials_more seen z start net e e' d addr n among is few s =
       asked = record {
         few = (let m = length_more e.dialers d in omega (arith, few, m));
         listens = s.asked.listens;
-        dials = all_more (IsDialed (net.opened ≡ start.net.opened) []) e.dialers d s.asked.dials (record { dialable = n.dialable; free = λ x. n.place; next = λ x. n.next; tries = λ x y. omega arith; begun = λ x. (n.place, n.next); once = λ x. absurd (omega (arith, x)) });
+        dials = all_more (IsDialed (net.opened ≡ start.net.opened) []) e.dialers d s.asked.dials (record { dialable = n.dialable; free = λ x. n.place; soon = λ x t le few. at_once d n.next t; next = λ x y z t le few. at_once d n.next t; tries = λ x y. omega arith; begun = λ x. (n.place, n.next); once = λ x. absurd (omega (arith, x)) });
         first = s.asked.first;
         idles = s.asked.idles;
         faults = s.asked.faults;
         rose = λ i f. (let r = s.asked.rose i f in let t = tries_more e.dialers d n.tries in omega (arith, r, t));
       };
       of_run = record { listens = s.of_run.listens; dials = all_more (λ (x : Dialer). IsAmong x.addr start.origins.dials) e.dialers d s.of_run.dials (subst (λ (a : Addr). IsAmong a start.origins.dials) (sym n.addr_is) among); dice = s.of_run.dice };
-      few = s.few;
     })
 
 -- ---- One end of the plan more
@@ -363,7 +366,6 @@ ends_fail seen z start h net net' e f s =
         rose = λ i k. (let r = s.asked.rose (omega (arith, f.idles, i)) (omega (arith, f.later, k)) in omega (arith, r, f.idles, f.later, f.untouched.opened));
       };
       of_run = s.of_run;
-      few = s.few;
     }
 
 -- the run stands on where the ends over links and the net are those from before

@@ -1,3 +1,4 @@
+pub mod Stillness
 pub mod Parts
 pub mod RunRounds
 pub mod Built

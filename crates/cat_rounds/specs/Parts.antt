@@ -1,18 +1,21 @@
 -- What contracts see of the parts of a run, and what is true of them.
-use Rattle.std.specs.Prelude.{ℕ}
+use Rattle.std.specs.Prelude.{ℕ, Option}
 use Rattle.sp_history.specs.Past.{past_of}
 use Rattle.sp_single.specs.Singles.{SingleView, IsSound, IsNow}
 use Rattle.sp_lane.specs.Registry.{Registry}
 use Rattle.end_parts.specs.EndViews.{EndsView}
 use Rattle.cat_player.specs.declared.player.Player.{Player}
 use Rattle.cat_player.specs.Lasting.{PlayStands, AreOn}
+use Rattle.cat_rounds.specs.declared.stillness.Stillness.{Stillness}
 
--- the socket of a run, its ends, its play, and the names within the process
+-- the socket of a run, its ends, its play, the names within the process, and since when no link took a byte once the play is
+-- over
 pub record RunPartsView (L : Type 0) : Type 0 where
   pub single : SingleView
   pub ends : EndsView L
   pub player : Player
   pub inproc : Registry
+  pub still : Option Stillness
 
 -- the history of the socket is sound, and the play stands on it
 pub record IsRunning (s : SingleView) (p : Player) : Type 0 where

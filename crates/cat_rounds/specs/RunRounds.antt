@@ -1,5 +1,5 @@
 -- What stands of a run between two rounds, and what it comes to.
-use Rattle.std.specs.Prelude.{◌≡◌, ◌<◌, ◌+◌, ◌^◌, ℕ, ⊤, true, false, Bool, List, length, Option, None, nat_lt}
+use Rattle.std.specs.Prelude.{◌≡◌, ◌<◌, ◌+◌, ◌^◌, ◌⊎◌, ℕ, ⊤, true, false, Bool, List, length, Option, Some, None, nat_lt}
 use Rattle.turn_lock.specs.declared.turn.Turn.{Turn}
 use Rattle.sp_base.specs.Views.{LinkView, NetView, PaceView, SinkView}
 use Rattle.sp_history.specs.declared.entry.Entry.{Entry}
@@ -25,7 +25,9 @@ use Rattle.cat_rounds.specs.declared.rounds.Going.TheVariants as goings
 use Rattle.cat_player.specs.Lasting.{PlayStands, HasPrinted, MayTick, HasPlayed, HasServed}
 use Rattle.cat_player.specs.PlayerSteps.{HasPrintedCut, PrintsOn, SameScript}
 use Rattle.sp_ends.specs.EndsTurns.{SameEnds}
+use Rattle.cat_rounds.specs.declared.stillness.Stillness.{Stillness}
 use Rattle.cat_rounds.specs.Parts.{RunPartsView}
+use Rattle.cat_rounds.specs.Stillness.{noted_still, gives_up}
 
 -- the ends of a run stand on its socket, and a link was missed when out of memory, or none was
 pub record LinksStand {L : Type 0} (seen : L → LinkView) (start : Beginning) (s : SingleView) (ends : LinkEndsView L) (net : NetView) (is_dry : Bool) : Type 0 where
@@ -52,6 +54,11 @@ pub record IsThrough (s : SingleView) (p : Player) : Type 0 where
   pub free : p.op ≡ None
   pub cleared : AreCleared (past_of s.seen)
 
+-- all is written, or the run was given up: no link has taken a byte since some tick for as long as a send may take
+abbrev pub IsThroughOrGivenUp : SingleView → Player → Type 0
+IsThroughOrGivenUp s p =
+    IsThrough s p ⊎ (p.op ≡ None) × ((still : Stillness) × (gives_up p.over p.script.send_timeout still (now (past_of s.seen)) ≡ true))
+
 -- ---- Parts of a round
 
 -- what a part of a round left
@@ -73,10 +80,20 @@ PrintsGoing goings.NoMemory before now h p = HasPrintedCut before now h p
 abbrev pub RoundGoesTo : Round → SingleView → Player → Type 0
 RoundGoesTo (rounds.Goes moved) s p = MayTick s.setting s.seen p
 RoundGoesTo (rounds.Ends status.Done) s p = IsThrough s p × (p.over ≡ overs.Finished)
-RoundGoesTo (rounds.Ends status.SendTimedOut) s p = IsThrough s p × (p.over ≡ overs.SendTimedOut)
+RoundGoesTo (rounds.Ends status.SendTimedOut) s p = IsThroughOrGivenUp s p × (p.over ≡ overs.SendTimedOut)
 RoundGoesTo (rounds.Ends status.OutFault) s p = ⊤
 RoundGoesTo (rounds.Ends status.NoMemory) s p = ⊤
 RoundGoesTo (rounds.Ends _) s p = ⊥
+
+-- why it goes on when the play is over, or ends: a pipe has something left to write, and the run isn't given up
+abbrev pub DrainsFor : Round → ℕ → SingleView → Player → Stillness → Type 0
+DrainsFor (rounds.Goes moved) now s p still = gives_up p.over p.script.send_timeout still now ≡ false
+DrainsFor (rounds.Ends why) now s p still = AreCleared (past_of s.seen) ⊎ (gives_up p.over p.script.send_timeout still now ≡ true)
+
+-- when the play is over it is noted how much the links have taken, and then the run goes on or ends
+abbrev pub Drains : Round → ℕ → Option Stillness → SingleView → Player → Option Stillness → Type 0
+Drains result now before s p after =
+    (taken : ℕ) × (after ≡ Some (noted_still before taken now)) × DrainsFor result now s p (noted_still before taken now)
 
 abbrev pub PrintsRound : Round → Option (List ℕ) → Option (List ℕ) → List (Turn Entry) → Player → Type 0
 PrintsRound (rounds.Ends status.OutFault) before now h p = HasPrintedCut before now h p
@@ -86,7 +103,7 @@ PrintsRound _ before now h p = HasPrinted before now h p
 -- the names were dialed and asked once, in the registry that the round found, and the round leaves it as that did
 abbrev pub TurnsNames : {L : Type 0} → ℕ → EndsView L → EndsView L → Registry → Registry → Type 0
 TurnsNames now old new reg reg' =
-    (s : SingleView) × (s' : SingleView) × TurnsLanes now old.links.role (length new.links.newcomers) old.names.names s s' reg reg' old.names.callers new.names.callers
+    (s : SingleView) × (s' : SingleView) × TurnsLanes now old.links.role old.names.names s s' reg reg' old.names.callers new.names.callers
 
 -- a link was missed when out of memory at most where the round ends so
 abbrev pub RoundStands : {L : Type 0} → (L → LinkView) → Beginning → Round → SingleView → LinkEndsView L → Player → NetView → Type 0
@@ -117,7 +134,7 @@ IsDryAt _ s = is_dry_at s ≡ false
 abbrev pub WentOrOver : Status → SingleView → Player → SinkView → SinkView → PaceView → Type 0
 WentOrOver status.Over s p out out' pace = (pace.left ≡ 0) × (pace.is_over ≡ true)
 WentOrOver status.Done s p out out' pace = IsThrough s p × (p.over ≡ overs.Finished)
-WentOrOver status.SendTimedOut s p out out' pace = IsThrough s p × (p.over ≡ overs.SendTimedOut)
+WentOrOver status.SendTimedOut s p out out' pace = IsThroughOrGivenUp s p × (p.over ≡ overs.SendTimedOut)
 WentOrOver status.OutFault s p out out' pace = ⊤
 WentOrOver status.NoMemory s p out out' pace = ⊤
 WentOrOver _ s p out out' pace = ⊥

@@ -10,13 +10,14 @@
 //!
 //! The play itself is `cat_player`: the operation that is under way, what was counted, and what is next. `run_parts`
 //! has the parts of a run with what is true of them, `topics` puts a sub's topics on before the first round, `rounds`
-//! says what a round does, and `whole` has the beginning and the end. To read: `whole`, then `rounds`, then the player
+//! says what a round does, `stillness` when a run whose send timed out gives up, and `whole` has the beginning and the end. To read: `whole`, then `rounds`, then the player
 //! of `cat_player`. What is true of the parts is `IsRunning` (`specs/Parts`); with it, `RunStands` (`specs/RunRounds`)
 //! is what stands between two rounds.
 #![tactic(auto)]
 
 mod rounds;
 mod run_parts;
+mod stillness;
 mod topics;
 mod whole;
 

@@ -1,5 +1,5 @@
 //! The rounds of a run.
-ghost use Rattle.std.specs.Prelude.{◌≡◌, ◌≢◌, ◌≤◌, ◌+◌, ℕ, None, true, false, length};
+ghost use Rattle.std.specs.Prelude.{◌≡◌, ◌≢◌, ◌≤◌, ◌+◌, ◌&&◌, not, None, true, false, length};
 ghost use Rattle.sp_history.specs.Past.{past_of};
 ghost use Rattle.cat_play.specs.Scripts.{has_ticked, texts};
 ghost use Rattle.cat_player.specs.Lasting.{HasServed, MayTick};
@@ -7,9 +7,10 @@ ghost use Rattle.cat_player.specs.PlayerSteps.{AddsNoText, KnowsPipes, GoesOnBy,
 ghost use Rattle.cat_rounds.specs.Late.{IsLateBy, RoundIsLate, StallsMore};
 ghost use Rattle.cat_rounds.specs.Parts.{IsAt, StaysAt};
 ghost use Rattle.cat_rounds.specs.Resting.{BeginsNothing, IsAtRest, MovesStill, RoundMoves};
-ghost use Rattle.cat_rounds.specs.RunRounds.{RunIsOpen, RunGoesOn, RoundGoesOn, SameRun, GoesTo, RoundGoesTo, WentOrOver, PacedTo, TicksOnce, PrintsRun, PrintsTo, PrintsGoing, PrintsRound, TurnsNames, IsDryAt, past_now, has_more};
+ghost use Rattle.cat_rounds.specs.RunRounds.{RunIsOpen, RunGoesOn, RoundGoesOn, SameRun, GoesTo, RoundGoesTo, Drains, WentOrOver, PacedTo, TicksOnce, PrintsRun, PrintsTo, PrintsGoing, PrintsRound, TurnsNames, IsDryAt, past_now, has_more};
 
 use crate::run_parts::RunParts;
+use crate::stillness::{gives_up, note};
 use cat_play::status::Status;
 use cat_player::{PlayEnd, StepResult};
 use sp_base::{Link, Net, Pace, Paced, Sink, Tick};
@@ -108,7 +109,7 @@ impl<R: Wait, P: Proto, L: Link> RunParts<'_, R, P, L> {
         match going {
             Going::Rests(moved) => Round::Goes(moved),
             Going::Over => {
-                let drained = self.drain();
+                let drained = self.drain(now);
                 let _single = &self.single;
                 drained
             }
@@ -197,14 +198,16 @@ impl<R: Wait, P: Proto, L: Link> RunParts<'_, R, P, L> {
         Going::Rests(moved)
     }
 
-    // The play is over: the run ends as soon as no pipe has something left to write.
-    fn drain(&mut self) -> Round
-        requires at { (now : ℕ) × IsAt self.old.single self.old.player now }
+    // The play is over: the run ends as soon as no pipe has something left to write. Where a send timed out it ends too
+    // once no link has taken a byte for as long as a send may take.
+    fn drain(&mut self, now: Tick) -> Round
+        requires at { IsAt self.old.single self.old.player now }
         requires over { self.old.player.over ≢ PlayEnd.Open }
         requires free { self.old.player.op ≡ None }
         ensures at { StaysAt self.old self.new }
         ensures goes_on { GoesOnBy self.old.single self.new.single }
         ensures went { RoundGoesTo result self.new.single self.new.player }
+        ensures drains { Drains result now self.old.still self.new.single self.new.player self.new.still }
         ensures texts { AddsNoText self.old.player.script self.old.single self.new.single }
         ensures same { (self.new.player ≡ self.old.player) × (self.new.ends ≡ self.old.ends) }
         ensures names { self.new.inproc ≡ self.old.inproc }
@@ -213,7 +216,10 @@ impl<R: Wait, P: Proto, L: Link> RunParts<'_, R, P, L> {
         ensures rests { result ≡ Round.Goes true → ⊥ }
     {
         let served = self.single.serve(self.rt);
-        let waits = has_more(served);
+        note(&mut self.still, served.taken, now);
+        let timeout = self.player.script.send_timeout;
+        let given_up = gives_up(&self.still, self.player.over, timeout, now);
+        let waits = goes_on(served, given_up);
         if waits {
             return Round::Goes(false);
         }
@@ -223,6 +229,13 @@ impl<R: Wait, P: Proto, L: Link> RunParts<'_, R, P, L> {
             PlayEnd::Open => unreachable!(),
         }
     }
+}
+
+// Whether the run goes on though its play is over.
+fn goes_on(served: Served, given_up: bool) -> bool
+    ensures { result ≡ (has_more served && not given_up) }
+{
+    has_more(served) && !given_up
 }
 
 // Whether a pipe has something left to write.

@@ -1,4 +1,5 @@
 //! The parts of a run.
+use crate::stillness::Stillness;
 use cat_player::Player;
 use end_wire::EndWire;
 use sp_base::Link;
@@ -8,14 +9,15 @@ use sp_proto::Proto;
 use sp_single::Single;
 use std::marker::Model;
 
-/// The runtime with which a run waits, its socket, its ends, its play, and the names within the process. It must be
-/// spent.
+/// The runtime with which a run waits, its socket, its ends, its play, the names within the process, and since when no
+/// link took a byte once the play is over. It must be spent.
 pub(crate) struct RunParts<'r, R, P: Proto, L: Link> {
     pub rt: &'r R,
     pub single: Single<P, EndWire<L>>,
     pub ends: Ends<L>,
     pub player: Player,
     pub inproc: Inproc,
+    pub still: Option<Stillness>,
 }
 
 // Contracts see the parts without the runtime. The history of the socket is sound, and the play stands on it.
@@ -24,7 +26,7 @@ impl<'r, R, P: Proto, L: Link> Model for RunParts<'r, R, P, L> {
 
     ghost Value = { RunPartsView L };
 
-    ghost view = { λ r. record { single = r.single; ends = r.ends; player = r.player; inproc = r.inproc } };
+    ghost view = { λ r. record { single = r.single; ends = r.ends; player = r.player; inproc = r.inproc; still = r.still } };
 
     ghost invariant = { λ r. IsRunning r.single r.player };
 }

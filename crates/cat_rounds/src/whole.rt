@@ -113,6 +113,7 @@ pub fn play<R: AllocGlobal + Wait, N: Net, Pa: Pace, S: Sink, P: Proto + Drop>(
         ends: links,
         player: Player::new(alloc, script),
         inproc: Inproc::new(alloc),
+        still: None,
     };
     let status = parts.follow(ends.as_slice(), net, pace, out);
     parts.finish(net, status)
@@ -186,6 +187,7 @@ impl<R: Wait, P: Proto, L: Link> RunParts<'_, R, P, L> {
             ends,
             player,
             inproc: _,
+            still: _,
         } = self;
         let _ = single.close(rt);
         player.finish(rt, &mut single);

@@ -8,6 +8,8 @@ mod checks;
 #[cfg(test)]
 mod counted;
 #[cfg(test)]
+mod dialing;
+#[cfg(test)]
 mod drills;
 #[cfg(test)]
 mod first_path;

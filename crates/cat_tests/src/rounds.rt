@@ -144,7 +144,7 @@ fn each_listener_brings_16_links_a_turn(rt: HostRuntime) {
     );
 }
 
-// While 256 links are in their greetings nobody is accepted.
+// While 256 links of a listener are in their greetings it is asked for no other.
 #[test]
 fn nothing_is_accepted_behind_256_greetings(rt: HostRuntime) {
     runs(
@@ -154,6 +154,75 @@ fn nothing_is_accepted_behind_256_greetings(rt: HostRuntime) {
         pace 60 1
         comes over
         opened 256",
+    );
+}
+
+// With 256 silent links at one listener the other one brings its link, which stands behind 320 wrong ones, so behind 20
+// turns.
+#[test]
+fn silent_links_hold_back_no_other_listener(rt: HostRuntime) {
+    runs(
+        &rt,
+        "words --pull --listen tcp://127.0.0.1:5555 --listen tcp://127.0.0.1:5556 --raw --count 1
+        links 300 00'SP
+        listener
+        links 320 00'SQ
+        link greets_push 0000000000000001'x
+        pace 60 1
+        comes done
+        opened 577
+        prints 'x",
+    );
+}
+
+// Seventeen listeners bring 272 silent links in the first turn. A bus talks to itself over a name in the same turn.
+#[test]
+fn silent_links_hold_back_no_name(rt: HostRuntime) {
+    runs(
+        &rt,
+        "words --bus --listen inproc://x --dial inproc://x --data m --listen tcp://127.0.0.1:5555 \
+            --listen tcp://127.0.0.1:5556 --listen tcp://127.0.0.1:5557 --listen tcp://127.0.0.1:5558 \
+            --listen tcp://127.0.0.1:5559 --listen tcp://127.0.0.1:5560 --listen tcp://127.0.0.1:5561 \
+            --listen tcp://127.0.0.1:5562 --listen tcp://127.0.0.1:5563 --listen tcp://127.0.0.1:5564 \
+            --listen tcp://127.0.0.1:5565 --listen tcp://127.0.0.1:5566 --listen tcp://127.0.0.1:5567 \
+            --listen tcp://127.0.0.1:5568 --listen tcp://127.0.0.1:5569 --listen tcp://127.0.0.1:5570 \
+            --listen tcp://127.0.0.1:5571
+        links 16 00'SP
+        listener
+        links 16 00'SP
+        listener
+        links 16 00'SP
+        listener
+        links 16 00'SP
+        listener
+        links 16 00'SP
+        listener
+        links 16 00'SP
+        listener
+        links 16 00'SP
+        listener
+        links 16 00'SP
+        listener
+        links 16 00'SP
+        listener
+        links 16 00'SP
+        listener
+        links 16 00'SP
+        listener
+        links 16 00'SP
+        listener
+        links 16 00'SP
+        listener
+        links 16 00'SP
+        listener
+        links 16 00'SP
+        listener
+        links 16 00'SP
+        listener
+        links 16 00'SP
+        pace 1 1
+        comes done
+        opened 272",
     );
 }
 

@@ -130,7 +130,7 @@ module _ (start : Beginning) (net : NetView) (listeners : List Listener) (dialer
       record {
         few = n.few;
         listens = n.listens;
-        dials = all_mapped (IsDialed (net.opened ≡ start.net.opened) dialed) (IsDialed (net.opened ≡ start.net.opened) dialed') (λ x i. record { dialable = i.dialable; free = i.free; begun = λ e. i.begun (sym d ∙ e); next = λ s. rw d (i.next s); tries = λ s few. let f : length (ticks dialed) < 2 ^ 64 = rw d at few in rw d (i.tries s f); once = λ l. i.once (rw d at l) }) dialers n.dials;
+        dials = all_mapped (IsDialed (net.opened ≡ start.net.opened) dialed) (IsDialed (net.opened ≡ start.net.opened) dialed') (λ x i. record { dialable = i.dialable; free = i.free; begun = λ e. i.begun (sym d ∙ e); soon = λ s. rw d (i.soon s); next = λ s few. let f : length (ticks dialed) < 2 ^ 64 = rw d at few in rw d (i.next s f); tries = λ s few. let f : length (ticks dialed) < 2 ^ 64 = rw d at few in rw d (i.tries s f); once = λ l. i.once (rw d at l) }) dialers n.dials;
         first = λ e. n.first (sym a ∙ e);
         idles = n.idles;
         faults = n.faults;
@@ -175,7 +175,7 @@ module _ {L : Type 0} (seen : L → LinkView) (z : Setting) (h turns : List (Tur
     -- between two rounds
     pub ends_stay : (ends : LinkEndsView L) → EndsStand seen z start h net ends → EndsStand seen z start (h ++ turns) net ends
     ends_stay ends s =
-        record { role = s.role; links = links_stay ends.newcomers 0 s.links; asked = net_stays ends.listeners ends.dialers s.asked; of_run = s.of_run; few = s.few }
+        record { role = s.role; links = links_stay ends.newcomers 0 s.links; asked = net_stays ends.listeners ends.dialers s.asked; of_run = s.of_run }
 
 -- the same, where the later history is given
 pub linkless : {L : Type 0} (seen : L → LinkView) (z : Setting) (start : Beginning) (net : NetView) (h h' : List (Turn Entry)) (ends : LinkEndsView L) → AddsNone moves_ends h h' → Legal z h' → EndsStand seen z start h net ends → EndsStand seen z start h' net ends

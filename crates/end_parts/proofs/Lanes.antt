@@ -112,7 +112,6 @@ module _ {L : Type 0} (seen : L → LinkView) (says : Setting → List (Turn Ent
         links = links_lane a.setting start net a.seen took.turn p name next lane first l s.links.kept seen ends.newcomers 0 s.links;
         asked = asked l;
         of_run = s.of_run;
-        few = s.few;
       })
     where
       asked : Legal a.setting (a.seen ++ took.turn ∷ []) → NetStands start (past_of (a.seen ++ took.turn ∷ [])) (past_of (a.seen ++ took.turn ∷ [])) net ends.listeners ends.dialers

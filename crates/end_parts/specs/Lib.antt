@@ -1,3 +1,4 @@
+pub mod Errors
 pub mod DialMoments
 pub mod Dialing
 pub mod EndViews

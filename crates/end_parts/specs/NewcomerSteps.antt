@@ -1,5 +1,5 @@
 -- What becomes of a link in its greetings.
-use Rattle.std.specs.Prelude.{◌≡◌, ◌≤◌, ◌<◌, ◌+◌, ◌++◌, ℕ, ⊤, Bool, true, false, List, [], ◌∷◌, suc, ◌||◌}
+use Rattle.std.specs.Prelude.{◌≡◌, ◌≤◌, ◌<◌, ◌+◌, ◌++◌, ℕ, ⊤, Bool, true, false, List, [], ◌∷◌, suc, ◌||◌, Option}
 use Rattle.turn_lock.specs.declared.turn.Turn.{Turn}
 use Rattle.sp_base.specs.Views.{LinkView, NetView}
 use Rattle.sp_base.specs.declared.role.Role.{Role}
@@ -29,10 +29,11 @@ use Rattle.link_opening.specs.declared.opening.Opening.{Opening}
 use Rattle.cat_play.specs.Running.{has_dry_miss}
 
 -- a newcomer over this link
-pub record IsNewcomer {L : Type 0} (seen : L → LinkView) (link : L) (role : Role) (way : Way) (met : ℕ) (n : Newcomer L) : Type 0 where
+pub record IsNewcomer {L : Type 0} (seen : L → LinkView) (link : L) (role : Role) (way : Way) (met : ℕ) (from : Option ℕ) (n : Newcomer L) : Type 0 where
   pub fresh : IsFresh seen link role way n.opening
   pub under_way : IsUnderWay seen n.opening
   pub met_is : n.met ≡ met
+  pub from_is : n.from ≡ from
 
 -- what is to be done with a link whose greetings came so far, met and asked at these ticks
 abbrev pub DecidedFor : NewcomerDecision → Progress → ℕ → ℕ → Type 0
@@ -130,6 +131,12 @@ abbrev pub FateIsYoung : {L : Type 0} → ℕ → NewcomerFate L → Type 0
 FateIsYoung now (fates.Stays n) = IsYoung now n
 FateIsYoung now fates.Up = ⊤
 FateIsYoung now (fates.Missed miss) = ⊤
+
+-- a link that stays is the same listener's
+abbrev pub FateIsFrom : {L : Type 0} → Option ℕ → NewcomerFate L → Type 0
+FateIsFrom from (fates.Stays n) = n.from ≡ from
+FateIsFrom from fates.Up = ⊤
+FateIsFrom from (fates.Missed miss) = ⊤
 
 -- the same link later, which took nothing of what is still owed once, or brought nothing
 pub record HasWaitedOn {L : Type 0} (seen : L → LinkView) (old new : Newcomer L) : Type 0 where

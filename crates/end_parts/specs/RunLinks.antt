@@ -228,7 +228,6 @@ pub record EndsStand {L : Type 0} (seen : L → LinkView) (z : Setting) (start :
   pub links : LinksStand seen z start h net ends.newcomers 0
   pub asked : NetStands start (past_of h) (past_of h) net ends.listeners ends.dialers
   pub of_run : AreOfRun start.origins ends
-  pub few : length ends.newcomers ≤ 320
 
 -- no result of the net was counted, and it listens as it did
 pub record SameCounts (old new : NetView) : Type 0 where

@@ -1,11 +1,11 @@
 //! An address that is dialed.
-ghost use Rattle.std.specs.Prelude.{◌≡◌, ◌+◌, ◌-◌, ◌^◌, min, IsTrue, ◌↔◌, None, Some};
-ghost use Rattle.end_parts.specs.DialMoments.{moment, IsDueAt};
-ghost use Rattle.end_parts.specs.DialerSteps.{IsFreed, IsSameDialer};
+ghost use Rattle.std.specs.Prelude.{◌≡◌, IsTrue, ◌↔◌, None, Some};
+ghost use Rattle.end_parts.specs.DialMoments.{IsDueAt};
+ghost use Rattle.end_parts.specs.DialerSteps.{HasTried, next_after, place_after, IsFreed, IsSameDialer};
 
-use sp_base::{Addr, Tick};
+use sp_base::{Addr, Link, Linked, Tick};
 
-/// How many milliseconds lie between two dials, and between the end of a link and the next dial.
+/// How many milliseconds lie between the end of a try, or of a link, and the next dial.
 pub(crate) const PAUSE: u64 = 100;
 
 /// An address that is dialed again and again, while no link to it stands (nng_dialer(5)).
@@ -17,7 +17,7 @@ pub struct Dialer {
     pub next: Option<u64>,
     /// The link that it has, if it has one.
     pub place: Option<u32>,
-    /// How often it was dialed, at most 2^64 - 1.
+    /// How often the net was asked for it, at most 2^64 - 1.
     pub tries: u64,
 }
 
@@ -44,11 +44,24 @@ impl Dialer {
         }
     }
 
-    /// It was dialed at this tick, and has this link now, or none.
-    pub fn dialed(&mut self, now: Tick, place: Option<u32>)
-        ensures { (self.new.addr ≡ self.old.addr) × (self.new.next ≡ moment (now + 100)) × (self.new.place ≡ place) × (self.new.tries ≡ min (self.old.tries + 1) (2 ^ 64 - 1)) }
+    /// It was dialed at this tick, and the net said this. While a connection is under way it is asked for at the next
+    /// tick; a try that is over is followed by the pause.
+    pub fn dialed<L: Link>(&mut self, now: Tick, said: &Linked<L>)
+        ensures { HasTried (next_after said.now now) (place_after L.seen said.now) self.old self.new }
     {
-        self.next = now.0.checked_add(PAUSE);
+        match said {
+            Linked::Got(link) => self.tried(now.0.checked_add(PAUSE), Some(link.place())),
+            Linked::NotYet => self.tried(now.0.checked_add(PAUSE), None),
+            Linked::Begun => self.tried(Some(now.0), None),
+            Linked::Failed => self.tried(now.0.checked_add(PAUSE), None),
+        }
+    }
+
+    // The net was asked once more; from this tick on it may be asked again, and this is its link.
+    fn tried(&mut self, next: Option<u64>, place: Option<u32>)
+        ensures { HasTried next place self.old self.new }
+    {
+        self.next = next;
         self.place = place;
         self.tries = self.tries.saturating_add(1);
     }

@@ -4,7 +4,7 @@ ghost use Rattle.link_opening.specs.Going.{IsOpened};
 ghost use Rattle.end_parts.specs.RunLinks.{SameCounts};
 ghost use Rattle.end_parts.specs.SocketSteps.{Quietly, NoLane};
 ghost use Rattle.sp_single.specs.Singles.{IsSound, IsNow};
-ghost use Rattle.end_parts.specs.NewcomerSteps.{IsNextToGreet, GreetsTo, IsInHand, IsOpenInHand, AttachesTo, MissesAs, DriesBy, FateBack, FateIsYoung, FateHasWaited, GivesOneBack, IsOut, DecidedFor, MissesFor, is_dry_for, is_dry_fate};
+ghost use Rattle.end_parts.specs.NewcomerSteps.{IsNextToGreet, GreetsTo, IsInHand, IsOpenInHand, AttachesTo, MissesAs, DriesBy, FateBack, FateIsYoung, FateIsFrom, FateHasWaited, GivesOneBack, IsOut, DecidedFor, MissesFor, is_dry_for, is_dry_fate};
 
 use crate::newcomer::Newcomer;
 use crate::shut::leave;
@@ -64,12 +64,17 @@ pub fn greet_one<R: Wait, N: Net, P: Proto>(
     ensures dry { DriesBy (is_dry_fate result) single.old single.new }
     ensures back { FateBack result (N.L.seen newcomer.opening.link).place (N.seen net.old) (N.seen net.new) }
     ensures young { FateIsYoung now result }
+    ensures from { FateIsFrom newcomer.from result }
     ensures waited { FateHasWaited N.L.seen newcomer result }
 {
-    let Newcomer { mut opening, met } = newcomer;
+    let Newcomer {
+        mut opening,
+        met,
+        from,
+    } = newcomer;
     let progress = opening.greet(alloc);
     match decide(progress, met, now) {
-        NewcomerDecision::Stays => NewcomerFate::Stays(Newcomer { opening, met }),
+        NewcomerDecision::Stays => NewcomerFate::Stays(Newcomer { opening, met, from }),
         NewcomerDecision::Attach => attach(alloc, rt, net, single, opening),
         NewcomerDecision::Miss(why) => {
             miss(rt, net, single, opening.into_link(), why);

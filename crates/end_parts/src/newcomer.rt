@@ -14,6 +14,8 @@ pub struct Newcomer<L: Link> {
     pub opening: Opening<L>,
     /// The tick at which it was handed out.
     pub met: Tick,
+    /// The listener that brought it, by its place in the list; none where it was dialed.
+    pub from: Option<usize>,
 }
 
 impl<L: Link> Newcomer<L> {
@@ -24,13 +26,14 @@ impl<L: Link> Newcomer<L> {
         role: Role,
         way: Way,
         met: Tick,
+        from: Option<usize>,
     ) -> Result<Newcomer<L>, (NoMemory, L)>
         requires fresh { IsNew (L.seen link).place (L.seen link) }
         requires can { CanBegin way }
-        ensures { MatchResult result (λ n. IsNewcomer L.seen link role way met n) (λ e. e.1 ≡ link) }
+        ensures { MatchResult result (λ n. IsNewcomer L.seen link role way met from n) (λ e. e.1 ≡ link) }
     {
         match Opening::new(alloc, link, role, way) {
-            Ok(opening) => Ok(Newcomer { opening, met }),
+            Ok(opening) => Ok(Newcomer { opening, met, from }),
             Err(refused) => Err(refused),
         }
     }
@@ -43,13 +46,14 @@ pub fn newcomer_over<L: Link>(
     role: Role,
     way: Result<Way, NoMemory>,
     met: Tick,
+    from: Option<usize>,
 ) -> Result<Newcomer<L>, (NoMemory, L)>
     requires fresh { IsNew (L.seen link).place (L.seen link) }
     requires can { IfOk way CanBegin }
-    ensures { MatchResult result (λ n. (begins : WayType) × (way ≡ Ok begins) × IsNewcomer L.seen link role begins met n) (λ e. e.1 ≡ link) }
+    ensures { MatchResult result (λ n. (begins : WayType) × (way ≡ Ok begins) × IsNewcomer L.seen link role begins met from n) (λ e. e.1 ≡ link) }
 {
     match way {
-        Ok(way) => Newcomer::new(alloc, link, role, way, met),
+        Ok(way) => Newcomer::new(alloc, link, role, way, met, from),
         Err(NoMemory) => Err((NoMemory, link)),
     }
 }

@@ -75,7 +75,11 @@ pub fn give_newcomers_back<N: Net>(net: &mut N, newcomers: VecDeque<Newcomer<N::
 {
     let mut newcomers = newcomers;
     'links: while let Some(newcomer) = newcomers.pop_front() {
-        let Newcomer { opening, met: _ } = newcomer;
+        let Newcomer {
+            opening,
+            met: _,
+            from: _,
+        } = newcomer;
         leave(net, opening.into_link());
     }
     newcomers.destroy_empty();

@@ -8,7 +8,7 @@ use Rattle.sp_base.specs.Steps.{IsHandedOut, Untouched}
 use Rattle.sp_base.specs.declared.addr.Scheme.{Scheme}
 use Rattle.end_parts.specs.DialMoments.{IsDueAt}
 use Rattle.end_parts.specs.declared.dialer.Dialer.{Dialer}
-use Rattle.end_parts.specs.DialerSteps.{IsFree, IsFreed}
+use Rattle.end_parts.specs.DialerSteps.{IsFree, IsUnderWay, IsFreed}
 use Rattle.sp_ends.specs.Freeing.{AreFreed, FreesOne, FreesAll, GotBack, Frees, HasRedialed, RedialsOne, Redials, TurnsOne, TurnsAll, Turns, IsDue, AreWaiting}
 use Rattle.end_parts.specs.NewcomerSteps.{GivesOneBack}
 use Rattle.end_parts.proofs.Moves.{there, elsewhere}
@@ -104,7 +104,7 @@ frees_both t a b c ds es fs x y = record { net = got_both a b c x.net y.net; dia
 -- ---- One dial
 
 -- nothing was handed out
-pub redials_none : (i t : ℕ) (a b : NetView) (xs ds : List Dialer) (new : Dialer) → Untouched a b → xs ≡ ds → i < length ds → IsFree t new → Redials i t a b ds (set xs i new)
+pub redials_none : (i t : ℕ) (a b : NetView) (xs ds : List Dialer) (new : Dialer) → Untouched a b → xs ≡ ds → i < length ds → IsFree t new ⊎ IsUnderWay t new → Redials i t a b ds (set xs i new)
 redials_none i t a b xs ds new u e lt free =
     subst (λ (ys : List Dialer). Redials i t a b ds (set ys i new)) (sym e) (record { net = got_none a b (let o = u.opened in omega (arith, o)) u.back; dialers = go i ds lt })
   where
@@ -114,8 +114,9 @@ redials_none i t a b xs ds new u e lt free =
     go (suc j) (y ∷ ys) lt' = (same_one t a b y u.back, go j ys (omega (arith, lt')))
 
 redialed_then : (t : ℕ) (a b c : NetView) (e f : Dialer) → GotBack b c → HasRedialed t a b e → FreesOne t b c e f → HasRedialed t a c f
-redialed_then t a b c e f g x (inr y) = inl y.3
-redialed_then t a b c e f g (inl x) (inl y) = inl (ap (λ (k : Dialer). k.place) y.0 ∙ x.0, ap (λ (k : Dialer). k.next) y.0 ∙ x.1)
+redialed_then t a b c e f g x (inr y) = inl (inl y.3)
+redialed_then t a b c e f g (inl (inl x)) (inl y) = inl (inl (subst (IsFree t) (sym y.0) x))
+redialed_then t a b c e f g (inl (inr x)) (inl y) = inl (inr (subst (IsUnderWay t) (sym y.0) x))
 redialed_then t a b c e f g (inr x) (inl y) = inr (x.0, ap (λ (k : Dialer). k.place) y.0 ∙ x.1, x.2, omega (arith, x.3, g.opened), λ none. y.1 x.0 x.1 (x.4 none))
 
 redials_then : (i t : ℕ) (a b c : NetView) (ds es fs : List Dialer) → GotBack b c → RedialsOne i t a b ds es → FreesAll t b c es fs → RedialsOne i t a c ds fs
@@ -146,23 +147,24 @@ redials_got i t a b c link scheme xs ds fs new h e lt place then_ =
 
 -- ---- All of them
 
--- so many had their turn, and none of these is due any more
+-- so many had their turn, and none of these is due any more, but those with a connection under way
 abbrev pub TurnedTo : ℕ → ℕ → NetView → NetView → List Dialer → List Dialer → Type 0
 TurnedTo zero t a b ds es = FreesAll t a b ds es
 TurnedTo (suc i) t a b [] [] = ⊤
-TurnedTo (suc i) t a b (d ∷ ds) (e ∷ es) = TurnsOne t a b d e × (IsDue t e → ⊥) × TurnedTo i t a b ds es
+TurnedTo (suc i) t a b (d ∷ ds) (e ∷ es) = TurnsOne t a b d e × (IsDue t e → IsUnderWay t e) × TurnedTo i t a b ds es
 TurnedTo (suc i) t a b _ _ = ⊥
 
 free_waits : (t : ℕ) (e : Dialer) → IsFree t e → IsDue t e → ⊥
 free_waits t e f due = let l = due_moment (t + 100) t (subst (λ (o : Option ℕ). IsDueAt o t) f.1 due.1) in omega (arith, l)
 
-redialed_waits : (t : ℕ) (a b : NetView) (e : Dialer) → HasRedialed t a b e → IsDue t e → ⊥
-redialed_waits t a b e (inl f) due = free_waits t e f due
+redialed_waits : (t : ℕ) (a b : NetView) (e : Dialer) → HasRedialed t a b e → IsDue t e → IsUnderWay t e
+redialed_waits t a b e (inl (inl f)) due = absurd (free_waits t e f due)
+redialed_waits t a b e (inl (inr u)) due = u
 redialed_waits t a b e (inr x) due = let no : Some x.0 ≡ None = sym x.1 ∙ due.0 in cc
 
-waits_then : (t : ℕ) (a b : NetView) (d e : Dialer) → FreesOne t a b d e → (IsDue t d → ⊥) → IsDue t e → ⊥
-waits_then t a b d e (inl x) w due = w (subst (IsDue t) x.0 due)
-waits_then t a b d e (inr x) w due = free_waits t e x.3 due
+waits_then : (t : ℕ) (a b : NetView) (d e : Dialer) → FreesOne t a b d e → (IsDue t d → IsUnderWay t d) → IsDue t e → IsUnderWay t e
+waits_then t a b d e (inl x) w due = subst (IsUnderWay t) (sym x.0) (w (subst (IsDue t) x.0 due))
+waits_then t a b d e (inr x) w due = absurd (free_waits t e x.3 due)
 
 turns_then : (t : ℕ) (a b c : NetView) (d e f : Dialer) → GotBack b c → TurnsOne t a b d e → FreesOne t b c e f → TurnsOne t a c d f
 turns_then t a b c d e f g (inl x) y = inl (one_through t a b c d e f g x y)
@@ -196,7 +198,7 @@ pub turned_not_due : (t : ℕ) (a b : NetView) (i : ℕ) (ds es : List Dialer) �
 turned_not_due t a b zero [] [] x never = tt
 turned_not_due t a b zero [] (e ∷ es) x never = absurd x
 turned_not_due t a b zero (d ∷ ds) [] x never = absurd x
-turned_not_due t a b zero (d ∷ ds) (e ∷ es) x never = (inl x.0, never e refl, x.1)
+turned_not_due t a b zero (d ∷ ds) (e ∷ es) x never = (inl x.0, λ due. absurd (never e refl due), x.1)
 turned_not_due t a b (suc i) [] [] x never = tt
 turned_not_due t a b (suc i) [] (e ∷ es) x never = absurd x
 turned_not_due t a b (suc i) (d ∷ ds) [] x never = absurd x

@@ -1,5 +1,6 @@
 pub mod TickedEnds
 pub mod TurnParts
+pub mod Owned
 pub mod NewcomingDialers
 pub mod LeavingLast
 pub mod TakenWires

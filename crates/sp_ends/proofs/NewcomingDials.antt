@@ -1,16 +1,18 @@
 -- Addresses are dialed one by one.
-use Rattle.std.proofs.Common.{◌≡◌, ◌≤◌, ◌<◌, ◌+◌, ◌∷◌, ℕ, zero, suc, List, [], length, Option, Some, None, refl, sym, ap, subst, ◌∙◌, arith, min, set, slice_get, get_or}
-use Rattle.std.specs.Prelude.{◌^◌, ◌-◌}
+use Rattle.std.proofs.Common.{◌≡◌, ◌≤◌, ◌<◌, ◌+◌, ◌∷◌, ℕ, zero, suc, List, [], length, Option, Some, None, refl, sym, ap, subst, ◌∙◌, arith, min, set, slice_get, get_or, inl, inr}
+use Rattle.std.specs.Prelude.{◌^◌, ◌-◌, ◌⊎◌}
 use Rattle.sp_base.specs.Views.{LinkView, NetView}
-use Rattle.sp_base.specs.Steps.{IsHandedOut}
+use Rattle.sp_base.specs.Steps.{IsHandedOut, Untouched, LinkedAs, AfterLinking}
 use Rattle.sp_base.specs.declared.addr.Scheme.{Scheme}
 use Rattle.sp_single.specs.Singles.{SingleView}
 use Rattle.end_parts.specs.declared.dialer.Dialer.{Dialer}
-use Rattle.end_parts.specs.DialMoments.{moment}
 use Rattle.end_parts.specs.EndViews.{Beginning, LinkEndsView}
-use Rattle.end_parts.specs.RunLinks.{LinksStand, SameCounts, tries_of}
+use Rattle.end_parts.specs.RunLinks.{LinksStand, SameCounts, sum_of, tries_of}
+use Rattle.cat_play.specs.Spending.{CanRise}
 use Rattle.sp_ends.specs.EndsTurns.{InTurn, SameEnds, AsksNet, HasDialed, DialsOne, addrs_of}
-use Rattle.end_parts.specs.DialerSteps.{IsSameDialer}
+use Rattle.end_parts.specs.DialerSteps.{IsSameDialer, HasTried, next_after, place_after, IsFree, IsUnderWay}
+use Rattle.sp_base.specs.declared.outside.Linked.{Linked}
+use Rattle.sp_base.specs.declared.outside.Linked.TheVariants as linked
 use Rattle.sp_ends.specs.Freeing.{AreSameDialers}
 use Rattle.sp_ends.proofs.TurnParts.{same_dialers, dialers_both, dialer_both, ends_both, of_run_on}
 use Rattle.end_parts.proofs.ListReads.{at_index}
@@ -26,7 +28,6 @@ turned_as seen start ends ends' net s t k same n i = record {
   links = subst (λ ns. LinksStand seen s.setting start s.seen net ns k) (sym n) i.links;
   now_is = i.now_is;
   ticked = i.ticked;
-  few = omega (arith, i.few, ap length n);
   sound = i.sound;
 }
 
@@ -52,18 +53,47 @@ dials_set t same i [] d x e h = cc
 dials_set t same zero (y ∷ ds) d x e h = let is : y ≡ d = cc in (subst (λ (q : Dialer). HasDialed t same q x) (sym is) h, same_dialers ds)
 dials_set t same (suc i) (y ∷ ds) d x e h = (record { addr = refl; tries = refl; free = λ _. refl }, dials_set t same i ds d x e h)
 
+-- no link was handed out
+pub tried_free : {L : Type 0} (seen : L → LinkView) (said : Linked L) (t : ℕ) (old new : Dialer) → HasTried (next_after said t) (place_after seen said) old new → place_after seen said ≡ None → IsFree t new ⊎ IsUnderWay t new
+tried_free seen linked.NotYet t old new h none = inl (h.place, h.next)
+tried_free seen linked.Failed t old new h none = inl (h.place, h.next)
+tried_free seen linked.Begun t old new h none = inr (h.place, h.next)
+tried_free seen (linked.Got link) t old new h none = cc
+
+-- the net is the same then, but for what it counted
+pub said_none : {L : Type 0} (seen : L → LinkView) (said : Linked L) (scheme : Option Scheme) (a b : NetView) → LinkedAs seen said scheme a b → place_after seen said ≡ None → Untouched a b
+said_none seen linked.NotYet scheme a b shows none = shows.0
+said_none seen linked.Begun scheme a b shows none = shows.0
+said_none seen linked.Failed scheme a b shows none = shows.0
+said_none seen (linked.Got link) scheme a b shows none = cc
+
+-- it was asked once
+pub asked_none : {L : Type 0} (seen : L → LinkView) (said : Linked L) (scheme : Option Scheme) (a b : NetView) → AfterLinking seen said scheme a b → place_after seen said ≡ None → AsksNet a b
+asked_none seen said scheme a b h none =
+    let u = said_none seen said scheme a b h.shows none in
+    record { listens = u.listens; opened = (let o = u.opened in omega (arith, o)); idles = h.idles; faults = h.faults; rose = λ i f. go said h.shows none u.opened i f }
+  where
+    go : (r : Linked _) → LinkedAs seen r scheme a b → place_after seen r ≡ None → b.opened ≡ a.opened → CanRise b.idles → CanRise b.faults → sum_of a + 1 ≤ sum_of b
+    go linked.NotYet (u, rose, same) none o i f = omega (arith, o, rose, same, i)
+    go linked.Begun (u, rose, same) none o i f = omega (arith, o, rose, same, i)
+    go linked.Failed (u, rose, same) none o i f = omega (arith, o, rose, same, f)
+    go (linked.Got link) shows none o i f = cc
+
 -- the dialer at this place of the list has tried
-pub dialed_at : (t : ℕ) (same : Type 0) (i : ℕ) (xs ds : List Dialer) (old new : Dialer) (place : Option ℕ) → xs ≡ ds → i < length ds → old ≡ get_or xs i old
-    → (new.addr ≡ old.addr) × (new.next ≡ moment (t + 100)) × (new.place ≡ place) × (new.tries ≡ min (old.tries + 1) (2 ^ 64 - 1)) → (same → place ≡ None) → DialsOne i t same ds (set xs i new)
-dialed_at t same i xs ds old new place e lt at d none =
-    subst (λ ys. DialsOne i t same ds (set ys i new)) (sym e) (dials_set t same i ds old new (at_index xs ds i old e lt at) (record { addr = d.0; tries = d.3; next = λ m. (d.1, d.2 ∙ none m) }))
+pub dialed_at : {L : Type 0} (seen : L → LinkView) (said : Linked L) (t : ℕ) (same : Type 0) (i : ℕ) (xs ds : List Dialer) (old new : Dialer) → xs ≡ ds → i < length ds → old ≡ get_or xs i old → HasTried (next_after said t) (place_after seen said) old new → (same → place_after seen said ≡ None) → DialsOne i t same ds (set xs i new)
+dialed_at seen said t same i xs ds old new e lt at d none =
+    subst (λ ys. DialsOne i t same ds (set ys i new)) (sym e) (dials_set t same i ds old new (at_index xs ds i old e lt at) (record { addr = d.addr; tries = d.tries; next = λ m. tried_free seen said t old new d (none m) }))
 
 dial_then : (t : ℕ) (same same' : Type 0) (d e f : Dialer) → (same' → same) → HasDialed t same d e → IsSameDialer e f → HasDialed t same' d f
 dial_then t same same' d e f m h s = record {
   addr = s.addr ∙ h.addr;
   tries = s.tries ∙ h.tries;
-  next = λ x. let n = h.next (m x) in let is = s.free n.1 in (ap (λ (q : Dialer). q.next) is ∙ n.0, ap (λ (q : Dialer). q.place) is ∙ n.1);
+  next = λ x. go (h.next (m x));
 }
+  where
+    go : IsFree t e ⊎ IsUnderWay t e → IsFree t f ⊎ IsUnderWay t f
+    go (inl n) = inl (subst (IsFree t) (sym (s.free n.0)) n)
+    go (inr n) = inr (subst (IsUnderWay t) (sym (s.free n.0)) n)
 
 -- and others have lost their links then
 pub dials_then : (i t : ℕ) (same same' : Type 0) (ds es fs : List Dialer) → (same' → same) → DialsOne i t same ds es → AreSameDialers es fs → DialsOne i t same' ds fs

@@ -7,13 +7,13 @@ use Rattle.sp_history.specs.declared.entry.Entry.{Entry}
 use Rattle.sp_history.specs.Found.{ticks}
 use Rattle.cat_play.specs.Spending.{spaced_from}
 use Rattle.end_parts.specs.declared.dialer.Dialer.{Dialer}
-use Rattle.end_parts.specs.DialMoments.{moment, IsDueAt}
-use Rattle.end_parts.specs.Dialing.{IsDialed, IsDialable, next_from}
+use Rattle.end_parts.specs.DialMoments.{IsDueAt}
+use Rattle.end_parts.specs.Dialing.{IsDialed, IsDialable, next_from, last_of, IsDueFrom}
 use Rattle.sp_ends.specs.Freeing.{IsDue, AreSameDialers}
-use Rattle.end_parts.specs.DialerSteps.{IsSameDialer}
+use Rattle.end_parts.specs.DialerSteps.{IsSameDialer, IsFree, IsUnderWay}
 use Rattle.sp_ends.specs.EndsTurns.{HasDialed, DialsOne}
 use Rattle.sp_ends.proofs.TurnParts.{dialers_both}
-use Rattle.end_parts.proofs.NewcomingMoments.{due_moment, moment_due, next_more, spaced_more, spaced_short, le_true, le_false, tries_up, one_try, short_of, through, at_least, no_ticks}
+use Rattle.end_parts.proofs.NewcomingMoments.{due_from, due_later, last_more, next_more, spaced_more, spaced_short, le_true, le_false, tries_up, tries_same, no_fewer, less_tries, above, one_try, short_of, through, at_least, no_ticks}
 
 -- ---- A dialer in a turn
 
@@ -24,7 +24,7 @@ DialedTo past (suc i) same [] [] = ⊤
 DialedTo past (suc i) same (d ∷ ds) (e ∷ es) = IsDialed same past e × DialedTo past i same ds es
 DialedTo past (suc i) same _ _ = ⊥
 
-module _ (past before : List Entry) (t : ℕ) (t_is : ticks past ≡ ticks before ++ t ∷ []) (fits : t ≤ 2 ^ 64 - 1) where
+module _ (past before : List Entry) (t : ℕ) (t_is : ticks past ≡ ticks before ++ t ∷ []) (fits : t ≤ 2 ^ 64 - 1) (order : last_of 0 (ticks before) ≤ t) where
   abbrev n : ℕ
   n = next_from 0 (ticks before)
 
@@ -43,41 +43,70 @@ module _ (past before : List Entry) (t : ℕ) (t_is : ticks past ≡ ticks befor
   not_le : t < n → nat_le n t ≡ false
   not_le h = le_false n t h
 
+  last_is : last_of 0 (ticks past) ≡ t
+  last_is = ap (last_of 0) t_is ∙ last_more 0 (ticks before) t
+
+  -- a pause from now on, or a connection under way
+  pause : (f : Dialer) → IsFree t f ⊎ IsUnderWay t f → IsDueFrom (t + 100) f.next
+  pause f (inl x) = subst (IsDueFrom (t + 100)) (sym x.1) (due_from (t + 100))
+  pause f (inr x) = subst (IsDueFrom (t + 100)) (sym x.1) (λ u le few. omega (arith, le))
+
+  placed_no : (f : Dialer) → IsFree t f ⊎ IsUnderWay t f → f.place ≡ None
+  placed_no f (inl x) = x.0
+  placed_no f (inr x) = x.0
+
   begun_no : {A : Type 0} → ticks past ≡ [] → A
   begun_no e = absurd (no_ticks (length (ticks past)) (length (ticks before)) longer (ap length e))
+
+  at_come : n ≤ t → next_from 0 (ticks past) ≡ t + 100
+  at_come le = next_is ∙ ap (λ b. cond b (t + 100) n) (is_le le)
+
+  at_waits : t < n → next_from 0 (ticks past) ≡ n
+  at_waits lt = next_is ∙ ap (λ b. cond b (t + 100) n) (not_le lt)
+
+  more_come : n ≤ t → length (spaced_from 0 (ticks past)) ≡ length (spaced_from 0 (ticks before)) + 1
+  more_come le = spaced_is ∙ ap (λ b. cond b (length (spaced_from 0 (ticks before)) + 1) (length (spaced_from 0 (ticks before)))) (is_le le)
+
+  same_waits : t < n → length (spaced_from 0 (ticks past)) ≡ length (spaced_from 0 (ticks before))
+  same_waits lt = spaced_is ∙ ap (λ b. cond b (length (spaced_from 0 (ticks before)) + 1) (length (spaced_from 0 (ticks before)))) (not_le lt)
 
   module _ (same0 same' : Type 0) (d e : Dialer) (x : IsDialed same0 before d) (s : IsSameDialer d e) (m0 : same' → same0) where
     is_d : same' → e ≡ d
     is_d m = s.free (x.free (m0 m))
 
-    next_d : same' → e.next ≡ moment n
-    next_d m = ap (λ (q : Dialer). q.next) (is_d m) ∙ x.next (m0 m)
+    same_next : same' → d.next ≡ e.next
+    same_next m = ap (λ (q : Dialer). q.next) (sym (is_d m))
+
+    -- it was tried as often as it must at least
+    enough : same' → length (ticks past) < 2 ^ 64 → length (spaced_from 0 (ticks before)) ≤ d.tries
+    enough m l = x.tries (m0 m) (short_of _ _ l longer)
 
     dialed_now : (same2 : Type 0) (f : Dialer) → HasDialed t same2 e f → (same' → same2) → IsDue t e → IsDialed same' past f
     dialed_now same2 f h m2 due = record {
       dialable = subst IsDialable (sym (h.addr ∙ s.addr)) x.dialable;
-      free = λ m. (h.next (m2 m)).1;
-      next = λ m. (h.next (m2 m)).0 ∙ ap moment (sym (next_is ∙ ap (λ b. cond b (t + 100) n) (is_le (come m))));
-      tries = λ m l.
-          let sp : length (spaced_from 0 (ticks past)) ≡ length (spaced_from 0 (ticks before)) + 1 = spaced_is ∙ ap (λ b. cond b (length (spaced_from 0 (ticks before)) + 1) (length (spaced_from 0 (ticks before)))) (is_le (come m)) in
-          let r = x.tries (m0 m) (short_of _ _ l longer) in
-          tries_up _ _ f.tries e.tries d.tries _ _ sp r s.tries h.tries l longer (spaced_short 0 (ticks before));
+      free = λ m. placed_no f (h.next (m2 m));
+      soon = λ m. subst (λ u. IsDueFrom (u + 100) f.next) (sym last_is) (pause f (h.next (m2 m)));
+      next = λ m l few. next_go (cases_lt t n) m l few;
+      tries = λ m l. tries_go (cases_lt t n) m l;
       once = λ l. one_try f.tries e.tries h.tries;
       begun = λ w. begun_no w;
     }
       where
-        come : same' → n ≤ t
-        come m = due_moment n t (subst (λ o. IsDueAt o t) (next_d m) due.1)
+        next_go : (t < n) ⊎ (n ≤ t) → same' → length (ticks past) < 2 ^ 64 → f.tries ≤ length (spaced_from 0 (ticks past)) → IsDueFrom (next_from 0 (ticks past)) f.next
+        next_go (inr le) m l few = subst (λ u. IsDueFrom u f.next) (sym (at_come le)) (pause f (h.next (m2 m)))
+        next_go (inl lt) m l few = absurd (no_fewer _ f.tries e.tries d.tries _ _ (enough m l) s.tries h.tries l longer (spaced_short 0 (ticks before)) (subst (λ k. f.tries ≤ k) (same_waits lt) few))
+
+        tries_go : (t < n) ⊎ (n ≤ t) → same' → length (ticks past) < 2 ^ 64 → length (spaced_from 0 (ticks past)) ≤ f.tries
+        tries_go (inr le) m l = tries_up _ _ f.tries e.tries d.tries _ _ (more_come le) (enough m l) s.tries h.tries l longer (spaced_short 0 (ticks before))
+        tries_go (inl lt) m l = tries_same _ _ f.tries e.tries d.tries _ _ (same_waits lt) (enough m l) s.tries h.tries l longer (spaced_short 0 (ticks before))
 
     not_due_now : (IsDue t e → ⊥) → IsDialed same' past e
     not_due_now no_due = record {
       dialable = subst IsDialable (sym s.addr) x.dialable;
       free = λ m. placed m;
-      next = λ m. next_d m ∙ ap moment (sym (next_is ∙ ap (λ b. cond b (t + 100) n) (not_le (later m))));
-      tries = λ m l.
-          let sp : length (spaced_from 0 (ticks past)) ≡ length (spaced_from 0 (ticks before)) = spaced_is ∙ ap (λ b. cond b (length (spaced_from 0 (ticks before)) + 1) (length (spaced_from 0 (ticks before)))) (not_le (later m)) in
-          let r = x.tries (m0 m) (short_of _ _ l longer) in
-          through _ _ d.tries e.tries sp r s.tries;
+      soon = λ m. subst (λ u. IsDueFrom (u + 100) e.next) (sym last_is) (later m);
+      next = λ m l few. next_go (cases_lt t n) m l few;
+      tries = λ m l. tries_go (cases_lt t n) (cases_lt (length (spaced_from 0 (ticks before))) d.tries) m l;
       once = λ l. go (cases_lt 0 (length (ticks before)));
       begun = λ w. begun_no w;
     }
@@ -85,12 +114,21 @@ module _ (past before : List Entry) (t : ℕ) (t_is : ticks past ≡ ticks befor
         placed : same' → e.place ≡ None
         placed m = ap (λ (q : Dialer). q.place) (is_d m) ∙ x.free (m0 m)
 
-        later : same' → t < n
-        later m = pick (cases_lt t n)
-          where
-            pick : (t < n) ⊎ (n ≤ t) → t < n
-            pick (inl lt) = lt
-            pick (inr le) = absurd (no_due (placed m, subst (λ o. IsDueAt o t) (sym (next_d m)) (moment_due n t le fits)))
+        later : same' → IsDueFrom (t + 100) e.next
+        later m = subst (IsDueFrom (t + 100)) (same_next m) (due_later (last_of 0 (ticks before) + 100) (t + 100) d.next (omega (arith, order)) (x.soon (m0 m)))
+
+        -- the next moment of those stands
+        was_next : same' → length (ticks past) < 2 ^ 64 → d.tries ≤ length (spaced_from 0 (ticks before)) → IsDueFrom n e.next
+        was_next m l few = subst (IsDueFrom n) (same_next m) (x.next (m0 m) (short_of _ _ l longer) few)
+
+        next_go : (t < n) ⊎ (n ≤ t) → same' → length (ticks past) < 2 ^ 64 → e.tries ≤ length (spaced_from 0 (ticks past)) → IsDueFrom (next_from 0 (ticks past)) e.next
+        next_go (inr le) m l few = subst (λ u. IsDueFrom u e.next) (sym (at_come le)) (later m)
+        next_go (inl lt) m l few = subst (λ u. IsDueFrom u e.next) (sym (at_waits lt)) (was_next m l (less_tries _ _ d.tries e.tries few (same_waits lt) s.tries))
+
+        tries_go : (t < n) ⊎ (n ≤ t) → (length (spaced_from 0 (ticks before)) < d.tries) ⊎ (d.tries ≤ length (spaced_from 0 (ticks before))) → same' → length (ticks past) < 2 ^ 64 → length (spaced_from 0 (ticks past)) ≤ e.tries
+        tries_go (inl lt) c m l = through _ _ d.tries e.tries (same_waits lt) (enough m l) s.tries
+        tries_go (inr le) (inl more) m l = through _ _ d.tries e.tries (more_come le) (above _ _ more) s.tries
+        tries_go (inr le) (inr few) m l = absurd (no_due (placed m, was_next m l few t le (omega (arith, fits))))
 
         nothing : (ts : List ℕ) → length ts ≤ 0 → ts ≡ []
         nothing [] h = refl
@@ -107,7 +145,8 @@ module _ (past before : List Entry) (t : ℕ) (t_is : ticks past ≡ ticks befor
     not_tried none some = record {
       dialable = subst IsDialable (sym s.addr) x.dialable;
       free = λ m. absurd (none m);
-      next = λ m. absurd (none m);
+      soon = λ m. absurd (none m);
+      next = λ m l few. absurd (none m);
       tries = λ m l. absurd (none m);
       once = λ l. through _ _ d.tries e.tries refl (x.once some) s.tries;
       begun = λ w. begun_no w;
@@ -118,7 +157,8 @@ module _ (past before : List Entry) (t : ℕ) (t_is : ticks past ≡ ticks befor
   still same same' e f x s m = record {
     dialable = subst IsDialable (sym s.addr) x.dialable;
     free = λ w. ap (λ (q : Dialer). q.place) (s.free (x.free (m w))) ∙ x.free (m w);
-    next = λ w. ap (λ (q : Dialer). q.next) (s.free (x.free (m w))) ∙ x.next (m w);
+    soon = λ w. subst (IsDueFrom (last_of 0 (ticks past) + 100)) (ap (λ (q : Dialer). q.next) (sym (s.free (x.free (m w))))) (x.soon (m w));
+    next = λ w l few. subst (IsDueFrom (next_from 0 (ticks past))) (ap (λ (q : Dialer). q.next) (sym (s.free (x.free (m w))))) (x.next (m w) l (less_tries _ _ e.tries f.tries few refl s.tries));
     tries = λ w l. through _ _ e.tries f.tries refl (x.tries (m w) l) s.tries;
     once = λ l. through _ _ e.tries f.tries refl (x.once l) s.tries;
     begun = λ w. begun_no w;

@@ -4,16 +4,17 @@ use Rattle.std.specs.Prelude.{◌^◌, ◌-◌, is_none}
 use Rattle.std.proofs.lemmas.Bool.Decides.{nat_tests}
 use Rattle.std.specs.List.{AllByRecursion}
 use Rattle.sp_base.specs.Views.{LinkView, NetView}
-use Rattle.sp_history.specs.Found.{ticks, last_tick, before_last_tick}
+use Rattle.sp_history.specs.Found.{ticks, last_tick, before_last_tick, AreOrdered}
 use Rattle.sp_history.specs.Past.{past_of}
 use Rattle.sp_history.proofs.Backing.{legal_allowed}
-use Rattle.sp_history.proofs.StandingEntries.{last_is_now}
+use Rattle.sp_history.proofs.StandingEntries.{last_is_now, ticks_in_order}
 use Rattle.cat_play.specs.Spending.{CanRise, ticks_where, has_room, spaced_from}
 use Rattle.sp_single.specs.Singles.{SingleView}
 use Rattle.end_parts.specs.declared.dialer.Dialer.{Dialer}
 use Rattle.end_parts.specs.declared.newcomer.Newcomer.{Newcomer}
-use Rattle.end_parts.specs.DialMoments.{moment, IsDueAt, is_due_at, is_due}
-use Rattle.end_parts.specs.Dialing.{IsDialed, IsDialable, next_from}
+use Rattle.end_parts.specs.DialMoments.{IsDueAt, is_due_at, is_due}
+use Rattle.end_parts.specs.Dialing.{IsDialed, IsDialable, next_from, last_of, IsDueFrom}
+use Rattle.end_parts.proofs.NewcomingMoments.{last_before}
 use Rattle.end_parts.specs.EndViews.{Beginning, LinkEndsView}
 use Rattle.end_parts.specs.RunLinks.{NetStands, IsListener, sum_of, tries_of}
 use Rattle.sp_ends.specs.Freeing.{IsDue, FreesOne, GotBack, Redials, KnowsLinks, AreSameDialers}
@@ -25,6 +26,8 @@ use Rattle.end_parts.proofs.Turns.{quiet_both, quiet_none, quiet_ticks, quiet_wh
 use Rattle.end_parts.proofs.ListReads.{at_index}
 use Rattle.sp_ends.proofs.NewcomingAsks.{ticks_last, listens_still}
 use Rattle.sp_ends.proofs.NewcomingDials.{dials_tries}
+use Rattle.sp_ends.specs.Listening.{dialed_of, KeepsOwn, KeepsFrom}
+use Rattle.sp_ends.proofs.Owned.{own_none, dialed_one}
 use Rattle.sp_ends.proofs.FreedDialers.{got_none, got_both, same_all, TurnedTo, turned_due, turned_not_due}
 use Rattle.sp_ends.proofs.DialedLinks.{knows_none, knows_next}
 use Rattle.sp_ends.proofs.NewcomingDue.{DialedTo, next_dialed, next_not_due, all_dialed, dialable_at}
@@ -36,6 +39,11 @@ ticks_at : {L : Type 0} (seen : L → LinkView) (start : Beginning) (ends : Link
 ticks_at seen start ends net s t k i =
     let last : t ≡ last_tick (past_of s.seen) = i.now_is ∙ last_is_now s.setting (past_of s.seen) (legal_allowed s.setting s.seen i.sound.legal) in
     ticks_last (past_of s.seen) i.ticked ∙ ap (λ (m : ℕ). ticks (before_last_tick (past_of s.seen)) ++ m ∷ []) (sym last)
+
+-- no tick before it is later
+order_at : {L : Type 0} (seen : L → LinkView) (start : Beginning) (ends : LinkEndsView L) (net : NetView) (s : SingleView) (t k : ℕ) → InTurn seen start ends net s t k → last_of 0 (ticks (before_last_tick (past_of s.seen))) ≤ t
+order_at seen start ends net s t k i =
+    last_before 0 (ticks (before_last_tick (past_of s.seen))) t (omega arith) (subst AreOrdered (ticks_at seen start ends net s t k i) (ticks_in_order s.setting (past_of s.seen) (legal_allowed s.setting s.seen i.sound.legal)))
 
 -- the one that stands at this place
 pub is_there : (xs ds : List Dialer) (i : ℕ) (d q : Dialer) → xs ≡ ds → i < length ds → d ≡ get_or xs i d → slice_get ds i ≡ Some q → d ≡ q
@@ -120,7 +128,8 @@ pub record Dialing {L : Type 0} (seen : L → LinkView) (i : ℕ) (old new : Lin
   pub ends : SameEnds old new
   pub quietly : Quietly a b
   pub lanes : NoLane a b
-  pub few : length new.newcomers ≤ length old.newcomers + i
+  pub own : KeepsOwn old.newcomers new.newcomers
+  pub dialed : dialed_of new.newcomers ≤ dialed_of old.newcomers + i
   pub dry : IsDry is_dry b
   pub listens : net'.listens ≡ net.listens
   pub opened : net.opened ≤ net'.opened
@@ -143,7 +152,8 @@ module _ {L : Type 0} (seen : L → LinkView) where
     ends = ends_none ends;
     quietly = quiet_none a;
     lanes = lanes_none a;
-    few = omega arith;
+    own = λ k. refl;
+    dialed = omega arith;
     dry = dry;
     listens = refl;
     opened = omega arith;
@@ -170,14 +180,15 @@ module _ {L : Type 0} (seen : L → LinkView) where
       ends = was.ends;
       quietly = was.quietly;
       lanes = was.lanes;
-      few = omega (arith, was.few);
+      own = was.own;
+      dialed = omega (arith, was.dialed);
       dry = was.dry;
       listens = was.listens;
       opened = was.opened;
       idles = was.idles;
       faults = was.faults;
       lengths = was.lengths;
-      dialers = λ start x all. subst (λ (k : ℕ). DialedTo (past_of a.seen) k (net1.opened ≡ start.net.opened) old.dialers mid.dialers) (sym (add-one i)) (next_not_due (past_of a.seen) (before_last_tick (past_of a.seen)) t (ticks_at seen start old net a t 0 x) fits i (net.opened ≡ start.net.opened) (net1.opened ≡ start.net.opened) old.dialers mid.dialers all (was.dialers start x all) (same_first start x) no_due);
+      dialers = λ start x all. subst (λ (k : ℕ). DialedTo (past_of a.seen) k (net1.opened ≡ start.net.opened) old.dialers mid.dialers) (sym (add-one i)) (next_not_due (past_of a.seen) (before_last_tick (past_of a.seen)) t (ticks_at seen start old net a t 0 x) fits (order_at seen start old net a t 0 x) i (net.opened ≡ start.net.opened) (net1.opened ≡ start.net.opened) old.dialers mid.dialers all (was.dialers start x all) (same_first start x) no_due);
       rose = was.rose;
       due = λ x y. let r = was.due x y in let d = dues_waiting t net net1 i old.dialers mid.dialers was.turned no_due in let e = dues_at t (i + 1) (suc i) old.dialers (add-one i) in omega (arith, r, d, e);
       got = was.got;
@@ -188,7 +199,7 @@ module _ {L : Type 0} (seen : L → LinkView) where
     }
 
     pub dialing_next : (new : LinkEndsView L) (net2 : NetView) (c : SingleView) (e : Bool) → ((q : Dialer) → slice_get mid.dialers i ≡ Some q → IsDue t q)
-        → ((start : Beginning) → InTurn seen start mid net1 b t 0 → InTurn seen start new net2 c t 0) → AsksNet net1 net2 → DialsAt i t net1 net2 mid.dialers new.dialers → Redials i t net1 net2 mid.dialers new.dialers → Quietly b c → NoLane b c → length new.newcomers ≤ length mid.newcomers + 1 → SameEnds mid new → IsDry e c
+        → ((start : Beginning) → InTurn seen start mid net1 b t 0 → InTurn seen start new net2 c t 0) → AsksNet net1 net2 → DialsAt i t net1 net2 mid.dialers new.dialers → Redials i t net1 net2 mid.dialers new.dialers → Quietly b c → NoLane b c → KeepsFrom None mid.newcomers new.newcomers → SameEnds mid new → IsDry e c
         → KnowsLinks net1.opened net2 new.dialers → (AreYoung t 0 mid.newcomers → AreYoung t 0 new.newcomers)
         → ((first : List (Newcomer L)) (opened : ℕ) → opened ≤ net1.opened → AreWaitingBehind seen first opened 0 mid.newcomers → AreWaitingBehind seen first opened 0 new.newcomers) → Dialing seen (i + 1) old new net net2 a c t e
     dialing_next new net2 c e due in_turn asks dials redials quietly lanes few same dry known young waited = record {
@@ -196,14 +207,15 @@ module _ {L : Type 0} (seen : L → LinkView) where
       ends = ends_both old mid new was.ends same;
       quietly = quiet_both a b c was.quietly quietly;
       lanes = lanes_both a b c was.lanes lanes;
-      few = omega (arith, was.few, few);
+      own = λ k. own_none k mid.newcomers new.newcomers few ∙ was.own k;
+      dialed = omega (arith, was.dialed, dialed_one None mid.newcomers new.newcomers few);
       dry = dry;
       listens = asks.listens ∙ was.listens;
       opened = omega (arith, asks.opened, was.opened);
       idles = omega (arith, asks.idles, was.idles);
       faults = omega (arith, asks.faults, was.faults);
       lengths = dials_long i t (net2.opened ≡ net1.opened) mid.dialers new.dialers dials ∙ was.lengths;
-      dialers = λ start x all. subst (λ (k : ℕ). DialedTo (past_of a.seen) k (net2.opened ≡ start.net.opened) old.dialers new.dialers) (sym (add-one i)) (next_dialed (past_of a.seen) (before_last_tick (past_of a.seen)) t (ticks_at seen start old net a t 0 x) fits i (net.opened ≡ start.net.opened) (net1.opened ≡ start.net.opened) (net2.opened ≡ net1.opened) (net2.opened ≡ start.net.opened)
+      dialers = λ start x all. subst (λ (k : ℕ). DialedTo (past_of a.seen) k (net2.opened ≡ start.net.opened) old.dialers new.dialers) (sym (add-one i)) (next_dialed (past_of a.seen) (before_last_tick (past_of a.seen)) t (ticks_at seen start old net a t 0 x) fits (order_at seen start old net a t 0 x) i (net.opened ≡ start.net.opened) (net1.opened ≡ start.net.opened) (net2.opened ≡ net1.opened) (net2.opened ≡ start.net.opened)
           old.dialers mid.dialers new.dialers all (was.dialers start x all) dials
           (λ m. omega (arith, m, was.opened, asks.opened, x.links.kept.opened)) (λ m. omega (arith, m, was.opened, asks.opened, x.links.kept.opened)) (λ m. omega (arith, m, was.opened, asks.opened, x.links.kept.opened)) due);
       rose = λ x y.
@@ -222,7 +234,7 @@ module _ {L : Type 0} (seen : L → LinkView) where
     }
 
     pub dialable_here : (start : Beginning) → InTurn seen start old net a t 0 → AllByRecursion (IsDialed (net.opened ≡ start.net.opened) (before_last_tick (past_of a.seen))) old.dialers → (e : Dialer) → slice_get mid.dialers i ≡ Some e → IsDialable e.addr
-    dialable_here start x all e at = dialable_at (past_of a.seen) (before_last_tick (past_of a.seen)) t (ticks_at seen start old net a t 0 x) fits i i (net.opened ≡ start.net.opened) (net1.opened ≡ start.net.opened) old.dialers mid.dialers e all (was.dialers start x all) at
+    dialable_here start x all e at = dialable_at (past_of a.seen) (before_last_tick (past_of a.seen)) t (ticks_at seen start old net a t 0 x) fits (order_at seen start old net a t 0 x) i i (net.opened ≡ start.net.opened) (net1.opened ≡ start.net.opened) old.dialers mid.dialers e all (was.dialers start x all) at
 
     -- after the last of them
     pub dialed_all : (start : Beginning) → InTurn seen start old net a t 0 → length old.dialers ≤ i
@@ -230,7 +242,7 @@ module _ {L : Type 0} (seen : L → LinkView) where
     dialed_all start x ended stands = record {
       few = omega (arith, stands.few, ap length was.ends.listeners, was.lengths);
       listens = subst (AllByRecursion (IsListener net1)) (sym was.ends.listeners) (listens_still seen net net1 old.listeners was.listens stands.listens);
-      dials = now_all (all_dialed (past_of a.seen) (before_last_tick (past_of a.seen)) t t_is fits i (net1.opened ≡ start.net.opened) old.dialers mid.dialers to ended);
+      dials = now_all (all_dialed (past_of a.seen) (before_last_tick (past_of a.seen)) t t_is fits (order_at seen start old net a t 0 x) i (net1.opened ≡ start.net.opened) old.dialers mid.dialers to ended);
       first = λ e. let some = subst (λ (ts : List ℕ). 0 < length ts) (sym (quiet_ticks a b was.quietly) ∙ e) x.ticked in absurd (omega (arith, some));
       idles = omega (arith, stands.idles, was.idles);
       faults = omega (arith, stands.faults, was.faults);
@@ -255,7 +267,7 @@ module _ {L : Type 0} (seen : L → LinkView) where
 
             mapped : (ds : List Dialer) → AllByRecursion (IsDialed (net1.opened ≡ start.net.opened) (past_of a.seen)) ds → AllByRecursion (IsDialed (net1.opened ≡ start.net.opened) (past_of b.seen)) ds
             mapped [] h = tt
-            mapped (d ∷ ds) h = (record { dialable = h.0.dialable; free = h.0.free; next = λ m. h.0.next m ∙ ap (λ ts. moment (next_from 0 ts)) (sym q); tries = λ m l. subst (λ ts. length (spaced_from 0 ts) ≤ d.tries) (sym q) (h.0.tries m (subst (λ ts. length ts < 2 ^ 64) q l)); once = λ l. h.0.once (subst (λ ts. 0 < length ts) q l); begun = λ e. h.0.begun (sym q ∙ e) }, mapped ds h.1)
+            mapped (d ∷ ds) h = (record { dialable = h.0.dialable; free = h.0.free; soon = λ m. subst (λ ts. IsDueFrom (last_of 0 ts + 100) d.next) (sym q) (h.0.soon m); next = λ m l few. subst (λ ts. IsDueFrom (next_from 0 ts) d.next) (sym q) (h.0.next m (subst (λ ts. length ts < 2 ^ 64) q l) (subst (λ ts. d.tries ≤ length (spaced_from 0 ts)) q few)); tries = λ m l. subst (λ ts. length (spaced_from 0 ts) ≤ d.tries) (sym q) (h.0.tries m (subst (λ ts. length ts < 2 ^ 64) q l)); once = λ l. h.0.once (subst (λ ts. 0 < length ts) q l); begun = λ e. h.0.begun (sym q ∙ e) }, mapped ds h.1)
 
     -- each that was due was dialed
     pub due_all : length old.dialers ≤ i → AsksDue t old.dialers net net1

@@ -56,9 +56,9 @@ scheme_is : (a b : Scheme) → Some a ≡ Some b → a ≡ b
 scheme_is a b e = cc
 
 -- the newcomer over it stands before the others
-pub newcomer_met : {L : Type 0} (seen : L → LinkView) (start : Beginning) (before net : NetView) (ends : LinkEndsView L) (a b : SingleView) (t : ℕ) (n : Newcomer L) (link : L) (place : ℕ) (role : Role) (way : Result Way NoMemory) (begins : Way) → place ≡ (seen link).place → way ≡ Ok begins → IsNewcomer seen link role begins t n → role ≡ ends.role
+pub newcomer_met : {L : Type 0} (seen : L → LinkView) (start : Beginning) (before net : NetView) (ends : LinkEndsView L) (a b : SingleView) (t : ℕ) (n : Newcomer L) (link : L) (place : ℕ) (role : Role) (way : Result Way NoMemory) (begins : Way) (from : Option ℕ) → place ≡ (seen link).place → way ≡ Ok begins → IsNewcomer seen link role begins t from n → role ≡ ends.role
     → TookOne (MeetsAt place) a b → Arrives start.origins (seen link) way before net → InTurn seen start ends before a t 0 → InTurnWith seen start n ends net b t 0
-newcomer_met seen start before net ends a b t n link place role way begins place_is way_is newcomer role_is took r i =
+newcomer_met seen start before net ends a b t n link place role way begins from place_is way_is newcomer role_is took r i =
     let quiet = meets_quiet place a b took in
     let setting_is : a.setting.role ≡ b.setting.role = ap (λ (z : Setting). z.role) (sym took.setting) in
     let same : begins ≡ r.begins = subst (λ (w : Result Way NoMemory). IfOk w (λ x. x ≡ r.begins)) way_is r.is in
@@ -107,4 +107,4 @@ module _ {L : Type 0} (seen : L → LinkView) (z : Setting) (start : Beginning) 
   same_links net net' ns k u s = record { kept = same_kept net net' u.opened u.back s.kept; progressing = s.progressing }
 
 pub untouched : {L : Type 0} (seen : L → LinkView) (start : Beginning) (ends : LinkEndsView L) (net net' : NetView) (s : SingleView) (t k : ℕ) → Untouched net net' → InTurn seen start ends net s t k → InTurn seen start ends net' s t k
-untouched seen start ends net net' s t k u i = record { role = i.role; links = same_links seen s.setting start s.seen net net' ends.newcomers k u i.links; of_run = i.of_run; now_is = i.now_is; ticked = i.ticked; few = i.few; sound = i.sound }
+untouched seen start ends net net' s t k u i = record { role = i.role; links = same_links seen s.setting start s.seen net net' ends.newcomers k u i.links; of_run = i.of_run; now_is = i.now_is; ticked = i.ticked; sound = i.sound }

@@ -84,7 +84,6 @@ module _ {L : Type 0} (seen : L → LinkView) (z : Setting) (start : Beginning) 
         links = record { kept = kept z h (t ∷ []) none start net s.links.kept (legal_rest z h (t ∷ []) l).0 (legal_rest z h (t ∷ []) l).1; progressing = next_round ends.newcomers s.links.progressing };
         asked = rw before_is s.asked;
         of_run = s.of_run;
-        few = s.few;
         ticked = rw ticks_are (omega (arith, length-append (ticks (past_of h)) (at ∷ [])));
         room = λ r. let few : has_room (past_of h) ≡ true = rw before_is at r in newcomers_few ends s.links.progressing few;
       }

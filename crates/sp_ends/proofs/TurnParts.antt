@@ -167,9 +167,9 @@ module _ {L : Type 0} where
 
   -- ---- On in the turn
 
-  pub turn_on : (seen : L → LinkView) (start : Beginning) (old new : LinkEndsView L) (net net' : NetView) (time k k' : ℕ) (a b : SingleView) → SameEnds old new → Quietly a b → IsSound b → length new.newcomers ≤ 320 → InTurn seen start old net a time k → LinksStand seen b.setting start b.seen net' new.newcomers k' → InTurn seen start new net' b time k'
-  turn_on seen start old new net net' time k k' a b same quiet sound few i links =
-      record { role = same.role ∙ (i.role ∙ ap (λ (z : Setting). z.role) (sym quiet.setting)); links = links; of_run = of_run_on start.origins old new same i.of_run; now_is = quiet_now time a b quiet i.now_is; ticked = subst (λ (ts : List ℕ). 0 < length ts) (sym (quiet_ticks a b quiet)) i.ticked; few = few; sound = sound }
+  pub turn_on : (seen : L → LinkView) (start : Beginning) (old new : LinkEndsView L) (net net' : NetView) (time k k' : ℕ) (a b : SingleView) → SameEnds old new → Quietly a b → IsSound b → InTurn seen start old net a time k → LinksStand seen b.setting start b.seen net' new.newcomers k' → InTurn seen start new net' b time k'
+  turn_on seen start old new net net' time k k' a b same quiet sound i links =
+      record { role = same.role ∙ (i.role ∙ ap (λ (z : Setting). z.role) (sym quiet.setting)); links = links; of_run = of_run_on start.origins old new same i.of_run; now_is = quiet_now time a b quiet i.now_is; ticked = subst (λ (ts : List ℕ). 0 < length ts) (sym (quiet_ticks a b quiet)) i.ticked; sound = sound }
 
   -- ---- A wire is taken
 
@@ -201,9 +201,13 @@ module _ {L : Type 0} where
       subst (λ (e : LinkEndsView L). InTurnWith seen start n e net a time k') (sym is) (record { role = i.role; links = subst (λ (m : ℕ). LinksStand seen a.setting start a.seen net (n ∷ rest) m) one (subst (λ (ns : List (Newcomer L)). LinksStand seen a.setting start a.seen net ns k) first i.links); of_run = record { listens = i.of_run.listens; dials = i.of_run.dials; dice = i.of_run.dice }; now_is = i.now_is; ticked = i.ticked; sound = i.sound })
 
   -- what became of it
-  pub turn_after : (seen : L → LinkView) (start : Beginning) (n : Newcomer L) (old new : LinkEndsView L) (net net' : NetView) (time k k' : ℕ) (a b : SingleView) → SameEnds old new → Quietly a b → IsSound b → length new.newcomers ≤ 320 → InTurnWith seen start n old net a time k → LinksStand seen b.setting start b.seen net' new.newcomers k' → InTurn seen start new net' b time k'
-  turn_after seen start n old new net net' time k k' a b same quiet sound few i links =
-      record { role = same.role ∙ (i.role ∙ ap (λ (z : Setting). z.role) (sym quiet.setting)); links = links; of_run = of_run_on start.origins old new same i.of_run; now_is = quiet_now time a b quiet i.now_is; ticked = subst (λ (ts : List ℕ). 0 < length ts) (sym (quiet_ticks a b quiet)) i.ticked; few = few; sound = sound }
+  pub turn_after : (seen : L → LinkView) (start : Beginning) (n : Newcomer L) (old new : LinkEndsView L) (net net' : NetView) (time k k' : ℕ) (a b : SingleView) → SameEnds old new → Quietly a b → IsSound b → InTurnWith seen start n old net a time k → LinksStand seen b.setting start b.seen net' new.newcomers k' → InTurn seen start new net' b time k'
+  turn_after seen start n old new net net' time k k' a b same quiet sound i links =
+      record { role = same.role ∙ (i.role ∙ ap (λ (z : Setting). z.role) (sym quiet.setting)); links = links; of_run = of_run_on start.origins old new same i.of_run; now_is = quiet_now time a b quiet i.now_is; ticked = subst (λ (ts : List ℕ). 0 < length ts) (sym (quiet_ticks a b quiet)) i.ticked; sound = sound }
+
+  -- others are being opened
+  pub ends_others : (a b : LinkEndsView L) (ns : List (Newcomer L)) → b ≡ record a { newcomers = ns } → SameEnds a b
+  ends_others a b ns is = subst (SameEnds a) (sym is) (record { role = refl; dice = refl; listeners = refl; dials = refl })
 
   -- some newcomers less
   pub serves_less : (old new : LinkEndsView L) (net : NetView) (s : SingleView) (rest : List (Newcomer L)) → new ≡ record old { newcomers = rest } → Serves old new net net s s

@@ -182,8 +182,8 @@ quiet_ups a b q =
     let e = ap ups is in let g = ups_from q.silent.0 (past_of a.seen) in omega (arith, e, g)
 
 -- links had their turn, then names were dialed, and then asked
-pub turns_lanes : (now : ℕ) (role first : Role) (greeting : ℕ) (listened : List (List ℕ)) (a b c d e : SingleView) (r s t : Registry) (xs ys ws : List NameDialer) → Quietly a c → NoLane a c → first ≡ role → TakesCallers now a b xs ys → DialsDue now first c d r s ys ws → GoesOn d e → Accepting (16 * length listened) d e s t → (greeting < 256 → AllBring listened s t) → (256 ≤ greeting → (e ≡ d) × (t ≡ s)) → TurnsLanes now role greeting listened a e r t xs ws
-turns_lanes now role first greeting listened a b c d e r s t xs ys ws q n same takes dials on y brings held = record {
+pub turns_lanes : (now : ℕ) (role first : Role) (listened : List (List ℕ)) (a b c d e : SingleView) (r s t : Registry) (xs ys ws : List NameDialer) → Quietly a c → NoLane a c → first ≡ role → TakesCallers now a b xs ys → DialsDue now first c d r s ys ws → GoesOn d e → Accepting (16 * length listened) d e s t → AllBring listened s t → TurnsLanes now role listened a e r t xs ws
+turns_lanes now role first listened a b c d e r s t xs ys ws q n same takes dials on y brings = record {
   linked = c;
   called = d;
   dialed = s;
@@ -192,13 +192,12 @@ turns_lanes now role first greeting listened a b c d e r s t xs ys ws q n same t
   dials = dials_taken now role a b xs ys ws c d r s takes (subst (λ (k : Role). DialsDue now k c d r s ys ws) same dials);
   on = on;
   accepting = y;
-  asked = brings;
-  held = held;
+  brings = brings;
 }
 
 -- of as many names
 pub accepts_for : (a b : SingleView) (r t : Registry) (ms ns : List (List ℕ)) → ms ≡ ns → Accepting (16 * length ms) a b r t → Accepting (16 * length ns) a b r t
 accepts_for a b r t ms ns e x = subst (λ (xs : List (List ℕ)). Accepting (16 * length xs) a b r t) e x
 
-pub bring_for : (r t : Registry) (greeting : ℕ) (ms ns : List (List ℕ)) → ms ≡ ns → (greeting < 256 → AllBring ms r t) → greeting < 256 → AllBring ns r t
-bring_for r t greeting ms ns e x few = subst (λ (xs : List (List ℕ)). AllBring xs r t) e (x few)
+pub bring_for : (r t : Registry) (ms ns : List (List ℕ)) → ms ≡ ns → AllBring ms r t → AllBring ns r t
+bring_for r t ms ns e x = subst (λ (xs : List (List ℕ)). AllBring xs r t) e x

@@ -1,5 +1,5 @@
 -- The parts of a turn of the ends, put together.
-use Rattle.std.proofs.Common.{◌≡◌, ◌≤◌, ◌+◌, ◌*◌, ℕ, Bool, true, List, length, refl, sym, ap, subst, ◌∙◌, arith, inl, inr}
+use Rattle.std.proofs.Common.{◌≡◌, ◌≤◌, ◌+◌, ◌-◌, ◌*◌, ℕ, Bool, true, List, length, refl, sym, ap, subst, ◌∙◌, arith, inl, inr}
 use Rattle.std.specs.Prelude.{◌⊎◌}
 use Rattle.std.specs.FinMap.{get}
 use Rattle.sp_base.specs.Views.{LinkView, NetView}
@@ -14,13 +14,15 @@ use Rattle.end_parts.specs.declared.dialer.Dialer.{Dialer}
 use Rattle.end_parts.specs.EndViews.{Beginning, LinkEndsView}
 use Rattle.end_parts.specs.RunLinks.{NetStands, EndsStand, IsListener, SameCounts, sum_of, tries_of}
 use Rattle.sp_ends.specs.Freeing.{Frees, AreSameDialers}
-use Rattle.sp_ends.specs.EndsTurns.{EndsTicked, SameEnds, InTurn, Serves, HasAsked, dues_of, asks_of, AsksDue, AsksAll, AsksEach}
+use Rattle.sp_ends.specs.Listening.{open_of, asks_to, FewerOwn}
+use Rattle.sp_ends.specs.EndsTurns.{EndsTicked, SameEnds, InTurn, Serves, HasAsked, HasAskedTo, dues_of, asks_of, AsksDue, AsksAll, AsksEach}
 use Rattle.end_parts.specs.SocketSteps.{Quietly}
 use Rattle.end_parts.proofs.EndsStay.{all_mapped}
 use Rattle.sp_ends.proofs.TurnParts.{dialers_long, ends_none, same_dialers, counts_none, serves_both}
 use Rattle.end_parts.proofs.Turns.{quiet_before, quiet_none, lanes_none}
 use Rattle.sp_ends.proofs.FreedDialers.{frees_none, frees_both}
-use Rattle.sp_ends.proofs.NewcomingAsks.{all_still, same_tries, rose_all}
+use Rattle.sp_ends.proofs.NewcomingAsks.{all_still, same_tries}
+use Rattle.sp_ends.proofs.Owned.{open_less, asks_less}
 use Rattle.sp_ends.proofs.NewcomingRounds.{dues_same}
 
 -- ---- The net over a part that asks it for no link
@@ -92,10 +94,10 @@ module _ {L : Type 0} (seen : L → LinkView) (first : LinkEndsView L) (net : Ne
 
 module _ {L : Type 0} (seen : L → LinkView) (start : Beginning) (now : ℕ) where
   pub turn_begins : (ends : LinkEndsView L) (net : NetView) (s : SingleView) → EndsTicked seen s.setting start s.seen net ends → IsNow now s → IsSound s → InTurn seen start ends net s now (length ends.newcomers)
-  turn_begins ends net s e n o = record { role = e.role; links = e.links; of_run = e.of_run; now_is = n; ticked = e.ticked; few = e.few; sound = o }
+  turn_begins ends net s e n o = record { role = e.role; links = e.links; of_run = e.of_run; now_is = n; ticked = e.ticked; sound = o }
 
   pub turn_ends : (ends : LinkEndsView L) (net : NetView) (s : SingleView) → InTurn seen start ends net s now 0 → NetStands start (past_of s.seen) (past_of s.seen) net ends.listeners ends.dialers → EndsStand seen s.setting start s.seen net ends
-  turn_ends ends net s i n = record { role = i.role; links = i.links; asked = n; of_run = i.of_run; few = i.few }
+  turn_ends ends net s i n = record { role = i.role; links = i.links; asked = n; of_run = i.of_run }
 
 -- where there was room at the tick there is room to accept
 pub room_on : {L : Type 0} (ends ends' : LinkEndsView L) (s s' : SingleView) → Quietly s s' → length ends'.newcomers ≤ length ends.newcomers → (has_room (before_last_tick (past_of s.seen)) ≡ true → length ends.newcomers ≤ 192) → has_room (before_last_tick (past_of s'.seen)) ≡ true → length ends'.newcomers ≤ 192
@@ -103,30 +105,31 @@ room_on ends ends' s s' q few was room = let l = was (ap has_room (sym (quiet_be
 
 -- ---- How often the net was asked
 
-pub asks_all : {L : Type 0} (seen : L → LinkView) (now most : ℕ) (a b c : LinkEndsView L) (n m o p : NetView) (s t : SingleView) (d : Bool) → length a.listeners ≤ 64 → SameEnds a b → AreSameDialers a.dialers b.dialers → SameCounts n m → length b.newcomers ≤ length a.newcomers → HasAsked seen (length b.listeners) most b c m o s t now d → o.idles ≤ p.idles → o.faults ≤ p.faults → AsksDue now c.dialers o p → AsksAll now a n p
-asks_all seen now most a b c n m o p s t d few same dialers counts less asked idles faults due room i f =
-    let l = ap length same.listeners in
-    let first = rose_all seen most b c m o s t now d asked (omega (arith, few, l)) (omega (arith, room, less)) (omega (arith, i, idles)) (omega (arith, f, faults)) in
+pub asks_all : {L : Type 0} (seen : L → LinkView) (now : ℕ) (a b c : LinkEndsView L) (n m o p : NetView) (s t : SingleView) (d : Bool) → SameEnds a b → AreSameDialers a.dialers b.dialers → SameCounts n m → FewerOwn a.newcomers b.newcomers → HasAskedTo seen (length b.listeners) b c m o s t now d → o.idles ≤ p.idles → o.faults ≤ p.faults → AsksDue now c.dialers o p → AsksAll now a n p
+asks_all seen now a b c n m o p s t d same dialers counts less asked idles faults due i f =
+    let first = asked.rose (omega (arith, i, idles)) (omega (arith, f, faults)) in
     let last = due i f in
     let x = dues_same now a.dialers b.dialers dialers in
-    let y = dues_same now b.dialers c.dialers asked.dialers in
-    omega (arith, first, last, l, x, y, counts.idles, counts.faults, counts.opened)
+    let y = dues_same now b.dialers c.dialers asked.asked.dialers in
+    let l = ap (λ ls. open_of (length ls) b.newcomers) same.listeners in
+    let w = open_less (length a.listeners) a.newcomers b.newcomers less.own in
+    omega (arith, first, last, l, w, x, y, counts.idles, counts.faults, counts.opened)
 
--- each listener was asked until it had no link, failed or had brought 16
-pub asks_each : {L : Type 0} (seen : L → LinkView) (now : ℕ) (a b c : LinkEndsView L) (n m o p : NetView) (s t : SingleView) (d : Bool) → SameEnds a b → AreSameDialers a.dialers b.dialers → SameCounts n m → length b.newcomers ≤ length a.newcomers → HasAsked seen (length b.listeners) (16 * length b.listeners) b c m o s t now d → o.idles ≤ p.idles → o.faults ≤ p.faults → o.opened ≤ p.opened → AsksDue now c.dialers o p → AsksEach now a n p
-asks_each seen now a b c n m o p s t d same dialers counts less asked idles faults opened due i f = go (asked.filled (omega (arith, i, idles)) (omega (arith, f, faults))) (due i f)
-  where
-    go : (asks_of m + 16 * length b.listeners ≤ asks_of o) ⊎ (256 + m.opened ≤ length b.newcomers + o.opened) → sum_of o + dues_of now c.dialers ≤ sum_of p → (asks_of n + (16 * length a.listeners + dues_of now a.dialers) ≤ asks_of p) ⊎ (256 + n.opened ≤ length a.newcomers + p.opened)
-    go (inl q) r =
-        let l = ap length same.listeners in
-        let x = dues_same now a.dialers b.dialers dialers in
-        let y = dues_same now b.dialers c.dialers asked.dialers in
-        inl (omega (arith, q, r, l, x, y, idles, faults, counts.idles, counts.faults, counts.opened))
-    go (inr q) r = inr (omega (arith, q, less, opened, counts.opened))
+-- each listener was asked until it had no link, failed or had brought 16, or had 256
+pub asks_each : {L : Type 0} (seen : L → LinkView) (now : ℕ) (a b c : LinkEndsView L) (n m o p : NetView) (s t : SingleView) (d : Bool) → SameEnds a b → AreSameDialers a.dialers b.dialers → SameCounts n m → FewerOwn a.newcomers b.newcomers → HasAskedTo seen (length b.listeners) b c m o s t now d → o.idles ≤ p.idles → o.faults ≤ p.faults → o.opened ≤ p.opened → AsksDue now c.dialers o p
+    → AsksEach now a n p
+asks_each seen now a b c n m o p s t d same dialers counts less asked idles faults opened due i f =
+    let q = asked.filled (omega (arith, i, idles)) (omega (arith, f, faults)) in
+    let r = due i f in
+    let x = dues_same now a.dialers b.dialers dialers in
+    let y = dues_same now b.dialers c.dialers asked.asked.dialers in
+    let l = ap (λ ls. asks_to (length ls) (o.opened - m.opened) b.newcomers) same.listeners in
+    let w = asks_less (length a.listeners) (o.opened - m.opened) (p.opened - n.opened) a.newcomers b.newcomers (omega (arith, opened, counts.opened)) less.own in
+    omega (arith, q, r, l, w, x, y, idles, faults, counts.idles, counts.faults, counts.opened)
 
 -- each dialer that is due after the listeners were asked was due before
-pub dues_asked : {L : Type 0} (seen : L → LinkView) (now i most : ℕ) (b c : LinkEndsView L) (m o p : NetView) (s t : SingleView) (d : Bool) → HasAsked seen i most b c m o s t now d → AsksDue now c.dialers o p → AsksDue now b.dialers m p
-dues_asked seen now i most b c m o p s t d asked due r f =
+pub dues_asked : {L : Type 0} (seen : L → LinkView) (now first last most : ℕ) (b c : LinkEndsView L) (m o p : NetView) (s t : SingleView) (d : Bool) → HasAsked seen first last most b c m o s t now d → AsksDue now c.dialers o p → AsksDue now b.dialers m p
+dues_asked seen now first last most b c m o p s t d asked due r f =
     let q = due r f in
     let x = dues_same now b.dialers c.dialers asked.dialers in omega (arith, q, x, asked.idles, asked.faults, asked.opened)
 
@@ -136,19 +139,19 @@ dues_taken now ds es n m p same counts due i f =
     let x = dues_same now ds es same in omega (arith, q, x, counts.idles, counts.faults, counts.opened)
 
 -- first some wires were taken
-pub asks_taken : {L : Type 0} (now : ℕ) (a b : LinkEndsView L) (n m p : NetView) (s t : SingleView) → Serves a b n m s t → length b.newcomers ≤ length a.newcomers → AsksAll now b m p → AsksAll now a n p
-asks_taken now a b n m p s t v less asked room i f =
-    let r = asked (omega (arith, room, less)) i f in
-    let l = ap length v.ends.listeners in
+pub asks_taken : {L : Type 0} (now : ℕ) (a b : LinkEndsView L) (n m p : NetView) (s t : SingleView) → Serves a b n m s t → b.newcomers ≡ a.newcomers → AsksAll now b m p → AsksAll now a n p
+asks_taken now a b n m p s t v same asked i f =
+    let r = asked i f in
+    let l = ap (λ ls. open_of (length ls) b.newcomers) v.ends.listeners in
+    let w = ap (open_of (length a.listeners)) same in
     let x = dues_same now a.dialers b.dialers v.dialers in
-    let c = v.counts in omega (arith, r, l, x, c.idles, c.faults, c.opened)
+    let c = v.counts in omega (arith, r, l, w, x, c.idles, c.faults, c.opened)
 
-pub each_taken : {L : Type 0} (now : ℕ) (a b : LinkEndsView L) (n m p : NetView) (s t : SingleView) → Serves a b n m s t → length b.newcomers ≤ length a.newcomers → AsksEach now b m p → AsksEach now a n p
-each_taken now a b n m p s t v less each i f = go (each i f)
-  where
-    go : (asks_of m + (16 * length b.listeners + dues_of now b.dialers) ≤ asks_of p) ⊎ (256 + m.opened ≤ length b.newcomers + p.opened) → (asks_of n + (16 * length a.listeners + dues_of now a.dialers) ≤ asks_of p) ⊎ (256 + n.opened ≤ length a.newcomers + p.opened)
-    go (inl q) =
-        let l = ap length v.ends.listeners in
-        let x = dues_same now a.dialers b.dialers v.dialers in
-        let c = v.counts in inl (omega (arith, q, l, x, c.idles, c.faults, c.opened))
-    go (inr q) = let c = v.counts in inr (omega (arith, q, less, c.opened))
+pub each_taken : {L : Type 0} (now : ℕ) (a b : LinkEndsView L) (n m p : NetView) (s t : SingleView) → Serves a b n m s t → b.newcomers ≡ a.newcomers → AsksEach now b m p → AsksEach now a n p
+each_taken now a b n m p s t v same each i f =
+    let q = each i f in
+    let c = v.counts in
+    let l = ap (λ ls. asks_to (length ls) (p.opened - m.opened) b.newcomers) v.ends.listeners in
+    let w = ap (asks_to (length a.listeners) (p.opened - m.opened)) same in
+    let h = ap (λ k. asks_to (length a.listeners) (p.opened - k) a.newcomers) c.opened in
+    let x = dues_same now a.dialers b.dialers v.dialers in omega (arith, q, l, w, h, x, c.idles, c.faults, c.opened)

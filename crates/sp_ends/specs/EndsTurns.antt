@@ -21,11 +21,12 @@ use Rattle.sp_base.specs.declared.error.NoMemory.{NoMemory}
 use Rattle.sp_single.specs.Singles.{SingleView, IsSound, IsNow}
 use Rattle.sp_base.specs.declared.addr.Addr.{Addr}
 use Rattle.sp_ends.specs.Freeing.{Frees, AreSameDialers}
-use Rattle.end_parts.specs.DialMoments.{moment, is_due}
+use Rattle.sp_ends.specs.Listening.{room_for, own_of, dialed_of, one_open, open_of, asks_one, asks_to}
+use Rattle.end_parts.specs.DialMoments.{is_due}
 use Rattle.end_parts.specs.EndViews.{LinkEndsView, Beginning}
 use Rattle.end_parts.specs.RunLinks.{AreOfRun, LinksStand, NetStands, SameCounts, sum_of, EndsStand}
 use Rattle.end_parts.specs.SocketSteps.{Quietly, NoLane, IsDry}
-use Rattle.end_parts.specs.DialerSteps.{IsSameDialer}
+use Rattle.end_parts.specs.DialerSteps.{IsSameDialer, IsFree, IsUnderWay}
 use Rattle.end_parts.specs.NewcomerSteps.{IsYoung, HasWaitedOn}
 
 -- since the last tick nobody was greeted, accepted or dialed yet
@@ -35,7 +36,6 @@ pub record EndsTicked {L : Type 0} (seen : L → LinkView) (z : Setting) (start 
   pub asked : NetStands start (before_last_tick (past_of h)) (before_last_tick (past_of h)) net ends.listeners ends.dialers
   pub of_run : AreOfRun start.origins ends
   pub ticked : 0 < length (ticks (past_of h))
-  pub few : length ends.newcomers ≤ 320
   -- where there was room at the tick, not more are to be greeted
   pub room : has_room (before_last_tick (past_of h)) ≡ true → length ends.newcomers ≤ 192
 
@@ -60,7 +60,6 @@ pub record InTurn {L : Type 0} (seen : L → LinkView) (start : Beginning) (ends
   pub of_run : AreOfRun start.origins ends
   pub now_is : IsNow now s
   pub ticked : 0 < length (ticks (past_of s.seen))
-  pub few : length ends.newcomers ≤ 320
   pub sound : IsSound s
 
 -- the same with this link before the newcomers
@@ -95,11 +94,11 @@ pub record AsksNet (old new : NetView) : Type 0 where
   pub faults : old.faults ≤ new.faults
   pub rose : CanRise new.idles → CanRise new.faults → sum_of old + 1 ≤ sum_of new
 
--- the dialer has tried once more; where no link was handed out it is free
+-- the dialer has tried once more; where no link was handed out it is free, or a connection of it is under way
 pub record HasDialed (now : ℕ) (same : Type 0) (old new : Dialer) : Type 0 where
   pub addr : new.addr ≡ old.addr
   pub tries : new.tries ≡ min (old.tries + 1) (2 ^ 64 - 1)
-  pub next : same → (new.next ≡ moment (now + 100)) × (new.place ≡ None)
+  pub next : same → IsFree now new ⊎ IsUnderWay now new
 
 -- the dialer at this place has, and the others are the same but for the links that they have lost
 abbrev pub DialsOne : ℕ → ℕ → Type 0 → List Dialer → List Dialer → Type 0
@@ -116,30 +115,27 @@ abbrev pub dues_of : ℕ → List Dialer → ℕ
 dues_of now [] = 0
 dues_of now (d ∷ ds) = if is_due now d then dues_of now ds + 1 else dues_of now ds
 
--- each listener was asked, and each dialer that was due was dialed. Where more than 192 links were in progress the listeners
--- need not have been
+-- each listener with fewer than 256 links in progress was asked, whatever the others have, and each dialer that was due was
+-- dialed
 abbrev pub AsksAll : {L : Type 0} → ℕ → LinkEndsView L → NetView → NetView → Type 0
 AsksAll now ends old new =
-    length ends.newcomers ≤ 192 → CanRise new.idles → CanRise new.faults → sum_of old + length ends.listeners + dues_of now ends.dialers ≤ sum_of new
+    CanRise new.idles → CanRise new.faults → sum_of old + open_of (length ends.listeners) ends.newcomers + dues_of now ends.dialers ≤ sum_of new
 
--- those that were accepted made no more than 256 in progress, and each dial made one more at most
-abbrev pub FewInProgress : {L : Type 0} → LinkEndsView L → LinkEndsView L → Type 0
-FewInProgress old new = length old.newcomers ≤ 256 → length new.newcomers ≤ 256 + length old.dialers
+-- those that a listener brought made no more than 256 of it in progress, and each dial made one more at most
+pub record FewInProgress {L : Type 0} (old new : LinkEndsView L) : Type 0 where
+  pub listeners : (i n : ℕ) → 256 ≤ n → own_of i old.newcomers ≤ n → own_of i new.newcomers ≤ n
+  pub dialers : dialed_of new.newcomers ≤ dialed_of old.newcomers + length old.dialers
 
 -- What was asked of the net for links, where each link counts once, and each result that there is none, and each fault, as often
 -- as a listener is asked in a turn
 abbrev pub asks_of : NetView → ℕ
 asks_of net = 16 * (net.idles + net.faults) + net.opened
 
--- so much was asked, or 256 links were in progress
-abbrev pub AsksUntilFull : {L : Type 0} → ℕ → LinkEndsView L → NetView → NetView → Type 0
-AsksUntilFull much ends old new =
-    CanRise new.idles → CanRise new.faults → (asks_of old + much ≤ asks_of new) ⊎ (256 + old.opened ≤ length ends.newcomers + new.opened)
-
--- each listener was asked until it had no link, failed or had brought 16, and each dialer that was due was dialed; or 256 links
--- were in progress
+-- each listener was asked until it had no link, failed or had brought 16, or had 256 in progress; and each dialer that was due
+-- was dialed
 abbrev pub AsksEach : {L : Type 0} → ℕ → LinkEndsView L → NetView → NetView → Type 0
-AsksEach now ends old new = AsksUntilFull (16 * length ends.listeners + dues_of now ends.dialers) ends old new
+AsksEach now ends old new =
+    CanRise new.idles → CanRise new.faults → asks_of old + asks_to (length ends.listeners) (new.opened - old.opened) ends.newcomers + dues_of now ends.dialers ≤ asks_of new
 
 -- each dialer that was due was dialed
 abbrev pub AsksDue : ℕ → List Dialer → NetView → NetView → Type 0
@@ -170,8 +166,8 @@ pub record AreWaitingBehind {L : Type 0} (seen : L → LinkView) (first : List (
   pub ungreeted : AllByRecursion (IsFirstOrNew seen first opened) (take k ns)
   pub rest : AllByRecursion (HasWaitedSince seen first opened) (drop k ns)
 
--- So many listeners were asked, until 256 links were in progress, and brought so many links at most
-pub record HasAsked {L : Type 0} (seen : L → LinkView) (asked most : ℕ) (old new : LinkEndsView L) (net net' : NetView) (s s' : SingleView) (now : ℕ) (is_dry : Bool) : Type 0 where
+-- the listeners from the one place of the list to the other were asked, and brought so many links at most
+pub record HasAsked {L : Type 0} (seen : L → LinkView) (first last most : ℕ) (old new : LinkEndsView L) (net net' : NetView) (s s' : SingleView) (now : ℕ) (is_dry : Bool) : Type 0 where
   pub in_turn : (start : Beginning) → InTurn seen start old net s now 0 → InTurn seen start new net' s' now 0
   pub ends : SameEnds old new
   pub dialers : AreSameDialers old.dialers new.dialers
@@ -180,8 +176,11 @@ pub record HasAsked {L : Type 0} (seen : L → LinkView) (asked most : ℕ) (old
   pub lanes : NoLane s s'
   pub dry : IsDry is_dry s'
   pub few : length new.newcomers + net.opened ≤ length old.newcomers + net'.opened
-  -- none is asked for while 256 links are in progress
-  pub held : (n : ℕ) → 256 ≤ n → length old.newcomers ≤ n → length new.newcomers ≤ n
+  -- the others have as many in progress; none of these is asked while it has 256
+  pub others : (i : ℕ) → (i < first) ⊎ (last ≤ i) → own_of i new.newcomers ≡ own_of i old.newcomers
+  pub own : (i : ℕ) → own_of i new.newcomers + net.opened ≤ own_of i old.newcomers + net'.opened
+  pub dialed : dialed_of new.newcomers ≡ dialed_of old.newcomers
+  pub held : (i n : ℕ) → 256 ≤ n → own_of i old.newcomers ≤ n → own_of i new.newcomers ≤ n
   pub listens : net'.listens ≡ net.listens
   pub opened : net.opened ≤ net'.opened
   pub handed : net'.opened ≤ net.opened + most
@@ -189,13 +188,22 @@ pub record HasAsked {L : Type 0} (seen : L → LinkView) (asked most : ℕ) (old
   pub waited : (first : List (Newcomer L)) (opened : ℕ) → opened ≤ net.opened → AreWaitingBehind seen first opened 0 old.newcomers → AreWaitingBehind seen first opened 0 new.newcomers
   pub idles : net.idles ≤ net'.idles
   pub faults : net.faults ≤ net'.faults
-  pub rose : CanRise net'.idles → CanRise net'.faults → (sum_of net + asked ≤ sum_of net') ⊎ (256 + net.opened ≤ length old.newcomers + net'.opened)
-  -- each had no link, failed, or brought 16
-  pub filled : AsksUntilFull most old net net'
+
+-- the listener at this place was asked, unless it has 256 in progress: until it had no link, failed, brought 16 or had 256
+pub record HasAskedOne {L : Type 0} (seen : L → LinkView) (i : ℕ) (old new : LinkEndsView L) (net net' : NetView) (s s' : SingleView) (now : ℕ) (is_dry : Bool) : Type 0 where
+  pub asked : HasAsked seen i (i + 1) 16 old new net net' s s' now is_dry
+  pub rose : CanRise net'.idles → CanRise net'.faults → sum_of net + one_open i old.newcomers ≤ sum_of net'
+  pub filled : CanRise net'.idles → CanRise net'.faults → asks_of net + asks_one i (net'.opened - net.opened) old.newcomers ≤ asks_of net'
+
+-- so were the first listeners
+pub record HasAskedTo {L : Type 0} (seen : L → LinkView) (i : ℕ) (old new : LinkEndsView L) (net net' : NetView) (s s' : SingleView) (now : ℕ) (is_dry : Bool) : Type 0 where
+  pub asked : HasAsked seen 0 i (16 * i) old new net net' s s' now is_dry
+  pub rose : CanRise net'.idles → CanRise net'.faults → sum_of net + open_of i old.newcomers ≤ sum_of net'
+  pub filled : CanRise net'.idles → CanRise net'.faults → asks_of net + asks_to i (net'.opened - net.opened) old.newcomers ≤ asks_of net'
 
 -- the same way, where there is room for one link more
 abbrev pub FitsIn : {L : Type 0} → Result Way NoMemory → Result Way NoMemory → LinkEndsView L → Type 0
-FitsIn way result ends = IfOk result (λ w. (way ≡ Ok w) × (length ends.newcomers < 320))
+FitsIn way result ends = IfOk result (λ w. (way ≡ Ok w) × (length ends.newcomers < room_for (length ends.listeners)))
 
 -- ---- A link that is new
 

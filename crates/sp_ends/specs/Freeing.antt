@@ -6,7 +6,7 @@ use Rattle.sp_base.specs.Views.{NetView}
 use Rattle.sp_history.specs.Past.{now}
 use Rattle.end_parts.specs.declared.dialer.Dialer.{Dialer}
 use Rattle.end_parts.specs.DialMoments.{IsDueAt}
-use Rattle.end_parts.specs.DialerSteps.{IsSameDialer, IsFree, IsFreed}
+use Rattle.end_parts.specs.DialerSteps.{IsSameDialer, IsFree, IsUnderWay, IsFreed}
 
 -- one by one
 abbrev pub AreSameDialers : List Dialer → List Dialer → Type 0
@@ -53,10 +53,10 @@ pub record Frees (now : ℕ) (old new : NetView) (ds es : List Dialer) : Type 0 
 
 -- ---- Dialing
 
--- it has the link that it got, or is free
+-- it has the link that it got, or is free, or a connection of it is under way
 abbrev pub HasRedialed : ℕ → NetView → NetView → Dialer → Type 0
 HasRedialed now old new e =
-    IsFree now e ⊎ ((place : ℕ) × (e.place ≡ Some place) × (old.opened ≤ place) × (place < new.opened) × (get old.back place ≡ None → get new.back place ≡ None))
+    (IsFree now e ⊎ IsUnderWay now e) ⊎ ((place : ℕ) × (e.place ≡ Some place) × (old.opened ≤ place) × (place < new.opened) × (get old.back place ≡ None → get new.back place ≡ None))
 
 -- it has tried, and the others are the same, unless their links came back
 abbrev pub RedialsOne : ℕ → ℕ → NetView → NetView → List Dialer → List Dialer → Type 0
@@ -100,6 +100,6 @@ pub record Turns (now : ℕ) (old new : NetView) (ds es : List Dialer) : Type 0 
   pub net : GotBack old new
   pub dialers : TurnsAll now old new ds es
 
--- none is due
+-- none is due, but those with a connection under way
 abbrev pub AreWaiting : ℕ → List Dialer → Type 0
-AreWaiting now ds = AllByRecursion (λ d. IsDue now d → ⊥) ds
+AreWaiting now ds = AllByRecursion (λ d. IsDue now d → IsUnderWay now d) ds

@@ -1,3 +1,4 @@
+pub mod Listening
 pub mod AddedEnds
 pub mod Freeing
 pub mod EndsTurns

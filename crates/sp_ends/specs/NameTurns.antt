@@ -48,10 +48,9 @@ TurnsCallers now s s' [] [] = ⊤
 TurnsCallers now s s' (c ∷ cs) (d ∷ ds) = TurnsCaller now s s' c d × TurnsCallers now s s' cs ds
 TurnsCallers now s s' _ _ = ⊥
 
--- First the links had their turn, and no lane came up. Then each name that was due was dialed. Then the names were asked: each
--- brought 16 lanes at most, and, where fewer than 256 links are being opened, all that it had, or 16. Where 256 are, none was
--- asked
-pub record TurnsLanes (now : ℕ) (role : Role) (greeting : ℕ) (listened : List (List ℕ)) (s s' : SingleView) (reg reg' : Registry) (old new : List NameDialer) : Type 0 where
+-- First the links had their turn, and no lane came up. Then each name that was due was dialed. Then each name brought all lanes
+-- that it had, or 16
+pub record TurnsLanes (now : ℕ) (role : Role) (listened : List (List ℕ)) (s s' : SingleView) (reg reg' : Registry) (old new : List NameDialer) : Type 0 where
   pub linked : SingleView
   pub called : SingleView
   pub dialed : Registry
@@ -60,10 +59,9 @@ pub record TurnsLanes (now : ℕ) (role : Role) (greeting : ℕ) (listened : Lis
   pub dials : DialsDue now role linked called reg dialed old new
   pub on : GoesOn called s'
   pub accepting : Accepting (16 * length listened) called s' dialed reg'
-  pub asked : greeting < 256 → AllBring listened dialed reg'
-  pub held : 256 ≤ greeting → (s' ≡ called) × (reg' ≡ dialed)
+  pub brings : AllBring listened dialed reg'
 
 -- the same of ends over links and of names, before and after
-abbrev pub LanesTurn : {L : Type 0} → ℕ → LinkEndsView L → LinkEndsView L → NamesView → NamesView → SingleView → SingleView → Registry → Registry → Type 0
-LanesTurn now old new names names' s s' reg reg' =
-    TurnsLanes now old.role (length new.newcomers) names.names s s' reg reg' names.callers names'.callers
+abbrev pub LanesTurn : {L : Type 0} → ℕ → LinkEndsView L → NamesView → NamesView → SingleView → SingleView → Registry → Registry → Type 0
+LanesTurn now old names names' s s' reg reg' =
+    TurnsLanes now old.role names.names s s' reg reg' names.callers names'.callers

@@ -50,6 +50,7 @@ impl<L: Link> LinkEnds<L> {
             dice: _,
             asked: _,
             listeners: _,
+            greetings: _,
             dialers: _,
             newcomers,
         } = self;
@@ -67,6 +68,7 @@ impl<L: Link> LinkEnds<L> {
             dice: _,
             asked: _,
             listeners: _,
+            greetings: _,
             dialers: _,
             newcomers,
         } = self;

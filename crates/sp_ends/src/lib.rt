@@ -13,6 +13,7 @@
 //! names; `turn` what one turn does, and `leave` how it ends.
 #![tactic(auto)]
 
+mod counts;
 mod ends;
 mod leave;
 mod links;

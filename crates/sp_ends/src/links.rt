@@ -1,11 +1,13 @@
 //! The ends of a run that are reached over links of a net.
-ghost use Rattle.std.specs.Prelude.{◌≡◌, true, IfOk};
+ghost use Rattle.std.specs.Prelude.{◌≡◌, ◌<◌, ◌+◌, ◌*◌, ◌++◌, ◌∷◌, [], nat_le, length, true, IfOk, IfSome};
 ghost use Rattle.sp_base.specs.Addresses.{is_dialable, is_linked};
 ghost use Rattle.end_parts.specs.EndViews.{no_links};
 ghost use Rattle.sp_ends.specs.AddedEnds.{ListensLink, DialsLink};
 ghost use Rattle.sp_ends.specs.Freeing.{AreFreed};
+ghost use Rattle.sp_ends.specs.Listening.{room_for, own_of, IsFromOne, LeavesFirst};
 ghost use Rattle.sp_ends.specs.EndsTurns.{SameButPlaces};
 
+use crate::counts::{one_less, one_more};
 use end_parts::{Dialer, EndError, Listener, Newcomer};
 use link_opening::copy_of;
 use sp_base::{Addr, Link, Listened, Net, NoMemory, Role, Tick};
@@ -13,13 +15,13 @@ use std::alloc::Global;
 use std::collections::VecDeque;
 use std::marker::Model;
 
-/// How many links may be opened at once. None is accepted while so many are.
-pub(crate) const MOST_NEWCOMERS: usize = 256;
+/// How many links of one listener may be opened at once. It is asked for none while so many are.
+const MOST_NEWCOMERS: usize = 256;
 
-/// For how many links that are opened there is room: those that are accepted, and one of each dialer.
-pub(crate) const ROOM: usize = 320;
+/// For how many links that were dialed there is room.
+const MOST_DIALED: usize = 64;
 
-/// Listeners, dialers, and the links that are being opened. Its room for links is taken when it is made.
+/// Listeners, dialers, and the links that are being opened. The room for the links of a listener is taken with it.
 pub(crate) struct LinkEnds<L: Link> {
     pub(crate) alloc: Global,
     /// The own role in the openings.
@@ -29,21 +31,24 @@ pub(crate) struct LinkEnds<L: Link> {
     /// How many links of WebSocket were dialed, at most 2^64 - 1.
     pub(crate) asked: u64,
     pub(crate) listeners: Vec<Listener>,
+    /// How many links of each listener are being opened, in the order of the listeners.
+    pub(crate) greetings: Vec<usize>,
     pub(crate) dialers: Vec<Dialer>,
     /// Those that a turn has passed are behind the others, else in the order in which they were handed out.
     pub(crate) newcomers: VecDeque<Newcomer<L>>,
 }
 
 impl<L: Link> Model for LinkEnds<L> {
-    ghost use Rattle.std.specs.Prelude.{◌≤◌};
+    ghost use Rattle.std.specs.Prelude.{length};
     ghost use Rattle.std.specs.VecDeque.{deque_capacity};
     ghost use Rattle.end_parts.specs.EndViews.{LinkEndsView};
+    ghost use Rattle.sp_ends.specs.Listening.{AreCounted};
 
     ghost Value = { LinkEndsView L };
 
     ghost view = { λ e. record { role = e.role; dice = e.dice; asked = e.asked; listeners = e.listeners.items; dialers = e.dialers.items; newcomers = e.newcomers.items } };
 
-    ghost invariant = { λ e. 320 ≤ deque_capacity e.newcomers };
+    ghost invariant = { λ e. AreCounted e.greetings.items (length e.listeners.items) e.newcomers.items (deque_capacity e.newcomers) };
 }
 
 impl<L: Link> LinkEnds<L> {
@@ -57,8 +62,9 @@ impl<L: Link> LinkEnds<L> {
             dice,
             asked: 0,
             listeners: Vec::new(alloc),
+            greetings: Vec::new(alloc),
             dialers: Vec::new(alloc),
-            newcomers: VecDeque::with_capacity(alloc, ROOM)?,
+            newcomers: VecDeque::with_capacity(alloc, MOST_DIALED)?,
         })
     }
 
@@ -67,7 +73,14 @@ impl<L: Link> LinkEnds<L> {
         requires linked { is_linked addr.now ≡ true }
         ensures { ListensLink result addr.now self.old self.new (N.seen net.old) (N.seen net.new) }
     {
-        if self.listeners.reserve(1).is_err() {
+        if self.listeners.reserve(1).is_err() || self.greetings.reserve(1).is_err() {
+            return Err(EndError::NoMemory);
+        }
+        let Some(room) = room_for(self.listeners.len() + 1) else {
+            return Err(EndError::NoMemory);
+        };
+        let more = room.saturating_sub(self.newcomers.len());
+        if self.newcomers.reserve(more).is_err() {
             return Err(EndError::NoMemory);
         }
         let Ok(copy) = copy_of(self.alloc, addr) else {
@@ -77,6 +90,7 @@ impl<L: Link> LinkEnds<L> {
             Listened::Failed => Err(EndError::Fault),
             Listened::At(at) => {
                 self.listeners.push_reserved(Listener { at, addr: copy });
+                self.greetings.push_reserved(0);
                 Ok(())
             }
         }
@@ -96,6 +110,35 @@ impl<L: Link> LinkEnds<L> {
         }
     }
 
+    // Whether as many links of the listener at this place of the list are being opened as may be at once.
+    pub(crate) fn is_full(&self, i: usize) -> bool
+        requires inside { i < length self.now.listeners }
+        ensures { result ≡ nat_le 256 (own_of i self.now.newcomers) }
+    {
+        self.greetings[i] >= MOST_NEWCOMERS
+    }
+
+    // The link stands behind those that are being opened.
+    pub(crate) fn keep(&mut self, newcomer: Newcomer<L>)
+        requires room { length self.old.newcomers < room_for (length self.old.listeners) }
+        requires from { IsFromOne (length self.old.listeners) newcomer.from }
+        ensures { self.new ≡ record self.old { newcomers = self.old.newcomers ++ newcomer ∷ [] } }
+    {
+        one_more(&mut self.greetings, newcomer.from);
+        self.newcomers.push_back_reserved(newcomer);
+    }
+
+    // The first of those that are being opened leaves them, if there is one.
+    pub(crate) fn next_newcomer(&mut self) -> Option<Newcomer<L>>
+        ensures { LeavesFirst result self.old self.new }
+    {
+        let Some(newcomer) = self.newcomers.pop_front() else {
+            return None;
+        };
+        one_less(&mut self.greetings, newcomer.from);
+        Some(newcomer)
+    }
+
     // The link with this place is back: who had dialed it may dial again.
     pub(crate) fn lost(&mut self, now: Tick, place: u32)
         ensures same { SameButPlaces self.old self.new }
@@ -105,4 +148,13 @@ impl<L: Link> LinkEnds<L> {
             dialer.lost(now, place);
         }
     }
+}
+
+// For how many links that are being opened there is room beside so many listeners.
+pub(crate) fn room_for(listeners: usize) -> Option<usize>
+    ensures { IfSome result (λ n. n ≡ room_for listeners) }
+{
+    listeners
+        .checked_mul(MOST_NEWCOMERS)?
+        .checked_add(MOST_DIALED)
 }

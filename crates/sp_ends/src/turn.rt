@@ -1,5 +1,5 @@
 //! What one turn of the ends does.
-ghost use Rattle.std.specs.Prelude.{◌≡◌, ◌≤◌, ◌<◌, ◌+◌, ◌-◌, ◌*◌, ◌^◌, min, ◌||◌, ℕ, true, false, length, slice_get, Some, Ok, IfOk};
+ghost use Rattle.std.specs.Prelude.{◌≡◌, ◌≤◌, ◌<◌, ◌+◌, ◌-◌, ◌*◌, ◌^◌, min, ◌||◌, ℕ, true, false, length, slice_get, Some, None, Ok, IfOk};
 ghost use Rattle.std.specs.List.{AllByRecursion};
 ghost use Rattle.sp_base.specs.Addresses.{is_dialable, scheme_of};
 ghost use Rattle.sp_history.specs.Past.{past_of};
@@ -12,15 +12,16 @@ ghost use Rattle.link_opening.specs.Origins.{serving, asking};
 ghost use Rattle.end_parts.specs.EndViews.{Beginning};
 ghost use Rattle.end_parts.specs.RunLinks.{IsListener};
 ghost use Rattle.sp_ends.specs.Freeing.{Frees, Redials, Turns, AreWaiting, KnowsLinks, KnowsDialed, AreSameDialers};
+ghost use Rattle.sp_ends.specs.Listening.{room_for, dialed_of, IsFromOne, KeepsFrom, KeepsOwn, FewerOwn};
 ghost use Rattle.sp_ends.specs.NameTurns.{TurnsCallers, LanesTurn, TakesCallers, TakesPipe};
 ghost use Rattle.end_parts.specs.NameSteps.{GoesOn, KeepsLinks, Accepting, AllBring};
-ghost use Rattle.sp_ends.specs.EndsTurns.{UngreetedGoOn, HaveTicked, StandAgain, TurnGoesOn, IsInTurn, AreToBeAsked, AskedStand, AreToBeDialed, DialedStand, CountsRise, WaitOn, WaitWith, GreetsInTurn, HasArrived, MeetsInTurn, AllTaken, FewInProgress, SameEnds, Serves, InTurnWith, HasWaitedSince, AreWaitingBehind, AsksNet, DialsAt, AreYoung, asked_after, asks_of, AsksAll, AsksEach, AsksDue, HasAsked, FitsIn};
+ghost use Rattle.sp_ends.specs.EndsTurns.{UngreetedGoOn, HaveTicked, StandAgain, TurnGoesOn, IsInTurn, AreToBeAsked, AskedStand, AreToBeDialed, DialedStand, CountsRise, WaitOn, WaitWith, GreetsInTurn, HasArrived, MeetsInTurn, AllTaken, FewInProgress, SameEnds, Serves, InTurnWith, HasWaitedSince, AreWaitingBehind, AsksNet, DialsAt, AreYoung, asked_after, asks_of, AsksAll, AsksEach, AsksDue, HasAskedOne, HasAskedTo, FitsIn};
 ghost use Rattle.end_parts.specs.SocketSteps.{Quietly, IsDry, NoLane};
 ghost use Rattle.sp_single.specs.Singles.{IsNow, IsSound};
 ghost use Rattle.end_parts.specs.NewcomerSteps.{is_dry_for};
 
 use crate::ends::Ends;
-use crate::links::{LinkEnds, MOST_NEWCOMERS, ROOM};
+use crate::links::{LinkEnds, room_for};
 use end_parts::{
     LINKS_A_TURN, NameEnds, Newcomer, NewcomerFate, greet_one, leave_wire, miss, newcomer_over,
 };
@@ -93,7 +94,7 @@ impl<L: Link> Ends<L> {
         ensures dues { AsksDue now self.old.links.dialers (N.seen net.old) (N.seen net.new) }
         ensures few { FewInProgress self.old.links self.new.links }
         ensures callers { TurnsCallers now single.old single.new self.old.names.callers self.new.names.callers }
-        ensures lanes { LanesTurn now self.old.links self.new.links self.old.names self.new.names single.old single.new inproc.old inproc.new }
+        ensures lanes { LanesTurn now self.old.links self.old.names self.new.names single.old single.new inproc.old inproc.new }
     {
         self.links
             .turn(&mut self.names, rt, net, inproc, single, now)
@@ -133,13 +134,13 @@ impl<L: Link> LinkEnds<L> {
         ensures dues { AsksDue now self.old.dialers (N.seen net.old) (N.seen net.new) }
         ensures few { FewInProgress self.old self.new }
         ensures callers { TurnsCallers now single.old single.new names.old.callers names.new.callers }
-        ensures lanes { LanesTurn now self.old self.new names.old names.new single.old single.new inproc.old inproc.new }
+        ensures lanes { LanesTurn now self.old names.old names.new single.old single.new inproc.old inproc.new }
     {
         let mut turn = EndsTurn::new();
         self.take_all_ended(names, rt, net, single, now);
         self.go_on(rt, net, single, now, &mut turn);
         names.call_all(rt, inproc, single, self.role, now);
-        self.accept_names(names, rt, inproc, single);
+        names.accept_all(rt, inproc, single);
         turn
     }
 
@@ -170,26 +171,6 @@ impl<L: Link> LinkEnds<L> {
             names.lost(now, pipe);
         }
         unreachable!()
-    }
-
-    // Asks each name for the lanes that were dialed, unless too many links are being opened.
-    fn accept_names<R: Wait, P: Proto>(
-        &self,
-        names: &NameEnds,
-        rt: &R,
-        inproc: &mut Inproc,
-        single: &mut Single<P, EndWire<L>>,
-    )
-        ensures on { GoesOn single.old single.new }
-        ensures links { KeepsLinks L.seen single.old single.new }
-        ensures accepted { Accepting (16 * length names.now.names) single.old single.new inproc.old inproc.new }
-        ensures brings { length self.now.newcomers < 256 → AllBring names.now.names inproc.old inproc.new }
-        ensures held { 256 ≤ length self.now.newcomers → (single.new ≡ single.old) × (inproc.new ≡ inproc.old) }
-    {
-        if self.newcomers.len() >= MOST_NEWCOMERS {
-            return;
-        }
-        names.accept_all(rt, inproc, single);
     }
 
     // Goes on with the greetings, and asks each listener and each dialer that is due.
@@ -273,9 +254,10 @@ impl<L: Link> LinkEnds<L> {
         ensures dry { IsDry turn.new.is_dry single.new }
         ensures young { AreYoung now 0 self.new.newcomers }
         ensures waited { (opened : ℕ) → AreWaitingBehind L.seen self.old.newcomers opened 0 self.new.newcomers }
+        ensures own { FewerOwn self.old.newcomers self.new.newcomers }
     {
         'greets: for _ in 0..self.newcomers.len() {
-            let Some(newcomer) = self.newcomers.pop_front() else {
+            let Some(newcomer) = self.next_newcomer() else {
                 unreachable!()
             };
             self.greet(rt, net, single, newcomer, now, turn);
@@ -293,7 +275,8 @@ impl<L: Link> LinkEnds<L> {
         turn: &mut EndsTurn,
     )
         requires in_turn { (start : Beginning) × (k : ℕ) × InTurnWith L.seen start newcomer self.old (N.seen net.old) single.old now k }
-        requires room { length self.old.newcomers < 320 }
+        requires room { length self.old.newcomers < room_for (length self.old.listeners) }
+        requires from { IsFromOne (length self.old.listeners) newcomer.from }
         requires dry { IsDry turn.old.is_dry single.old }
         ensures in_turn { GreetsInTurn L.seen now newcomer self.old self.new (N.seen net.old) (N.seen net.new) single.old single.new }
         ensures few { length self.new.newcomers ≤ length self.old.newcomers + 1 }
@@ -302,10 +285,11 @@ impl<L: Link> LinkEnds<L> {
         ensures dry { IsDry turn.new.is_dry single.new }
         ensures young { (k : ℕ) → AreYoung now k self.old.newcomers → AreYoung now k self.new.newcomers }
         ensures waited { WaitWith L.seen newcomer self.old.newcomers self.new.newcomers }
+        ensures kept { KeepsFrom newcomer.from self.old.newcomers self.new.newcomers }
     {
         let place = newcomer.opening.link.place();
         match greet_one(self.alloc, rt, net, single, newcomer, now) {
-            NewcomerFate::Stays(newcomer) => self.newcomers.push_back_reserved(newcomer),
+            NewcomerFate::Stays(newcomer) => self.keep(newcomer),
             NewcomerFate::Up => (),
             NewcomerFate::Missed(miss) => {
                 turn.missed(miss);
@@ -326,7 +310,7 @@ impl<L: Link> LinkEnds<L> {
         requires in_turn { IsInTurn L.seen self.old (N.seen net.old) single.old now 0 }
         requires listens { AllByRecursion (IsListener (N.seen net.old)) self.old.listeners }
         requires dry { IsDry turn.old.is_dry single.old }
-        ensures { HasAsked L.seen (length self.old.listeners) (16 * length self.old.listeners) self.old self.new (N.seen net.old) (N.seen net.new) single.old single.new now turn.new.is_dry }
+        ensures { HasAskedTo L.seen (length self.old.listeners) self.old self.new (N.seen net.old) (N.seen net.new) single.old single.new now turn.new.is_dry }
     {
         'accepts: for i in 0..self.listeners.len() {
             self.accept_from(rt, net, single, i, now, turn);
@@ -347,10 +331,10 @@ impl<L: Link> LinkEnds<L> {
         requires inside { i < length self.old.listeners }
         requires listens { AllByRecursion (IsListener (N.seen net.old)) self.old.listeners }
         requires dry { IsDry turn.old.is_dry single.old }
-        ensures { HasAsked L.seen 1 16 self.old self.new (N.seen net.old) (N.seen net.new) single.old single.new now turn.new.is_dry }
+        ensures { HasAskedOne L.seen i self.old self.new (N.seen net.old) (N.seen net.new) single.old single.new now turn.new.is_dry }
     {
         'links: for _ in 0..LINKS_A_TURN {
-            if self.newcomers.len() >= MOST_NEWCOMERS {
+            if self.is_full(i) {
                 return;
             }
             if !self.accept_one(rt, net, single, i, now, turn) {
@@ -375,6 +359,7 @@ impl<L: Link> LinkEnds<L> {
         requires dry { IsDry turn.old.is_dry single.old }
         ensures in_turn { TurnGoesOn L.seen now self.old self.new (N.seen net.old) (N.seen net.new) single.old single.new 0 0 }
         ensures few { length self.new.newcomers + (N.seen net.old).opened ≤ length self.old.newcomers + (N.seen net.new).opened }
+        ensures kept { KeepsFrom (Some i) self.old.newcomers self.new.newcomers }
         ensures asks { AsksNet (N.seen net.old) (N.seen net.new) }
         ensures none { result ≡ false → CanRise (N.seen net.new).idles → CanRise (N.seen net.new).faults → asks_of (N.seen net.old) + 16 ≤ asks_of (N.seen net.new) }
         ensures dialers { AreSameDialers self.old.dialers self.new.dialers }
@@ -389,10 +374,11 @@ impl<L: Link> LinkEnds<L> {
     {
         match net.accept(self.listeners[i].at) {
             Linked::NotYet => false,
+            Linked::Begun => false,
             Linked::Failed => false,
             Linked::Got(link) => {
                 let way = self.serving(i);
-                self.meet_newcomer(rt, net, single, link, way, now, turn);
+                self.meet_newcomer(rt, net, single, link, way, Some(i), now, turn);
                 true
             }
         }
@@ -422,7 +408,7 @@ impl<L: Link> LinkEnds<L> {
         ensures asked { DialedStand L.seen now self.old self.new (N.seen net.old) (N.seen net.new) single.old single.new }
         ensures quietly { Quietly single.old single.new }
         ensures no_lane { NoLane single.old single.new }
-        ensures few { length self.new.newcomers ≤ length self.old.newcomers + length self.old.dialers }
+        ensures few { KeepsOwn self.old.newcomers self.new.newcomers × (dialed_of self.new.newcomers ≤ dialed_of self.old.newcomers + length self.old.dialers) }
         ensures same { SameEnds self.old self.new }
         ensures dry { IsDry turn.new.is_dry single.new }
         ensures turns { Turns now (N.seen net.old) (N.seen net.new) self.old.dialers self.new.dialers }
@@ -462,19 +448,22 @@ impl<L: Link> LinkEnds<L> {
         ensures quietly { Quietly single.old single.new }
         ensures no_lane { NoLane single.old single.new }
         ensures few { length self.new.newcomers ≤ length self.old.newcomers + 1 }
+        ensures kept { KeepsFrom None self.old.newcomers self.new.newcomers }
         ensures same { SameEnds self.old self.new }
         ensures dry { IsDry turn.new.is_dry single.new }
         ensures known { KnowsLinks (N.seen net.old).opened (N.seen net.new) self.new.dialers }
         ensures young { AreYoung now 0 self.old.newcomers → AreYoung now 0 self.new.newcomers }
         ensures waited { WaitOn L.seen (N.seen net.old).opened self.old.newcomers self.new.newcomers }
     {
-        match net.dial(&self.dialers[i].addr) {
-            Linked::NotYet => self.dialers[i].dialed(now, None),
-            Linked::Failed => self.dialers[i].dialed(now, None),
+        let said = net.dial(&self.dialers[i].addr);
+        self.dialers[i].dialed(now, &said);
+        match said {
+            Linked::NotYet => (),
+            Linked::Begun => (),
+            Linked::Failed => (),
             Linked::Got(link) => {
-                self.dialers[i].dialed(now, Some(link.place()));
                 let way = self.asking(i);
-                self.meet_newcomer(rt, net, single, link, way, now, turn);
+                self.meet_newcomer(rt, net, single, link, way, None, now, turn);
             }
         }
     }
@@ -496,14 +485,17 @@ impl<L: Link> LinkEnds<L> {
     fn fitting(&self, way: Result<Way, NoMemory>) -> Result<Way, NoMemory>
         ensures { FitsIn way result self.now }
     {
-        if self.newcomers.len() < ROOM {
+        let Some(room) = room_for(self.listeners.len()) else {
+            return Err(NoMemory);
+        };
+        if self.newcomers.len() < room {
             way
         } else {
             Err(NoMemory)
         }
     }
 
-    // A link that was handed out just now is met, and greeted. Its way is missing when out of memory.
+    // A link that was handed out just now, by this listener, is met, and greeted. Its way is missing when out of memory.
     fn meet_newcomer<R: Wait, N: Net<L = L>, P: Proto>(
         &mut self,
         rt: &R,
@@ -511,10 +503,12 @@ impl<L: Link> LinkEnds<L> {
         single: &mut Single<P, EndWire<L>>,
         link: L,
         way: Result<Way, NoMemory>,
+        from: Option<usize>,
         now: Tick,
         turn: &mut EndsTurn,
     )
         requires fresh { HasArrived L.seen now link way self.old (N.seen net.old) single.old }
+        requires from { IsFromOne (length self.old.listeners) from }
         requires dry { IsDry turn.old.is_dry single.old }
         ensures in_turn { MeetsInTurn L.seen now link way self.old self.new (N.seen net.old) (N.seen net.new) single.old single.new }
         ensures few { length self.new.newcomers ≤ length self.old.newcomers + 1 }
@@ -523,11 +517,12 @@ impl<L: Link> LinkEnds<L> {
         ensures dry { IsDry turn.new.is_dry single.new }
         ensures young { AreYoung now 0 self.old.newcomers → AreYoung now 0 self.new.newcomers }
         ensures waited { WaitOn L.seen (L.seen link).place self.old.newcomers self.new.newcomers }
+        ensures kept { KeepsFrom from self.old.newcomers self.new.newcomers }
     {
         let place = link.place();
         single.met(rt, place);
         let way = self.fitting(way);
-        match newcomer_over(self.alloc, link, self.role, way, now) {
+        match newcomer_over(self.alloc, link, self.role, way, now, from) {
             Ok(newcomer) => self.greet(rt, net, single, newcomer, now, turn),
             Err((NoMemory, link)) => {
                 miss(rt, net, single, link, Miss::NoMemory);

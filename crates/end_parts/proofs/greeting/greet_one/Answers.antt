@@ -31,7 +31,7 @@ pub returns-in-Stays-clause-stands : goal.returns-in-Stays-clause-stands
 returns-in-Stays-clause-stands g c =
     λ start ns k s.
     let n = c.args.newcomer in
-    let m : Newcomer g.row.N-L.Denot = record { opening = c.greet-progress.new.self; met = n.met } in
+    let m : Newcomer g.row.N-L.Denot = record { opening = c.greet-progress.new.self; met = n.met; from = n.from } in
     let e = c.greet-progress.ensures in
     let waits = subst (λ (x : Progress). CameTo g.N.L.Link.seen x (g.N.L.Link.seen n.opening.link) c.greet-progress.new.self) c.in-Stays.ensures.0 e.opened.came_to in
     stays_behind g.N.L.Link.seen c.args.single.now.setting start c.args.single.now.seen ns k (g.N.Net.seen c.args.net.now) n m e.later e.opened.same refl waits.0 waits.1 waits.2 (has_waited g.N.L.Link.seen (g.N.L.Link.seen n.opening.link) c.greet-progress.new.self waits.3) s

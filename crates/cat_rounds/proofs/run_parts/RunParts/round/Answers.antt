@@ -18,7 +18,7 @@ use Rattle.cat_rounds.proofs.run_parts.RunParts.round.Goals as goal
 -- ---- The tick, and the turn of the ends
 
 -- what the round asks for, of the parts in use
-asks : (g : Over) (c : After-tick g) → MayRound g.L.Link.seen (g.N.Net.seen c.args.net.now) (record { single = c.self.inside.single; ends = c.self.inside.ends; player = c.self.inside.player; inproc = c.self.inside.inproc }) c.args.now
+asks : (g : Over) (c : After-tick g) → MayRound g.L.Link.seen (g.N.Net.seen c.args.net.now) (record { single = c.self.inside.single; ends = c.self.inside.ends; player = c.self.inside.player; inproc = c.self.inside.inproc; still = c.self.inside.still }) c.args.now
 asks g c =
     subst (λ (v : RunPartsView _). MayRound g.L.Link.seen (g.N.Net.seen c.args.net.now) v c.args.now) (sym c.self.view_is) (record { stands = c.requires.stands; may_tick = c.requires.may_tick; later = c.requires.later; late = c.requires.late })
 
@@ -322,23 +322,23 @@ pub returns-in-Rests-clause-same : goal.returns-in-Rests-clause-same
 returns-in-Rests-clause-same g c = rw (← c.self.view_is) (
     let t = c.turn-turn.ensures in
     let y = c.play-going.ensures in
-    same_played (record { single = c.self.inside.single; ends = c.self.inside.ends; player = c.self.inside.player; inproc = c.self.inside.inproc }) c.play-going.new.self c.turn-turn.new.single c.turn-turn.new.self t.same (t.quietly.setting ∙ c.tick.ensures.turn.setting) y.same.1 y.same.0 y.goes_on.setting)
+    same_played (record { single = c.self.inside.single; ends = c.self.inside.ends; player = c.self.inside.player; inproc = c.self.inside.inproc; still = c.self.inside.still }) c.play-going.new.self c.turn-turn.new.single c.turn-turn.new.self t.same (t.quietly.setting ∙ c.tick.ensures.turn.setting) y.same.1 y.same.0 y.goes_on.setting)
 
 pub returns-in-OutFault-clause-same : goal.returns-in-OutFault-clause-same
 returns-in-OutFault-clause-same g c = rw (← c.self.view_is) (
     let t = c.turn-turn.ensures in
     let y = c.play-going.ensures in
-    same_played (record { single = c.self.inside.single; ends = c.self.inside.ends; player = c.self.inside.player; inproc = c.self.inside.inproc }) c.play-going.new.self c.turn-turn.new.single c.turn-turn.new.self t.same (t.quietly.setting ∙ c.tick.ensures.turn.setting) y.same.1 y.same.0 y.goes_on.setting)
+    same_played (record { single = c.self.inside.single; ends = c.self.inside.ends; player = c.self.inside.player; inproc = c.self.inside.inproc; still = c.self.inside.still }) c.play-going.new.self c.turn-turn.new.single c.turn-turn.new.self t.same (t.quietly.setting ∙ c.tick.ensures.turn.setting) y.same.1 y.same.0 y.goes_on.setting)
 
 pub returns-in-NoMemory-clause-same : goal.returns-in-NoMemory-clause-same
 returns-in-NoMemory-clause-same g c = rw (← c.self.view_is) (
     let t = c.turn-turn.ensures in
     let y = c.play-going.ensures in
-    same_played (record { single = c.self.inside.single; ends = c.self.inside.ends; player = c.self.inside.player; inproc = c.self.inside.inproc }) c.play-going.new.self c.turn-turn.new.single c.turn-turn.new.self t.same (t.quietly.setting ∙ c.tick.ensures.turn.setting) y.same.1 y.same.0 y.goes_on.setting)
+    same_played (record { single = c.self.inside.single; ends = c.self.inside.ends; player = c.self.inside.player; inproc = c.self.inside.inproc; still = c.self.inside.still }) c.play-going.new.self c.turn-turn.new.single c.turn-turn.new.self t.same (t.quietly.setting ∙ c.tick.ensures.turn.setting) y.same.1 y.same.0 y.goes_on.setting)
 
 pub returns-in-Over-clause-same : goal.returns-in-Over-clause-same
 returns-in-Over-clause-same g c = rw (← c.self.view_is) (
     let t = c.turn-turn.ensures in
     let y = c.play-going.ensures in
     let d = c.drain-drained.ensures in
-    same_played (record { single = c.self.inside.single; ends = c.self.inside.ends; player = c.self.inside.player; inproc = c.self.inside.inproc }) c.drain-drained.new.self c.turn-turn.new.single c.turn-turn.new.self t.same (t.quietly.setting ∙ c.tick.ensures.turn.setting) (d.same.1 ∙ y.same.1) (ap (λ (x : Player). x.script) d.same.0 ∙ y.same.0) (d.goes_on.setting ∙ y.goes_on.setting))
+    same_played (record { single = c.self.inside.single; ends = c.self.inside.ends; player = c.self.inside.player; inproc = c.self.inside.inproc; still = c.self.inside.still }) c.drain-drained.new.self c.turn-turn.new.single c.turn-turn.new.self t.same (t.quietly.setting ∙ c.tick.ensures.turn.setting) (d.same.1 ∙ y.same.1) (ap (λ (x : Player). x.script) d.same.0 ∙ y.same.0) (d.goes_on.setting ∙ y.goes_on.setting))

@@ -43,7 +43,7 @@ dials-preserved g c =
     let e = c.dial_one.ensures in
     dialing_next g.L.Link.seen c.dials.i c.args.self.now c.dials.self (g.N.Net.seen c.args.net.now) (g.N.Net.seen c.dials.net) c.args.single.now c.dials.single c.args.now fits c.dials.turn.is_dry c.dials.invariant c.dial_one.new.self (g.N.Net.seen c.dial_one.new.net) c.dial_one.new.single c.dial_one.new.turn.is_dry
     (λ q at. subst (IsDue c.args.now) (is_there c.self-in-dials.inside.dialers.items c.dials.self.dialers c.dials.i c.index.result.now q there below c.index.ensures at) (c.is_due.ensures.0 (subst IsTrue (sym c.if-not-is_due.false) refl)))
-    e.in_turn e.asks e.dialed e.redials e.quietly e.no_lane e.few e.same e.dry e.known e.young e.waited
+    e.in_turn e.asks e.dialed e.redials e.quietly e.no_lane e.kept e.same e.dry e.known e.young e.waited
 
 pub returns-clause-asked : goal.returns-clause-asked
 returns-clause-asked g c start i_in stands =
@@ -78,8 +78,7 @@ returns-clause-no_lane g c = c.dials.invariant.lanes
 
 pub returns-clause-few : goal.returns-clause-few
 returns-clause-few g c =
-    let old = ap (λ (e : LinkEndsView g.row.L.Denot). length e.dialers) c.self.view_is in
-    omega (arith, c.dials.invariant.few, old, c.dials.auto.i-end, c.len-i-end.ensures, c.self.inside.dialers.ok.0)
+    let old = ap (λ (e : LinkEndsView g.row.L.Denot). length e.dialers) c.self.view_is in (c.dials.invariant.own, omega (arith, c.dials.invariant.dialed, old, c.dials.auto.i-end, c.len-i-end.ensures, c.self.inside.dialers.ok.0))
 
 pub returns-clause-waited : goal.returns-clause-waited
 returns-clause-waited g c = c.dials.invariant.waited

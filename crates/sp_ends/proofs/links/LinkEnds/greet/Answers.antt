@@ -1,46 +1,59 @@
 -- The link is behind the others, or with the socket, or back.
-use Rattle.std.proofs.Common.{refl, sym, ap, ◌∙◌, subst, List, [], ◌∷◌, ◌++◌, ℕ, length, length-append, arith}
+use Rattle.std.proofs.Common.{refl, sym, ap, ◌∙◌, subst, List, [], ◌∷◌, ◌++◌, ℕ, length, length-append, arith, inl, inr}
 use Rattle.end_parts.specs.declared.newcomer.Newcomer.{Newcomer}
 use Rattle.end_parts.specs.declared.dialer.Dialer.{Dialer}
 use Rattle.end_parts.specs.EndViews.{LinkEndsView}
 use Rattle.end_parts.specs.RunLinks.{LinksStand}
 use Rattle.sp_ends.specs.Freeing.{AreSameDialers}
-use Rattle.sp_ends.specs.EndsTurns.{AreYoung, AreWaitingBehind, addrs_of}
+use Rattle.sp_ends.specs.EndsTurns.{AreYoung, AreWaitingBehind}
+use Rattle.sp_ends.specs.Listening.{IsFromOne}
 use Rattle.sp_ends.proofs.Young.{young_more}
 use Rattle.sp_ends.proofs.Waited.{waited_since, waiting_more}
 use Rattle.sp_ends.proofs.links.LinkEnds.greet.Goals as goal
 use Rattle.sp_ends.proofs.FreedDialers.{frees_none, frees_lost}
 use Rattle.end_parts.specs.NewcomerSteps.{GivesOneBack}
-use Rattle.sp_ends.proofs.TurnParts.{turn_after, ends_none, ends_lost, newcomers_lost, same_dialers}
+use Rattle.sp_ends.proofs.TurnParts.{turn_after, ends_none, ends_others, ends_lost, newcomers_lost, same_dialers}
+
+pub keep-requires : goal.keep-requires
+keep-requires g c = record { room = c.requires.room; from = subst (IsFromOne (length c.args.self.now.listeners)) (sym c.in-Stays.ensures.from) c.requires.from }
 
 pub returns-in-Stays-clause-in_turn : goal.returns-in-Stays-clause-in_turn
 returns-in-Stays-clause-in_turn g c =
     λ start k i.
-    let before = ap (λ (e : LinkEndsView g.row.L.Denot). e.newcomers) c.self.view_is in
-    let items = c.push_back_reserved.ensures.items in
-    let whole = ap (λ (ns : List (Newcomer g.row.L.Denot)). ns ++ c.in-Stays.newcomer ∷ []) (sym before) ∙ sym items in
-    let long = ap length whole in
-    let room = c.requires.room in
-    turn_after g.L.Link.seen start c.args.newcomer c.args.self.now _ (g.N.Net.seen c.args.net.now) (g.N.Net.seen c.greet_one.new.net) c.args.now k k c.args.single.now c.greet_one.new.single
-    (record { role = ap (λ (e : LinkEndsView g.row.L.Denot). e.role) c.self.view_is; dice = ap (λ (e : LinkEndsView g.row.L.Denot). e.dice) c.self.view_is; listeners = ap (λ (e : LinkEndsView g.row.L.Denot). e.listeners) c.self.view_is; dials = ap (λ (e : LinkEndsView g.row.L.Denot). addrs_of e.dialers) c.self.view_is })
-    c.in-Stays.ensures.quietly c.in-Stays.ensures.sound (omega (arith, long, room, length-append c.args.self.now.newcomers (c.in-Stays.newcomer ∷ []))) i
-    (subst (λ (ns : List (Newcomer g.row.L.Denot)). LinksStand g.L.Link.seen c.greet_one.new.single.setting start c.greet_one.new.single.seen (g.N.Net.seen c.greet_one.new.net) ns k) whole (c.in-Stays.ensures.stands start c.args.self.now.newcomers k i.links))
+    let is = c.keep.ensures in
+    let whole = ap (λ (e : LinkEndsView g.row.L.Denot). e.newcomers) is in
+    turn_after g.L.Link.seen start c.args.newcomer c.args.self.now c.keep.new.self (g.N.Net.seen c.args.net.now) (g.N.Net.seen c.greet_one.new.net) c.args.now k k c.args.single.now c.greet_one.new.single (ends_others c.args.self.now c.keep.new.self (c.args.self.now.newcomers ++ c.in-Stays.newcomer ∷ []) is)
+    c.in-Stays.ensures.quietly c.in-Stays.ensures.sound i
+    (subst (λ (ns : List (Newcomer g.row.L.Denot)). LinksStand g.L.Link.seen c.greet_one.new.single.setting start c.greet_one.new.single.seen (g.N.Net.seen c.greet_one.new.net) ns k) (sym whole) (c.in-Stays.ensures.stands start c.args.self.now.newcomers k i.links))
 
 pub returns-in-Stays-clause-serves : goal.returns-in-Stays-clause-serves
 returns-in-Stays-clause-serves g c =
+    let is = c.keep.ensures in
     record {
-      ends = record { role = ap (λ (e : LinkEndsView g.row.L.Denot). e.role) c.self.view_is; dice = ap (λ (e : LinkEndsView g.row.L.Denot). e.dice) c.self.view_is; listeners = ap (λ (e : LinkEndsView g.row.L.Denot). e.listeners) c.self.view_is; dials = ap (λ (e : LinkEndsView g.row.L.Denot). addrs_of e.dialers) c.self.view_is };
-      dialers = subst (λ (ds : List Dialer). AreSameDialers c.args.self.now.dialers ds) (sym (ap (λ (e : LinkEndsView g.row.L.Denot). e.dialers) c.self.view_is)) (same_dialers c.args.self.now.dialers);
+      ends = ends_others c.args.self.now c.keep.new.self (c.args.self.now.newcomers ++ c.in-Stays.newcomer ∷ []) is;
+      dialers = subst (λ (ds : List Dialer). AreSameDialers c.args.self.now.dialers ds) (sym (ap (λ (e : LinkEndsView g.row.L.Denot). e.dialers) is)) (same_dialers c.args.self.now.dialers);
       counts = c.in-Stays.ensures.counts;
       quietly = c.in-Stays.ensures.quietly;
       lanes = c.in-Stays.ensures.no_lane;
     }
 
+pub returns-in-Stays-clause-kept : goal.returns-in-Stays-clause-kept
+returns-in-Stays-clause-kept g c = inr (c.in-Stays.newcomer, c.in-Stays.ensures.from, ap (λ (e : LinkEndsView g.row.L.Denot). e.newcomers) c.keep.ensures)
+
+pub returns-in-Up-clause-kept : goal.returns-in-Up-clause-kept
+returns-in-Up-clause-kept g c = inl refl
+
+pub returns-in-Missed-clause-kept : goal.returns-in-Missed-clause-kept
+returns-in-Missed-clause-kept g c = inl (newcomers_lost c.args.self.now c.lost.new.self c.lost.ensures.same)
+
+pub returns-in-Stays-clause-few : goal.returns-in-Stays-clause-few
+returns-in-Stays-clause-few g c =
+    let long = ap (λ (e : LinkEndsView g.row.L.Denot). length e.newcomers) c.keep.ensures in omega (arith, long, length-append c.args.self.now.newcomers (c.in-Stays.newcomer ∷ []))
+
 pub returns-in-Up-clause-in_turn : goal.returns-in-Up-clause-in_turn
 returns-in-Up-clause-in_turn g c =
     λ start k i.
-    let room = c.requires.room in
-    turn_after g.L.Link.seen start c.args.newcomer c.args.self.now c.args.self.now (g.N.Net.seen c.args.net.now) (g.N.Net.seen c.greet_one.new.net) c.args.now k k c.args.single.now c.greet_one.new.single (ends_none c.args.self.now) c.in-Up.ensures.quietly c.in-Up.ensures.sound (omega (arith, room)) i (c.in-Up.ensures.stands start c.args.self.now.newcomers k i.links)
+    turn_after g.L.Link.seen start c.args.newcomer c.args.self.now c.args.self.now (g.N.Net.seen c.args.net.now) (g.N.Net.seen c.greet_one.new.net) c.args.now k k c.args.single.now c.greet_one.new.single (ends_none c.args.self.now) c.in-Up.ensures.quietly c.in-Up.ensures.sound i (c.in-Up.ensures.stands start c.args.self.now.newcomers k i.links)
 
 pub returns-in-Up-clause-serves : goal.returns-in-Up-clause-serves
 returns-in-Up-clause-serves g c =
@@ -49,10 +62,8 @@ returns-in-Up-clause-serves g c =
 pub returns-in-Missed-clause-in_turn : goal.returns-in-Missed-clause-in_turn
 returns-in-Missed-clause-in_turn g c =
     λ start k i.
-    let room = c.requires.room in
     let same = newcomers_lost c.args.self.now c.lost.new.self c.lost.ensures.same in
-    let long = ap length same in
-    turn_after g.L.Link.seen start c.args.newcomer c.args.self.now c.lost.new.self (g.N.Net.seen c.args.net.now) (g.N.Net.seen c.greet_one.new.net) c.args.now k k c.args.single.now c.greet_one.new.single (ends_lost c.args.self.now c.lost.new.self c.lost.ensures.same) c.in-Missed.ensures.quietly c.in-Missed.ensures.sound (omega (arith, room, long)) i
+    turn_after g.L.Link.seen start c.args.newcomer c.args.self.now c.lost.new.self (g.N.Net.seen c.args.net.now) (g.N.Net.seen c.greet_one.new.net) c.args.now k k c.args.single.now c.greet_one.new.single (ends_lost c.args.self.now c.lost.new.self c.lost.ensures.same) c.in-Missed.ensures.quietly c.in-Missed.ensures.sound i
     (subst (λ (ns : List (Newcomer g.row.L.Denot)). LinksStand g.L.Link.seen c.greet_one.new.single.setting start c.greet_one.new.single.seen (g.N.Net.seen c.greet_one.new.net) ns k) (sym same) (c.in-Missed.ensures.stands start c.args.self.now.newcomers k i.links))
 
 pub returns-in-Missed-clause-serves : goal.returns-in-Missed-clause-serves
@@ -62,7 +73,7 @@ returns-in-Missed-clause-serves g c =
 pub returns-in-Stays-clause-frees : goal.returns-in-Stays-clause-frees
 returns-in-Stays-clause-frees g c =
     let o = c.in-Stays.ensures.counts.opened in
-    frees_none c.args.now (g.N.Net.seen c.args.net.now) (g.N.Net.seen c.greet_one.new.net) c.args.self.now.dialers _ (omega (arith, o)) c.in-Stays.ensures.back (ap (λ (e : LinkEndsView g.row.L.Denot). e.dialers) c.self.view_is)
+    frees_none c.args.now (g.N.Net.seen c.args.net.now) (g.N.Net.seen c.greet_one.new.net) c.args.self.now.dialers _ (omega (arith, o)) c.in-Stays.ensures.back (ap (λ (e : LinkEndsView g.row.L.Denot). e.dialers) c.keep.ensures)
 
 pub returns-in-Up-clause-frees : goal.returns-in-Up-clause-frees
 returns-in-Up-clause-frees g c =
@@ -75,9 +86,7 @@ returns-in-Missed-clause-frees g c =
 
 pub returns-in-Stays-clause-young : goal.returns-in-Stays-clause-young
 returns-in-Stays-clause-young g c = λ k a.
-    let before = ap (λ (e : LinkEndsView g.row.L.Denot). e.newcomers) c.self.view_is in
-    let items = c.push_back_reserved.ensures.items in
-    let whole = ap (λ (ns : List (Newcomer g.row.L.Denot)). ns ++ c.in-Stays.newcomer ∷ []) (sym before) ∙ sym items in
+    let whole = sym (ap (λ (e : LinkEndsView g.row.L.Denot). e.newcomers) c.keep.ensures) in
     subst (λ (ns : List (Newcomer g.row.L.Denot)). AreYoung c.args.now k ns) whole (young_more c.args.now k c.args.self.now.newcomers c.in-Stays.newcomer a c.in-Stays.ensures.young)
 
 pub returns-in-Missed-clause-young : goal.returns-in-Missed-clause-young
@@ -86,9 +95,7 @@ returns-in-Missed-clause-young g c = λ k a.
 
 pub returns-in-Stays-clause-waited : goal.returns-in-Stays-clause-waited
 returns-in-Stays-clause-waited g c = λ first opened k known a.
-    let before = ap (λ (e : LinkEndsView g.row.L.Denot). e.newcomers) c.self.view_is in
-    let items = c.push_back_reserved.ensures.items in
-    let whole = ap (λ (ns : List (Newcomer g.row.L.Denot)). ns ++ c.in-Stays.newcomer ∷ []) (sym before) ∙ sym items in
+    let whole = sym (ap (λ (e : LinkEndsView g.row.L.Denot). e.newcomers) c.keep.ensures) in
     subst (λ (ns : List (Newcomer g.row.L.Denot)). AreWaitingBehind g.L.Link.seen first opened k ns) whole (waiting_more g.L.Link.seen first opened k c.args.self.now.newcomers c.in-Stays.newcomer (waited_since g.L.Link.seen first opened c.args.newcomer c.in-Stays.newcomer known c.in-Stays.ensures.waited) a)
 
 pub returns-in-Up-clause-waited : goal.returns-in-Up-clause-waited

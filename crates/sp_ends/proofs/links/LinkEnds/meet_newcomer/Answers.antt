@@ -1,5 +1,5 @@
 -- A link that was handed out is met, and greeted; or it is missed at once.
-use Rattle.std.proofs.Common.{◌≡◌, ◌≤◌, ◌<◌, sym, ap, ◌∙◌, subst, List, ℕ, length, arith, inr, Result, Ok, Err, IfOk, Some}
+use Rattle.std.proofs.Common.{◌≡◌, ◌≤◌, ◌<◌, sym, ap, ◌∙◌, subst, List, ℕ, length, arith, inl, inr, Result, Ok, Err, IfOk, Option, Some}
 use Rattle.sp_base.specs.Views.{LinkView, NetView}
 use Rattle.sp_base.specs.declared.error.NoMemory.{NoMemory}
 use Rattle.sp_history.specs.declared.entry.Miss.TheVariants as misses
@@ -11,6 +11,7 @@ use Rattle.end_parts.specs.EndViews.{Beginning, LinkEndsView}
 use Rattle.end_parts.specs.RunLinks.{HandStands, LinksStand, IsCauseOf}
 use Rattle.end_parts.specs.NewcomerSteps.{GivesOneBack}
 use Rattle.link_opening.specs.Origins.{Origins}
+use Rattle.sp_ends.specs.Listening.{room_for, IsFromOne, KeepsFrom}
 use Rattle.sp_ends.specs.EndsTurns.{InTurn, Arrives, AreYoung, AreWaitingBehind, FitsIn}
 use Rattle.end_parts.proofs.Turns.{lanes_both, quiet_both}
 use Rattle.sp_ends.proofs.TurnParts.{turn_on, ends_lost, newcomers_lost}
@@ -27,7 +28,7 @@ fitting_arrives : {L : Type 0} (o : Origins) (link : LinkView) (way result : Res
 fitting_arrives o link way result ends a b f r = record { begins = r.begins; is = fitting_is way result ends r.begins f r.is; known = r.known; can = r.can; handed = r.handed }
 
 -- where it is there, there is room
-fitting_room : {L : Type 0} (way result : Result Way NoMemory) (ends : LinkEndsView L) (begins : Way) → FitsIn way result ends → result ≡ Ok begins → length ends.newcomers < 320
+fitting_room : {L : Type 0} (way result : Result Way NoMemory) (ends : LinkEndsView L) (begins : Way) → FitsIn way result ends → result ≡ Ok begins → length ends.newcomers < room_for (length ends.listeners)
 fitting_room way (Ok w) ends begins f is = f.1
 fitting_room way (Err e) ends begins f is = let no : Err e ≡ Ok begins = is in cc
 
@@ -42,10 +43,13 @@ pub greet-requires-clause-in_turn : goal.greet-requires-clause-in_turn
 greet-requires-clause-in_turn g c =
     let f = c.requires.fresh in
     let n = c.in-Ok.ensures in
-    (f.0, 0, newcomer_met g.L.Link.seen f.0 f.1 (g.N.Net.seen c.args.net.now) c.args.self.now c.args.single.now c.met.new.self c.args.now c.in-Ok.newcomer c.args.link c.place-place.result c.self.inside.role c.fitting-way.result n.0 c.place-place.ensures n.1 n.2 (ap (λ (e : LinkEndsView g.row.L.Denot). e.role) c.self.view_is) c.met.ensures.turn (fitting_arrives f.0.origins (g.L.Link.seen c.args.link) c.args.way c.fitting-way.result c.args.self.now f.1 (g.N.Net.seen c.args.net.now) c.fitting-way.ensures f.3) f.2)
+    (f.0, 0, newcomer_met g.L.Link.seen f.0 f.1 (g.N.Net.seen c.args.net.now) c.args.self.now c.args.single.now c.met.new.self c.args.now c.in-Ok.newcomer c.args.link c.place-place.result c.self.inside.role c.fitting-way.result n.0 c.args.from c.place-place.ensures n.1 n.2 (ap (λ (e : LinkEndsView g.row.L.Denot). e.role) c.self.view_is) c.met.ensures.turn (fitting_arrives f.0.origins (g.L.Link.seen c.args.link) c.args.way c.fitting-way.result c.args.self.now f.1 (g.N.Net.seen c.args.net.now) c.fitting-way.ensures f.3) f.2)
 
 pub greet-requires-clause-room : goal.greet-requires-clause-room
 greet-requires-clause-room g c = let n = c.in-Ok.ensures in fitting_room c.args.way c.fitting-way.result c.args.self.now n.0 c.fitting-way.ensures n.1
+
+pub greet-requires-clause-from : goal.greet-requires-clause-from
+greet-requires-clause-from g c = subst (IsFromOne (length c.args.self.now.listeners)) (sym c.in-Ok.ensures.2.from_is) c.requires.from
 
 pub greet-requires-clause-dry : goal.greet-requires-clause-dry
 greet-requires-clause-dry g c = meets_dry c.place-place.result c.args.single.now c.met.new.self c.met.ensures.turn ∙ c.requires.dry
@@ -53,7 +57,7 @@ greet-requires-clause-dry g c = meets_dry c.place-place.result c.args.single.now
 pub returns-in-Ok-clause-in_turn : goal.returns-in-Ok-clause-in_turn
 returns-in-Ok-clause-in_turn g c start before i arrives =
     let n = c.in-Ok.ensures in
-    c.greet.ensures.in_turn start 0 (newcomer_met g.L.Link.seen start before (g.N.Net.seen c.args.net.now) c.args.self.now c.args.single.now c.met.new.self c.args.now c.in-Ok.newcomer c.args.link c.place-place.result c.self.inside.role c.fitting-way.result n.0 c.place-place.ensures n.1 n.2 (ap (λ (e : LinkEndsView g.row.L.Denot). e.role) c.self.view_is) c.met.ensures.turn (fitting_arrives start.origins (g.L.Link.seen c.args.link) c.args.way c.fitting-way.result c.args.self.now before (g.N.Net.seen c.args.net.now) c.fitting-way.ensures arrives) i)
+    c.greet.ensures.in_turn start 0 (newcomer_met g.L.Link.seen start before (g.N.Net.seen c.args.net.now) c.args.self.now c.args.single.now c.met.new.self c.args.now c.in-Ok.newcomer c.args.link c.place-place.result c.self.inside.role c.fitting-way.result n.0 c.args.from c.place-place.ensures n.1 n.2 (ap (λ (e : LinkEndsView g.row.L.Denot). e.role) c.self.view_is) c.met.ensures.turn (fitting_arrives start.origins (g.L.Link.seen c.args.link) c.args.way c.fitting-way.result c.args.self.now before (g.N.Net.seen c.args.net.now) c.fitting-way.ensures arrives) i)
 
 pub returns-in-Ok-clause-serves : goal.returns-in-Ok-clause-serves
 returns-in-Ok-clause-serves g c =
@@ -89,8 +93,15 @@ returns-in-Err-clause-in_turn g c start before i r =
     let in_hand = hand seen start before net c.args.self.now a b c.args.now c.args.link c.in-Err.link c.place-place.result c.args.way c.place-place.ensures c.met.ensures.turn r c.in-Err.ensures i in
     let why = cause seen start before net c.args.self.now a b c.args.now c.args.link c.in-Err.link c.place-place.result c.args.way c.place-place.ensures c.met.ensures.turn r c.in-Err.ensures in
     let links = c.miss.ensures.stands start c.args.self.now.newcomers 0 in_hand why in
-    turn_on seen start c.args.self.now c.lost.new.self before net' c.args.now 0 0 a d (ends_lost c.args.self.now c.lost.new.self c.lost.ensures.same) (quiet_both a b d (meets_quiet c.place-place.result a b c.met.ensures.turn) c.miss.ensures.quietly) c.miss.ensures.sound (let few = i.few in let long = ap length same in omega (arith, few, long)) i
+    turn_on seen start c.args.self.now c.lost.new.self before net' c.args.now 0 0 a d (ends_lost c.args.self.now c.lost.new.self c.lost.ensures.same) (quiet_both a b d (meets_quiet c.place-place.result a b c.met.ensures.turn) c.miss.ensures.quietly) c.miss.ensures.sound i
     (subst (λ (ns : List (Newcomer g.row.L.Denot)). LinksStand seen d.setting start d.seen net' ns 0) (sym same) links)
+
+pub returns-in-Ok-clause-kept : goal.returns-in-Ok-clause-kept
+returns-in-Ok-clause-kept g c =
+    subst (λ (o : Option ℕ). KeepsFrom o c.args.self.now.newcomers c.greet.new.self.newcomers) c.in-Ok.ensures.2.from_is c.greet.ensures.kept
+
+pub returns-in-Err-clause-kept : goal.returns-in-Err-clause-kept
+returns-in-Err-clause-kept g c = inl (newcomers_lost c.args.self.now c.lost.new.self c.lost.ensures.same)
 
 pub returns-in-Err-clause-few : goal.returns-in-Err-clause-few
 returns-in-Err-clause-few g c = let long = ap length (newcomers_lost c.args.self.now c.lost.new.self c.lost.ensures.same) in omega (arith, long)

@@ -13,7 +13,7 @@ pub returns-in_default-clause-in_turn : goal.returns-in_default-clause-in_turn
 returns-in_default-clause-in_turn g c =
     λ start i. let took = c.in_default.ensures.turn in
     turn_on g.L.Link.seen start c.args.self.now c.args.self.now (g.N.Net.seen c.args.net.now) (g.N.Net.seen c.args.net.now) c.args.now (length c.args.self.now.newcomers) (length c.args.self.now.newcomers) c.args.single.now c.take_ended.new.self (ends_none c.args.self.now)
-    (quiet_one _ c.args.single.now c.take_ended.new.self took (settles_play took.turn.entries took.said.1)) (sound_one _ c.args.single.now c.take_ended.new.self took) i.few i
+    (quiet_one _ c.args.single.now c.take_ended.new.self took (settles_play took.turn.entries took.said.1)) (sound_one _ c.args.single.now c.take_ended.new.self took) i
     (settled_stands g.L.Link.seen start c.args.self.now.newcomers (length c.args.self.now.newcomers) _ c.args.single.now c.take_ended.new.self took (g.N.Net.seen c.args.net.now) took.said.1 i.links)
 
 pub returns-in_default-clause-serves : goal.returns-in_default-clause-serves
@@ -39,7 +39,7 @@ returns-clause-in_turn g c =
     let same = newcomers_lost c.args.self.now c.lost.new.self c.lost.ensures.same in
     let stands = taken_stands g.L.Link.seen start c.args.self.now.newcomers (length c.args.self.now.newcomers) _ c.args.single.now c.take_ended.new.self took (g.N.Net.seen c.args.net.now) (g.N.Net.seen c.give_back.new.self) c.in-Some.pipe-1-given.0.0.pipe (g.L.Link.seen c.in-Some-leave_wire.link) c.give_back.ensures left.is_place left.no_lane left.off left.is_shut left.asked left.carries took.said.2 i.links in
     turn_on g.L.Link.seen start c.args.self.now c.lost.new.self (g.N.Net.seen c.args.net.now) (g.N.Net.seen c.give_back.new.self) c.args.now (length c.args.self.now.newcomers) (length c.lost.new.self.newcomers) c.args.single.now c.take_ended.new.self (ends_lost c.args.self.now c.lost.new.self c.lost.ensures.same)
-    (quiet_one _ c.args.single.now c.take_ended.new.self took (first_play _ took.turn took.said.2 refl)) (sound_one _ c.args.single.now c.take_ended.new.self took) (let few = i.few in let long = ap length same in omega (arith, few, long)) i
+    (quiet_one _ c.args.single.now c.take_ended.new.self took (first_play _ took.turn took.said.2 refl)) (sound_one _ c.args.single.now c.take_ended.new.self took) i
     (subst (λ (ns : List (Newcomer g.row.L.Denot)). LinksStand g.L.Link.seen c.take_ended.new.self.setting start c.take_ended.new.self.seen (g.N.Net.seen c.give_back.new.self) ns (length ns)) (sym same) stands)
 
 pub returns-clause-serves : goal.returns-clause-serves
@@ -76,7 +76,7 @@ pub returns-in_default-leave_wire-clause-in_turn : goal.returns-in_default-leave
 returns-in_default-leave_wire-clause-in_turn g c =
     λ start i. let took = c.in-Some.ensures.turn in
     turn_on g.L.Link.seen start c.args.self.now c.args.self.now (g.N.Net.seen c.args.net.now) (g.N.Net.seen c.args.net.now) c.args.now (length c.args.self.now.newcomers) (length c.args.self.now.newcomers) c.args.single.now c.take_ended.new.self (ends_none c.args.self.now)
-    (quiet_one _ c.args.single.now c.take_ended.new.self took (first_play _ took.turn took.said.2 refl)) (sound_one _ c.args.single.now c.take_ended.new.self took) i.few i
+    (quiet_one _ c.args.single.now c.take_ended.new.self took (first_play _ took.turn took.said.2 refl)) (sound_one _ c.args.single.now c.take_ended.new.self took) i
     (lane_taken g.L.Link.seen start c.args.self.now.newcomers (length c.args.self.now.newcomers) _ c.args.single.now c.take_ended.new.self took (g.N.Net.seen c.args.net.now) c.in-Some.pipe-1-given.0.0.pipe (lane_left g.L.Link.seen c.args.single.now.setting start (g.N.Net.seen c.args.net.now) c.args.single.now.seen c.in-Some.pipe-1-given.0.0.pipe c.in-Some.pipe-1-given.0.0.why c.in-Some.pipe-1-given.0.0.wire i.links.kept took.said.1 c.in_default-leave_wire.ensures) took.said.2 i.links)
 
 pub returns-in_default-leave_wire-clause-serves : goal.returns-in_default-leave_wire-clause-serves
