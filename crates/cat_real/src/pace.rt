@@ -1,5 +1,6 @@
 //! A pace by the clock.
 ghost use Rattle.std.specs.Prelude.{◌≡◌, ◌-◌, ◌^◌, false, IfOk};
+ghost use Rattle.cat_real.specs.Real.{pace_view, RestsOnly};
 
 use crate::wake::Wakes;
 use mio::{Events, Poll};
@@ -22,7 +23,7 @@ const QUIET_RESTS: u32 = 100;
 const IDLE_REST: u64 = 10;
 
 /// A pace that rests where nothing moved, for a millisecond or until a socket of its registry is ready, with 2^64 - 1
-/// turns. After a hundred rests in a row that no socket ended it rests for up to ten milliseconds. Its ticks are
+/// turns. It doesn't rest where a link said that nothing is there and may have more (`MOST`). After a hundred rests in a row that no socket ended it rests for up to ten milliseconds. Its ticks are
 /// milliseconds since it was made.
 #[derive(Drop)]
 pub struct RealPace<R: Clock + Drop> {
@@ -64,23 +65,64 @@ impl<R: Clock + Drop> RealPace<R> {
     pub fn registry(&self) -> io::Result<Wakes> {
         self.wakes.share()
     }
+
+    /// Rests for at most this many milliseconds, or until a socket is ready or a link has more than it gave, without a
+    /// turn. Returns whether one was; fails where the clock does.
+    pub fn rest(&mut self, most: u64) -> io::Result<bool>
+        ensures { RestsOnly (pace_view self.old.left self.old.latest self.old.over) (pace_view self.new.left self.new.latest self.new.over) }
+    {
+        let woken = self.wait(most);
+        self.read_clock()?;
+        Ok(woken)
+    }
+
+    /// The last tick.
+    pub(crate) fn now(&self) -> u64 {
+        self.latest
+    }
+
+    // Waits for so many milliseconds, or until a socket is ready. Whether one is, or a link had more than it gave.
+    fn wait(&mut self, most: u64) -> bool
+        ensures { RestsOnly (pace_view self.old.left self.old.latest self.old.over) (pace_view self.new.left self.new.latest self.new.over) }
+    {
+        let more = self.wakes.take_more();
+        let most = if more { 0 } else { most };
+        let time = Duration::from_millis(most);
+        match self.poll.poll(&mut self.events, Some(time)) {
+            Ok(()) => self.wakes.note(&self.events) || more,
+            Err(_) => {
+                self.wakes.note_all();
+                thread::sleep(&self.rt, time);
+                more
+            }
+        }
+    }
+
+    // The last tick is now.
+    fn read_clock(&mut self) -> io::Result<()>
+        ensures { RestsOnly (pace_view self.old.left self.old.latest self.old.over) (pace_view self.new.left self.new.latest self.new.over) }
+    {
+        let since = self.start.elapsed(&self.rt)?;
+        let now = u64::try_from(since.as_millis()).unwrap_or(u64::MAX);
+        self.latest = self.latest.max(now);
+        self.wakes.set_tick(self.latest);
+        Ok(())
+    }
 }
 
-// So many milliseconds, or until a socket is ready; whether one is.
-fn rest<R: Clock>(rt: &R, poll: &mut Poll, events: &mut Events, wakes: &Wakes, most: u64) -> bool {
-    let time = Duration::from_millis(most);
-    match poll.poll(events, Some(time)) {
-        Ok(()) => wakes.note(events),
-        Err(_) => {
-            wakes.note_all();
-            thread::sleep(rt, time);
-            false
-        }
+// For how long a pace rests at most.
+fn longest_rest(moved: bool, quiet: u32) -> u64 {
+    if moved {
+        0
+    } else if quiet < QUIET_RESTS {
+        REST
+    } else {
+        IDLE_REST
     }
 }
 
 impl<R: Clock + Drop> Pace for RealPace<R> {
-    ghost seen = { λ p. record { left = p.left; latest = p.latest; is_over = p.over } };
+    ghost seen = { λ p. pace_view p.left p.latest p.over };
 
     fn turn(&mut self, moved: bool) -> Paced {
         if self.left == 0 {
@@ -88,29 +130,13 @@ impl<R: Clock + Drop> Pace for RealPace<R> {
             return Paced::Over;
         }
         self.left -= 1;
-        let most = if moved {
-            0
-        } else if self.quiet < QUIET_RESTS {
-            REST
-        } else {
-            IDLE_REST
-        };
-        let woken = rest(
-            &self.rt,
-            &mut self.poll,
-            &mut self.events,
-            &self.wakes,
-            most,
-        );
+        let woken = self.wait(longest_rest(moved, self.quiet));
         if moved || woken {
             self.quiet = 0;
         } else {
             self.quiet = self.quiet.saturating_add(1);
         }
-        if let Ok(since) = self.start.elapsed(&self.rt) {
-            let now = u64::try_from(since.as_millis()).unwrap_or(u64::MAX);
-            self.latest = self.latest.max(now);
-        }
+        let _ = self.read_clock();
         Paced::At(Tick(self.latest))
     }
 }

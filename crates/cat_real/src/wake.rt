@@ -1,19 +1,32 @@
-//! Which links are to be read: those whose socket was reported ready since a read of it found nothing.
-use mio::{Events, Registry, Token};
+//! Which links are to be read: those whose socket was reported ready since a read of it found nothing. Here is also
+//! what else net and pace share.
+use mio::event::Source;
+use mio::{Events, Interest, Registry, Token};
 use std::alloc::Global;
 use std::cell::RefCell;
 use std::io;
 use std::rc::Rc;
+use std::sync::Arc;
+use std::sync::atomic::{AtomicBool, AtomicU64, Ordering};
 
-/// The token of sockets that no link has. Nobody asks which of them is ready.
+/// The token of sockets that have no mark: listeners, and those for whose mark there was no memory.
 pub(crate) const ANY: Token = Token(usize::MAX);
 
-/// A mark for each link, by the token of its socket.
+/// The marks by the tokens of their sockets. A link has its own mark, and a link may be in any thread.
 #[derive(Drop)]
 struct ReadyMarks {
-    ready: Vec<bool>,
-    // The tokens that no link has.
+    ready: Vec<Arc<AtomicBool, Global>>,
+    // The tokens that no socket has. There is always room for all of them.
     free: Vec<usize>,
+}
+
+/// What links and pace tell one another.
+#[derive(Drop)]
+struct Notes {
+    // Whether a link may have more than it gave, and the machine will not report it again.
+    more: AtomicBool,
+    // The pace's last tick.
+    tick: AtomicU64,
 }
 
 /// Where the sockets are made known that end a rest, and the marks that a rest leaves.
@@ -21,39 +34,55 @@ struct ReadyMarks {
 pub struct Wakes {
     pub(crate) registry: Registry,
     marks: Rc<RefCell<ReadyMarks>>,
+    notes: Arc<Notes, Global>,
+    alloc: Global,
 }
 
-/// The mark of one link. Where there was no memory for one the link counts as ready.
+/// The mark of one socket. Where there was no memory for one, or registering failed, the socket counts as ready.
 #[derive(Drop)]
 pub(crate) struct Mark {
     place: Option<MarkPlace>,
+    notes: Option<Arc<Notes, Global>>,
 }
 
-// Where the mark of a link stands.
+// The mark of a token.
 #[derive(Drop)]
 struct MarkPlace {
-    marks: Rc<RefCell<ReadyMarks>>,
     token: usize,
+    ready: Arc<AtomicBool, Global>,
 }
 
-// A token that no link has; its mark says ready.
-fn draw(marks: &mut ReadyMarks) -> Option<usize> {
-    match marks.free.pop() {
-        Some(token) => {
-            set(marks, token, true);
-            Some(token)
-        }
-        None => {
-            let token = marks.ready.len();
-            marks.ready.push(true).ok()?;
-            Some(token)
+impl ReadyMarks {
+    // A token that no socket has. Its mark says ready.
+    fn draw(&mut self, alloc: Global) -> Option<MarkPlace> {
+        let token = match self.free.pop() {
+            Some(token) => token,
+            None => self.grow(alloc)?,
+        };
+        let ready = Arc::try_clone(self.ready.get(token)?).ok()?;
+        ready.store(true, Ordering::SeqCst);
+        Some(MarkPlace { token, ready })
+    }
+
+    // One token more.
+    fn grow(&mut self, alloc: Global) -> Option<usize> {
+        let token = self.ready.len();
+        self.free.reserve(token.saturating_add(1)).ok()?;
+        let ready = Arc::new(alloc, AtomicBool::new(true)).ok()?;
+        self.ready.push(ready).ok()?;
+        Some(token)
+    }
+
+    fn set(&self, token: usize) {
+        if let Some(ready) = self.ready.get(token) {
+            ready.store(true, Ordering::SeqCst);
         }
     }
-}
 
-fn set(marks: &mut ReadyMarks, token: usize, ready: bool) {
-    if let Some(mark) = marks.ready.get_mut(token) {
-        *mark = ready;
+    fn set_all(&self) {
+        for ready in self.ready.iter() {
+            ready.store(true, Ordering::SeqCst);
+        }
     }
 }
 
@@ -64,8 +93,16 @@ impl Wakes {
             ready: Vec::new(alloc),
             free: Vec::new(alloc),
         };
-        let marks = Rc::new(alloc, RefCell::new(marks))?;
-        Ok(Wakes { registry, marks })
+        let notes = Notes {
+            more: AtomicBool::new(false),
+            tick: AtomicU64::new(0),
+        };
+        Ok(Wakes {
+            registry,
+            marks: Rc::new(alloc, RefCell::new(marks))?,
+            notes: Arc::new(alloc, notes)?,
+            alloc,
+        })
     }
 
     /// The same marks, for another owner.
@@ -73,99 +110,116 @@ impl Wakes {
         Ok(Wakes {
             registry: self.registry.try_clone()?,
             marks: self.marks.clone()?,
+            notes: Arc::try_clone(&self.notes)?,
+            alloc: self.alloc,
         })
     }
 
-    /// A mark for a link more, which says ready.
-    pub(crate) fn mark(&self) -> Mark {
-        Mark {
-            place: self.place(),
+    /// How many marks there are. A mark that was given back serves again, so it is the most sockets that ever had one
+    /// at the same time.
+    pub fn marks(&self) -> usize {
+        match self.marks.try_borrow() {
+            Ok(marks) => marks.ready.len(),
+            Err(_) => 0,
+        }
+    }
+
+    /// A mark for one socket more, by which its socket is reported from now on. It says ready.
+    pub(crate) fn mark<S: Source>(&self, socket: &mut S) -> Mark {
+        let place = self.place();
+        let token = match &place {
+            Some(place) => Token(place.token),
+            None => ANY,
+        };
+        let notes = Arc::try_clone(&self.notes).ok();
+        let mark = Mark { place, notes };
+        let both = Interest::READABLE | Interest::WRITABLE;
+        match self.registry.register(socket, token, both) {
+            Ok(()) => mark,
+            Err(_) => self.unmark(mark),
         }
     }
 
     fn place(&self) -> Option<MarkPlace> {
-        let marks = self.marks.clone().ok()?;
-        let token = draw(&mut *self.marks.try_borrow_mut().ok()?)?;
-        Some(MarkPlace { marks, token })
+        self.marks.try_borrow_mut().ok()?.draw(self.alloc)
+    }
+
+    /// The mark is free for another socket. What is left of it counts as ready. Takes no memory.
+    pub(crate) fn unmark(&self, mark: Mark) -> Mark {
+        let Mark { place, notes } = mark;
+        if let Some(place) = place {
+            if let Ok(mut marks) = self.marks.try_borrow_mut() {
+                let _ = marks.free.push(place.token);
+            }
+        }
+        Mark { place: None, notes }
     }
 
     /// Takes note of the sockets that are ready, and says whether there are any.
     pub(crate) fn note(&self, events: &Events) -> bool {
-        let Ok(mut marks) = self.marks.try_borrow_mut() else {
+        let Ok(marks) = self.marks.try_borrow() else {
             return true;
         };
         let mut any = false;
         for event in events.iter() {
             any = true;
-            set(&mut *marks, event.token().0, true);
+            marks.set(event.token().0);
         }
         any
     }
 
-    /// Each link may be ready.
+    /// Each socket may be ready.
     pub(crate) fn note_all(&self) {
-        if let Ok(mut marks) = self.marks.try_borrow_mut() {
-            let marks = &mut *marks;
-            for mark in marks.ready.iter_mut() {
-                *mark = true;
-            }
-        }
-    }
-}
-
-impl MarkPlace {
-    fn is_ready(&self) -> bool {
-        match self.marks.try_borrow() {
-            Ok(marks) => match marks.ready.get(self.token) {
-                Some(ready) => *ready,
-                None => true,
-            },
-            Err(_) => true,
+        if let Ok(marks) = self.marks.try_borrow() {
+            marks.set_all();
         }
     }
 
-    fn set(&self, ready: bool) {
-        if let Ok(mut marks) = self.marks.try_borrow_mut() {
-            set(&mut *marks, self.token, ready);
-        }
+    /// Whether a link had more than it gave since this was asked last.
+    pub(crate) fn take_more(&self) -> bool {
+        self.notes.more.swap(false, Ordering::SeqCst)
     }
 
-    fn give_back(self) {
-        if let Ok(mut marks) = self.marks.try_borrow_mut() {
-            let _ = marks.free.push(self.token);
-        }
+    /// The pace's last tick.
+    pub(crate) fn tick(&self) -> u64 {
+        self.notes.tick.load(Ordering::SeqCst)
+    }
+
+    /// The pace has come to this tick.
+    pub(crate) fn set_tick(&self, tick: u64) {
+        self.notes.tick.store(tick, Ordering::SeqCst);
     }
 }
 
 impl Mark {
-    /// What the socket of the link is registered by.
-    pub(crate) fn token(&self) -> Token {
+    /// Whether the socket may be ready. What is reported from now on counts for the next time.
+    pub(crate) fn take(&self) -> bool {
         match &self.place {
-            Some(place) => Token(place.token),
-            None => ANY,
-        }
-    }
-
-    /// Whether there may be something to read.
-    pub(crate) fn is_ready(&self) -> bool {
-        match &self.place {
-            Some(place) => place.is_ready(),
+            Some(place) => place.ready.swap(false, Ordering::SeqCst),
             None => true,
         }
     }
 
-    /// A read found nothing.
-    pub(crate) fn found_nothing(&self) {
-        if let Some(place) = &self.place {
-            place.set(false);
+    /// Whether the socket may be ready, for who doesn't look at it now.
+    pub(crate) fn is_set(&self) -> bool {
+        match &self.place {
+            Some(place) => place.ready.load(Ordering::SeqCst),
+            None => true,
         }
     }
 
-    /// The link counts as ready from now on, or is gone.
-    pub(crate) fn give_back(self) -> Mark {
-        if let Some(place) = self.place {
-            place.give_back();
+    /// The socket may be ready still.
+    pub(crate) fn set(&self) {
+        if let Some(place) = &self.place {
+            place.ready.store(true, Ordering::SeqCst);
         }
-        Mark { place: None }
+    }
+
+    /// The socket may have more than was taken of it: the next rest is none.
+    pub(crate) fn has_more(&self) {
+        self.set();
+        if let Some(notes) = &self.notes {
+            notes.more.store(true, Ordering::SeqCst);
+        }
     }
 }

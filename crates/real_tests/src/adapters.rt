@@ -1,7 +1,8 @@
 //! The real outside byte for byte: what no clause can say of the machine's sockets, files and output.
 use crate::bytes::patterned;
 use crate::checks::made;
-use crate::files::files_give;
+use crate::files::{files_fail, files_give};
+use crate::links::real_plays;
 use crate::nets::plays;
 use crate::outputs::puts;
 use sp_base::Sunk;
@@ -31,6 +32,69 @@ fn a_listener_at_one_address_is_not_reached_at_another(rt: HostRuntime) {
 #[test]
 fn a_listener_at_every_address_is_reached_at_each(rt: HostRuntime) {
     plays(&rt, "reaches every 28235");
+}
+
+#[test]
+fn a_byte_ends_a_rest(rt: HostRuntime) {
+    real_plays(&rt, "wakes byte 28315");
+}
+
+#[test]
+fn a_peer_that_dials_ends_a_rest(rt: HostRuntime) {
+    real_plays(&rt, "wakes peer 28355");
+}
+
+#[test]
+fn room_on_a_link_ends_a_rest(rt: HostRuntime) {
+    real_plays(&rt, "wakes room 28755");
+}
+
+#[test]
+fn small_messages_are_not_held_back(rt: HostRuntime) {
+    real_plays(&rt, "prompt both 28395");
+}
+
+#[test]
+fn marks_of_links_that_are_back_serve_again(rt: HostRuntime) {
+    real_plays(&rt, "marks 500 28435");
+}
+
+// The machine takes port after port for the own end of a connection, and so the port itself once.
+#[test]
+fn a_connection_to_itself_is_refused(rt: HostRuntime) {
+    real_plays(&rt, "alone 45000 42424");
+}
+
+#[test]
+fn a_peer_that_sends_without_pause_leaves_room_for_others(rt: HostRuntime) {
+    real_plays(&rt, "floods 300000 28475");
+}
+
+#[test]
+fn a_connection_under_way_is_made_when_it_is_reported(rt: HostRuntime) {
+    real_plays(&rt, "under_way made 28515");
+}
+
+#[test]
+fn a_slow_peer_gets_all_that_was_written(rt: HostRuntime) {
+    real_plays(&rt, "leaves slow 28555");
+}
+
+#[test]
+fn a_peer_that_does_not_end_is_waited_for_two_seconds(rt: HostRuntime) {
+    real_plays(&rt, "leaves silent 28595");
+}
+
+#[test]
+fn a_listen_that_fails_says_why(rt: HostRuntime) {
+    real_plays(&rt, "says in_use 28635");
+    real_plays(&rt, "says elsewhere 28675");
+}
+
+#[test]
+fn a_file_that_fails_says_why(rt: HostRuntime) {
+    files_fail(&rt, made(&rt, rt.clone()), "/no/such/file", "no such file");
+    files_fail(&rt, made(&rt, rt.clone()), "/", "is a directory");
 }
 
 #[test]

@@ -10,13 +10,13 @@
 //! | `remove bytes_of_a_test` | it is removed |
 //! | `counted 20000 -` | it gives so many bytes, each of which says how many are left |
 use crate::bytes::{counted, patterned};
-use crate::checks::is_right;
+use crate::checks::{holds, is_right, made};
 use cat_run::real::RealFiles;
 use sp_base::{Files, Whole};
 use std::alloc::Global;
 use std::fs;
 use std::process::Abort;
-use std::rt::Files as SystemFiles;
+use std::rt::{Clock, Files as SystemFiles};
 
 // Whether the file gives these bytes; none where it can't be read.
 fn gives<F: Files>(files: &mut F, name: &str, wanted: Option<&[u8]>) -> bool {
@@ -101,9 +101,25 @@ fn wrong_line<F: Files, S: SystemFiles>(
 
 /// The files of this system give what the lines say.
 pub fn files_give<
-    R: SystemFiles + Input + AllocGlobal + Drop,
+    R: SystemFiles + Input + Clock + AllocGlobal + Drop,
     S: SystemFiles + AllocGlobal + Abort,
 >(rt: &S, system: R, lines: &str) {
     let mut files = RealFiles::new(system);
     is_right(rt, wrong_line(rt, &mut files, rt.alloc(), lines));
+}
+
+/// A file of this system fails, for this reason.
+pub fn files_fail<R: SystemFiles + Input + Clock + AllocGlobal + Drop, S: AllocGlobal + Abort>(
+    rt: &S,
+    system: R,
+    name: &str,
+    why: &str,
+) {
+    let mut files = RealFiles::new(system);
+    holds(rt, gives(&mut files, name, None));
+    let Some(reason) = files.last_fault() else {
+        panic!(rt; "{name}");
+    };
+    let said = made(rt, format!(in rt.alloc(); "{reason}"));
+    holds(rt, said.as_str() == why);
 }

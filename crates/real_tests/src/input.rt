@@ -6,18 +6,30 @@ use std::alloc::{Allocator, Global};
 use std::fs::{Metadata, OpenOptions};
 use std::io::{BufRead, Error, ErrorKind, Lines, Read, Result as IoResult};
 use std::process::Abort;
-use std::rt::Files as SystemFiles;
+use std::rt::{Clock, Files as SystemFiles};
+use std::time::Duration;
 
-/// Gives so many bytes, one at a read, and then its end or a fault.
+/// Gives so many bytes, one at a read, and then its end or a fault. One that doesn't wait has none at each second read.
 #[derive(Clone, Copy, Debug, Drop)]
 struct CountedInput {
     left: u32,
     fails: bool,
+    waits: bool,
+    idle: bool,
 }
 
 impl Read for CountedInput {
     fn read(&mut self, buf: &mut [u8]) -> IoResult<usize> {
         let fed = *self;
+        self.idle = !fed.idle;
+        if fed.idle && !fed.waits {
+            let kind = if fed.left % 3 == 0 {
+                ErrorKind::Interrupted
+            } else {
+                ErrorKind::WouldBlock
+            };
+            return Err(Error::from(kind));
+        }
         if fed.left == 0 {
             return if fed.fails {
                 Err(Error::from(ErrorKind::BrokenPipe))
@@ -75,6 +87,16 @@ impl<R: Drop> Input for MachineFiles<R> {
     }
 }
 
+impl<R: Drop> Clock for MachineFiles<R> {
+    fn monotonic(&self) -> IoResult<Duration> {
+        Ok(Duration::from_millis(0))
+    }
+
+    fn since_1970(&self) -> IoResult<Duration> {
+        Ok(Duration::from_millis(0))
+    }
+}
+
 impl<R: SystemFiles + Drop> SystemFiles for MachineFiles<R> {
     type File = R::File;
 
@@ -126,23 +148,35 @@ fn input_gives<R: SystemFiles + AllocGlobal + Abort + Clone + Drop>(
     rt: &R,
     left: u32,
     fails: bool,
+    waits: bool,
     lines: &str,
 ) {
     let system = MachineFiles {
         rt: made(rt, rt.clone()),
-        input: CountedInput { left, fails },
+        input: CountedInput {
+            left,
+            fails,
+            waits,
+            idle: false,
+        },
     };
     files_give(rt, system, lines);
 }
 
 #[test]
 fn an_empty_input_is_an_empty_file(rt: HostRuntime) {
-    input_gives(&rt, 0, false, "empty -");
+    input_gives(&rt, 0, false, true, "empty -");
 }
 
 #[test]
 fn an_input_gives_all_its_bytes(rt: HostRuntime) {
-    input_gives(&rt, 20_000, false, "counted 20000 -");
+    input_gives(&rt, 20_000, false, true, "counted 20000 -");
+}
+
+// As a pipe with O_NONBLOCK (open(2)).
+#[test]
+fn an_input_that_does_not_wait_is_waited_for(rt: HostRuntime) {
+    input_gives(&rt, 20_000, false, false, "counted 20000 -");
 }
 
 // Also where bytes came before: a part of an input is no file.
@@ -152,7 +186,7 @@ fn an_input_that_fails_is_a_fault(rt: HostRuntime) {
         fails -
         empty /dev/null
     ";
-    input_gives(&rt, 0, true, lines);
-    input_gives(&rt, 1, true, lines);
-    input_gives(&rt, 20_000, true, lines);
+    input_gives(&rt, 0, true, true, lines);
+    input_gives(&rt, 1, true, true, lines);
+    input_gives(&rt, 20_000, true, true, lines);
 }

@@ -1,5 +1,5 @@
 //! Tests of the real outside on this machine: its net, its pace, its output and its files, byte for byte. What of the
-//! net, the pace and the files is told stands in texts (`nets`, `files`).
+//! net, the pace and the files is told stands in texts (`nets`, `links`, `files`).
 #![tactic(auto)]
 
 #[cfg(test)]
@@ -12,6 +12,10 @@ mod checks;
 mod files;
 #[cfg(test)]
 mod input;
+#[cfg(test)]
+mod late;
+#[cfg(test)]
+mod links;
 #[cfg(test)]
 mod nets;
 #[cfg(test)]

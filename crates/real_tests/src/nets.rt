@@ -9,7 +9,7 @@
 //! | `reaches one 28195` | a listener at one address of this machine is reached there, and not at another one |
 //! | `reaches every 28235` | a listener at every address is reached at both |
 //! | `rests 3 3` | after so many quiet turns the tick is this one or a later one |
-//! | `looks_again 101 5 5 99` | after so many quiet turns the shortest of so many rests takes 5 to 99 milliseconds |
+//! | `looks_again 101 5 5 50` | after so many quiet turns the shortest of so many rests takes 5 to 50 milliseconds |
 //!
 //! The last number of a line of the net is a port: what it says goes on at the first of 30 ports that is free, from
 //! this one on. Where bytes go there and back nobody came and nothing was there before, and behind them comes the end.
@@ -26,8 +26,8 @@ use std::net::{IpAddr, Ipv4Addr, SocketAddr, TcpStream};
 use std::process::Abort;
 use std::rt::Clock;
 
-// An address of this machine.
-fn address(last: u8, port: u16) -> Addr
+/// An address of this machine.
+pub fn address(last: u8, port: u16) -> Addr
     ensures dialable { is_dialable result ≡ true }
     ensures linked { is_linked result ≡ true }
 {
@@ -51,8 +51,8 @@ fn place(every: bool, port: u16) -> Addr
     }
 }
 
-// The first of 30 ports that is free, with the number of the listener there.
-fn listening<N: Net>(net: &mut N, every: bool, first: u16) -> Option<(u32, u16)>
+/// The first of 30 ports that is free, with the number of the listener there.
+pub fn listening<N: Net>(net: &mut N, every: bool, first: u16) -> Option<(u32, u16)>
     ensures { IfSome result (λ l. IsSome (map.get (N.seen net.new).listens l.0)) }
 {
     for step in 0..30 {
@@ -64,8 +64,8 @@ fn listening<N: Net>(net: &mut N, every: bool, first: u16) -> Option<(u32, u16)>
     None
 }
 
-// Gives back what there is.
-fn done<N: Net>(net: &mut N, link: N::L)
+/// Gives back what there is.
+pub fn done<N: Net>(net: &mut N, link: N::L)
     requires { (N.L.seen link).place < (N.seen net.old).opened }
     ensures opened { (N.seen net.new).opened ≡ (N.seen net.old).opened }
     ensures listens { (N.seen net.new).listens ≡ (N.seen net.old).listens }
@@ -75,17 +75,18 @@ fn done<N: Net>(net: &mut N, link: N::L)
     net.give_back(link);
 }
 
-// Accepts within 1,000 turns.
-fn accepted<N: Net, P: Pace>(net: &mut N, at: u32, pace: &mut P) -> Option<N::L>
+/// Accepts within 1,000 turns.
+pub fn accepted<N: Net, P: Pace>(net: &mut N, at: u32, pace: &mut P) -> Option<N::L>
     requires { IsSome (map.get (N.seen net.old).listens at) }
     ensures link { IfSome result (λ l. ((N.L.seen l).is_open ≡ true) × ((N.L.seen l).place < (N.seen net.new).opened)) }
     ensures opened { (N.seen net.old).opened ≤ (N.seen net.new).opened }
+    ensures listens { (N.seen net.new).listens ≡ (N.seen net.old).listens }
 {
     for turn in 0..1_000 {
         let _paced = pace.turn(false);
         match net.accept(at) {
             Linked::Got(link) => return Some(link),
-            Linked::NotYet | Linked::Failed => (),
+            Linked::NotYet | Linked::Begun | Linked::Failed => (),
         }
     }
     None
@@ -98,7 +99,7 @@ fn nobody_comes<N: Net>(net: &mut N, at: u32) -> bool
 {
     match net.accept(at) {
         Linked::NotYet => true,
-        Linked::Failed => false,
+        Linked::Begun | Linked::Failed => false,
         Linked::Got(link) => {
             done(net, link);
             false
@@ -112,7 +113,7 @@ fn is_refused<N: Net>(net: &mut N, addr: &Addr) -> bool
 {
     match net.dial(addr) {
         Linked::NotYet => true,
-        Linked::Failed => false,
+        Linked::Begun | Linked::Failed => false,
         Linked::Got(link) => {
             done(net, link);
             false
@@ -120,8 +121,8 @@ fn is_refused<N: Net>(net: &mut N, addr: &Addr) -> bool
     }
 }
 
-// Nothing is there to be read yet, and this is no fault.
-fn nothing_comes<L: Link>(link: &mut L) -> bool
+/// Nothing is there to be read yet, and this is no fault.
+pub fn nothing_comes<L: Link>(link: &mut L) -> bool
     requires { (L.seen link.old).is_open ≡ true }
     ensures place { (L.seen link.new).place ≡ (L.seen link.old).place }
     ensures still { (L.seen link.new).is_open ≡ true }
@@ -130,10 +131,11 @@ fn nothing_comes<L: Link>(link: &mut L) -> bool
     matches!(link.read(&mut buffer), LinkRead::NotYet)
 }
 
-// What a read comes to that finds something, within so many turns.
-fn found<L: Link, P: Pace>(link: &mut L, pace: &mut P) -> LinkRead
+/// What a read comes to that finds something, within so many turns.
+pub fn found<L: Link, P: Pace>(link: &mut L, pace: &mut P) -> LinkRead
     requires { (L.seen link.old).is_open ≡ true }
-    ensures { (L.seen link.new).place ≡ (L.seen link.old).place }
+    ensures place { (L.seen link.new).place ≡ (L.seen link.old).place }
+    ensures still { (L.seen link.new).is_open ≡ true }
 {
     let mut buffer = [0u8; 4];
     for turn in 0..1_000 {
@@ -173,8 +175,8 @@ fn fails<L: Link, P: Pace>(by_write: bool, link: &mut L, pace: &mut P) -> bool
     }
 }
 
-// Writes what the link takes of the bytes behind so many.
-fn write_on<L: Link>(link: &mut L, bytes: &[u8], sent: usize) -> Option<usize>
+/// Writes what the link takes of the bytes behind so many.
+pub fn write_on<L: Link>(link: &mut L, bytes: &[u8], sent: usize) -> Option<usize>
     requires { (L.seen link.old).is_open ≡ true }
     ensures place { (L.seen link.new).place ≡ (L.seen link.old).place }
     ensures still { (L.seen link.new).is_open ≡ true }
@@ -215,9 +217,9 @@ fn read_on<L: Link>(link: &mut L, buffer: &mut [u8], bytes: &[u8], came: usize) 
     }
 }
 
-// Whether all bytes pass from one link to the other as they are, though the sockets between may hold fewer. The pace
-// rests at each turn, or, where many bytes go, at each hundredth.
-fn carries<A: Link, B: Link, P: Pace>(
+/// Whether all bytes pass from one link to the other as they are, though the sockets between may hold fewer. The pace
+/// rests at each turn, or, where many bytes go, at each hundredth.
+pub fn carries<A: Link, B: Link, P: Pace>(
     from: &mut A,
     to: &mut B,
     pace: &mut P,
@@ -270,7 +272,7 @@ fn talks_to_itself<N: Net, P: Pace>(
     let nobody_came = nobody_comes(net, at);
     let mut dialed = match net.dial(addr) {
         Linked::Got(link) => link,
-        Linked::NotYet | Linked::Failed => return None,
+        Linked::NotYet | Linked::Begun | Linked::Failed => return None,
     };
     let Some(mut met) = accepted(net, at, pace) else {
         done(net, dialed);
@@ -381,7 +383,7 @@ fn reaches<N: Net, P: Pace>(net: &mut N, pace: &mut P, addr: &Addr) -> bool
                 done(net, link);
                 return true;
             }
-            Linked::NotYet | Linked::Failed => (),
+            Linked::NotYet | Linked::Begun | Linked::Failed => (),
         }
         let _paced = pace.turn(false);
     }

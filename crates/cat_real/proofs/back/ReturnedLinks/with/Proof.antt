@@ -28,7 +28,7 @@ use denote.Triple.Walked.{says, Stays, stay_dropped, walk_of, ends_at, walk_Meet
 use Rattle.cat_real.specs.Real.{counts_view}
 use Rattle.cat_real.proofs.FieldlessStructs.{none, none_made}
 use Rattle.cat_real.specs.contracts.back.ReturnedLinks as ReturnedLinks
-use Rattle.cat_real.specs.contracts.tcp.Counts as Counts
+use Rattle.cat_real.specs.contracts.link.Counts as Counts
 use Rattle.cat_real.specs.contracts.back.ReturnedLinks.with as F
 use Rattle.cat_real.specs.contracts.back.ReturnedLinks.with.Key.{name as #self}
 use Rattle.cat_real.proofs.back.ReturnedLinks.with.Statement as stated

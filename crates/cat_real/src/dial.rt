@@ -1,0 +1,176 @@
+//! Connections that were begun and aren't made yet.
+use crate::link::waits;
+use crate::wake::{Mark, Wakes};
+use mio::net::TcpStream;
+use std::alloc::Global;
+use std::collections::BTreeMap;
+use std::io;
+use std::io::ErrorKind;
+use std::net::{Net, SocketAddr};
+
+/// After how many milliseconds a connection that isn't made is given up: packets to its peer may be dropped, and a
+/// new one is sent at once.
+const LIMIT: u64 = 5_000;
+
+/// What a dial came to.
+pub(crate) enum Dialed {
+    /// The connection is made.
+    Made(TcpStream, Mark),
+    /// It is under way.
+    Begun,
+    /// Nobody is there.
+    Refused,
+    Failed(io::Error),
+}
+
+/// A connection under way.
+#[derive(Drop)]
+struct Dialing {
+    stream: TcpStream,
+    // Set where the machine reported it since it was looked at.
+    mark: Mark,
+    // The pace's tick when it was begun.
+    begun: u64,
+}
+
+/// The connections under way, by the addresses that they go to.
+#[derive(Drop)]
+pub(crate) struct Dials {
+    under_way: BTreeMap<SocketAddr, Dialing>,
+}
+
+// Nobody is there yet.
+fn is_refused(e: &io::Error) -> bool {
+    matches!(
+        e.kind(),
+        ErrorKind::ConnectionRefused | ErrorKind::TimedOut | ErrorKind::WouldBlock
+    )
+}
+
+fn not_made(e: io::Error) -> Dialed {
+    if is_refused(&e) {
+        Dialed::Refused
+    } else {
+        Dialed::Failed(e)
+    }
+}
+
+// Whether a connection is made. A socket that was connected to itself counts as refused.
+fn is_made(stream: &TcpStream) -> io::Result<bool> {
+    if let Some(e) = stream.take_error()? {
+        return Err(e);
+    }
+    match stream.peer_addr() {
+        Ok(peer) => {
+            if peer == stream.local_addr()? {
+                Err(io::Error::from(ErrorKind::ConnectionRefused))
+            } else {
+                Ok(true)
+            }
+        }
+        Err(e) => {
+            if e.kind() == ErrorKind::NotConnected {
+                Ok(false)
+            } else {
+                Err(e)
+            }
+        }
+    }
+}
+
+impl Dialing {
+    // Begins a connection whose socket ends rests.
+    fn begin<R: Net>(rt: &R, wakes: &Wakes, to: SocketAddr) -> io::Result<Dialing> {
+        let mut stream = TcpStream::connect(rt, to)?;
+        let mark = wakes.mark(&mut stream);
+        Ok(Dialing {
+            stream,
+            mark,
+            begun: wakes.tick(),
+        })
+    }
+
+    fn is_old(&self, tick: u64, limit: u64) -> bool {
+        tick.saturating_sub(self.begun) >= limit
+    }
+}
+
+impl Dials {
+    /// None is under way.
+    pub(crate) fn new(alloc: Global) -> Dials {
+        Dials {
+            under_way: BTreeMap::new(alloc),
+        }
+    }
+
+    /// Asks for the connection to an address, which is begun where none is under way. Where nothing was reported of it,
+    /// this makes no call of the machine.
+    pub(crate) fn ask<R: Net>(&mut self, rt: &R, wakes: &Wakes, to: SocketAddr) -> Dialed {
+        if self.is_quiet(wakes.tick(), to) {
+            return Dialed::Begun;
+        }
+        let dialing = match self.under_way.remove(&to) {
+            Some(dialing) => dialing,
+            None => {
+                self.forget_one(wakes);
+                match Dialing::begin(rt, wakes, to) {
+                    Ok(dialing) => dialing,
+                    Err(e) => return not_made(e),
+                }
+            }
+        };
+        self.look(wakes, to, dialing)
+    }
+
+    // Whether nothing was reported of the connection to an address, and it isn't given up yet.
+    fn is_quiet(&self, tick: u64, to: SocketAddr) -> bool {
+        match self.under_way.get(&to) {
+            Some(dialing) => !dialing.mark.is_set() && !dialing.is_old(tick, LIMIT),
+            None => false,
+        }
+    }
+
+    // What the machine says of a connection.
+    fn look(&mut self, wakes: &Wakes, to: SocketAddr, dialing: Dialing) -> Dialed {
+        let _ = dialing.mark.take();
+        match is_made(&dialing.stream) {
+            Ok(true) => Dialed::Made(dialing.stream, dialing.mark),
+            Ok(false) => self.keep(wakes, to, dialing),
+            Err(e) => {
+                let _ = wakes.unmark(dialing.mark);
+                not_made(e)
+            }
+        }
+    }
+
+    // Keeps a connection for the next dial, where it isn't too old, and there is memory for it.
+    fn keep(&mut self, wakes: &Wakes, to: SocketAddr, dialing: Dialing) -> Dialed {
+        if dialing.is_old(wakes.tick(), LIMIT) {
+            let _ = wakes.unmark(dialing.mark);
+            return Dialed::Refused;
+        }
+        match self.under_way.insert(to, dialing) {
+            Ok(_) => Dialed::Begun,
+            Err(_) => Dialed::Refused,
+        }
+    }
+
+    // Gives up a connection for which nobody asked in a long time, if there is one.
+    fn forget_one(&mut self, wakes: &Wakes) {
+        let Some(to) = self.forgotten(wakes.tick()) else {
+            return;
+        };
+        if let Some(dialing) = self.under_way.remove(&to) {
+            let _ = wakes.unmark(dialing.mark);
+        }
+    }
+
+    fn forgotten(&self, tick: u64) -> Option<SocketAddr> {
+        for (to, dialing) in self.under_way.iter() {
+            if dialing.is_old(tick, LIMIT.saturating_mul(2)) {
+                return Some(*to);
+            }
+        }
+        None
+    }
+}

@@ -1,0 +1,180 @@
+//! Links that were given back: their peers may not have all yet, and what closes a link whose peer sends something
+//! throws away what the peer hasn't taken.
+use crate::link::Counts;
+use crate::pace::RealPace;
+use crate::wake::{Mark, Wakes};
+use mio::net::TcpStream;
+use std::alloc::Global;
+use std::collections::VecDeque;
+use std::io::{ErrorKind, Read};
+use std::net::Shutdown;
+use std::rt::Clock;
+
+/// For how many milliseconds at most `finish` waits.
+const LINGER: u64 = 2_000;
+
+/// How often in a row a link is read before others have their turn.
+const READS: usize = 64;
+
+/// A link whose writing half is shut.
+#[derive(Drop)]
+struct Leaving {
+    stream: TcpStream,
+    mark: Mark,
+}
+
+/// Links that were given back.
+#[derive(Drop)]
+pub(crate) struct Leavers {
+    links: VecDeque<Leaving>,
+    // How many links aren't back yet.
+    out: usize,
+}
+
+// How far a link has come.
+#[derive(Clone, Copy, PartialEq, Eq)]
+enum Left {
+    /// The peer hasn't shut its half.
+    Waits,
+    /// The peer has shut its half: it took all that was written before.
+    Whole,
+    /// The link is reset.
+    Lost,
+}
+
+impl Leaving {
+    // Drops what comes.
+    fn drop_what_comes(&mut self) -> Left {
+        let mut buffer = [0u8; 4_096];
+        for _ in 0..READS {
+            match self.stream.read(&mut buffer) {
+                Ok(0) => return Left::Whole,
+                Ok(_) => (),
+                Err(e) => {
+                    return match e.kind() {
+                        ErrorKind::WouldBlock => Left::Waits,
+                        ErrorKind::Interrupted => self.has_more(),
+                        _ => Left::Lost,
+                    };
+                }
+            }
+        }
+        self.has_more()
+    }
+
+    fn has_more(&self) -> Left {
+        self.mark.has_more();
+        Left::Waits
+    }
+
+    fn close(self, wakes: &Wakes) {
+        let Leaving { stream, mark } = self;
+        drop(stream);
+        let _ = wakes.unmark(mark);
+    }
+
+    // Where it was reported, drops what comes.
+    fn turn(&mut self) -> Left {
+        if self.mark.take() {
+            self.drop_what_comes()
+        } else {
+            Left::Waits
+        }
+    }
+}
+
+impl Leavers {
+    /// None is out and none is back.
+    pub(crate) fn new(alloc: Global) -> Leavers {
+        Leavers {
+            links: VecDeque::new(alloc),
+            out: 0,
+        }
+    }
+
+    /// A link is handed out. Where there is no memory, one link more is closed as soon as it is back.
+    pub(crate) fn hand_out(&mut self) {
+        self.out = self.out.saturating_add(1);
+        let _ = self.links.reserve(self.out);
+    }
+
+    /// A link is back. One that failed, or whose peer had ended, is closed at once. Takes no memory.
+    pub(crate) fn take_back(
+        &mut self,
+        wakes: &Wakes,
+        stream: TcpStream,
+        mark: Mark,
+        counts: &Counts,
+    ) {
+        self.out = self.out.saturating_sub(1);
+        if counts.ended || counts.faults > 0 {
+            let _ = wakes.unmark(mark);
+        } else {
+            let _ = stream.shutdown(Shutdown::Write);
+            mark.set();
+            self.keep(wakes, Leaving { stream, mark });
+        }
+    }
+
+    /// Closes them, and says how many there were.
+    pub(crate) fn close(&mut self, wakes: &Wakes) -> u32 {
+        let mut closed = 0u32;
+        for _ in 0..self.links.len() {
+            if let Some(leaving) = self.links.pop_front() {
+                leaving.close(wakes);
+                closed = closed.saturating_add(1);
+            }
+        }
+        closed
+    }
+
+    /// Drops what comes on them until each peer has shut its half too, for at most two seconds, and closes them.
+    /// How many were not whole.
+    pub(crate) fn finish<C: Clock + Drop>(&mut self, wakes: &Wakes, pace: &mut RealPace<C>) -> u32 {
+        let mut lost = 0u32;
+        let _ = pace.rest(0);
+        let until = pace.now().saturating_add(LINGER);
+        for _ in 0..u64::MAX {
+            lost = lost.saturating_add(self.turn(wakes));
+            let left = until.saturating_sub(pace.now());
+            if self.links.is_empty() || left == 0 || pace.rest(left).is_err() {
+                break;
+            }
+        }
+        lost.saturating_add(self.close(wakes))
+    }
+
+    // A turn of each. How many were lost.
+    fn turn(&mut self, wakes: &Wakes) -> u32 {
+        let mut lost = 0u32;
+        for _ in 0..self.links.len() {
+            if let Some(leaving) = self.links.pop_front() {
+                if self.turn_one(wakes, leaving) == Left::Lost {
+                    lost = lost.saturating_add(1);
+                }
+            }
+        }
+        lost
+    }
+
+    // A turn of one that was taken out of the list. It goes back where its peer hasn't shut its half.
+    fn turn_one(&mut self, wakes: &Wakes, leaving: Leaving) -> Left {
+        let mut leaving = leaving;
+        let left = leaving.turn();
+        if left == Left::Waits {
+            self.keep(wakes, leaving);
+        } else {
+            leaving.close(wakes);
+        }
+        left
+    }
+
+    // Puts one into the list, where there is room.
+    fn keep(&mut self, wakes: &Wakes, leaving: Leaving) {
+        if self.links.len() < self.links.capacity() {
+            self.links.push_back_reserved(leaving);
+        } else {
+            leaving.close(wakes);
+        }
+    }
+}
