@@ -1,7 +1,7 @@
 //! What a call of the core costs a push, a pull, a req, a rep and a surveyor as pipes, contexts and operations grow, over
 //! wires in memory that take no time of their own: nanoseconds for each pipe or operation that it touches, on standard
 //! error. On standard output it prints what each socket counted until its close, which is the same at any speed: so a row
-//! that measured refusals would be seen.
+//! that measured refusals would be seen. The first rows are of deadlines, in a wheel and in a sorted list.
 //!
 //! Each core plays a text. Behind `#` stand the sizes at which it is played: a queue that doubles its room has just enough
 //! at a power of 2, so where that matters one size is none. The first one is small, since what runs first takes longer.
@@ -38,6 +38,7 @@
 
 mod bench;
 mod calls;
+mod deadlines;
 mod makers;
 mod pipeline;
 mod replies;
@@ -73,7 +74,7 @@ fn each_role<
 }
 
 fn all<R: AllocGlobal + Clock + Eprint + Print + Wait>(rt: &R) -> bool {
-    each_role::<Push, Pull, Request, Reply, Survey, MemWire, R>(rt)
+    deadlines::rows(rt).is_ok() && each_role::<Push, Pull, Request, Reply, Survey, MemWire, R>(rt)
 }
 
 fn main(rt: HostRuntime) -> io::Result<()> {

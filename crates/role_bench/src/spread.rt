@@ -8,11 +8,17 @@ pub const SUB: &str = "# usual 1 100 10000
     repeat n take_off 0 n-1-i
     row n a topic is taken off
 
+    # usual 1 8 9 4000
+    repeat n put_on 0 i
+    once letters 1024
+    repeat 1000 stranger
+    row 1000 a frame of 1 KiB at a sub, by topics of one length
+
     # usual 1 32 1024
     repeat n put_letters_on i
-    once letters n
+    once letters 1024
     repeat 1000 stranger
-    row 1000 a frame at a sub, by lengths of topics
+    row 1000 a frame of 1 KiB at a sub, by topics that differ in length
 
     # 1 1 1000
     repeat n open i+1
