@@ -405,16 +405,39 @@ def full_output():
     return (run.returncode, err) == (5, b"nngcat: output fault\n"), f"status {run.returncode} {err!r}"
 
 
-def send_times_out():
-    """A push whose peer reads nothing: its send times out, and the run ends when the peer has gone."""
+def ends_after(seconds, pause, take):
+    """A push of 1,000,000 bytes again and again, whose send times out after a second, at a peer that reads so many bytes each
+    so many seconds, for so long: whether it ended before the peer stopped, its status, and how long after it ended."""
     port = free_port()
-    run = start("--push", "--listen", address(port), "--data", "x" * 60_000, "--count", "0", "--send-timeout", "1")
-    with connect(port) as peer:
+    with tempfile.NamedTemporaryFile() as data:
+        data.write(b"x" * 1_000_000)
+        data.flush()
+        run = start("--push", "--listen", address(port), "--file", data.name, "--count", "0", "--send-timeout", "1")
+        peer = connect(port)
         peer.sendall(greeting(PULL))
-        time.sleep(4)
-        waits = run.poll() is None
-    _, err = run.communicate(timeout=60)
-    return waits and (run.returncode, err) == (2, b"nngcat: send timed out\n"), f"status {run.returncode} {err!r}"
+        begun = time.time()
+        while time.time() - begun < seconds and run.poll() is None:
+            time.sleep(pause)
+            if take:
+                peer.recv(take)
+        early, stopped = run.poll() is not None, time.time()
+        status = run.wait(timeout=20)
+        peer.close()
+    return early, status, time.time() - stopped
+
+
+def send_times_out():
+    """A send timeout ends a push at a peer that reads nothing, after the timeout and as long again; while a peer takes
+    some of a message now and then the push goes on, and ends once it has stopped; one that reads all sees no timeout."""
+    silent = ends_after(0, 0.1, 0)
+    slow = ends_after(6, 0.4, 200_000)
+    port = free_port()
+    run = start("--push", "--listen", address(port), "--data", "x" * 100_000, "--count", "50", "--send-timeout", "1")
+    peer = connect(port)
+    peer.sendall(greeting(PULL))
+    whole = len(read_all(peer, 8 + 50 * 100_008)) == 8 + 50 * 100_008 and run.wait(timeout=20) == 0
+    right = silent[1] == slow[1] == 2 and 1.9 < silent[2] < 4 and not slow[0] and slow[2] < 4 and whole
+    return right, f"{silent}, {slow}, {whole}"
 
 
 def first_id(port):
