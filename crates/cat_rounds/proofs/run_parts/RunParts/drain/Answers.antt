@@ -1,4 +1,4 @@
-use Rattle.std.proofs.Common.{sym, subst, ap, ◌∙◌, ◌≡◌, refl, Some, None, true, false, ℕ, Bool, ⊥, inl, inr}
+use Rattle.std.proofs.Common.{sym, subst, ap, ◌∙◌, ◌≡◌, refl, Some, None, true, false, ℕ, Bool, inl, inr}
 use Rattle.std.specs.Prelude.{◌⊎◌, ◌&&◌, not, Option}
 use Rattle.cat_player.specs.declared.player.PlayEnd.TheVariants as overs
 use Rattle.cat_rounds.specs.Parts.{RunPartsView, IsAt}
@@ -46,7 +46,7 @@ returns-then-waits-clause-goes_on g c =
 
 pub returns-then-waits-clause-texts : goal.returns-then-waits-clause-texts
 returns-then-waits-clause-texts g c =
-    rw (← c.self.view_is) (serve_texts c.serve-served.result c.self.inside.single c.serve-served.new.self c.self.inside.player c.args.now c.serve-served.ensures.turn (stands_in _ _ c.args.now c.self.view_is c.self.invariant c.requires.at.1))
+    rw (← c.self.view_is) (serve_texts c.serve-served.result c.self.inside.single c.serve-served.new.self c.self.inside.player c.args.now c.serve-served.ensures.turn (stands_in _ _ c.args.now c.self.view_is c.self.invariant c.requires.at))
 
 pub returns-then-waits-clause-same : goal.returns-then-waits-clause-same
 returns-then-waits-clause-same g c = rw (← c.self.view_is) (refl, refl)
@@ -151,7 +151,7 @@ module _ (g : Over) (c : After-serve-served g) (still : Stillness) where
 
   timed_out : Why → IsThroughOrGivenUp c.serve-served.new.self c.self.inside.player
   timed_out (inl none) = inl (all_through none)
-  timed_out (inr up) = inr (free g c, still, subst (λ (n : ℕ). gives_up c.self.inside.player.over c.self.inside.player.script.send_timeout still n ≡ true) (now_is g c) up)
+  timed_out (inr up) = inr (free g c, (still, subst (λ (n : ℕ). gives_up c.self.inside.player.over c.self.inside.player.script.send_timeout still n ≡ true) (now_is g c) up))
 
   finished : Why → c.self.inside.player.over ≡ overs.Finished → IsThrough c.serve-served.new.self c.self.inside.player
   finished (inl none) is = all_through none
