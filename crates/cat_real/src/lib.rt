@@ -3,7 +3,7 @@
 //! with the machine is trusted. That a socket is ready ends a rest, and a link whose socket was not reported ready since
 //! a read of it found nothing is not read.
 //!
-//! A link that gave 128 KiB since it last had none says once that nothing is there, and the next rest is none. So who
+//! A link that gave 256 KiB since it last had none says once that nothing is there, and the next rest is none. So who
 //! reads until nothing is there reads a bounded number of bytes, whatever the peer sends.
 //!
 //! `link` has links, `tcp` the net, `dial` its connections under way, `leave` the links that it got back, `pace` the
@@ -25,7 +25,7 @@ mod wake;
 
 pub use fault::{NetFault, Reason};
 pub use files::RealFiles;
-pub use link::{Counts, MOST, TcpLink};
+pub use link::{Counts, TURN_BYTES, TcpLink};
 pub use output::RealOut;
 pub use pace::RealPace;
 pub use tcp::TcpNet;

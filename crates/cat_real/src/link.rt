@@ -26,9 +26,9 @@ pub struct Counts {
 
 /// A link that gave this many bytes since it last had none says once that none is there: a peer that sends without
 /// pause holds nobody who reads until nothing is there.
-pub const MOST: usize = 131_072;
+pub const TURN_BYTES: usize = 262_144;
 
-/// A connection that doesn't wait (nng_stream(5)). Of its last `MOST` bytes it may keep some back for a later read.
+/// A connection that doesn't wait (nng_stream(5)). Each `TURN_BYTES` bytes it says once that nothing is there.
 pub struct TcpLink {
     stream: TcpStream,
     mark: Mark,
@@ -92,7 +92,7 @@ impl TcpLink {
     fn may_read(&mut self) -> bool
         ensures { self.new.counts ≡ self.old.counts }
     {
-        if self.since >= MOST {
+        if self.since >= TURN_BYTES {
             self.since = 0;
             self.mark.has_more();
             return false;

@@ -23,7 +23,7 @@ const QUIET_RESTS: u32 = 100;
 const IDLE_REST: u64 = 10;
 
 /// A pace that rests where nothing moved, for a millisecond or until a socket of its registry is ready, with 2^64 - 1
-/// turns. It doesn't rest where a link said that nothing is there and may have more (`MOST`). After a hundred rests in a row that no socket ended it rests for up to ten milliseconds. Its ticks are
+/// turns. It doesn't rest where a link said that nothing is there and may have more (`TURN_BYTES`). After a hundred rests in a row that no socket ended it rests for up to ten milliseconds. Its ticks are
 /// milliseconds since it was made.
 #[derive(Drop)]
 pub struct RealPace<R: Clock + Drop> {

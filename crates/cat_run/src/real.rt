@@ -1,4 +1,4 @@
 //! The machine's side: sockets, files, the clock and standard output.
 pub use cat_real::{
-    Counts, MOST, NetFault, RealFiles, RealOut, RealPace, Reason, TcpLink, TcpNet, Wakes,
+    Counts, NetFault, RealFiles, RealOut, RealPace, Reason, TURN_BYTES, TcpLink, TcpNet, Wakes,
 };

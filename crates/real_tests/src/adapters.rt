@@ -67,7 +67,7 @@ fn a_connection_to_itself_is_refused(rt: HostRuntime) {
 
 #[test]
 fn a_peer_that_sends_without_pause_leaves_room_for_others(rt: HostRuntime) {
-    real_plays(&rt, "floods 300000 28475");
+    real_plays(&rt, "floods 400000 28475");
 }
 
 #[test]

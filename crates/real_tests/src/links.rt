@@ -8,7 +8,7 @@
 //! | `prompt both 28395` | a link that was dialed and one that was accepted send small messages at once |
 //! | `marks 500 28435` | so many pairs of links, one after the other and beside a pair that stays, need few marks |
 //! | `alone 45000 42424` | so many dials to a port where nobody listens are refused: no socket is connected to itself |
-//! | `floods 300000 28475` | of so many bytes a link gives a part, then none once, and the next rest is none |
+//! | `floods 400000 28475` | of so many bytes a link gives a part, then none once, and the next rest is none |
 //! | `under_way made 28515` | a connection that the machine doesn't make at once is under way, and made when it is reported |
 //! | `leaves slow 28555` | a peer that takes its time, and sends a byte, gets all that was written |
 //! | `leaves silent 28595` | two that don't end their streams are waited for, for two seconds in all, and counted |
@@ -24,7 +24,7 @@ ghost use Rattle.sp_base.specs.Addresses.{is_dialable, is_linked};
 use crate::bytes::patterned;
 use crate::checks::made;
 use crate::nets::{accepted, address, carries, done, found, listening, nothing_comes, write_on};
-use cat_run::real::{MOST, NetFault, RealPace, TcpLink, TcpNet};
+use cat_run::real::{NetFault, RealPace, TURN_BYTES, TcpLink, TcpNet};
 use sp_base::{Addr, Host, Link, LinkRead, Linked, Listened, Net, Pace};
 use std::alloc::Global;
 use std::io::{Read, Write};
@@ -126,9 +126,9 @@ fn rest_takes<S: Clock, P: Rests>(system: &S, pace: &mut P, most: u64) -> Option
     Some(start.elapsed(system).ok()?.as_millis())
 }
 
-// Whether a rest of a second ends at once, about.
-fn ends_soon<S: Clock, P: Rests>(system: &S, pace: &mut P) -> bool {
-    matches!(rest_takes(system, pace, 1_000), Some(took) if took < 50)
+// Whether a rest of a second ends within so many milliseconds.
+fn ends_within<S: Clock, P: Rests>(system: &S, pace: &mut P, most: u128) -> bool {
+    matches!(rest_takes(system, pace, 1_000), Some(took) if took < most)
 }
 
 // Whether a byte ends a rest soon, and is there then.
@@ -144,7 +144,7 @@ fn byte_wakes<S: Clock, W: Write, L: Link, P: Rests>(
 {
     let nothing = nothing_comes(link);
     pace.rests(0);
-    let soon = peer.write_all(b"x").is_ok() && ends_soon(system, pace);
+    let soon = peer.write_all(b"x").is_ok() && ends_within(system, pace, 50);
     let came = found(link, pace) == LinkRead::Got(1);
     nothing && soon && came
 }
@@ -173,7 +173,7 @@ fn is_told<S: Clock, N: Net, P: Rests>(system: &S, net: &mut N, pace: &mut P, at
     requires { IsSome (map.get (N.seen net.old).listens at) }
     ensures { (N.seen net.new).listens ≡ (N.seen net.old).listens }
 {
-    let soon = ends_soon(system, pace);
+    let soon = ends_within(system, pace, 50);
     match accepted(net, at, pace) {
         Some(link) => {
             done(net, link);
@@ -242,7 +242,7 @@ fn room_wakes<S: Clock, R: Read, L: Link, P: Rests>(
             _ => break,
         }
     }
-    sent < bytes.len() && ends_soon(system, pace)
+    sent < bytes.len() && ends_within(system, pace, 500)
 }
 
 fn wakes<S: std::net::Net + Clock, N: Net, P: Rests>(
@@ -430,9 +430,9 @@ fn gives_a_part<S: Clock, L: Link, P: Rests>(system: &S, link: &mut L, pace: &mu
 {
     let mut buffer = [0u8; 4_096];
     let came = drained(link, pace, &mut buffer);
-    let soon = ends_soon(system, pace);
+    let soon = ends_within(system, pace, 500);
     let more = matches!(link.read(&mut buffer), LinkRead::Got(_));
-    came >= 65_536 && came < MOST.saturating_add(4_096) && soon && more
+    came >= 65_536 && came < TURN_BYTES.saturating_add(4_096) && soon && more
 }
 
 fn floods<S: std::net::Net + Clock, N: Net, P: Rests>(
@@ -506,7 +506,7 @@ fn fill_link<L: Link>(link: &mut L, bytes: &[u8]) -> usize
     sent
 }
 
-// A peer that waits, sends a byte, and reads to the end; how many bytes came.
+// A peer that waits until the link is given back, sends a byte, and reads to the end; how many bytes came.
 fn reads_slowly<R: Clock, S: Read + Write + Drop>(rt: &R, stream: S) -> usize {
     let mut stream = stream;
     let mut buffer = [0u8; 16_384];
@@ -516,7 +516,6 @@ fn reads_slowly<R: Clock, S: Read + Write + Drop>(rt: &R, stream: S) -> usize {
         return 0;
     }
     for turn in 0..10_000 {
-        thread::sleep(rt, Duration::from_millis(1));
         match stream.read(&mut buffer) {
             Ok(0) | Err(_) => return came,
             Ok(n) => came = came.saturating_add(n),
