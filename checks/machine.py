@@ -26,9 +26,10 @@ def client(port, name):
     return ws.client(port, name)[0]
 
 
-def flood(peer, piece, stopped):
-    """Sends the piece again and again until it is stopped."""
+def flood(peer, first, piece, stopped):
+    """Sends the first bytes once, and then the piece again and again until it is stopped."""
     peer.settimeout(1)
+    peer.sendall(first)
     text = piece * (65536 // len(piece))
     while not stopped.is_set():
         try:
@@ -53,13 +54,13 @@ def answer_time(run_port, count=10):
     return longest
 
 
-def flooded_by(piece):
+def flooded_by(first, piece):
     """The longest answer of each of ten clients while one link sends this without pause."""
     port = free_port()
     run = ws.listening(OURS, port, "--rep", "--data", "pong")
     bad = client(port, b"rep")
     stopped = threading.Event()
-    sender = threading.Thread(target=flood, args=(bad, piece, stopped))
+    sender = threading.Thread(target=flood, args=(bad, first, piece, stopped))
     sender.start()
     time.sleep(0.3)
     try:
@@ -75,8 +76,9 @@ def flooded_by(piece):
 def a_flood_holds_nobody_up():
     """While one WebSocket link floods with empty pongs, pings, or empty pieces of a message, ten others are answered."""
     told, well = [], True
-    for name, piece in (("pongs", PONG), ("pings", b"\x89\x80\0\0\0\0"), ("pieces", b"\x00\x80\0\0\0\0")):
-        times = flooded_by(piece)
+    for name, first, piece in (("pongs", b"", PONG), ("pings", b"", b"\x89\x80\0\0\0\0"),
+                               ("pieces", b"\x02\x80\0\0\0\0", b"\x00\x80\0\0\0\0")):
+        times = flooded_by(first, piece)
         good = None not in times and max(times) < 320
         well = well and good
         told.append(f"{name} {max(t or 99999 for t in times):.1f} ms at worst, median {statistics.median(t or 99999 for t in times):.1f}")
@@ -89,7 +91,7 @@ def a_flood_does_not_hold_a_deadline():
     run = ws.listening(OURS, port, "--pull", "--recv-timeout", "2")
     bad = client(port, b"pull")
     stopped = threading.Event()
-    sender = threading.Thread(target=flood, args=(bad, PONG, stopped))
+    sender = threading.Thread(target=flood, args=(bad, b"", PONG, stopped))
     sender.start()
     begun = time.time()
     try:

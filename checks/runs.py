@@ -9,6 +9,7 @@ import subprocess
 import sys
 import tempfile
 import threading
+import time
 
 HERE = os.path.dirname(os.path.abspath(__file__))
 OURS = os.environ.get("OURS", os.path.join(HERE, "..", "crates", "nngcat", "out", "nngcat"))
@@ -125,10 +126,54 @@ def data_of_a_file():
     return (pull.returncode, out, push.returncode) == (0, b"\"from a file\"\n", 0)
 
 
+def puller(port):
+    """A peer that greets as a pull, once somebody listens, and what it was greeted with."""
+    for _ in range(200):
+        try:
+            peer = socket.create_connection(("127.0.0.1", port))
+            break
+        except OSError:
+            time.sleep(0.02)
+    peer.sendall(b"\0SP\0\0\x51\0\0")
+    return peer
+
+
+def ends_behind_its_peers():
+    """A push to a peer that never closes ends after some two seconds, and says so."""
+    s, port = listener()
+    s.close()
+    push = subprocess.Popen([OURS, "--push", "--listen", f"tcp://127.0.0.1:{port}", "--data", "a", "--count", "1"],
+                            stdout=subprocess.PIPE, stderr=subprocess.PIPE)
+    with puller(port):
+        begun = time.monotonic()
+        out, err = push.communicate(timeout=30)
+    took = time.monotonic() - begun
+    return push.returncode == 0 and 1.5 < took < 6 and b"did not close in time: 1" in err
+
+
+def slow_peer_gets_all():
+    """A peer that reads late and slowly gets whole messages, though the send timeout passes meanwhile."""
+    s, port = listener()
+    s.close()
+    with tempfile.NamedTemporaryFile() as f:
+        f.write(b"x" * 300_000)
+        f.flush()
+        push = subprocess.Popen([OURS, "--push", "--listen", f"tcp://127.0.0.1:{port}", "--file", f.name, "--count", "0",
+                                 "--interval", "0", "--send-timeout", "1"], stdout=subprocess.PIPE, stderr=subprocess.PIPE)
+        with puller(port) as peer:
+            time.sleep(1.5)
+            came = 0
+            while piece := peer.recv(100_000):
+                came += len(piece)
+                time.sleep(0.03)
+        push.communicate(timeout=30)
+    return push.returncode == 2 and came > 16 * 300_000 and (came - 8) % 300_008 == 0
+
+
 def main():
     wrong = 0
     for check in (wrong_words, missing_file, port_in_use, drill, help_and_version, one_message, ids_differ,
-                  data_of_a_file):
+                  data_of_a_file, ends_behind_its_peers, slow_peer_gets_all):
         try:
             good = check()
         except Exception as e:  # noqa: BLE001
