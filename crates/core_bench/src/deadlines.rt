@@ -110,7 +110,8 @@ impl<'a, D: Due> DueBench<'a, D> {
         self.watch.go_on(rt);
         self.tick(now);
         self.watch.end(rt);
-        self.say(rt, what, self.watch.nanos(), u64::from(self.slots));
+        let count = u64::from(self.slots);
+        self.say(rt, what, self.watch.nanos(), count);
     }
 
     // All rows.
