@@ -86,7 +86,7 @@ def a_flood_holds_nobody_up():
 
 
 def a_flood_does_not_hold_a_deadline():
-    """A pull that is flooded with pongs ends at its receive timeout."""
+    """A pull that is flooded with pongs ends at its receive timeout, and two seconds for the peer that doesn't shut."""
     port = free_port()
     run = ws.listening(OURS, port, "--pull", "--recv-timeout", "2")
     bad = client(port, b"pull")
@@ -104,7 +104,7 @@ def a_flood_does_not_hold_a_deadline():
         sender.join()
         bad.close()
         stop_all()
-    return 1.5 < took < 4, f"{took:.1f} s"
+    return 1.5 < took < 6, f"{took:.1f} s"
 
 
 def slow_reader(words, role, byte):
