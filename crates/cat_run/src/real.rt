@@ -1,4 +1,4 @@
 //! The machine's side: sockets, files, the clock and standard output.
-pub use cat_real::{
+pub use sp_real::{
     Counts, NetFault, RealFiles, RealOut, RealPace, Reason, TURN_BYTES, TcpLink, TcpNet, Wakes,
 };

@@ -2,7 +2,7 @@ use Rattle.std.specs.Prelude.{None, false}
 use Rattle.std.specs.Option.{option_map}
 use Rattle.sp_base.specs.Views.{FilesView, PaceView}
 use Rattle.cat_play.specs.Running.{world}
-use Rattle.cat_real.specs.Real.{unasked_net}
+use Rattle.sp_real.specs.Real.{unasked_net}
 use Rattle.cat_run.proofs.CompletedRuns.{drill_completes}
 use Rattle.cat_run.proofs.Loaded.{drill_no_usage}
 use Rattle.cat_run.proofs.command.run_drill.Goals as goal

@@ -1,7 +1,0 @@
-use Rattle.sp_base.specs.declared.addr.Scheme.TheVariants as schemes
-use Rattle.sp_base.specs.Listeners.{listens_of}
-use Rattle.cat_tests.proofs.FoundListeners.{is_there}
-use Rattle.cat_tests.proofs.nets.first_read.Goals as goal
-
-pub accept-requires : goal.accept-requires
-accept-requires c = is_there (listens_of c.args.net.now.listeners) (listens_of c.listen.new.self.listeners) c.in-At.at schemes.Tcp c.in-At.ensures.after.shows.listens

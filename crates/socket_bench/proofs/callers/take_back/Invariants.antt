@@ -1,5 +1,0 @@
-use Rattle.socket_bench.specs.Lent.{AreLent}
-use Rattle.socket_bench.proofs.callers.take_back.Given as goal
-
-abbrev pub invariant-loop : goal.invariant-loop
-invariant-loop g l = record { lent : AreLent l.socket l.list l.passes.items }

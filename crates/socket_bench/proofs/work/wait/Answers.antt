@@ -1,5 +1,0 @@
-use Rattle.sp_socket.proofs.Waits.{still_of}
-use Rattle.socket_bench.proofs.work.wait.Goals as goal
-
-pub returns : goal.returns
-returns g c = still_of c.args.socket.now c.args.pass.now c.wait.new.pass c.wait.ensures.same c.requires.own

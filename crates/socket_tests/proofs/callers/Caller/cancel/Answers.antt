@@ -1,5 +1,0 @@
-use Rattle.socket_tests.proofs.SocketCallers.{rests}
-use Rattle.socket_tests.proofs.callers.Caller.cancel.Goals as goal
-
-pub returns : goal.returns
-returns g c = rests c.args.socket.now c.args.self.now.pass c.cancel.new.pass c.args.self.now.ops.items c.cancel.ensures.still c.requires

@@ -1,5 +1,0 @@
-use Rattle.socket_tests.proofs.SocketCallers.{stays}
-use Rattle.socket_tests.proofs.callers.Caller.unsubscribe.Goals as goal
-
-pub returns : goal.returns
-returns g c = stays c.args.socket.now c.args.self.now.pass c.unsubscribe.new.pass c.args.self.now.ops.items c.unsubscribe.ensures.pass c.requires

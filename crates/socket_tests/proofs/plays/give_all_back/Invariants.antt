@@ -1,6 +1,0 @@
-use Rattle.aio_word.specs.Views.{Each}
-use Rattle.socket_tests.specs.Calls.{Calls, IsListOf}
-use Rattle.socket_tests.proofs.plays.give_all_back.Given as goal
-
-abbrev pub invariant-loop : goal.invariant-loop
-invariant-loop g l = record { list : IsListOf l.socket l.list; callers : Each (λ c. Calls l.socket c.pass c.ops.items) l.callers.items }

@@ -1,5 +1,0 @@
-use Rattle.socket_tests.specs.Calls.{Calls}
-use Rattle.socket_tests.proofs.plays.works.Given as goal
-
-abbrev pub invariant-loop-line : goal.invariant-loop-line
-invariant-loop-line g l = record { calls : Calls l.socket l.caller.pass l.caller.ops.items }

@@ -1,5 +1,0 @@
-use Rattle.socket_tests.specs.Calls.{Calls}
-use Rattle.socket_tests.proofs.steps.does_rounds.Given as goal
-
-abbrev pub invariant-loop-round : goal.invariant-loop-round
-invariant-loop-round g l = record { calls : Calls l.socket l.caller.pass l.caller.ops.items }

@@ -1,8 +1,0 @@
-use Rattle.sp_socket.proofs.Waits.{still_of, same_twice}
-use Rattle.socket_tests.proofs.two.reply.Goals as goal
-
-pub wait-requires-clause-own : goal.wait-requires-clause-own
-wait-requires-clause-own g c = still_of c.args.socket.now c.args.pass.now c.begin_recv.new.pass c.begin_recv.ensures.pass.same c.requires
-
-pub returns : goal.returns
-returns g c = still_of c.args.socket.now c.args.pass.now c.wait.new.pass (same_twice c.args.pass.now c.begin_recv.new.pass c.wait.new.pass c.begin_recv.ensures.pass.same c.wait.ensures.same) c.requires

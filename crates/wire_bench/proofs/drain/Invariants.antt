@@ -1,5 +1,0 @@
-use Rattle.std.proofs.Common.{◌≡◌, true}
-use Rattle.wire_bench.proofs.drain.Given as goal
-
-abbrev pub invariant-pulls : goal.invariant-pulls
-invariant-pulls g l = (g.W.Wire.shown l.wire).is_open ≡ true

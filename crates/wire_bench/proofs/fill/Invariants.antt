@@ -1,5 +1,0 @@
-use Rattle.std.proofs.Common.{◌≡◌, true}
-use Rattle.wire_bench.proofs.fill.Given as goal
-
-abbrev pub invariant-puts : goal.invariant-puts
-invariant-puts g l = (g.W.Wire.shown l.wire).is_open ≡ true

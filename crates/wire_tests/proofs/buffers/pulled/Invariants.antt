@@ -1,5 +1,0 @@
-use Rattle.std.proofs.Common.{◌≡◌, true}
-use Rattle.wire_tests.proofs.buffers.pulled.Given as goal
-
-abbrev pub invariant-turns : goal.invariant-turns
-invariant-turns g l = (g.W.Wire.shown l.wire).is_open ≡ true

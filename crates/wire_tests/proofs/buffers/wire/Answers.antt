@@ -1,5 +1,0 @@
-use Rattle.sp_base.specs.declared.role.Role.TheVariants as roles
-use Rattle.wire_tests.proofs.buffers.wire.Goals as goal
-
-pub new-requires-3-clause-met : goal.new-requires-3-clause-met
-new-requires-3-clause-met g c = (roles.Pull, tt, tt)

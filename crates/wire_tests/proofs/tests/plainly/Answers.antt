@@ -1,8 +1,0 @@
-use Rattle.std.proofs.Common.{ap, length, arith}
-use Rattle.std.proofs.lemmas.List.{length-append}
-use Rattle.sp_spec.specs.SpTcp.{frame}
-use Rattle.sp_spec.proofs.Shows.{length-frame}
-use Rattle.wire_tests.proofs.tests.plainly.Goals as goal
-
-pub pass-requires : goal.pass-requires
-pass-requires g c = omega (arith, ap length c.in-Message.ensures.front.1.1, length-append (frame c.in-Message.body.now) c.in-Message.ensures.front.1.0, length-frame c.in-Message.body.now)
