@@ -5,6 +5,7 @@ which holds each packet for half the round trip.
 Skipped where no namespace can be made. Each check prints a line; the status is the number of checks that failed.
 """
 import collections
+import contextlib
 import fcntl
 import os
 import select
@@ -28,7 +29,11 @@ def ip(*words):
 
 def device(name):
     fd = os.open("/dev/net/tun", os.O_RDWR | os.O_NONBLOCK)
-    fcntl.ioctl(fd, TUNSETIFF, struct.pack("16sH", name.encode(), IFF_TUN | IFF_NO_PI))
+    try:
+        fcntl.ioctl(fd, TUNSETIFF, struct.pack("16sH", name.encode(), IFF_TUN | IFF_NO_PI))
+    except OSError:
+        os.close(fd)
+        raise
     return fd
 
 
@@ -43,25 +48,32 @@ class Network:
         self.fds = []
 
     def __enter__(self):
-        for i, name in enumerate(self.names):
-            ip("netns", "add", name)
-            tun = f"nc{os.getpid() % 100000}x{i}"
-            self.fds.append(device(tun))
-            ip("link", "set", tun, "netns", name)
-            ip("-n", name, "addr", "add", f"{HOSTS[i]}/24", "dev", tun)
-            ip("-n", name, "link", "set", tun, "up")
-            ip("-n", name, "link", "set", "lo", "up")
-        self.carrier = threading.Thread(target=self.carry)
-        self.carrier.start()
+        # What was made is taken back where a later part fails.
+        with contextlib.ExitStack() as made:
+            for i, name in enumerate(self.names):
+                ip("netns", "add", name)
+                made.callback(ip, "netns", "del", name)
+                tun = f"nc{os.getpid() % 100000}x{i}"
+                fd = device(tun)
+                made.callback(os.close, fd)
+                self.fds.append(fd)
+                ip("link", "set", tun, "netns", name)
+                ip("-n", name, "addr", "add", f"{HOSTS[i]}/24", "dev", tun)
+                ip("-n", name, "link", "set", tun, "up")
+                ip("-n", name, "link", "set", "lo", "up")
+            self.carrier = threading.Thread(target=self.carry)
+            self.carrier.start()
+            made.callback(self.stop)
+            self.made = made.pop_all()
         return self
 
     def __exit__(self, *_):
+        self.made.close()
+
+    def stop(self):
+        """Ends the thread that passes packets on."""
         self.stopped = True
         self.carrier.join()
-        for fd in self.fds:
-            os.close(fd)
-        for name in self.names:
-            ip("netns", "del", name)
 
     def carry(self):
         """Passes each packet on, once it is old enough."""

@@ -151,29 +151,76 @@ def ends_behind_its_peers():
     return push.returncode == 0 and 1.5 < took < 6 and b"did not close in time: 1" in err
 
 
-def slow_peer_gets_all():
-    """A peer that reads late and slowly gets whole messages, though the send timeout passes meanwhile."""
+def ends_with_its_peers():
+    """A push ends as soon as its peer has closed, and not two seconds later."""
     s, port = listener()
     s.close()
+    push = subprocess.Popen([OURS, "--push", "--listen", f"tcp://127.0.0.1:{port}", "--data", "a", "--count", "1"],
+                            stdout=subprocess.PIPE, stderr=subprocess.PIPE)
+    with puller(port) as peer:
+        peer.settimeout(20)
+        while peer.recv(64):
+            pass
+    begun = time.monotonic()
+    _, err = push.communicate(timeout=30)
+    return push.returncode == 0 and time.monotonic() - begun < 1.2 and err == b""
+
+
+def opened(port):
+    """A peer that opened a WebSocket to a push."""
+    for _ in range(200):
+        try:
+            peer = socket.create_connection(("127.0.0.1", port))
+            break
+        except OSError:
+            time.sleep(0.02)
+    peer.sendall(b"GET /x HTTP/1.1\r\nHost: a\r\nUpgrade: websocket\r\nConnection: Upgrade\r\n"
+                 b"Sec-WebSocket-Key: dGhlIHNhbXBsZSBub25jZQ==\r\nSec-WebSocket-Version: 13\r\n"
+                 b"Sec-WebSocket-Protocol: push.sp.nanomsg.org\r\n\r\n")
+    head = b""
+    while not head.endswith(b"\r\n\r\n"):
+        head += peer.recv(1)
+    return peer
+
+
+def slowly_read(address, port, meet):
+    """The status of a push whose send times out while a peer reads late and slowly, and how many bytes the peer got."""
     with tempfile.NamedTemporaryFile() as f:
         f.write(b"x" * 300_000)
         f.flush()
-        push = subprocess.Popen([OURS, "--push", "--listen", f"tcp://127.0.0.1:{port}", "--file", f.name, "--count", "0",
+        push = subprocess.Popen([OURS, "--push", "--listen", address, "--file", f.name, "--count", "0",
                                  "--interval", "0", "--send-timeout", "1"], stdout=subprocess.PIPE, stderr=subprocess.PIPE)
-        with puller(port) as peer:
+        with meet(port) as peer:
             time.sleep(1.5)
             came = 0
             while piece := peer.recv(100_000):
                 came += len(piece)
                 time.sleep(0.03)
         push.communicate(timeout=30)
-    return push.returncode == 2 and came > 16 * 300_000 and (came - 8) % 300_008 == 0
+    return push.returncode, came
+
+
+def slow_peer_gets_all():
+    """A peer that reads late and slowly gets whole messages, though the send timeout passes meanwhile."""
+    s, port = listener()
+    s.close()
+    status, came = slowly_read(f"tcp://127.0.0.1:{port}", port, puller)
+    return status == 2 and came > 16 * 300_000 and (came - 8) % 300_008 == 0
+
+
+def slow_peer_over_websocket_gets_all():
+    """So does one over WebSocket."""
+    s, port = listener()
+    s.close()
+    status, came = slowly_read(f"ws://127.0.0.1:{port}/x", port, opened)
+    return status == 2 and came > 16 * 300_000 and came % 300_010 in (0, 2, 4)
 
 
 def main():
     wrong = 0
     for check in (wrong_words, missing_file, port_in_use, drill, help_and_version, one_message, ids_differ,
-                  data_of_a_file, ends_behind_its_peers, slow_peer_gets_all):
+                  data_of_a_file, ends_behind_its_peers, ends_with_its_peers, slow_peer_gets_all,
+                  slow_peer_over_websocket_gets_all):
         try:
             good = check()
         except Exception as e:  # noqa: BLE001

@@ -1,5 +1,8 @@
 //! What `--help` and `--version` print.
+use crate::complaints::{Ending, say};
 use cat_run::Status;
+use cat_run::real::Reason;
+use std::alloc::Global;
 
 /// What is printed for `--help` alone.
 pub const HELP: &str = "\
@@ -81,10 +84,24 @@ pub fn asked_text(words: &[String]) -> Option<&'static str> {
     }
 }
 
-/// Prints a text. `OutFault` where the output failed.
-pub fn print_text<P: Print>(out: &P, text: &str) -> Status {
+/// Prints a text. `OutFault` where the output failed; then a line on standard error says so, and one says why.
+pub fn print_text<O: Print, E: Print>(out: &O, err: &E, alloc: Global, text: &str) -> Status {
     match out.write_all(text.as_bytes()) {
         Ok(()) => Status::Done,
-        Err(_) => Status::OutFault,
+        Err(e) => {
+            say_out_fault(err, alloc, Reason::of(e));
+            Status::OutFault
+        }
     }
+}
+
+// Says that the output failed, and why.
+fn say_out_fault<E: Print>(err: &E, alloc: Global, reason: Reason) {
+    let text = format!(in alloc; "{reason}").ok();
+    let reason = match &text {
+        Some(text) => Some(text.as_str()),
+        None => None,
+    };
+    let status = Status::OutFault;
+    say(err, alloc, &[], Ending { status, reason });
 }

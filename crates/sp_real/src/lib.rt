@@ -9,7 +9,7 @@
 //! `link` has links, `tcp` the net, `dial` its connections under way, `leave` the links that it got back, `pace` the
 //! clock, `output` standard output, `files` files and standard input, `fault` why something failed. `wake` says which
 //! links are to be read, by what the machine reported of their sockets; links, net and pace share it. `back` says what
-//! became of the links of a net that tells its contents.
+//! became of the links of a net that tells its contents. `side` makes net and clock for a program.
 #![tactic(auto)]
 
 mod back;
@@ -20,6 +20,7 @@ mod leave;
 mod link;
 mod output;
 mod pace;
+mod side;
 mod tcp;
 mod wake;
 
@@ -28,5 +29,6 @@ pub use files::RealFiles;
 pub use link::{Counts, TURN_BYTES, TcpLink};
 pub use output::RealOut;
 pub use pace::RealPace;
+pub use side::real_side;
 pub use tcp::TcpNet;
 pub use wake::Wakes;

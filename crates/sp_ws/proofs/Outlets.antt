@@ -3,7 +3,7 @@ use Rattle.std.proofs.Common.{◌≡◌, ◌≤◌, ◌<◌, ◌+◌, ◌-◌, �
 use Rattle.std.proofs.lemmas.Bool.{cond-true, cond-false}
 use Rattle.std.proofs.lemmas.Bool.Decides.{nat_tests, leb_tells}
 use Rattle.std.proofs.lemmas.List.{length-append, drop_more, take_more, take-append-drop, length-take}
-use Rattle.sp_spec.specs.Outside.{grown}
+use Rattle.sp_base.specs.Outside.{grown}
 use Rattle.sp_base.specs.Views.{LinkView}
 use Rattle.sp_base.specs.Steps.{Went, Quiet}
 use Rattle.sp_ws.specs.Views.{FramesView, FrameOutletView, count_of}

@@ -6,7 +6,7 @@ use Rattle.std.proofs.lemmas.List.Elements.{All-nil, All-cons, All-append, All-w
 use Rattle.tungstenite.specs.declared.error.Error.{Error}
 use Rattle.tungstenite.specs.declared.message.Message.{Message}
 use Rattle.tungstenite.specs.declared.message.Message.TheVariants as messages
-use Rattle.sp_spec.specs.Outside.{Rose, grown}
+use Rattle.sp_base.specs.Outside.{Rose, grown}
 use Rattle.sp_base.specs.Views.{LinkView}
 use Rattle.sp_base.specs.Steps.{Came, Quiet}
 use Rattle.sp_msg.specs.declared.wire.WireIn.{WireIn}

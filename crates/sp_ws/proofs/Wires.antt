@@ -2,7 +2,7 @@
 use Rattle.std.proofs.Common.{◌≡◌, ◌≤◌, ◌<◌, ◌+◌, ◌-◌, ◌++◌, ℕ, Bool, true, false, List, [], ◌∷◌, length, take, Option, Some, None, refl, sym, ap, subst, ◌∙◌, inl, inr, append-nil, append_assoc, arith}
 use Rattle.std.proofs.lemmas.List.{length-append, take_at}
 use Rattle.sp_base.specs.Views.{LinkView}
-use Rattle.sp_spec.specs.Outside.{grown}
+use Rattle.sp_base.specs.Outside.{grown}
 use Rattle.sp_base.specs.Steps.{Came, Went, Moved, AfterShut as LinkShut}
 use Rattle.sp_base.specs.Wires.{scheme_number}
 use Rattle.sp_msg.specs.Links.{ReadCounts, WriteCounts}

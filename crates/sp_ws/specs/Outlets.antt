@@ -1,6 +1,6 @@
 -- What sending and writing do to what waits.
 use Rattle.std.specs.Prelude.{◌≡◌, ◌≤◌, ◌<◌, ◌+◌, ◌-◌, ◌++◌, ◌⊎◌, ℕ, cond, nat_lt, List, [], ◌∷◌, length}
-use Rattle.sp_spec.specs.Outside.{Rose}
+use Rattle.sp_base.specs.Outside.{Rose}
 use Rattle.sp_base.specs.Views.{LinkView}
 use Rattle.sp_base.specs.Steps.{Went}
 use Rattle.sp_base.specs.declared.outside.LinkWrite.{LinkWrite}

@@ -1,6 +1,6 @@
 -- What a wire over WebSocket shows, and what ties it to its link and its frames.
 use Rattle.std.specs.Prelude.{◌≡◌, ◌≤◌, ◌<◌, ◌+◌, ◌-◌, ◌++◌, ◌⊎◌, ℕ, Bool, true, false, cond, List, [], ◌∷◌, length, take, Some, None}
-use Rattle.sp_spec.specs.Outside.{Rose, grown}
+use Rattle.sp_base.specs.Outside.{Rose, grown}
 use Rattle.sp_base.specs.Views.{LinkView}
 use Rattle.sp_base.specs.Steps.{Moved, Went}
 use Rattle.sp_base.specs.Wires.{scheme_number}

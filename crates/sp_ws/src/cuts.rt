@@ -4,9 +4,6 @@ ghost use Rattle.std.specs.Prelude.{◌≤◌, length};
 use websocket::protocol::frame::FrameHeader;
 use websocket::protocol::frame::coding::OpCode;
 
-/// How long a frame may be whose buffer is kept.
-const USUAL_FRAME: u64 = 131_072;
-
 /// The cuts between the frames of the bytes that were passed over so far.
 #[derive(Clone, Copy, Debug, Drop)]
 pub(crate) struct Cuts {
@@ -19,8 +16,8 @@ pub(crate) struct Cuts {
     is_begun: bool,
     /// What came is no header.
     is_broken: bool,
-    /// A frame was longer than usual.
-    is_long: bool,
+    /// The most bytes that a frame had, or that were passed over at once.
+    most: u64,
     ghost inside: { got ≤ 14 },
 }
 
@@ -33,21 +30,25 @@ impl Cuts {
             left: 0,
             is_begun: false,
             is_broken: false,
-            is_long: false,
+            most: 0,
         }
     }
 
-    /// Whether all frames came whole, and with them all messages that were begun; and one was longer than usual.
-    pub(crate) fn are_long_and_whole(&self) -> bool {
-        let is_whole = self.got == 0 && self.left == 0 && !self.is_begun;
-        self.is_long && is_whole && !self.is_broken
+    /// Whether all frames came whole, and with them all messages that were begun.
+    pub(crate) fn are_whole(&self) -> bool {
+        self.got == 0 && self.left == 0 && !self.is_begun && !self.is_broken
+    }
+
+    /// The most bytes that a frame had, or that were passed over at once.
+    pub(crate) fn most(&self) -> u64 {
+        self.most
     }
 
     // A frame with this header, and so many bytes of payload, is next.
     fn begin(&mut self, header: FrameHeader, size: u64) {
         self.got = 0;
         self.left = size;
-        self.is_long = self.is_long || size > USUAL_FRAME;
+        self.most = self.most.max(size);
         if let OpCode::Data(_) = header.opcode {
             self.is_begun = !header.is_final;
         }
@@ -85,6 +86,7 @@ impl Cuts {
 
     /// Passes over these bytes.
     pub(crate) fn pass(&mut self, b: &[u8]) {
+        self.most = self.most.max(b.len() as u64);
         let mut at = 0;
         'passes: while at < b.len() {
             at += self.pass_some(b[at], b.len() - at);

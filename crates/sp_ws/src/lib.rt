@@ -20,6 +20,7 @@ mod memory;
 mod outlet;
 mod reads;
 mod replies;
+mod rooms;
 mod side;
 mod socket;
 mod stream;

@@ -80,6 +80,11 @@ impl MemorySocket {
             breaks: 0,
         }
     }
+
+    /// How many bytes of room its buffers have, but for those of the `tungstenite` socket.
+    pub(crate) fn capacity(&self) -> usize {
+        self.stream.capacity()
+    }
 }
 
 impl Frames for MemorySocket {

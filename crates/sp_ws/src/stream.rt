@@ -12,6 +12,7 @@ use crate::log::{Log, NextBody};
 use crate::memory::{Keys, Memory};
 use crate::reads::{Given, ReadLog};
 use crate::replies::Replies;
+use crate::rooms::{KEPT_ROOM, give_back};
 use crate::waiting::Waiting;
 use sp_base::{Bytes, NoMemory, next_value};
 use std::alloc::Global;
@@ -21,6 +22,12 @@ use websocket::error::ProtocolError;
 
 /// How many bytes the socket asks for in one read of its stream.
 const READ_BYTES: usize = 4_096;
+
+/// How many bytes may have been handed over at once, or in one frame, to a socket that is kept.
+const USUAL_ROOM: u64 = 131_072;
+
+/// How many reads in a row bring nothing before more of the room is let go.
+const QUIET_READS: u32 = 64;
 
 /// The socket; what was fed and not handed over to it; and what it wrote.
 #[derive(Drop)]
@@ -39,6 +46,8 @@ pub(crate) struct Stream {
     pub handed: Log,
     /// Where that is cut into frames.
     pub cuts: Cuts,
+    /// How many reads in a row found no message since something was fed.
+    pub quiet: u32,
     /// What waits for the link, and the replies among it.
     pub out: Waiting,
     pub replies: Replies,
@@ -160,6 +169,7 @@ impl Stream {
             fed: Vec::new(alloc),
             handed: Log::none(),
             cuts: Cuts::new(),
+            quiet: 0,
             out: Waiting::new(alloc),
             replies: Replies::none(),
             reads: ReadLog::none(),
@@ -182,6 +192,7 @@ impl Stream {
         }
         self.handed = self.handed.and(&NextBody { bytes: &self.fed });
         self.cuts.pass(&self.fed);
+        self.quiet = 0;
         self.fed.clear();
         true
     }
@@ -235,21 +246,59 @@ impl Stream {
         memory.unread() == unread && memory.out.len() == left
     }
 
-    /// Takes a new socket in place of one whose buffer a long frame took. It is open and keeps nothing then: all that it
+    // How many bytes may have been handed over at once, or in one frame, to a socket that is kept.
+    fn kept_room(&self) -> u64 {
+        if self.quiet >= QUIET_READS {
+            KEPT_ROOM as u64
+        } else {
+            USUAL_ROOM
+        }
+    }
+
+    /// Takes a new socket in place of one whose buffers much has taken. It is open and keeps nothing then: all that it
     /// was given were whole frames of whole messages, which it read.
     fn renew(&mut self)
         ensures kept { KeptUnread true self.old self.new }
         ensures out { self.new.out ≡ self.old.out }
         ensures reads { self.new.reads ≡ self.old.reads }
     {
-        if !self.cuts.are_long_and_whole() || !self.socket.can_write() {
+        if self.cuts.most() <= self.kept_room() {
+            return;
+        }
+        if !self.cuts.are_whole() || !self.socket.can_write() {
             return;
         }
         let memory = self.socket.get_ref();
         if memory.unread() == 0 && memory.out.is_empty() {
+            self.seed = next_value(self.seed);
             self.socket = new_socket(self.alloc, self.role, self.seed, self.max);
             self.cuts = Cuts::new();
         }
+    }
+
+    /// Lets go of buffers that a long message took, and of those of a link that brought nothing for long. No message is
+    /// left of what was fed.
+    fn give_back_room(&mut self)
+        ensures fed { self.new.fed.items ≡ self.old.fed.items }
+        ensures unread { unread_of self.new ≡ unread_of self.old }
+        ensures handed { self.new.handed ≡ self.old.handed }
+        ensures role { self.new.role ≡ self.old.role }
+        ensures out { self.new.out ≡ self.old.out }
+        ensures reads { self.new.reads ≡ self.old.reads }
+    {
+        self.quiet = self.quiet.saturating_add(1);
+        if self.quiet >= QUIET_READS {
+            give_back(&mut self.fed);
+        }
+        self.renew();
+    }
+
+    /// How many bytes of room its own buffers have. Those of the socket show nothing of theirs.
+    pub(crate) fn capacity(&self) -> usize {
+        let memory = self.socket.get_ref();
+        let came = self.fed.capacity().saturating_add(memory.fed.capacity());
+        let goes = self.out.capacity().saturating_add(memory.out.capacity());
+        came.saturating_add(goes)
     }
 
     /// One read of the socket, which is noted. No other function reads it.
@@ -301,7 +350,7 @@ impl Stream {
             return FrameIn::NoMemory;
         }
         if let FrameIn::Idle = returned {
-            self.renew();
+            self.give_back_room();
         }
         returned
     }

@@ -1,12 +1,10 @@
 //! Bytes that wait for the link.
 ghost use Rattle.std.specs.Prelude.{◌≡◌, ◌≤◌, ◌++◌, [], length, drop, OnOk, OnErr};
 
+use crate::rooms::give_back;
 use sp_base::NoMemory;
 use std::alloc::Global;
 use std::marker::Model;
-
-/// How much memory is kept once all of them went; more was taken for long messages.
-pub(crate) const USUAL_ROOM: usize = 131_072;
 
 /// Bytes that wait for the link, behind those that it took. The rest moves to the front once it is no longer than what
 /// was taken, so that a byte moves less than once on the average.
@@ -52,6 +50,11 @@ impl Waiting {
         self.bytes.len() - self.taken
     }
 
+    /// How many bytes it has room for.
+    pub(crate) fn capacity(&self) -> usize {
+        self.bytes.capacity()
+    }
+
     /// These wait behind the others.
     pub(crate) fn extend(&mut self, b: &[u8]) -> Result<(), NoMemory>
         ensures ok { OnOk result (self.new ≡ self.old ++ b.now) }
@@ -71,8 +74,6 @@ impl Waiting {
             self.bytes.drain(..self.taken);
             self.taken = 0;
         }
-        if self.bytes.is_empty() {
-            self.bytes.shrink_to(USUAL_ROOM);
-        }
+        give_back(&mut self.bytes);
     }
 }

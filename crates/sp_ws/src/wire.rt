@@ -111,6 +111,12 @@ impl<L: Link> WsWire<L> {
         self.marks.is_open
     }
 
+    /// How many bytes of room its buffers have, but for those of the `tungstenite` socket, which are let go with it.
+    pub fn capacity(&self) -> usize {
+        let came = self.room.capacity().saturating_add(self.frames.capacity());
+        came.saturating_add(self.outlet.capacity())
+    }
+
     /// The link, as it is.
     pub fn into_link(self) -> L
         ensures link { L.seen result ≡ self.link }

@@ -80,6 +80,12 @@ fn a_slow_peer_gets_all_that_was_written(rt: HostRuntime) {
     real_plays(&rt, "leaves slow 28555");
 }
 
+// A link that was given back is read in turns of 64 reads, of 4,096 bytes each.
+#[test]
+fn a_peer_that_still_sends_gets_all_that_was_written(rt: HostRuntime) {
+    real_plays(&rt, "leaves sending 28795");
+}
+
 #[test]
 fn a_peer_that_does_not_end_is_waited_for_two_seconds(rt: HostRuntime) {
     real_plays(&rt, "leaves silent 28595");

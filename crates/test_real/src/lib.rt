@@ -23,4 +23,6 @@ mod outputs;
 #[cfg(test)]
 mod real;
 #[cfg(test)]
+mod still;
+#[cfg(test)]
 mod websocket;

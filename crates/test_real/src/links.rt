@@ -11,6 +11,7 @@
 //! | `floods 400000 28475` | of so many bytes a link gives a part, then none once, and the next rest is none |
 //! | `under_way made 28515` | a connection that the machine doesn't make at once is under way, and made when it is reported |
 //! | `leaves slow 28555` | a peer that takes its time, and sends a byte, gets all that was written |
+//! | `leaves sending 28795` | so does one that sends much more than a turn reads of it |
 //! | `leaves silent 28595` | two that don't end their streams are waited for, for two seconds in all, and counted |
 //! | `says in_use 28635` | why a listen failed: somebody listens there |
 //! | `says elsewhere 28675` | why a listen failed: the address is another machine's |
@@ -506,13 +507,13 @@ fn fill_link<L: Link>(link: &mut L, bytes: &[u8]) -> usize
     sent
 }
 
-// A peer that waits until the link is given back, sends a byte, and reads to the end; how many bytes came.
-fn reads_slowly<R: Clock, S: Read + Write + Drop>(rt: &R, stream: S) -> usize {
+// A peer that waits until the link is given back, sends these bytes, and reads to the end; how many bytes came.
+fn reads_slowly<R: Clock, S: Read + Write + Drop>(rt: &R, stream: S, sends: &[u8]) -> usize {
     let mut stream = stream;
     let mut buffer = [0u8; 16_384];
     let mut came = 0usize;
     thread::sleep(rt, Duration::from_millis(200));
-    if stream.write_all(b"x").is_err() {
+    if stream.write_all(sends).is_err() {
         return 0;
     }
     for turn in 0..10_000 {
@@ -524,12 +525,12 @@ fn reads_slowly<R: Clock, S: Read + Write + Drop>(rt: &R, stream: S) -> usize {
     came
 }
 
-// Whether a peer that reads slowly gets all that was written on a link that was given back.
+// Whether a peer that sends these bytes and reads slowly gets all that was written on a link that was given back.
 fn leaves_whole<
     S: std::net::Net<Stream = TcpStream> + Clock + Threads + Sync,
     N: Finishes<P>,
     P: Rests,
->(system: &S, net: &mut N, pace: &mut P, bytes: &[u8], first: u16) -> Option<bool> {
+>(system: &S, net: &mut N, pace: &mut P, bytes: &[u8], sends: &[u8], first: u16) -> Option<bool> {
     let (at, port) = listening(net, false, first)?;
     let peer = TcpStream::connect(system, here(port)).ok()?;
     let mut link = accepted(net, at, pace)?;
@@ -537,7 +538,7 @@ fn leaves_whole<
     done(net, link);
     let (came, lost) = thread::join(
         system,
-        move || reads_slowly(system, peer),
+        move || reads_slowly(system, peer, sends),
         || net.finishes(pace),
     );
     Some(sent > 500_000 && came == sent && lost == 0)
@@ -627,7 +628,11 @@ fn is_so<
         ("under_way", "made") => is_made_later(system, net, pace, port),
         ("leaves", "slow") => {
             let bytes = patterned(alloc, 2_400_000).ok()?;
-            leaves_whole(system, net, pace, &bytes, port)
+            leaves_whole(system, net, pace, &bytes, b"x", port)
+        }
+        ("leaves", "sending") => {
+            let bytes = patterned(alloc, 4_000_000).ok()?;
+            leaves_whole(system, net, pace, &bytes, &bytes, port)
         }
         ("leaves", "silent") => waits_for_end(system, net, pace, port),
         ("says", _) => says(net, alloc, word, port),

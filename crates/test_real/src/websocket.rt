@@ -183,8 +183,8 @@ fn is_so<
     Some(done && heard.as_slice() == talk.hears)
 }
 
-// The words between spaces.
-fn words_of(rt: &impl Abort, alloc: Global, text: &str) -> Vec<String> {
+/// The words between spaces.
+pub(crate) fn words_of(rt: &impl Abort, alloc: Global, text: &str) -> Vec<String> {
     let mut words = Vec::new(alloc);
     for word in text.split(' ') {
         made(rt, words.push(made(rt, String::from_str(alloc, word))));
@@ -192,7 +192,8 @@ fn words_of(rt: &impl Abort, alloc: Global, text: &str) -> Vec<String> {
     words
 }
 
-fn here(port: u16) -> SocketAddr {
+/// A port of this machine.
+pub(crate) fn here(port: u16) -> SocketAddr {
     SocketAddr::new(IpAddr::V4(Ipv4Addr::new(127, 0, 0, 1)), port)
 }
 

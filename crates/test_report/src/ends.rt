@@ -222,11 +222,16 @@ fn help_and_version_stand_alone(rt: HostRuntime) {
 
 #[test]
 fn a_text_is_printed_whole_or_the_output_failed(rt: HostRuntime) {
-    let page = Page::new(rt.alloc(), false);
-    same(&rt, print_text(&page, HELP), Status::Done);
+    let alloc = rt.alloc();
+    let err = Page::new(alloc, false);
+    let page = Page::new(alloc, false);
+    same(&rt, print_text(&page, &err, alloc, HELP), Status::Done);
     holds(&rt, page.take().as_slice() == HELP.as_bytes());
-    let page = Page::new(rt.alloc(), true);
-    same(&rt, print_text(&page, HELP), Status::OutFault);
+    holds(&rt, err.take().is_empty());
+    let page = Page::new(alloc, true);
+    same(&rt, print_text(&page, &err, alloc, HELP), Status::OutFault);
+    let said = b"nngcat: output fault\nnngcat: broken pipe\n";
+    holds(&rt, err.take().as_slice() == said.as_slice());
 }
 
 #[test]

@@ -93,8 +93,8 @@ fn pulls<W: Wire, R: Wait + Abort>(alloc: Global, rt: &R, wire: &mut W) -> Vec<u
     said
 }
 
-// The same of a wire on this side over this link, which has read this already.
-fn pulled<R: Wait + Abort>(
+/// The same of a wire on this side over this link, which has read this already.
+pub(crate) fn pulled<R: Wait + Abort>(
     alloc: Global,
     rt: &R,
     link: MemLink,

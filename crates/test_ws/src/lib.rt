@@ -15,6 +15,8 @@ mod hostile;
 #[cfg(test)]
 mod links;
 #[cfg(test)]
+mod room;
+#[cfg(test)]
 mod rows;
 #[cfg(test)]
 mod sockets;

@@ -1,14 +1,14 @@
 //! Links in memory that are opened by a greeting, by serving and by asking, with exact bytes.
 ghost use Rattle.sp_base.specs.Steps.{IsNew};
 ghost use Rattle.sp_fakes.specs.MemLinks.{link_view};
-ghost use Rattle.link_opening.specs.Openings.{CanBegin};
-ghost use Rattle.link_opening.specs.Going.{IsUnderWay};
+ghost use Rattle.sp_links.specs.Openings.{CanBegin};
+ghost use Rattle.sp_links.specs.Going.{IsUnderWay};
 
 use crate::checks::{holds, made};
 use crate::heads::{REQUEST, RESPONSE};
-use link_opening::{Opening, Progress, Way};
 use sp_base::{Addr, Bytes, Host, Role, Scheme};
 use sp_fakes::{LinkStep, MemLink};
+use sp_links::{Opening, Progress, Way};
 use std::alloc::Global;
 use std::process::Abort;
 
