@@ -4,7 +4,6 @@ use crate::makers::{Made, Scripted, driver_of};
 use crate::scripts::{Gives, gives_of, script};
 use bench_base::line::Line;
 use bench_base::timing::{Watch, report};
-use core_driver::Driver;
 use sp_base::{Ctx, OpName, Tick};
 use sp_core::Outcome;
 use sp_msg::{Message, Wire};
@@ -13,6 +12,7 @@ use std::alloc::Global;
 use std::io::{Eprint, Print};
 use std::sync::Wait;
 use std::time::Clock;
+use test_core_driver::Driver;
 
 // No text names more receives: the list doesn't grow while calls are measured.
 const NAMES: usize = 8_192;

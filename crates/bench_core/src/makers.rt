@@ -1,9 +1,8 @@
 //! Machines, wires and cores that can be made. Plays are over any of them: written-out types are dear to prove about.
 ghost use Rattle.std.specs.Prelude.{◌<◌, ◌≤◌, IfOk};
 ghost use Rattle.sp_proto.specs.Kinds.{Kind, Starts};
-ghost use Rattle.core_parts.specs.Wires.{IsUnused};
+ghost use Rattle.core_state.specs.Wires.{IsUnused};
 
-use core_driver::Driver;
 use proto_pipeline::{Pull, Push};
 use proto_reqrep::{Reply, Request};
 use proto_survey::Survey;
@@ -13,6 +12,7 @@ use sp_history::setting::Options;
 use sp_msg::Wire;
 use sp_proto::Proto;
 use std::alloc::Global;
+use test_core_driver::Driver;
 
 /// A machine that can be made.
 pub trait Made: Proto {

@@ -1,7 +1,7 @@
 //! The same calls of a core that its one caller has for itself.
 ghost use Rattle.std.specs.Prelude.{IfOk};
 ghost use Rattle.sp_proto.specs.Kinds.{Kind, Starts};
-ghost use Rattle.core_parts.specs.Wires.{IsUnused};
+ghost use Rattle.core_state.specs.Wires.{IsUnused};
 ghost use Rattle.bench_socket.specs.Alone.{IsAlone};
 
 use crate::work::Work;

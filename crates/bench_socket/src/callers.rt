@@ -1,7 +1,7 @@
 //! The passes of the socket that is measured.
 ghost use Rattle.std.specs.Prelude.{◌≡◌, ◌<◌, [], length, false, IfOk};
 ghost use Rattle.sp_proto.specs.Kinds.{Kind, Starts};
-ghost use Rattle.core_parts.specs.Wires.{IsUnused};
+ghost use Rattle.core_state.specs.Wires.{IsUnused};
 ghost use Rattle.bench_socket.specs.Lent.{AreLent};
 
 use crate::work::{Work, by_all};

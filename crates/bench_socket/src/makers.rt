@@ -1,7 +1,7 @@
 //! Machines and wires that can be made. Runs are over any of them: written-out types are dear to prove about.
 ghost use Rattle.std.specs.Prelude.{IfOk};
 ghost use Rattle.sp_proto.specs.Kinds.{Kind, Starts};
-ghost use Rattle.core_parts.specs.Wires.{IsUnused};
+ghost use Rattle.core_state.specs.Wires.{IsUnused};
 
 use proto_pipeline::Pull;
 use sp_base::{Bytes, NoMemory, Role};

@@ -19,7 +19,7 @@ use Rattle.proto_pipeline.specs.declared.pull.Pull.{Pull}
 use Rattle.proto_pipeline.specs.Pulls.{Ties, pull_kind}
 use Rattle.proto_pipeline.specs.PullLaws as laws
 use Rattle.cat_play.specs.Drilling.{drill_setting}
-use Rattle.drill_rounds.specs.Calling.{IsDrillPass, AreFourCallers}
+use Rattle.cat_drill.specs.Calling.{IsDrillPass, AreFourCallers}
 use Rattle.cat_drill.specs.Ending.{IsFedBy}
 use Rattle.cat_drill.proofs.Laws.{attached_named}
 

@@ -11,8 +11,8 @@ use Rattle.sp_history.specs.declared.entry.Entry.TheVariants.{End, Tick}
 use Rattle.sp_history.specs.Lists.{same_op}
 use Rattle.sp_history.proofs.OnceHolds.{same_op-refl}
 use Rattle.sp_socket.specs.Due.{AllWereDue}
-use Rattle.cat_play.specs.Playing.{each}
-use Rattle.cat_play.specs.Recording.{was_due, times_out_rightly}
+use Rattle.sp_ends.specs.Entries.{each}
+use Rattle.sp_ends.specs.LinkRecords.{was_due, times_out_rightly}
 
 or_true : (b : Bool) → (b || true) ≡ true
 or_true true = refl

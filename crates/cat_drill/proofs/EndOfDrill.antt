@@ -8,7 +8,7 @@ use Rattle.std.proofs.lemmas.List.Sorted.{IsPermutation-refl}
 use Rattle.turn_lock.specs.declared.turn.Turn.{Turn}
 use Rattle.turn_lock.specs.History.{StartsWith}
 use Rattle.aio_word.specs.Views.{Each}
-use Rattle.sp_spec.specs.Outside.{grown, Rose}
+use Rattle.sp_base.specs.Outside.{grown, Rose}
 use Rattle.sp_base.specs.Views.{NetView, FilesView, PaceView, SinkView}
 use Rattle.sp_msg.specs.Views.{OverLanes}
 use Rattle.sp_base.specs.Wires.{WireView, numbers_of}
@@ -16,7 +16,7 @@ use Rattle.sp_history.specs.declared.entry.Entry.{Entry}
 use Rattle.sp_history.specs.declared.entry.RecordedMessage.{RecordedMessage}
 use Rattle.sp_history.specs.declared.entry.Totals.{Totals}
 use Rattle.sp_history.specs.declared.entry.Why.{Why}
-use Rattle.core_parts.specs.declared.pipes.DownPipe.{DownPipe}
+use Rattle.core_state.specs.declared.pipes.DownPipe.{DownPipe}
 use Rattle.sp_core.specs.Parts.{HasWires}
 use Rattle.sp_history.specs.declared.setting.Setting.{Setting}
 use Rattle.sp_history.specs.Past.{past_of, frames, name_of, is_closed}
@@ -25,7 +25,7 @@ use Rattle.sp_history.specs.Settled.{Settled}
 use Rattle.sp_history.specs.Given.{given}
 use Rattle.sp_core.specs.declared.label.CoreLabel.{CoreLabel}
 use Rattle.sp_core.specs.Closing.{closed_totals, ClosedBy}
-use Rattle.core_parts.specs.Wires.{IsDownWire}
+use Rattle.core_state.specs.Wires.{IsDownWire}
 use Rattle.sp_socket.specs.Passes.{SocketName, PassView, ListView, label_with}
 use Rattle.sp_socket.specs.Finishing.{IsRecord, FitsIn, HasSeenClose}
 use Rattle.sp_socket.specs.Turns.{TookTurn}
@@ -36,15 +36,15 @@ use Rattle.cat_play.specs.Drilling.{drill_setting, lines, values, bodies, Drills
 use Rattle.cat_play.specs.Running.{world, RunsDrill, IsCutShort}
 use Rattle.sp_lane.specs.Items.{texts}
 use Rattle.sp_lane.specs.Lanes.{OutView, Joined}
-use Rattle.drill_rounds.specs.declared.source.DrillSource.{DrillSource}
-use Rattle.drill_rounds.specs.DrillWires.{IsSource}
-use Rattle.drill_rounds.specs.Calling.{IsDrillPass, Later}
+use Rattle.cat_drill.specs.declared.source.DrillSource.{DrillSource}
+use Rattle.cat_drill.specs.DrillWires.{IsSource}
+use Rattle.cat_drill.specs.Calling.{IsDrillPass, Later}
 use Rattle.cat_drill.specs.Ending.{IsFedBy, IsOut, ClosesWith, CameFrom, Prints}
-use Rattle.drill_rounds.proofs.DrillCallers.{is_of}
+use Rattle.cat_drill.proofs.DrillCallers.{is_of}
 use Rattle.cat_drill.proofs.Due.{due_each}
 use Rattle.cat_drill.proofs.Laws.{gives_all, still_named}
-use Rattle.drill_rounds.proofs.Values.{length_bodies}
-use Rattle.drill_rounds.proofs.DrillWireReads.{same_lane}
+use Rattle.cat_drill.proofs.Values.{length_bodies}
+use Rattle.cat_drill.proofs.DrillWireReads.{same_lane}
 
 -- ---- The lane
 

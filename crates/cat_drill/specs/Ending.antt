@@ -9,12 +9,12 @@ use Rattle.sp_history.specs.declared.entry.Totals.{Totals}
 use Rattle.sp_history.specs.declared.entry.Why.{Why}
 use Rattle.sp_history.specs.Past.{past_of, name_of, ups}
 use Rattle.sp_core.specs.Closing.{closed_totals}
-use Rattle.core_parts.specs.Wires.{IsDownWire}
+use Rattle.core_state.specs.Wires.{IsDownWire}
 use Rattle.sp_lane.specs.Items.{texts}
 use Rattle.sp_lane.specs.Lanes.{OutView}
 use Rattle.sp_socket.specs.Passes.{SocketName, ListView}
 use Rattle.sp_base.specs.Views.{NetView, FilesView, PaceView, SinkView}
-use Rattle.sp_spec.specs.Outside.{Rose, grown}
+use Rattle.sp_base.specs.Outside.{Rose, grown}
 use Rattle.cat_play.specs.declared.status.Status.{Status}
 use Rattle.cat_play.specs.declared.status.Status.TheVariants as status
 use Rattle.cat_play.specs.Drilling.{lines, drill_setting}

@@ -1,1 +1,3 @@
 pub mod Ending
+pub mod DrillWires
+pub mod Calling

@@ -2,8 +2,8 @@
 use Rattle.std.specs.Prelude.{◌≡◌, ◌≢◌, ◌⊎◌, ◌≤◌, ◌<◌, ℕ, true, false, Bool, IsTrue, ⊤, List, [], ◌∷◌, ◌++◌, Option, Some, None}
 use Rattle.std.specs.FinMap.{get}
 use Rattle.turn_lock.specs.declared.turn.Turn.{Turn}
-use Rattle.sp_spec.specs.Outside.{Rose, grown, IsPrefix, Told}
-use Rattle.sp_spec.specs.SpTcp.{text}
+use Rattle.sp_base.specs.Outside.{Rose, grown, IsPrefix, Told}
+use Rattle.sp_base.specs.SpTcp.{text}
 use Rattle.sp_base.specs.Views.{LinkView, NetView, PaceView, SinkView, FilesView}
 use Rattle.sp_base.specs.Roles.{role_number}
 use Rattle.sp_base.specs.declared.role.Role.{Role}
@@ -30,8 +30,8 @@ use Rattle.cat_play.specs.declared.status.Status.TheVariants as status
 use Rattle.cat_play.specs.Plans.{Play, IsPlayOf}
 use Rattle.cat_play.specs.Scripts.{counted, texts, joined, has_reached, timed_out}
 use Rattle.cat_play.specs.Playing.{Plays}
-use Rattle.cat_play.specs.Openings.{Ways}
-use Rattle.cat_play.specs.Recording.{lane_place, place_of, Records}
+use Rattle.sp_links.specs.Ways.{Ways}
+use Rattle.sp_ends.specs.LinkRecords.{lane_place, place_of, Records, max_body, AreWhole, has_dry_miss, KeepsOthers}
 use Rattle.cat_play.specs.Spending.{Spends, EndsInTime}
 use Rattle.cat_play.specs.Drilling.{lines, Drills, GivesAll}
 
@@ -49,22 +49,12 @@ world net files pace sink = record { net = net; files = files; pace = pace; sink
 abbrev pub run_setting : Role → ℕ → Setting
 run_setting role dice = record { role = role; raw = false; options = usual role dice; slots = 16; callers = 1 }
 
--- the most bytes of a body
-abbrev pub max_body : ℕ
-max_body = 1048576
-
 -- ---- Statuses
 
 -- two listens on one name within the process
 abbrev pub ListensTwice : List End → Type 0
 ListensTwice es =
     (name : List ℕ) × (a : List End) × (b : List End) × (c : List End) × (es ≡ a ++ ends.Listen (addrs.Inproc name) ∷ b ++ ends.Listen (addrs.Inproc name) ∷ c)
-
--- each told link of TCP whose pipe was up when the socket closed holds its whole text
-abbrev pub AreWhole : Setting → NetView → List Entry → Type 0
-AreWhole z net past =
-    (p place : ℕ) (link : LinkView) → down_for past p ≡ Some whys.Closed → place_of past p ≡ Some place → place ≢ lane_place → place < net.opened → get net.back place ≡ Some link → link.scheme ≡ schemes.Tcp
-    → Told link.written (λ written. written ≡ text (role_number z.role) (outs past p))
 
 -- the play came to its end: the count is reached, or a receive timed out
 abbrev pub IsFinished : Setting → Play → List Entry → Type 0
@@ -118,16 +108,6 @@ abbrev pub Printed : Status → List (List ℕ) → World → World → Type 0
 Printed status.OutFault ts old new = (piece : List ℕ) × IsCutShort ts piece × (new.sink.text ≡ grown old.sink.text piece)
 Printed status.NoMemory ts old new = (piece : List ℕ) × IsCutShort ts piece × (new.sink.text ≡ grown old.sink.text piece)
 Printed _ ts old new = new.sink.text ≡ grown old.sink.text (joined ts)
-
--- a link was missed when out of memory
-abbrev pub has_dry_miss : List Entry → Bool
-has_dry_miss [] = false
-has_dry_miss (NoUp place misses.NoMemory ∷ past) = true
-has_dry_miss (_ ∷ past) = has_dry_miss past
-
--- links of other runs stay as they are
-abbrev pub KeepsOthers : NetView → NetView → Type 0
-KeepsOthers old new = (place : ℕ) → (place < old.opened) ⊎ (new.opened ≤ place) → get new.back place ≡ get old.back place
 
 -- a run that opened its socket
 pub record Runs (ways : Ways) (s : Status) (plan : CatPlan) (play : Play) (dice : ℕ) (record_ : List (Turn Entry)) (old new : World) : Type 0 where

@@ -19,41 +19,8 @@ use Rattle.cat_text.specs.declared.plan.End.TheVariants as ends
 use Rattle.sp_history.specs.Found.{ticks, before_last_tick}
 use Rattle.cat_play.specs.Plans.{Play}
 use Rattle.cat_play.specs.Scripts.{over}
-use Rattle.cat_play.specs.Recording.{greeting, lane_place, place_of, IsBack, HoldsAll}
-
--- a count that can still rise
-abbrev pub CanRise : ℕ → Type 0
-CanRise n = n < 2 ^ 64 - 1
-
--- ---- Ticks
-
--- how many ticks came where this held
-abbrev pub ticks_where : (List Entry → Bool) → List Entry → ℕ
-ticks_where test [] = 0
-ticks_where test (Tick t due ∷ past) = if test past then ticks_where test past + 1 else ticks_where test past
-ticks_where test (_ ∷ past) = ticks_where test past
-
--- ---- Links in progress, and quiet pipes
-
--- the ticks at which the link was in progress
-abbrev pub greeting_ticks : List Entry → ℕ → ℕ
-greeting_ticks past place = ticks_where (λ before. has (greeting before) place) past
-
--- while a link was in progress it returned at least once a round, but for one, that nothing was there or that it took
--- nothing
-abbrev pub IsAsked : List Entry → ℕ → LinkView → Type 0
-IsAsked past place link = CanRise link.idles → CanRise link.stalls → greeting_ticks past place ≤ link.idles + link.stalls + 1
-
--- the turn found nothing to pull from the pipe
-abbrev pub is_idle_turn : ℕ → Turn Entry → Bool
-is_idle_turn p t = list_any (is_quiet p) t.entries && (frame_count t.entries p == 0)
-
-abbrev pub idle_turns : List (Turn Entry) → ℕ → ℕ
-idle_turns record_ p = length (filter (is_idle_turn p) record_)
-
--- such turns, but for one, are as many as the times at which its link had nothing, and its frames, together
-abbrev pub IsRead : List (Turn Entry) → ℕ → LinkView → Type 0
-IsRead record_ p link = CanRise link.idles → idle_turns record_ p ≤ link.idles + length (frames (past_of record_) p) + 1
+use Rattle.sp_ends.specs.LinkRecords.{greeting, lane_place, place_of, IsBack, HoldsAll}
+use Rattle.sp_ends.specs.LinkCounts.{CanRise, ticks_where, IsAsked, IsRead, has_room}
 
 -- ---- Listeners and dialers
 
@@ -72,10 +39,6 @@ listens_of es = length (filter is_linked_listen es)
 
 abbrev pub dials_of : List End → ℕ
 dials_of es = length (filter is_linked_dial es)
-
--- at most 192 links are in progress
-abbrev pub has_room : List Entry → Bool
-has_room past = nat_le (length (greeting past)) 192
 
 -- the ticks but the last at which it was so
 abbrev pub roomy_ticks : List Entry → ℕ
@@ -98,12 +61,6 @@ pub record AreTries (past : List Entry) (tries : List ℕ) : Type 0 where
   pub thinned : IsThinned tries (ticks (before_last_tick past))
   pub apart : AreApart tries
   pub longest : (others : List ℕ) → IsThinned others (ticks (before_last_tick past)) → AreApart others → length others ≤ length tries
-
--- the first tick from this number on, and then each that is at least 100 above the one before: a longest list, of ticks
--- that are in order
-abbrev pub spaced_from : ℕ → List ℕ → List ℕ
-spaced_from from [] = []
-spaced_from from (t ∷ ts) = if nat_le from t then t ∷ spaced_from (t + 100) ts else spaced_from from ts
 
 -- how often a dialer tried at least: as long as no link was opened at each of the tries; else once, where there are two
 -- ticks

@@ -19,11 +19,14 @@ ghost use Rattle.cat_text.specs.declared.plan.CatPlan.{CatPlan};
 ghost use Rattle.cat_play.specs.Running.{World, EndedFor, UnopenedFor, IsSpared, ComesToEnd};
 ghost use Rattle.cat_play.specs.Plans.{Play};
 ghost use Rattle.sp_history.specs.Found.{AreOrdered, ticks, before_last_tick};
-ghost use Rattle.cat_play.specs.Playing.{PlaysSoFar, Plays, past_under, is_left, is_send, waits_for_pipe, is_tick, was_swept};
+ghost use Rattle.cat_play.specs.Playing.{PlaysSoFar, Plays, past_under, is_left, is_send, waits_for_pipe, was_swept};
+ghost use Rattle.sp_ends.specs.Entries.{is_tick};
 ghost use Rattle.cat_play.specs.Rules.{broken};
 ghost use Rattle.cat_play.specs.Scripts.{open_part, has_ticked, under_way, last_result, counted, texts, over};
-ghost use Rattle.cat_play.specs.Spending.{AreTries, spaced_from};
-ghost use Rattle.cat_play.specs.Steps.{until_close, moves_play, GoesOn, MayPlay, HasOne};
+ghost use Rattle.cat_play.specs.Spending.{AreTries};
+ghost use Rattle.sp_ends.specs.LinkCounts.{spaced_from};
+ghost use Rattle.cat_play.specs.Steps.{until_close, GoesOn, MayPlay, HasOne};
+ghost use Rattle.sp_ends.specs.Entries.{moves_calls};
 
 /// A play goes on with a turn that does, and the turns after the close add nothing to what is read of it.
 pub fn a_turn_goes_on()
@@ -35,24 +38,24 @@ pub fn a_turn_goes_on()
 
 /// Entries of which no rule speaks leave a play where it is.
 pub fn a_play_stays()
-    ensures under_way { (entries past : List Entry) → none_of moves_play entries ≡ true → under_way (onto entries past) ≡ under_way past }
-    ensures last_result { (entries past : List Entry) → none_of moves_play entries ≡ true → last_result (onto entries past) ≡ last_result past }
-    ensures counted { (z : Setting) (play : Play) (entries past : List Entry) → is_closed past ≡ false → none_of moves_play entries ≡ true → counted z play (onto entries past) ≡ counted z play past }
-    ensures texts { (play : Play) (entries past : List Entry) → is_closed past ≡ false → none_of moves_play entries ≡ true → texts play (onto entries past) ≡ texts play past }
-    ensures over { (z : Setting) (play : Play) (entries past : List Entry) → is_closed past ≡ false → none_of moves_play entries ≡ true → over z play (onto entries past) ≡ over z play past }
-    ensures is_left { (entries past : List Entry) → none_of moves_play entries ≡ true → is_left (onto entries past) ≡ is_left past }
+    ensures under_way { (entries past : List Entry) → none_of moves_calls entries ≡ true → under_way (onto entries past) ≡ under_way past }
+    ensures last_result { (entries past : List Entry) → none_of moves_calls entries ≡ true → last_result (onto entries past) ≡ last_result past }
+    ensures counted { (z : Setting) (play : Play) (entries past : List Entry) → is_closed past ≡ false → none_of moves_calls entries ≡ true → counted z play (onto entries past) ≡ counted z play past }
+    ensures texts { (play : Play) (entries past : List Entry) → is_closed past ≡ false → none_of moves_calls entries ≡ true → texts play (onto entries past) ≡ texts play past }
+    ensures over { (z : Setting) (play : Play) (entries past : List Entry) → is_closed past ≡ false → none_of moves_calls entries ≡ true → over z play (onto entries past) ≡ over z play past }
+    ensures is_left { (entries past : List Entry) → none_of moves_calls entries ≡ true → is_left (onto entries past) ≡ is_left past }
 {}
 
 /// A turn goes on with a play where no rule speaks of its entries, or of one of them alone, and that one may come.
 pub fn turns_that_go_on()
-    ensures silent { (z : Setting) (play : Play) (h : List (Turn Entry)) (t : Turn Entry) → none_of moves_play t.entries ≡ true → GoesOn z play h t }
+    ensures silent { (z : Setting) (play : Play) (h : List (Turn Entry)) (t : Turn Entry) → none_of moves_calls t.entries ≡ true → GoesOn z play h t }
     ensures one { (z : Setting) (play : Play) (h : List (Turn Entry)) (t : Turn Entry) (e : Entry) (early late : List Entry) → HasOne e t early late → MayPlay z play (onto early (past_of h)) e → (is_send e && waits_for_pipe play (past_of h)) ≡ false → (is_tick e ≡ true → has_ticked (past_of h) ≡ true → was_swept z (reverse h) ≡ true) → GoesOn z play h t }
 {}
 
 /// The turn of the close goes on with a play, where no rule speaks of the entries before the close; and turns after it
 /// leave a play one, where they have no tick and begin no send.
 pub fn a_play_closes()
-    ensures closing { (z : Setting) (play : Play) (h : List (Turn Entry)) (t : Turn Entry) (entries : List Entry) (totals : Totals) → t.entries ≡ entries ++ Close totals ∷ [] → none_of moves_play entries ≡ true → GoesOn z play h t }
+    ensures closing { (z : Setting) (play : Play) (h : List (Turn Entry)) (t : Turn Entry) (entries : List Entry) (totals : Totals) → t.entries ≡ entries ++ Close totals ∷ [] → none_of moves_calls entries ≡ true → GoesOn z play h t }
     ensures closed { (z : Setting) (play : Play) (h : List (Turn Entry)) (t : Turn Entry) → is_closed (past_of h) ≡ true → PlaysSoFar z play h → list_any is_tick t.entries ≡ false → list_any is_send t.entries ≡ false → PlaysSoFar z play (h ++ t ∷ []) }
 {}
 

@@ -7,11 +7,12 @@
 //!
 //! - `Plans`: what a plan says of its play; the words and the texts are those of `cat_text`.
 //! - `Scripts`: the next call, what counts, when a play is over. `Playing`: `Plays`, its rules. `Rules`: which are broken.
-//! - `Openings`, `Recording`: what stands on the links. `Spending`: what the rounds were spent on. `Drilling`: the drill.
+//! - `Spending`: what the rounds were spent on. `Drilling`: the drill.
 //! - `Running`: the statuses with their causes, and the whole of it. `Steps`: what one turn more makes of a play.
-//! - `Rows` and the files on it: worked records, each with its verdict.
+//!
+//! What stands on the links is said by `sp_links` (`specs/Ways`) and `sp_ends` (`specs/LinkRecords`); worked records, each
+//! with its verdict, are in `play_rows`.
 #![tactic(auto)]
 
 pub mod laws;
-pub mod rows;
 pub mod status;

@@ -5,13 +5,13 @@ use Rattle.sp_history.specs.declared.entry.Entry.{Entry}
 use Rattle.sp_history.specs.declared.entry.Entry.TheVariants.{Tick}
 use Rattle.sp_history.specs.Past.{now}
 use Rattle.sp_history.specs.Found.{ticks}
-use Rattle.sp_single.specs.Singles.{SingleView}
-use Rattle.end_parts.specs.EndViews.{LinkEndsView, Beginning}
+use Rattle.sp_socket.specs.Singles.{SingleView}
+use Rattle.sp_ends.specs.EndViews.{LinkEndsView, Beginning}
 use Rattle.sp_ends.specs.EndsTurns.{SameEnds}
 use Rattle.cat_play.specs.Scripts.{has_ticked}
 use Rattle.cat_play.specs.declared.status.Status.{Status}
 use Rattle.cat_play.specs.declared.status.Status.TheVariants as status
-use Rattle.cat_player.specs.declared.player.Player.{Player}
+use Rattle.cat_rounds.specs.declared.player.Player.{Player}
 use Rattle.cat_rounds.specs.declared.rounds.Round.TheVariants as rounds
 use Rattle.cat_rounds.specs.RunRounds.{RunStands, RoundStands, is_dry_at}
 

@@ -29,14 +29,15 @@ use Rattle.sp_history.specs.Found.{act_of, end_of}
 use Rattle.sp_history.proofs.OnceHolds.{same_op-refl, same_op-eq, same_op-slot, has_value}
 use Rattle.cat_play.specs.Plans.{Play}
 use Rattle.cat_play.specs.Scripts.{under_way, last_result, counts_for, asks_anew, count_in, timed_out_in, timed_out, counted, is_kind, is_timed_out, has_reached, over}
-use Rattle.cat_play.specs.Playing.{each, alternates, is_in_turn}
+use Rattle.sp_ends.specs.Entries.{each}
+use Rattle.cat_play.specs.Playing.{alternates, is_in_turn}
 use Rattle.cat_play.proofs.Stepping.{open_is}
-use Rattle.cat_player.specs.declared.player.PlayEnd.{PlayEnd}
-use Rattle.cat_player.specs.declared.player.PlayEnd.TheVariants as overs
-use Rattle.cat_player.specs.declared.player.Player.{Player}
-use Rattle.cat_player.specs.Lasting.{play_of, PlayStands, IsOver, IsUnderWay}
-use Rattle.cat_player.proofs.BeginOrder.{is_op_means, none_means, later_rule, uncollected_has_end, over_in, open_over, going}
-use Rattle.cat_player.proofs.Surveying.{Plain, before, plain_past, out_ctx, frame_ctx, left_true, right_true, same_zero, never}
+use Rattle.cat_rounds.specs.declared.player.PlayEnd.{PlayEnd}
+use Rattle.cat_rounds.specs.declared.player.PlayEnd.TheVariants as overs
+use Rattle.cat_rounds.specs.declared.player.Player.{Player}
+use Rattle.cat_rounds.specs.Lasting.{play_of, PlayStands, IsOver, IsUnderWay}
+use Rattle.cat_rounds.proofs.BeginOrder.{is_op_means, none_means, later_rule, uncollected_has_end, over_in, open_over, going}
+use Rattle.cat_rounds.proofs.Surveying.{Plain, before, plain_past, out_ctx, frame_ctx, left_true, right_true, same_zero, never}
 use Rattle.cat_rounds.proofs.Unsent.{asked_none}
 
 -- ---- One operation at a time

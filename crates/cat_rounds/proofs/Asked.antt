@@ -11,13 +11,14 @@ use Rattle.sp_history.specs.Found.{ticks, before_last_tick, AreOrdered}
 use Rattle.sp_history.specs.Legal.{AreAllowed}
 use Rattle.sp_history.proofs.StandingEntries.{earlier_in_order}
 use Rattle.cat_text.specs.declared.plan.End.{End}
-use Rattle.cat_play.specs.Spending.{CanRise, ticks_where, has_room, roomy_ticks, listens_of, dials_of, spaced_from, AreTries, TriedAtLeast, WereAsked}
+use Rattle.sp_ends.specs.LinkCounts.{CanRise, ticks_where, has_room, spaced_from}
+use Rattle.cat_play.specs.Spending.{roomy_ticks, listens_of, dials_of, AreTries, TriedAtLeast, WereAsked}
 use Rattle.cat_play.proofs.Trying.{are_tries}
-use Rattle.end_parts.specs.declared.dialer.Dialer.{Dialer}
-use Rattle.end_parts.specs.Dialing.{IsDialed}
-use Rattle.end_parts.specs.declared.listener.Listener.{Listener}
-use Rattle.end_parts.specs.EndViews.{Beginning}
-use Rattle.end_parts.specs.RunLinks.{NetStands, SameCounts, tries_of}
+use Rattle.sp_ends.specs.declared.dialer.Dialer.{Dialer}
+use Rattle.sp_ends.specs.Dialing.{IsDialed}
+use Rattle.sp_ends.specs.declared.listener.Listener.{Listener}
+use Rattle.sp_ends.specs.EndViews.{Beginning}
+use Rattle.sp_ends.specs.RunLinks.{NetStands, SameCounts, tries_of}
 
 -- ---- Tries
 

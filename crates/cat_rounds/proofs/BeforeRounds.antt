@@ -5,18 +5,18 @@ use Rattle.std.specs.Prelude.{IsTrue, ◌||◌, ◌&&◌, ◌==◌, not, is_some
 use Rattle.std.proofs.lemmas.Bool.Decides.{nat_tests}
 use Rattle.std.proofs.lemmas.Result.{IfOk-at_ok}
 use Rattle.turn_lock.specs.declared.turn.Turn.{Turn}
-use Rattle.sp_spec.specs.Outside.{grown}
+use Rattle.sp_base.specs.Outside.{grown}
 use Rattle.sp_base.specs.Views.{LinkView, NetView, FilesView}
 use Rattle.sp_base.specs.declared.role.Role.{Role}
 use Rattle.sp_base.specs.declared.addr.Addr.{Addr}
-use Rattle.link_opening.specs.Origins.{Origins, IsAmong}
+use Rattle.sp_links.specs.Origins.{Origins, IsAmong}
 use Rattle.sp_history.specs.declared.entry.Entry.{Entry}
 use Rattle.sp_history.specs.declared.setting.Setting.{Setting}
 use Rattle.sp_history.specs.Moments.{Moment}
 use Rattle.sp_proto.specs.Kinds.{Kind, kind_of, setting_of, start}
-use Rattle.sp_single.specs.Singles.{SingleView}
-use Rattle.end_parts.specs.EndViews.{LinkEndsView, Beginning}
-use Rattle.end_parts.specs.RunLinks.{EndsStand}
+use Rattle.sp_socket.specs.Singles.{SingleView}
+use Rattle.sp_ends.specs.EndViews.{LinkEndsView, Beginning}
+use Rattle.sp_ends.specs.RunLinks.{EndsStand}
 use Rattle.cat_text.specs.Drafts.{needs_data}
 use Rattle.cat_text.specs.declared.plan.CatPlan.{CatPlan}
 use Rattle.cat_text.specs.declared.plan.Data.{Data}
@@ -25,15 +25,15 @@ use Rattle.cat_text.specs.declared.plan.End.{End}
 use Rattle.cat_text.specs.declared.plan.End.TheVariants as ends
 use Rattle.cat_play.specs.Plans.{IsBodyOf, IsPlayOf}
 use Rattle.cat_play.specs.Running.{run_setting}
-use Rattle.cat_player.specs.declared.player.PlayEnd.{PlayEnd}
-use Rattle.cat_player.specs.declared.player.Script.{Script}
-use Rattle.cat_player.specs.declared.player.Player.{Player}
-use Rattle.cat_player.specs.Lasting.{play_of, HasSurveys, PlayStands, IsNewPlayer, IsUnderWay, IsLast, IsDue, IsOver, over_at, HasPrinted}
+use Rattle.cat_rounds.specs.declared.player.PlayEnd.{PlayEnd}
+use Rattle.cat_rounds.specs.declared.player.Script.{Script}
+use Rattle.cat_rounds.specs.declared.player.Player.{Player}
+use Rattle.cat_rounds.specs.Lasting.{play_of, HasSurveys, PlayStands, IsNewPlayer, IsUnderWay, IsLast, IsDue, IsOver, over_at, HasPrinted}
 use Rattle.cat_rounds.specs.RunRounds.{RunStands}
 use Rattle.cat_rounds.specs.SubscribedTopics.{CanSubscribe}
 use Rattle.sp_history.specs.Setting.{is_sub}
 use Rattle.cat_rounds.specs.Built.{IsBuilt, IsBuiltData, IsMachineOf, IsBody, IsEndOf, has_data, listen_addrs, dial_addrs, origins_of}
-use Rattle.cat_player.proofs.Silent.{append_nil}
+use Rattle.cat_rounds.proofs.Silent.{append_nil}
 
 -- no end
 abbrev pub no_ends : {L : Type 0} → Role → ℕ → LinkEndsView L

@@ -18,15 +18,17 @@ use Rattle.sp_history.proofs.Appending.{onto-more, past_of-append}
 use Rattle.sp_core.specs.Closing.{AreEndsOf, GoesDownAs, AreDownsOf, ClosesSo, ClosedBy}
 use Rattle.cat_play.specs.Plans.{Play}
 use Rattle.cat_play.specs.Scripts.{open_part, counted, texts, texts_in, count_in, timed_out, timed_out_in}
-use Rattle.cat_play.specs.Playing.{is_tick, is_send, PlaysSoFar}
-use Rattle.cat_play.specs.Steps.{AddsNone, moves_play, moves_ends, until_close}
+use Rattle.sp_ends.specs.Entries.{is_tick}
+use Rattle.cat_play.specs.Playing.{is_send, PlaysSoFar}
+use Rattle.sp_ends.specs.Entries.{AddsNone, moves_calls, moves_ends}
+use Rattle.cat_play.specs.Steps.{until_close}
 use Rattle.cat_play.proofs.Stepping.{goes_on, none_first, none_rest, open_after, open_onto, open_is}
 use Rattle.cat_play.proofs.Staying.{counted_stays, texts_stay}
 use Rattle.cat_play.proofs.OneEntryTurns.{until_silent}
 use Rattle.cat_play.proofs.CloseTurns.{closing_turn, goes_on_closed}
-use Rattle.cat_player.specs.PlayerSteps.{begins_or_ticks}
-use Rattle.cat_player.proofs.Silent.{append_nil, closed_stays, keeps_all}
-use Rattle.cat_player.proofs.PlaysStay.{timed_stays}
+use Rattle.cat_rounds.specs.PlayerSteps.{begins_or_ticks}
+use Rattle.cat_rounds.proofs.Silent.{append_nil, closed_stays, keeps_all}
+use Rattle.cat_rounds.proofs.PlaysStay.{timed_stays}
 
 -- ---- The entries of a close
 
@@ -58,8 +60,8 @@ pub none_before_close : (f : Entry → Bool) → ((op : OpName) (x : Ending) →
 none_before_close f end stall clear down callers past t c =
     none_both f c.ends c.down_entries (none_ends f end callers (pend past) c.ends c.ended) (none_downs f stall clear down (up past) c.down_entries c.gone_down)
 
-pub silent_before_close : (callers : ℕ) (past : List Entry) (t : Turn Entry) (c : ClosesSo callers past t) → none_of moves_play (c.ends ++ c.down_entries) ≡ true
-silent_before_close = none_before_close moves_play (λ op x. refl) (λ p. refl) (λ p. refl) (λ p why. refl)
+pub silent_before_close : (callers : ℕ) (past : List Entry) (t : Turn Entry) (c : ClosesSo callers past t) → none_of moves_calls (c.ends ++ c.down_entries) ≡ true
+silent_before_close = none_before_close moves_calls (λ op x. refl) (λ p. refl) (λ p. refl) (λ p why. refl)
 
 -- none of them moves a link
 pub close_linkless : (callers : ℕ) (past : List Entry) (t : Turn Entry) → ClosesSo callers past t → none_of moves_ends t.entries ≡ true
@@ -143,7 +145,7 @@ closing_play z play totals callers h t h' open_ was by more =
     stands : t.entries ≡ entries ++ Close c.totals ∷ []
     stands = close_stands callers (past_of h) t c
 
-    none : none_of moves_play entries ≡ true
+    none : none_of moves_calls entries ≡ true
     none = silent_before_close callers (past_of h) t c
 
     base : List (Turn Entry)

@@ -8,7 +8,7 @@ use Rattle.turn_lock.specs.declared.turn.Turn.{Turn}
 use Rattle.sp_base.specs.Addresses.{scheme_of, is_linked}
 use Rattle.sp_base.specs.declared.role.Role.{Role}
 use Rattle.sp_lane.specs.Registry.{Registry, ListenerView, names, IsListed, IsUnlisted, IsNew, AreApart}
-use Rattle.sp_spec.specs.Outside.{Rose}
+use Rattle.sp_base.specs.Outside.{Rose}
 use Rattle.sp_history.specs.Found.{ticks}
 use Rattle.cat_play.specs.Running.{ListensTwice}
 use Rattle.sp_base.specs.Views.{LinkView, NetView, PaceView, SinkView}
@@ -16,33 +16,33 @@ use Rattle.sp_base.specs.declared.addr.Scheme.{Scheme}
 use Rattle.sp_history.specs.declared.entry.Entry.{Entry}
 use Rattle.sp_history.specs.declared.setting.Setting.{Setting}
 use Rattle.sp_history.specs.Past.{past_of}
-use Rattle.link_opening.specs.Origins.{IsAmong}
-use Rattle.end_parts.specs.declared.dialer.Dialer.{Dialer}
-use Rattle.end_parts.specs.declared.listener.Listener.{Listener}
+use Rattle.sp_links.specs.Origins.{IsAmong}
+use Rattle.sp_ends.specs.declared.dialer.Dialer.{Dialer}
+use Rattle.sp_ends.specs.declared.listener.Listener.{Listener}
 use Rattle.sp_ends.specs.EndsTurns.{addrs_of}
-use Rattle.end_parts.specs.EndViews.{Beginning, EndsView, LinkEndsView, NamesView}
-use Rattle.end_parts.specs.RunLinks.{EndsStand, LinksKept, IsListener, tries_of}
-use Rattle.end_parts.specs.DialMoments.{IsDueAt}
-use Rattle.end_parts.specs.Dialing.{IsDialed}
+use Rattle.sp_ends.specs.EndViews.{Beginning, EndsView, LinkEndsView, NamesView}
+use Rattle.sp_ends.specs.RunLinks.{EndsStand, LinksKept, IsListener, tries_of}
+use Rattle.sp_ends.specs.DialMoments.{IsDueAt}
+use Rattle.sp_ends.specs.Dialing.{IsDialed}
 use Rattle.sp_base.specs.declared.addr.Addr.{Addr}
 use Rattle.sp_base.specs.declared.addr.Addr.TheVariants as addrs
-use Rattle.sp_single.specs.Singles.{SingleView}
+use Rattle.sp_socket.specs.Singles.{SingleView}
 use Rattle.cat_text.specs.declared.plan.End.{End}
 use Rattle.cat_text.specs.declared.plan.End.TheVariants as ends
 use Rattle.cat_play.specs.declared.status.Status.{Status}
 use Rattle.cat_play.specs.declared.status.Status.TheVariants as status
 use Rattle.cat_play.specs.Spending.{listens_of, dials_of}
-use Rattle.cat_player.specs.declared.player.Player.{Player}
-use Rattle.cat_player.specs.PlayerSteps.{Sinks}
+use Rattle.cat_rounds.specs.declared.player.Player.{Player}
+use Rattle.cat_rounds.specs.PlayerSteps.{Sinks}
 use Rattle.cat_rounds.specs.RunRounds.{LinksStand, RunStands, WentOrOver, PacedTo, is_dry_at}
 use Rattle.cat_rounds.specs.Parts.{IsRunning}
 use Rattle.cat_rounds.proofs.Opened.{links_of, run_of}
 use Rattle.cat_rounds.proofs.AllRounds.{run_at}
 use Rattle.cat_rounds.specs.Built.{IsEndOf, AddsEnd, EndsFor, Follows, ListensOnce, listen_names}
 use Rattle.sp_ends.specs.AddedEnds.{ListensAt, FailsToListen, IsNewDialer, ListensLink, DialsLink}
-use Rattle.end_parts.specs.AddedNames.{ListensName, DialsName}
-use Rattle.end_parts.specs.declared.error.EndError.{EndError}
-use Rattle.end_parts.specs.declared.error.EndError.TheVariants as errors
+use Rattle.sp_ends.specs.AddedNames.{ListensName, DialsName}
+use Rattle.sp_ends.specs.declared.error.EndError.{EndError}
+use Rattle.sp_ends.specs.declared.error.EndError.TheVariants as errors
 
 -- the same links, of a net that differs in nothing that they see
 pub links_kept : (z : Setting) (start : Beginning) (h : List (Turn Entry)) (net net' : NetView) → net'.opened ≡ net.opened → net'.back ≡ net.back → LinksKept z start h net → LinksKept z start h net'

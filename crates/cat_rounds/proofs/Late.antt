@@ -13,10 +13,10 @@ use Rattle.sp_history.specs.declared.setting.Setting.{Setting}
 use Rattle.sp_history.specs.Changes.{none_of}
 use Rattle.sp_history.specs.Past.{onto, past_of}
 use Rattle.sp_history.proofs.Appending.{past_of-append}
-use Rattle.core_parts.specs.declared.served.Served.{Served}
+use Rattle.core_state.specs.declared.served.Served.{Served}
 use Rattle.sp_core.specs.Serving.{stalls_in}
-use Rattle.sp_single.specs.Singles.{SingleView, TookOne, Ticks}
-use Rattle.end_parts.specs.SocketSteps.{Quietly}
+use Rattle.sp_socket.specs.Singles.{SingleView, TookOne, Ticks}
+use Rattle.sp_ends.specs.SocketSteps.{Quietly}
 use Rattle.cat_text.specs.declared.plan.CatPlan.{CatPlan}
 use Rattle.cat_text.specs.declared.plan.Data.{Data}
 use Rattle.cat_text.specs.declared.plan.Data.TheVariants as datas
@@ -24,26 +24,27 @@ use Rattle.cat_play.specs.declared.status.Status.{Status}
 use Rattle.cat_play.specs.Plans.{Play, IsBodyOf, IsPlayOf}
 use Rattle.cat_play.specs.Running.{world, run_setting, is_called_off, EndsPlan}
 use Rattle.cat_play.specs.Scripts.{over, has_ticked}
-use Rattle.cat_play.specs.Spending.{ticks_where, late_ticks, stalled_turns, is_stall, stalls_from, down_total, out_total, IsPrompt, EndsSoon}
-use Rattle.cat_play.specs.Steps.{AddsNone, moves_play, moves_ends}
+use Rattle.sp_ends.specs.LinkCounts.{ticks_where}
+use Rattle.cat_play.specs.Spending.{late_ticks, stalled_turns, is_stall, stalls_from, down_total, out_total, IsPrompt, EndsSoon}
+use Rattle.sp_ends.specs.Entries.{AddsNone, moves_calls, moves_ends}
 use Rattle.cat_play.proofs.Stepping.{stays}
-use Rattle.cat_player.specs.declared.player.PlayEnd.{PlayEnd}
-use Rattle.cat_player.specs.declared.player.PlayEnd.TheVariants as overs
-use Rattle.cat_player.specs.declared.player.Player.{Player}
-use Rattle.cat_player.specs.declared.player.Script.{Script}
+use Rattle.cat_rounds.specs.declared.player.PlayEnd.{PlayEnd}
+use Rattle.cat_rounds.specs.declared.player.PlayEnd.TheVariants as overs
+use Rattle.cat_rounds.specs.declared.player.Player.{Player}
+use Rattle.cat_rounds.specs.declared.player.Script.{Script}
 use Rattle.cat_rounds.specs.declared.rounds.Round.{Round}
 use Rattle.cat_rounds.specs.declared.rounds.Round.TheVariants as rounds
-use Rattle.cat_player.specs.Lasting.{play_of, PlayStands, IsOver}
-use Rattle.cat_player.specs.PlayerSteps.{GoesOnBy}
+use Rattle.cat_rounds.specs.Lasting.{play_of, PlayStands, IsOver}
+use Rattle.cat_rounds.specs.PlayerSteps.{GoesOnBy}
 use Rattle.cat_rounds.specs.Built.{IsBuilt, IsBuiltData, IsBody, FinishesTo, FinishesAs}
 use Rattle.cat_rounds.specs.RunRounds.{has_more}
 use Rattle.cat_rounds.specs.Late.{late_at, IsLateBy, RoundIsLate, StallsMore}
-use Rattle.end_parts.specs.EndViews.{Beginning, LinkEndsView}
+use Rattle.sp_ends.specs.EndViews.{Beginning, LinkEndsView}
 use Rattle.cat_rounds.proofs.BeforeRounds.{script_of}
-use Rattle.cat_player.proofs.Silent.{keeps_all}
-use Rattle.cat_player.proofs.Settling.{settling_silent}
+use Rattle.cat_rounds.proofs.Silent.{keeps_all}
+use Rattle.cat_rounds.proofs.Settling.{settling_silent}
 use Rattle.cat_rounds.proofs.PlayTicks.{first_tick, tick_of}
-use Rattle.cat_player.proofs.Through.{turn_past}
+use Rattle.cat_rounds.proofs.Through.{turn_past}
 
 -- ---- Turns with a stall
 
@@ -92,7 +93,7 @@ where_end test (e ∷ es) past h =
     same (Tick t due) past h = cc
     same _ past h = refl
 
-where_play : (test : List Entry → Bool) (e : Entry) (past : List Entry) → moves_play e ≡ false → ticks_where test (e ∷ past) ≡ ticks_where test past
+where_play : (test : List Entry → Bool) (e : Entry) (past : List Entry) → moves_calls e ≡ false → ticks_where test (e ∷ past) ≡ ticks_where test past
 where_play test (Tick t due) past h = cc
 where_play test _ past h = refl
 
@@ -102,10 +103,10 @@ end_leaves test h h' more = keeps_all moves_ends (λ g. ticks_where test (past_o
     step : (g : List (Turn Entry)) (t : Turn Entry) → none_of moves_ends t.entries ≡ true → ticks_where test (past_of g) ≡ ticks_where test (past_of h) → ticks_where test (past_of (g ++ t ∷ [])) ≡ ticks_where test (past_of h)
     step g t none was = ap (ticks_where test) (past_of-append g t) ∙ (where_end test t.entries (past_of g) none ∙ was)
 
-play_leaves : (test : List Entry → Bool) (h h' : List (Turn Entry)) → AddsNone moves_play h h' → ticks_where test (past_of h') ≡ ticks_where test (past_of h)
-play_leaves test h h' more = keeps_all moves_play (λ g. ticks_where test (past_of g) ≡ ticks_where test (past_of h)) step h h' more refl
+play_leaves : (test : List Entry → Bool) (h h' : List (Turn Entry)) → AddsNone moves_calls h h' → ticks_where test (past_of h') ≡ ticks_where test (past_of h)
+play_leaves test h h' more = keeps_all moves_calls (λ g. ticks_where test (past_of g) ≡ ticks_where test (past_of h)) step h h' more refl
   where
-    step : (g : List (Turn Entry)) (t : Turn Entry) → none_of moves_play t.entries ≡ true → ticks_where test (past_of g) ≡ ticks_where test (past_of h) → ticks_where test (past_of (g ++ t ∷ [])) ≡ ticks_where test (past_of h)
+    step : (g : List (Turn Entry)) (t : Turn Entry) → none_of moves_calls t.entries ≡ true → ticks_where test (past_of g) ≡ ticks_where test (past_of h) → ticks_where test (past_of (g ++ t ∷ [])) ≡ ticks_where test (past_of h)
     step g t none was = ap (ticks_where test) (past_of-append g t) ∙ (stays (ticks_where test) (where_play test) t.entries (past_of g) none ∙ was)
 
 -- ---- Parts of a round
@@ -118,7 +119,7 @@ pub record LateStays (s s' : SingleView) (p : Player) : Type 0 where
 pub late_quiet : (s s' : SingleView) (p : Player) → Quietly s s' → LateStays s s' p
 late_quiet s s' p q = record {
   late = ap (λ (z : Setting). late_ticks z (play_of p.script) (past_of s'.seen)) q.setting ∙ play_leaves (over s.setting (play_of p.script)) s.seen s'.seen q.silent;
-  stalled = stalled_more moves_play s.seen s'.seen q.silent;
+  stalled = stalled_more moves_calls s.seen s'.seen q.silent;
 }
 
 pub late_on : (s s' : SingleView) (p : Player) → GoesOnBy s s' → LateStays s s' p

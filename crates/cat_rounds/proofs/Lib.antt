@@ -17,3 +17,15 @@ pub mod Late
 pub mod Unsent
 pub mod Answered
 pub mod Resting
+pub mod LastCollect
+pub mod CollectedByPlay
+pub mod WhatCounts
+pub mod Settling
+pub mod Begins
+pub mod Silent
+pub mod BeginOrder
+pub mod Through
+pub mod PlaysStay
+pub mod Pipes
+pub mod TopicsStay
+pub mod Surveying

@@ -1,10 +1,10 @@
 -- What is known of a run while its parts are in use.
 use Rattle.std.proofs.Common.{◌≡◌, sym, subst, ℕ, Bool}
 use Rattle.sp_base.specs.Views.{LinkView, NetView}
-use Rattle.sp_single.specs.Singles.{SingleView}
-use Rattle.end_parts.specs.EndViews.{LinkEndsView, Beginning}
-use Rattle.cat_player.specs.declared.player.Player.{Player}
-use Rattle.cat_player.specs.PlayerSteps.{Stands}
+use Rattle.sp_socket.specs.Singles.{SingleView}
+use Rattle.sp_ends.specs.EndViews.{LinkEndsView, Beginning}
+use Rattle.cat_rounds.specs.declared.player.Player.{Player}
+use Rattle.cat_rounds.specs.PlayerSteps.{Stands}
 use Rattle.cat_rounds.specs.Parts.{RunPartsView, IsRunning, IsAt}
 use Rattle.cat_rounds.specs.RunRounds.{LinksStand, RunStands}
 

@@ -11,22 +11,23 @@ use Rattle.sp_history.specs.Past.{onto, past_of, now, is_closed, due_at, topics}
 use Rattle.sp_history.specs.Found.{ticks}
 use Rattle.sp_core.specs.Standing.{HasFirst}
 use Rattle.sp_core.specs.Collecting.{DueFrom, IsOpen}
-use Rattle.sp_single.specs.Singles.{Ticks}
+use Rattle.sp_socket.specs.Singles.{Ticks}
 use Rattle.cat_play.specs.Plans.{Play}
 use Rattle.cat_play.specs.Scripts.{under_way, last_result, last_send, count_in, counted, texts_in, texts, timed_out, timed_out_in}
 use Rattle.cat_play.specs.Playing.{is_left}
-use Rattle.cat_play.specs.Running.{has_dry_miss}
-use Rattle.cat_play.specs.Steps.{moves_play, moves_ends, HasOne, MayPlay}
+use Rattle.sp_ends.specs.LinkRecords.{has_dry_miss}
+use Rattle.sp_ends.specs.Entries.{moves_calls, moves_ends}
+use Rattle.cat_play.specs.Steps.{HasOne, MayPlay}
 use Rattle.cat_play.proofs.Stepping.{stays, goes_on, open_is, under_way_stays, last_result_stays, is_left_stays}
 use Rattle.cat_play.proofs.Staying.{counted_stays, texts_stay}
 use Rattle.cat_play.proofs.OneEntryTurns.{turn_of_one}
-use Rattle.cat_player.specs.declared.player.Player.{Player}
-use Rattle.cat_player.specs.Lasting.{play_of, PlayStands, IsUnderWay, IsLast, IsDue, MayTick, AreOn}
-use Rattle.cat_player.proofs.Silent.{last_send_stays, now_stays, closed_stays}
-use Rattle.cat_player.proofs.TopicsStay.{topics_stay, still_on}
-use Rattle.cat_player.proofs.Settling.{settling_silent, settling_linkless}
-use Rattle.cat_player.proofs.PlaysStay.{timed_stays, over_kept}
-use Rattle.cat_player.proofs.Through.{turn_past}
+use Rattle.cat_rounds.specs.declared.player.Player.{Player}
+use Rattle.cat_rounds.specs.Lasting.{play_of, PlayStands, IsUnderWay, IsLast, IsDue, MayTick, AreOn}
+use Rattle.cat_rounds.proofs.Silent.{last_send_stays, now_stays, closed_stays}
+use Rattle.cat_rounds.proofs.TopicsStay.{topics_stay, still_on}
+use Rattle.cat_rounds.proofs.Settling.{settling_silent, settling_linkless}
+use Rattle.cat_rounds.proofs.PlaysStay.{timed_stays, over_kept}
+use Rattle.cat_rounds.proofs.Through.{turn_past}
 
 -- the tick that an open socket adds
 abbrev pub tick_of : List (Turn Entry) → ℕ → Entry
@@ -35,7 +36,7 @@ tick_of h n = Tick (max (now (past_of h)) n) (due_at (past_of h) (max (now (past
 pub first_tick : (h : List (Turn Entry)) (t : Turn Entry) (n : ℕ) → is_closed (past_of h) ≡ false → Ticks h t n → HasFirst (tick_of h n) t
 first_tick h t n open_ (due, d) = (subst (λ (b : Bool). DueFrom b (past_of h) t (max (now (past_of h)) n) [] due) open_ d).0
 
-pub ticks_step : (e : Entry) (past : List Entry) → moves_play e ≡ false → ticks (e ∷ past) ≡ ticks past
+pub ticks_step : (e : Entry) (past : List Entry) → moves_calls e ≡ false → ticks (e ∷ past) ≡ ticks past
 ticks_step (Tick t due) past h = cc
 ticks_step _ past h = refl
 
@@ -70,7 +71,7 @@ module _ (z : Setting) (h : List (Turn Entry)) (t : Turn Entry) (n : ℕ) (p : P
   abbrev more : List Entry
   more = tick ∷ past_of h
 
-  silent : none_of moves_play first.late ≡ true
+  silent : none_of moves_calls first.late ≡ true
   silent = settling_silent first.late first.late_settles
 
   past_is : past_of (h ++ t ∷ []) ≡ onto first.late more

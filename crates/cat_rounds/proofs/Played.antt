@@ -2,7 +2,7 @@
 use Rattle.std.proofs.Common.{◌≡◌, refl, ap, sym, ◌∙◌, subst, List, [], ◌∷◌, ◌++◌, ℕ, ◌+◌, ◌<◌, Bool, true, false, length, Option, Some, None, inl, inr}
 use Rattle.std.specs.Prelude.{◌⊎◌, ◌^◌, ◌||◌, IsTrue}
 use Rattle.turn_lock.specs.declared.turn.Turn.{Turn}
-use Rattle.sp_spec.specs.Outside.{Rose}
+use Rattle.sp_base.specs.Outside.{Rose}
 use Rattle.sp_base.specs.Views.{LinkView, NetView, PaceView, SinkView, FilesView}
 use Rattle.sp_history.specs.declared.entry.Entry.{Entry}
 use Rattle.sp_history.specs.declared.entry.Entry.TheVariants.{Tick, NoUp}
@@ -14,30 +14,31 @@ use Rattle.sp_history.specs.Past.{onto, past_of}
 use Rattle.sp_history.specs.Settled.{Settled}
 use Rattle.sp_history.proofs.Appending.{past_of-append}
 use Rattle.sp_history.proofs.Backing.{legal_allowed}
-use Rattle.sp_single.specs.Singles.{SingleView}
-use Rattle.link_opening.specs.Origins.{run_ways}
-use Rattle.end_parts.specs.EndViews.{Beginning, LinkEndsView}
-use Rattle.end_parts.specs.RunLinks.{NetStands}
+use Rattle.sp_socket.specs.Singles.{SingleView}
+use Rattle.sp_links.specs.Origins.{run_ways}
+use Rattle.sp_ends.specs.EndViews.{Beginning, LinkEndsView}
+use Rattle.sp_ends.specs.RunLinks.{NetStands}
 use Rattle.sp_ends.specs.LeftLinks.{LinksLeft}
-use Rattle.end_parts.proofs.EndsStay.{linkless}
+use Rattle.sp_ends.proofs.EndsStay.{linkless}
 use Rattle.cat_text.specs.declared.plan.CatPlan.{CatPlan}
 use Rattle.cat_play.specs.declared.status.Status.{Status}
 use Rattle.cat_play.specs.declared.status.Status.TheVariants as status
 use Rattle.cat_play.specs.Plans.{Play, IsPlayOf}
 use Rattle.cat_play.specs.Playing.{Plays}
-use Rattle.cat_play.specs.Running.{World, world, run_setting, has_dry_miss, ListensTwice, EndedFor, IsFinished, IsCutShort, Printed, Runs, RunsPlan}
+use Rattle.cat_play.specs.Running.{World, world, run_setting, ListensTwice, EndedFor, IsFinished, IsCutShort, Printed, Runs, RunsPlan}
+use Rattle.sp_ends.specs.LinkRecords.{has_dry_miss}
 use Rattle.cat_play.specs.Scripts.{texts, counted, has_reached, timed_out}
 use Rattle.cat_play.specs.Spending.{Spends, listens_of, dials_of}
-use Rattle.cat_play.specs.Steps.{AddsNone, moves_ends}
+use Rattle.sp_ends.specs.Entries.{AddsNone, moves_ends}
 use Rattle.cat_play.proofs.Stepping.{none_first, none_rest}
-use Rattle.cat_player.specs.declared.player.PlayEnd.{PlayEnd}
-use Rattle.cat_player.specs.declared.player.PlayEnd.TheVariants as overs
-use Rattle.cat_player.specs.declared.player.Player.{Player}
-use Rattle.cat_player.specs.Lasting.{play_of, IsOver}
+use Rattle.cat_rounds.specs.declared.player.PlayEnd.{PlayEnd}
+use Rattle.cat_rounds.specs.declared.player.PlayEnd.TheVariants as overs
+use Rattle.cat_rounds.specs.declared.player.Player.{Player}
+use Rattle.cat_rounds.specs.Lasting.{play_of, IsOver}
 use Rattle.cat_rounds.specs.RunRounds.{RunStands, PrintsTo, IsDryAt, is_dry_at}
 use Rattle.cat_rounds.specs.Built.{EndsFor, Follows, FinishesTo, FinishesAs}
-use Rattle.cat_player.proofs.Silent.{keeps_all}
-use Rattle.cat_player.proofs.PlaysStay.{over_kept}
+use Rattle.cat_rounds.proofs.Silent.{keeps_all}
+use Rattle.cat_rounds.proofs.PlaysStay.{over_kept}
 use Rattle.cat_rounds.proofs.Asked.{AreAsked, were_asked}
 
 -- ---- Turns that move no end

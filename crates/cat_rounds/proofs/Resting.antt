@@ -8,19 +8,19 @@ use Rattle.sp_history.specs.declared.setting.Setting.{Setting}
 use Rattle.sp_history.specs.Past.{past_of}
 use Rattle.sp_history.specs.Swept.{IsSwept}
 use Rattle.sp_history.proofs.Appending.{past_of-append}
-use Rattle.core_parts.specs.declared.served.Served.{Served}
-use Rattle.sp_single.specs.Singles.{SingleView, TookOne, Ticks}
-use Rattle.end_parts.specs.SocketSteps.{Quietly}
+use Rattle.core_state.specs.declared.served.Served.{Served}
+use Rattle.sp_socket.specs.Singles.{SingleView, TookOne, Ticks}
+use Rattle.sp_ends.specs.SocketSteps.{Quietly}
 use Rattle.cat_play.specs.Scripts.{under_way}
-use Rattle.cat_play.specs.Steps.{AddsNone, moves_ends, moves_play}
+use Rattle.sp_ends.specs.Entries.{AddsNone, moves_ends, moves_calls}
 use Rattle.cat_play.proofs.Stepping.{under_way_stays}
-use Rattle.cat_player.specs.declared.player.PlayEnd.TheVariants as overs
-use Rattle.cat_player.specs.declared.player.Player.{Player}
+use Rattle.cat_rounds.specs.declared.player.PlayEnd.TheVariants as overs
+use Rattle.cat_rounds.specs.declared.player.Player.{Player}
 use Rattle.cat_rounds.specs.declared.rounds.Going.TheVariants as goings
 use Rattle.cat_rounds.specs.declared.rounds.Round.{Round}
 use Rattle.cat_rounds.specs.declared.rounds.Round.TheVariants as rounds
-use Rattle.cat_player.specs.Lasting.{IsUnderWay}
-use Rattle.cat_player.specs.PlayerSteps.{Stands, GoesOnBy, IsKept}
+use Rattle.cat_rounds.specs.Lasting.{IsUnderWay}
+use Rattle.cat_rounds.specs.PlayerSteps.{Stands, GoesOnBy, IsKept}
 use Rattle.cat_rounds.specs.Resting.{BeginsNothing, IsAtRest, MovesStill, RoundMoves}
 use Rattle.cat_rounds.proofs.Rounding.{ServesSo, serving_silent}
 
@@ -74,7 +74,7 @@ swept_more r s s' s'' took on =
 pub before_play : (t : ℕ) (s s' s'' : SingleView) → TookOne (λ z h u. Ticks h u t) s s' → Quietly s' s'' → length s.seen ≤ length s''.seen
 before_play t s s' s'' took quietly =
     let one = took_more (λ z h u. Ticks h u t) s s' took in
-    let more = longer moves_play s'.seen s''.seen quietly.silent in
+    let more = longer moves_calls s'.seen s''.seen quietly.silent in
     omega (arith, one, more)
 
 -- ---- Rounds

@@ -11,22 +11,23 @@ use Rattle.sp_history.specs.declared.setting.Setting.{Setting}
 use Rattle.sp_history.specs.Changes.{none_of}
 use Rattle.sp_history.specs.Past.{onto, past_of, up, pend}
 use Rattle.sp_history.proofs.Appending.{past_of-append, LegalFrom-prefix}
-use Rattle.sp_single.specs.Singles.{SingleView, TookOne}
+use Rattle.sp_socket.specs.Singles.{SingleView, TookOne}
 use Rattle.cat_play.specs.Scripts.{has_ticked, under_way, over, texts, joined}
-use Rattle.cat_play.specs.Playing.{each, alternates, is_tick, may_rest}
+use Rattle.sp_ends.specs.Entries.{each, is_tick}
+use Rattle.cat_play.specs.Playing.{alternates, may_rest}
 use Rattle.sp_history.specs.Swept.{IsSwept, AreFlushed}
-use Rattle.core_parts.specs.declared.served.Served.{Served}
+use Rattle.core_state.specs.declared.served.Served.{Served}
 use Rattle.sp_core.specs.Serving.{IsServing, AreServing, IsServeTurn, ServedBy, stalls_in}
-use Rattle.sp_spec.specs.Outside.{grown}
-use Rattle.cat_play.specs.Steps.{moves_ends, moves_play}
-use Rattle.cat_player.specs.declared.player.PlayEnd.TheVariants as overs
-use Rattle.cat_player.specs.declared.player.Player.{Player}
-use Rattle.cat_player.specs.Lasting.{play_of, PlayStands, IsUnderWay, HasPrinted, HasServed, MayTick, AreOn}
+use Rattle.sp_base.specs.Outside.{grown}
+use Rattle.sp_ends.specs.Entries.{moves_ends, moves_calls}
+use Rattle.cat_rounds.specs.declared.player.PlayEnd.TheVariants as overs
+use Rattle.cat_rounds.specs.declared.player.Player.{Player}
+use Rattle.cat_rounds.specs.Lasting.{play_of, PlayStands, IsUnderWay, HasPrinted, HasServed, MayTick, AreOn}
 use Rattle.cat_rounds.specs.Parts.{RunPartsView}
 use Rattle.cat_rounds.specs.RunRounds.{AreCleared, has_more}
-use Rattle.cat_player.specs.PlayerSteps.{Stands, GoesOnBy, SameScript, KnowsPipes}
-use Rattle.cat_player.proofs.Silent.{keeps_all, adds_nothing, adds_then, swept_stays}
-use Rattle.cat_player.proofs.BeginOrder.{goes_on_while_busy, free_pends_none}
+use Rattle.cat_rounds.specs.PlayerSteps.{Stands, GoesOnBy, SameScript, KnowsPipes}
+use Rattle.cat_rounds.proofs.Silent.{keeps_all, adds_nothing, adds_then, swept_stays}
+use Rattle.cat_rounds.proofs.BeginOrder.{goes_on_while_busy, free_pends_none}
 use Rattle.cat_rounds.proofs.Cleared.{is_stall, all_cleared}
 use Rattle.cat_play.proofs.Stepping.{open_is}
 use Rattle.sp_history.specs.Legal.{Legal, sending}
@@ -35,8 +36,8 @@ use Rattle.sp_history.specs.Setting.{is_req}
 use Rattle.cat_rounds.proofs.Unsent.{IsSilent, nothing_sent, sends_once}
 use Rattle.cat_rounds.proofs.Answered.{is_over_so, none_live}
 use Rattle.std.proofs.lemmas.Bool.Decides.{nat_tests}
-use Rattle.cat_player.proofs.PlaysStay.{a_serve_serves}
-use Rattle.cat_player.proofs.Begins.{at_new, goes_on_by, silent_stands, silent_texts}
+use Rattle.cat_rounds.proofs.PlaysStay.{a_serve_serves}
+use Rattle.cat_rounds.proofs.Begins.{at_new, goes_on_by, silent_stands, silent_texts}
 use Rattle.sp_history.specs.Lists.{is_nil}
 
 -- ---- Turns without a tick leave the pipes served
@@ -120,7 +121,7 @@ free_at_end z h p s n = go p.op refl
 
 -- ---- A turn that serves the pipes
 
-serving_play : (e : Entry) → IsServing e → moves_play e ≡ false
+serving_play : (e : Entry) → IsServing e → moves_calls e ≡ false
 serving_play (Begin op k c act d) s = absurd s
 serving_play (Took op k) s = absurd s
 serving_play (Tick t due) s = absurd s
@@ -137,7 +138,7 @@ serving_ends (Taken p) s = absurd s
 serving_ends (Tick t due) s = absurd s
 serving_ends _ s = refl
 
-pub serving_silent : (es : List Entry) → AreServing es → none_of moves_play es ≡ true
+pub serving_silent : (es : List Entry) → AreServing es → none_of moves_calls es ≡ true
 serving_silent [] s = refl
 serving_silent (e ∷ es) s = rw (serving_play e s.0) (serving_silent es s.1)
 

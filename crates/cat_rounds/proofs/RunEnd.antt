@@ -10,25 +10,25 @@ use Rattle.sp_history.specs.declared.setting.Setting.{Setting}
 use Rattle.sp_history.specs.Past.{past_of}
 use Rattle.sp_history.specs.Legal.{Legal}
 use Rattle.sp_history.specs.Settled.{Settled}
-use Rattle.core_parts.specs.declared.pipes.DownPipe.{DownPipe}
+use Rattle.core_state.specs.declared.pipes.DownPipe.{DownPipe}
 use Rattle.sp_core.specs.Closing.{ClosesSo, ClosedBy}
 use Rattle.sp_core.specs.Collecting.{IsOpen}
 use Rattle.sp_core.specs.Parts.{HasWires}
-use Rattle.sp_single.specs.Singles.{SingleView, TookOne, AreUncancelled, FinishedAs, IsSound}
+use Rattle.sp_socket.specs.Singles.{SingleView, TookOne, AreUncancelled, FinishedAs, IsSound}
 use Rattle.sp_socket.specs.Due.{AllWereDue}
-use Rattle.end_parts.specs.EndViews.{LinkEndsView, Beginning}
-use Rattle.end_parts.specs.RunLinks.{EndsStand, SameCounts}
+use Rattle.sp_ends.specs.EndViews.{LinkEndsView, Beginning}
+use Rattle.sp_ends.specs.RunLinks.{EndsStand, SameCounts}
 use Rattle.sp_ends.specs.LeftLinks.{LinksLeft, ClosedCleared}
-use Rattle.end_parts.proofs.EndsStay.{linkless}
+use Rattle.sp_ends.proofs.EndsStay.{linkless}
 use Rattle.cat_play.specs.Scripts.{under_way}
-use Rattle.cat_play.specs.Steps.{AddsNone, moves_ends}
+use Rattle.sp_ends.specs.Entries.{AddsNone, moves_ends}
 use Rattle.cat_play.proofs.Stepping.{under_way_stays}
-use Rattle.cat_player.specs.declared.player.Player.{Player}
-use Rattle.cat_player.specs.Lasting.{play_of, PlayStands, IsUnderWay}
-use Rattle.cat_player.specs.PlayerSteps.{begins_or_ticks, CollectsLast}
+use Rattle.cat_rounds.specs.declared.player.Player.{Player}
+use Rattle.cat_rounds.specs.Lasting.{play_of, PlayStands, IsUnderWay}
+use Rattle.cat_rounds.specs.PlayerSteps.{begins_or_ticks, CollectsLast}
 use Rattle.cat_rounds.specs.RunRounds.{AreCleared}
 use Rattle.cat_rounds.specs.Built.{FinishesTo}
-use Rattle.cat_player.proofs.Silent.{adds_one, adds_then}
+use Rattle.cat_rounds.proofs.Silent.{adds_one, adds_then}
 use Rattle.cat_rounds.proofs.ClosedPlays.{IsClosedPlay, closing_play, close_linkless, past_closed, silent_before_close}
 use Rattle.cat_rounds.proofs.WrittenBeforeClose.{closed_cleared}
 use Rattle.cat_rounds.proofs.Uncancelled.{uncancelled_each, due_each}

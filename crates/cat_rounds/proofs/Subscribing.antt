@@ -5,7 +5,7 @@ use Rattle.std.specs.List.{list_any, list_all, AllByRecursion}
 use Rattle.std.proofs.lemmas.List.Folds.{list_any-append, list_any_at, list_all_more}
 use Rattle.std.proofs.lemmas.Bool.Decides.{nat_tests}
 use Rattle.turn_lock.specs.declared.turn.Turn.{Turn}
-use Rattle.sp_spec.specs.Outside.{grown}
+use Rattle.sp_base.specs.Outside.{grown}
 use Rattle.sp_base.specs.Views.{LinkView, NetView, PaceView}
 use Rattle.sp_base.specs.declared.OpName.{OpName}
 use Rattle.sp_history.specs.declared.entry.Entry.{Entry}
@@ -18,30 +18,32 @@ use Rattle.sp_history.specs.Lists.{has, same_bytes}
 use Rattle.sp_history.specs.Past.{onto, past_of, topics, ctxs, is_closed}
 use Rattle.sp_history.specs.Setting.{has_topics}
 use Rattle.sp_history.proofs.Appending.{past_of-append}
-use Rattle.core_parts.specs.declared.causes.TopicError.{TopicError}
-use Rattle.core_parts.specs.declared.causes.TopicError.TheVariants as topic
+use Rattle.core_state.specs.declared.causes.TopicError.{TopicError}
+use Rattle.core_state.specs.declared.causes.TopicError.TheVariants as topic
 use Rattle.sp_core.specs.Contexts.{SubscribedBy, RefusedTopic}
 use Rattle.sp_core.specs.Moving.{AreSettling}
 use Rattle.sp_core.specs.Standing.{HasFirst}
-use Rattle.sp_single.specs.Singles.{SingleView, TookOne, IsSound}
-use Rattle.end_parts.specs.EndViews.{Beginning, LinkEndsView}
+use Rattle.sp_socket.specs.Singles.{SingleView, TookOne, IsSound}
+use Rattle.sp_ends.specs.EndViews.{Beginning, LinkEndsView}
 use Rattle.cat_play.specs.Plans.{Play}
 use Rattle.cat_play.specs.declared.status.Status.TheVariants as status
 use Rattle.cat_play.specs.Scripts.{joined, has_ticked, has_begun, under_way, last_result, last_send, counted, count_in, texts, texts_in, timed_out, timed_out_in}
-use Rattle.cat_play.specs.Playing.{each, keeps_topics, is_left}
-use Rattle.cat_play.specs.Steps.{moves_play, moves_ends, MayPlay, HasOne}
+use Rattle.sp_ends.specs.Entries.{each}
+use Rattle.cat_play.specs.Playing.{keeps_topics, is_left}
+use Rattle.sp_ends.specs.Entries.{moves_calls, moves_ends}
+use Rattle.cat_play.specs.Steps.{MayPlay, HasOne}
 use Rattle.cat_play.proofs.Stepping.{stays, goes_on, open_is, under_way_stays, last_result_stays, is_left_stays}
 use Rattle.cat_play.proofs.OneEntryTurns.{turn_of_one}
-use Rattle.cat_player.specs.declared.player.Player.{Player}
-use Rattle.cat_player.specs.Lasting.{play_of, PlayStands, IsUnderWay, IsLast, IsDue, AreOn, HasPrinted, MayTick}
+use Rattle.cat_rounds.specs.declared.player.Player.{Player}
+use Rattle.cat_rounds.specs.Lasting.{play_of, PlayStands, IsUnderWay, IsLast, IsDue, AreOn, HasPrinted, MayTick}
 use Rattle.cat_rounds.specs.RunRounds.{RunStands, PacedTo}
 use Rattle.cat_rounds.specs.SubscribedTopics.{CanSubscribe, IsBefore, Prepares}
-use Rattle.cat_player.proofs.Silent.{adds_one, adds_nothing, last_send_stays, ticked_stays}
-use Rattle.cat_player.proofs.Settling.{settling_silent, settling_linkless, none_around}
-use Rattle.cat_player.proofs.PlaysStay.{play_stays, texts_stay_so, over_kept}
-use Rattle.cat_player.proofs.TopicsStay.{topics_stay}
-use Rattle.cat_player.proofs.Through.{through, upon, stays_open, count_in_stays, texts_in_stay, timed_in_stays}
-use Rattle.cat_player.proofs.Begins.{at_new, sound_new, goes_on_by, ctx_zero}
+use Rattle.cat_rounds.proofs.Silent.{adds_one, adds_nothing, last_send_stays, ticked_stays}
+use Rattle.cat_rounds.proofs.Settling.{settling_silent, settling_linkless, none_around}
+use Rattle.cat_rounds.proofs.PlaysStay.{play_stays, texts_stay_so, over_kept}
+use Rattle.cat_rounds.proofs.TopicsStay.{topics_stay}
+use Rattle.cat_rounds.proofs.Through.{through, upon, stays_open, count_in_stays, texts_in_stay, timed_in_stays}
+use Rattle.cat_rounds.proofs.Begins.{at_new, sound_new, goes_on_by, ctx_zero}
 use Rattle.cat_rounds.proofs.Rounding.{goes_then}
 use Rattle.cat_rounds.proofs.WholeRounds.{run_linkless}
 use Rattle.cat_rounds.proofs.AllRounds.{no_ticks}
@@ -49,11 +51,11 @@ use lib.Pointwise.{bytes_decides}
 
 -- ---- What silent entries leave
 
-begun_step : (e : Entry) (past : List Entry) → moves_play e ≡ false → has_begun (e ∷ past) ≡ has_begun past
+begun_step : (e : Entry) (past : List Entry) → moves_calls e ≡ false → has_begun (e ∷ past) ≡ has_begun past
 begun_step (Begin op k c act d) past h = cc
 begun_step _ past h = refl
 
-begun_stays : (entries past : List Entry) → none_of moves_play entries ≡ true → has_begun (onto entries past) ≡ has_begun past
+begun_stays : (entries past : List Entry) → none_of moves_calls entries ≡ true → has_begun (onto entries past) ≡ has_begun past
 begun_stays = stays has_begun begun_step
 
 -- ---- A turn that changes no topic
@@ -81,17 +83,17 @@ module _ {says : Setting → List (Turn Entry) → Turn Entry → Type 0} (s s' 
   abbrev play : Play
   play = play_of p.script
 
-  silent_before : none_of moves_play t.entries ≡ true → IsBefore s' p
+  silent_before : none_of moves_calls t.entries ≡ true → IsBefore s' p
   silent_before none =
       record {
-        play = at_new s s' took (λ z g. PlayStands z g p) (play_stays s.setting p h (h ++ t ∷ []) (adds_one moves_play h t none) was.play);
+        play = at_new s s' took (λ z g. PlayStands z g p) (play_stays s.setting p h (h ++ t ∷ []) (adds_one moves_calls h t none) was.play);
         sound = sound_new s s' took;
         free = was.free;
         unticked = at_new s s' took (λ z g. has_ticked (past_of g) ≡ false) (ap has_ticked (past_of-append h t) ∙ (ticked_stays t.entries (past_of h) none ∙ was.unticked));
         unbegun = at_new s s' took (λ z g. has_begun (past_of g) ≡ false) (ap has_begun (past_of-append h t) ∙ (begun_stays t.entries (past_of h) none ∙ was.unbegun));
       }
 
-  silent_topics : none_of moves_play t.entries ≡ true → topics (past_of s'.seen) 0 ≡ topics (past_of h) 0
+  silent_topics : none_of moves_calls t.entries ≡ true → topics (past_of s'.seen) 0 ≡ topics (past_of h) 0
   silent_topics none = at_new s s' took (λ z g. topics (past_of g) 0 ≡ topics (past_of h) 0) (ap (λ (past : List Entry). topics past 0) (past_of-append h t) ∙ topics_stay t.entries (past_of h) none)
 
   pub silent_prepares : AreSettling t.entries → Prepares s s' p
@@ -100,7 +102,7 @@ module _ {says : Setting → List (Turn Entry) → Turn Entry → Type 0} (s s' 
       record {
         before = silent_before none;
         goes_on = goes_on_by s s' took (settling_linkless t.entries settles);
-        texts_are = at_new s s' took (λ z g. texts play (past_of g) ≡ texts play (past_of h)) (texts_stay_so play h (h ++ t ∷ []) was.play.is_open (adds_one moves_play h t none));
+        texts_are = at_new s s' took (λ z g. texts play (past_of g) ≡ texts play (past_of h)) (texts_stay_so play h (h ++ t ∷ []) was.play.is_open (adds_one moves_calls h t none));
         stays_on = λ u on. ap (λ (ts : List (List ℕ)). has_topic ts u) (silent_topics none) ∙ on;
       }
 

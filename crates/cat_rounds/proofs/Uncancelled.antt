@@ -12,10 +12,11 @@ use Rattle.sp_history.specs.Lists.{same_op}
 use Rattle.sp_history.specs.Past.{ends, is_closed}
 use Rattle.sp_history.proofs.OnceHolds.{same_op-refl}
 use Rattle.sp_socket.specs.Due.{AllWereDue}
-use Rattle.sp_single.specs.Singles.{AreUncancelled}
+use Rattle.sp_socket.specs.Singles.{AreUncancelled}
 use Rattle.cat_play.specs.Scripts.{open_part}
-use Rattle.cat_play.specs.Playing.{each, is_uncancelled}
-use Rattle.cat_play.specs.Recording.{was_due, times_out_rightly}
+use Rattle.sp_ends.specs.Entries.{each}
+use Rattle.cat_play.specs.Playing.{is_uncancelled}
+use Rattle.sp_ends.specs.LinkRecords.{was_due, times_out_rightly}
 
 or_true : (b : Bool) → (b || true) ≡ true
 or_true true = refl

@@ -2,7 +2,7 @@
 use Rattle.std.proofs.Common.{◌≡◌, refl, ap, sym, ◌∙◌, subst, List, [], ◌∷◌, ◌++◌, ℕ, ◌+◌, ◌≤◌, Bool, true, false, length, Option, inl}
 use Rattle.std.specs.Prelude.{◌&&◌, not}
 use Rattle.turn_lock.specs.declared.turn.Turn.{Turn}
-use Rattle.sp_spec.specs.Outside.{grown}
+use Rattle.sp_base.specs.Outside.{grown}
 use Rattle.sp_base.specs.Views.{LinkView, NetView}
 use Rattle.sp_history.specs.declared.entry.Entry.{Entry}
 use Rattle.sp_history.specs.declared.entry.Entry.TheVariants.{Tick}
@@ -13,21 +13,21 @@ use Rattle.sp_history.specs.Found.{ticks}
 use Rattle.sp_history.specs.Legal.{Legal}
 use Rattle.sp_core.specs.Collecting.{IsOpen}
 use Rattle.sp_history.proofs.Appending.{past_of-append}
-use Rattle.sp_single.specs.Singles.{SingleView, TookOne, Ticks, KeepsOpen, IsSound}
-use Rattle.end_parts.specs.EndViews.{EndsView, LinkEndsView, Beginning}
-use Rattle.end_parts.specs.RunLinks.{EndsStand}
+use Rattle.sp_socket.specs.Singles.{SingleView, TookOne, Ticks, KeepsOpen, IsSound}
+use Rattle.sp_ends.specs.EndViews.{EndsView, LinkEndsView, Beginning}
+use Rattle.sp_ends.specs.RunLinks.{EndsStand}
 use Rattle.sp_ends.specs.EndsTurns.{EndsTicked, SameEnds}
-use Rattle.end_parts.specs.SocketSteps.{Quietly, IsDry}
-use Rattle.end_parts.proofs.EndsStay.{linkless}
+use Rattle.sp_ends.specs.SocketSteps.{Quietly, IsDry}
+use Rattle.sp_ends.proofs.EndsStay.{linkless}
 use Rattle.sp_ends.proofs.TickedEnds.{ticked}
 use Rattle.cat_play.specs.Scripts.{texts, joined}
-use Rattle.cat_play.specs.Running.{has_dry_miss}
-use Rattle.cat_play.specs.Steps.{moves_play, moves_ends}
+use Rattle.sp_ends.specs.LinkRecords.{has_dry_miss}
+use Rattle.sp_ends.specs.Entries.{moves_calls, moves_ends}
 use Rattle.cat_play.proofs.Stepping.{stays}
-use Rattle.cat_player.specs.declared.player.Player.{Player}
-use Rattle.cat_player.specs.Lasting.{play_of, PlayStands, HasPrinted, MayTick, AreOn}
-use Rattle.cat_player.proofs.TopicsStay.{on_turn}
-use Rattle.cat_player.specs.PlayerSteps.{Stands, GoesOnBy, SameScript, HasPrintedCut}
+use Rattle.cat_rounds.specs.declared.player.Player.{Player}
+use Rattle.cat_rounds.specs.Lasting.{play_of, PlayStands, HasPrinted, MayTick, AreOn}
+use Rattle.cat_rounds.proofs.TopicsStay.{on_turn}
+use Rattle.cat_rounds.specs.PlayerSteps.{Stands, GoesOnBy, SameScript, HasPrintedCut}
 use Rattle.sp_lane.specs.Registry.{Registry}
 use Rattle.cat_rounds.specs.Late.{IsLateBy}
 use Rattle.cat_rounds.specs.Parts.{RunPartsView, IsRunning}
@@ -35,9 +35,9 @@ use Rattle.cat_rounds.specs.RunRounds.{RunIsOpen, RunStands, RoundStands, SameRu
 use Rattle.cat_rounds.specs.declared.rounds.Round.{Round}
 use Rattle.cat_rounds.specs.declared.rounds.Round.TheVariants as rounds
 use Rattle.cat_play.specs.declared.status.Status.TheVariants as status
-use Rattle.cat_player.proofs.Silent.{keeps_all, now_stays}
-use Rattle.cat_player.proofs.PlaysStay.{play_stays, texts_stay_so}
-use Rattle.cat_player.proofs.Begins.{at_new, sound_new}
+use Rattle.cat_rounds.proofs.Silent.{keeps_all, now_stays}
+use Rattle.cat_rounds.proofs.PlaysStay.{play_stays, texts_stay_so}
+use Rattle.cat_rounds.proofs.Begins.{at_new, sound_new}
 use Rattle.cat_rounds.proofs.PlayTicks.{first_tick, ticked_play, ticked_now, ticked_texts, ticked_ticks, ticked_dry, ticked_topics, dry_stays, ticks_step}
 
 -- ---- The tick
@@ -81,10 +81,10 @@ opens seen start net s s' e p n took keep run may less =
 
 -- ---- The turn of the ends
 
-now_turn : (n : ℕ) (h : List (Turn Entry)) (t : Turn Entry) → none_of moves_play t.entries ≡ true → n ≡ now (past_of h) → n ≡ now (past_of (h ++ t ∷ []))
+now_turn : (n : ℕ) (h : List (Turn Entry)) (t : Turn Entry) → none_of moves_calls t.entries ≡ true → n ≡ now (past_of h) → n ≡ now (past_of (h ++ t ∷ []))
 now_turn n h t none was = was ∙ sym (ap now (past_of-append h t) ∙ now_stays t.entries (past_of h) none)
 
-ticks_turn : (n : ℕ) (h : List (Turn Entry)) (t : Turn Entry) → none_of moves_play t.entries ≡ true → length (ticks (past_of h)) ≡ n → length (ticks (past_of (h ++ t ∷ []))) ≡ n
+ticks_turn : (n : ℕ) (h : List (Turn Entry)) (t : Turn Entry) → none_of moves_calls t.entries ≡ true → length (ticks (past_of h)) ≡ n → length (ticks (past_of (h ++ t ∷ []))) ≡ n
 ticks_turn n h t none was = ap (λ (past : List Entry). length (ticks past)) (past_of-append h t) ∙ (ap length (stays ticks ticks_step t.entries (past_of h) none) ∙ was)
 
 pub quiet_stands : (s s' : SingleView) (p : Player) (n : ℕ) → Quietly s s' → IsSound s' → Stands s p n → Stands s' p n
@@ -92,8 +92,8 @@ quiet_stands s s' p n q sound was =
     record {
       play = subst (λ (z : Setting). PlayStands z s'.seen p) (sym q.setting) (play_stays s.setting p s.seen s'.seen q.silent was.play);
       sound = sound;
-      now_is = keeps_all moves_play (λ g. n ≡ now (past_of g)) (now_turn n) s.seen s'.seen q.silent was.now_is;
-      topics_on = keeps_all moves_play (λ g. AreOn p.script.topics (past_of g)) (on_turn p.script.topics) s.seen s'.seen q.silent was.topics_on;
+      now_is = keeps_all moves_calls (λ g. n ≡ now (past_of g)) (now_turn n) s.seen s'.seen q.silent was.now_is;
+      topics_on = keeps_all moves_calls (λ g. AreOn p.script.topics (past_of g)) (on_turn p.script.topics) s.seen s'.seen q.silent was.topics_on;
     }
 
 pub quiet_texts : (s s' : SingleView) (p : Player) (n : ℕ) → Quietly s s' → Stands s p n → texts (play_of p.script) (past_of s'.seen) ≡ texts (play_of p.script) (past_of s.seen)
@@ -104,7 +104,7 @@ pub prints_on : (before text : Option (List ℕ)) (s s' : SingleView) (p : Playe
 prints_on before text s s' p same had = had ∙ ap (λ (ts : List (List ℕ)). grown before (joined ts)) (sym same)
 
 pub quiet_ticks : (s s' : SingleView) → Quietly s s' → length (ticks (past_of s'.seen)) ≡ length (ticks (past_of s.seen))
-quiet_ticks s s' q = keeps_all moves_play (λ g. length (ticks (past_of g)) ≡ length (ticks (past_of s.seen))) (ticks_turn (length (ticks (past_of s.seen)))) s.seen s'.seen q.silent refl
+quiet_ticks s s' q = keeps_all moves_calls (λ g. length (ticks (past_of g)) ≡ length (ticks (past_of s.seen))) (ticks_turn (length (ticks (past_of s.seen)))) s.seen s'.seen q.silent refl
 
 -- what goes on leaves the ends and the registry
 pub names_then : {L : Type 0} (n : ℕ) (a b c : EndsView L) (r s t : Registry) → c ≡ b → t ≡ s → TurnsNames n a b r s → TurnsNames n a c r t

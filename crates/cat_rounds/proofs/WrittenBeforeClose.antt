@@ -18,7 +18,7 @@ use Rattle.sp_history.specs.Legal.{is_closing, comes_after_close, Follows, Legal
 use Rattle.sp_history.proofs.Appending.{onto-append}
 use Rattle.sp_core.specs.Closing.{AreEndsOf, GoesDownAs, AreDownsOf, ClosesSo, ClosedBy}
 use Rattle.sp_ends.specs.LeftLinks.{ClosedCleared}
-use Rattle.cat_play.specs.Steps.{AddsNone}
+use Rattle.sp_ends.specs.Entries.{AddsNone}
 use Rattle.cat_rounds.specs.RunRounds.{AreCleared}
 use Rattle.cat_rounds.proofs.ClosedPlays.{closed_more, closed_onto, closes, past_closed}
 

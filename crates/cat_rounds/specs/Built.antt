@@ -2,7 +2,7 @@
 use Rattle.std.specs.Prelude.{◌≡◌, ◌≤◌, ◌==◌, [], ◌⊎◌, ◌||◌, not, ℕ, ⊤, true, false, Bool, IsTrue, List, length, Result, Option, Some, None, ◌∷◌}
 use Rattle.std.specs.List.{AllByRecursion}
 use Rattle.turn_lock.specs.declared.turn.Turn.{Turn}
-use Rattle.sp_spec.specs.Outside.{Rose}
+use Rattle.sp_base.specs.Outside.{Rose}
 use Rattle.sp_base.specs.Addresses.{is_dialable, is_linked}
 use Rattle.sp_base.specs.Views.{LinkView, NetView, PaceView, SinkView}
 use Rattle.sp_base.specs.declared.addr.Addr.{Addr}
@@ -15,13 +15,13 @@ use Rattle.sp_history.specs.Legal.{Legal}
 use Rattle.sp_history.specs.Moments.{Moment}
 use Rattle.sp_history.specs.Settled.{Settled}
 use Rattle.sp_proto.specs.Kinds.{Kind, Starts, setting_of}
-use Rattle.sp_single.specs.Singles.{SingleView}
-use Rattle.link_opening.specs.Origins.{Origins, IsAmong}
+use Rattle.sp_socket.specs.Singles.{SingleView}
+use Rattle.sp_links.specs.Origins.{Origins, IsAmong}
 use Rattle.sp_lane.specs.Registry.{Registry}
-use Rattle.end_parts.specs.EndViews.{EndsView, LinkEndsView, Beginning}
+use Rattle.sp_ends.specs.EndViews.{EndsView, LinkEndsView, Beginning}
 use Rattle.sp_ends.specs.AddedEnds.{ListensAlso, DialsAlso}
 use Rattle.sp_ends.specs.LeftLinks.{LinksLeft, ClosedCleared}
-use Rattle.end_parts.specs.RunLinks.{SameCounts}
+use Rattle.sp_ends.specs.RunLinks.{SameCounts}
 use Rattle.cat_text.specs.Drafts.{needs_data}
 use Rattle.cat_text.specs.declared.plan.CatPlan.{CatPlan}
 use Rattle.cat_text.specs.declared.plan.Data.{Data}
@@ -30,16 +30,17 @@ use Rattle.cat_text.specs.declared.plan.End.{End}
 use Rattle.cat_text.specs.declared.plan.End.TheVariants as ends
 use Rattle.cat_play.specs.declared.status.Status.{Status}
 use Rattle.cat_play.specs.declared.status.Status.TheVariants as status
-use Rattle.cat_play.specs.Playing.{each, Plays}
-use Rattle.cat_play.specs.Recording.{times_out_rightly}
+use Rattle.sp_ends.specs.Entries.{each}
+use Rattle.cat_play.specs.Playing.{Plays}
+use Rattle.sp_ends.specs.LinkRecords.{times_out_rightly}
 use Rattle.cat_play.specs.Running.{ListensTwice, run_setting}
 use Rattle.cat_play.specs.Scripts.{texts, counted, timed_out}
 use Rattle.cat_play.specs.Spending.{listens_of, dials_of}
-use Rattle.cat_play.specs.Steps.{AddsNone, moves_ends}
-use Rattle.end_parts.specs.declared.error.EndError.{EndError}
-use Rattle.cat_player.specs.declared.player.Player.{Player}
-use Rattle.cat_player.specs.Lasting.{play_of}
-use Rattle.cat_player.specs.PlayerSteps.{Sinks}
+use Rattle.sp_ends.specs.Entries.{AddsNone, moves_ends}
+use Rattle.sp_ends.specs.declared.error.EndError.{EndError}
+use Rattle.cat_rounds.specs.declared.player.Player.{Player}
+use Rattle.cat_rounds.specs.Lasting.{play_of}
+use Rattle.cat_rounds.specs.PlayerSteps.{Sinks}
 use Rattle.cat_rounds.specs.Parts.{RunPartsView}
 use Rattle.cat_rounds.specs.RunRounds.{AreCleared, WentOrOver, PacedTo, LinksStand, RunStands, is_dry_at}
 

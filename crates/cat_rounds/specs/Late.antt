@@ -1,12 +1,12 @@
 -- How long a run goes on when its play is over.
 use Rattle.std.specs.Prelude.{◌≤◌, ◌+◌, ℕ, ⊤}
 use Rattle.sp_history.specs.Past.{past_of}
-use Rattle.sp_single.specs.Singles.{SingleView}
+use Rattle.sp_socket.specs.Singles.{SingleView}
 use Rattle.cat_play.specs.Spending.{late_ticks, stalled_turns}
-use Rattle.cat_player.specs.declared.player.Player.{Player}
+use Rattle.cat_rounds.specs.declared.player.Player.{Player}
 use Rattle.cat_rounds.specs.declared.rounds.Round.{Round}
 use Rattle.cat_rounds.specs.declared.rounds.Round.TheVariants as rounds
-use Rattle.cat_player.specs.Lasting.{play_of}
+use Rattle.cat_rounds.specs.Lasting.{play_of}
 
 -- the ticks at which the play was over
 abbrev pub late_at : SingleView → Player → ℕ

@@ -5,3 +5,5 @@ pub mod Built
 pub mod SubscribedTopics
 pub mod Late
 pub mod Resting
+pub mod Lasting
+pub mod PlayerSteps

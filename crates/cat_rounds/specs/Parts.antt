@@ -1,11 +1,11 @@
 -- What contracts see of the parts of a run, and what is true of them.
 use Rattle.std.specs.Prelude.{ℕ, Option}
 use Rattle.sp_history.specs.Past.{past_of}
-use Rattle.sp_single.specs.Singles.{SingleView, IsSound, IsNow}
+use Rattle.sp_socket.specs.Singles.{SingleView, IsSound, IsNow}
 use Rattle.sp_lane.specs.Registry.{Registry}
-use Rattle.end_parts.specs.EndViews.{EndsView}
-use Rattle.cat_player.specs.declared.player.Player.{Player}
-use Rattle.cat_player.specs.Lasting.{PlayStands, AreOn}
+use Rattle.sp_ends.specs.EndViews.{EndsView}
+use Rattle.cat_rounds.specs.declared.player.Player.{Player}
+use Rattle.cat_rounds.specs.Lasting.{PlayStands, AreOn}
 use Rattle.cat_rounds.specs.declared.stillness.Stillness.{Stillness}
 
 -- the socket of a run, its ends, its play, the names within the process, and since when no link took a byte once the play is

@@ -5,17 +5,17 @@ use Rattle.turn_lock.specs.declared.turn.Turn.{Turn}
 use Rattle.sp_history.specs.declared.entry.Entry.{Entry}
 use Rattle.sp_history.specs.Past.{past_of}
 use Rattle.sp_history.specs.Swept.{IsSwept}
-use Rattle.core_parts.specs.Tallies.{moves}
-use Rattle.sp_single.specs.Singles.{SingleView}
+use Rattle.core_state.specs.Tallies.{moves}
+use Rattle.sp_socket.specs.Singles.{SingleView}
 use Rattle.cat_play.specs.Scripts.{under_way}
-use Rattle.cat_play.specs.Steps.{AddsNone, moves_ends}
-use Rattle.cat_player.specs.declared.player.PlayEnd.TheVariants as overs
-use Rattle.cat_player.specs.declared.player.Player.{Player}
+use Rattle.sp_ends.specs.Entries.{AddsNone, moves_ends}
+use Rattle.cat_rounds.specs.declared.player.PlayEnd.TheVariants as overs
+use Rattle.cat_rounds.specs.declared.player.Player.{Player}
 use Rattle.cat_rounds.specs.declared.rounds.Going.{Going}
 use Rattle.cat_rounds.specs.declared.rounds.Going.TheVariants as goings
 use Rattle.cat_rounds.specs.declared.rounds.Round.{Round}
 use Rattle.cat_rounds.specs.declared.rounds.Round.TheVariants as rounds
-use Rattle.cat_player.specs.PlayerSteps.{IsKept}
+use Rattle.cat_rounds.specs.PlayerSteps.{IsKept}
 
 -- a turn since the last tick served the pipes: nothing came, went out, ended or went down in it, and nothing was begun
 -- since that is under way

@@ -5,25 +5,25 @@ use Rattle.sp_base.specs.Views.{LinkView, NetView, PaceView, SinkView}
 use Rattle.sp_history.specs.declared.entry.Entry.{Entry}
 use Rattle.sp_history.specs.Past.{past_of, up, now, is_cleared}
 use Rattle.sp_history.specs.Lists.{has}
-use Rattle.core_parts.specs.declared.served.Served.{Served}
-use Rattle.sp_single.specs.Singles.{SingleView, IsSound}
+use Rattle.core_state.specs.declared.served.Served.{Served}
+use Rattle.sp_socket.specs.Singles.{SingleView, IsSound}
 use Rattle.sp_lane.specs.Registry.{Registry}
 use Rattle.sp_ends.specs.NameTurns.{TurnsLanes}
-use Rattle.end_parts.specs.EndViews.{EndsView, LinkEndsView, Beginning}
-use Rattle.end_parts.specs.RunLinks.{EndsStand}
-use Rattle.end_parts.specs.SocketSteps.{IsDry}
+use Rattle.sp_ends.specs.EndViews.{EndsView, LinkEndsView, Beginning}
+use Rattle.sp_ends.specs.RunLinks.{EndsStand}
+use Rattle.sp_ends.specs.SocketSteps.{IsDry}
 use Rattle.cat_play.specs.declared.status.Status.{Status}
 use Rattle.cat_play.specs.declared.status.Status.TheVariants as status
-use Rattle.cat_play.specs.Running.{has_dry_miss}
+use Rattle.sp_ends.specs.LinkRecords.{has_dry_miss}
 use Rattle.sp_history.specs.Found.{ticks}
-use Rattle.cat_player.specs.declared.player.PlayEnd.TheVariants as overs
-use Rattle.cat_player.specs.declared.player.Player.{Player}
+use Rattle.cat_rounds.specs.declared.player.PlayEnd.TheVariants as overs
+use Rattle.cat_rounds.specs.declared.player.Player.{Player}
 use Rattle.cat_rounds.specs.declared.rounds.Round.{Round}
 use Rattle.cat_rounds.specs.declared.rounds.Round.TheVariants as rounds
 use Rattle.cat_rounds.specs.declared.rounds.Going.{Going}
 use Rattle.cat_rounds.specs.declared.rounds.Going.TheVariants as goings
-use Rattle.cat_player.specs.Lasting.{PlayStands, HasPrinted, MayTick, HasPlayed, HasServed}
-use Rattle.cat_player.specs.PlayerSteps.{HasPrintedCut, PrintsOn, SameScript}
+use Rattle.cat_rounds.specs.Lasting.{PlayStands, HasPrinted, MayTick, HasPlayed, HasServed}
+use Rattle.cat_rounds.specs.PlayerSteps.{HasPrintedCut, PrintsOn, SameScript}
 use Rattle.sp_ends.specs.EndsTurns.{SameEnds}
 use Rattle.cat_rounds.specs.declared.stillness.Stillness.{Stillness}
 use Rattle.cat_rounds.specs.Parts.{RunPartsView}

@@ -5,11 +5,11 @@ use Rattle.sp_history.specs.declared.setting.Setting.{Setting}
 use Rattle.sp_history.specs.Legal.{has_topic}
 use Rattle.sp_history.specs.Past.{past_of, topics}
 use Rattle.sp_history.specs.Setting.{has_topics}
-use Rattle.sp_single.specs.Singles.{SingleView, IsSound}
+use Rattle.sp_socket.specs.Singles.{SingleView, IsSound}
 use Rattle.cat_play.specs.Scripts.{has_ticked, has_begun, texts}
-use Rattle.cat_player.specs.declared.player.Player.{Player}
-use Rattle.cat_player.specs.Lasting.{play_of, PlayStands, AreOn}
-use Rattle.cat_player.specs.PlayerSteps.{GoesOnBy}
+use Rattle.cat_rounds.specs.declared.player.Player.{Player}
+use Rattle.cat_rounds.specs.Lasting.{play_of, PlayStands, AreOn}
+use Rattle.cat_rounds.specs.PlayerSteps.{GoesOnBy}
 
 -- the socket takes these topics: there are none, or it has topics, and each has at most 1,024 bytes
 pub record CanSubscribe (z : Setting) (ts : List (List ℕ)) : Type 0 where

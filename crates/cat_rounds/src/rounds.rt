@@ -2,17 +2,17 @@
 ghost use Rattle.std.specs.Prelude.{◌≡◌, ◌≢◌, ◌≤◌, ◌+◌, ◌&&◌, not, None, true, false, length};
 ghost use Rattle.sp_history.specs.Past.{past_of};
 ghost use Rattle.cat_play.specs.Scripts.{has_ticked, texts};
-ghost use Rattle.cat_player.specs.Lasting.{HasServed, MayTick};
-ghost use Rattle.cat_player.specs.PlayerSteps.{AddsNoText, KnowsPipes, GoesOnBy, SameScript, Sinks};
+ghost use Rattle.cat_rounds.specs.Lasting.{HasServed, MayTick};
+ghost use Rattle.cat_rounds.specs.PlayerSteps.{AddsNoText, KnowsPipes, GoesOnBy, SameScript, Sinks};
 ghost use Rattle.cat_rounds.specs.Late.{IsLateBy, RoundIsLate, StallsMore};
 ghost use Rattle.cat_rounds.specs.Parts.{IsAt, StaysAt};
 ghost use Rattle.cat_rounds.specs.Resting.{BeginsNothing, IsAtRest, MovesStill, RoundMoves};
 ghost use Rattle.cat_rounds.specs.RunRounds.{RunIsOpen, RunGoesOn, RoundGoesOn, SameRun, GoesTo, RoundGoesTo, Drains, WentOrOver, PacedTo, TicksOnce, PrintsRun, PrintsTo, PrintsGoing, PrintsRound, TurnsNames, IsDryAt, past_now, has_more};
 
+use crate::player::{PlayEnd, StepResult};
 use crate::run_parts::RunParts;
 use crate::stillness::{gives_up, note};
 use cat_play::status::Status;
-use cat_player::{PlayEnd, StepResult};
 use sp_base::{Link, Net, Pace, Paced, Sink, Tick};
 use sp_proto::Proto;
 use sp_socket::Served;
@@ -97,9 +97,7 @@ impl<R: Wait, P: Proto, L: Link> RunParts<'_, R, P, L> {
         ensures moved { RoundMoves result self.new.player self.old.single self.new.single }
     {
         self.single.tick(self.rt, now);
-        let turn = self
-            .ends
-            .turn(self.rt, net, &mut self.inproc, &mut self.single, now);
+        let turn = self.ends.turn(self.rt, net, &mut self.inproc, &mut self.single, now, false);
         if turn.is_dry {
             return Round::Ends(Status::NoMemory);
         }

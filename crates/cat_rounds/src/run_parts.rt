@@ -1,12 +1,12 @@
 //! The parts of a run.
+use crate::player::Player;
 use crate::stillness::Stillness;
-use cat_player::Player;
-use end_wire::EndWire;
 use sp_base::Link;
 use sp_ends::Ends;
 use sp_lane::Inproc;
+use sp_links::EndWire;
 use sp_proto::Proto;
-use sp_single::Single;
+use sp_socket::Single;
 use std::marker::Model;
 
 /// The runtime with which a run waits, its socket, its ends, its play, the names within the process, and since when no

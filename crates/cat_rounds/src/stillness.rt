@@ -2,7 +2,7 @@
 ghost use Rattle.std.specs.Prelude.{◌≡◌, Some};
 ghost use Rattle.cat_rounds.specs.Stillness.{noted_still, gives_up_at};
 
-use cat_player::PlayEnd;
+use crate::player::PlayEnd;
 use sp_base::Tick;
 
 /// What the links had taken, and since when.
@@ -26,8 +26,8 @@ pub fn note(still: &mut Option<Stillness>, taken: u64, now: Tick)
     *still = Some(Stillness { taken, since: now });
 }
 
-/// Whether a play that ended so is given up at this tick: its send timed out, and no link has taken a byte for as many
-/// seconds as the send may take.
+/// Returns whether a play that ended so is given up at this tick: its send timed out, and no link has taken a byte for as
+/// many seconds as the send may take, and since a tick before this one.
 pub fn gives_up(
     still: &Option<Stillness>,
     over: PlayEnd,
@@ -44,7 +44,10 @@ pub fn gives_up(
         PlayEnd::Finished => false,
         PlayEnd::SendTimedOut => match send_timeout {
             None => false,
-            Some(seconds) => now.0.saturating_sub(known.since.0) >= 1_000 * seconds as u64,
+            Some(seconds) => {
+                known.since.0 < now.0
+                    && now.0.saturating_sub(known.since.0) >= 1_000 * seconds as u64
+            }
         },
     }
 }

@@ -3,19 +3,18 @@ ghost use Rattle.std.specs.Prelude.{◌≡◌, ◌≤◌, [], length, IsTrue};
 ghost use Rattle.sp_history.specs.Legal.{has_topic};
 ghost use Rattle.sp_history.specs.Past.{past_of, topics};
 ghost use Rattle.sp_history.specs.Setting.{has_topics};
-ghost use Rattle.cat_player.specs.PlayerSteps.{Sinks};
+ghost use Rattle.cat_rounds.specs.PlayerSteps.{Sinks};
 ghost use Rattle.cat_rounds.specs.RunRounds.{RunIsOpen, RunGoesOn, SameRun, WentOrOver, PacedTo, PrintsRun, PrintsTo, IsDryAt};
 ghost use Rattle.cat_rounds.specs.Late.{IsLateBy};
 ghost use Rattle.cat_rounds.specs.SubscribedTopics.{CanSubscribe, IsBefore, Prepares, IsOnFor, AreOnFor};
 
+use crate::player::{CTX, Player};
 use crate::run_parts::RunParts;
 use cat_play::status::Status;
-use cat_player::{CTX, Player};
 use sp_base::{Link, Net, NoMemory, Pace, Sink};
 use sp_msg::Wire;
 use sp_proto::Proto;
-use sp_single::Single;
-use sp_socket::TopicError;
+use sp_socket::{Single, TopicError};
 use std::sync::Wait;
 
 // Puts one topic of the play on.

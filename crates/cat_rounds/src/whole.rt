@@ -2,24 +2,23 @@
 ghost use Rattle.std.specs.Prelude.{◌≡◌, [], Option, None, IfOk};
 ghost use Rattle.std.specs.Option.{option_map};
 ghost use Rattle.sp_base.specs.Views.{FilesView};
-ghost use Rattle.link_opening.specs.Origins.{run_ways};
+ghost use Rattle.sp_links.specs.Origins.{run_ways};
 ghost use Rattle.cat_play.specs.Running.{world, RunsPlan, EndsPlan};
-ghost use Rattle.cat_player.specs.PlayerSteps.{SameScript};
+ghost use Rattle.cat_rounds.specs.PlayerSteps.{SameScript};
 ghost use Rattle.cat_rounds.specs.RunRounds.{PrintsRun, PrintsTo, IsDryAt};
 ghost use Rattle.cat_rounds.specs.SubscribedTopics.{CanSubscribe};
 ghost use Rattle.cat_rounds.specs.Late.{IsLateBy};
 ghost use Rattle.cat_rounds.specs.Built.{MayFollow, FollowsOn, RunIsOver, RunFinishes, IsBuilt, IsMachineOf, ListensOnce, AreBuilt, IsBuiltEnd, IsBody, Follows, AddsEnd, origins_of};
 
+use crate::player::{Player, Script};
 use crate::run_parts::RunParts;
 use cat_play::status::Status;
-use cat_player::{Player, Script};
 use cat_text::{CatPlan, Data, End};
 use sp_base::{Bytes, Link, Net, NoMemory, Pace, Sink};
 use sp_ends::{EndError, Ends};
 use sp_lane::Inproc;
 use sp_proto::Proto;
-use sp_single::{Single, SingleEnd};
-use sp_socket::Record;
+use sp_socket::{Record, Single, SingleEnd};
 use std::sync::Wait;
 
 /// How many operations the socket of a run has at once.

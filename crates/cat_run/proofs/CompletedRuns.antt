@@ -2,9 +2,9 @@
 use Rattle.std.specs.Prelude.{ℕ, List, Option, Some, None}
 use Rattle.std.proofs.Common.{sym, subst}
 use Rattle.turn_lock.specs.declared.turn.Turn.{Turn}
-use Rattle.sp_spec.specs.Outside.{Rose}
+use Rattle.sp_base.specs.Outside.{Rose}
 use Rattle.sp_history.specs.declared.entry.Entry.{Entry}
-use Rattle.cat_play.specs.Openings.{Ways}
+use Rattle.sp_links.specs.Ways.{Ways}
 use Rattle.cat_text.specs.declared.plan.Plan.{Plan}
 use Rattle.cat_text.specs.declared.plan.Plan.TheVariants as plans
 use Rattle.cat_text.specs.declared.plan.CatPlan.{CatPlan}

@@ -11,11 +11,11 @@ use Rattle.cat_text.specs.declared.plan.Data.TheVariants as datas
 use Rattle.cat_play.specs.declared.status.Status.{Status}
 use Rattle.cat_play.specs.declared.status.Status.TheVariants as status
 use Rattle.cat_play.specs.Plans.{Play, IsBodyOf}
-use Rattle.cat_play.specs.Openings.{Ways}
+use Rattle.sp_links.specs.Ways.{Ways}
 use Rattle.cat_play.specs.Running.{World, world, run_setting, EndedFor, UnopenedFor, Printed, Runs, RunsPlan, FilesBy, RunsDrill, DrillsTo}
 use Rattle.cat_play.specs.Scripts.{texts}
 use Rattle.sp_history.specs.Past.{past_of}
-use Rattle.link_opening.specs.Origins.{run_ways}
+use Rattle.sp_links.specs.Origins.{run_ways}
 use Rattle.cat_rounds.specs.Built.{origins_of}
 use Rattle.cat_run.specs.Loading.{HasContent, AsksFiles}
 

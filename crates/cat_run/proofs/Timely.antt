@@ -14,7 +14,8 @@ use Rattle.cat_play.specs.declared.status.Status.{Status}
 use Rattle.cat_play.specs.Plans.{Play, IsBodyOf}
 use Rattle.cat_play.specs.Running.{world, run_setting, is_called_off, EndsPlan}
 use Rattle.cat_play.specs.Scripts.{open_part, asks_anew, last_result, counts_for, count_in, over}
-use Rattle.cat_play.specs.Spending.{EndsInTime, EndsSoon, IsPrompt, late_ticks, ticks_where, excuses}
+use Rattle.cat_play.specs.Spending.{EndsInTime, EndsSoon, IsPrompt, late_ticks, excuses}
+use Rattle.sp_ends.specs.LinkCounts.{ticks_where}
 use Rattle.cat_run.specs.Loading.{HasContent}
 
 -- a play that carries these bytes

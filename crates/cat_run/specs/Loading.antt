@@ -1,6 +1,6 @@
 -- The data of a plan, and what a file holds.
 use Rattle.std.specs.Prelude.{◌≡◌, ◌≤◌, ℕ, ⊤, List, Result, Ok, Err}
-use Rattle.sp_spec.specs.Outside.{Rose}
+use Rattle.sp_base.specs.Outside.{Rose}
 use Rattle.sp_base.specs.Views.{FilesView}
 use Rattle.sp_base.specs.Steps.{Holds}
 use Rattle.cat_text.specs.declared.plan.CatPlan.{CatPlan}

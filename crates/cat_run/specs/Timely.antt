@@ -5,7 +5,7 @@ use Rattle.sp_history.specs.declared.entry.Entry.{Entry}
 use Rattle.cat_text.specs.declared.plan.Plan.{Plan}
 use Rattle.cat_text.specs.declared.plan.Plan.TheVariants as plans
 use Rattle.cat_play.specs.declared.status.Status.{Status}
-use Rattle.sp_spec.specs.Outside.{Rose}
+use Rattle.sp_base.specs.Outside.{Rose}
 use Rattle.cat_rounds.specs.Built.{ListensOnce}
 use Rattle.cat_play.specs.Running.{World, EndsPlan, IsSpared, ComesToEnd}
 

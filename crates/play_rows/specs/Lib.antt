@@ -1,1 +1,15 @@
+pub mod Rows
+pub mod PullRows
+pub mod PushRows
+pub mod PubRows
+pub mod SubRows
+pub mod Pair0Rows
+pub mod BusRows
+pub mod ReqRows
+pub mod RepRows
+pub mod SurveyorRows
+pub mod RespondentRows
+pub mod PlaceRows
+pub mod SpentRows
+pub mod WholeRows
 pub mod MoreRows

@@ -12,7 +12,7 @@ use Rattle.sp_history.specs.declared.entry.Entry.TheVariants.{Up, Down, Frame, O
 use Rattle.sp_history.specs.Frames.{message}
 use Rattle.cat_play.specs.Rules.{broken}
 use Rattle.cat_play.specs.Rules as rules
-use Rattle.cat_play.specs.Rows.{socket, bare, turn, op, unnamed}
+use Rattle.play_rows.specs.Rows.{socket, bare, turn, op, unnamed}
 
 -- ---- Topics of a sub
 

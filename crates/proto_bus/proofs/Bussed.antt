@@ -35,15 +35,15 @@ use Rattle.sp_history.specs.Settled.{receive_settled, has_full}
 use Rattle.sp_history.specs.Moments.{Moment, Lawful, past, also, next}
 use Rattle.sp_proto.specs.Kinds.{Kind, text_of}
 use Rattle.sp_proto.specs.Machines.{CanGive, CanFlood, IsIdle, NoFlood, message_of}
-use Rattle.proto_floods.specs.Copies.{AreCopies}
-use Rattle.proto_floods.proofs.Copying.{pool_down, each_init}
-use Rattle.proto_floods.proofs.FloodTurns.{no_flood, goes_on, pipe_down, pipe_full, turn_begins}
-use Rattle.proto_floods.proofs.Sending.{a_send, is_a_send, is_a_receive, won_send, the_flood, can_flood as first_floods, none_sending, goes_to, goes_out, send_ends, receive_ends}
-use Rattle.proto_pending.specs.Waits.{Holds, is_receive, is_send, first_name}
-use Rattle.proto_pending.proofs.Firsts.{first_found, passes_first, first_on, no_receives, none_kept, no_sends, first_is, none_first}
+use Rattle.proto_shared.specs.Copies.{AreCopies}
+use Rattle.proto_shared.proofs.Copying.{pool_down, each_init}
+use Rattle.proto_shared.proofs.FloodTurns.{no_flood, goes_on, pipe_down, pipe_full, turn_begins}
+use Rattle.proto_shared.proofs.Sending.{a_send, is_a_send, is_a_receive, won_send, the_flood, can_flood as first_floods, none_sending, goes_to, goes_out, send_ends, receive_ends}
+use Rattle.proto_shared.specs.Waits.{Holds, is_receive, is_send, first_name}
+use Rattle.proto_shared.proofs.Firsts.{first_found, passes_first, first_on, no_receives, none_kept, no_sends, first_is, none_first}
 use Rattle.proto_bus.specs.declared.Bus.{Bus}
 use Rattle.proto_bus.specs.Buses.{Ties, IsFlood, message_in, receiver_of, left_out_of, header_of}
-use Rattle.proto_floods.proofs.PipeCounts.{counted_up, counted_down}
+use Rattle.proto_shared.proofs.PipeCounts.{counted_up, counted_down}
 
 pub is_bus : (m : Bus) (t : Moment) → Ties m t → t.z.role ≡ role.Bus
 is_bus m t h = ap (λ (k : Kind). k.role) h.0.kind

@@ -13,8 +13,8 @@ use Rattle.sp_history.specs.Lists.{first_word, word}
 use Rattle.sp_history.specs.Moments.{Moment}
 use Rattle.sp_proto.specs.Kinds.{Kind, text_of}
 use Rattle.sp_proto.specs.Readings.{MomentReading, reading}
-use Rattle.proto_floods.specs.Copies.{AreCopies, HasFlood}
-use Rattle.proto_pending.specs.Waits.{Holds, is_receive, count, room, first_name}
+use Rattle.proto_shared.specs.Copies.{AreCopies, HasFlood}
+use Rattle.proto_shared.specs.Waits.{Holds, is_receive, count, room, first_name}
 use Rattle.proto_bus.specs.declared.Bus.{Bus}
 
 abbrev pub bus_kind : Bool → Options → Kind

@@ -11,7 +11,7 @@
 //! it its copy.
 //!
 //! To read: `Ties` of `specs/Buses`, then the calls of `Proto` below. What a flood is to the copies stands in
-//! `proto_floods`.
+//! `proto_shared`.
 #![tactic(auto)]
 
 ghost use Rattle.std.specs.Prelude.{◌≡◌, ◌<◌, ◌≤◌, ◌+◌, ◌∷◌, ◌++◌, ℕ, List, [], IfOk, IsOk, IfErr, OnOk, OnErr, Option, true, find, filter, length, is_some, Some, None, if◌then◌else◌, nat_lt};
@@ -24,13 +24,12 @@ ghost use Rattle.sp_history.specs.Moments.{Moment, Lawful, past, also};
 ghost use Rattle.sp_history.specs.Past.{is_of, up};
 ghost use Rattle.sp_proto.specs.Kinds.{Starts, entry_act};
 ghost use Rattle.sp_proto.specs.Machines.{Frames, NoFlood, Takes};
-ghost use Rattle.proto_floods.specs.Copies.{TakesCopies};
-ghost use Rattle.proto_pending.specs.Waits.{Holds};
+ghost use Rattle.proto_shared.specs.Copies.{TakesCopies};
+ghost use Rattle.proto_shared.specs.Waits.{Holds};
 ghost use Rattle.proto_bus.specs.Buses.{Ties, bus_kind, copies_left, places_left, receiver_of, left_out_of, header_of};
 
 use circular_buffer::HeapCircularBuffer;
-use proto_floods::copies_of;
-use proto_pending::Pending;
+use proto_shared::{Pending, copies_of};
 use sp_base::{Ctx, NoMemory, OpName, PipeId, Role, Tick};
 use sp_history::setting::Options;
 use sp_msg::Message;

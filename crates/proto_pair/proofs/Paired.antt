@@ -34,8 +34,8 @@ use Rattle.sp_proto.specs.Kinds.{Kind, text_of}
 use Rattle.sp_proto.specs.Machines.{CanGive, CanSend, IsIdle, IsOffered}
 use Rattle.sp_proto.specs.declared.Offer.{Offer}
 use Rattle.sp_proto.specs.declared.Offer.TheVariants as offer
-use Rattle.proto_pending.specs.Waits.{Holds, is_receive, is_send, first_name}
-use Rattle.proto_pending.proofs.Firsts.{first_found, passes_first, first_on, no_receives, none_kept, no_sends, first_of_all, first_is, none_first}
+use Rattle.proto_shared.specs.Waits.{Holds, is_receive, is_send, first_name}
+use Rattle.proto_shared.proofs.Firsts.{first_found, passes_first, first_on, no_receives, none_kept, no_sends, first_of_all, first_is, none_first}
 use Rattle.proto_pair.specs.declared.Pair.{Pair}
 use Rattle.proto_pair.specs.declared.PairPort.{PairPort}
 use Rattle.proto_pair.specs.Pairs.{Ties, port_of, marked, message_in, free, receiver_of, send_offer, to_pipe}

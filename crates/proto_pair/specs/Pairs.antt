@@ -14,7 +14,7 @@ use Rattle.sp_proto.specs.Kinds.{Kind, text_of}
 use Rattle.sp_proto.specs.Readings.{MomentReading, reading}
 use Rattle.sp_proto.specs.declared.Offer.{Offer}
 use Rattle.sp_proto.specs.declared.Offer.TheVariants as offer
-use Rattle.proto_pending.specs.Waits.{Holds, is_receive, is_send, count, room, first_name}
+use Rattle.proto_shared.specs.Waits.{Holds, is_receive, is_send, count, room, first_name}
 use Rattle.proto_pair.specs.declared.Pair.{Pair}
 use Rattle.proto_pair.specs.declared.PairPort.{PairPort}
 

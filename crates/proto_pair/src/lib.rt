@@ -20,10 +20,10 @@ ghost use Rattle.sp_history.specs.Past.{up};
 ghost use Rattle.sp_history.specs.Setting.{is_pair};
 ghost use Rattle.sp_proto.specs.Kinds.{Starts, entry_act};
 ghost use Rattle.sp_proto.specs.Machines.{Frames, NoFlood, Takes};
-ghost use Rattle.proto_pending.specs.Waits.{Holds};
+ghost use Rattle.proto_shared.specs.Waits.{Holds};
 ghost use Rattle.proto_pair.specs.Pairs.{Ties, pair_kind, places_left, marked, receiver_of, send_offer};
 
-use proto_pending::Pending;
+use proto_shared::Pending;
 use sp_base::{Ctx, NoMemory, OpName, PipeId, Role, Tick};
 use sp_history::setting::Options;
 use sp_msg::Message;

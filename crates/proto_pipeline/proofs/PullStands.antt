@@ -33,9 +33,9 @@ use Rattle.sp_history.specs.Frames.{item_of as of_frame}
 use Rattle.sp_history.specs.Settled.{receive_settled, has_full}
 use Rattle.sp_history.specs.Legal.{is_recv, is_at}
 use Rattle.sp_history.specs.Moments.{Moment, Lawful, past, also}
-use Rattle.proto_pending.specs.Waits.{Holds, is_receive, is_send}
-use Rattle.proto_pending.proofs.Splits.{find_passing, without_passing}
-use Rattle.proto_pending.proofs.Firsts.{first_found, passes_first, first_on, no_receives, none_kept, no_sends, first_is, none_first}
+use Rattle.proto_shared.specs.Waits.{Holds, is_receive, is_send}
+use Rattle.proto_shared.proofs.Splits.{find_passing, without_passing}
+use Rattle.proto_shared.proofs.Firsts.{first_found, passes_first, first_on, no_receives, none_kept, no_sends, first_is, none_first}
 use Rattle.sp_proto.specs.declared.Act.{Act as Asked}
 use Rattle.sp_proto.specs.declared.Act.TheVariants as asked
 use Rattle.sp_proto.specs.Kinds.{Kind, entry_act, text_of}

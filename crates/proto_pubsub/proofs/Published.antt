@@ -30,13 +30,13 @@ use Rattle.sp_history.specs.Settled.{has_full}
 use Rattle.sp_history.specs.Moments.{Moment, Lawful, past, also, next}
 use Rattle.sp_proto.specs.Kinds.{Kind}
 use Rattle.sp_proto.specs.Machines.{CanGive, CanFlood, IsIdle, NoFlood, message_of}
-use Rattle.proto_floods.specs.Copies.{AreCopies}
-use Rattle.proto_floods.proofs.Copying.{pool_down, each_init}
-use Rattle.proto_floods.proofs.FloodTurns.{no_flood, goes_on, pipe_down, pipe_full, turn_begins}
-use Rattle.proto_floods.proofs.Sending.{a_send, is_a_send, is_a_receive, won_send, the_flood, can_flood as first_floods, none_sending, goes_to, goes_out, send_ends, receive_ends}
-use Rattle.proto_floods.proofs.PipeCounts.{counted_up, counted_down}
-use Rattle.proto_pending.specs.Waits.{Holds, is_send, first_name}
-use Rattle.proto_pending.proofs.Firsts.{none_kept, no_sends, none_first}
+use Rattle.proto_shared.specs.Copies.{AreCopies}
+use Rattle.proto_shared.proofs.Copying.{pool_down, each_init}
+use Rattle.proto_shared.proofs.FloodTurns.{no_flood, goes_on, pipe_down, pipe_full, turn_begins}
+use Rattle.proto_shared.proofs.Sending.{a_send, is_a_send, is_a_receive, won_send, the_flood, can_flood as first_floods, none_sending, goes_to, goes_out, send_ends, receive_ends}
+use Rattle.proto_shared.proofs.PipeCounts.{counted_up, counted_down}
+use Rattle.proto_shared.specs.Waits.{Holds, is_send, first_name}
+use Rattle.proto_shared.proofs.Firsts.{none_kept, no_sends, none_first}
 use Rattle.proto_pubsub.specs.declared.publish.Publish.{Publish}
 use Rattle.proto_pubsub.specs.Pubs.{Ties, IsFlood}
 

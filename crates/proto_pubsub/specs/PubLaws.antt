@@ -5,7 +5,7 @@ use Rattle.sp_history.specs.declared.parts.Begun.{Begun}
 use Rattle.sp_history.specs.Moments.{Moment, Lawful, past, also, IsSilent}
 use Rattle.sp_proto.specs.Kinds.{Starts, kind_of}
 use Rattle.sp_proto.specs.Readings.{MomentReading, stays, starts}
-use Rattle.proto_floods.proofs.FloodTurns.{silently}
+use Rattle.proto_shared.proofs.FloodTurns.{silently}
 use Rattle.proto_pubsub.specs.declared.publish.Publish.{Publish}
 use Rattle.proto_pubsub.specs.Pubs.{Ties, Stands, IsFlood, pub_kind}
 

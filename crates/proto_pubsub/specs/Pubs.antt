@@ -10,8 +10,8 @@ use Rattle.sp_history.specs.declared.setting.Options.{Options}
 use Rattle.sp_history.specs.Moments.{Moment}
 use Rattle.sp_proto.specs.Kinds.{Kind}
 use Rattle.sp_proto.specs.Readings.{MomentReading, reading}
-use Rattle.proto_floods.specs.Copies.{AreCopies, HasFlood}
-use Rattle.proto_pending.specs.Waits.{Holds, count, room}
+use Rattle.proto_shared.specs.Copies.{AreCopies, HasFlood}
+use Rattle.proto_shared.specs.Waits.{Holds, count, room}
 use Rattle.proto_pubsub.specs.declared.publish.Publish.{Publish}
 
 abbrev pub pub_kind : Bool → Options → Kind

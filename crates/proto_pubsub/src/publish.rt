@@ -9,11 +9,10 @@ ghost use Rattle.sp_history.specs.Moments.{Moment, Lawful, past, also};
 ghost use Rattle.sp_history.specs.Past.{up};
 ghost use Rattle.sp_proto.specs.Kinds.{Starts, entry_act};
 ghost use Rattle.sp_proto.specs.Machines.{Frames, NoFlood, Takes};
-ghost use Rattle.proto_floods.specs.Copies.{TakesCopies};
+ghost use Rattle.proto_shared.specs.Copies.{TakesCopies};
 ghost use Rattle.proto_pubsub.specs.Pubs.{Ties, pub_kind, copies_left, places_left};
 
-use proto_floods::copies_of;
-use proto_pending::Pending;
+use proto_shared::{Pending, copies_of};
 use sp_base::{Ctx, NoMemory, OpName, PipeId, Role, Tick};
 use sp_history::setting::Options;
 use sp_msg::Message;

@@ -322,6 +322,7 @@ impl Proto for Subscribe {
         ensures raw { (t : Moment) → Lawful (also t (Frame p m.body)) → Ties self.old t → t.z.raw ≡ true → result ≡ Verdict.Fine }
         ensures dry { (t : Moment) (c : ℕ) → Lawful (also t (Frame p m.body)) → Ties self.old t → result ≡ Verdict.Dry c → NeedsCopy t.z (past t) c p m.body }
         ensures prefixes { (ts : List (List ℕ)) → AreShort ts → IsWantedByPrefix ts m.body }
+        ensures fits { result ≢ Verdict.NoMemory }
     {
         let _ = p;
         self.looked = 0;

@@ -1,9 +1,9 @@
 //! The machine of rep, and of respondent.
-ghost use Rattle.std.specs.Prelude.{◌≡◌, ◌≤◌, ◌+◌, ℕ, List, [], Some, None, IfOk, MatchOption, length};
+ghost use Rattle.std.specs.Prelude.{◌≡◌, ◌≤◌, ◌<◌, ◌+◌, ℕ, Option, List, [], Some, None, IfErr, IfOk, OnErr, OnOk, MatchOption, length};
 ghost use Rattle.sp_base.specs.declared.role.Role.TheVariants as role;
-ghost use Rattle.sp_history.specs.declared.entry.Entry.TheVariants.{Frame};
+ghost use Rattle.sp_history.specs.declared.entry.Entry.TheVariants.{Begin, Frame};
 ghost use Rattle.sp_history.specs.Moments.{Moment, Lawful, also};
-ghost use Rattle.sp_proto.specs.Machines.{Frames};
+ghost use Rattle.sp_proto.specs.Machines.{Frames, NoFlood, Takes};
 ghost use Rattle.sp_history.specs.Options.{Fits};
 ghost use Rattle.sp_history.specs.Frames.{traced_item};
 ghost use Rattle.sp_history.specs.Backtrace.{back};
@@ -312,7 +312,16 @@ impl Proto for Reply {
         Ok(())
     }
 
-    fn begin(&mut self, op: OpName, c: Ctx, act: Act) -> Result<(), Message> {
+    /// It has the place of the operation, so it is never out of memory for one.
+    fn begin(&mut self, op: OpName, c: Ctx, act: Act) -> Result<(), Message>
+        requires { 0 < places_left self.old }
+        ensures begun { OnOk result ((t : Moment) (deadline : Option ℕ) → NoFlood t → Takes (Ties self.old) (Ties self.new) t (Begin op t.caller c (entry_act act) deadline)) }
+        ensures handed_back { IfErr result (λ m. act ≡ Act.Send m) }
+        ensures same { OnErr result ((t : Moment) → Ties self.old t → Ties self.new t) }
+        ensures room { places_left self.old ≤ places_left self.new + 1 }
+        ensures room_kept { OnErr result (places_left self.old ≤ places_left self.new) }
+        ensures fits { OnErr result ⊥ }
+    {
         let source = self.places.unstore(c);
         let answer = answer_of(act, source);
         self.waiting.push(ReplyOperation { op, ctx: c, answer });

@@ -1,18 +1,18 @@
 //! The machine of req.
-ghost use Rattle.std.specs.Prelude.{◌≡◌, ◌≢◌, ◌≤◌, ◌<◌, ◌+◌, ◌-◌, ◌%◌, ◌==◌, ◌++◌, ◌&&◌, ◌||◌, ℕ, List, [], ◌∷◌, None, Some, IfOk, IfSome, IfNone, OnOk, OnErr, false, true, map, find, drop, length, is_some};
+ghost use Rattle.std.specs.Prelude.{◌≡◌, ◌≢◌, ◌≤◌, ◌<◌, ◌+◌, ◌-◌, ◌%◌, ◌==◌, ◌++◌, ◌&&◌, ◌||◌, ℕ, List, [], ◌∷◌, Option, None, Some, IfErr, IfOk, IfSome, IfNone, OnOk, OnErr, false, true, map, find, drop, length, is_some};
 ghost use Rattle.std.specs.Option.{option_map};
 ghost use Rattle.std.specs.List.{list_any};
 ghost use Rattle.sp_base.specs.declared.OpName.{OpName};
-ghost use Rattle.sp_history.specs.declared.entry.Entry.TheVariants.{Frame};
+ghost use Rattle.sp_history.specs.declared.entry.Entry.TheVariants.{Begin, Frame};
 ghost use Rattle.sp_history.specs.Past.{up};
 ghost use Rattle.sp_history.specs.Legal.{Calm};
 ghost use Rattle.sp_history.specs.Moments.{Moment, Lawful, past, also};
-ghost use Rattle.sp_proto.specs.Machines.{IsOffered, Frames};
+ghost use Rattle.sp_proto.specs.Machines.{IsOffered, Frames, NoFlood, Takes};
 ghost use Rattle.sp_history.specs.Options.{Fits};
 ghost use Rattle.sp_history.specs.Lists.{word, head_of};
 ghost use Rattle.sp_history.specs.Requests.{next_number};
 ghost use Rattle.sp_msg.specs.Views.{wire_text};
-ghost use Rattle.sp_proto.specs.Kinds.{Starts};
+ghost use Rattle.sp_proto.specs.Kinds.{Starts, entry_act};
 ghost use Rattle.proto_live_requests.specs.declared.live.KeptReply.{KeptReply as KeptReplyType};
 ghost use Rattle.proto_reqrep.specs.declared.req.Asking.{Asking as AskingType};
 ghost use Rattle.proto_live_requests.specs.Dues.{StaySeen};
@@ -534,7 +534,16 @@ impl Proto for Request {
         Ok(())
     }
 
-    fn begin(&mut self, op: OpName, c: Ctx, act: Act) -> Result<(), Message> {
+    /// A raw one keeps no copy, so it is never out of memory for a request.
+    fn begin(&mut self, op: OpName, c: Ctx, act: Act) -> Result<(), Message>
+        requires { 0 < places_left self.old }
+        ensures begun { OnOk result ((t : Moment) (deadline : Option ℕ) → NoFlood t → Takes (Ties self.old) (Ties self.new) t (Begin op t.caller c (entry_act act) deadline)) }
+        ensures handed_back { IfErr result (λ m. act ≡ Act.Send m) }
+        ensures same { OnErr result ((t : Moment) → Ties self.old t → Ties self.new t) }
+        ensures room { places_left self.old ≤ places_left self.new + 1 }
+        ensures room_kept { OnErr result (places_left self.old ≤ places_left self.new) }
+        ensures fits { is_raw self.old ≡ true → OnErr result ⊥ }
+    {
         match act {
             Act::Recv => {
                 look_at(&mut self.ready, &self.live, c);

@@ -15,7 +15,7 @@ use Rattle.sp_history.specs.Past.{without_begun}
 use Rattle.sp_history.specs.Requests.{end_on, begin_on, next_id, change_live, without_orphan, is_bereft, orphan_of, is_orphan}
 use Rattle.sp_history.specs.Legal.{is_at}
 use Rattle.sp_history.specs.Once.{AreApart}
-use Rattle.proto_pending.proofs.Splits.{apart_without, apart_more}
+use Rattle.proto_shared.proofs.Splits.{apart_without, apart_more}
 use Rattle.proto_survey.specs.declared.waiting.SurveyOperation.{SurveyOperation}
 use Rattle.proto_survey.specs.declared.waiting.SurveyEnd.{SurveyEnd}
 use Rattle.proto_survey.specs.Lives.{SurveyView, survey_of, survey_ctx, survey_id, fresh_survey}

@@ -40,10 +40,10 @@ use Rattle.sp_proto.specs.declared.Verdict.TheVariants as verdict
 use Rattle.sp_msg.specs.Messages.{Trimmed}
 use Rattle.sp_msg.specs.declared.message.Short.{Short}
 use Rattle.std.proofs.lemmas.Bool.Decides.{nat_tests}
-use Rattle.proto_floods.specs.Copies.{Each, IsOnlyFlood, HasFlood}
-use Rattle.proto_floods.proofs.FloodTurns.{no_flood, goes_on}
-use Rattle.proto_pending.specs.Waits.{is_send}
-use Rattle.proto_pending.proofs.Splits.{passing_append}
+use Rattle.proto_shared.specs.Copies.{Each, IsOnlyFlood, HasFlood}
+use Rattle.proto_shared.proofs.FloodTurns.{no_flood, goes_on}
+use Rattle.proto_shared.specs.Waits.{is_send}
+use Rattle.proto_shared.proofs.Splits.{passing_append}
 use Rattle.proto_requests.specs.Ids.{number_after, raw_item}
 use Rattle.proto_requests.specs.FirstFound.{with_found}
 use Rattle.proto_survey.specs.declared.survey.Survey.{Survey}

@@ -40,11 +40,11 @@ use Rattle.sp_proto.specs.Kinds.{text_of, verb_of}
 use Rattle.sp_proto.specs.Machines.{CanGive, CanFlood, CanFinish, IsIdle, message_of}
 use Rattle.sp_proto.specs.declared.Verb.{Verb}
 use Rattle.sp_proto.specs.declared.Verb.TheVariants as verbs
-use Rattle.proto_floods.specs.Copies.{Each, HasCopies, HasFlood}
-use Rattle.proto_floods.proofs.Copying.{each_init}
-use Rattle.proto_floods.proofs.Sending.{passes, a_send, won_send, the_flood, goes_to, goes_out, send_ends, receive_ends}
-use Rattle.proto_pending.specs.Waits.{is_send}
-use Rattle.proto_pending.proofs.Firsts.{no_sends}
+use Rattle.proto_shared.specs.Copies.{Each, HasCopies, HasFlood}
+use Rattle.proto_shared.proofs.Copying.{each_init}
+use Rattle.proto_shared.proofs.Sending.{passes, a_send, won_send, the_flood, goes_to, goes_out, send_ends, receive_ends}
+use Rattle.proto_shared.specs.Waits.{is_send}
+use Rattle.proto_shared.proofs.Firsts.{no_sends}
 use Rattle.proto_requests.specs.FirstFound.{with_found}
 use Rattle.proto_survey.specs.declared.survey.Survey.{Survey}
 use Rattle.proto_survey.specs.declared.survey.KeptResponse.{KeptResponse}

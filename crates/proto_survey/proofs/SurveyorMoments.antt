@@ -28,9 +28,9 @@ use Rattle.sp_history.specs.Moments.{Moment, Lawful, past, also, next}
 use Rattle.sp_history.proofs.Requesting.{shut_makes, tick_makes, close_makes, shut_elsewhere}
 use Rattle.sp_proto.specs.Kinds.{Kind}
 use Rattle.sp_proto.specs.Machines.{NoFlood}
-use Rattle.proto_floods.proofs.Copying.{pool_down}
-use Rattle.proto_floods.proofs.FloodTurns.{no_flood, goes_on, pipe_down, pipe_full, turn_begins}
-use Rattle.proto_floods.proofs.PipeCounts.{counted_up, counted_down}
+use Rattle.proto_shared.proofs.Copying.{pool_down}
+use Rattle.proto_shared.proofs.FloodTurns.{no_flood, goes_on, pipe_down, pipe_full, turn_begins}
+use Rattle.proto_shared.proofs.PipeCounts.{counted_up, counted_down}
 use Rattle.proto_survey.specs.declared.survey.Survey.{Survey}
 use Rattle.proto_survey.specs.declared.waiting.SurveyOperation.{SurveyOperation}
 use Rattle.proto_survey.specs.declared.waiting.SurveyEnd.TheVariants as ends

@@ -5,7 +5,7 @@ use Rattle.sp_history.specs.declared.parts.Begun.{Begun}
 use Rattle.sp_history.specs.Moments.{Moment, Lawful, past, also, IsSilent}
 use Rattle.sp_proto.specs.Kinds.{Starts, kind_of}
 use Rattle.sp_proto.specs.Readings.{MomentReading, stays, starts}
-use Rattle.proto_floods.proofs.FloodTurns.{silently}
+use Rattle.proto_shared.proofs.FloodTurns.{silently}
 use Rattle.proto_survey.specs.declared.survey.Survey.{Survey}
 use Rattle.proto_survey.specs.Surveys.{Ties, Stands, IsFlood, survey_kind}
 

@@ -19,7 +19,7 @@ use Rattle.sp_proto.specs.declared.Verb.{Verb}
 use Rattle.sp_proto.specs.declared.Verb.TheVariants as verbs
 use Rattle.sp_proto.specs.declared.Verdict.{Verdict}
 use Rattle.sp_proto.specs.declared.Verdict.TheVariants as verdict
-use Rattle.proto_floods.specs.Copies.{Each, HasFlood}
+use Rattle.proto_shared.specs.Copies.{Each, HasFlood}
 use Rattle.proto_requests.specs.FirstFound.{without_found, with_found}
 use Rattle.proto_requests.specs.Ids.{raw_item}
 use Rattle.proto_survey.specs.declared.survey.Survey.{Survey}

@@ -1,5 +1,5 @@
 //! The machine of surveyor.
-ghost use Rattle.std.specs.Prelude.{◌≡◌, ◌≤◌, ◌<◌, ◌+◌, ◌^◌, ◌%◌, ◌==◌, ◌++◌, ◌&&◌, ℕ, [], ◌∷◌, Option, None, Some, IfOk, IfErr, OnOk, OnErr, IfSome, IfNone, false, true, not, map, filter, find, drop, length, option_to_list, is_some};
+ghost use Rattle.std.specs.Prelude.{◌≡◌, ◌≤◌, ◌<◌, ◌+◌, ◌^◌, ◌%◌, ◌==◌, ◌++◌, ◌&&◌, ℕ, [], ◌∷◌, Option, None, Some, IfOk, IfErr, IsOk, OnOk, OnErr, IfSome, IfNone, false, true, not, map, filter, find, drop, length, option_to_list, is_some};
 ghost use Rattle.std.specs.Vec.{vec_len, vec_capacity};
 ghost use Rattle.std.specs.Option.{option_map};
 ghost use Rattle.std.specs.List.{position, list_any};
@@ -13,7 +13,7 @@ ghost use Rattle.sp_msg.specs.Views.{wire_text};
 ghost use Rattle.sp_proto.specs.Kinds.{Starts, entry_act};
 ghost use Rattle.sp_proto.specs.Machines.{NoFlood, Takes, Frames};
 ghost use Rattle.sp_proto.specs.declared.Verdict.TheVariants as verdict;
-ghost use Rattle.proto_floods.specs.Copies.{TakesCopies};
+ghost use Rattle.proto_shared.specs.Copies.{TakesCopies};
 ghost use Rattle.proto_requests.specs.Ids.{number_after};
 ghost use Rattle.proto_requests.specs.FirstFound.{with_found};
 ghost use Rattle.proto_survey.specs.declared.survey.KeptResponse.{KeptResponse as KeptResponseType};
@@ -223,10 +223,11 @@ fn first_word(b: &[u8]) -> Option<u32>
     Some(u32::from_be_bytes([b[0], b[1], b[2], b[3]]))
 }
 
-// So many copies of the message.
+// `most` copies of the message. Where that is 0 it takes no memory.
 fn copies_of(alloc: Global, m: &Message, most: usize) -> Result<Vec<Message>, NoMemory>
     ensures copies { IfOk result (λ v. AreSame m.now v.items) }
     ensures all { IfOk result (λ v. length v.items ≡ most) }
+    ensures none { most ≡ 0 → IsOk result }
 {
     let mut copies = Vec::with_capacity(alloc, most)?;
     for _ in 0..most {
@@ -484,6 +485,7 @@ impl Proto for Survey {
         ensures room { places_left self.old ≤ places_left self.new + 1 }
         ensures room_kept { OnErr result (places_left self.old ≤ places_left self.new) }
         ensures copies { OnOk result ((t : Moment) → Ties self.old t → TakesCopies act (length (up (past t))) (copies_left self.new)) }
+        ensures fits { OnErr result ((t : Moment) → Ties self.old t → is_raw self.old ≡ true → up (past t) ≡ [] → ⊥) }
     {
         match act {
             Act::Recv => {

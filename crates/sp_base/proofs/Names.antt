@@ -2,7 +2,7 @@
 use Rattle.std.proofs.Common.{◌≡◌, List, ℕ, ◌++◌}
 use Rattle.std.specs.Prelude.{codes, Result, Ok, Err}
 use denote.Ref.{Bor}
-use Rattle.sp_spec.specs.Prefixes.{IsCutAtOne}
+use Rattle.sp_base.specs.Prefixes.{IsCutAtOne}
 use Rattle.sp_base.specs.Addresses.{IsName}
 use Rattle.sp_base.specs.Readers.{ReadsOne, IsInproc}
 use Rattle.sp_base.proofs.Forms.{inproc_short, inproc_one}

@@ -17,21 +17,21 @@ use Rattle.sp_history.specs.Past.{up, ctxs, is_closed}
 use Rattle.sp_history.specs.Legal.{Calm, Allowed, condemned}
 use Rattle.sp_history.specs.Moments.{Moment, past, also, Lawful}
 use Rattle.sp_core.specs.declared.owner.Core.{Core}
-use Rattle.core_parts.specs.declared.pipes.PipePlace.{PipePlace}
-use Rattle.core_parts.specs.declared.pipes.Pipes.{Pipes}
-use Rattle.core_parts.specs.OpWordsStand.{OpWordsStand}
-use Rattle.core_parts.specs.OperationsStand.{OperationsStand, done_count}
-use Rattle.core_parts.specs.Tallies.{Tallies}
-use Rattle.core_parts.specs.Wires.{ShowsWhy, has_unkept}
-use Rattle.core_parts.specs.Pipes.{UpPipe, up_pipes, PipesStand, IsPipeAt, HasPlace}
-use Rattle.core_parts.specs.PartSteps.{EmptiesPlace}
+use Rattle.core_state.specs.declared.pipes.PipePlace.{PipePlace}
+use Rattle.core_state.specs.declared.pipes.Pipes.{Pipes}
+use Rattle.core_state.specs.OpWordsStand.{OpWordsStand}
+use Rattle.core_state.specs.OperationsStand.{OperationsStand, done_count}
+use Rattle.core_state.specs.Tallies.{Tallies}
+use Rattle.core_state.specs.Wires.{ShowsWhy, has_unkept}
+use Rattle.core_state.specs.Pipes.{UpPipe, up_pipes, PipesStand, IsPipeAt, HasPlace}
+use Rattle.core_state.specs.PartSteps.{EmptiesPlace}
 use Rattle.sp_core.specs.Owning.{Owns}
 use Rattle.std.proofs.lemmas.List.{length-map, set-get_or}
-use Rattle.core_parts.proofs.ChangedWires.{same_number}
-use Rattle.core_parts.proofs.PipeSteps.{up_at, placed, emptied}
-use Rattle.core_parts.proofs.Lawfuls.{one_more}
+use Rattle.core_state.proofs.ChangedWires.{same_number}
+use Rattle.core_state.proofs.PipeSteps.{up_at, placed, emptied}
+use Rattle.core_state.proofs.Lawfuls.{one_more}
 use Rattle.sp_core.proofs.MomentSteps.{goes, up_open}
-use Rattle.core_parts.proofs.Tallying.{same_tally}
+use Rattle.core_state.proofs.Tallying.{same_tally}
 
 -- ---- What may come next
 

@@ -17,14 +17,14 @@ use Rattle.sp_history.specs.Moments.{Moment, past, also, Lawful}
 use Rattle.sp_proto.specs.Kinds.{Kind, Starts, kind_of, setting_of, start}
 use Rattle.sp_proto.specs.Machines.{ChecksAct}
 use Rattle.sp_core.specs.declared.owner.Core.{Core}
-use Rattle.core_parts.specs.declared.operations.Operations.{Operations}
-use Rattle.core_parts.specs.OpWordsStand.{OpWordsStand, IsNext}
-use Rattle.core_parts.specs.OperationsStand.{OperationsStand, done_count, IsWornOut}
-use Rattle.core_parts.specs.Pipes.{PipesStand}
+use Rattle.core_state.specs.declared.operations.Operations.{Operations}
+use Rattle.core_state.specs.OpWordsStand.{OpWordsStand, IsNext}
+use Rattle.core_state.specs.OperationsStand.{OperationsStand, done_count, IsWornOut}
+use Rattle.core_state.specs.Pipes.{PipesStand}
 use Rattle.sp_core.specs.Owning.{Owns, CanBegin}
-use Rattle.core_parts.specs.Tallies.{Tallies}
+use Rattle.core_state.specs.Tallies.{Tallies}
 use Rattle.sp_core.specs.Standing.{StandsFor}
-use Rattle.core_parts.proofs.Lawfuls.{one_more}
+use Rattle.core_state.proofs.Lawfuls.{one_more}
 use Rattle.sp_core.proofs.MomentSteps.{goes, pipes_begun}
 
 and_left : (a b : Bool) → (a && b) ≡ true → a ≡ true

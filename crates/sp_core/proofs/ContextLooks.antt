@@ -16,14 +16,14 @@ use Rattle.sp_history.specs.Lists.{same_op}
 use Rattle.sp_history.specs.Past.{pend, is_of, onto}
 use Rattle.sp_history.specs.Moments.{Moment, past, also}
 use Rattle.sp_history.proofs.OnceHolds.{same_op-eq, same_op-refl}
-use Rattle.sp_pending.specs.declared.pending.PendingOperation.{PendingOperation}
-use Rattle.sp_pending.specs.Pendings.{PendingView, IsNextIn, behind, in_bucket, left_of, bucket_of}
-use Rattle.sp_pending.proofs.RingSteps.{is_same}
-use Rattle.sp_pending.proofs.Walks.{Step, bucket_without}
+use Rattle.core_state.specs.declared.pending.PendingOperation.{PendingOperation}
+use Rattle.core_state.specs.Pendings.{PendingView, IsNextIn, behind, in_bucket, left_of, bucket_of}
+use Rattle.core_state.proofs.RingSteps.{is_same}
+use Rattle.core_state.proofs.Walks.{Step, bucket_without}
 use Rattle.sp_core.specs.Looking.{ends_in, HasLooked, IsLeft, LooksTo, ReadsPending, FoundOf, bucket_items}
-use Rattle.core_parts.specs.Reads.{Grows}
-use Rattle.core_parts.specs.declared.operations.Operations.{Operations}
-use Rattle.core_parts.specs.OperationsStand.{OperationsStand, pending_of}
+use Rattle.core_state.specs.Reads.{Grows}
+use Rattle.core_state.specs.declared.operations.Operations.{Operations}
+use Rattle.core_state.specs.OperationsStand.{OperationsStand, pending_of}
 
 -- ---- Reads
 

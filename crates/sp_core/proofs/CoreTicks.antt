@@ -14,16 +14,16 @@ use Rattle.sp_history.specs.Past.{is_closed, due_at, now}
 use Rattle.sp_history.specs.Legal.{Calm}
 use Rattle.sp_history.specs.Moments.{Moment, past, also, next, Lawful}
 use Rattle.sp_core.specs.declared.owner.Core.{Core}
-use Rattle.core_parts.specs.declared.pipes.Pipes.{Pipes}
-use Rattle.core_parts.specs.OperationsStand.{OperationsStand, done_count}
-use Rattle.core_parts.specs.Wires.{ShowsWhy}
-use Rattle.core_parts.specs.Pipes.{PipesStand}
-use Rattle.core_parts.specs.Tallies.{Tallies}
+use Rattle.core_state.specs.declared.pipes.Pipes.{Pipes}
+use Rattle.core_state.specs.OperationsStand.{OperationsStand, done_count}
+use Rattle.core_state.specs.Wires.{ShowsWhy}
+use Rattle.core_state.specs.Pipes.{PipesStand}
+use Rattle.core_state.specs.Tallies.{Tallies}
 use Rattle.sp_core.specs.Owning.{Owns}
 use Rattle.sp_core.specs.Moving.{Later}
 use Rattle.sp_core.specs.Standing.{StandsFor, IsSettled}
 use Rattle.sp_core.specs.Collecting.{Ticks, TickedTo, DueFrom, DueBy}
-use Rattle.core_parts.proofs.Lawfuls.{one_more}
+use Rattle.core_state.proofs.Lawfuls.{one_more}
 use Rattle.sp_core.proofs.MomentSteps.{goes}
 use Rattle.sp_core.proofs.TurnEnds.{first_so, settling_so}
 

@@ -8,8 +8,8 @@ use Rattle.sp_history.specs.Lists.{has}
 use Rattle.sp_history.specs.Past.{up}
 use Rattle.sp_history.specs.Moments.{Moment, past, also}
 use Rattle.sp_core.specs.declared.owner.Core.{Core}
-use Rattle.core_parts.specs.declared.pipes.Pipes.{Pipes}
-use Rattle.core_parts.specs.Pipes.{PipesStand}
+use Rattle.core_state.specs.declared.pipes.Pipes.{Pipes}
+use Rattle.core_state.specs.Pipes.{PipesStand}
 use Rattle.sp_core.specs.Owning.{Owns}
 use Rattle.sp_core.specs.FloodedPipes.{Spreads}
 use Rattle.sp_core.specs.NoteSteps.{NotesFull}

@@ -11,10 +11,10 @@ use Rattle.sp_history.specs.Legal.{MayGo}
 use Rattle.sp_history.specs.Past.{pending}
 use Rattle.sp_history.specs.Moments.{Moment, past, also}
 use Rattle.sp_core.specs.declared.owner.Core.{Core}
-use Rattle.core_parts.specs.declared.op_words.Decision.TheVariants as decision
-use Rattle.core_parts.specs.declared.op_words.OpWords.{OpWords}
-use Rattle.core_parts.specs.OpWordsStand.{DecidedAs, OpWordsStand}
-use Rattle.core_parts.specs.Ends.{IsCloseEnd}
+use Rattle.core_state.specs.declared.op_words.Decision.TheVariants as decision
+use Rattle.core_state.specs.declared.op_words.OpWords.{OpWords}
+use Rattle.core_state.specs.OpWordsStand.{DecidedAs, OpWordsStand}
+use Rattle.core_state.specs.Ends.{IsCloseEnd}
 use Rattle.sp_core.specs.Owning.{Owns}
 use Rattle.sp_core.specs.Closing.{ClosesAt}
 use Rattle.sp_core.specs.NoteSteps.{NotesEnd}

@@ -30,19 +30,19 @@ use Rattle.sp_history.specs.Moments.{Moment, past, also, Lawful}
 use Rattle.sp_proto.specs.Kinds.{text_of}
 use Rattle.sp_proto.specs.Machines.{CanSend, message_of}
 use Rattle.sp_core.specs.declared.owner.Core.{Core}
-use Rattle.core_parts.specs.declared.op_words.OpWords.{OpWords}
-use Rattle.core_parts.specs.declared.op_words.Decision.{Decision}
-use Rattle.core_parts.specs.declared.op_words.Decision.TheVariants as decision
-use Rattle.core_parts.specs.Ends.{IsCallers, view_of, back_of}
+use Rattle.core_state.specs.declared.op_words.OpWords.{OpWords}
+use Rattle.core_state.specs.declared.op_words.Decision.{Decision}
+use Rattle.core_state.specs.declared.op_words.Decision.TheVariants as decision
+use Rattle.core_state.specs.Ends.{IsCallers, view_of, back_of}
 use Rattle.sp_core.specs.Moving.{IsSettling, AreSettling, with_entries, Later}
-use Rattle.core_parts.specs.OpWordsStand.{OpWordsStand, DecidedAs}
-use Rattle.core_parts.specs.OperationsStand.{OperationsStand, done_count}
-use Rattle.core_parts.specs.declared.pipes.Pipes.{Pipes}
-use Rattle.core_parts.specs.Wires.{ShowsWhy}
-use Rattle.core_parts.specs.Pipes.{PipesStand}
+use Rattle.core_state.specs.OpWordsStand.{OpWordsStand, DecidedAs}
+use Rattle.core_state.specs.OperationsStand.{OperationsStand, done_count}
+use Rattle.core_state.specs.declared.pipes.Pipes.{Pipes}
+use Rattle.core_state.specs.Wires.{ShowsWhy}
+use Rattle.core_state.specs.Pipes.{PipesStand}
 use Rattle.sp_core.specs.Owning.{Owns}
-use Rattle.core_parts.specs.Tallies.{Tallies}
-use Rattle.core_parts.proofs.Lawfuls.{one_more, closed_none, pipes_closed}
+use Rattle.core_state.specs.Tallies.{Tallies}
+use Rattle.core_state.proofs.Lawfuls.{one_more, closed_none, pipes_closed}
 
 or_left : (a b : Bool) → a ≡ true → (a || b) ≡ true
 or_left true b h = refl

@@ -1,7 +1,7 @@
 -- What the core has read, after more steps.
 use Rattle.std.proofs.Common.{◌≡◌, sym, subst, List, [], append-nil}
 use Rattle.aio_word.specs.declared.rule.ShownOperation as word
-use Rattle.core_parts.specs.Reads.{Grows}
+use Rattle.core_state.specs.Reads.{Grows}
 
 -- the second step reads nothing
 pub grows_after : (xs ys zs : List word.ShownOperation) → Grows xs ys → zs ≡ ys → Grows xs zs

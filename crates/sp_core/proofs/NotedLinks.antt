@@ -9,19 +9,19 @@ use Rattle.sp_history.specs.Past.{is_closed}
 use Rattle.sp_history.specs.Legal.{Calm, MayCome, comes_after_close}
 use Rattle.sp_history.specs.Moments.{Moment, past, also, Lawful, IsSilent, may_start}
 use Rattle.sp_core.specs.declared.owner.Core.{Core}
-use Rattle.core_parts.specs.declared.op_words.OpWords.{OpWords}
-use Rattle.core_parts.specs.declared.operations.Operations.{Operations}
-use Rattle.core_parts.specs.declared.pipes.Pipes.{Pipes}
-use Rattle.core_parts.specs.declared.tally.Tally.{Tally}
-use Rattle.core_parts.specs.OpWordsStand.{OpWordsStand}
-use Rattle.core_parts.specs.OperationsStand.{OperationsStand}
-use Rattle.core_parts.specs.Pipes.{PipesStand}
-use Rattle.core_parts.specs.Tallies.{Tallies}
+use Rattle.core_state.specs.declared.op_words.OpWords.{OpWords}
+use Rattle.core_state.specs.declared.operations.Operations.{Operations}
+use Rattle.core_state.specs.declared.pipes.Pipes.{Pipes}
+use Rattle.core_state.specs.declared.tally.Tally.{Tally}
+use Rattle.core_state.specs.OpWordsStand.{OpWordsStand}
+use Rattle.core_state.specs.OperationsStand.{OperationsStand}
+use Rattle.core_state.specs.Pipes.{PipesStand}
+use Rattle.core_state.specs.Tallies.{Tallies}
 use Rattle.sp_core.specs.Owning.{Owns}
 use Rattle.sp_core.specs.Attaching.{IsOfLinks}
-use Rattle.core_parts.proofs.Lawfuls.{one_more}
-use Rattle.core_parts.proofs.ChangedWires.{shows_still}
-use Rattle.core_parts.proofs.Tallying.{same_tally}
+use Rattle.core_state.proofs.Lawfuls.{one_more}
+use Rattle.core_state.proofs.ChangedWires.{shows_still}
+use Rattle.core_state.proofs.Tallying.{same_tally}
 use Rattle.sp_core.proofs.MomentSteps.{goes}
 
 -- these entries

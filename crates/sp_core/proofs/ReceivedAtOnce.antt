@@ -39,24 +39,24 @@ use Rattle.sp_proto.specs.Machines.{CanGive, IsIdle}
 use Rattle.sp_core.specs.Collecting.{IsOpenBefore}
 use Rattle.sp_history.specs.declared.entry.RecordedMessage.{RecordedMessage}
 use Rattle.sp_core.specs.declared.owner.Core.{Core}
-use Rattle.core_parts.specs.declared.operations.Operations.{Operations}
-use Rattle.core_parts.specs.declared.outcome.Outcome.TheVariants as out
-use Rattle.core_parts.specs.Ends.{outcome_of, view_of}
-use Rattle.core_parts.specs.OperationsStand.{OperationsStand, done_count, AllTaken}
-use Rattle.core_parts.proofs.Lawfuls.{by_steps, counted}
+use Rattle.core_state.specs.declared.operations.Operations.{Operations}
+use Rattle.core_state.specs.declared.outcome.Outcome.TheVariants as out
+use Rattle.core_state.specs.Ends.{outcome_of, view_of}
+use Rattle.core_state.specs.OperationsStand.{OperationsStand, done_count, AllTaken}
+use Rattle.core_state.proofs.Lawfuls.{by_steps, counted}
 use Rattle.sp_core.specs.Immediate.{IsGiven, IsCallersEnd, AreLost, HasLost, RefusedNow, ReceivedNow, LostTo, TriedTo, NowTo, tried}
 use Rattle.sp_core.specs.Moving.{AreSettling, Later}
 use Rattle.aio_word.specs.declared.phase.Phase.TheVariants as phase
 use Rattle.aio_word.specs.declared.rule.ShownOperation as word
 use Rattle.aio_word.specs.Results.{of_op}
-use Rattle.core_parts.specs.declared.causes.NowError.{NowError}
+use Rattle.core_state.specs.declared.causes.NowError.{NowError}
 use Rattle.sp_core.specs.Looking.{HasLooked, ends_in}
-use Rattle.core_parts.specs.Reads.{Grows}
+use Rattle.core_state.specs.Reads.{Grows}
 use Rattle.sp_core.specs.Owning.{Owns, CanBegin}
-use Rattle.core_parts.specs.OpWordsStand.{IsNext}
+use Rattle.core_state.specs.OpWordsStand.{IsNext}
 use Rattle.sp_core.specs.Standing.{StandsFor, Turns, IsSettled}
 use Rattle.sp_core.proofs.ContextLooks.{looked_in_order, stands_left}
-use Rattle.core_parts.proofs.FreedSlots.{ended_at, weight, ended_at-append, one_at}
+use Rattle.core_state.proofs.FreedSlots.{ended_at, weight, ended_at-append, one_at}
 use Rattle.sp_core.proofs.TurnEnds.{later_z, later_caller, later_before, later_turn, settling-order, goes_on, turn_ends}
 
 -- ---- The receive can be given what is kept

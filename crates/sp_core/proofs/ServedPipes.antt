@@ -7,10 +7,10 @@ use Rattle.sp_history.specs.Lists.{has}
 use Rattle.sp_history.specs.Past.{up}
 use Rattle.sp_history.specs.Moments.{Moment, past, Lawful}
 use Rattle.sp_core.specs.declared.calls.serve.Visit.{Visit}
-use Rattle.core_parts.specs.PartSteps.{IsFirstAbove}
+use Rattle.core_state.specs.PartSteps.{IsFirstAbove}
 use Rattle.sp_core.specs.Serving.{AreAsMany, AreFew, IsFlushedIn, IsServedIn, VisitedTo, SweptTo, ups_after}
-use Rattle.core_parts.proofs.ChangedWires.{equal_numbers, same_number, without-left}
-use Rattle.core_parts.proofs.PipesInOrder.{none_zero}
+use Rattle.core_state.proofs.ChangedWires.{equal_numbers, same_number, without-left}
+use Rattle.core_state.proofs.PipesInOrder.{none_zero}
 
 -- nothing was served yet
 pub sweeps_none : (t : Moment) → Lawful t → t.turn ≡ [] → SweptTo 0 0 t t

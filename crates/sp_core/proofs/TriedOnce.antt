@@ -14,14 +14,14 @@ use Rattle.sp_history.specs.Kept.{kept}
 use Rattle.sp_history.specs.Legal.{is_uncollected}
 use Rattle.sp_history.specs.Moments.{Moment, Lawful, past, also}
 use Rattle.sp_proto.specs.Machines.{CanGive, NoFlood}
-use Rattle.core_parts.specs.declared.outcome.Outcome.{Outcome}
+use Rattle.core_state.specs.declared.outcome.Outcome.{Outcome}
 use Rattle.sp_core.specs.declared.owner.Core.{Core}
 use Rattle.sp_core.specs.Collecting.{IsOpenBefore}
-use Rattle.core_parts.specs.OperationsStand.{IsOutcomeOf}
-use Rattle.core_parts.specs.Ends.{outcome_of}
+use Rattle.core_state.specs.OperationsStand.{IsOutcomeOf}
+use Rattle.core_state.specs.Ends.{outcome_of}
 use Rattle.sp_core.specs.Immediate.{IsGiven, tried}
 use Rattle.sp_core.specs.Owning.{Owns, CanBegin}
-use Rattle.core_parts.specs.OpWordsStand.{IsNext}
+use Rattle.core_state.specs.OpWordsStand.{IsNext}
 use Rattle.sp_core.specs.Standing.{IsSettled}
 use Rattle.sp_core.proofs.UncollectedOperations.{ended_now}
 use Rattle.sp_core.proofs.ReceivedAtOnce.{can_now, now_begun, open_now, the_last}

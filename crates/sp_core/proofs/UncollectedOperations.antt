@@ -20,9 +20,9 @@ use Rattle.sp_history.specs.Moments.{Moment, past, also, Lawful}
 use Rattle.sp_history.proofs.OnceHolds.{same_op-refl, same_op-eq, has_value, occurs-append, occurs-without_other}
 use Rattle.sp_core.specs.Moving.{AreSettling}
 use Rattle.sp_core.specs.Collecting.{IsOpenBefore, HasEnded}
-use Rattle.core_parts.proofs.Lawfuls.{by_steps, counted}
-use Rattle.core_parts.proofs.PendingEnds.{find-named, find-occurs}
-use Rattle.core_parts.proofs.Elements.{stands-more, contains, Every, every-append, every-filter, every-one, find-stands}
+use Rattle.core_state.proofs.Lawfuls.{by_steps, counted}
+use Rattle.core_state.proofs.PendingEnds.{find-named, find-occurs}
+use Rattle.core_state.proofs.Elements.{stands-more, contains, Every, every-append, every-filter, every-one, find-stands}
 
 -- ---- Begins and ends stand in the history
 

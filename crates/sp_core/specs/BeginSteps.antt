@@ -1,13 +1,13 @@
 -- What the steps of a begin lead to, within a turn.
 use Rattle.sp_base.specs.declared.OpName.{OpName}
 use Rattle.sp_core.specs.KeptWords.{KeepsReads, KeepsWords}
-use Rattle.core_parts.specs.OpWordsStand.{IsNext, OpWordsStand}
+use Rattle.core_state.specs.OpWordsStand.{IsNext, OpWordsStand}
 use Rattle.sp_core.specs.Looking.{HasLooked, reads_of}
 use Rattle.sp_core.specs.Moving.{AreSettling}
 use Rattle.sp_core.specs.Owning.{CanBegin, Owns}
-use Rattle.core_parts.specs.OperationsStand.{AllTaken, OperationsStand}
+use Rattle.core_state.specs.OperationsStand.{AllTaken, OperationsStand}
 use Rattle.sp_core.specs.Standing.{IsSettled, RefusedFor, StandsFor, Turns, core_setting}
-use Rattle.core_parts.specs.declared.causes.BeginError.{BeginError}
+use Rattle.core_state.specs.declared.causes.BeginError.{BeginError}
 use Rattle.sp_core.specs.declared.owner.Core.{Core}
 use Rattle.sp_history.specs.Moments.{Moment, also, next, past}
 use Rattle.sp_history.specs.Past.{past_of}
@@ -20,7 +20,7 @@ use Rattle.sp_proto.specs.Machines.{NoFlood}
 use Rattle.sp_proto.specs.declared.Verb.{Verb}
 use Rattle.std.specs.Prelude.{List, MatchOption, MatchResult, Option, Result, [], ℕ, ◌∷◌, ◌≡◌, ◌≢◌}
 use Rattle.turn_lock.specs.declared.turn.Turn.{Turn}
-use Rattle.core_parts.specs.declared.causes.BeginError.TheVariants as begin_error
+use Rattle.core_state.specs.declared.causes.BeginError.TheVariants as begin_error
 
 -- the turn begins: callers' ends on the context are recorded, and all is done that can be
 abbrev pub OpensTurn : {P W : Type 0} → (P → Moment → Type 0) → (P → ℕ) → (W → WireView) → ℕ → ℕ → (P → Kind) → Core P W → Core P W → Type 0

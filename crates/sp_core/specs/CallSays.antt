@@ -9,14 +9,14 @@ use Rattle.sp_history.specs.Moments.{Moment}
 use Rattle.sp_history.specs.Past.{past_of, is_closed, up}
 use Rattle.sp_history.specs.Swept.{IsSwept, AreFlushed}
 use Rattle.sp_proto.specs.Kinds.{Kind, text_of}
-use Rattle.core_parts.specs.declared.causes.CtxError.{CtxError}
-use Rattle.core_parts.specs.declared.causes.TopicError.{TopicError}
-use Rattle.core_parts.specs.declared.causes.NowError.{NowError}
-use Rattle.core_parts.specs.declared.pipes.DownPipe.{DownPipe}
-use Rattle.core_parts.specs.declared.causes.BeginError.{BeginError}
+use Rattle.core_state.specs.declared.causes.CtxError.{CtxError}
+use Rattle.core_state.specs.declared.causes.TopicError.{TopicError}
+use Rattle.core_state.specs.declared.causes.NowError.{NowError}
+use Rattle.core_state.specs.declared.pipes.DownPipe.{DownPipe}
+use Rattle.core_state.specs.declared.causes.BeginError.{BeginError}
 use Rattle.sp_core.specs.declared.owner.Core.{Core}
-use Rattle.core_parts.specs.declared.causes.AttachError.{AttachError}
-use Rattle.core_parts.specs.declared.served.Served.{Served}
+use Rattle.core_state.specs.declared.causes.AttachError.{AttachError}
+use Rattle.core_state.specs.declared.served.Served.{Served}
 use Rattle.sp_core.specs.Attaching.{AttachedBy, attached}
 use Rattle.sp_core.specs.Collecting.{IsOpen}
 use Rattle.sp_core.specs.Contexts.{ShutBy, SubscribedBy, UnsubscribedBy}
@@ -29,7 +29,7 @@ use Rattle.sp_core.specs.Looking.{HasLooked, reads_of}
 use Rattle.sp_core.specs.Parts.{HasWires}
 use Rattle.sp_core.specs.Serving.{IsServeTurn, ServedBy}
 use Rattle.sp_core.specs.Standing.{StandsFor, BeganBy, began, core_setting}
-use Rattle.core_parts.specs.Wires.{numbers_of}
+use Rattle.core_state.specs.Wires.{numbers_of}
 
 -- ---- Turns
 

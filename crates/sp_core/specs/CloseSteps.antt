@@ -2,8 +2,8 @@
 use Rattle.sp_base.specs.declared.OpName.{OpName}
 use Rattle.sp_core.specs.KeptWords.{KeepsWords}
 use Rattle.sp_core.specs.Closing.{AreEndsOf, AreDownsOf, ClosesAt, GoesDownAs, after}
-use Rattle.core_parts.specs.Ends.{IsCloseEnd}
-use Rattle.core_parts.specs.Pipes.{IsPipeAt}
+use Rattle.core_state.specs.Ends.{IsCloseEnd}
+use Rattle.core_state.specs.Pipes.{IsPipeAt}
 use Rattle.sp_core.specs.Owning.{Owns}
 use Rattle.sp_core.specs.declared.owner.Core.{Core}
 use Rattle.sp_history.specs.Lists.{without}

@@ -2,14 +2,14 @@
 use Rattle.sp_base.specs.declared.OpName.{OpName}
 use Rattle.sp_core.specs.KeptWords.{AddsReads, KeepsReads, KeepsWords}
 use Rattle.sp_core.specs.Collecting.{IsOpenBefore, TickedTo}
-use Rattle.core_parts.specs.OperationsStand.{IsOutcomeOf}
+use Rattle.core_state.specs.OperationsStand.{IsOutcomeOf}
 use Rattle.sp_core.specs.Immediate.{NowTo, RefusedNow, TriedTo}
 use Rattle.sp_core.specs.Moving.{Later}
 use Rattle.sp_core.specs.Owning.{CanBegin, Owns}
-use Rattle.core_parts.specs.OpWordsStand.{IsNext}
+use Rattle.core_state.specs.OpWordsStand.{IsNext}
 use Rattle.sp_core.specs.Standing.{IsSettled}
-use Rattle.core_parts.specs.declared.causes.NowError.{NowError}
-use Rattle.core_parts.specs.declared.outcome.Outcome.{Outcome}
+use Rattle.core_state.specs.declared.causes.NowError.{NowError}
+use Rattle.core_state.specs.declared.outcome.Outcome.{Outcome}
 use Rattle.sp_core.specs.declared.owner.Core.{Core}
 use Rattle.sp_history.specs.Kept.{kept}
 use Rattle.sp_history.specs.Legal.{is_uncollected}

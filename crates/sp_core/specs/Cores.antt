@@ -2,11 +2,11 @@
 use Rattle.std.specs.Prelude.{ℕ, Bool, List}
 use Rattle.aio_word.specs.Sight.{Named}
 use Rattle.aio_word.specs.declared.rule.WordsView.{WordsView}
-use Rattle.sp_pending.specs.declared.pending.PendingOperation.{PendingOperation}
+use Rattle.core_state.specs.declared.pending.PendingOperation.{PendingOperation}
 use Rattle.sp_proto.specs.Kinds.{Kind}
-use Rattle.core_parts.specs.declared.operations.Operations.{Operations}
-use Rattle.core_parts.specs.Pipes.{UpPipe, up_pipes}
-use Rattle.core_parts.specs.declared.pipes.Pipes.{Pipes}
+use Rattle.core_state.specs.declared.operations.Operations.{Operations}
+use Rattle.core_state.specs.Pipes.{UpPipe, up_pipes}
+use Rattle.core_state.specs.declared.pipes.Pipes.{Pipes}
 use Rattle.sp_core.specs.declared.owner.Core.{Core}
 
 -- the words of its operations

@@ -3,8 +3,8 @@ use Rattle.sp_core.specs.KeptWords.{KeepsWords}
 use Rattle.sp_core.specs.Closing.{ClosesAt, after}
 use Rattle.sp_core.specs.Contexts.{AreCtxEnds, IsShutting, MayOpen, MayShut, MaySwitch, RefusedOpen, RefusedShut, RefusedTopic, ShutOne, SwitchedTo}
 use Rattle.sp_core.specs.Owning.{Owns}
-use Rattle.core_parts.specs.declared.causes.CtxError.{CtxError}
-use Rattle.core_parts.specs.declared.causes.TopicError.{TopicError}
+use Rattle.core_state.specs.declared.causes.CtxError.{CtxError}
+use Rattle.core_state.specs.declared.causes.TopicError.{TopicError}
 use Rattle.sp_core.specs.declared.owner.Core.{Core}
 use Rattle.sp_history.specs.Legal.{is_pending_on}
 use Rattle.sp_history.specs.Moments.{Moment, also, past}

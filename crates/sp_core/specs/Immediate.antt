@@ -18,12 +18,12 @@ use Rattle.sp_history.specs.Kept.{kept}
 use Rattle.sp_history.specs.Moments.{Moment, past, also}
 use Rattle.sp_proto.specs.Kinds.{text_of}
 use Rattle.sp_proto.specs.Machines.{ChecksAct}
-use Rattle.core_parts.specs.declared.causes.NowError.{NowError}
-use Rattle.core_parts.specs.declared.causes.NowError.TheVariants as now_error
-use Rattle.core_parts.specs.declared.causes.BeginError.TheVariants as error
-use Rattle.core_parts.specs.Ends.{IsCallers}
+use Rattle.core_state.specs.declared.causes.NowError.{NowError}
+use Rattle.core_state.specs.declared.causes.NowError.TheVariants as now_error
+use Rattle.core_state.specs.declared.causes.BeginError.TheVariants as error
+use Rattle.core_state.specs.Ends.{IsCallers}
 use Rattle.sp_core.specs.Moving.{AreSettling, Later}
-use Rattle.core_parts.specs.OperationsStand.{AllTaken}
+use Rattle.core_state.specs.OperationsStand.{AllTaken}
 use Rattle.sp_core.specs.Standing.{RefusedFor}
 
 -- a caller ends an operation so

@@ -2,7 +2,7 @@
 use Rattle.std.specs.Prelude.{◌≡◌}
 use Rattle.sp_core.specs.Cores.{words_of}
 use Rattle.sp_core.specs.Looking.{reads_of}
-use Rattle.core_parts.specs.Reads.{Grows}
+use Rattle.core_state.specs.Reads.{Grows}
 use Rattle.sp_core.specs.declared.owner.Core.{Core}
 
 -- it does this, and has the same words

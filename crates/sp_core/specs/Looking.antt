@@ -12,12 +12,12 @@ use Rattle.sp_history.specs.declared.parts.Begun.{Begun}
 use Rattle.sp_history.specs.Lists.{same_op}
 use Rattle.sp_history.specs.Past.{pending}
 use Rattle.sp_history.specs.Moments.{Moment, past, also}
-use Rattle.sp_pending.specs.declared.pending.PendingOperation.{PendingOperation}
-use Rattle.sp_pending.specs.Pendings.{PendingView, in_bucket, bucket_of}
-use Rattle.core_parts.specs.PartSteps.{LeavesPending}
-use Rattle.core_parts.specs.declared.operations.Operations.{Operations}
+use Rattle.core_state.specs.declared.pending.PendingOperation.{PendingOperation}
+use Rattle.core_state.specs.Pendings.{PendingView, in_bucket, bucket_of}
+use Rattle.core_state.specs.PartSteps.{LeavesPending}
+use Rattle.core_state.specs.declared.operations.Operations.{Operations}
 use Rattle.sp_core.specs.declared.owner.Core.{Core}
-use Rattle.core_parts.specs.Reads.{Grows}
+use Rattle.core_state.specs.Reads.{Grows}
 
 -- what the core has read of its words
 abbrev pub reads_of : {P W : Type 0} → Core P W → List word.ShownOperation

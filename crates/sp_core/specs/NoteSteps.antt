@@ -14,9 +14,9 @@ use Rattle.sp_history.specs.Past.{pending}
 use Rattle.sp_history.specs.Moments.{Lawful, Moment, also, past}
 use Rattle.sp_proto.specs.Machines.{CanAgain, CanSend, Takes}
 use Rattle.sp_core.specs.declared.owner.Core.{Core}
-use Rattle.core_parts.specs.OperationsStand.{OperationsStand, done_count}
-use Rattle.core_parts.specs.PartSteps.{LeavesPending}
-use Rattle.core_parts.specs.Tallies.{Tallies}
+use Rattle.core_state.specs.OperationsStand.{OperationsStand, done_count}
+use Rattle.core_state.specs.PartSteps.{LeavesPending}
+use Rattle.core_state.specs.Tallies.{Tallies}
 
 -- the machine and the counts have each such entry of the pipe, and nothing else has changed
 pub record NotesPipe {P W A : Type 0} (ties : P → Moment → Type 0) (room left : P → ℕ) (copies : P → OpName → ℕ) (p : ℕ) (entry : A → Entry) (old new : Core P W) : Type 0 where

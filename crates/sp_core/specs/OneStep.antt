@@ -6,7 +6,7 @@ use Rattle.sp_core.specs.declared.owner.Core.{Core}
 use Rattle.sp_core.specs.Cores.{words_of}
 use Rattle.sp_core.specs.KeptWords.{KeepsReads}
 use Rattle.sp_core.specs.Looking.{reads_of}
-use Rattle.core_parts.specs.Reads.{Grows}
+use Rattle.core_state.specs.Reads.{Grows}
 use Rattle.sp_core.specs.Moving.{Later}
 use Rattle.sp_core.specs.Owning.{Owns}
 use Rattle.sp_core.specs.Standing.{IsSettled}

@@ -5,7 +5,7 @@ use Rattle.sp_core.specs.FloodedPipes.{AnsweredAt, SpreadTo, Spreads}
 use Rattle.sp_core.specs.Cores.{words_of}
 use Rattle.sp_core.specs.Immediate.{IsGiven}
 use Rattle.sp_core.specs.Looking.{reads_of}
-use Rattle.core_parts.specs.Pipes.{IsPipeAt, IsReadyAt}
+use Rattle.core_state.specs.Pipes.{IsPipeAt, IsReadyAt}
 use Rattle.sp_core.specs.Moving.{Later}
 use Rattle.sp_core.specs.Owning.{Owns}
 use Rattle.sp_core.specs.declared.owner.Core.{Core}

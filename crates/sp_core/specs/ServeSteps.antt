@@ -1,15 +1,15 @@
 -- What bringing a pipe up and serving the pipes lead to, within a turn.
 use Rattle.sp_core.specs.KeptWords.{KeepsWords}
 use Rattle.sp_core.specs.Attaching.{MayAttach, RefusedAttach}
-use Rattle.core_parts.specs.Pipes.{PipesStand, IsPipeAt}
+use Rattle.core_state.specs.Pipes.{PipesStand, IsPipeAt}
 use Rattle.sp_core.specs.Owning.{Owns}
 use Rattle.sp_core.specs.Serving.{FlushTold, GotTo, IsFresh, IsReady, IsUnpulled, PulledAll, SweptAll, VisitedTo}
-use Rattle.core_parts.specs.Wires.{numbers_of}
-use Rattle.core_parts.specs.declared.pipes.Flushed.{Flushed}
-use Rattle.core_parts.specs.declared.pipes.Flushed.TheVariants as flushed
-use Rattle.core_parts.specs.declared.pipes.Pipes.{Pipes as PipesType}
+use Rattle.core_state.specs.Wires.{numbers_of}
+use Rattle.core_state.specs.declared.pipes.Flushed.{Flushed}
+use Rattle.core_state.specs.declared.pipes.Flushed.TheVariants as flushed
+use Rattle.core_state.specs.declared.pipes.Pipes.{Pipes as PipesType}
 use Rattle.sp_core.specs.declared.owner.Core.{Core}
-use Rattle.core_parts.specs.declared.causes.AttachError.{AttachError}
+use Rattle.core_state.specs.declared.causes.AttachError.{AttachError}
 use Rattle.sp_core.specs.declared.calls.serve.Got.{Got}
 use Rattle.sp_core.specs.declared.calls.serve.Got.TheVariants as got
 use Rattle.sp_core.specs.declared.calls.serve.Visit.{Visit}

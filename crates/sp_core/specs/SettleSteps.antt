@@ -2,11 +2,11 @@
 use Rattle.std.specs.Prelude.{ℕ, [], ◌≡◌, ◌<◌}
 use Rattle.sp_msg.specs.Views.{WireView}
 use Rattle.sp_history.specs.Moments.{Moment, past}
-use Rattle.sp_pending.specs.declared.pending.PendingOperation.{PendingOperation}
+use Rattle.core_state.specs.declared.pending.PendingOperation.{PendingOperation}
 use Rattle.sp_core.specs.declared.owner.Core.{Core}
 use Rattle.sp_core.specs.Cores.{words_of}
 use Rattle.sp_core.specs.Looking.{HasLooked, FoundOf, reads_of}
-use Rattle.core_parts.specs.Reads.{Grows}
+use Rattle.core_state.specs.Reads.{Grows}
 use Rattle.sp_core.specs.Moving.{Later}
 use Rattle.sp_core.specs.Owning.{Owns}
 use Rattle.sp_core.specs.Standing.{IsSettled}

@@ -9,13 +9,13 @@ use Rattle.sp_base.specs.declared.addr.Addr.TheVariants as addrs
 use Rattle.sp_base.specs.declared.addr.Host.TheVariants as hosts
 use Rattle.sp_base.specs.declared.addr.Scheme.{Scheme}
 use Rattle.sp_base.specs.declared.error.NoMemory.{NoMemory}
-use Rattle.link_opening.specs.declared.way.Way.{Way}
-use Rattle.link_opening.specs.Openings.{CanBegin, scheme_for}
-use Rattle.link_opening.specs.Origins.{Origins, IsAmong, IsKnown, serving, asking}
-use Rattle.end_parts.specs.declared.listener.Listener.{Listener}
-use Rattle.end_parts.specs.declared.dialer.Dialer.{Dialer}
-use Rattle.end_parts.specs.EndViews.{LinkEndsView}
-use Rattle.end_parts.specs.RunLinks.{AreOfRun, IsListener}
+use Rattle.sp_links.specs.declared.way.Way.{Way}
+use Rattle.sp_links.specs.Openings.{CanBegin, scheme_for}
+use Rattle.sp_links.specs.Origins.{Origins, IsAmong, IsKnown, serving, asking}
+use Rattle.sp_ends.specs.declared.listener.Listener.{Listener}
+use Rattle.sp_ends.specs.declared.dialer.Dialer.{Dialer}
+use Rattle.sp_ends.specs.EndViews.{LinkEndsView}
+use Rattle.sp_ends.specs.RunLinks.{AreOfRun, IsListener}
 use Rattle.sp_ends.specs.EndsTurns.{Arrives}
 use Rattle.sp_ends.proofs.NewcomingAsks.{at_of}
 

@@ -6,7 +6,7 @@ use Rattle.std.proofs.lemmas.Bool.{cases_lt}
 use Rattle.sp_base.specs.Views.{LinkView, NetView}
 use Rattle.sp_base.specs.Steps.{IsHandedOut}
 use Rattle.sp_base.specs.declared.addr.Scheme.{Scheme}
-use Rattle.end_parts.specs.declared.dialer.Dialer.{Dialer}
+use Rattle.sp_ends.specs.declared.dialer.Dialer.{Dialer}
 use Rattle.sp_ends.specs.Freeing.{FreesOne, FreesAll, GotBack, Frees, RedialsOne, HasLink, KnowsLinks, IsDue}
 
 -- nothing was handed out

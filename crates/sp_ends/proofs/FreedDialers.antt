@@ -6,14 +6,14 @@ use Rattle.std.specs.Ordering.{nat_cmp}
 use Rattle.sp_base.specs.Views.{LinkView, NetView}
 use Rattle.sp_base.specs.Steps.{IsHandedOut, Untouched}
 use Rattle.sp_base.specs.declared.addr.Scheme.{Scheme}
-use Rattle.end_parts.specs.DialMoments.{IsDueAt}
-use Rattle.end_parts.specs.declared.dialer.Dialer.{Dialer}
-use Rattle.end_parts.specs.DialerSteps.{IsFree, IsUnderWay, IsFreed}
+use Rattle.sp_ends.specs.DialMoments.{IsDueAt}
+use Rattle.sp_ends.specs.declared.dialer.Dialer.{Dialer}
+use Rattle.sp_ends.specs.DialerSteps.{IsFree, IsUnderWay, IsFreed}
 use Rattle.sp_ends.specs.Freeing.{AreFreed, FreesOne, FreesAll, GotBack, Frees, HasRedialed, RedialsOne, Redials, TurnsOne, TurnsAll, Turns, IsDue, AreWaiting}
-use Rattle.end_parts.specs.NewcomerSteps.{GivesOneBack}
-use Rattle.end_parts.proofs.Moves.{there, elsewhere}
-use Rattle.end_parts.proofs.LeavingAll.{same_or_not}
-use Rattle.end_parts.proofs.NewcomingMoments.{due_moment}
+use Rattle.sp_ends.specs.NewcomerSteps.{GivesOneBack}
+use Rattle.sp_ends.proofs.Moves.{there, elsewhere}
+use Rattle.sp_ends.proofs.LeavingAll.{same_or_not}
+use Rattle.sp_ends.proofs.NewcomingMoments.{due_moment}
 
 -- ---- The net
 

@@ -5,13 +5,13 @@ use Rattle.std.specs.List.{AllByRecursion}
 use Rattle.std.specs.FinMap.{FinMap, get}
 use Rattle.std.specs.Ordering.{nat_cmp}
 use Rattle.turn_lock.specs.declared.turn.Turn.{Turn}
-use Rattle.sp_spec.specs.Outside.{Told}
-use Rattle.sp_spec.specs.SpTcp.{text}
+use Rattle.sp_base.specs.Outside.{Told}
+use Rattle.sp_base.specs.SpTcp.{text}
 use Rattle.sp_base.specs.Roles.{role_number}
 use Rattle.sp_base.specs.Views.{LinkView, NetView}
-use Rattle.end_wire.specs.declared.wire.EndWire.{EndWire}
-use Rattle.end_wire.specs.EndWires.{shown, link_of}
-use Rattle.link_opening.specs.Origins.{Origins, run_ways}
+use Rattle.sp_links.specs.declared.wire.EndWire.{EndWire}
+use Rattle.sp_links.specs.EndWires.{shown, link_of}
+use Rattle.sp_links.specs.Origins.{Origins, run_ways}
 use Rattle.sp_history.specs.declared.entry.Entry.{Entry}
 use Rattle.sp_history.specs.declared.entry.Entry.TheVariants.{NoUp}
 use Rattle.sp_history.specs.declared.setting.Setting.{Setting}
@@ -20,23 +20,23 @@ use Rattle.sp_history.specs.Legal.{Legal}
 use Rattle.sp_history.specs.Lists.{has}
 use Rattle.sp_history.specs.Past.{past_of, is_closed, up, untaken, outs}
 use Rattle.sp_history.proofs.OnceHolds.{closed_pipes}
-use Rattle.core_parts.specs.declared.pipes.DownPipe.{DownPipe}
-use Rattle.core_parts.specs.Pipes.{down_ids}
+use Rattle.core_state.specs.declared.pipes.DownPipe.{DownPipe}
+use Rattle.core_state.specs.Pipes.{down_ids}
 use Rattle.sp_core.specs.Parts.{HasWires}
-use Rattle.core_parts.specs.Wires.{IsDownWire}
-use Rattle.cat_play.specs.Playing.{each}
-use Rattle.cat_play.specs.Recording.{Records, lane_place, place_of, greeting, Each, HasCause, IsBack, IsUndone, times_out_rightly}
-use Rattle.cat_play.specs.Running.{max_body, KeepsOthers, AreWhole}
-use Rattle.cat_play.specs.Spending.{IsAsked, greeting_ticks}
-use Rattle.end_parts.specs.declared.newcomer.Newcomer.{Newcomer}
-use Rattle.end_parts.specs.EndViews.{Beginning, LinkEndsView}
-use Rattle.end_parts.specs.RunLinks.{places, in_order, WasGreeted, LinksKept, EndsStand, HasCarried, IsShut, IsCarried, IsSomewhere, SameCounts}
+use Rattle.core_state.specs.Wires.{IsDownWire}
+use Rattle.sp_ends.specs.Entries.{each}
+use Rattle.sp_ends.specs.LinkRecords.{Records, lane_place, place_of, greeting, Each, HasCause, IsBack, IsUndone, times_out_rightly}
+use Rattle.sp_ends.specs.LinkRecords.{max_body, KeepsOthers, AreWhole}
+use Rattle.sp_ends.specs.LinkCounts.{IsAsked, greeting_ticks}
+use Rattle.sp_ends.specs.declared.newcomer.Newcomer.{Newcomer}
+use Rattle.sp_ends.specs.EndViews.{Beginning, LinkEndsView}
+use Rattle.sp_ends.specs.RunLinks.{places, in_order, WasGreeted, LinksKept, EndsStand, HasCarried, IsShut, IsCarried, IsSomewhere, SameCounts}
 use Rattle.sp_ends.specs.LeftLinks.{LinksLeft, ClosedCleared}
-use Rattle.end_parts.specs.ShutWires.{with_links, with_wires, CanShut, IsBelow, AreHandedOut, shut_link, shut_under}
-use Rattle.end_parts.proofs.LinkPlaces.{passed, inside, met_inside, up_inside, up_once}
-use Rattle.end_parts.proofs.LeavingWires.{NamedAt, NamedSo, named_so, LeftBy, carried_by, at_link, at_lanes}
-use Rattle.end_parts.proofs.LeavingAll.{from_all, OneOf, IsElsewhere, NoneOf, look_wires, at_id, both_of, mapped_all, shut_of, OneCame, NoneCame, look_links, was_missed, missed_place, missed_rests, named_place}
-use Rattle.end_parts.proofs.GreetingCauses.{incomplete, wrote}
+use Rattle.sp_ends.specs.ShutWires.{with_links, with_wires, CanShut, IsBelow, AreHandedOut, shut_link, shut_under}
+use Rattle.sp_ends.proofs.LinkPlaces.{passed, inside, met_inside, up_inside, up_once}
+use Rattle.sp_ends.proofs.LeavingWires.{NamedAt, NamedSo, named_so, LeftBy, carried_by, at_link, at_lanes}
+use Rattle.sp_ends.proofs.LeavingAll.{from_all, OneOf, IsElsewhere, NoneOf, look_wires, at_id, both_of, mapped_all, shut_of, OneCame, NoneCame, look_links, was_missed, missed_place, missed_rests, named_place}
+use Rattle.sp_ends.proofs.GreetingCauses.{incomplete, wrote}
 
 -- ---- A link that was left in progress
 

@@ -9,21 +9,21 @@ use Rattle.sp_history.specs.declared.entry.Entry.{Entry}
 use Rattle.sp_history.specs.declared.entry.Entry.TheVariants.{Tick}
 use Rattle.sp_history.specs.Found.{ticks, last_tick, before_last_tick}
 use Rattle.sp_history.specs.Past.{past_of}
-use Rattle.sp_single.specs.Singles.{SingleView}
-use Rattle.cat_play.specs.Spending.{CanRise, ticks_where, has_room}
-use Rattle.end_parts.specs.declared.listener.Listener.{Listener}
-use Rattle.end_parts.specs.declared.dialer.Dialer.{Dialer}
-use Rattle.end_parts.specs.declared.newcomer.Newcomer.{Newcomer}
-use Rattle.end_parts.specs.Dialing.{IsDialed, IsDialable, next_from, last_of, IsDueFrom}
-use Rattle.end_parts.specs.EndViews.{Beginning, LinkEndsView}
-use Rattle.end_parts.specs.RunLinks.{NetStands, IsListener, sum_of, tries_of}
+use Rattle.sp_socket.specs.Singles.{SingleView}
+use Rattle.sp_ends.specs.LinkCounts.{CanRise, ticks_where, has_room}
+use Rattle.sp_ends.specs.declared.listener.Listener.{Listener}
+use Rattle.sp_ends.specs.declared.dialer.Dialer.{Dialer}
+use Rattle.sp_ends.specs.declared.newcomer.Newcomer.{Newcomer}
+use Rattle.sp_ends.specs.Dialing.{IsDialed, IsDialable, next_from, last_of, IsDueFrom}
+use Rattle.sp_ends.specs.EndViews.{Beginning, LinkEndsView}
+use Rattle.sp_ends.specs.RunLinks.{NetStands, IsListener, sum_of, tries_of}
 use Rattle.sp_ends.specs.Freeing.{Frees, AreSameDialers}
-use Rattle.end_parts.specs.SocketSteps.{Quietly, NoLane, IsDry}
+use Rattle.sp_ends.specs.SocketSteps.{Quietly, NoLane, IsDry}
 use Rattle.sp_ends.specs.Listening.{is_from, own_of, open_of, asks_to, KeepsFrom}
 use Rattle.sp_ends.specs.EndsTurns.{InTurn, SameEnds, AsksNet, asks_of, AreYoung, AreWaitingBehind, HasAsked, HasAskedOne, HasAskedTo}
-use Rattle.end_parts.specs.DialerSteps.{IsSameDialer}
+use Rattle.sp_ends.specs.DialerSteps.{IsSameDialer}
 use Rattle.sp_ends.proofs.TurnParts.{same_dialers, dialers_both, dialers_long, ends_none, ends_both}
-use Rattle.end_parts.proofs.Turns.{quiet_both, quiet_none, quiet_ticks, quiet_before, quiet_where, lanes_both, lanes_none}
+use Rattle.sp_ends.proofs.Turns.{quiet_both, quiet_none, quiet_ticks, quiet_before, quiet_where, lanes_both, lanes_none}
 use Rattle.sp_ends.proofs.FreedDialers.{frees_none, frees_both}
 use Rattle.sp_ends.proofs.Owned.{one_at_most, other_place, own_other, own_one, own_grown, dialed_same, open_most, open_full, open_step, all_open, asks_most, asks_full, asks_step, asks_less}
 

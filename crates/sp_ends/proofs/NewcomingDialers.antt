@@ -1,7 +1,7 @@
 -- Dialers that have lost their links.
 use Rattle.std.proofs.Common.{◌<◌, ℕ, zero, suc, List, [], ◌∷◌, length, arith, set, get_or}
-use Rattle.end_parts.specs.declared.dialer.Dialer.{Dialer}
-use Rattle.end_parts.specs.DialerSteps.{IsSameDialer}
+use Rattle.sp_ends.specs.declared.dialer.Dialer.{Dialer}
+use Rattle.sp_ends.specs.DialerSteps.{IsSameDialer}
 use Rattle.sp_ends.specs.Freeing.{AreSameDialers}
 use Rattle.sp_ends.proofs.TurnParts.{dialer_both}
 

@@ -4,18 +4,18 @@ use Rattle.std.specs.Prelude.{◌^◌, ◌-◌, ◌⊎◌}
 use Rattle.sp_base.specs.Views.{LinkView, NetView}
 use Rattle.sp_base.specs.Steps.{IsHandedOut, Untouched, LinkedAs, AfterLinking}
 use Rattle.sp_base.specs.declared.addr.Scheme.{Scheme}
-use Rattle.sp_single.specs.Singles.{SingleView}
-use Rattle.end_parts.specs.declared.dialer.Dialer.{Dialer}
-use Rattle.end_parts.specs.EndViews.{Beginning, LinkEndsView}
-use Rattle.end_parts.specs.RunLinks.{LinksStand, SameCounts, sum_of, tries_of}
-use Rattle.cat_play.specs.Spending.{CanRise}
+use Rattle.sp_socket.specs.Singles.{SingleView}
+use Rattle.sp_ends.specs.declared.dialer.Dialer.{Dialer}
+use Rattle.sp_ends.specs.EndViews.{Beginning, LinkEndsView}
+use Rattle.sp_ends.specs.RunLinks.{LinksStand, SameCounts, sum_of, tries_of}
+use Rattle.sp_ends.specs.LinkCounts.{CanRise}
 use Rattle.sp_ends.specs.EndsTurns.{InTurn, SameEnds, AsksNet, HasDialed, DialsOne, addrs_of}
-use Rattle.end_parts.specs.DialerSteps.{IsSameDialer, HasTried, next_after, place_after, IsFree, IsUnderWay}
+use Rattle.sp_ends.specs.DialerSteps.{IsSameDialer, HasTried, next_after, place_after, IsFree, IsUnderWay}
 use Rattle.sp_base.specs.declared.outside.Linked.{Linked}
 use Rattle.sp_base.specs.declared.outside.Linked.TheVariants as linked
 use Rattle.sp_ends.specs.Freeing.{AreSameDialers}
 use Rattle.sp_ends.proofs.TurnParts.{same_dialers, dialers_both, dialer_both, ends_both, of_run_on}
-use Rattle.end_parts.proofs.ListReads.{at_index}
+use Rattle.sp_ends.proofs.ListReads.{at_index}
 use Rattle.sp_ends.proofs.NewcomingAsks.{same_tries}
 
 -- ---- One dial

@@ -5,15 +5,15 @@ use Rattle.std.specs.List.{AllByRecursion}
 use Rattle.std.proofs.lemmas.Bool.{cases_lt}
 use Rattle.sp_history.specs.declared.entry.Entry.{Entry}
 use Rattle.sp_history.specs.Found.{ticks}
-use Rattle.cat_play.specs.Spending.{spaced_from}
-use Rattle.end_parts.specs.declared.dialer.Dialer.{Dialer}
-use Rattle.end_parts.specs.DialMoments.{IsDueAt}
-use Rattle.end_parts.specs.Dialing.{IsDialed, IsDialable, next_from, last_of, IsDueFrom}
+use Rattle.sp_ends.specs.LinkCounts.{spaced_from}
+use Rattle.sp_ends.specs.declared.dialer.Dialer.{Dialer}
+use Rattle.sp_ends.specs.DialMoments.{IsDueAt}
+use Rattle.sp_ends.specs.Dialing.{IsDialed, IsDialable, next_from, last_of, IsDueFrom}
 use Rattle.sp_ends.specs.Freeing.{IsDue, AreSameDialers}
-use Rattle.end_parts.specs.DialerSteps.{IsSameDialer, IsFree, IsUnderWay}
+use Rattle.sp_ends.specs.DialerSteps.{IsSameDialer, IsFree, IsUnderWay}
 use Rattle.sp_ends.specs.EndsTurns.{HasDialed, DialsOne}
 use Rattle.sp_ends.proofs.TurnParts.{dialers_both}
-use Rattle.end_parts.proofs.NewcomingMoments.{due_from, due_later, last_more, next_more, spaced_more, spaced_short, le_true, le_false, tries_up, tries_same, no_fewer, less_tries, above, one_try, short_of, through, at_least, no_ticks}
+use Rattle.sp_ends.proofs.NewcomingMoments.{due_from, due_later, last_more, next_more, spaced_more, spaced_short, le_true, le_false, tries_up, tries_same, no_fewer, less_tries, above, one_try, short_of, through, at_least, no_ticks}
 
 -- ---- A dialer in a turn
 

@@ -8,22 +8,22 @@ use Rattle.sp_history.specs.Found.{ticks, last_tick, before_last_tick, AreOrdere
 use Rattle.sp_history.specs.Past.{past_of}
 use Rattle.sp_history.proofs.Backing.{legal_allowed}
 use Rattle.sp_history.proofs.StandingEntries.{last_is_now, ticks_in_order}
-use Rattle.cat_play.specs.Spending.{CanRise, ticks_where, has_room, spaced_from}
-use Rattle.sp_single.specs.Singles.{SingleView}
-use Rattle.end_parts.specs.declared.dialer.Dialer.{Dialer}
-use Rattle.end_parts.specs.declared.newcomer.Newcomer.{Newcomer}
-use Rattle.end_parts.specs.DialMoments.{IsDueAt, is_due_at, is_due}
-use Rattle.end_parts.specs.Dialing.{IsDialed, IsDialable, next_from, last_of, IsDueFrom}
-use Rattle.end_parts.proofs.NewcomingMoments.{last_before}
-use Rattle.end_parts.specs.EndViews.{Beginning, LinkEndsView}
-use Rattle.end_parts.specs.RunLinks.{NetStands, IsListener, sum_of, tries_of}
+use Rattle.sp_ends.specs.LinkCounts.{CanRise, ticks_where, has_room, spaced_from}
+use Rattle.sp_socket.specs.Singles.{SingleView}
+use Rattle.sp_ends.specs.declared.dialer.Dialer.{Dialer}
+use Rattle.sp_ends.specs.declared.newcomer.Newcomer.{Newcomer}
+use Rattle.sp_ends.specs.DialMoments.{IsDueAt, is_due_at, is_due}
+use Rattle.sp_ends.specs.Dialing.{IsDialed, IsDialable, next_from, last_of, IsDueFrom}
+use Rattle.sp_ends.proofs.NewcomingMoments.{last_before}
+use Rattle.sp_ends.specs.EndViews.{Beginning, LinkEndsView}
+use Rattle.sp_ends.specs.RunLinks.{NetStands, IsListener, sum_of, tries_of}
 use Rattle.sp_ends.specs.Freeing.{IsDue, FreesOne, GotBack, Redials, KnowsLinks, AreSameDialers}
-use Rattle.end_parts.specs.SocketSteps.{Quietly, NoLane, IsDry}
+use Rattle.sp_ends.specs.SocketSteps.{Quietly, NoLane, IsDry}
 use Rattle.sp_ends.specs.EndsTurns.{InTurn, SameEnds, AsksNet, AsksDue, dues_of, DialsAt, AreYoung, AreWaitingBehind}
-use Rattle.end_parts.proofs.LinkPlaces.{left_of, right_of}
+use Rattle.sp_ends.proofs.LinkPlaces.{left_of, right_of}
 use Rattle.sp_ends.proofs.TurnParts.{same_dialers, dials_long, ends_none, ends_both}
-use Rattle.end_parts.proofs.Turns.{quiet_both, quiet_none, quiet_ticks, quiet_where, lanes_both, lanes_none}
-use Rattle.end_parts.proofs.ListReads.{at_index}
+use Rattle.sp_ends.proofs.Turns.{quiet_both, quiet_none, quiet_ticks, quiet_where, lanes_both, lanes_none}
+use Rattle.sp_ends.proofs.ListReads.{at_index}
 use Rattle.sp_ends.proofs.NewcomingAsks.{ticks_last, listens_still}
 use Rattle.sp_ends.proofs.NewcomingDials.{dials_tries}
 use Rattle.sp_ends.specs.Listening.{dialed_of, KeepsOwn, KeepsFrom}

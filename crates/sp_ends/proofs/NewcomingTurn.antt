@@ -9,23 +9,23 @@ use Rattle.sp_history.specs.declared.entry.Entry.TheVariants.{Met}
 use Rattle.sp_history.specs.declared.setting.Setting.{Setting}
 use Rattle.sp_history.specs.Past.{past_of}
 use Rattle.sp_core.specs.Standing.{HasFirst}
-use Rattle.sp_single.specs.Singles.{SingleView, TookOne}
-use Rattle.cat_play.specs.Running.{has_dry_miss}
-use Rattle.end_parts.specs.declared.newcomer.Newcomer.{Newcomer}
-use Rattle.link_opening.specs.declared.way.Way.{Way}
-use Rattle.link_opening.specs.Openings.{scheme_for}
-use Rattle.link_opening.specs.Origins.{IsKnown}
+use Rattle.sp_socket.specs.Singles.{SingleView, TookOne}
+use Rattle.sp_ends.specs.LinkRecords.{has_dry_miss}
+use Rattle.sp_ends.specs.declared.newcomer.Newcomer.{Newcomer}
+use Rattle.sp_links.specs.declared.way.Way.{Way}
+use Rattle.sp_links.specs.Openings.{scheme_for}
+use Rattle.sp_links.specs.Origins.{IsKnown}
 use Rattle.sp_base.specs.declared.error.NoMemory.{NoMemory}
 use Rattle.sp_base.specs.declared.addr.Scheme.{Scheme}
 use Rattle.sp_history.specs.declared.entry.Miss.TheVariants as misses
-use Rattle.cat_play.specs.Recording.{met_at}
-use Rattle.end_parts.specs.EndViews.{Beginning, LinkEndsView}
-use Rattle.end_parts.specs.RunLinks.{IsOfRun, IsCauseOf, LinksKept, LinksStand, HandStands}
-use Rattle.end_parts.specs.SocketSteps.{Quietly, NoLane}
+use Rattle.sp_ends.specs.LinkRecords.{met_at}
+use Rattle.sp_ends.specs.EndViews.{Beginning, LinkEndsView}
+use Rattle.sp_ends.specs.RunLinks.{IsOfRun, IsCauseOf, LinksKept, LinksStand, HandStands}
+use Rattle.sp_ends.specs.SocketSteps.{Quietly, NoLane}
 use Rattle.sp_ends.specs.EndsTurns.{InTurn, InTurnWith, Arrives}
-use Rattle.end_parts.specs.NewcomerSteps.{IsNewcomer}
-use Rattle.end_parts.proofs.Hands.{link_met, met_then, hand_first}
-use Rattle.end_parts.proofs.Turns.{first_play, quiet_one, quiet_now, quiet_ticks, lane_first, lanes_one, sound_one, dry_first, after_one}
+use Rattle.sp_ends.specs.NewcomerSteps.{IsNewcomer}
+use Rattle.sp_ends.proofs.Hands.{link_met, met_then, hand_first}
+use Rattle.sp_ends.proofs.Turns.{first_play, quiet_one, quiet_now, quiet_ticks, lane_first, lanes_one, sound_one, dry_first, after_one}
 
 abbrev pub MeetsAt : ℕ → Setting → List (Turn Entry) → Turn Entry → Type 0
 MeetsAt place z h t = HasFirst (Met place) t

@@ -4,7 +4,7 @@ use Rattle.std.specs.Prelude.{min, nat_le, nat_lt, ◌==◌, ◌⊎◌}
 use Rattle.std.specs.List.{AllByRecursion}
 use Rattle.std.proofs.lemmas.Bool.Decides.{nat_tests}
 use Rattle.std.proofs.lemmas.Bool.{cases_lt}
-use Rattle.end_parts.specs.declared.newcomer.Newcomer.{Newcomer}
+use Rattle.sp_ends.specs.declared.newcomer.Newcomer.{Newcomer}
 use Rattle.sp_ends.specs.Listening.{is_from, one_from, own_of, one_dialed, dialed_of, KeepsFrom, FewerOwn, IsFromOne, AreCounted, room_for, one_open, open_of, asks_one, asks_to}
 
 -- ---- One is it or not

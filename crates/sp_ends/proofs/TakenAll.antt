@@ -9,10 +9,10 @@ use Rattle.sp_history.specs.Legal.{AreAllowed}
 use Rattle.sp_history.specs.Past.{onto, past_from, past_of, up, ups, untaken}
 use Rattle.sp_history.proofs.Backing.{legal_allowed}
 use Rattle.sp_history.proofs.Wiring.{has_before, has_more}
-use Rattle.sp_single.specs.Singles.{SingleView, IsSound}
-use Rattle.end_parts.specs.SocketSteps.{Quietly}
-use Rattle.end_parts.proofs.LinkPlaces.{gone}
-use Rattle.end_parts.proofs.LaterEntries.{past_of_more}
+use Rattle.sp_socket.specs.Singles.{SingleView, IsSound}
+use Rattle.sp_ends.specs.SocketSteps.{Quietly}
+use Rattle.sp_ends.proofs.LinkPlaces.{gone}
+use Rattle.sp_ends.proofs.LaterEntries.{past_of_more}
 use Rattle.sp_ends.proofs.TurnParts.{up_numbered}
 
 -- the pipe came up and is up no longer; and, where it is so, its wire was taken

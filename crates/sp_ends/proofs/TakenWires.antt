@@ -3,8 +3,8 @@ use Rattle.std.proofs.Common.{◌≡◌, ap, sym, ◌∙◌, subst, List, ℕ, �
 use Rattle.sp_base.specs.Views.{LinkView, NetView}
 use Rattle.sp_base.specs.Wires.{numbers_of}
 use Rattle.turn_lock.specs.declared.turn.Turn.{Turn}
-use Rattle.end_wire.specs.declared.wire.EndWire.{EndWire}
-use Rattle.end_wire.specs.EndWires.{shown, link_of}
+use Rattle.sp_links.specs.declared.wire.EndWire.{EndWire}
+use Rattle.sp_links.specs.EndWires.{shown, link_of}
 use Rattle.sp_history.specs.declared.entry.Entry.{Entry}
 use Rattle.sp_history.specs.declared.entry.Why.{Why}
 use Rattle.sp_history.specs.declared.setting.Setting.{Setting}
@@ -12,15 +12,15 @@ use Rattle.sp_history.specs.Lists.{has}
 use Rattle.sp_history.specs.Legal.{Legal}
 use Rattle.sp_history.specs.Past.{past_of, up}
 use Rattle.sp_history.proofs.Backing.{legal_allowed}
-use Rattle.core_parts.specs.Wires.{IsDownWire}
-use Rattle.cat_play.specs.Recording.{lane_place, place_of}
-use Rattle.end_parts.specs.EndViews.{Beginning}
-use Rattle.end_parts.specs.RunLinks.{HasCarried, IsAskedIn, LinksKept}
-use Rattle.end_parts.specs.ShutWires.{IsLeftOf, shut_link, shut_under}
-use Rattle.end_parts.proofs.LinkPlaces.{up_inside}
+use Rattle.core_state.specs.Wires.{IsDownWire}
+use Rattle.sp_ends.specs.LinkRecords.{lane_place, place_of}
+use Rattle.sp_ends.specs.EndViews.{Beginning}
+use Rattle.sp_ends.specs.RunLinks.{HasCarried, IsAskedIn, LinksKept}
+use Rattle.sp_ends.specs.ShutWires.{IsLeftOf, shut_link, shut_under}
+use Rattle.sp_ends.proofs.LinkPlaces.{up_inside}
 use Rattle.sp_ends.proofs.TurnParts.{down_off}
-use Rattle.end_parts.proofs.LeavingAll.{named_place}
-use Rattle.end_parts.proofs.LeavingWires.{NamedSo, named_so, carried_by, at_link, at_lanes, LeftBy}
+use Rattle.sp_ends.proofs.LeavingAll.{named_place}
+use Rattle.sp_ends.proofs.LeavingWires.{NamedSo, named_so, carried_by, at_link, at_lanes, LeftBy}
 
 -- what a link shows that a pipe had that is down
 pub record IsLeft (z : Setting) (start : Beginning) (net : NetView) (h : List (Turn Entry)) (p : ℕ) (link : LinkView) : Type 0 where

@@ -15,16 +15,16 @@ use Rattle.sp_history.specs.Past.{onto, past_of}
 use Rattle.sp_history.specs.Found.{before_last_tick, ticks}
 use Rattle.sp_history.proofs.Appending.{past_of-append}
 use Rattle.sp_core.specs.Standing.{HasFirst}
-use Rattle.cat_play.specs.Recording.{greeting}
-use Rattle.cat_play.specs.Spending.{greeting_ticks, ticks_where, has_room}
-use Rattle.cat_play.specs.Steps.{moves_ends}
-use Rattle.end_parts.specs.declared.newcomer.Newcomer.{Newcomer}
-use Rattle.end_parts.specs.EndViews.{Beginning, LinkEndsView}
-use Rattle.end_parts.specs.RunLinks.{IsProgressing, WasGreeted, AreProgressing, places, in_order, EndsStand}
+use Rattle.sp_ends.specs.LinkRecords.{greeting}
+use Rattle.sp_ends.specs.LinkCounts.{greeting_ticks, ticks_where, has_room}
+use Rattle.sp_ends.specs.Entries.{moves_ends}
+use Rattle.sp_ends.specs.declared.newcomer.Newcomer.{Newcomer}
+use Rattle.sp_ends.specs.EndViews.{Beginning, LinkEndsView}
+use Rattle.sp_ends.specs.RunLinks.{IsProgressing, WasGreeted, AreProgressing, places, in_order, EndsStand}
 use Rattle.sp_ends.specs.EndsTurns.{EndsTicked}
-use Rattle.end_parts.proofs.LaterEntries.{moves_links, NoneIn, entries_leave}
-use Rattle.end_parts.proofs.LinksStay.{kept, legal_rest, greeting_is, met_is}
-use Rattle.end_parts.proofs.EndsStay.{all_mapped, progress_later, settles, links_of, none_sub, same_before, same_where, same_ticks}
+use Rattle.sp_ends.proofs.LaterEntries.{moves_links, NoneIn, entries_leave}
+use Rattle.sp_ends.proofs.LinksStay.{kept, legal_rest, greeting_is, met_is}
+use Rattle.sp_ends.proofs.EndsStay.{all_mapped, progress_later, settles, links_of, none_sub, same_before, same_where, same_ticks}
 
 take_all : {A : Type 0} (xs : List A) → take (length xs) xs ≡ xs
 take_all [] = refl

@@ -15,25 +15,25 @@ use Rattle.sp_history.specs.Past.{past_of, up, ups, down_for, now}
 use Rattle.sp_history.proofs.Wiring.{has_before, has_more}
 use Rattle.sp_core.specs.Moving.{AreSettling}
 use Rattle.sp_core.specs.Standing.{HasFirst}
-use Rattle.sp_single.specs.Singles.{SingleView, TookOne, IsSound}
-use Rattle.cat_play.specs.Recording.{lane_place, place_of}
-use Rattle.end_parts.specs.declared.newcomer.Newcomer.{Newcomer}
-use Rattle.end_parts.specs.declared.listener.Listener.{Listener}
-use Rattle.end_parts.specs.declared.dialer.Dialer.{Dialer}
+use Rattle.sp_socket.specs.Singles.{SingleView, TookOne, IsSound}
+use Rattle.sp_ends.specs.LinkRecords.{lane_place, place_of}
+use Rattle.sp_ends.specs.declared.newcomer.Newcomer.{Newcomer}
+use Rattle.sp_ends.specs.declared.listener.Listener.{Listener}
+use Rattle.sp_ends.specs.declared.dialer.Dialer.{Dialer}
 use Rattle.sp_base.specs.declared.addr.Addr.{Addr}
-use Rattle.link_opening.specs.Origins.{Origins, IsAmong}
-use Rattle.end_parts.specs.EndViews.{Beginning, LinkEndsView}
-use Rattle.end_parts.specs.RunLinks.{AreOfRun, LinksStand, HasCarried, IsAskedIn, SameCounts}
-use Rattle.end_parts.specs.SocketSteps.{Quietly}
+use Rattle.sp_links.specs.Origins.{Origins, IsAmong}
+use Rattle.sp_ends.specs.EndViews.{Beginning, LinkEndsView}
+use Rattle.sp_ends.specs.RunLinks.{AreOfRun, LinksStand, HasCarried, IsAskedIn, SameCounts}
+use Rattle.sp_ends.specs.SocketSteps.{Quietly}
 use Rattle.sp_ends.specs.EndsTurns.{InTurn, InTurnWith, SameEnds, SameButPlaces, Serves, DialsOne, addrs_of}
-use Rattle.end_parts.specs.DialerSteps.{IsSameDialer}
+use Rattle.sp_ends.specs.DialerSteps.{IsSameDialer}
 use Rattle.sp_ends.specs.Freeing.{AreSameDialers}
-use Rattle.end_parts.proofs.LinkPlaces.{gone}
-use Rattle.end_parts.proofs.LaterEntries.{has_other}
-use Rattle.end_parts.proofs.EndsStay.{settles, links_stay, are_progressing}
-use Rattle.end_parts.proofs.LinkSteps.{greeting_after, met_after, greeting_ticks_after}
-use Rattle.end_parts.proofs.Moves.{kept_taken, kept_lane_taken}
-use Rattle.end_parts.proofs.Turns.{quiet_both, quiet_none, quiet_now, quiet_ticks, lanes_both, lanes_none, after_one}
+use Rattle.sp_ends.proofs.LinkPlaces.{gone}
+use Rattle.sp_ends.proofs.LaterEntries.{has_other}
+use Rattle.sp_ends.proofs.EndsStay.{settles, links_stay, are_progressing}
+use Rattle.sp_ends.proofs.LinkSteps.{greeting_after, met_after, greeting_ticks_after}
+use Rattle.sp_ends.proofs.Moves.{kept_taken, kept_lane_taken}
+use Rattle.sp_ends.proofs.Turns.{quiet_both, quiet_none, quiet_now, quiet_ticks, lanes_both, lanes_none, after_one}
 
 -- ---- The same ends
 

@@ -11,25 +11,25 @@ use Rattle.sp_history.specs.Legal.{AreAllowed}
 use Rattle.sp_history.specs.Past.{onto, past_from, past_of, ups, untaken}
 use Rattle.sp_history.proofs.Backing.{legal_allowed}
 use Rattle.sp_core.specs.Standing.{HasFirst}
-use Rattle.sp_single.specs.Singles.{SingleView, TookOne, IsSound}
+use Rattle.sp_socket.specs.Singles.{SingleView, TookOne, IsSound}
 use Rattle.sp_lane.specs.Registry.{Registry, names}
-use Rattle.cat_play.specs.Recording.{lane_place}
-use Rattle.cat_play.specs.Steps.{moves_ends}
-use Rattle.end_parts.specs.DialMoments.{moment, IsDueAt}
-use Rattle.end_parts.specs.SocketSteps.{Quietly, NoLane}
-use Rattle.end_parts.specs.NameSteps.{IsDueNameDialer, IsFreeNameDialer, IsLostNameDialer, AreLost, DialsIfDue, DialsDue, CallsOne, CallsAll, Accepting, GoesOn, AllBring}
+use Rattle.sp_ends.specs.LinkRecords.{lane_place}
+use Rattle.sp_ends.specs.Entries.{moves_ends}
+use Rattle.sp_ends.specs.DialMoments.{moment, IsDueAt}
+use Rattle.sp_ends.specs.SocketSteps.{Quietly, NoLane}
+use Rattle.sp_ends.specs.NameSteps.{IsDueNameDialer, IsFreeNameDialer, IsLostNameDialer, AreLost, DialsIfDue, DialsDue, CallsOne, CallsAll, Accepting, GoesOn, AllBring}
 use Rattle.sp_ends.specs.NameTurns.{IsGone, TookPipe, TakesCaller, TakesCallers, TurnsCaller, TurnsCallers, TurnsLanes}
-use Rattle.end_parts.specs.declared.name_dialer.NameDialer.{NameDialer}
+use Rattle.sp_ends.specs.declared.name_dialer.NameDialer.{NameDialer}
 use Rattle.std.proofs.lemmas.Bool.{ne_eqb}
-use Rattle.end_parts.proofs.LinkPlaces.{gone}
-use Rattle.end_parts.proofs.Moves.{unequal}
-use Rattle.end_parts.proofs.LaterEntries.{entries_keep, has_other, grown, numbered, past_of_more}
-use Rattle.end_parts.proofs.LinksStay.{legal_rest}
-use Rattle.end_parts.proofs.EndsStay.{settles}
-use Rattle.end_parts.proofs.Turns.{after_one}
+use Rattle.sp_ends.proofs.LinkPlaces.{gone}
+use Rattle.sp_ends.proofs.Moves.{unequal}
+use Rattle.sp_ends.proofs.LaterEntries.{entries_keep, has_other, grown, numbered, past_of_more}
+use Rattle.sp_ends.proofs.LinksStay.{legal_rest}
+use Rattle.sp_ends.proofs.EndsStay.{settles}
+use Rattle.sp_ends.proofs.Turns.{after_one}
 use Rattle.sp_ends.proofs.TakenAll.{IsOff, untaken_off, off_onto, off_stays}
-use Rattle.end_parts.proofs.NewcomingMoments.{due_moment}
-use Rattle.end_parts.proofs.DialedNames.{past_now}
+use Rattle.sp_ends.proofs.NewcomingMoments.{due_moment}
+use Rattle.sp_ends.proofs.DialedNames.{past_now}
 
 -- ---- A wire was taken
 

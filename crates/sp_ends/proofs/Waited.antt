@@ -3,13 +3,13 @@ use Rattle.std.proofs.Common.{◌≡◌, ◌≤◌, ◌++◌, ◌∷◌, ℕ, ze
 use Rattle.std.specs.Prelude.{◌⊎◌}
 use Rattle.std.specs.List.{AllByRecursion}
 use Rattle.std.proofs.lemmas.List.{drop_all, take-append-le, drop-append-le}
-use Rattle.sp_spec.specs.Outside.{Rose}
+use Rattle.sp_base.specs.Outside.{Rose}
 use Rattle.sp_base.specs.Views.{LinkView}
-use Rattle.link_opening.specs.Going.{WaitsFor}
-use Rattle.end_parts.specs.declared.newcomer.Newcomer.{Newcomer}
-use Rattle.end_parts.specs.declared.greeting.NewcomerFate.{NewcomerFate}
-use Rattle.end_parts.specs.declared.greeting.NewcomerFate.TheVariants as fates
-use Rattle.end_parts.specs.NewcomerSteps.{IsOut, HasWaitedOn, FateHasWaited}
+use Rattle.sp_links.specs.Going.{WaitsFor}
+use Rattle.sp_ends.specs.declared.newcomer.Newcomer.{Newcomer}
+use Rattle.sp_ends.specs.declared.greeting.NewcomerFate.{NewcomerFate}
+use Rattle.sp_ends.specs.declared.greeting.NewcomerFate.TheVariants as fates
+use Rattle.sp_ends.specs.NewcomerSteps.{IsOut, HasWaitedOn, FateHasWaited}
 use Rattle.sp_ends.specs.EndsTurns.{IsOneOf, IsFirstOrNew, HasWaitedSince, AreWaitingBehind}
 
 rose_once : (a b : ℕ) → Rose a b → 1 ≤ b

@@ -6,20 +6,20 @@ use Rattle.sp_base.specs.Views.{LinkView, NetView}
 use Rattle.sp_history.specs.declared.entry.Entry.{Entry}
 use Rattle.sp_history.specs.Found.{before_last_tick}
 use Rattle.sp_history.specs.Past.{past_of}
-use Rattle.sp_single.specs.Singles.{SingleView, IsNow, IsSound}
-use Rattle.cat_play.specs.Running.{has_dry_miss}
-use Rattle.cat_play.specs.Spending.{has_room, ticks_where}
-use Rattle.end_parts.specs.declared.listener.Listener.{Listener}
-use Rattle.end_parts.specs.declared.dialer.Dialer.{Dialer}
-use Rattle.end_parts.specs.EndViews.{Beginning, LinkEndsView}
-use Rattle.end_parts.specs.RunLinks.{NetStands, EndsStand, IsListener, SameCounts, sum_of, tries_of}
+use Rattle.sp_socket.specs.Singles.{SingleView, IsNow, IsSound}
+use Rattle.sp_ends.specs.LinkRecords.{has_dry_miss}
+use Rattle.sp_ends.specs.LinkCounts.{has_room, ticks_where}
+use Rattle.sp_ends.specs.declared.listener.Listener.{Listener}
+use Rattle.sp_ends.specs.declared.dialer.Dialer.{Dialer}
+use Rattle.sp_ends.specs.EndViews.{Beginning, LinkEndsView}
+use Rattle.sp_ends.specs.RunLinks.{NetStands, EndsStand, IsListener, SameCounts, sum_of, tries_of}
 use Rattle.sp_ends.specs.Freeing.{Frees, AreSameDialers}
 use Rattle.sp_ends.specs.Listening.{open_of, asks_to, FewerOwn}
 use Rattle.sp_ends.specs.EndsTurns.{EndsTicked, SameEnds, InTurn, Serves, HasAsked, HasAskedTo, dues_of, asks_of, AsksDue, AsksAll, AsksEach}
-use Rattle.end_parts.specs.SocketSteps.{Quietly}
-use Rattle.end_parts.proofs.EndsStay.{all_mapped}
+use Rattle.sp_ends.specs.SocketSteps.{Quietly}
+use Rattle.sp_ends.proofs.EndsStay.{all_mapped}
 use Rattle.sp_ends.proofs.TurnParts.{dialers_long, ends_none, same_dialers, counts_none, serves_both}
-use Rattle.end_parts.proofs.Turns.{quiet_before, quiet_none, lanes_none}
+use Rattle.sp_ends.proofs.Turns.{quiet_before, quiet_none, lanes_none}
 use Rattle.sp_ends.proofs.FreedDialers.{frees_none, frees_both}
 use Rattle.sp_ends.proofs.NewcomingAsks.{all_still, same_tries}
 use Rattle.sp_ends.proofs.Owned.{open_less, asks_less}

@@ -2,10 +2,10 @@
 use Rattle.std.proofs.Common.{◌≡◌, ◌≤◌, ◌++◌, ◌∷◌, ℕ, zero, suc, List, [], length, sym, subst, arith}
 use Rattle.std.specs.List.{AllByRecursion}
 use Rattle.std.proofs.lemmas.List.{drop_all}
-use Rattle.end_parts.specs.declared.newcomer.Newcomer.{Newcomer}
-use Rattle.end_parts.specs.declared.greeting.NewcomerFate.{NewcomerFate}
-use Rattle.end_parts.specs.declared.greeting.NewcomerFate.TheVariants as fates
-use Rattle.end_parts.specs.NewcomerSteps.{IsYoung, FateIsYoung, IsOut}
+use Rattle.sp_ends.specs.declared.newcomer.Newcomer.{Newcomer}
+use Rattle.sp_ends.specs.declared.greeting.NewcomerFate.{NewcomerFate}
+use Rattle.sp_ends.specs.declared.greeting.NewcomerFate.TheVariants as fates
+use Rattle.sp_ends.specs.NewcomerSteps.{IsYoung, FateIsYoung, IsOut}
 use Rattle.sp_ends.specs.EndsTurns.{AreYoung}
 
 module _ {L : Type 0} (now : ℕ) where

@@ -1,22 +1,22 @@
 -- One end more.
 use Rattle.std.specs.Prelude.{◌≡◌, ◌≤◌, ◌+◌, ◌++◌, ℕ, [], ◌∷◌, Some, None, Result, Ok, Err}
 use Rattle.std.specs.FinMap.{get, insert}
-use Rattle.sp_spec.specs.Outside.{Rose}
+use Rattle.sp_base.specs.Outside.{Rose}
 use Rattle.sp_base.specs.Views.{NetView}
 use Rattle.sp_base.specs.declared.addr.Scheme.{Scheme}
 use Rattle.sp_base.specs.Addresses.{scheme_of}
-use Rattle.end_parts.specs.declared.dialer.Dialer.{Dialer}
-use Rattle.end_parts.specs.declared.listener.Listener.{Listener}
-use Rattle.end_parts.specs.Dialing.{IsDialable}
+use Rattle.sp_ends.specs.declared.dialer.Dialer.{Dialer}
+use Rattle.sp_ends.specs.declared.listener.Listener.{Listener}
+use Rattle.sp_ends.specs.Dialing.{IsDialable}
 use Rattle.sp_base.specs.Steps.{Untouched}
 use Rattle.sp_base.specs.declared.error.NoMemory.{NoMemory}
 use Rattle.sp_base.specs.declared.addr.Addr.{Addr}
-use Rattle.end_parts.specs.EndViews.{LinkEndsView, EndsView}
+use Rattle.sp_ends.specs.EndViews.{LinkEndsView, EndsView}
 use Rattle.sp_base.specs.declared.addr.Addr.TheVariants as addrs
 use Rattle.sp_lane.specs.Registry.{Registry, names}
-use Rattle.end_parts.specs.declared.error.EndError.{EndError}
-use Rattle.end_parts.specs.declared.error.EndError.TheVariants as errors
-use Rattle.end_parts.specs.AddedNames.{ListensName, DialsName}
+use Rattle.sp_ends.specs.declared.error.EndError.{EndError}
+use Rattle.sp_ends.specs.declared.error.EndError.TheVariants as errors
+use Rattle.sp_ends.specs.AddedNames.{ListensName, DialsName}
 
 -- the net listens under a new number
 pub record ListensAt (at : ℕ) (scheme : Scheme) (old new : NetView) : Type 0 where

@@ -9,25 +9,25 @@ use Rattle.sp_history.specs.declared.entry.Entry.{Entry}
 use Rattle.sp_history.specs.declared.setting.Setting.{Setting}
 use Rattle.sp_history.specs.Lists.{has}
 use Rattle.sp_history.specs.Past.{past_of, untaken, now}
-use Rattle.cat_play.specs.Spending.{CanRise, has_room}
+use Rattle.sp_ends.specs.LinkCounts.{CanRise, has_room}
 use Rattle.sp_history.specs.Found.{ticks, before_last_tick}
-use Rattle.end_parts.specs.declared.newcomer.Newcomer.{Newcomer}
-use Rattle.end_parts.specs.declared.dialer.Dialer.{Dialer}
-use Rattle.link_opening.specs.declared.way.Way.{Way}
-use Rattle.link_opening.specs.Openings.{scheme_for, CanBegin}
-use Rattle.link_opening.specs.Origins.{Origins, IsKnown}
+use Rattle.sp_ends.specs.declared.newcomer.Newcomer.{Newcomer}
+use Rattle.sp_ends.specs.declared.dialer.Dialer.{Dialer}
+use Rattle.sp_links.specs.declared.way.Way.{Way}
+use Rattle.sp_links.specs.Openings.{scheme_for, CanBegin}
+use Rattle.sp_links.specs.Origins.{Origins, IsKnown}
 use Rattle.sp_base.specs.Steps.{IsHandedOut}
 use Rattle.sp_base.specs.declared.error.NoMemory.{NoMemory}
-use Rattle.sp_single.specs.Singles.{SingleView, IsSound, IsNow}
+use Rattle.sp_socket.specs.Singles.{SingleView, IsSound, IsNow}
 use Rattle.sp_base.specs.declared.addr.Addr.{Addr}
 use Rattle.sp_ends.specs.Freeing.{Frees, AreSameDialers}
 use Rattle.sp_ends.specs.Listening.{room_for, own_of, dialed_of, one_open, open_of, asks_one, asks_to}
-use Rattle.end_parts.specs.DialMoments.{is_due}
-use Rattle.end_parts.specs.EndViews.{LinkEndsView, Beginning}
-use Rattle.end_parts.specs.RunLinks.{AreOfRun, LinksStand, NetStands, SameCounts, sum_of, EndsStand}
-use Rattle.end_parts.specs.SocketSteps.{Quietly, NoLane, IsDry}
-use Rattle.end_parts.specs.DialerSteps.{IsSameDialer, IsFree, IsUnderWay}
-use Rattle.end_parts.specs.NewcomerSteps.{IsYoung, HasWaitedOn}
+use Rattle.sp_ends.specs.DialMoments.{is_due}
+use Rattle.sp_ends.specs.EndViews.{LinkEndsView, Beginning}
+use Rattle.sp_ends.specs.RunLinks.{AreOfRun, LinksStand, NetStands, SameCounts, sum_of, EndsStand}
+use Rattle.sp_ends.specs.SocketSteps.{Quietly, NoLane, IsDry}
+use Rattle.sp_ends.specs.DialerSteps.{IsSameDialer, IsFree, IsUnderWay}
+use Rattle.sp_ends.specs.NewcomerSteps.{IsYoung, HasWaitedOn}
 
 -- since the last tick nobody was greeted, accepted or dialed yet
 pub record EndsTicked {L : Type 0} (seen : L → LinkView) (z : Setting) (start : Beginning) (h : List (Turn Entry)) (net : NetView) (ends : LinkEndsView L) : Type 0 where

@@ -4,9 +4,9 @@ use Rattle.std.specs.List.{AllByRecursion}
 use Rattle.std.specs.FinMap.{get}
 use Rattle.sp_base.specs.Views.{NetView}
 use Rattle.sp_history.specs.Past.{now}
-use Rattle.end_parts.specs.declared.dialer.Dialer.{Dialer}
-use Rattle.end_parts.specs.DialMoments.{IsDueAt}
-use Rattle.end_parts.specs.DialerSteps.{IsSameDialer, IsFree, IsUnderWay, IsFreed}
+use Rattle.sp_ends.specs.declared.dialer.Dialer.{Dialer}
+use Rattle.sp_ends.specs.DialMoments.{IsDueAt}
+use Rattle.sp_ends.specs.DialerSteps.{IsSameDialer, IsFree, IsUnderWay, IsFreed}
 
 -- one by one
 abbrev pub AreSameDialers : List Dialer → List Dialer → Type 0

@@ -5,20 +5,20 @@ use Rattle.sp_base.specs.Views.{NetView, LinkView}
 use Rattle.sp_history.specs.declared.entry.Entry.{Entry}
 use Rattle.sp_history.specs.declared.setting.Setting.{Setting}
 use Rattle.sp_history.specs.Past.{past_of, down_for, is_cleared, is_closed}
-use Rattle.cat_play.specs.Playing.{each}
-use Rattle.cat_play.specs.Recording.{lane_place, place_of, IsBack, Records, times_out_rightly}
-use Rattle.cat_play.specs.Running.{KeepsOthers, max_body, AreWhole}
-use Rattle.cat_play.specs.Spending.{IsAsked, IsRead}
+use Rattle.sp_ends.specs.Entries.{each}
+use Rattle.sp_ends.specs.LinkRecords.{lane_place, place_of, IsBack, Records, times_out_rightly}
+use Rattle.sp_ends.specs.LinkRecords.{KeepsOthers, max_body, AreWhole}
+use Rattle.sp_ends.specs.LinkCounts.{IsAsked, IsRead}
 use Rattle.sp_history.specs.Found.{ticks}
-use Rattle.link_opening.specs.Origins.{run_ways}
-use Rattle.end_parts.specs.EndViews.{Beginning, LinkEndsView}
+use Rattle.sp_links.specs.Origins.{run_ways}
+use Rattle.sp_ends.specs.EndViews.{Beginning, LinkEndsView}
 use Rattle.sp_history.specs.declared.entry.Why.TheVariants as whys
-use Rattle.end_parts.specs.RunLinks.{EndsStand}
+use Rattle.sp_ends.specs.RunLinks.{EndsStand}
 use Rattle.sp_history.specs.Legal.{Legal}
 use Rattle.sp_core.specs.Parts.{HasWires}
-use Rattle.core_parts.specs.declared.pipes.DownPipe.{DownPipe}
-use Rattle.end_wire.specs.EndWires.{shown}
-use Rattle.end_wire.specs.declared.wire.EndWire.{EndWire}
+use Rattle.core_state.specs.declared.pipes.DownPipe.{DownPipe}
+use Rattle.sp_links.specs.EndWires.{shown}
+use Rattle.sp_links.specs.declared.wire.EndWire.{EndWire}
 
 -- every pipe that the close took down had all written
 abbrev pub ClosedCleared : List Entry → Type 0

@@ -1,3 +1,17 @@
+pub mod Entries
+pub mod LinkRecords
+pub mod LinkCounts
+pub mod Errors
+pub mod DialMoments
+pub mod Dialing
+pub mod EndViews
+pub mod RunLinks
+pub mod DialerSteps
+pub mod SocketSteps
+pub mod NewcomerSteps
+pub mod ShutWires
+pub mod AddedNames
+pub mod NameSteps
 pub mod Listening
 pub mod AddedEnds
 pub mod Freeing

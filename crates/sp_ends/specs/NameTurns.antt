@@ -3,13 +3,13 @@ use Rattle.std.specs.Prelude.{◌≡◌, ◌≤◌, ◌<◌, ◌*◌, ◌⊎◌,
 use Rattle.sp_base.specs.declared.role.Role.{Role}
 use Rattle.sp_history.specs.Lists.{has}
 use Rattle.sp_history.specs.Past.{past_of, up, untaken, now, ups}
-use Rattle.cat_play.specs.Recording.{greeting}
-use Rattle.end_parts.specs.declared.name_dialer.NameDialer.{NameDialer}
-use Rattle.sp_single.specs.Singles.{SingleView}
+use Rattle.sp_ends.specs.LinkRecords.{greeting}
+use Rattle.sp_ends.specs.declared.name_dialer.NameDialer.{NameDialer}
+use Rattle.sp_socket.specs.Singles.{SingleView}
 use Rattle.sp_lane.specs.Registry.{Registry}
-use Rattle.end_parts.specs.SocketSteps.{Quietly, NoLane}
-use Rattle.end_parts.specs.NameSteps.{IsDueNameDialer, IsFreeNameDialer, HasCalled, GoesOn, DialsDue, AllBring, Accepting}
-use Rattle.end_parts.specs.EndViews.{LinkEndsView, NamesView}
+use Rattle.sp_ends.specs.SocketSteps.{Quietly, NoLane}
+use Rattle.sp_ends.specs.NameSteps.{IsDueNameDialer, IsFreeNameDialer, HasCalled, GoesOn, DialsDue, AllBring, Accepting}
+use Rattle.sp_ends.specs.EndViews.{LinkEndsView, NamesView}
 
 -- the pipe is down, and its wire was taken
 pub record IsGone (s : SingleView) (p : ℕ) : Type 0 where

@@ -1,11 +1,12 @@
 //! All ends of a run.
 ghost use Rattle.std.specs.Prelude.{◌≡◌, true, IfOk};
 ghost use Rattle.sp_base.specs.Addresses.{is_dialable, is_linked};
-ghost use Rattle.end_parts.specs.EndViews.{no_ends};
+ghost use Rattle.sp_ends.specs.EndViews.{no_ends};
 ghost use Rattle.sp_ends.specs.AddedEnds.{ListensAlso, DialsAlso};
 
+use crate::error::EndError;
 use crate::links::LinkEnds;
-use end_parts::{EndError, NameEnds};
+use crate::names::NameEnds;
 use sp_base::{Addr, Link, Net, NoMemory, Role};
 use sp_lane::Inproc;
 use std::alloc::Global;
@@ -20,7 +21,7 @@ pub struct Ends<L: Link> {
 }
 
 impl<L: Link> Model for Ends<L> {
-    ghost use Rattle.end_parts.specs.EndViews.{EndsView};
+    ghost use Rattle.sp_ends.specs.EndViews.{EndsView};
 
     ghost Value = { EndsView L };
 

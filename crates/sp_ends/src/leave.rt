@@ -1,13 +1,13 @@
 //! How the ends of a run end.
 ghost use Rattle.std.specs.Prelude.{◌≡◌, []};
-ghost use Rattle.end_parts.specs.RunLinks.{SameCounts};
+ghost use Rattle.sp_ends.specs.RunLinks.{SameCounts};
 ghost use Rattle.sp_ends.specs.LeftLinks.{StandWithWires, LeaveLinks};
 
 use crate::ends::Ends;
 use crate::links::LinkEnds;
-use end_parts::{give_newcomers_back, give_wires_back};
-use end_wire::EndWire;
+use crate::shut::{give_newcomers_back, give_wires_back};
 use sp_base::{Link, Net};
+use sp_links::EndWire;
 use sp_socket::WireList;
 use std::sync::Wait;
 

@@ -1,4 +1,4 @@
-//! The ends of a run: where it listens, whom it dials, and the links and lanes that these bring, until they are pipes.
+//! The ends of a socket: where it listens, whom it dials, and the links and lanes that these bring, until they are pipes.
 //!
 //! A turn of the ends comes once between two ticks. It takes the wires whose pipes are down and gives their links back,
 //! goes on with the greetings that are under way, and then asks each listener for up to 16 links and dials each address
@@ -9,16 +9,30 @@
 //! Names within the process are dialed and asked after that. What they bring is a lane, which needs no greeting: it
 //! becomes a pipe in the same turn, at a place that no link has, or it is shut, which tells the other half.
 //!
-//! One link, one dialer and the names stand in `end_parts`. `links` has all ends over links, `ends` these and the
-//! names; `turn` what one turn does, and `leave` how it ends.
+//! `newcomer` has one link that is opened, `greeting` what becomes of it, `shut` links and wires that are given back;
+//! `dialer` one address that is dialed, `listener` one that is listened at; `name_dialer` one name that is dialed,
+//! `names` all names. `links` has all ends over links, `ends` these and the names; `turn` what one turn does, `leave`
+//! how it ends.
+//!
+//! What stands between the links, their net and the history of the socket is `LinksStand` (`specs/RunLinks`); what is
+//! read of the record about them stands in `specs/LinkRecords` and `specs/LinkCounts`.
 #![tactic(auto)]
 
 mod counts;
+mod dialer;
 mod ends;
+mod error;
+mod greeting;
 mod leave;
 mod links;
+mod listener;
+mod name_dialer;
+mod names;
+mod newcomer;
+mod shut;
 mod turn;
 
-pub use end_parts::{EndError, RECV_MAX_SIZE};
 pub use ends::Ends;
+pub use error::EndError;
+pub use greeting::RECV_MAX_SIZE;
 pub use turn::EndsTurn;

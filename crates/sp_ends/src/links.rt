@@ -1,16 +1,19 @@
 //! The ends of a run that are reached over links of a net.
 ghost use Rattle.std.specs.Prelude.{◌≡◌, ◌<◌, ◌+◌, ◌*◌, ◌++◌, ◌∷◌, [], nat_le, length, true, IfOk, IfSome};
 ghost use Rattle.sp_base.specs.Addresses.{is_dialable, is_linked};
-ghost use Rattle.end_parts.specs.EndViews.{no_links};
+ghost use Rattle.sp_ends.specs.EndViews.{no_links};
 ghost use Rattle.sp_ends.specs.AddedEnds.{ListensLink, DialsLink};
 ghost use Rattle.sp_ends.specs.Freeing.{AreFreed};
 ghost use Rattle.sp_ends.specs.Listening.{room_for, own_of, IsFromOne, LeavesFirst};
 ghost use Rattle.sp_ends.specs.EndsTurns.{SameButPlaces};
 
 use crate::counts::{one_less, one_more};
-use end_parts::{Dialer, EndError, Listener, Newcomer};
-use link_opening::copy_of;
+use crate::dialer::Dialer;
+use crate::error::EndError;
+use crate::listener::Listener;
+use crate::newcomer::Newcomer;
 use sp_base::{Addr, Link, Listened, Net, NoMemory, Role, Tick};
+use sp_links::copy_of;
 use std::alloc::Global;
 use std::collections::VecDeque;
 use std::marker::Model;
@@ -41,7 +44,7 @@ pub(crate) struct LinkEnds<L: Link> {
 impl<L: Link> Model for LinkEnds<L> {
     ghost use Rattle.std.specs.Prelude.{length};
     ghost use Rattle.std.specs.VecDeque.{deque_capacity};
-    ghost use Rattle.end_parts.specs.EndViews.{LinkEndsView};
+    ghost use Rattle.sp_ends.specs.EndViews.{LinkEndsView};
     ghost use Rattle.sp_ends.specs.Listening.{AreCounted};
 
     ghost Value = { LinkEndsView L };

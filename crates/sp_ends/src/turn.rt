@@ -4,51 +4,50 @@ ghost use Rattle.std.specs.List.{AllByRecursion};
 ghost use Rattle.sp_base.specs.Addresses.{is_dialable, scheme_of};
 ghost use Rattle.sp_history.specs.Past.{past_of};
 ghost use Rattle.sp_history.specs.Found.{before_last_tick};
-ghost use Rattle.cat_play.specs.Running.{has_dry_miss};
-ghost use Rattle.cat_play.specs.Spending.{CanRise, has_room};
-ghost use Rattle.end_parts.specs.declared.dialer.Dialer.{Dialer as DialerType};
-ghost use Rattle.end_parts.specs.declared.listener.Listener.{Listener as ListenerType};
-ghost use Rattle.link_opening.specs.Origins.{serving, asking};
-ghost use Rattle.end_parts.specs.EndViews.{Beginning};
-ghost use Rattle.end_parts.specs.RunLinks.{IsListener};
+ghost use Rattle.sp_ends.specs.LinkRecords.{has_dry_miss};
+ghost use Rattle.sp_ends.specs.LinkCounts.{CanRise, has_room};
+ghost use Rattle.sp_ends.specs.declared.dialer.Dialer.{Dialer as DialerType};
+ghost use Rattle.sp_ends.specs.declared.listener.Listener.{Listener as ListenerType};
+ghost use Rattle.sp_links.specs.Origins.{serving, asking};
+ghost use Rattle.sp_ends.specs.EndViews.{Beginning};
+ghost use Rattle.sp_ends.specs.RunLinks.{IsListener};
 ghost use Rattle.sp_ends.specs.Freeing.{Frees, Redials, Turns, AreWaiting, KnowsLinks, KnowsDialed, AreSameDialers};
 ghost use Rattle.sp_ends.specs.Listening.{room_for, dialed_of, IsFromOne, KeepsFrom, KeepsOwn, FewerOwn};
 ghost use Rattle.sp_ends.specs.NameTurns.{TurnsCallers, LanesTurn, TakesCallers, TakesPipe};
-ghost use Rattle.end_parts.specs.NameSteps.{GoesOn, KeepsLinks, Accepting, AllBring};
+ghost use Rattle.sp_ends.specs.NameSteps.{GoesOn, KeepsLinks, Accepting, AllBring};
 ghost use Rattle.sp_ends.specs.EndsTurns.{UngreetedGoOn, HaveTicked, StandAgain, TurnGoesOn, IsInTurn, AreToBeAsked, AskedStand, AreToBeDialed, DialedStand, CountsRise, WaitOn, WaitWith, GreetsInTurn, HasArrived, MeetsInTurn, AllTaken, FewInProgress, SameEnds, Serves, InTurnWith, HasWaitedSince, AreWaitingBehind, AsksNet, DialsAt, AreYoung, asked_after, asks_of, AsksAll, AsksEach, AsksDue, HasAskedOne, HasAskedTo, FitsIn};
-ghost use Rattle.end_parts.specs.SocketSteps.{Quietly, IsDry, NoLane};
-ghost use Rattle.sp_single.specs.Singles.{IsNow, IsSound};
-ghost use Rattle.end_parts.specs.NewcomerSteps.{is_dry_for};
+ghost use Rattle.sp_ends.specs.SocketSteps.{Quietly, IsDry, NoLane};
+ghost use Rattle.sp_socket.specs.Singles.{IsNow, IsSound};
+ghost use Rattle.sp_ends.specs.NewcomerSteps.{is_dry_for};
 
 use crate::ends::Ends;
+use crate::greeting::{NewcomerFate, greet_one, miss};
 use crate::links::{LinkEnds, room_for};
-use end_parts::{
-    LINKS_A_TURN, NameEnds, Newcomer, NewcomerFate, greet_one, leave_wire, miss, newcomer_over,
-};
-use end_wire::EndWire;
-use link_opening::Way;
+use crate::names::{LINKS_A_TURN, NameEnds};
+use crate::newcomer::{Newcomer, newcomer_over};
+use crate::shut::leave_wire;
 use sp_base::{Link, Linked, Net, NoMemory, PipeId, Scheme, Tick};
 use sp_history::entry::Miss;
 use sp_lane::Inproc;
+use sp_links::{EndWire, Way};
 use sp_proto::Proto;
-use sp_single::Single;
-use sp_socket::Gone;
+use sp_socket::{Gone, Single};
 use std::alloc::Global;
 use std::sync::Wait;
 
-/// What a turn of the ends came to.
+/// The result of a turn of the ends.
 #[derive(Clone, Copy, Debug, PartialEq, Eq)]
 pub struct EndsTurn {
-    /// Whether a link was given back when out of memory.
+    /// Whether a link was given back when out of memory, in this turn or before.
     pub is_dry: bool,
 }
 
 impl EndsTurn {
-    // Nothing so far.
-    fn new() -> EndsTurn
-        ensures { result.is_dry ≡ false }
+    // Nothing in this turn so far.
+    fn new(was_dry: bool) -> EndsTurn
+        ensures { result.is_dry ≡ was_dry }
     {
-        EndsTurn { is_dry: false }
+        EndsTurn { is_dry: was_dry }
     }
 
     // A link was given back for this cause.
@@ -63,7 +62,8 @@ impl<L: Link> Ends<L> {
     /// One turn of the ends, at this tick, which is that of the history. It takes the wires whose pipes are down and
     /// gives their links back. It goes on with the greetings, asks each listener for at most 16 links, and dials each
     /// address that is due. Then it does the same with names within the process. Where there is no memory for a link
-    /// this is given back and the turn says so; the other links have their turn all the same.
+    /// this is given back and the turn says so; the other links have their turn all the same. `was_dry` says whether a
+    /// turn before has said so.
     pub fn turn<R: Wait, N: Net<L = L>, P: Proto>(
         &mut self,
         rt: &R,
@@ -71,11 +71,12 @@ impl<L: Link> Ends<L> {
         inproc: &mut Inproc,
         single: &mut Single<P, EndWire<L>>,
         now: Tick,
+        was_dry: bool,
     ) -> EndsTurn
         requires ticked { HaveTicked L.seen single.old (N.seen net.old) self.old.links }
         requires sound { IsSound single.old }
         requires now { IsNow now single.old }
-        requires dry { IsDry false single.old }
+        requires dry { IsDry was_dry single.old }
         ensures stands { StandAgain L.seen single.old single.new (N.seen net.old) (N.seen net.new) self.old.links self.new.links }
         ensures sound { IsSound single.new }
         ensures quietly { Quietly single.old single.new }
@@ -97,7 +98,7 @@ impl<L: Link> Ends<L> {
         ensures lanes { LanesTurn now self.old.links self.old.names self.new.names single.old single.new inproc.old inproc.new }
     {
         self.links
-            .turn(&mut self.names, rt, net, inproc, single, now)
+            .turn(&mut self.names, rt, net, inproc, single, now, was_dry)
     }
 }
 
@@ -111,11 +112,12 @@ impl<L: Link> LinkEnds<L> {
         inproc: &mut Inproc,
         single: &mut Single<P, EndWire<L>>,
         now: Tick,
+        was_dry: bool,
     ) -> EndsTurn
         requires ticked { HaveTicked L.seen single.old (N.seen net.old) self.old }
         requires sound { IsSound single.old }
         requires now { IsNow now single.old }
-        requires dry { IsDry false single.old }
+        requires dry { IsDry was_dry single.old }
         ensures stands { StandAgain L.seen single.old single.new (N.seen net.old) (N.seen net.new) self.old self.new }
         ensures sound { IsSound single.new }
         ensures quietly { Quietly single.old single.new }
@@ -136,7 +138,7 @@ impl<L: Link> LinkEnds<L> {
         ensures callers { TurnsCallers now single.old single.new names.old.callers names.new.callers }
         ensures lanes { LanesTurn now self.old names.old names.new single.old single.new inproc.old inproc.new }
     {
-        let mut turn = EndsTurn::new();
+        let mut turn = EndsTurn::new(was_dry);
         self.take_all_ended(names, rt, net, single, now);
         self.go_on(rt, net, single, now, &mut turn);
         names.call_all(rt, inproc, single, self.role, now);

@@ -4,7 +4,7 @@ use Rattle.sp_base.specs.Views.{SinkView}
 use Rattle.sp_base.specs.declared.outside.Sunk.{Sunk}
 use Rattle.sp_base.specs.declared.outside.Sunk.TheVariants as sunk
 use Rattle.sp_msg.specs.Marks.{one_more}
-use Rattle.sp_spec.specs.Outside.{grown}
+use Rattle.sp_base.specs.Outside.{grown}
 use Rattle.sp_fakes.specs.Calls.{Calls}
 use Rattle.sp_fakes.specs.declared.sink.MemSink.{MemSink}
 

@@ -16,7 +16,7 @@ use Rattle.sp_history.specs.Once.{begin_count}
 use Rattle.sp_history.specs.Legal.{Legal}
 use Rattle.sp_history.proofs.Appending.{past_of-append}
 use Rattle.sp_history.proofs.OnceHolds.{ends_once}
-use Rattle.core_parts.specs.declared.causes.NowError.{NowError}
+use Rattle.core_state.specs.declared.causes.NowError.{NowError}
 use Rattle.sp_core.specs.Immediate.{IsLost, AreLost, HasLost, HasReceived, ReceivedNow}
 use Rattle.sp_socket.specs.Open.{LeavesOpen}
 use Rattle.sp_socket.proofs.BegunOnce.{more_begun, no_caller}

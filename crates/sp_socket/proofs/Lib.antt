@@ -1,3 +1,7 @@
+pub mod Alone
+pub mod ExpiredByTicks
+pub mod Cancelled
+pub mod SocketLife
 pub mod Pairs
 pub mod Tries
 pub mod Dues

@@ -16,12 +16,12 @@ use Rattle.sp_history.specs.declared.setting.Setting.{Setting}
 use Rattle.sp_history.specs.Lists.{same_op}
 use Rattle.sp_history.specs.Past.{past_of, is_closed, up, pend, now, due_at}
 use Rattle.sp_history.proofs.OnceHolds.{same_op-eq}
-use Rattle.core_parts.specs.declared.causes.BeginError.{BeginError}
+use Rattle.core_state.specs.declared.causes.BeginError.{BeginError}
 use Rattle.sp_core.specs.declared.calls.collect.Collected.TheVariants as collected
-use Rattle.core_parts.specs.declared.causes.AttachError.{AttachError}
+use Rattle.core_state.specs.declared.causes.AttachError.{AttachError}
 use Rattle.sp_core.specs.declared.calls.attach.Gone.{Gone}
-use Rattle.core_parts.specs.declared.causes.CtxError.{CtxError}
-use Rattle.core_parts.specs.declared.causes.TopicError.{TopicError}
+use Rattle.core_state.specs.declared.causes.CtxError.{CtxError}
+use Rattle.core_state.specs.declared.causes.TopicError.{TopicError}
 use Rattle.sp_core.specs.Contexts.{OpenedBy, IsCtxEnd, AreCtxEnds, ShutBy, PutOn, SubscribedBy, UnsubscribedBy}
 use Rattle.sp_core.specs.Moving.{AreSettling}
 use Rattle.sp_core.specs.Standing.{BeganBy, HasFirst}

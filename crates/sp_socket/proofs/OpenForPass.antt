@@ -10,7 +10,7 @@ use Rattle.sp_history.specs.declared.entry.Entry.{Entry}
 use Rattle.sp_history.specs.declared.setting.Setting.{Setting}
 use Rattle.sp_history.specs.Past.{past_of}
 use Rattle.sp_history.specs.Legal.{Legal}
-use Rattle.core_parts.specs.declared.causes.BeginError.{BeginError}
+use Rattle.core_state.specs.declared.causes.BeginError.{BeginError}
 use Rattle.sp_core.specs.declared.calls.collect.Collected.{Collected}
 use Rattle.sp_core.specs.declared.calls.collect.Collected.TheVariants as collected
 use Rattle.sp_core.specs.Collecting.{IsOpen, CollectedBy}

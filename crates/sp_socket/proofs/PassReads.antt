@@ -15,7 +15,7 @@ use Rattle.sp_history.specs.Legal.{Legal}
 use Rattle.sp_core.specs.declared.calls.collect.Collected.{Collected}
 use Rattle.sp_core.specs.declared.calls.collect.Collected.TheVariants as collected
 use Rattle.sp_core.specs.Collecting.{IsOpen, ReadFor}
-use Rattle.core_parts.specs.Reads.{ReadAs}
+use Rattle.core_state.specs.Reads.{ReadAs}
 use Rattle.sp_socket.specs.declared.pass_parts.PassParts.{PassParts}
 use Rattle.sp_socket.specs.Passes.{PassView, TurnsOf, pass_of}
 use Rattle.sp_socket.specs.Open.{IsOpenFor}

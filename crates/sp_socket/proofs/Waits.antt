@@ -18,7 +18,7 @@ use Rattle.sp_history.proofs.Appending.{past_of-append}
 use Rattle.sp_history.proofs.Filters.{pending_means}
 use Rattle.sp_history.specs.Once.{end_count}
 use Rattle.sp_history.specs.Legal.{Legal}
-use Rattle.core_parts.specs.declared.outcome.Outcome.{Outcome}
+use Rattle.core_state.specs.declared.outcome.Outcome.{Outcome}
 use Rattle.sp_core.specs.declared.calls.collect.Collected.TheVariants as collected
 use Rattle.sp_core.specs.Collecting.{CollectedBy}
 use Rattle.sp_socket.specs.Passes.{PassView, SocketName, IsOf, IsSamePass}

@@ -8,7 +8,7 @@ use Rattle.aio_word.specs.Views.{Each}
 use Rattle.sp_history.specs.declared.entry.Entry.{Entry}
 use Rattle.sp_history.specs.declared.entry.Entry.TheVariants.{End}
 use Rattle.sp_history.specs.Lists.{same_op}
-use Rattle.core_parts.specs.declared.outcome.Outcome.{Outcome}
+use Rattle.core_state.specs.declared.outcome.Outcome.{Outcome}
 use Rattle.sp_core.specs.declared.calls.collect.Collected.TheVariants as collected
 use Rattle.sp_core.specs.Collecting.{CollectedBy}
 use Rattle.sp_socket.specs.Passes.{PassView, IsSamePass}

@@ -9,6 +9,10 @@
 //! Who owns what: the lock owns the core, in a box, so that a turn moves one pointer; a pass owns its seat, alone.
 //! `open` takes all room for operations, deadlines and names. `finish` takes the passes back, joins their seats, and
 //! hands out the wires that were not taken and the record of the whole history.
+//!
+//! A program with one caller takes a `Single`: a socket with its one pass. Every turn of the history is this caller's,
+//! so what it has seen is the whole history, and each call adds exactly one turn. Contracts see the history and its
+//! setting.
 #![tactic(auto)]
 
 mod begin;
@@ -25,6 +29,8 @@ mod pass;
 mod pass_parts;
 mod record;
 mod shared;
+mod single;
+mod single_calls;
 mod socket;
 mod turn_calls;
 mod wait;
@@ -36,6 +42,7 @@ pub use finish::Finished;
 pub use list::SocketPasses;
 pub use pass::Pass;
 pub use record::Record;
+pub use single::{Single, SingleEnd};
 pub use socket::Socket;
 pub use sp_core::{
     AttachError, BeginError, Collected, CtxError, Gone, NowError, Op, Outcome, Served, TopicError,

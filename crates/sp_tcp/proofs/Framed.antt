@@ -1,9 +1,9 @@
 -- What a wire over a link shows at every moment.
 use Rattle.std.proofs.Common.{◌≡◌, ◌<◌, ◌^◌, ◌++◌, ℕ, false, List, [], ◌∷◌, length, take, drop, Option, Some, None, refl, sym, ap, subst, ◌∙◌, arith}
 use Rattle.std.proofs.lemmas.List.{length-take, take-append-le, take-append-drop}
-use Rattle.sp_spec.specs.SpTcp.{frame, frames, text, shows, begins, IsOversize}
-use Rattle.sp_spec.specs.Outside.{Told, IsPrefix}
-use Rattle.sp_spec.proofs.Shows.{frames-cons, shows-prefix, length-frame}
+use Rattle.sp_base.specs.SpTcp.{frame, frames, text, shows, begins, IsOversize}
+use Rattle.sp_base.specs.Outside.{Told, IsPrefix}
+use Rattle.sp_base.proofs.Shows.{frames-cons, shows-prefix, length-frame}
 use Rattle.sp_tcp.specs.Readings.{IsPart, IsTooLong}
 use Rattle.sp_tcp.specs.Outlets.{SentWithin}
 use Rattle.sp_tcp.specs.TcpWires.{number_in, taken_in, put_in, ReadsAs, WritesAs, TcpState, tcp_view, Holds, ShowsIn, WrittenIn, CutShort, Framed, AllShown, NextFits, NextTooLong}

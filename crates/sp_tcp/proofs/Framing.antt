@@ -2,9 +2,9 @@
 use Rattle.std.proofs.Common.{◌≡◌, ◌≤◌, ◌<◌, ◌-◌, ◌^◌, ◌++◌, ℕ, false, List, [], ◌∷◌, length, take, Option, Some, None, refl, sym, ap, subst, ◌∙◌, inl, inr, append-nil, append_assoc, arith, lit<}
 use Rattle.std.proofs.lemmas.List.{length-append, length-take, take_at, take-append-le, append_cancel_left}
 use Rattle.std.proofs.lemmas.Nat.{from_be_bytes-to_be_bytes_2}
-use Rattle.sp_spec.specs.SpTcp.{hello, frames, text, shows, Fit, begins, IsOversize}
-use Rattle.sp_spec.specs.Outside.{grown, Told}
-use Rattle.sp_spec.proofs.Shows.{frames-append, begins-false, shows-rest, shows-text, Fit-append}
+use Rattle.sp_base.specs.SpTcp.{hello, frames, text, shows, Fit, begins, IsOversize}
+use Rattle.sp_base.specs.Outside.{grown, Told}
+use Rattle.sp_base.proofs.Shows.{frames-append, begins-false, shows-rest, shows-text, Fit-append}
 use Rattle.sp_msg.specs.Wires.{with_text}
 use Rattle.sp_tcp.specs.Readings.{IsPart, IsTooLong}
 use Rattle.sp_tcp.specs.Outlets.{SentWithin}

@@ -1,7 +1,7 @@
 -- A new wire over a link.
 use Rattle.std.proofs.Common.{◌≡◌, ◌<◌, ◌+◌, ◌^◌, ◌++◌, ℕ, true, false, List, [], Option, Some, None, refl, sym, ap, subst, ◌∙◌, append-nil, arith, lit<}
-use Rattle.sp_spec.specs.SpTcp.{hello, text}
-use Rattle.sp_spec.specs.Outside.{Told}
+use Rattle.sp_base.specs.SpTcp.{hello, text}
+use Rattle.sp_base.specs.Outside.{Told}
 use Rattle.sp_base.specs.Views.{LinkView}
 use Rattle.sp_base.specs.Roles.{role_number, role_peer}
 use Rattle.sp_base.specs.declared.role.Role.{Role}

@@ -4,7 +4,7 @@ use Rattle.std.proofs.Common.{◌≡◌, ◌≤◌, ◌<◌, ◌+◌, ◌-◌, �
 use Rattle.std.proofs.lemmas.Bool.{cases_lt}
 use Rattle.std.proofs.lemmas.List.{length-append, length-take, length-drop, take_at, drop_at, drop-append-le, take-append-le, drop-drop, take_all, drop_all, take_more, take_rest, map-append}
 use Rattle.std.specs.Int.{w64, to_be_bytes}
-use Rattle.sp_spec.specs.SpTcp.{frame, frames}
+use Rattle.sp_base.specs.SpTcp.{frame, frames}
 use Rattle.sp_msg.specs.Views.{MessageView, wire_text}
 use Rattle.sp_tcp.specs.Views.{WriteStageView}
 use Rattle.sp_tcp.specs.Stages.{added, gathered}

@@ -1,7 +1,7 @@
 -- Where a prefix is split at the bytes that stand before a size.
 use Rattle.std.proofs.Common.{◌≡◌, ◌≤◌, ◌<◌, ◌++◌, ℕ, List, length, take, drop, min, sym, ap, ◌∙◌, append_assoc, arith, inl, inr}
 use Rattle.std.proofs.lemmas.List.{take-append-drop, take_all, length-drop}
-use Rattle.sp_spec.specs.SpTcp.{frame}
+use Rattle.sp_base.specs.SpTcp.{frame}
 use Rattle.sp_tcp.specs.declared.reader.Prefix.{Prefix}
 use Rattle.sp_tcp.specs.declared.reader.Prefix.TheVariants as f
 use Rattle.sp_tcp.specs.Readings.{PrefixIs}

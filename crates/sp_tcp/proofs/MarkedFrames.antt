@@ -1,8 +1,8 @@
 -- Frames with bytes before their sizes, and those of SP over TCP, which have none.
 use Rattle.std.proofs.Common.{◌≡◌, ◌<◌, ◌+◌, ◌++◌, ℕ, List, [], ◌∷◌, length, take, refl, sym, ap, subst, ◌∙◌, append_assoc, arith, inl, inr}
 use Rattle.std.proofs.lemmas.List.{length-append}
-use Rattle.sp_spec.specs.SpTcp.{frame, frames}
-use Rattle.sp_spec.proofs.Shows.{length-frame}
+use Rattle.sp_base.specs.SpTcp.{frame, frames}
+use Rattle.sp_base.proofs.Shows.{length-frame}
 use Rattle.sp_tcp.specs.Readings.{IsPart, IsTooLong}
 use Rattle.sp_tcp.specs.Marked.{marked, marked_all, head_of, IsMarkedPart, IsMarkedBad}
 use Rattle.sp_tcp.specs.Outlets.{SentWithin}

@@ -1,6 +1,6 @@
 -- What the marks say stays true over each call.
 use Rattle.std.proofs.Common.{◌≡◌, ◌≤◌, ◌<◌, ◌⊎◌, ℕ, Bool, true, false, List, [], refl, ◌∙◌, arith}
-use Rattle.sp_spec.specs.Outside.{Rose}
+use Rattle.sp_base.specs.Outside.{Rose}
 use Rattle.sp_base.specs.Views.{LinkView}
 use Rattle.sp_msg.specs.Marks.{one_more, marks_pulled, marks_roomed, marks_flushed, marks_shut}
 use Rattle.sp_msg.specs.declared.marks.WireMarks.{WireMarks}

@@ -1,7 +1,7 @@
 -- Pieces behind a prefix of a list.
 use Rattle.std.proofs.Common.{◌≡◌, ◌≤◌, ◌+◌, ◌++◌, ℕ, List, length, take, drop, sym, ap, ◌∙◌, append_assoc, arith}
 use Rattle.std.proofs.lemmas.List.{take-append-drop, take-append-le, drop-take, take-take, drop_at, drop-append-le, length-take}
-use Rattle.sp_spec.specs.Outside.{IsPrefix}
+use Rattle.sp_base.specs.Outside.{IsPrefix}
 
 -- after a piece that is the next part of the wanted bytes
 pub part_more : (peer piece : List ℕ) (seen n : ℕ) → seen ≤ length peer → n ≤ length piece → take n piece ≡ take n (drop seen peer) → take seen peer ++ take n piece ≡ take (seen + n) peer

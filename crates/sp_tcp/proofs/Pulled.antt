@@ -1,8 +1,8 @@
 -- What a pull of a wire over a link comes to.
 use Rattle.std.proofs.Common.{◌≡◌, ◌≤◌, ◌++◌, ℕ, true, false, List, [], ◌∷◌, length, Option, Some, refl, sym, ap, subst, ◌∙◌, append-nil, arith}
-use Rattle.sp_spec.specs.SpTcp.{frame, frames, shows, Fit, IsOversize}
-use Rattle.sp_spec.specs.Outside.{Told}
-use Rattle.sp_spec.proofs.Shows.{frames-cons}
+use Rattle.sp_base.specs.SpTcp.{frame, frames, shows, Fit, IsOversize}
+use Rattle.sp_base.specs.Outside.{Told}
+use Rattle.sp_base.proofs.Shows.{frames-cons}
 use Rattle.sp_base.specs.Views.{LinkView}
 use Rattle.sp_base.specs.Wires.{OverLink, scheme_number}
 use Rattle.sp_msg.specs.Views.{MessageView}

@@ -1,9 +1,9 @@
 -- What stands at the front of a stream, in terms of all that the stream shows.
 use Rattle.std.proofs.Common.{◌≡◌, ◌≤◌, ◌<◌, ◌+◌, ◌^◌, ◌++◌, ℕ, List, [], ◌∷◌, length, drop, refl, sym, ap, subst, ◌∙◌, append-nil, append_assoc, arith, inl, inr}
 use Rattle.std.proofs.lemmas.List.{drop_at}
-use Rattle.sp_spec.specs.Outside.{IsPrefix}
-use Rattle.sp_spec.specs.SpTcp.{hello, frame, frames, text, shows, Fit, size_of, IsOversize}
-use Rattle.sp_spec.proofs.Shows.{shows-prefix, shows-rest, begins-false, Fit-append, frames-append, frames-cons}
+use Rattle.sp_base.specs.Outside.{IsPrefix}
+use Rattle.sp_base.specs.SpTcp.{hello, frame, frames, text, shows, Fit, size_of, IsOversize}
+use Rattle.sp_base.proofs.Shows.{shows-prefix, shows-rest, begins-false, Fit-append, frames-append, frames-cons}
 use Rattle.sp_tcp.specs.declared.reader.Prefix.{Prefix}
 use Rattle.sp_tcp.specs.declared.reader.Prefix.TheVariants as f
 use Rattle.sp_tcp.specs.Readings.{PrefixIs, ShownAs}

@@ -1,7 +1,7 @@
 -- Writing, one piece after the other.
 use Rattle.std.proofs.Common.{◌≡◌, ◌≤◌, ◌<◌, ◌+◌, ◌-◌, ◌^◌, ◌++◌, ℕ, List, [], ◌∷◌, length, take, drop, refl, sym, ap, ◌∙◌, append-nil, append_assoc, arith, map}
 use Rattle.std.proofs.lemmas.List.{length-append, length-take, length-drop, take-append-drop, take-append-le}
-use Rattle.sp_spec.specs.Outside.{grown}
+use Rattle.sp_base.specs.Outside.{grown}
 use Rattle.sp_base.specs.Views.{LinkView}
 use Rattle.sp_base.specs.Steps.{Went, AfterWrite}
 use Rattle.sp_base.specs.declared.outside.LinkWrite.{LinkWrite}

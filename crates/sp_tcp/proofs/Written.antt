@@ -1,9 +1,9 @@
 -- What the writing of a wire over a link comes to, and what put and shut do.
 use Rattle.std.proofs.Common.{◌≡◌, ◌≤◌, ◌<◌, ◌+◌, ◌^◌, ◌++◌, ℕ, true, false, List, [], ◌∷◌, length, refl, sym, ap, subst, ◌∙◌, inl, inr, arith}
 use Rattle.std.proofs.lemmas.List.{length-append}
-use Rattle.sp_spec.specs.SpTcp.{Fit}
-use Rattle.sp_spec.specs.Outside.{Told}
-use Rattle.sp_spec.proofs.Shows.{Fit-append}
+use Rattle.sp_base.specs.SpTcp.{Fit}
+use Rattle.sp_base.specs.Outside.{Told}
+use Rattle.sp_base.proofs.Shows.{Fit-append}
 use Rattle.sp_base.specs.Views.{LinkView}
 use Rattle.sp_base.specs.Steps.{AfterShut as LinkShut}
 use Rattle.sp_base.specs.Wires.{OverLink, scheme_number}

@@ -1,7 +1,7 @@
 -- What a greeting returns for the bytes that were fed.
 use Rattle.std.specs.Prelude.{◌≡◌, ◌≤◌, ◌<◌, ◌++◌, ℕ, Bool, true, false, List, length, take}
-use Rattle.sp_spec.specs.Outside.{IsPrefix}
-use Rattle.sp_spec.specs.SpTcp.{hello}
+use Rattle.sp_base.specs.Outside.{IsPrefix}
+use Rattle.sp_base.specs.SpTcp.{hello}
 use Rattle.sp_base.specs.Roles.{role_number, role_peer}
 use Rattle.sp_base.specs.declared.role.Role.{Role}
 use Rattle.sp_tcp.specs.declared.greeting.Greeted.{Greeted}

@@ -1,8 +1,8 @@
 -- Frames with the bytes that stand before their sizes. SP over TCP has none there.
 use Rattle.std.specs.Prelude.{◌≡◌, ◌<◌, ◌≤◌, ◌+◌, ◌++◌, ◌⊎◌, ℕ, List, length}
 use Rattle.std.specs.List.{flat_map}
-use Rattle.sp_spec.specs.Outside.{IsPrefix}
-use Rattle.sp_spec.specs.SpTcp.{frame}
+use Rattle.sp_base.specs.Outside.{IsPrefix}
+use Rattle.sp_base.specs.SpTcp.{frame}
 use Rattle.sp_tcp.specs.Readings.{IsPart, IsTooLong}
 use Rattle.sp_tcp.specs.declared.reader.Prefix.{Prefix}
 use Rattle.sp_tcp.specs.declared.reader.Prefix.TheVariants as f

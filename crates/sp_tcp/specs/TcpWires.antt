@@ -1,8 +1,8 @@
 -- What a wire over a link shows, and what ties it to its link.
 use Rattle.std.specs.Prelude.{◌≡◌, ◌≤◌, ◌<◌, ◌+◌, ◌-◌, ◌^◌, ◌++◌, ◌⊎◌, ℕ, true, false, List, [], ◌∷◌, length, take, drop, Option, Some, None}
 use Rattle.std.specs.Int.{w16, from_be_bytes}
-use Rattle.sp_spec.specs.SpTcp.{hello, frame, frames, text, shows, Fit, IsOversize}
-use Rattle.sp_spec.specs.Outside.{Rose, Told, IsPrefix}
+use Rattle.sp_base.specs.SpTcp.{hello, frame, frames, text, shows, Fit, IsOversize}
+use Rattle.sp_base.specs.Outside.{Rose, Told, IsPrefix}
 use Rattle.sp_base.specs.Views.{LinkView}
 use Rattle.sp_base.specs.Steps.{Came, Went}
 use Rattle.sp_base.specs.Roles.{role_number, role_peer}

@@ -1,7 +1,7 @@
 //! Greetings (SP TCP mapping, "Connection initiation"): each side writes its own 8 bytes first, and reads those
 //! of its peer's role.
 ghost use Rattle.std.specs.Prelude.{◌≡◌, ◌≤◌, ◌+◌, ◌++◌, ◌↔◌, ℕ, true, [], take, drop, length, IsTrue};
-ghost use Rattle.sp_spec.specs.SpTcp.{hello};
+ghost use Rattle.sp_base.specs.SpTcp.{hello};
 ghost use Rattle.sp_base.specs.Roles.{role_number};
 ghost use Rattle.sp_tcp.specs.Greetings.{FedAs, peer_hello};
 
@@ -40,7 +40,7 @@ pub struct Greeting {
 
 impl Model for Greeting {
     ghost use Rattle.std.specs.Prelude.{take, length, ◌≤◌, ◌≡◌};
-    ghost use Rattle.sp_spec.specs.SpTcp.{hello};
+    ghost use Rattle.sp_base.specs.SpTcp.{hello};
     ghost use Rattle.sp_base.specs.Roles.{role_number};
     ghost use Rattle.sp_tcp.specs.Views.{GreetingView};
     ghost use Rattle.sp_tcp.specs.Greetings.{peer_hello, AreGreetings};

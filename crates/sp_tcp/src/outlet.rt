@@ -1,7 +1,7 @@
 //! What was put and is not wholly written.
 ghost use Rattle.std.specs.Prelude.{◌≡◌, ◌≤◌, ◌<◌, ◌+◌, ◌-◌, ◌^◌, ◌++◌, ◌∷◌, ℕ, List, [], true, take, drop, length, map, IfOk};
 ghost use Rattle.std.specs.VecDeque.{deque_capacity};
-ghost use Rattle.sp_spec.specs.SpTcp.{frame};
+ghost use Rattle.sp_base.specs.SpTcp.{frame};
 ghost use Rattle.sp_tcp.specs.Marked.{marked, marked_all, head_of, IsMark};
 ghost use Rattle.sp_msg.specs.Views.{wire_text};
 ghost use Rattle.sp_tcp.specs.Stages.{added, gathered};

@@ -1,7 +1,7 @@
 //! Pending operations by their slot and in the bucket of their context.
 use crate::checks::{made, same, some};
+use core_state::PendingOps;
 use sp_base::{Ctx, OpName};
-use sp_pending::PendingOps;
 
 const FIRST: OpName = OpName {
     slot: 2,

@@ -1,6 +1,6 @@
 //! A counter and a register that threads use in turns.
 use crate::checks::{made, same};
-use turn_lock_uses::{count_in_turns, write_in_turns};
+use ex_turn_lock::{count_in_turns, write_in_turns};
 
 #[test]
 fn two_threads_add_in_turns(rt: HostRuntime) {

@@ -4,12 +4,12 @@ ghost use Rattle.sp_proto.specs.Kinds.{Kind, Starts};
 
 use crate::checks::{holds, is_right, same};
 use crate::roles::{driver, pair, pair_plays};
-use core_plays::CorePlay;
 use sp_base::SpError;
 use sp_core::AttachError;
 use sp_proto::Proto;
 use std::process::Abort;
 use std::sync::Wait;
+use test_core_plays::CorePlay;
 
 // A core over the machine, which is a pair's, has one peer at a time.
 fn has_one_peer<P: Proto + Drop, R: AllocGlobal + Wait + Abort>(rt: &R, machine: P)

@@ -1,17 +1,17 @@
 //! Pipes: their numbers, how they go down, and the wires that come back.
 ghost use Rattle.std.specs.Prelude.{◌≡◌};
-ghost use Rattle.core_parts.specs.Wires.{IsUnused};
+ghost use Rattle.core_state.specs.Wires.{IsUnused};
 ghost use Rattle.sp_proto.specs.Kinds.{Kind, Starts};
 
 use crate::checks::{fails, same};
 use crate::roles::{driver, driver_plays, plays, pull, pull_plays, push_plays};
-use core_plays::{Fails, PlayWire, wire};
 use sp_base::SpError;
 use sp_core::Core;
 use sp_msg::Wire;
 use sp_proto::Proto;
 use std::process::Abort;
 use std::sync::Wait;
+use test_core_plays::{Fails, PlayWire, wire};
 use turn_lock::Stands;
 
 #[test]

@@ -4,8 +4,6 @@ ghost use Rattle.sp_history.specs.Options.{Fits};
 ghost use Rattle.sp_proto.specs.Kinds.{Kind, Starts};
 
 use crate::checks::{fails, is_right};
-use core_driver::Driver;
-use core_plays::{CorePlay, PlayWire};
 use proto_bus::Bus;
 use proto_pair::Pair;
 use proto_pipeline::{Pull, Push};
@@ -18,6 +16,8 @@ use sp_proto::Proto;
 use std::alloc::Global;
 use std::process::Abort;
 use std::sync::Wait;
+use test_core_driver::Driver;
+use test_core_plays::{CorePlay, PlayWire};
 
 /// A core over the machine, of so many slots, with the operations that one caller began.
 pub fn driver<P: Proto + Drop, R: AllocGlobal + Abort>(

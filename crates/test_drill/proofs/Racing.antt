@@ -11,7 +11,7 @@ use Rattle.proto_pipeline.specs.PullLaws as laws
 use Rattle.sp_socket.specs.Passes.{SocketName, PassView}
 use Rattle.sp_socket.proofs.Held.{all_keep}
 use Rattle.cat_play.specs.Drilling.{drill_setting}
-use Rattle.drill_rounds.specs.Calling.{IsDrillPass, Calls, Worked}
+use Rattle.cat_drill.specs.Calling.{IsDrillPass, Calls, Worked}
 
 -- a call that collects nothing leaves open what was
 pub still_calls : (s : SocketName) (p q : PassView) (ops : List OpName) → Worked p q → Calls s p ops → Calls s q ops

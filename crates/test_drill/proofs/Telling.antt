@@ -1,7 +1,7 @@
 -- What an end can't return after it was told.
 use Rattle.std.proofs.Common.{◌≡◌, ◌+◌, ◌<◌, ℕ, List, [], ◌∷◌, ◌++◌, length, ap, ◌∙◌, subst, arith, length-append}
 use Rattle.sp_lane.specs.declared.item.LaneItem.{LaneItem}
-use Rattle.sp_spec.specs.Outside.{IsPrefix}
+use Rattle.sp_base.specs.Outside.{IsPrefix}
 use Rattle.sp_lane.specs.Lanes.{InView, OutView, DidPut, FoundFull, FoundEmpty}
 
 prefix_length : (prefix all : List LaneItem) (p : IsPrefix prefix all) → length all ≡ length prefix + length p.0

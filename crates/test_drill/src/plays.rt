@@ -16,11 +16,11 @@
 //! At the end stand three numbers, as in `96 1..64 0..1`: how many receives were begun in all, how many messages came
 //! of the wire, and how many of these were given to nobody.
 ghost use Rattle.std.specs.Prelude.{◌≡◌, ◌≤◌, []};
-ghost use Rattle.core_parts.specs.Wires.{IsUnused};
+ghost use Rattle.core_state.specs.Wires.{IsUnused};
 ghost use Rattle.sp_socket.specs.Passes.{new_list};
 ghost use Rattle.cat_play.specs.Drilling.{drill_setting};
-ghost use Rattle.drill_rounds.specs.Calling.{IsDrillPass, Worked, AreFourCallers};
-ghost use Rattle.drill_rounds.specs.DrillWires.{IsSource};
+ghost use Rattle.cat_drill.specs.Calling.{IsDrillPass, Worked, AreFourCallers};
+ghost use Rattle.cat_drill.specs.DrillWires.{IsSource};
 ghost use Rattle.cat_drill.specs.Ending.{IsOut};
 
 use crate::words::{Range, range_of};

@@ -2,7 +2,7 @@
 ghost use Rattle.std.specs.Prelude.{◌≡◌, ◌++◌, ◌∷◌, [], IfErr, IfOk};
 ghost use Rattle.aio_word.specs.Views.{Each};
 ghost use Rattle.sp_proto.specs.Kinds.{Kind, Starts};
-ghost use Rattle.core_parts.specs.Wires.{IsUnused};
+ghost use Rattle.core_state.specs.Wires.{IsUnused};
 ghost use Rattle.sp_socket.specs.Passes.{IsOf};
 ghost use Rattle.sp_socket.specs.Open.{IsOpenFor};
 ghost use Rattle.sp_socket.specs.Finishing.{HasSeenClose};

@@ -1,7 +1,7 @@
 //! A turn that is held up by its wire: others wait for no more than that turn, and a cancel doesn't wait at all. No
 //! socket shuts a wire.
 ghost use Rattle.std.specs.Prelude.{◌≡◌};
-ghost use Rattle.core_parts.specs.Wires.{IsUnused};
+ghost use Rattle.core_state.specs.Wires.{IsUnused};
 
 use crate::checks::{holds, is_right};
 use crate::machines::{pull, wire};

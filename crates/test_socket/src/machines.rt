@@ -6,7 +6,7 @@ ghost use Rattle.sp_proto.specs.Kinds.{Kind, Starts};
 ghost use Rattle.proto_pipeline.specs.Pulls.{Ties as PullTies};
 ghost use Rattle.proto_pipeline.specs.Pushes.{Ties as PushTies};
 ghost use Rattle.proto_pubsub.specs.Subs.{Ties as SubTies};
-ghost use Rattle.core_parts.specs.Wires.{IsUnused};
+ghost use Rattle.core_state.specs.Wires.{IsUnused};
 
 use crate::checks::is_right;
 use crate::line::bytes_of;

@@ -1,7 +1,7 @@
 //! What a user of the library writes to receive one message.
 ghost use Rattle.std.specs.Prelude.{◌≡◌};
 ghost use Rattle.sp_proto.specs.Kinds.{Kind, Starts};
-ghost use Rattle.core_parts.specs.Wires.{IsUnused};
+ghost use Rattle.core_state.specs.Wires.{IsUnused};
 
 use proto_pipeline::Pull;
 use sp_base::{Ctx, Role};

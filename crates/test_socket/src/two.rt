@@ -1,7 +1,7 @@
 //! What a user of the library writes to have two requests under way at once.
 ghost use Rattle.std.specs.Prelude.{◌≡◌};
 ghost use Rattle.sp_proto.specs.Kinds.{Kind, Starts};
-ghost use Rattle.core_parts.specs.Wires.{IsUnused};
+ghost use Rattle.core_state.specs.Wires.{IsUnused};
 ghost use Rattle.sp_socket.specs.Passes.{IsOf};
 
 use proto_reqrep::Request;

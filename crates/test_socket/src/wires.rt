@@ -1,6 +1,6 @@
 //! The wires of a play.
 ghost use Rattle.std.specs.Prelude.{◌≡◌, IfSome};
-ghost use Rattle.core_parts.specs.Wires.{IsUnused};
+ghost use Rattle.core_state.specs.Wires.{IsUnused};
 
 use sp_msg::Wire;
 use std::alloc::Global;
@@ -17,7 +17,7 @@ pub struct UnusedWires<W: Wire> {
 impl<W: Wire> Model for UnusedWires<W> {
     ghost use Rattle.std.specs.Prelude.{ℕ, length};
     ghost use Rattle.aio_word.specs.Views.{Each};
-    ghost use Rattle.core_parts.specs.Wires.{IsUnused};
+    ghost use Rattle.core_state.specs.Wires.{IsUnused};
 
     ghost Value = { ℕ };
 

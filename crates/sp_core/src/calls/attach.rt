@@ -4,7 +4,7 @@ ghost use Rattle.std.specs.Prelude.{◌≡◌, [], IfErr};
 ghost use Rattle.sp_history.specs.declared.entry.Entry.TheVariants.{Met, NoUp};
 ghost use Rattle.sp_history.specs.Moments.{Moment};
 ghost use Rattle.sp_proto.specs.Machines.{NoFlood};
-ghost use Rattle.core_parts.specs.Wires.{IsUnused};
+ghost use Rattle.core_state.specs.Wires.{IsUnused};
 ghost use Rattle.sp_core.specs.Owning.{Owns};
 ghost use Rattle.sp_core.specs.Standing.{HasFirst};
 ghost use Rattle.sp_core.specs.Attaching.{NotesLink, TookWire};
@@ -12,7 +12,7 @@ ghost use Rattle.sp_core.specs.ServeSteps.{BringsUp, TellsMayAttach, LeavesNumbe
 ghost use Rattle.sp_core.specs.CallSays.{MayTakeTurn, AttachesWire, TakesOneTurn};
 
 use crate::owner::Core;
-use core_parts::{AttachError, DownPipe, has_its_one};
+use core_state::{AttachError, DownPipe, has_its_one};
 use sp_base::PipeId;
 use sp_history::entry::{Miss, Why};
 use sp_msg::Wire;

@@ -1,7 +1,7 @@
 //! Operations begin.
 ghost use Rattle.std.specs.Prelude.{◌≡◌, ◌≢◌, [], Err, IfErr, IfOk, IfSome};
 ghost use Rattle.sp_history.specs.Moments.{Moment};
-ghost use Rattle.sp_pending.specs.Pendings.{IsAmong};
+ghost use Rattle.core_state.specs.Pendings.{IsAmong};
 ghost use Rattle.sp_proto.specs.Kinds.{entry_act};
 ghost use Rattle.sp_core.specs.Cores.{pending_of};
 ghost use Rattle.sp_core.specs.Owning.{Owns, IsInTurn};
@@ -11,11 +11,10 @@ ghost use Rattle.sp_core.specs.CallSays.{MayTakeTurn, BeginsRecv, BeginsSend, Ta
 
 use crate::ops::Op;
 use crate::owner::Core;
-use core_parts::{BeginError, Decision};
+use core_state::{BeginError, Decision, PendingOperation};
 use sp_base::{Ctx, OpName, Tick};
 use sp_history::entry::Entry;
 use sp_msg::{Message, Wire};
-use sp_pending::PendingOperation;
 use sp_proto::{Act, CheckError, Proto, Verb};
 use std::sync::Wait;
 use turn_lock::Stands;

@@ -11,7 +11,7 @@ ghost use Rattle.sp_core.specs.CollectSteps.{DrawsToReceive, ReceivesAtOnce, Tri
 ghost use Rattle.sp_core.specs.CallSays.{MayTakeTurn, ReceivesNow, TakesOneTurn};
 
 use crate::owner::Core;
-use core_parts::{NowError, Outcome};
+use core_state::{NowError, Outcome};
 use sp_base::{Ctx, OpName};
 use sp_history::entry::Entry;
 use sp_msg::{Message, Wire};

@@ -1,8 +1,8 @@
 use Rattle.std.proofs.Common.{subst}
 use Rattle.sp_history.specs.Past.{past_of}
 use Rattle.sp_core.specs.Parts.{HasWires}
-use Rattle.drill_rounds.specs.Calling.{IsDrillPass}
-use Rattle.drill_rounds.proofs.DrillCallers.{still_own, turn_later}
+use Rattle.cat_drill.specs.Calling.{IsDrillPass}
+use Rattle.cat_drill.proofs.DrillCallers.{still_own, turn_later}
 use Rattle.cat_drill.proofs.EndOfDrill.{returned, record_drills, closes_with, totals_seen}
 use Rattle.cat_drill.proofs.ending.close_all.Goals as goal
 

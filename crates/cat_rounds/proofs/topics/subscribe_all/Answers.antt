@@ -5,7 +5,7 @@ use Rattle.sp_history.specs.declared.setting.Setting.{Setting}
 use Rattle.sp_history.specs.Legal.{has_topic}
 use Rattle.sp_history.specs.Past.{past_of, topics}
 use Rattle.sp_history.specs.Setting.{has_topics}
-use Rattle.cat_player.specs.Lasting.{AreOn}
+use Rattle.cat_rounds.specs.Lasting.{AreOn}
 use Rattle.cat_rounds.specs.SubscribedTopics.{CanSubscribe}
 use Rattle.cat_rounds.proofs.Subscribing.{prepares_nothing, prepares_then, are_still_on, on_next, is_planned, is_short, is_supported}
 use Rattle.cat_rounds.proofs.topics.subscribe_all.Goals as goal

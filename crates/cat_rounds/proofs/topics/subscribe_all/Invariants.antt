@@ -1,6 +1,6 @@
 use Rattle.std.proofs.Common.{take}
 use Rattle.sp_history.specs.Past.{past_of}
-use Rattle.cat_player.specs.Lasting.{AreOn}
+use Rattle.cat_rounds.specs.Lasting.{AreOn}
 use Rattle.cat_rounds.specs.SubscribedTopics.{Prepares}
 use Rattle.cat_rounds.proofs.topics.subscribe_all.Given as goal
 

@@ -1,9 +1,9 @@
 use Rattle.std.proofs.Common.{◌≡◌, false, sym, ap, ◌∙◌, subst, List}
 use Rattle.std.specs.Option.{option_map}
-use Rattle.end_parts.specs.EndViews.{EndsView}
+use Rattle.sp_ends.specs.EndViews.{EndsView}
 use Rattle.cat_text.specs.declared.plan.End.{End}
 use Rattle.cat_play.specs.declared.status.Status.{Status}
-use Rattle.link_opening.specs.Origins.{run_ways}
+use Rattle.sp_links.specs.Origins.{run_ways}
 use Rattle.cat_play.specs.Running.{world, run_setting, RunsPlan, EndsPlan}
 use Rattle.std.specs.List.{AllByRecursion}
 use Rattle.cat_rounds.specs.RunRounds.{RunStands, is_dry_at}

@@ -1,5 +1,5 @@
 use Rattle.std.proofs.Common.{◌≡◌, ℕ, List, [], ◌∷◌, ◌++◌, map, refl}
-use Rattle.sp_spec.specs.Print.{ascii, visible}
+use Rattle.sp_base.specs.Print.{ascii, visible}
 use Rattle.cat_text.proofs.Placing.{more_as}
 use Rattle.cat_text.proofs.printing.put_line.Goals as goal
 

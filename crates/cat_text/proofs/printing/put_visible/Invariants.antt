@@ -1,5 +1,5 @@
 use Rattle.std.proofs.Common.{◌≡◌, ◌+◌, take, map}
-use Rattle.sp_spec.specs.Print.{visible}
+use Rattle.sp_base.specs.Print.{visible}
 use Rattle.cat_text.specs.Placing.{Puts}
 use Rattle.cat_text.proofs.printing.put_visible.Given as goal
 

@@ -2,8 +2,8 @@ use Rattle.std.proofs.Common.{◌∙◌, ◌++◌, refl, ap, Option}
 use Rattle.std.specs.Prelude.{option_to_list}
 use Rattle.sp_msg.specs.Views.{MessageView}
 use Rattle.sp_history.specs.declared.entry.Entry.TheVariants.{Out}
-use Rattle.proto_floods.proofs.Copying.{lawful_before}
-use Rattle.proto_floods.proofs.Sending.{of_some}
+use Rattle.proto_shared.proofs.Copying.{lawful_before}
+use Rattle.proto_shared.proofs.Sending.{of_some}
 use Rattle.proto_bus.proofs.Bussed.{flood_ties}
 use Rattle.proto_bus.proofs.BusProto.flood.Goals as goal
 

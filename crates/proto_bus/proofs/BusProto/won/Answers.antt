@@ -9,7 +9,7 @@ use Rattle.sp_history.specs.Past.{pend}
 use Rattle.sp_history.specs.Moments.{past}
 use Rattle.sp_proto.specs.Kinds.{text_of}
 use Rattle.sp_proto.specs.Machines.{message_of}
-use Rattle.proto_floods.proofs.Sending.{won_send}
+use Rattle.proto_shared.proofs.Sending.{won_send}
 use Rattle.proto_bus.proofs.Bussed.{given_ties, flooded_ties}
 use Rattle.proto_bus.proofs.BusProto.won.Goals as goal
 

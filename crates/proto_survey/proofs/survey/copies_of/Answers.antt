@@ -1,7 +1,7 @@
 use Rattle.std.proofs.Common.{◌≡◌, ◌++◌, ◌∷◌, [], ap, arith, length, length-append, subst, sym, refl, rules, List}
 use Rattle.sp_msg.specs.Views.{MessageView}
 use Rattle.proto_survey.specs.Surveys.{AreSame}
-use Rattle.proto_floods.proofs.Copying.{each_more}
+use Rattle.proto_shared.proofs.Copying.{each_more}
 use Rattle.proto_survey.proofs.survey.copies_of.Goals as goal
 
 pub loop-preserved : goal.loop-preserved

@@ -2,7 +2,7 @@ use Rattle.std.proofs.Common.{◌≡◌, ◌≤◌, ◌-◌, ℕ, List, length, 
 use Rattle.std.proofs.lemmas.List.{take_rest}
 use Rattle.sp_base.specs.Readers.{HasVisible}
 use Rattle.sp_base.specs.Addresses.{IsName}
-use Rattle.sp_spec.specs.Prefixes.{IsCutAtOne}
+use Rattle.sp_base.specs.Prefixes.{IsCutAtOne}
 use Rattle.sp_base.proofs.Forms.{name_short, name_one}
 use Rattle.sp_base.proofs.addr.name.Goals as goal
 

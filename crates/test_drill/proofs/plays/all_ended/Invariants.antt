@@ -1,4 +1,4 @@
-use Rattle.drill_rounds.specs.Calling.{IsDrillPass, Worked}
+use Rattle.cat_drill.specs.Calling.{IsDrillPass, Worked}
 use Rattle.test_drill.proofs.plays.all_ended.Given as goal
 
 abbrev pub invariant-loop-place : goal.invariant-loop-place

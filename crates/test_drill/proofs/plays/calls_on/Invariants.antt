@@ -1,6 +1,6 @@
 use Rattle.std.proofs.Common.{[]}
-use Rattle.drill_rounds.specs.Calling.{AreFourCallers}
-use Rattle.drill_rounds.specs.DrillWires.{IsSource}
+use Rattle.cat_drill.specs.Calling.{AreFourCallers}
+use Rattle.cat_drill.specs.DrillWires.{IsSource}
 use Rattle.test_drill.proofs.plays.calls_on.Given as goal
 
 abbrev pub invariant-loop-line : goal.invariant-loop-line

@@ -1,7 +1,7 @@
 use Rattle.std.proofs.Common.{ap, length, arith}
 use Rattle.std.proofs.lemmas.List.{length-append}
-use Rattle.sp_spec.specs.SpTcp.{frame}
-use Rattle.sp_spec.proofs.Shows.{length-frame}
+use Rattle.sp_base.specs.SpTcp.{frame}
+use Rattle.sp_base.proofs.Shows.{length-frame}
 use Rattle.test_wire.proofs.tests.plainly.Goals as goal
 
 pub pass-requires : goal.pass-requires

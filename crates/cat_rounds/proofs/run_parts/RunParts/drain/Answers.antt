@@ -1,10 +1,10 @@
 use Rattle.std.proofs.Common.{sym, subst, ap, ◌∙◌, ◌≡◌, refl, Some, None, true, false, ℕ, Bool, inl, inr}
 use Rattle.std.specs.Prelude.{◌⊎◌, ◌&&◌, not, Option}
-use Rattle.cat_player.specs.declared.player.PlayEnd.TheVariants as overs
+use Rattle.cat_rounds.specs.declared.player.PlayEnd.TheVariants as overs
 use Rattle.cat_rounds.specs.Parts.{RunPartsView, IsAt}
 use Rattle.cat_rounds.specs.declared.rounds.Round.{Round}
 use Rattle.sp_history.specs.Past.{past_of, now}
-use Rattle.cat_player.specs.declared.player.PlayEnd.{PlayEnd}
+use Rattle.cat_rounds.specs.declared.player.PlayEnd.{PlayEnd}
 use Rattle.cat_rounds.specs.declared.stillness.Stillness.{Stillness}
 use Rattle.cat_rounds.specs.Stillness.{noted_still, gives_up, gives_up_at}
 use Rattle.cat_rounds.specs.RunRounds.{AreCleared, IsThrough, IsThroughOrGivenUp, RoundGoesTo, DrainsFor, has_more}

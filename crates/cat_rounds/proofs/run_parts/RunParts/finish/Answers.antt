@@ -2,8 +2,8 @@ use Rattle.std.proofs.Common.{refl, sym, subst, List}
 use Rattle.turn_lock.specs.declared.turn.Turn.{Turn}
 use Rattle.sp_history.specs.declared.entry.Entry.{Entry}
 use Rattle.sp_core.specs.Collecting.{IsOpen}
-use Rattle.end_wire.specs.EndWires.{shown}
-use Rattle.cat_player.specs.Lasting.{IsUnderWay}
+use Rattle.sp_links.specs.EndWires.{shown}
+use Rattle.cat_rounds.specs.Lasting.{IsUnderWay}
 use Rattle.cat_rounds.specs.Parts.{RunPartsView}
 use Rattle.cat_rounds.specs.RunRounds.{LinksStand, is_dry_at}
 use Rattle.cat_rounds.proofs.RunEnd.{IsEnding, hand_closed, legal_record, play_closes, ends_stand, wires_are, finishes}

@@ -1,8 +1,8 @@
 use Rattle.std.proofs.Common.{◌≡◌, ◌<◌, ◌+◌, ◌++◌, ◌∙◌, sym, subst, ap, arith, length, take, List, ℕ, inl, inr}
 use Rattle.std.proofs.lemmas.List.{take_all}
 use Rattle.cat_play.specs.Spending.{listens_of, dials_of}
-use Rattle.sp_single.specs.Singles.{SingleView}
-use Rattle.cat_player.specs.declared.player.Player.{Player}
+use Rattle.sp_socket.specs.Singles.{SingleView}
+use Rattle.cat_rounds.specs.declared.player.Player.{Player}
 use Rattle.cat_rounds.specs.SubscribedTopics.{CanSubscribe}
 use Rattle.sp_lane.specs.Registry.{AreApart}
 use Rattle.cat_rounds.specs.Built.{IsEndOf, listen_names}

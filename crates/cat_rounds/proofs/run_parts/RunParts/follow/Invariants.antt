@@ -1,6 +1,6 @@
 use Rattle.std.proofs.Common.{◌≡◌, ◌≤◌, ◌+◌, take, false, length}
 use Rattle.std.specs.List.{AllByRecursion}
-use Rattle.end_parts.specs.EndViews.{Beginning}
+use Rattle.sp_ends.specs.EndViews.{Beginning}
 use Rattle.cat_play.specs.Spending.{listens_of, dials_of}
 use Rattle.cat_rounds.specs.RunRounds.{LinksStand, RunStands}
 use Rattle.sp_lane.specs.Registry.{names, AreApart}

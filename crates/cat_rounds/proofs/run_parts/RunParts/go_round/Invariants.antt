@@ -1,10 +1,10 @@
 use Rattle.std.proofs.Common.{◌≡◌, ◌≤◌, ◌+◌, ℕ, List, Option, false, length}
-use Rattle.end_parts.specs.EndViews.{Beginning}
+use Rattle.sp_ends.specs.EndViews.{Beginning}
 use Rattle.sp_history.specs.Past.{past_of}
 use Rattle.sp_history.specs.Found.{ticks}
 use Rattle.sp_ends.specs.EndsTurns.{SameEnds}
-use Rattle.cat_player.specs.Lasting.{HasPrinted, MayTick}
-use Rattle.cat_player.specs.PlayerSteps.{SameScript}
+use Rattle.cat_rounds.specs.Lasting.{HasPrinted, MayTick}
+use Rattle.cat_rounds.specs.PlayerSteps.{SameScript}
 use Rattle.cat_rounds.specs.RunRounds.{LinksStand, RunStands, past_now}
 use Rattle.cat_rounds.specs.Late.{IsLateBy}
 use Rattle.cat_rounds.proofs.run_parts.RunParts.go_round.Given as goal

@@ -1,5 +1,5 @@
 use Rattle.std.proofs.Common.{rules, ◌≡◌, arith}
-use Rattle.cat_player.specs.declared.player.PlayEnd.TheVariants as overs
+use Rattle.cat_rounds.specs.declared.player.PlayEnd.TheVariants as overs
 use Rattle.cat_rounds.proofs.Opened.{running_in}
 use Rattle.cat_rounds.proofs.Rounding.{free_at_end}
 use Rattle.cat_rounds.proofs.run_parts.RunParts.play.Goals as goal

@@ -1,8 +1,8 @@
 use Rattle.std.proofs.Common.{◌≡◌, ◌<◌, ◌≤◌, ◌+◌, length}
-use Rattle.cat_player.specs.Lasting.{HasServed, HasPlayed}
+use Rattle.cat_rounds.specs.Lasting.{HasServed, HasPlayed}
 use Rattle.cat_rounds.specs.Parts.{IsAt}
 use Rattle.cat_rounds.proofs.Rounding.{Along}
-use Rattle.cat_player.specs.declared.player.PlayEnd.TheVariants as overs
+use Rattle.cat_rounds.specs.declared.player.PlayEnd.TheVariants as overs
 use Rattle.cat_rounds.proofs.run_parts.RunParts.play.Given as goal
 
 abbrev pub invariant-sweeps : goal.invariant-sweeps

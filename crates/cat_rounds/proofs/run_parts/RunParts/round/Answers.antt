@@ -1,11 +1,11 @@
 use Rattle.std.proofs.Common.{◌≡◌, sym, ◌∙◌, ap, subst, refl, inl, inr, false}
-use Rattle.end_parts.specs.SocketSteps.{IsDry}
-use Rattle.cat_player.specs.Lasting.{HasPrinted}
-use Rattle.end_parts.specs.EndViews.{Beginning}
+use Rattle.sp_ends.specs.SocketSteps.{IsDry}
+use Rattle.cat_rounds.specs.Lasting.{HasPrinted}
+use Rattle.sp_ends.specs.EndViews.{Beginning}
 use Rattle.cat_rounds.specs.Parts.{RunPartsView}
 use Rattle.cat_rounds.proofs.Opened.{running_of, at_of, run_of, running_in}
 use Rattle.cat_rounds.proofs.WholeRounds.{HasTicked, MayRound, opens, quiet_stands, quiet_texts, prints_on, quiet_ticks, on_ticks, run_on, names_then, same_played, round_stands, round_prints, cut_nowhere}
-use Rattle.cat_player.specs.declared.player.Player.{Player}
+use Rattle.cat_rounds.specs.declared.player.Player.{Player}
 use Rattle.cat_rounds.specs.declared.rounds.Going.TheVariants as goings
 use Rattle.cat_rounds.proofs.Late.{late_tick, late_quiet, late_on, late_then, ends_late, goes_early, drains_late, open_or}
 use Rattle.cat_rounds.specs.RunRounds.{GoesTo, LinksStand}

@@ -3,8 +3,8 @@ use Rattle.std.specs.Prelude.{is_some}
 use Rattle.sp_base.specs.declared.OpName.{OpName}
 use Rattle.sp_history.specs.Past.{past_of}
 use Rattle.cat_play.specs.Scripts.{under_way}
-use Rattle.cat_player.specs.Lasting.{HasServed, HasPlayed}
-use Rattle.cat_player.specs.PlayerSteps.{KnowsPipes}
+use Rattle.cat_rounds.specs.Lasting.{HasServed, HasPlayed}
+use Rattle.cat_rounds.specs.PlayerSteps.{KnowsPipes}
 use Rattle.cat_rounds.specs.Parts.{RunPartsView}
 use Rattle.cat_rounds.proofs.Opened.{running_of, stands_in}
 use Rattle.cat_rounds.proofs.Rounding.{along_none, along_then, served_on}

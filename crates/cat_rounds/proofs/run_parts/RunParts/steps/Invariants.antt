@@ -1,8 +1,8 @@
 use Rattle.std.proofs.Common.{◌≡◌, ◌<◌, false}
 use Rattle.sp_history.specs.Past.{past_of}
 use Rattle.cat_play.specs.Scripts.{under_way}
-use Rattle.cat_player.specs.Lasting.{HasServed, HasPlayed}
-use Rattle.cat_player.specs.PlayerSteps.{Stands, KnowsPipes}
+use Rattle.cat_rounds.specs.Lasting.{HasServed, HasPlayed}
+use Rattle.cat_rounds.specs.PlayerSteps.{Stands, KnowsPipes}
 use Rattle.cat_rounds.proofs.Rounding.{Along}
 use Rattle.cat_rounds.proofs.run_parts.RunParts.steps.Given as goal
 

@@ -2,8 +2,8 @@ use Rattle.std.proofs.Common.{◌∙◌, ◌++◌, refl, ap, Option}
 use Rattle.std.specs.Prelude.{option_to_list}
 use Rattle.sp_msg.specs.Views.{MessageView}
 use Rattle.sp_history.specs.declared.entry.Entry.TheVariants.{Out}
-use Rattle.proto_floods.proofs.Copying.{lawful_before}
-use Rattle.proto_floods.proofs.Sending.{of_some}
+use Rattle.proto_shared.proofs.Copying.{lawful_before}
+use Rattle.proto_shared.proofs.Sending.{of_some}
 use Rattle.proto_pubsub.proofs.Published.{flood_ties}
 use Rattle.proto_pubsub.proofs.publish.PublishProto.flood.Goals as goal
 

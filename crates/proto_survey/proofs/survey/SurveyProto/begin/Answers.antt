@@ -1,4 +1,4 @@
-use Rattle.std.proofs.Common.{refl, ◌∙◌}
+use Rattle.std.proofs.Common.{refl, ap, length, List, ℕ, ◌∙◌, true, false, ◌≡◌}
 use Rattle.proto_survey.proofs.SurveyorArrivals.{recv_ties, raw_send_ties, send_ties}
 use Rattle.proto_survey.proofs.SurveyorMoments.{same_live}
 use Rattle.proto_survey.proofs.survey.SurveyProto.begin.Goals as goal
@@ -29,3 +29,9 @@ returns-in-Ok-ask-clause-copies c = rw c.in-Send.is (λ t h. c.in-Ok.ensures.all
 
 pub returns-in-Err-ask-clause-same : goal.returns-in-Err-ask-clause-same
 returns-in-Err-ask-clause-same c = λ t h. same_live c.args.self.now c.ask.new.self t c.in-Err-ask.ensures.same.1 c.in-Err-ask.ensures.same.0 h
+
+pub returns-in-Err-clause-fits : goal.returns-in-Err-clause-fits
+returns-in-Err-clause-fits c = λ t h raw none. let bad : false ≡ true = c.in-Err.ensures.none (h.0.1 ∙ ap (λ (ps : List ℕ). length ps) none) in cc
+
+pub returns-in-Err-ask-clause-fits : goal.returns-in-Err-ask-clause-fits
+returns-in-Err-ask-clause-fits c = λ t h raw none. cc

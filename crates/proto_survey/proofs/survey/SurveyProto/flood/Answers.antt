@@ -1,6 +1,6 @@
 use Rattle.std.proofs.Common.{◌∙◌, refl}
 use Rattle.sp_history.specs.declared.entry.Entry.TheVariants.{Out}
-use Rattle.proto_floods.proofs.Copying.{lawful_before}
+use Rattle.proto_shared.proofs.Copying.{lawful_before}
 use Rattle.proto_survey.proofs.SurveyorEnds.{flood_ties}
 use Rattle.proto_survey.proofs.survey.SurveyProto.flood.Goals as goal
 

@@ -1,7 +1,7 @@
 use Rattle.std.proofs.Common.{◌≡◌, ◌∙◌, sym, ap, arith, Some, None, find, length}
 use Rattle.std.specs.List.{position}
 use Rattle.sp_history.specs.Moments.{past}
-use Rattle.proto_floods.proofs.Copying.{calm}
+use Rattle.proto_shared.proofs.Copying.{calm}
 use Rattle.proto_requests.proofs.Positions.{found_at, not_found}
 use Rattle.proto_survey.specs.declared.waiting.SurveyOperation.{SurveyOperation}
 use Rattle.proto_survey.specs.Askings.{is_sending}

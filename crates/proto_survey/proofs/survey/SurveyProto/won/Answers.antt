@@ -6,7 +6,7 @@ use Rattle.sp_history.specs.declared.parts.Begun.{Begun}
 use Rattle.sp_proto.specs.Kinds.{text_of}
 use Rattle.proto_requests.specs.FirstFound.{with_found}
 use Rattle.proto_survey.specs.Lives.{SurveyView, is_live_on, given_from, first_in}
-use Rattle.proto_floods.proofs.Sending.{won_send}
+use Rattle.proto_shared.proofs.Sending.{won_send}
 use Rattle.proto_survey.proofs.Writing.{found_written}
 use Rattle.proto_survey.proofs.SurveyorEnds.{none_taken, is_begun, recv_is, send_is, none_in, not_received, not_sent, flooded_ties, given_raw, given_cooked, oldest_raw, oldest_cooked}
 use Rattle.proto_survey.proofs.survey.SurveyProto.won.Goals as goal

@@ -1,6 +1,6 @@
 use Rattle.std.proofs.Common.{ap, ◌∙◌}
 use Rattle.sp_history.specs.declared.entry.Ending.TheVariants.{Gone}
-use Rattle.core_parts.specs.declared.op_words.OpWords.{OpWords}
+use Rattle.core_state.specs.declared.op_words.OpWords.{OpWords}
 use Rattle.sp_core.proofs.GoneOperations.{owns_decided}
 use Rattle.sp_core.proofs.owner.Core.note_found.Goals as goal
 

@@ -8,13 +8,13 @@ use Rattle.sp_history.specs.declared.entry.Ending.TheVariants.{Gone}
 use Rattle.sp_history.specs.declared.entry.Entry.TheVariants.{End}
 use Rattle.sp_history.specs.Past.{pending}
 use Rattle.sp_history.specs.Moments.{also, past}
-use Rattle.sp_pending.proofs.Walks.{off}
+use Rattle.core_state.proofs.Walks.{off}
 use Rattle.sp_core.specs.Looking.{reads_of}
-use Rattle.core_parts.specs.Reads.{Grows}
-use Rattle.core_parts.specs.PartSteps.{LeavesPending}
-use Rattle.core_parts.proofs.Among.{pending_there}
+use Rattle.core_state.specs.Reads.{Grows}
+use Rattle.core_state.specs.PartSteps.{LeavesPending}
+use Rattle.core_state.proofs.Among.{pending_there}
 use Rattle.sp_core.proofs.MomentSteps.{with_op_words, is_gone, later-now, later-one}
-use Rattle.core_parts.specs.declared.op_words.OpWords.{OpWords}
+use Rattle.core_state.specs.declared.op_words.OpWords.{OpWords}
 use Rattle.sp_core.proofs.GoneOperations.{owns_decided}
 use Rattle.sp_core.proofs.owner.Core.note_if_ended.Goals as goal
 

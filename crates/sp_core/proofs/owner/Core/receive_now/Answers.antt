@@ -1,7 +1,7 @@
 use Rattle.std.proofs.Common.{◌∙◌, refl, subst, rules}
 use Rattle.std.specs.Prelude.{Option, Result, Ok}
 use Rattle.sp_msg.specs.Views.{MessageView}
-use Rattle.core_parts.specs.declared.causes.NowError.{NowError}
+use Rattle.core_state.specs.declared.causes.NowError.{NowError}
 use Rattle.sp_core.specs.Immediate.{TriedTo}
 use Rattle.sp_core.proofs.ContextLooks.{grows_none, grows_trans}
 use Rattle.sp_core.proofs.ReceivedAtOnce.{lost_more, lost_none}

@@ -2,7 +2,7 @@ use Rattle.std.proofs.Common.{◌≡◌, []}
 use Rattle.sp_history.specs.Moments.{Moment}
 use Rattle.sp_core.specs.Immediate.{LostTo}
 use Rattle.sp_core.specs.Looking.{reads_of}
-use Rattle.core_parts.specs.Reads.{Grows}
+use Rattle.core_state.specs.Reads.{Grows}
 use Rattle.sp_core.specs.Owning.{Owns}
 use Rattle.sp_core.specs.Standing.{IsSettled}
 use Rattle.sp_core.proofs.owner.Core.receive_now.Given as goal

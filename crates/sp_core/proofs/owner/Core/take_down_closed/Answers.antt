@@ -1,7 +1,7 @@
 use Rattle.std.proofs.Common.{ap}
 use Rattle.sp_history.specs.declared.entry.Why.TheVariants as whys
-use Rattle.core_parts.specs.declared.op_words.OpWords.{OpWords}
-use Rattle.core_parts.proofs.PipeSteps.{up_at}
+use Rattle.core_state.specs.declared.op_words.OpWords.{OpWords}
+use Rattle.core_state.proofs.PipeSteps.{up_at}
 use Rattle.sp_core.proofs.Downs.{closes_down}
 use Rattle.sp_core.proofs.owner.Core.take_down_closed.Goals as goal
 

@@ -3,8 +3,8 @@ use Rattle.std.specs.Prelude.{◌∷◌}
 use Rattle.sp_history.specs.declared.entry.Why.TheVariants as whys
 use Rattle.sp_history.specs.declared.entry.Entry.TheVariants.{Clear, Stall, Down}
 use Rattle.sp_history.specs.Moments.{also}
-use Rattle.core_parts.specs.declared.op_words.OpWords.{OpWords}
-use Rattle.core_parts.proofs.PipeSteps.{up_at}
+use Rattle.core_state.specs.declared.op_words.OpWords.{OpWords}
+use Rattle.core_state.proofs.PipeSteps.{up_at}
 use Rattle.sp_core.proofs.Closings.{flush_lawful, flushed}
 use Rattle.sp_core.proofs.Downs.{closes_down}
 use Rattle.sp_core.proofs.owner.Core.take_one_down.Goals as goal

@@ -4,7 +4,7 @@ use Rattle.sp_history.specs.declared.entry.Entry.TheVariants.{End}
 use Rattle.sp_history.specs.Moments.{also}
 use Rattle.sp_core.specs.Immediate.{tried}
 use Rattle.sp_core.specs.Looking.{reads_of}
-use Rattle.core_parts.specs.Reads.{Grows}
+use Rattle.core_state.specs.Reads.{Grows}
 use Rattle.sp_core.proofs.ContextLooks.{grows_trans}
 use Rattle.sp_core.proofs.MoreReads.{grows_same}
 use Rattle.sp_core.proofs.ReceivedAtOnce.{now_begun, got, missed, never_sent}

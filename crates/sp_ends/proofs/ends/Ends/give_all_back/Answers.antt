@@ -5,9 +5,9 @@ use Rattle.sp_history.specs.declared.entry.Entry.{Entry}
 use Rattle.sp_history.specs.declared.setting.Setting.{Setting}
 use Rattle.sp_history.specs.Past.{past_of}
 use Rattle.sp_core.specs.Parts.{HasWires}
-use Rattle.end_wire.specs.EndWires.{shown}
-use Rattle.end_parts.specs.EndViews.{Beginning, LinkEndsView, EndsView}
-use Rattle.end_parts.specs.RunLinks.{EndsStand}
+use Rattle.sp_links.specs.EndWires.{shown}
+use Rattle.sp_ends.specs.EndViews.{Beginning, LinkEndsView, EndsView}
+use Rattle.sp_ends.specs.RunLinks.{EndsStand}
 use Rattle.sp_ends.proofs.ends.Ends.give_all_back.Goals as goal
 
 pub give_all_back-requires : goal.give_all_back-requires

@@ -1,6 +1,6 @@
 -- The turn is that of the ends over links, with the names.
 use Rattle.std.proofs.Common.{ap, sym, subst}
-use Rattle.end_parts.specs.EndViews.{Beginning, LinkEndsView, EndsView}
+use Rattle.sp_ends.specs.EndViews.{Beginning, LinkEndsView, EndsView}
 use Rattle.sp_ends.specs.EndsTurns.{EndsTicked}
 use Rattle.sp_ends.proofs.ends.Ends.turn.Goals as goal
 

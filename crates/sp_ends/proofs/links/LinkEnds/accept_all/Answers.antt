@@ -1,6 +1,6 @@
 -- Each listener is asked.
 use Rattle.std.proofs.Common.{◌≡◌, ◌*◌, ap, arith, length, subst}
-use Rattle.end_parts.specs.EndViews.{LinkEndsView}
+use Rattle.sp_ends.specs.EndViews.{LinkEndsView}
 use Rattle.sp_ends.specs.EndsTurns.{HasAskedTo}
 use Rattle.sp_ends.proofs.NewcomingAsks.{asked_first, asked_next, still_listens}
 use Rattle.sp_ends.proofs.links.LinkEnds.accept_all.Goals as goal

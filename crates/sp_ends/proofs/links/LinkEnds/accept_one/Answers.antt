@@ -1,6 +1,6 @@
 use Rattle.std.proofs.Common.{◌≡◌, Some, ap, slice_get, refl, arith, inl}
-use Rattle.end_parts.specs.EndViews.{LinkEndsView}
-use Rattle.end_parts.proofs.ListReads.{at_index}
+use Rattle.sp_ends.specs.EndViews.{LinkEndsView}
+use Rattle.sp_ends.proofs.ListReads.{at_index}
 use Rattle.sp_ends.proofs.TurnParts.{same_dialers}
 use Rattle.sp_ends.proofs.NewcomingTurn.{untouched}
 use Rattle.sp_ends.proofs.Arriving.{arrives_served}

@@ -2,11 +2,11 @@ use Rattle.std.proofs.Common.{◌≡◌, ◌+◌, ◌≤◌, ℕ, Some, refl, sy
 use Rattle.std.specs.Prelude.{◌^◌, ◌-◌}
 use Rattle.sp_base.specs.Addresses.{scheme_of}
 use Rattle.sp_base.specs.declared.addr.Scheme.{Scheme}
-use Rattle.link_opening.specs.Origins.{asking}
-use Rattle.end_parts.specs.declared.dialer.Dialer.{Dialer}
-use Rattle.end_parts.specs.EndViews.{LinkEndsView}
+use Rattle.sp_links.specs.Origins.{asking}
+use Rattle.sp_ends.specs.declared.dialer.Dialer.{Dialer}
+use Rattle.sp_ends.specs.EndViews.{LinkEndsView}
 use Rattle.sp_ends.specs.EndsTurns.{asked_after}
-use Rattle.end_parts.proofs.ListReads.{at_index}
+use Rattle.sp_ends.proofs.ListReads.{at_index}
 use Rattle.sp_ends.proofs.links.LinkEnds.asking.Goals as goal
 
 some_dialer : {a b : Dialer} → Some a ≡ Some b → a ≡ b

@@ -1,8 +1,8 @@
 -- Each address that is due is dialed.
 use Rattle.std.proofs.Common.{◌≡◌, ◌≤◌, ◌<◌, ◌-◌, length, ap, ◌∙◌, subst, sym, arith, refl}
 use Rattle.std.specs.Prelude.{◌^◌, IsTrue, true, false}
-use Rattle.end_parts.specs.EndViews.{LinkEndsView}
-use Rattle.end_parts.proofs.ListReads.{at_index}
+use Rattle.sp_ends.specs.EndViews.{LinkEndsView}
+use Rattle.sp_ends.proofs.ListReads.{at_index}
 use Rattle.sp_ends.specs.Freeing.{IsDue}
 use Rattle.sp_ends.proofs.FreedDialers.{turned_turns, turned_waits}
 use Rattle.sp_ends.proofs.NewcomingRounds.{dialing_first, dialing_waits, dialing_next, dialable_here, dialed_all, is_there, due_all}

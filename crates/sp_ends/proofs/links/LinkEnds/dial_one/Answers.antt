@@ -6,17 +6,17 @@ use Rattle.sp_base.specs.Views.{NetView}
 use Rattle.sp_base.specs.declared.error.NoMemory.{NoMemory}
 use Rattle.sp_base.specs.declared.outside.Linked.{Linked}
 use Rattle.sp_base.specs.declared.outside.Linked.TheVariants as linked
-use Rattle.link_opening.specs.declared.way.Way.{Way}
-use Rattle.link_opening.specs.Origins.{Origins, asking}
-use Rattle.end_parts.specs.RunLinks.{AreOfRun}
-use Rattle.end_parts.specs.declared.dialer.Dialer.{Dialer}
-use Rattle.end_parts.specs.declared.newcomer.Newcomer.{Newcomer}
-use Rattle.end_parts.specs.DialerSteps.{place_after}
-use Rattle.end_parts.specs.EndViews.{LinkEndsView, Beginning}
+use Rattle.sp_links.specs.declared.way.Way.{Way}
+use Rattle.sp_links.specs.Origins.{Origins, asking}
+use Rattle.sp_ends.specs.RunLinks.{AreOfRun}
+use Rattle.sp_ends.specs.declared.dialer.Dialer.{Dialer}
+use Rattle.sp_ends.specs.declared.newcomer.Newcomer.{Newcomer}
+use Rattle.sp_ends.specs.DialerSteps.{place_after}
+use Rattle.sp_ends.specs.EndViews.{LinkEndsView, Beginning}
 use Rattle.sp_ends.specs.Freeing.{Frees, AreSameDialers, Redials}
 use Rattle.sp_ends.specs.Listening.{KeepsFrom}
 use Rattle.sp_ends.specs.EndsTurns.{InTurn, Arrives, AsksNet, SameEnds, DialsOne, AreYoung, AreWaitingBehind}
-use Rattle.end_parts.proofs.ListReads.{at_index}
+use Rattle.sp_ends.proofs.ListReads.{at_index}
 use Rattle.sp_ends.proofs.NewcomingTurn.{untouched}
 use Rattle.sp_ends.proofs.NewcomingDials.{turned_as, tried, tried_free, said_none, asked_none, asked_on, asked_got, dialed_at, dials_then}
 use Rattle.sp_ends.proofs.TurnParts.{dials_addrs, ends_both, of_run_on}

@@ -3,10 +3,10 @@ use Rattle.std.specs.List.{AllByRecursion}
 use Rattle.std.specs.FinMap.{FinMap}
 use Rattle.std.specs.Ordering.{nat_cmp}
 use Rattle.sp_base.specs.Views.{LinkView}
-use Rattle.end_parts.specs.declared.newcomer.Newcomer.{Newcomer}
-use Rattle.end_parts.specs.EndViews.{LinkEndsView}
-use Rattle.end_parts.specs.ShutWires.{AreHandedOut, with_links, with_wires}
-use Rattle.end_parts.proofs.LeavingNet.{counts_through}
+use Rattle.sp_ends.specs.declared.newcomer.Newcomer.{Newcomer}
+use Rattle.sp_ends.specs.EndViews.{LinkEndsView}
+use Rattle.sp_ends.specs.ShutWires.{AreHandedOut, with_links, with_wires}
+use Rattle.sp_ends.proofs.LeavingNet.{counts_through}
 use Rattle.sp_ends.proofs.LeavingLast.{newcomers_below, wires_below, links_left}
 use Rattle.sp_ends.proofs.links.LinkEnds.give_all_back.Goals as goal
 

@@ -1,6 +1,6 @@
 -- What stands goes from part to part.
 use Rattle.std.proofs.Common.{◌*◌, ap, ◌∙◌, arith, length}
-use Rattle.end_parts.proofs.Turns.{quiet_both, lanes_both}
+use Rattle.sp_ends.proofs.Turns.{quiet_both, lanes_both}
 use Rattle.sp_ends.proofs.TurnParts.{dialers_long, ends_both}
 use Rattle.sp_ends.proofs.FreedDialers.{frees_both, turns_all}
 use Rattle.sp_ends.proofs.NewcomingAsks.{asked_all}

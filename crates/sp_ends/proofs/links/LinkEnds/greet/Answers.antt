@@ -1,9 +1,9 @@
 -- The link is behind the others, or with the socket, or back.
 use Rattle.std.proofs.Common.{refl, sym, ap, ◌∙◌, subst, List, [], ◌∷◌, ◌++◌, ℕ, length, length-append, arith, inl, inr}
-use Rattle.end_parts.specs.declared.newcomer.Newcomer.{Newcomer}
-use Rattle.end_parts.specs.declared.dialer.Dialer.{Dialer}
-use Rattle.end_parts.specs.EndViews.{LinkEndsView}
-use Rattle.end_parts.specs.RunLinks.{LinksStand}
+use Rattle.sp_ends.specs.declared.newcomer.Newcomer.{Newcomer}
+use Rattle.sp_ends.specs.declared.dialer.Dialer.{Dialer}
+use Rattle.sp_ends.specs.EndViews.{LinkEndsView}
+use Rattle.sp_ends.specs.RunLinks.{LinksStand}
 use Rattle.sp_ends.specs.Freeing.{AreSameDialers}
 use Rattle.sp_ends.specs.EndsTurns.{AreYoung, AreWaitingBehind}
 use Rattle.sp_ends.specs.Listening.{IsFromOne}
@@ -11,7 +11,7 @@ use Rattle.sp_ends.proofs.Young.{young_more}
 use Rattle.sp_ends.proofs.Waited.{waited_since, waiting_more}
 use Rattle.sp_ends.proofs.links.LinkEnds.greet.Goals as goal
 use Rattle.sp_ends.proofs.FreedDialers.{frees_none, frees_lost}
-use Rattle.end_parts.specs.NewcomerSteps.{GivesOneBack}
+use Rattle.sp_ends.specs.NewcomerSteps.{GivesOneBack}
 use Rattle.sp_ends.proofs.TurnParts.{turn_after, ends_none, ends_others, ends_lost, newcomers_lost, same_dialers}
 
 pub keep-requires : goal.keep-requires

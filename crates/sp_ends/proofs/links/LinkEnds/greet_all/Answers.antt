@@ -1,16 +1,16 @@
 -- The first link is taken out, greeted, and is behind the others, or gone.
 use Rattle.std.proofs.Common.{◌≡◌, refl, sym, ap, ◌∙◌, subst, List, ℕ, ◌+◌, ◌-◌, length, arith}
 use Rattle.std.specs.Prelude.{suc}
-use Rattle.end_parts.specs.EndViews.{LinkEndsView}
-use Rattle.end_parts.specs.declared.newcomer.Newcomer.{Newcomer}
+use Rattle.sp_ends.specs.EndViews.{LinkEndsView}
+use Rattle.sp_ends.specs.declared.newcomer.Newcomer.{Newcomer}
 use Rattle.sp_ends.specs.EndsTurns.{InTurn, AreYoung, AreWaitingBehind}
 use Rattle.sp_ends.proofs.Young.{young_none, young_rest}
 use Rattle.sp_ends.proofs.Waited.{waiting_none, waiting_rest}
 use Rattle.sp_ends.proofs.links.LinkEnds.greet_all.Goals as goal
 use Rattle.sp_ends.proofs.TurnParts.{turn_with, ends_none, same_dialers, counts_none, serves_both, serves_less}
-use Rattle.end_parts.proofs.Turns.{quiet_none, lanes_none}
+use Rattle.sp_ends.proofs.Turns.{quiet_none, lanes_none}
 use Rattle.sp_ends.specs.Freeing.{Frees}
-use Rattle.end_parts.specs.declared.dialer.Dialer.{Dialer}
+use Rattle.sp_ends.specs.declared.dialer.Dialer.{Dialer}
 use Rattle.sp_ends.specs.Listening.{room_for, IsFromOne}
 use Rattle.sp_ends.proofs.Owned.{fewer_none, fewer_both, fewer_step}
 use Rattle.sp_ends.proofs.FreedDialers.{frees_none, frees_both}

@@ -1,10 +1,10 @@
 -- Each link that was greeted is behind those that are still to be.
 use Rattle.std.proofs.Common.{ℕ, length, ◌-◌, ◌≤◌}
-use Rattle.end_parts.specs.EndViews.{Beginning}
+use Rattle.sp_ends.specs.EndViews.{Beginning}
 use Rattle.sp_ends.specs.Freeing.{Frees}
 use Rattle.sp_ends.specs.Listening.{FewerOwn}
 use Rattle.sp_ends.specs.EndsTurns.{InTurn, Serves, AreYoung, AreWaitingBehind}
-use Rattle.end_parts.specs.SocketSteps.{IsDry}
+use Rattle.sp_ends.specs.SocketSteps.{IsDry}
 use Rattle.sp_ends.proofs.links.LinkEnds.greet_all.Given as goal
 
 abbrev pub invariant-greets : goal.invariant-greets

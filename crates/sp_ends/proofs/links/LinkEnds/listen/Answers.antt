@@ -1,8 +1,8 @@
 -- There is room for one listener more, and its links; then the net listens.
 use Rattle.std.proofs.Common.{◌≡◌, ◌≤◌, ◌+◌, ◌++◌, ◌∷◌, [], ◌∙◌, ℕ, List, Bool, true, false, refl, sym, ap, subst, length, length-append, deque_capacity, arith, Result, Ok, Err, OnOk, is_err}
-use Rattle.end_parts.specs.declared.listener.Listener.{Listener}
-use Rattle.end_parts.specs.declared.newcomer.Newcomer.{Newcomer}
-use Rattle.end_parts.specs.EndViews.{LinkEndsView}
+use Rattle.sp_ends.specs.declared.listener.Listener.{Listener}
+use Rattle.sp_ends.specs.declared.newcomer.Newcomer.{Newcomer}
+use Rattle.sp_ends.specs.EndViews.{LinkEndsView}
 use Rattle.sp_base.specs.declared.outside.Listened.{Listened}
 use Rattle.sp_base.specs.Steps.{ListenedAs}
 use Rattle.sp_ends.specs.AddedEnds.{FailsToListen}

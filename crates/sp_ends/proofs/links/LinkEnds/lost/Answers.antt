@@ -1,9 +1,9 @@
 use Rattle.std.proofs.Common.{◌≡◌, ◌<◌, ◌≤◌, length, List, ℕ, refl, ap, subst, sym, ◌∙◌, arith, add-one, set}
 use Rattle.std.specs.Vec.{with_items}
 use Rattle.std.proofs.lemmas.List.{with_items_is}
-use Rattle.end_parts.specs.declared.dialer.Dialer.{Dialer}
+use Rattle.sp_ends.specs.declared.dialer.Dialer.{Dialer}
 use Rattle.sp_ends.specs.Freeing.{AreFreed, AreSameDialers}
-use Rattle.end_parts.specs.EndViews.{LinkEndsView}
+use Rattle.sp_ends.specs.EndViews.{LinkEndsView}
 use Rattle.sp_ends.proofs.FreedDialers.{FreedTo, freed_next, freed_whole}
 use Rattle.sp_ends.proofs.NewcomingDialers.{one_lost}
 use Rattle.sp_ends.proofs.TurnParts.{same_dialers}

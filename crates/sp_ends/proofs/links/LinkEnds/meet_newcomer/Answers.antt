@@ -3,17 +3,17 @@ use Rattle.std.proofs.Common.{◌≡◌, ◌≤◌, ◌<◌, sym, ap, ◌∙◌,
 use Rattle.sp_base.specs.Views.{LinkView, NetView}
 use Rattle.sp_base.specs.declared.error.NoMemory.{NoMemory}
 use Rattle.sp_history.specs.declared.entry.Miss.TheVariants as misses
-use Rattle.link_opening.specs.declared.way.Way.{Way}
-use Rattle.link_opening.specs.Openings.{CanBegin, scheme_for}
-use Rattle.sp_single.specs.Singles.{SingleView, TookOne}
-use Rattle.end_parts.specs.declared.newcomer.Newcomer.{Newcomer}
-use Rattle.end_parts.specs.EndViews.{Beginning, LinkEndsView}
-use Rattle.end_parts.specs.RunLinks.{HandStands, LinksStand, IsCauseOf}
-use Rattle.end_parts.specs.NewcomerSteps.{GivesOneBack}
-use Rattle.link_opening.specs.Origins.{Origins}
+use Rattle.sp_links.specs.declared.way.Way.{Way}
+use Rattle.sp_links.specs.Openings.{CanBegin, scheme_for}
+use Rattle.sp_socket.specs.Singles.{SingleView, TookOne}
+use Rattle.sp_ends.specs.declared.newcomer.Newcomer.{Newcomer}
+use Rattle.sp_ends.specs.EndViews.{Beginning, LinkEndsView}
+use Rattle.sp_ends.specs.RunLinks.{HandStands, LinksStand, IsCauseOf}
+use Rattle.sp_ends.specs.NewcomerSteps.{GivesOneBack}
+use Rattle.sp_links.specs.Origins.{Origins}
 use Rattle.sp_ends.specs.Listening.{room_for, IsFromOne, KeepsFrom}
 use Rattle.sp_ends.specs.EndsTurns.{InTurn, Arrives, AreYoung, AreWaitingBehind, FitsIn}
-use Rattle.end_parts.proofs.Turns.{lanes_both, quiet_both}
+use Rattle.sp_ends.proofs.Turns.{lanes_both, quiet_both}
 use Rattle.sp_ends.proofs.TurnParts.{turn_on, ends_lost, newcomers_lost}
 use Rattle.sp_ends.proofs.FreedDialers.{frees_lost}
 use Rattle.sp_ends.proofs.NewcomingTurn.{MeetsAt, meets_quiet, meets_lanes, meets_dry, met_hand, newcomer_met, dry_cause}

@@ -1,6 +1,6 @@
 -- The first is counted no more.
 use Rattle.std.proofs.Common.{refl, subst, arith, List, ◌∷◌, sym, length, deque_capacity}
-use Rattle.end_parts.specs.declared.newcomer.Newcomer.{Newcomer}
+use Rattle.sp_ends.specs.declared.newcomer.Newcomer.{Newcomer}
 use Rattle.sp_ends.specs.Listening.{AreCounted}
 use Rattle.sp_ends.proofs.Owned.{counted_as, counted_rest}
 use Rattle.sp_ends.proofs.links.LinkEnds.next_newcomer.Goals as goal

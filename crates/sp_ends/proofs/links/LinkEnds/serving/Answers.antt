@@ -1,8 +1,8 @@
 use Rattle.std.proofs.Common.{◌≡◌, Some, sym, ap, subst, ◌∙◌, slice_get, IfOk}
-use Rattle.link_opening.specs.Origins.{serving}
-use Rattle.end_parts.specs.declared.listener.Listener.{Listener}
-use Rattle.end_parts.specs.EndViews.{LinkEndsView}
-use Rattle.end_parts.proofs.ListReads.{at_index}
+use Rattle.sp_links.specs.Origins.{serving}
+use Rattle.sp_ends.specs.declared.listener.Listener.{Listener}
+use Rattle.sp_ends.specs.EndViews.{LinkEndsView}
+use Rattle.sp_ends.proofs.ListReads.{at_index}
 use Rattle.sp_ends.proofs.links.LinkEnds.serving.Goals as goal
 
 some_listener : {a b : Listener} → Some a ≡ Some b → a ≡ b

@@ -1,9 +1,9 @@
 -- The link that is left of the wire is back, and who had dialed it may dial again.
 use Rattle.std.proofs.Common.{refl, sym, ap, subst, List, ℕ, ◌<◌, length, arith}
-use Rattle.end_parts.specs.declared.newcomer.Newcomer.{Newcomer}
-use Rattle.end_parts.specs.RunLinks.{LinksStand}
+use Rattle.sp_ends.specs.declared.newcomer.Newcomer.{Newcomer}
+use Rattle.sp_ends.specs.RunLinks.{LinksStand}
 use Rattle.sp_ends.proofs.links.LinkEnds.take_ended.Goals as goal
-use Rattle.end_parts.proofs.Turns.{quiet_one, first_play, settles_play, lanes_one, lane_first, lane_settles, dry_first, dry_settles, sound_one}
+use Rattle.sp_ends.proofs.Turns.{quiet_one, first_play, settles_play, lanes_one, lane_first, lane_settles, dry_first, dry_settles, sound_one}
 use Rattle.sp_ends.proofs.TurnParts.{turn_on, taken_stands, settled_stands, lane_taken, ends_none, ends_lost, same_dialers, counts_none, counts_back, newcomers_lost}
 use Rattle.sp_ends.proofs.TakenWires.{left_by, lane_left}
 use Rattle.sp_ends.proofs.TurnedNames.{took_pipe, taken_first}

@@ -3,16 +3,16 @@ use Rattle.std.proofs.Common.{refl, true, false, ap, subst, ◌∙◌, arith, le
 use Rattle.std.specs.List.{AllByRecursion}
 use Rattle.sp_history.specs.Past.{past_of}
 use Rattle.sp_history.proofs.Backing.{legal_allowed}
-use Rattle.end_parts.specs.declared.newcomer.Newcomer.{Newcomer}
-use Rattle.end_parts.specs.EndViews.{LinkEndsView}
+use Rattle.sp_ends.specs.declared.newcomer.Newcomer.{Newcomer}
+use Rattle.sp_ends.specs.EndViews.{LinkEndsView}
 use Rattle.sp_ends.specs.Listening.{own_of, dialed_of}
 use Rattle.sp_ends.specs.EndsTurns.{HasWaitedSince}
 use Rattle.sp_ends.proofs.TakenAll.{untaken_off, off_stays}
-use Rattle.end_parts.proofs.Turns.{quiet_both, lanes_both}
+use Rattle.sp_ends.proofs.Turns.{quiet_both, lanes_both}
 use Rattle.sp_ends.proofs.TurnParts.{dialers_long, ends_both}
 use Rattle.sp_ends.proofs.FreedDialers.{turns_all}
 use Rattle.sp_ends.proofs.WholeTurn.{turn_begins, serves_net, room_on, asks_taken, each_taken, dues_taken}
-use Rattle.end_parts.proofs.DialedNames.{goes_both}
+use Rattle.sp_ends.proofs.DialedNames.{goes_both}
 use Rattle.sp_ends.proofs.TurnedNames.{quiet_ups, turns_callers, turns_lanes, accepts_for, bring_for}
 use Rattle.sp_ends.proofs.links.LinkEnds.turn.Goals as goal
 

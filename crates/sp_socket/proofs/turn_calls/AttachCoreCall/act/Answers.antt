@@ -1,6 +1,6 @@
 use Rattle.sp_core.specs.Standing.{core_setting}
 use Rattle.sp_core.specs.Attaching.{attached}
-use Rattle.core_parts.specs.Wires.{numbers_of}
+use Rattle.core_state.specs.Wires.{numbers_of}
 use Rattle.sp_socket.proofs.NoneTaken.{leaves, none_attached}
 use Rattle.sp_socket.proofs.turn_calls.AttachCoreCall.act.Goals as goal
 

@@ -1,0 +1,123 @@
+-- The pipes go with a history.
+use Rattle.std.specs.Prelude.{◌≡◌, ◌≢◌, ℕ, ◌+◌, ◌<◌, ◌≤◌, nat_lt, Bool, true, ⊤, List, map, length, slice_index_or, [], ◌∷◌, ◌++◌, Option, Some, None, is_some}
+use Rattle.std.specs.List.{All}
+use Rattle.std.specs.VecDeque.{deque_capacity}
+use Rattle.sp_msg.specs.Views.{WireView}
+use Rattle.sp_history.specs.declared.entry.Entry.{Entry}
+use Rattle.sp_history.specs.declared.entry.Why.TheVariants as whys
+use Rattle.sp_history.specs.declared.entry.Entry.TheVariants.{Full, Down, Stall, Clear, Taken, Frame, Quiet}
+use Rattle.sp_history.specs.declared.setting.Setting.{Setting}
+use Rattle.sp_history.specs.Lists.{has, head_of}
+use Rattle.sp_history.specs.Past.{up, ups, untaken}
+use Rattle.sp_history.specs.Moments.{Moment, past, also}
+use Rattle.core_state.specs.declared.pipes.PipePlace.{PipePlace}
+use Rattle.core_state.specs.declared.pipes.DownPipe.{DownPipe}
+use Rattle.core_state.specs.declared.pipes.Pipes.{Pipes}
+use Rattle.core_state.specs.declared.pipes.Asked.{Asked}
+use Rattle.core_state.specs.declared.pipes.Asked.TheVariants as asked
+use Rattle.core_state.specs.declared.pipes.Flushed.{Flushed}
+use Rattle.core_state.specs.declared.pipes.Flushed.TheVariants as flushed
+use Rattle.core_state.specs.Wires.{IsUpWire, IsDownWire}
+use Rattle.core_state.specs.declared.pipes.Pulled.{Pulled}
+use Rattle.core_state.specs.declared.pipes.Pulled.TheVariants as pulled
+
+-- a pipe that is up, with its wire
+pub record UpPipe (W : Type 0) : Type 0 where
+  pub id : ℕ
+  pub wire : W
+
+abbrev pub ids : {W : Type 0} → List (UpPipe W) → List ℕ
+ids pipes = map (λ x. x.id) pipes
+
+abbrev pub down_ids : {W : Type 0} → List (DownPipe W) → List ℕ
+down_ids pipes = map (λ x. x.id) pipes
+
+-- ---- Places
+
+-- the numbers of places
+abbrev pub numbers : {W : Type 0} → List (PipePlace W) → List ℕ
+numbers places = map (λ x. x.id) places
+
+-- its number is below this one
+abbrev pub is_below : {W : Type 0} → ℕ → PipePlace W → Bool
+is_below p x = nat_lt x.id p
+
+-- the pipe with this wire, if there is one, before others
+abbrev pub before_others : {W : Type 0} → ℕ → Option W → List (UpPipe W) → List (UpPipe W)
+before_others p None rest = rest
+before_others p (Some w) rest = record { id = p; wire = w } ∷ rest
+
+-- the pipes of places that are not empty
+abbrev pub held : {W : Type 0} → List (PipePlace W) → List (UpPipe W)
+held [] = []
+held (x ∷ xs) = before_others x.id x.wire (held xs)
+
+-- the pipes that are up
+abbrev pub up_pipes : {W : Type 0} → Pipes W → List (UpPipe W)
+up_pipes l = held l.places.items
+
+-- each number is below those after it
+abbrev pub IsRising : List ℕ → Type 0
+IsRising [] = ⊤
+IsRising (x ∷ xs) = ((y : ℕ) → has xs y ≡ true → x < y) × IsRising xs
+
+-- ---- Pipes and the history
+
+-- these pipes are up and these are down and not taken, each with a wire that shows its history; the number of the next pipe
+-- is above those of all places
+pub record PipesCarry {W : Type 0} (shown : W → WireView) (l : Pipes W) (z : Setting) (past : List Entry) : Type 0 where
+  pub up_is : ids (up_pipes l) ≡ up past
+  pub up_wires : All (λ x. IsUpWire past x.id (shown x.wire)) (up_pipes l)
+  pub down_is : down_ids l.down.items ≡ untaken past
+  pub down_wires : All (λ x. IsDownWire z past x.id x.why (shown x.wire)) l.down.items
+  pub in_order : IsRising (numbers l.places.items ++ (ups past + 1) ∷ [])
+  pub count_is : l.count ≡ length (up_pipes l)
+  pub down_room : length (up_pipes l) + length l.down.items ≤ deque_capacity l.down
+  pub few : length (up_pipes l) + length l.down.items ≤ 4096
+
+abbrev pub PipesStand : {W : Type 0} → (W → WireView) → Pipes W → Moment → Type 0
+PipesStand shown l t = PipesCarry shown l t.z (past t)
+
+-- the pipe is up and has this place
+pub record IsPipeAt {W : Type 0} (l : Pipes W) (i p : ℕ) : Type 0 where
+  pub inside : i < length l.places.items
+  pub is : (x : PipePlace W) → x ≡ slice_index_or l.places.items i x → (x.id ≡ p) × (is_some x.wire ≡ true)
+
+-- a pipe has this place
+pub record HasPlace {W : Type 0} (l : Pipes W) (i : ℕ) : Type 0 where
+  pub inside : i < length l.places.items
+  pub is_up : (x : PipePlace W) → x ≡ slice_index_or l.places.items i x → is_some x.wire ≡ true
+  pub counted : 0 < l.count
+
+-- the wire at this place has room for a message
+abbrev pub IsReadyAt : {W : Type 0} → (W → WireView) → Pipes W → ℕ → Type 0
+IsReadyAt shown l i = (x : PipePlace _) (w : _) → x ≡ slice_index_or l.places.items i x → x.wire ≡ Some w → (shown w).is_ready ≡ true
+
+-- what asking the pipe for room came to
+abbrev pub AskedAs : {W : Type 0} → (W → WireView) → Asked → ℕ → ℕ → Moment → Pipes W → Type 0
+AskedAs shown asked.Yes i p t l = PipesStand shown l t × IsPipeAt l i p × IsReadyAt shown l i
+AskedAs shown asked.Full i p t l = PipesStand shown l (also t (Full p))
+AskedAs shown (asked.Down why) i p t l = (why ≢ whys.Closed) × PipesStand shown l (also t (Down p why))
+
+-- what flushing the pipe came to
+abbrev pub FlushedTo : {W : Type 0} → (W → WireView) → Flushed → ℕ → ℕ → Moment → Pipes W → Type 0
+FlushedTo shown flushed.Clear i p t l = PipesStand shown l (also t (Clear p)) × IsPipeAt l i p
+FlushedTo shown flushed.Stall i p t l = PipesStand shown l (also t (Stall p)) × IsPipeAt l i p
+FlushedTo shown (flushed.Down why) i p t l = (why ≢ whys.Closed) × PipesStand shown l (also t (Down p why))
+
+-- what pulling from the pipe came to
+abbrev pub PulledTo : {W : Type 0} → (W → WireView) → Pulled → ℕ → ℕ → Moment → Pipes W → Type 0
+PulledTo shown (pulled.Frame m) i p t l = (m.header ≡ []) × PipesStand shown l (also t (Frame p m.body)) × IsPipeAt l i p
+PulledTo shown pulled.Quiet i p t l = PipesStand shown l (also t (Quiet p))
+PulledTo shown (pulled.Down why) i p t l = (why ≢ whys.Closed) × PipesStand shown l (also t (Down p why))
+
+-- the first of those that are down was taken, if there was one
+abbrev pub TakenAs : {W : Type 0} → (W → WireView) → Option (DownPipe W) → Moment → Pipes W → Type 0
+TakenAs shown None t l = (untaken (past t) ≡ []) × PipesStand shown l t
+TakenAs shown (Some f) t l = (head_of (untaken (past t)) ≡ Some f.id) × IsDownWire t.z (past t) f.id f.why (shown f.wire) × PipesStand shown l (also t (Taken f.id))
+
+-- there is room for one pipe more, and for all that are up and this one to go down
+pub record HasRoom {W : Type 0} (l : Pipes W) : Type 0 where
+  pub places : length l.places.items < deque_capacity l.places
+  pub down : l.count + length l.down.items < deque_capacity l.down
+  pub few : l.count + length l.down.items < 4096

@@ -1,0 +1,46 @@
+-- What seats have read of the words.
+use Rattle.std.specs.Prelude.{◌≡◌, ◌⊎◌, ℕ, Bool, true, false, List, [], ◌∷◌, ◌++◌, Option, Some, None, ◌≢◌}
+use Rattle.sp_base.specs.declared.OpName.{OpName}
+use Rattle.aio_word.specs.declared.phase.Phase.TheVariants as phase
+use Rattle.aio_word.specs.declared.rule.ShownOperation as word
+use Rattle.aio_word.specs.Results.{of_op}
+use Rattle.aio_word.specs.declared.phase.Phase.{Phase}
+use Rattle.aio_word.specs.declared.rule.WordsView.{WordsView}
+use Rattle.aio_word.specs.Word.{is_decided}
+use Rattle.aio_word.specs.Views.{Each}
+use Rattle.core_state.specs.declared.op_words.Decision.{Decision}
+
+-- these reads, and maybe more
+pub record Grows (old new : List word.ShownOperation) : Type 0 where
+  pub more : List word.ShownOperation
+  pub is : new ≡ old ++ more
+
+-- what looking at one word told
+abbrev pub LookReads : Option Decision → OpName → List word.ShownOperation → List word.ShownOperation → Type 0
+LookReads None op old new = new ≡ old ++ of_op op phase.Pending 0 ∷ []
+LookReads (Some decision) op old new = Grows old new
+
+-- ---- A caller's seat
+
+-- a read of the slot that shows no end of the operation
+abbrev pub IsEarlier : OpName → word.ShownOperation → Type 0
+IsEarlier op e = (e.slot ≡ op.slot) × ((e.generation ≢ op.generation) ⊎ (is_decided e.phase ≡ false))
+
+-- the seat has read this of the operation last, after reads of its slot that show no end of it, and knows nothing else more
+pub record ReadAs (op : OpName) (p : Phase) (by : ℕ) (v w : WordsView) : Type 0 where
+  pub others : List word.ShownOperation
+  pub are_others : Each (IsEarlier op) others
+  pub read : w ≡ record v { reads = v.reads ++ others ++ of_op op p by ∷ [] }
+
+-- it has read an end
+abbrev pub ReadEnd : OpName → WordsView → WordsView → Type 0
+ReadEnd op v w = (p : Phase) × (by : ℕ) × (is_decided p ≡ true) × ReadAs op p by v w
+
+-- it has read an end, or that there is none
+abbrev pub ReadSo : Bool → OpName → WordsView → WordsView → Type 0
+ReadSo true op v w = ReadEnd op v w
+ReadSo false op v w = ReadAs op phase.Pending 0 v w
+
+-- the last that the seat has read is an end of the operation
+abbrev pub HasReadEnd : OpName → WordsView → Type 0
+HasReadEnd op v = (reads : List word.ShownOperation) × (p : Phase) × (by : ℕ) × (is_decided p ≡ true) × (v.reads ≡ reads ++ of_op op p by ∷ [])

@@ -1,0 +1,341 @@
+//! The pipes with their wires: those that are up, and those that are down until their wires are taken.
+//!
+//! A pipe that comes up gets a place behind all others. One that goes down leaves its place empty, so that no other
+//! pipe moves. When a wire is taken while the pipes are fewer than half of the places, rounded down, the empty places
+//! are taken out. So over all pipes that go down, each costs a fixed number of moves and the search of its place.
+ghost use Rattle.std.specs.Prelude.{◌≡◌, ◌==◌, ◌<◌, ◌≤◌, ◌+◌, ◌++◌, ◌∷◌, ℕ, [], true, false, length, is_some, OnOk};
+ghost use Rattle.std.specs.VecDeque.{deque_capacity};
+ghost use Rattle.sp_history.specs.declared.entry.Entry.TheVariants.{Down};
+ghost use Rattle.sp_history.specs.declared.entry.Why.TheVariants as whys;
+ghost use Rattle.sp_history.specs.Past.{up};
+ghost use Rattle.sp_history.specs.Moments.{Moment, Lawful, past, also};
+ghost use Rattle.core_state.specs.Pipes.{PipesStand, IsPipeAt, HasPlace, is_below, up_pipes, numbers, IsRising, IsReadyAt, AskedAs, FlushedTo, TakenAs, HasRoom, PulledTo};
+ghost use Rattle.core_state.specs.PartSteps.{AddsPipe, PutsOut, EmptiesPlace, FindsPipe, FindsAbove, ArePassed, WherePipe};
+
+use sp_base::{NoMemory, PipeId};
+use sp_history::entry::Why;
+use sp_msg::{Message, Room, Wire, WireFlush, WireIn};
+use std::alloc::Global;
+use std::collections::VecDeque;
+use std::sync::Wait;
+
+/// A place, with the wire of the pipe that has it while that is up.
+#[derive(Drop)]
+pub struct PipePlace<W> {
+    /// The number of the pipe.
+    pub id: PipeId,
+    /// What its messages go over.
+    pub wire: Option<W>,
+}
+
+/// A pipe that is down and whose wire was not taken (nng_pipe_close(3)).
+#[derive(Drop)]
+pub struct DownPipe<W> {
+    /// Its number.
+    pub id: PipeId,
+    /// Why it went down.
+    pub why: Why,
+    /// Its wire, to be taken by the caller.
+    pub wire: W,
+}
+
+/// The pipes of a socket (nng_pipe(5)).
+#[derive(Drop)]
+pub struct Pipes<W> {
+    /// In the order in which pipes came up, which is that of their numbers.
+    pub places: VecDeque<PipePlace<W>>,
+    /// How many pipes are up.
+    pub count: usize,
+    /// In the order in which they went down, with room for all that are up. The first is taken first.
+    pub down: VecDeque<DownPipe<W>>,
+}
+
+/// What asking a pipe for room came to.
+#[derive(Clone, Copy, PartialEq, Eq, Debug)]
+pub enum Asked {
+    /// A message can be put now.
+    Yes,
+    /// None can be put now.
+    Full,
+    /// The pipe went down.
+    Down(Why),
+}
+
+/// What flushing a pipe came to.
+#[derive(Clone, Copy, PartialEq, Eq, Debug)]
+pub enum Flushed {
+    /// Nothing waits.
+    Clear,
+    /// Something waits that its link doesn't take.
+    Stall,
+    /// The pipe went down.
+    Down(Why),
+}
+
+/// What pulling from a pipe came to.
+#[derive(Debug, Drop)]
+pub enum Pulled {
+    /// The next message, with an empty header.
+    Frame(Message),
+    /// Nothing whole is there yet.
+    Quiet,
+    /// The pipe went down.
+    Down(Why),
+}
+
+impl<W> PipePlace<W> {
+    // Whether the pipe of this number is up, with its wire here.
+    fn is_up_as(&self, p: PipeId) -> bool
+        ensures number { result ≡ true → self.now.id ≡ p }
+        ensures wire { result ≡ true → is_some self.now.wire ≡ true }
+        ensures other { result ≡ false → is_some self.now.wire ≡ true → (self.now.id == p) ≡ false }
+    {
+        self.id.0 == p.0 && self.wire.is_some()
+    }
+
+    // Whether a pipe with a number above this one is up, with its wire here.
+    fn is_up_above(&self, p: PipeId) -> bool
+        ensures wire { result ≡ true → is_some self.now.wire ≡ true }
+        ensures above { result ≡ true → p < self.now.id }
+        ensures other { result ≡ false → is_some self.now.wire ≡ true → self.now.id ≤ p }
+    {
+        p.0 < self.id.0 && self.wire.is_some()
+    }
+
+    // Whether its number is below this one's.
+    fn is_before(&self, p: PipeId) -> bool
+        ensures { result ≡ is_below p self.now }
+    {
+        self.id.0 < p.0
+    }
+}
+
+impl<W: Wire> Pipes<W> {
+    /// No pipe.
+    pub fn new(alloc: Global) -> Pipes<W>
+        ensures { (t : Moment) → past t ≡ [] → PipesStand W.shown result t }
+    {
+        Pipes {
+            places: VecDeque::new(alloc),
+            count: 0,
+            down: VecDeque::new(alloc),
+        }
+    }
+
+    /// The place of the pipe, where it is up.
+    pub fn place_of(&self, p: PipeId) -> Option<usize>
+        ensures { FindsPipe W.shown result p self.now }
+    {
+        let i = self.places.partition_point(|x| x.is_before(p));
+        if i >= self.places.len() {
+            return None;
+        }
+        if !self.places[i].is_up_as(p) {
+            return None;
+        }
+        Some(i)
+    }
+
+    /// The first pipe that is up with a number above this one: its place and its number. The search begins behind
+    /// `from`, where that is the place of this number or of one below, and else at the front.
+    pub fn next_above(&self, p: PipeId, from: usize) -> Option<(usize, PipeId)>
+        ensures { FindsAbove W.shown result p self.now }
+    {
+        let mut i = self.first_behind(p, from);
+        while i < self.places.len() {
+            let x = &self.places[i];
+            if x.is_up_above(p) {
+                return Some((i, x.id));
+            }
+            i += 1;
+        }
+        None
+    }
+
+    // Where a search for numbers above this one may begin.
+    fn first_behind(&self, p: PipeId, from: usize) -> usize
+        ensures { ArePassed W.shown result p self.now }
+    {
+        if from < self.places.len() && self.places[from].id.0 <= p.0 {
+            from + 1
+        } else {
+            0
+        }
+    }
+
+    /// The pipe at this place goes down; returns that it did, and why.
+    pub fn take_down(&mut self, i: usize, why: Why) -> Asked
+        requires there { HasPlace self.old i }
+        requires room { length self.old.down.items < deque_capacity self.old.down }
+        ensures returned { result ≡ Asked.Down why }
+        ensures empties { EmptiesPlace i why self.old self.new }
+    {
+        let place = &mut self.places[i];
+        let id = place.id;
+        let Some(wire) = place.wire.take() else {
+            unreachable!()
+        };
+        self.count -= 1;
+        self.down.push_back_reserved(DownPipe { id, why, wire });
+        Asked::Down(why)
+    }
+
+    /// Asks the pipe at this place for room. It goes down where its wire can't say.
+    pub fn ask<R: Wait>(&mut self, rt: &R, i: usize) -> Asked
+        requires { (t : Moment) × (p : ℕ) × Lawful t × PipesStand W.shown self.old t × IsPipeAt self.old i p }
+        ensures { WherePipe W.shown self.old i (λ t p. AskedAs W.shown result i p t self.new) }
+    {
+        let Some(wire) = &mut self.places[i].wire else {
+            unreachable!()
+        };
+        match wire.room(rt) {
+            Room::Yes => Asked::Yes,
+            Room::Full => Asked::Full,
+            Room::Failed => self.take_down(i, Why::Failed),
+            Room::Refused => self.take_down(i, Why::Refusal),
+            Room::NoMemory => self.take_down(i, Why::NoMemory),
+        }
+    }
+
+    /// Puts the message on the pipe at this place, which has room.
+    pub fn put<R: Wait>(&mut self, rt: &R, i: usize, m: Message)
+        requires { (t : Moment) × (p : ℕ) × PipesStand W.shown self.old t × IsPipeAt self.old i p × IsReadyAt W.shown self.old i }
+        ensures { PutsOut W.shown i m self.old self.new }
+    {
+        let Some(wire) = &mut self.places[i].wire else {
+            unreachable!()
+        };
+        wire.put(rt, m);
+    }
+
+    /// Writes what the pipe at this place can of what waits. It goes down where its wire can't.
+    pub fn flush<R: Wait>(&mut self, rt: &R, i: usize) -> Flushed
+        requires { (t : Moment) × (p : ℕ) × Lawful t × PipesStand W.shown self.old t × IsPipeAt self.old i p }
+        ensures { WherePipe W.shown self.old i (λ t p. FlushedTo W.shown result i p t self.new) }
+    {
+        let Some(wire) = &mut self.places[i].wire else {
+            unreachable!()
+        };
+        match wire.flush(rt) {
+            WireFlush::Empty => Flushed::Clear,
+            WireFlush::NotYet => Flushed::Stall,
+            WireFlush::Failed => {
+                self.take_down(i, Why::Failed);
+                Flushed::Down(Why::Failed)
+            }
+            WireFlush::Refused => {
+                self.take_down(i, Why::Refusal);
+                Flushed::Down(Why::Refusal)
+            }
+            WireFlush::NoMemory => {
+                self.take_down(i, Why::NoMemory);
+                Flushed::Down(Why::NoMemory)
+            }
+        }
+    }
+
+    /// How much the wires of all pipes have passed on, in a unit of their own; it wraps at its type's end.
+    pub fn taken(&self) -> u64 {
+        let mut sum: u64 = 0;
+        for place in self.places.iter() {
+            if let Some(wire) = &place.wire {
+                sum = sum.wrapping_add(wire.taken());
+            }
+        }
+        sum
+    }
+
+    /// The pipe at this place goes down for the close.
+    pub fn close_pipe(&mut self, i: usize)
+        requires { (t : Moment) × (p : ℕ) × PipesStand W.shown self.old t × IsPipeAt self.old i p }
+        ensures { WherePipe W.shown self.old i (λ t p. PipesStand W.shown self.new (also t (Down p whys.Closed))) }
+    {
+        self.take_down(i, Why::Closed);
+    }
+
+    /// Pulls from the pipe at this place. It goes down where its wire has ended or can't say.
+    pub fn pull<R: Wait>(&mut self, rt: &R, i: usize) -> Pulled
+        requires { (t : Moment) × (p : ℕ) × Lawful t × PipesStand W.shown self.old t × IsPipeAt self.old i p }
+        ensures { WherePipe W.shown self.old i (λ t p. PulledTo W.shown result i p t self.new) }
+    {
+        let Some(wire) = &mut self.places[i].wire else {
+            unreachable!()
+        };
+        let why = match wire.pull(rt) {
+            WireIn::Message(m) => return Pulled::Frame(m),
+            WireIn::NotYet => return Pulled::Quiet,
+            WireIn::Ended => Why::Ended,
+            WireIn::Malformed => Why::Malformed,
+            WireIn::Failed => Why::Failed,
+            WireIn::Refused => Why::Refusal,
+            WireIn::NoMemory => Why::NoMemory,
+        };
+        self.take_down(i, why);
+        Pulled::Down(why)
+    }
+
+    /// Takes the first of those that are down.
+    pub fn take_first(&mut self) -> Option<DownPipe<W>>
+        ensures { (t : Moment) → Lawful t → PipesStand W.shown self.old t → TakenAs W.shown result t self.new }
+    {
+        // A pop of an empty list doesn't say that the list is the same.
+        if self.down.is_empty() {
+            return None;
+        }
+        let Some(first) = self.down.pop_front() else {
+            unreachable!()
+        };
+        self.pack();
+        Some(first)
+    }
+
+    // Takes the empty places out, where the pipes are fewer than half of the places.
+    fn pack(&mut self)
+        ensures up { up_pipes self.new ≡ up_pipes self.old }
+        ensures in_order { (q : ℕ) → IsRising (numbers self.old.places.items ++ q ∷ []) → IsRising (numbers self.new.places.items ++ q ∷ []) }
+        ensures count { self.new.count ≡ self.old.count }
+        ensures down { self.new.down ≡ self.old.down }
+    {
+        if self.places.len() / 2 <= self.count {
+            return;
+        }
+        let mut left = self.places.len();
+        while left > 0 {
+            left -= 1;
+            let Some(PipePlace { id, wire }) = self.places.pop_front() else {
+                unreachable!()
+            };
+            if let Some(wire) = wire {
+                self.places.push_back_reserved(PipePlace {
+                    id,
+                    wire: Some(wire),
+                });
+            }
+        }
+    }
+
+    /// Takes the room for one pipe more.
+    pub fn make_room(&mut self) -> Result<(), NoMemory>
+        ensures carries { (t : Moment) → PipesStand W.shown self.old t → PipesStand W.shown self.new t }
+        ensures places { self.new.places.items ≡ self.old.places.items }
+        ensures count { self.new.count ≡ self.old.count }
+        ensures down { self.new.down.items ≡ self.old.down.items }
+        ensures room { self.old.count + length self.old.down.items < 4096 → OnOk result (HasRoom self.new) }
+    {
+        self.places.reserve(1)?;
+        self.down.reserve(self.count.saturating_add(1))?;
+        Ok(())
+    }
+
+    /// A pipe comes up, for which there is room.
+    pub fn add(&mut self, id: PipeId, wire: W)
+        requires { HasRoom self.old }
+        ensures { AddsPipe W.shown id wire self.old self.new }
+    {
+        self.places.push_back_reserved(PipePlace {
+            id,
+            wire: Some(wire),
+        });
+        self.count += 1;
+    }
+}

@@ -1,5 +1,0 @@
-pub mod Values
-pub mod DrillWireReads
-pub mod DrillCallers
-mod Sourcing
-mod Crossing

@@ -1,5 +1,0 @@
-use Rattle.drill_rounds.specs.Calling.{Calls, Later}
-use Rattle.drill_rounds.proofs.rounds.collect_all.Given as goal
-
-abbrev pub invariant-loop : goal.invariant-loop
-invariant-loop g l = record { calls : Calls l.socket l.pass l.ops.items; later : Later l.fn.pass l.pass }

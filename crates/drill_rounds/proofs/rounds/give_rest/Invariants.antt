@@ -1,6 +1,0 @@
-use Rattle.std.proofs.Common.{[]}
-use Rattle.drill_rounds.specs.Calling.{Calls, Later}
-use Rattle.drill_rounds.proofs.rounds.give_rest.Given as goal
-
-abbrev pub invariant-loop : goal.invariant-loop
-invariant-loop g l = record { calls : Calls l.socket l.pass []; later : Later l.fn.pass l.pass }

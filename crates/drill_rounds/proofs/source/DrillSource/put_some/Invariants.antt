@@ -1,6 +1,0 @@
-use Rattle.std.proofs.Common.{◌≡◌}
-use Rattle.drill_rounds.specs.DrillWires.{IsSource}
-use Rattle.drill_rounds.proofs.source.DrillSource.put_some.Given as goal
-
-abbrev pub invariant-loop : goal.invariant-loop
-invariant-loop g l = record { source : IsSource l.self; name : l.self.lane.name ≡ l.fn.self.lane.name }

@@ -1,2 +1,0 @@
-pub mod DrillWires
-pub mod Calling

@@ -1,9 +1,0 @@
-use Rattle.std.proofs.Common.{length}
-use Rattle.end_parts.proofs.LeavingNet.{GivingLinks}
-use Rattle.end_parts.proofs.shut.give_newcomers_back.Given as goal
-
-abbrev pub invariant-links : goal.invariant-links
-invariant-links g l = GivingLinks g.N.L.Link.seen l.initial.newcomers.items l.newcomers.items (g.N.Net.seen l.initial.net) (g.N.Net.seen l.net)
-
-abbrev pub decreases-links : goal.decreases-links
-decreases-links g l = length l.newcomers.items

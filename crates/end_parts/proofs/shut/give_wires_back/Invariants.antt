@@ -1,9 +1,0 @@
-use Rattle.std.proofs.Common.{length}
-use Rattle.end_parts.proofs.LeavingNet.{GivingWires}
-use Rattle.end_parts.proofs.shut.give_wires_back.Given as goal
-
-abbrev pub invariant-wires : goal.invariant-wires
-invariant-wires g l = GivingWires l.initial.wires l.wires (g.N.Net.seen l.initial.net) (g.N.Net.seen l.net)
-
-abbrev pub decreases-wires : goal.decreases-wires
-decreases-wires g l = length l.wires

@@ -1,4 +1,0 @@
-pub mod Renaming
-pub mod Beginning
-pub mod OverLink
-pub mod WayNumbers

@@ -1,4 +1,0 @@
-pub mod Places
-pub mod Splits
-pub mod Waiters
-pub mod Firsts

@@ -1,0 +1,27 @@
+-- What the ends do to the history of the socket.
+use Rattle.std.specs.Prelude.{◌≡◌, ◌==◌, Bool, false}
+use Rattle.sp_history.specs.declared.entry.Entry.{Entry}
+use Rattle.sp_history.specs.declared.entry.Entry.TheVariants.{Up}
+use Rattle.sp_history.specs.Past.{past_of}
+use Rattle.sp_ends.specs.LinkRecords.{lane_place}
+use Rattle.sp_ends.specs.LinkRecords.{has_dry_miss}
+use Rattle.sp_socket.specs.Singles.{SingleView}
+use Rattle.sp_ends.specs.Entries.{AddsNone, moves_calls}
+
+-- the turns of a run that is open: no rule of plays speaks of them
+pub record Quietly (old new : SingleView) : Type 0 where
+  pub setting : new.setting ≡ old.setting
+  pub silent : AddsNone moves_calls old.seen new.seen
+
+-- whether a link was missed when out of memory so far
+abbrev pub IsDry : Bool → SingleView → Type 0
+IsDry is_dry s = has_dry_miss (past_of s.seen) ≡ is_dry
+
+-- a lane comes up
+abbrev pub is_lane : Entry → Bool
+is_lane (Up p place name) = place == lane_place
+is_lane _ = false
+
+-- between these no lane came up
+abbrev pub NoLane : SingleView → SingleView → Type 0
+NoLane old new = AddsNone is_lane old.seen new.seen

@@ -1,0 +1,59 @@
+//! A name within the process that is dialed.
+ghost use Rattle.std.specs.Prelude.{◌≡◌, ◌+◌, IsTrue, ◌↔◌, None, Some};
+ghost use Rattle.sp_ends.specs.DialMoments.{moment};
+ghost use Rattle.sp_ends.specs.NameSteps.{IsDueNameDialer, IsLostNameDialer};
+
+use crate::dialer::PAUSE;
+use sp_base::{Bytes, PipeId, Tick};
+
+/// A name within the process that is dialed again and again, while no pipe to it stands (nng_dialer(5)).
+#[derive(Debug, Drop)]
+pub struct NameDialer {
+    /// The name.
+    pub name: Bytes,
+    /// From this tick on it may be dialed; none is never.
+    pub next: Option<u64>,
+    /// The pipe that it has, if it has one.
+    pub pipe: Option<PipeId>,
+}
+
+impl NameDialer {
+    /// It has no pipe, and may be dialed at once.
+    pub fn new(name: Bytes) -> NameDialer
+        ensures { result ≡ record { name = name; next = Some 0; pipe = None } }
+    {
+        NameDialer {
+            name,
+            next: Some(0),
+            pipe: None,
+        }
+    }
+
+    /// Whether it is to be dialed at this tick.
+    pub fn is_due(&self, now: Tick) -> bool
+        ensures { IsTrue result ↔ IsDueNameDialer now self.now }
+    {
+        match self.next {
+            None => false,
+            Some(next) => self.pipe.is_none() && next <= now.0,
+        }
+    }
+
+    /// It was dialed at this tick, and has this pipe now, or none.
+    pub fn called(&mut self, now: Tick, pipe: Option<PipeId>)
+        ensures { self.new ≡ record self.old { next = moment (now + 100); pipe = pipe } }
+    {
+        self.next = now.0.checked_add(PAUSE);
+        self.pipe = pipe;
+    }
+
+    /// The wire of this pipe was taken: where it was this one's, it may be dialed again after the pause.
+    pub fn lost(&mut self, now: Tick, pipe: PipeId)
+        ensures { IsLostNameDialer now pipe self.old self.new }
+    {
+        if self.pipe == Some(pipe) {
+            self.next = now.0.checked_add(PAUSE);
+            self.pipe = None;
+        }
+    }
+}

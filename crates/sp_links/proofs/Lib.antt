@@ -1,0 +1,12 @@
+pub mod Cells
+pub mod Greetings
+pub mod Requests
+pub mod Owing
+pub mod OpeningTries
+pub mod Loops
+pub mod NewOpenings
+pub mod Later
+pub mod Renaming
+pub mod Beginning
+pub mod OverLink
+pub mod WayNumbers

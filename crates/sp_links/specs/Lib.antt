@@ -1,0 +1,9 @@
+pub mod Ways
+pub mod Keys
+pub mod Openings
+pub mod Origins
+pub mod Laws
+pub mod Going
+pub mod Numbers
+pub mod Opened
+pub mod EndWires

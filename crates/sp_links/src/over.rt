@@ -1,0 +1,88 @@
+//! The wire of a link that is opened.
+ghost use Rattle.std.specs.Prelude.{◌≡◌, true, MatchResult};
+ghost use Rattle.sp_tcp.specs.TcpWires.{Met};
+ghost use Rattle.sp_links.specs.Going.{IsOpened};
+ghost use Rattle.sp_links.specs.EndWires.{IsNewTcpOver, IsNewWsOver, IsNewOver};
+ghost use Rattle.sp_links.specs.Opened.{IsBegun, side_of};
+
+use crate::opened::OpenedWire;
+use crate::opening::Opening;
+use crate::way::{Way, seed_of};
+use crate::wire::EndWire;
+use sp_base::{Link, NoMemory, Role};
+use sp_tcp::TcpWire;
+use sp_ws::{Side, WsWire};
+use std::alloc::Global;
+
+impl<L: Link> EndWire<L> {
+    /// The wire of an opened link, by its transport; the bytes that came behind the peer's part go to it. A body that
+    /// is read has at most `max` bytes. Refused when out of memory alone, and then the link comes back as it was.
+    pub fn over(alloc: Global, opening: Opening<L>, max: u32) -> Result<EndWire<L>, (NoMemory, L)>
+        requires opened { IsOpened L.seen opening }
+        ensures { MatchResult result (λ w. IsNewOver L.seen max opening w) (λ e. e.1 ≡ opening.link) }
+    {
+        let Opening {
+            link,
+            role,
+            way,
+            own: _,
+            said: _,
+            came,
+            used,
+        } = opening;
+        let Some(used) = used else { unreachable!() };
+        let rest = &came.as_slice()[used..];
+        match side_of(&way) {
+            None => over_tcp(alloc, link, rest, max),
+            Some(side) => over_ws(alloc, link, side, rest, max, role, way),
+        }
+    }
+}
+
+// The side of a WebSocket that was opened so; none is of TCP.
+fn side_of(way: &Way) -> Option<Side>
+    ensures { result ≡ side_of way.now }
+{
+    match way {
+        Way::Greeting => None,
+        Way::Serves { path: _ } => Some(Side::Server),
+        Way::Asks { addr: _, start } => Some(Side::Client {
+            seed: seed_of(*start),
+        }),
+    }
+}
+
+fn over_tcp<L: Link>(
+    alloc: Global,
+    link: L,
+    rest: &[u8],
+    max: u32,
+) -> Result<EndWire<L>, (NoMemory, L)>
+    requires is_open { (L.seen link).is_open ≡ true }
+    requires met { Met rest.now (L.seen link) }
+    ensures { MatchResult result (λ w. IsNewTcpOver max (L.seen link) w) (λ e. e.1 ≡ link) }
+{
+    match TcpWire::new(alloc, link, rest, max) {
+        Ok(wire) => Ok(EndWire::Tcp(wire)),
+        Err(refused) => Err(refused),
+    }
+}
+
+fn over_ws<L: Link>(
+    alloc: Global,
+    link: L,
+    side: Side,
+    rest: &[u8],
+    max: u32,
+    role: Role,
+    way: Way,
+) -> Result<EndWire<L>, (NoMemory, L)>
+    requires is_open { (L.seen link).is_open ≡ true }
+    requires begun { IsBegun role way (L.seen link) }
+    ensures { MatchResult result (λ w. IsNewWsOver side max rest.now role way (L.seen link) w) (λ e. e.1 ≡ link) }
+{
+    match WsWire::new(alloc, link, side, rest, max) {
+        Ok(wire) => Ok(EndWire::Ws(OpenedWire::new(wire, role, way))),
+        Err(refused) => Err(refused),
+    }
+}

@@ -1,3 +1,0 @@
-pub mod RingSteps
-pub mod PendingSteps
-pub mod Walks

@@ -1,4 +1,0 @@
-pub mod Alone
-pub mod ExpiredByTicks
-pub mod Cancelled
-pub mod SocketLife

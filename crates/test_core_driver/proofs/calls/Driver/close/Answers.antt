@@ -1,0 +1,10 @@
+use Rattle.sp_core.proofs.Labels.{same_words}
+use Rattle.test_core_driver.proofs.Driving.{plain_turn, closed_plain}
+use Rattle.test_core_driver.proofs.calls.Driver.close.Goals as goal
+
+pub invariant_of-self : goal.invariant_of-self
+invariant_of-self g c =
+    let p = c.self.invariant in
+    let i = c.self.inside in
+    let t = c.close.ensures.turn p.history p.stands in
+    plain_turn g.P.Proto.ties g.P.Proto.room g.W.Wire.shown i.core c.close.new.self i.seat i.other i.slots i.ops.items p t.0 t.2 (closed_plain c.close.result _ p.history t.0 t.3) (same_words g.P.Proto.kind i.core c.close.new.self c.close.ensures.label)

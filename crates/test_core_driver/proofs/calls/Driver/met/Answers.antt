@@ -1,0 +1,11 @@
+use Rattle.sp_history.specs.declared.entry.Entry.TheVariants.{Met}
+use Rattle.sp_core.proofs.Labels.{same_words}
+use Rattle.test_core_driver.proofs.Driving.{plain_turn, first_plain}
+use Rattle.test_core_driver.proofs.calls.Driver.met.Goals as goal
+
+pub invariant_of-self : goal.invariant_of-self
+invariant_of-self g c =
+    let p = c.self.invariant in
+    let i = c.self.inside in
+    let t = c.met.ensures.turn p.history p.stands in
+    plain_turn g.P.Proto.ties g.P.Proto.room g.W.Wire.shown i.core c.met.new.self i.seat i.other i.slots i.ops.items p t.0 t.2 (first_plain (Met c.args.place) t.0 tt t.3) (same_words g.P.Proto.kind i.core c.met.new.self c.met.ensures.label)

@@ -1,0 +1,11 @@
+use Rattle.sp_core.proofs.Labels.{same_words}
+use Rattle.test_core_driver.proofs.Driving.{plain_turn}
+use Rattle.test_core_driver.proofs.Contexts.{opened_plain}
+use Rattle.test_core_driver.proofs.calls.Driver.open_ctx.Goals as goal
+
+pub invariant_of-self : goal.invariant_of-self
+invariant_of-self g c =
+    let p = c.self.invariant in
+    let i = c.self.inside in
+    let t = c.open_ctx.ensures.turn p.history p.stands in
+    plain_turn g.P.Proto.ties g.P.Proto.room g.W.Wire.shown i.core c.open_ctx.new.self i.seat i.other i.slots i.ops.items p t.0 t.2 (opened_plain c.open_ctx.result _ p.history t.0 t.3) (same_words g.P.Proto.kind i.core c.open_ctx.new.self c.open_ctx.ensures.label)
