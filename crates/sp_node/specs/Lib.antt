@@ -1,0 +1,4 @@
+pub mod Nodes
+pub mod NewNodes
+pub mod MoreEnds
+pub mod Waits

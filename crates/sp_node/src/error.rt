@@ -1,0 +1,76 @@
+//! Why calls of a node are refused.
+use sp_base::SpError;
+use sp_socket::{BeginError, Cause};
+use std::fmt;
+
+/// Why no end was added (nng_listen(3), nng_dial(3)). Its text is that of nng_strerror(3), and where the text of an
+/// address stops to be one.
+#[derive(Clone, Copy, Debug, PartialEq, Eq)]
+pub enum EndsError {
+    /// The text is no address; its first `at` bytes begin one.
+    Address { at: u32 },
+    /// Its host is `*`, which can't be dialed.
+    Host,
+    /// The net failed to listen, as where the port is in use.
+    Fault,
+    /// The name is listened on within the node.
+    InUse,
+    /// The node has 64 ends.
+    Many,
+    /// Out of memory.
+    NoMemory,
+}
+
+/// Why a call that waits returned without success (nng_recvmsg(3), nng_sendmsg(3)). Its text is that of nng_strerror(3).
+#[derive(Clone, Copy, Debug, PartialEq, Eq)]
+pub enum WaitError {
+    /// Nothing was begun.
+    Begin(BeginError),
+    /// What was begun ended so.
+    Gone(Cause),
+    /// What was begun ended as an operation of the other kind does; no history has this.
+    Other,
+}
+
+impl fmt::Display for EndsError {
+    fn fmt<W: fmt::Write>(&self, f: &mut fmt::Formatter<W>) -> fmt::Result {
+        match self {
+            EndsError::Address { at } => write!(f, "Address invalid behind its first {at} bytes"),
+            EndsError::Host => f.write_str("Address invalid: no one host"),
+            EndsError::Fault | EndsError::InUse => f.write_str(text_of(SpError::InUse)),
+            EndsError::Many => f.write_str(text_of(SpError::Busy)),
+            EndsError::NoMemory => f.write_str(text_of(SpError::NoMemory)),
+        }
+    }
+}
+
+impl fmt::Display for WaitError {
+    fn fmt<W: fmt::Write>(&self, f: &mut fmt::Formatter<W>) -> fmt::Result {
+        let why = match self {
+            WaitError::Begin(why) => SpError::from(*why),
+            WaitError::Gone(cause) => SpError::from(*cause),
+            WaitError::Other => SpError::State,
+        };
+        f.write_str(text_of(why))
+    }
+}
+
+// The text of an error (nng_strerror(3)).
+fn text_of(why: SpError) -> &'static str {
+    match why {
+        SpError::NoMemory => "Out of memory",
+        SpError::Invalid => "Invalid argument",
+        SpError::Busy => "Resource busy",
+        SpError::TimedOut => "Timed out",
+        SpError::Closed => "Object closed",
+        SpError::Again => "Try again",
+        SpError::NotSupported => "Not supported",
+        SpError::InUse => "Address in use",
+        SpError::State => "Incorrect state",
+        SpError::NoEntry => "Entry not found",
+        SpError::Proto => "Protocol error",
+        SpError::AddrInvalid => "Address invalid",
+        SpError::MsgSize => "Message too large",
+        SpError::Canceled => "Operation canceled",
+    }
+}

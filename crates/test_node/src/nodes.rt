@@ -1,0 +1,158 @@
+//! Nodes over links in memory.
+use crate::checks::{holds, made, same};
+use proto_bus::Bus;
+use proto_pipeline::Pull;
+use sp_base::{Bytes, Role};
+use sp_fakes::{LinkStep, MemLink, MemNet, MemPace, NetLink};
+use sp_msg::Message;
+use sp_node::{EndsError, Node, NodeEnds, WaitError};
+use sp_socket::{BeginError, Cause, Options};
+use std::process::Abort;
+use std::sync::Wait;
+
+/// What a push says first (the greeting of SP over TCP), and then one message.
+const PUSHED: &[u8] = b"\0SP\0\0\x50\0\0\0\0\0\0\0\0\0\x05hello";
+
+/// A pull over memory, and its net.
+type Pulls<'r, R> = Node<'r, R, Pull, NetLink, MemNet, MemPace>;
+
+// A net in which one link comes to the first listener, on which these bytes come; its calls with these numbers fail.
+fn net_of<R: Abort + AllocGlobal>(rt: &R, bytes: &[u8], fails: Vec<u64>) -> MemNet {
+    let alloc = rt.alloc();
+    let mut script = Vec::new(alloc);
+    let came = made(rt, Bytes::from_slice(alloc, bytes));
+    made(rt, script.push(LinkStep::Bytes(came)));
+    let mut links = Vec::new(alloc);
+    made(
+        rt,
+        links.push(MemLink::new(alloc, script, 64, Vec::new(alloc))),
+    );
+    let mut incoming = Vec::new(alloc);
+    made(rt, incoming.push(links));
+    made(rt, MemNet::new(alloc, incoming, Vec::new(alloc), fails))
+}
+
+// A pull before its first turn, with so many turns.
+fn pull_ends<'r, R: Wait + Abort + AllocGlobal>(
+    rt: &'r R,
+    net: MemNet,
+    turns: u64,
+) -> NodeEnds<'r, R, Pull, NetLink, MemNet, MemPace> {
+    let Ok(machine) = Pull::new(rt.alloc(), Options::usual(Role::Pull, 0), false) else {
+        panic!(rt; "out of memory")
+    };
+    made(
+        rt,
+        NodeEnds::open(rt, machine, net, MemPace::new(turns, 1), 0),
+    )
+}
+
+// A pull that listens.
+fn pull<'r, R: Wait + Abort + AllocGlobal>(rt: &'r R, bytes: &[u8], turns: u64) -> Pulls<'r, R> {
+    let mut ends = pull_ends(rt, net_of(rt, bytes, Vec::new(rt.alloc())), turns);
+    same(rt, ends.listen("tcp://127.0.0.1:5555"), Ok(()));
+    ends.start()
+}
+
+#[test]
+fn a_message_comes_and_no_second_one(rt: HostRuntime) {
+    let mut pull = pull(&rt, PUSHED, 1_000);
+    let came = made(&rt, pull.recv(Some(50)));
+    same(&rt, came.body(), b"hello");
+    same(
+        &rt,
+        pull.recv(Some(20)).err(),
+        Some(WaitError::Gone(Cause::TimedOut)),
+    );
+    let _ = pull.close();
+    same(
+        &rt,
+        pull.recv(None).err(),
+        Some(WaitError::Begin(BeginError::Closed)),
+    );
+    let end = pull.finish();
+    same(&rt, end.net.opened(), 1);
+    let is_shut = match end.net.returned(0) {
+        Some(link) => !link.is_open(),
+        None => false,
+    };
+    holds(&rt, is_shut);
+}
+
+#[test]
+fn a_clock_that_is_over_closes_it(rt: HostRuntime) {
+    let mut pull = pull(&rt, b"", 3);
+    same(
+        &rt,
+        pull.recv(None).err(),
+        Some(WaitError::Gone(Cause::Closed)),
+    );
+    holds(&rt, pull.is_closed());
+    let _ = pull.finish();
+}
+
+#[test]
+fn a_bus_hears_itself_within_the_process(rt: HostRuntime) {
+    let alloc = rt.alloc();
+    let Ok(machine) = Bus::new(alloc, Options::usual(Role::Bus, 0), false) else {
+        panic!(&rt; "out of memory")
+    };
+    let net = net_of(&rt, b"", Vec::new(alloc));
+    let mut ends = made(
+        &rt,
+        NodeEnds::open(&rt, machine, net, MemPace::new(1_000, 1), 0),
+    );
+    same(&rt, ends.listen("inproc://a"), Ok(()));
+    same(&rt, ends.listen("inproc://a"), Err(EndsError::InUse));
+    same(&rt, ends.dial("inproc://a"), Ok(()));
+    let mut bus = ends.start();
+    bus.turn();
+    bus.turn();
+    let said = made(&rt, Message::from_body(alloc, b"hello"));
+    made(&rt, bus.send(said, Some(50)));
+    let came = made(&rt, bus.recv(Some(50)));
+    same(&rt, came.body(), b"hello");
+    let _ = bus.finish();
+}
+
+// What an end that is refused says of the text.
+fn says<R: Wait + Abort + AllocGlobal>(rt: &R, refused: Result<(), EndsError>, text: &str) {
+    match refused {
+        Ok(()) => panic!(rt; "not refused: {text}"),
+        Err(why) => {
+            let said = made(rt, format!(in rt.alloc(); "{why}"));
+            same(rt, said.as_str(), text);
+        }
+    }
+}
+
+#[test]
+fn refusals_have_texts(rt: HostRuntime) {
+    let alloc = rt.alloc();
+    let mut fails = Vec::new(alloc);
+    made(&rt, fails.push(0));
+    let mut ends = pull_ends(&rt, net_of(&rt, b"", fails), 10);
+    says(&rt, ends.listen("tcp://127.0.0.1:5555"), "Address in use");
+    says(
+        &rt,
+        ends.listen("tcp:/127.0.0.1:5555"),
+        "Address invalid behind its first 5 bytes",
+    );
+    says(
+        &rt,
+        ends.dial("tcp://*:5555"),
+        "Address invalid: no one host",
+    );
+    for _ in 0..64 {
+        same(&rt, ends.dial("tcp://127.0.0.1:5556"), Ok(()));
+    }
+    says(&rt, ends.dial("tcp://127.0.0.1:5557"), "Resource busy");
+    let mut pull = ends.start();
+    let why = match pull.recv(Some(5)) {
+        Ok(_) => WaitError::Other,
+        Err(why) => why,
+    };
+    let said = made(&rt, format!(in alloc; "{why}"));
+    same(&rt, said.as_str(), "Timed out");
+    let _ = pull.finish();
+}
